@@ -1,0 +1,3 @@
+pub mod ReadyCoreLemmas
+pub mod SlotMapLemmas
+pub mod HistoryLemmas

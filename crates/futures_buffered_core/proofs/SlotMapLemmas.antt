@@ -1,0 +1,117 @@
+-- What each call leaves of the places and the free ones.
+use Rattle.std.proofs.Common.{◌≡◌, ℕ, zero, suc, ◌+◌, ◌<◌, ◌≤◌, true, false, cond, eqb, List, [], ◌∷◌, ◌++◌, map, length, get_or, set, replicate, Option, Some, None, is_some, IsSome, count_by, refl, sym, ap, ◌∙◌, inl, inr, arith, length-set, add-one, true≢false}
+use Rattle.std.specs.Option.{is_none}
+use Rattle.std.specs.List.{list_any, IsDistinct, AllByRecursion, range_with_len}
+use Rattle.std.proofs.lemmas.List.{length-replicate, map-set, length-map, get_or-map, get_or_past, get_or-replicate}
+use Rattle.std.proofs.Math.Seq.{map-set_same}
+use Rattle.std.proofs.lemmas.List.FromFn.{length-range_with_len}
+use Rattle.std.proofs.lemmas.List.Folds.{sum_by-replicate}
+use Rattle.std.proofs.lemmas.List.Sums.{sum_by-set}
+use Rattle.std.proofs.lemmas.Bool.{cases_lt, ne_eqb, or_right, or_left, or_from}
+use Rattle.std.proofs.lemmas.Bool.Decides.{eqb_tells}
+use Rattle.futures_buffered_core.specs.SlotMapInvariant.{KeepsPlaces}
+use Rattle.futures_buffered_core.proofs.ReadyCoreLemmas.{KeepsOnce-first, KeepsOnce-take, KeepsOnce-marked, KeepsOnce-return}
+
+in_range : (a n q : ℕ) → a ≤ q → q < a + n → list_any (eqb q) (range_with_len a n) ≡ true
+in_range a zero q low high = absurd (omega arith)
+in_range a (suc n) q low high =
+    elim (eqb_tells q a) [
+      | inl same ↦ or_left (eqb q a) (list_any (eqb q) (range_with_len (a + 1) n)) same.0
+      | inr other ↦ or_right (eqb q a) (list_any (eqb q) (range_with_len (a + 1) n)) (let apart = other.1 in in_range (a + 1) n q (omega arith) (omega arith))
+    ]
+
+past_range : (a n q : ℕ) → a + n ≤ q → list_any (eqb q) (range_with_len a n) ≡ false
+past_range a zero q past = refl
+past_range a (suc n) q past = or_from (eqb q a) (list_any (eqb q) (range_with_len (a + 1) n)) (ne_eqb q a (λ e. omega arith)) (past_range (a + 1) n q (omega arith))
+
+apart_below : (a b n : ℕ) → a < b → AllByRecursion (λ y. eqb a y ≡ false) (range_with_len b n)
+apart_below a b zero below = tt
+apart_below a b (suc n) below = (ne_eqb a b (λ e. omega arith), apart_below a (b + 1) n (omega arith))
+
+range_distinct : (a n : ℕ) → IsDistinct eqb (range_with_len a n)
+unfolding IsDistinct
+range_distinct a zero = tt
+range_distinct a (suc n) = (apart_below a (a + 1) n (omega arith), range_distinct (a + 1) n)
+
+module _ {F : Type 0} where
+  -- a slot that holds something is there
+  pub held_within : (places : List (Option F)) (i : ℕ) → IsSome (get_or places i None) → i < length places
+  held_within places i some = grind (arith, get_or_past)
+
+  count-set : (places : List (Option F)) (i : ℕ) (new : Option F) → i < length places → count_by is_some (set places i new) + cond (is_some (get_or places i None)) 1 0 ≡ count_by is_some places + cond (is_some new) 1 0
+  count-set places i new within = sum_by-set (λ o. cond (is_some o) 1 0) places i new None within
+
+  -- what the first free place holds
+  pub first_is_empty : (places : List (Option F)) (free rest : List ℕ) (room i : ℕ) → KeepsPlaces places free room → free ≡ i ∷ rest → (i < length places) × (get_or places i None ≡ None)
+  first_is_empty places free rest room i kept e =
+      let within : i < length places = omega (arith, length-map places is_none, KeepsOnce-first (map is_none places) free rest room i kept.once e) in
+      let marked = KeepsOnce-marked (map is_none places) free rest room i kept.once e in
+      (within, none_from (get_or places i None) (sym (get_or-map is_none places i None false within) ∙ marked))
+    where
+      none_from : (o : Option F) → is_none o ≡ true → o ≡ None
+      none_from None h = refl
+      none_from (Some x) h = absurd (true≢false (sym h))
+
+  pub KeepsPlaces-insert : (places : List (Option F)) (free rest : List ℕ) (room i : ℕ) (value : F) → KeepsPlaces places free room → free ≡ i ∷ rest → KeepsPlaces (set places i (Some value)) rest room
+  KeepsPlaces-insert places free rest room i value kept e =
+      let first = first_is_empty places free rest room i kept e in
+      record {
+        once = rw (map-set is_none places i (Some value)) (KeepsOnce-take (map is_none places) free rest room i kept.once e);
+        total = omega (arith, kept.total, ap length e, length-set places i (Some value), rw first.1 at (count-set places i (Some value) first.0));
+      }
+
+  not_none : (o : Option F) → IsSome o → is_none o ≡ false
+  not_none None h = absurd (true≢false (sym h))
+  not_none (Some x) h = refl
+
+  pub KeepsPlaces-write : (places : List (Option F)) (free : List ℕ) (room i : ℕ) (value : F) → KeepsPlaces places free room → IsSome (get_or places i None) → KeepsPlaces (set places i (Some value)) free room
+  KeepsPlaces-write places free room i value kept some =
+      let within = held_within places i some in
+      record {
+        once = rw (map-set_same is_none places i (Some value) None (sym (not_none (get_or places i None) some))) kept.once;
+        total = omega (arith, kept.total, length-set places i (Some value), rw some at (count-set places i (Some value) within));
+      }
+
+  pub KeepsPlaces-remove : (places : List (Option F)) (free : List ℕ) (room i : ℕ) → KeepsPlaces places free room → IsSome (get_or places i None) → KeepsPlaces (set places i None) (i ∷ free) room
+  KeepsPlaces-remove places free room i kept some =
+      let within = held_within places i some in
+      let clear = get_or-map is_none places i None false within ∙ not_none (get_or places i None) some in
+      record {
+        once = rw (map-set is_none places i None) (KeepsOnce-return (map is_none places) free room i kept.once (omega (arith, length-map places is_none)) clear);
+        total = omega (arith, kept.total, length-set {A = Option F} places i None, rw some at (count-set places i None within));
+      }
+
+  -- one value fewer
+  pub count-without : (places : List (Option F)) (i : ℕ) → IsSome (get_or places i None) → count_by is_some (set places i None) + 1 ≡ count_by is_some places
+  count-without places i some = omega (arith, rw some at (count-set places i None (held_within places i some)))
+
+  pub KeepsPlaces-room : (places : List (Option F)) (free : List ℕ) (room i : ℕ) → KeepsPlaces places free room → IsSome (get_or places i None) → length free < room
+  KeepsPlaces-room places free room i kept some =
+      let within = held_within places i some in
+      omega (arith, kept.total, kept.once.fits, length-map places is_none, rw some at (count-set places i None within))
+
+  pub KeepsPlaces-new : (n room : ℕ) → n ≤ room → KeepsPlaces {F = F} (replicate n None) (range_with_len 0 n) room
+  KeepsPlaces-new n room fits =
+      record {
+        once = record {
+          distinct = range_distinct 0 n;
+          exact = exact;
+          fits = omega (arith, length-map (replicate {A = Option F} n None) is_none, length-replicate {A = Option F} n None);
+        };
+        total = omega (arith, sum_by-replicate (λ (o : Option F). cond (is_some o) 1 0) n None, length-range_with_len 0 n, length-replicate {A = Option F} n None);
+      }
+    where
+      exact : (q : ℕ) → get_or (map is_none (replicate {A = Option F} n None)) q false ≡ list_any (eqb q) (range_with_len 0 n)
+      exact q = elim (cases_lt q n) [
+        | inl below ↦ get_or-map is_none (replicate {A = Option F} n None) q None false (omega (arith, length-replicate {A = Option F} n None))
+            ∙ ap is_none (get_or-replicate {A = Option F} n q None None below) ∙ sym (in_range 0 n q (omega arith) (omega arith))
+        | inr above ↦ get_or_past (map is_none (replicate {A = Option F} n None)) q false (omega (arith, length-map (replicate {A = Option F} n None) is_none, length-replicate {A = Option F} n None))
+            ∙ sym (past_range 0 n q (omega arith))
+      ]
+
+range_suc : (a n : ℕ) → range_with_len a (suc n) ≡ range_with_len a n ++ (a + n) ∷ []
+range_suc a zero = ap (λ (x : ℕ). x ∷ []) (omega arith)
+range_suc a (suc n) = ap (λ (xs : List ℕ). a ∷ xs) (range_suc (a + 1) n ∙ ap (λ (x : ℕ). range_with_len (a + 1) n ++ x ∷ []) (omega arith))
+
+pub range_push : (n : ℕ) → range_with_len 0 (n + 1) ≡ range_with_len 0 n ++ n ∷ []
+range_push n = rw add-one (range_suc 0 n ∙ ap (λ (x : ℕ). range_with_len 0 n ++ x ∷ []) (omega arith))

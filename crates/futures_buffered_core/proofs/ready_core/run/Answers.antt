@@ -1,0 +1,52 @@
+use Rattle.std.proofs.Common.{◌++◌, [], ◌∷◌, take, Some, refl, sym, ap, ◌∙◌, arith, append-nil, append_assoc}
+use Rattle.std.proofs.lemmas.List.{take_more}
+use Rattle.std.proofs.lemmas.Option.{slice_get-get_or}
+use Rattle.futures_buffered_core.specs.declared.ready_core.Event.TheVariants.{Mark}
+use Rattle.futures_buffered_core.proofs.HistoryLemmas.{Answers-none, Answers-mark, Answers-take}
+use Rattle.futures_buffered_core.proofs.ready_core.run.Goals.{in-Mark, in-Take}
+use Rattle.futures_buffered_core.proofs.ready_core.run.Goals as goal
+
+pub loop-event-init : goal.loop-event-init
+loop-event-init c =
+    record {
+      answered = ([], c.reserve.ensures.items ∙ sym (append-nil c.args.out.now.items), Answers-none c.args.core.now.marked c.capacity.ensures.once);
+      capacity = refl;
+      below = rw c.capacity.ensures.value at c.in_default.ensures.none;
+      room = let room = c.in-Ok.ensures.ok in omega arith;
+    }
+
+pub mark-requires : goal.mark-requires
+mark-requires c =
+    let same = c.loop-event.invariant.capacity in
+    let named = slice_get-get_or c.args.events.now c.loop-event.event-index (Mark 0) c.loop-event-test.true ∙ ap Some c.in-Mark.is in
+    omega (arith, c.loop-event.invariant.below c.loop-event.event-index c.in-Mark.i c.loop-event-test.true named)
+
+pub loop-event-preserved : goal.loop-event-preserved
+loop-event-preserved c =
+    let events = c.args.events.now in
+    let at = c.loop-event.event-index in
+    let so_far = c.loop-event.invariant.answered in
+    let more = take_more events at (Mark 0) c.loop-event-test.true in
+    let room = c.loop-event.invariant.room in
+    elim c.match-event.branch [
+      | in-Mark w ↦ rw (w.core-is, more, w.in-Mark.is) (record {
+        answered = (
+          so_far.0 ++ c.match-event.reply ∷ [],
+          c.push_reserved.ensures.items ∙ rw (so_far.1) (append_assoc c.args.out.now.items so_far.0 (c.match-event.reply ∷ [])),
+          rw (w.reply-is) (Answers-mark c.args.core.now.marked (take at events) so_far.0 _ _ w.in-Mark.i w.mark.result so_far.2 w.mark.ensures.marked),
+        );
+        capacity = w.mark.ensures.capacity ∙ c.loop-event.invariant.capacity;
+        below = c.loop-event.invariant.below;
+        room = omega arith;
+      })
+      | in-Take w ↦ rw (w.core-is, more, w.in-Take.is) (record {
+        answered = (
+          so_far.0 ++ c.match-event.reply ∷ [],
+          c.push_reserved.ensures.items ∙ rw (so_far.1) (append_assoc c.args.out.now.items so_far.0 (c.match-event.reply ∷ [])),
+          rw (w.reply-is) (Answers-take c.args.core.now.marked (take at events) so_far.0 _ _ w.take.result so_far.2 w.take.ensures.taken),
+        );
+        capacity = w.take.ensures.capacity ∙ c.loop-event.invariant.capacity;
+        below = c.loop-event.invariant.below;
+        room = omega arith;
+      })
+    ]

@@ -1,0 +1,6 @@
+pub mod ReadyCore
+pub mod ReadyCoreInvariant
+pub mod History
+pub mod SlotMap
+pub mod SlotMapInvariant
+pub mod SlotMapLends

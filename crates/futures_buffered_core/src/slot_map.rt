@@ -1,0 +1,155 @@
+//! Fixed slots that hold values.
+ghost use Rattle.std.specs.Prelude.{◌≡◌, ◌≢◌, ◌+◌, ◌<◌, ◌≤◌, [], ◌∷◌, IfOk, IfErr, OnOk, MatchOption, IsTrue, ◌↔◌, ◌==◌, replicate, vec_len, is_some, IsSome};
+ghost use Rattle.std.specs.List.{range_with_len};
+ghost use Rattle.std.specs.VecDeque.{deque_capacity};
+ghost use Rattle.std.specs.Option.{option_copied_mut};
+ghost use Rattle.std.specs.Option.Follows.{option_follows_value};
+ghost use Rattle.std.specs.Borrow.{sem};
+ghost use Rattle.futures_buffered_core.specs.SlotMap.{held, held_count, slot_count, no_slots, without, Inserts};
+
+use crate::ready_core::{MAX_CAPACITY, NewFault};
+use std::alloc::{AllocError, Global};
+use std::collections::VecDeque;
+use std::marker::Model;
+
+/// Values in slots whose number never changes.
+#[derive(Drop)]
+pub struct PinSlotMap<F> {
+    places: Vec<Option<F>>,
+    free: VecDeque<usize>,
+}
+
+impl<F> Model for PinSlotMap<F> {
+    ghost use Rattle.futures_buffered_core.specs.SlotMap.{Slots, slots_code};
+
+    ghost Value = { Slots F };
+
+    ghost coded = { slots_code F.code };
+
+    ghost use Rattle.std.specs.VecDeque.{deque_capacity};
+    ghost use Rattle.futures_buffered_core.specs.SlotMapInvariant.{KeepsPlaces};
+
+    ghost view = { λ m. record { places = m.places.items; free = m.free.items } };
+
+    ghost invariant = { λ m. KeepsPlaces m.places.items m.free.items (deque_capacity m.free) };
+}
+
+fn value_of<F>(place: &mut Option<F>) -> &mut F
+    requires { IsSome place.old }
+    ensures* lends { sem 𝓛 (option_follows_value F.row place.entry result) }
+    ensures value { place.old ≡ Some result.now }
+{
+    match place {
+        Some(value) => value,
+        None => unreachable!(),
+    }
+}
+
+fn empty_places<F>(alloc: Global, n: usize) -> Result<Vec<Option<F>>, AllocError>
+    ensures { IfOk result (λ v. v.items ≡ replicate n None) }
+{
+    let mut places = Vec::with_capacity(alloc, n)?;
+    for _ in 0..n {
+        places.push_reserved(None);
+    }
+    Ok(places)
+}
+
+#[tactic(auto, using(crate::proofs::SlotMapLemmas::range_push))]
+fn free_places(alloc: Global, n: usize) -> Result<VecDeque<usize>, AllocError>
+    ensures items { IfOk result (λ q. q.items ≡ range_with_len 0 n) }
+    ensures room { IfOk result (λ q. deque_capacity q ≡ n) }
+{
+    let mut free = VecDeque::with_capacity(alloc, n)?;
+    for i in 0..n {
+        free.push_back_reserved(i);
+    }
+    Ok(free)
+}
+
+impl<F: Drop> PinSlotMap<F> {
+    ghost use Rattle.futures_buffered_core.specs.SlotMapLends.{lends_slot, lends_value};
+
+    pub fn new(alloc: Global, capacity: usize) -> Result<Self, NewFault>
+        ensures empty { IfOk result (λ m. m ≡ no_slots capacity) }
+        ensures fits { IfOk result (λ _. capacity ≤ MAX_CAPACITY) }
+        ensures large { result ≡ Err NewFault.TooLarge → MAX_CAPACITY < capacity }
+        ensures memory { result ≡ Err NewFault.Memory → capacity ≤ MAX_CAPACITY }
+    {
+        if capacity > MAX_CAPACITY {
+            return Err(NewFault::TooLarge);
+        }
+        let places = empty_places(alloc, capacity)?;
+        let free = free_places(alloc, capacity)?;
+        Ok(PinSlotMap { places, free })
+    }
+
+    pub fn capacity(&self) -> usize
+        ensures { result ≡ slot_count self.now }
+    {
+        self.places.len()
+    }
+
+    pub fn len(&self) -> usize
+        ensures { result ≡ held_count self.now }
+    {
+        self.places.len() - self.free.len()
+    }
+
+    pub fn is_empty(&self) -> bool
+        ensures { IsTrue result ↔ (held_count self.now ≡ 0) }
+    {
+        self.len() == 0
+    }
+
+    /// Puts what `f` makes of `arg` into the first free place, and answers its slot.
+    pub fn insert_with<Arg, G: FnOnce(Arg) -> F>(&mut self, arg: Arg, f: G) -> Result<usize, Arg>
+    where
+        G: Drop,
+        requires { self.old.free ≢ [] → G.pre f arg }
+        ensures ok { IfOk result (λ i. (value : _) × G.post f arg value × Inserts self.old i value self.new) }
+        ensures full { IfErr result (λ back. (back ≡ arg) × (self.new ≡ self.old) × (self.old.free ≡ []) × (held_count self.old ≡ slot_count self.old)) }
+    {
+        let Some(i) = self.free.pop_front() else {
+            return Err(arg);
+        };
+        self.places[i] = Some(f(arg));
+        Ok(i)
+    }
+
+    /// Empties a slot. A slot that is free or not there changes nothing.
+    pub fn remove(&mut self, key: usize)
+        ensures slots { MatchOption (held self.old key) (self.new ≡ self.old) (λ _. self.new ≡ without self.old key) }
+        ensures count { IsSome (held self.old key) → held_count self.new + 1 ≡ held_count self.old }
+    {
+        if self.holds(key) {
+            self.places[key] = None;
+            self.free.push_front_reserved(key);
+        }
+    }
+
+    pub fn get(&mut self, key: usize) -> Option<&mut F>
+        ensures* writes_back { sem 𝓛 (lends_slot F.row self.entry key result) }
+        ensures value { option_copied_mut result ≡ held self.old key }
+    {
+        if self.holds(key) {
+            Some(self.value_mut(key))
+        } else {
+            None
+        }
+    }
+
+    fn holds(&self, key: usize) -> bool
+        ensures { result ≡ is_some (held self.now key) }
+    {
+        key < self.places.len() && self.places[key].is_some()
+    }
+
+    fn value_mut(&mut self, key: usize) -> &mut F
+        requires { IsSome (held self.old key) }
+        ensures* writes_back { sem 𝓛 (lends_value F.row self.entry key result) }
+        ensures value { held self.old key ≡ Some result.now }
+    {
+        value_of(&mut self.places[key])
+    }
+}

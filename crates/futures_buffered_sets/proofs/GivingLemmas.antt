@@ -1,0 +1,117 @@
+-- What the polls of a set may still give.
+use Rattle.std.proofs.Common.{◌≡◌, ◌⊎◌, ℕ, ◌+◌, ◌<◌, List, [], ◌∷◌, ◌++◌, length, Option, Some, None, MatchOption, IfSome, refl, sym, subst, ap, inl, inr, arith, ◌∙◌, ◌≢◌, OnSome, set, length-set}
+use Rattle.std.specs.List.{FoldsTo, AllByRecursion}
+use Rattle.std.proofs.lemmas.List.{get_or-set_same, get_or-set_other, get_or_past}
+use Rattle.std.proofs.lemmas.Bool.{cases_eq, cases_lt}
+use Rattle.futures.proofs.SentLemmas.{AllByRecursion_weaker}
+use Rattle.futures.specs.declared.task.Poll.{Poll}
+use Rattle.futures.specs.declared.task.Poll.TheVariants.{Ready, Pending}
+use Rattle.futures.specs.Poll.{IfReady, OnPending}
+use Rattle.futures.specs.Runs.{After, Within}
+use Rattle.futures.specs.Queued.{Gathers}
+use Rattle.futures_buffered_core.specs.SlotMap.{Slots, held, held_count, with_value, without}
+use Rattle.futures_buffered_core.specs.declared.ready_core.Taken.{Taken}
+use Rattle.futures_buffered_sets.specs.Held.{NamesRun, MayGive, AnyMayGive, ComesFrom}
+use Rattle.futures_buffered_sets.specs.FuturesUnorderedBounded.{Bounded, PollGives}
+use Rattle.futures_buffered_sets.proofs.HeldLemmas.{held-with}
+
+module _ {A : Type 0} {P Q : A → Type 0} (weaker : (x : A) → Q x → P x) where
+  pub Gathers-Within : (m n : ℕ) → n ≡ m → Within (Gathers P m) (Gathers Q n)
+  Gathers-Within m n same xs None h = record { each = AllByRecursion_weaker Q P xs weaker h.each; ends = h.ends ∙ same }
+  Gathers-Within m n same xs (Some x) h = record { each = AllByRecursion_weaker Q P xs weaker h.each; ends = (weaker x h.ends.0, let k = h.ends.1 in omega (arith, k, same)) }
+
+  pub Gathers-After : (m n : ℕ) (x : A) → n + 1 ≡ m → P x → After (Gathers P m) x (Gathers Q n)
+  Gathers-After m n x fewer p xs None h = record { each = (p, AllByRecursion_weaker Q P xs weaker h.each); ends = let k = h.ends in omega arith }
+  Gathers-After m n x fewer p xs (Some y) h =
+      record { each = (p, AllByRecursion_weaker Q P xs weaker h.each); ends = (weaker y h.ends.0, let k = h.ends.1 in omega arith) }
+
+pub held-without : {F : Type 0} (m : Slots F) (i : ℕ) → held (without m i) i ≡ None
+held-without {F} m i =
+    elim (cases_lt i (length m.places)) [
+      | inl within ↦ get_or-set_same {A = Option F} m.places i None None within
+      | inr past ↦ get_or_past {X = Option F} (set m.places i None) i None (omega (arith, length-set {A = Option F} m.places i None))
+    ]
+
+pub held-without_other : {F : Type 0} (m : Slots F) (i j : ℕ) → j ≢ i → held (without m i) j ≡ held m j
+held-without_other {F} m i j other = get_or-set_other {A = Option F} m.places i j None None other
+
+pub None-Some : {F : Type 0} {f : F} → None ≡ Some f → ⊥
+None-Some e = cc
+
+module _ {F A : Type 0} (polled : F → Poll A → F → Type 0) where
+  -- a pending poll adds nothing to what may be given
+  pub any-pending : (m : Slots F) (i : ℕ) (f f2 : F) (y : A) → held m i ≡ Some f → polled f Pending f2 → AnyMayGive polled (with_value m i f2) y → AnyMayGive polled m y
+  any-pending m i f f2 y e h any =
+      elim (cases_eq any.0 i) [
+        | inl same ↦ (i, f, e, from_next (Some-same (sym any.2 ∙ rw same (held-with m i f f2 (sym e)))) any.3)
+        | inr other ↦ (any.0, any.1, sym (get_or-set_other m.places i any.0 (Some f2) None other) ∙ any.2, any.3)
+      ]
+    where
+      Some-same : {g k : F} → Some g ≡ Some k → g ≡ k
+      Some-same eq = cc
+      from_next : {g : F} → g ≡ f2 → MayGive polled g y → MayGive polled f y
+      from_next {g} eq may = (g ∷ may.0, may.1, may.2, (g, (subst (λ k. polled f Pending k) (sym eq) h, refl), may.3), may.4)
+
+  pub gives_ran : (names : List ℕ) (m left : Slots F) (y : A) → NamesRun polled m names None left → AnyMayGive polled left y → AnyMayGive polled m y
+  gives_ran [] m left y ran any = subst (λ w. AnyMayGive polled w y) ran.1 any
+  gives_ran (j ∷ names) m left y ran any = by_held (held m j) (λ (w : Slots F) (r : NamesRun polled w names None left). gives_ran names w left y r any) refl ran
+    where
+      by_held : (o : Option F) → ((w : Slots F) → NamesRun polled w names None left → AnyMayGive polled w y) → held m j ≡ o
+          → MatchOption o (NamesRun polled m names None left) (λ f. ((f2 : F) × polled f Pending f2 × NamesRun polled (with_value m j f2) names None left) ⊎ ((x : A) × (f2 : F) × polled f (Ready x) f2 × (names ≡ []) × (◌≡◌ {A = Option (ℕ × A)} None (Some (j, x))) × (left ≡ with_value m j f2)))
+          → AnyMayGive polled m y
+      by_held None again e ran = again m ran
+      by_held (Some f) again e (inl h) = any-pending m j f h.0 y e h.1 (again (with_value m j h.0) h.2)
+      by_held (Some f) again e (inr h) = let e = h.4 in cc
+
+  -- the output was one that might be given, and so is what the others may give once its slot is empty
+  pub gives_out : (names : List ℕ) (m left : Slots F) (i : ℕ) (x : A) → NamesRun polled m names (Some (i, x)) left → AnyMayGive polled m x × ((y : A) → AnyMayGive polled (without left i) y → AnyMayGive polled m y)
+  gives_out [] m left i x ran = let e = ran.0 in cc
+  gives_out (j ∷ names) m left i x ran = by_held (held m j) (λ (w : Slots F) (r : NamesRun polled w names (Some (i, x)) left). gives_out names w left i x r) refl ran
+    where
+      by_held : (o : Option F) → ((w : Slots F) → NamesRun polled w names (Some (i, x)) left → AnyMayGive polled w x × ((y : A) → AnyMayGive polled (without left i) y → AnyMayGive polled w y)) → held m j ≡ o
+          → MatchOption o (NamesRun polled m names (Some (i, x)) left) (λ f. ((f2 : F) × polled f Pending f2 × NamesRun polled (with_value m j f2) names (Some (i, x)) left) ⊎ ((z : A) × (f2 : F) × polled f (Ready z) f2 × (names ≡ []) × (◌≡◌ {A = Option (ℕ × A)} (Some (i, x)) (Some (j, z))) × (left ≡ with_value m j f2)))
+          → AnyMayGive polled m x × ((y : A) → AnyMayGive polled (without left i) y → AnyMayGive polled m y)
+      by_held None again e ran = again m ran
+      by_held (Some f) again e (inl h) =
+          let more = again (with_value m j h.0) h.2 in
+          (any-pending m j f h.0 x e h.1 more.0, λ y any. any-pending m j f h.0 y e h.1 (more.1 y any))
+      by_held (Some f) again e (inr h) =
+          let same_out = h.4 in
+          let pair : ◌≡◌ {A = ℕ × A} (i, x) (j, h.0) = cc in
+          let at : i ≡ j = ap (λ (p : ℕ × A). p.0) pair in
+          let is : x ≡ h.0 = ap (λ (p : ℕ × A). p.1) pair in (
+            (j, f, e, ([], f, h.1, refl, subst (λ z. polled f (Ready z) h.1) (sym is) h.2)),
+            λ y any. emptied y (subst (λ w. AnyMayGive polled (without w j) y) h.5 (subst (λ k. AnyMayGive polled (without left k) y) at any)),
+          )
+        where
+          emptied : (y : A) → AnyMayGive polled (without (with_value m j h.1) j) y → AnyMayGive polled m y
+          emptied y any =
+              elim (cases_eq any.0 j) [
+                | inl same ↦ absurd (None-Some (sym (held-without (with_value m j h.1) j) ∙ rw same at any.2))
+                | inr other ↦ (any.0, any.1, sym (get_or-set_other m.places j any.0 (Some h.1) None other) ∙ (sym (held-without_other (with_value m j h.1) j any.0 other) ∙ any.2), any.3)
+              ]
+
+module _ {F A S : Type 0} (polled : F → Poll A → F → Type 0) where
+  -- one poll
+  pub value_of : (registers : S → S → Type 0) (takes : S → Taken → S → Type 0) (old new : Bounded F S) (answer : Poll (Option A)) → PollGives polled registers takes old answer new → IfReady answer (ComesFrom polled old.slots [])
+  value_of registers takes old new (Ready None) h = record { each = tt; ends = sym h.0 }
+  value_of registers takes old new (Ready (Some x)) h =
+      let asks = h.1.2 in
+      record { each = tt; ends = ((gives_out polled _ _ _ _ _ asks.2.polls).0, h.0) }
+  value_of registers takes old new Pending h = tt
+
+  pub rest_of : (registers : S → S → Type 0) (takes : S → Taken → S → Type 0) (old new : Bounded F S) (answer : Poll (Option A)) → PollGives polled registers takes old answer new
+      → IfReady answer (λ o. OnSome o (held_count new.slots + 1 ≡ held_count old.slots)) → IfReady answer (λ o. IfSome o (λ x. After (ComesFrom polled old.slots) x (ComesFrom polled new.slots)))
+  rest_of registers takes old new (Ready None) h fewer = tt
+  rest_of registers takes old new (Ready (Some x)) h fewer =
+      let asks = h.1.2 in
+      let gives = gives_out polled _ _ _ _ _ asks.2.polls in
+      Gathers-After {A = A} {P = AnyMayGive polled old.slots} {Q = AnyMayGive polled new.slots} (λ (y : A) (any : AnyMayGive polled new.slots y). gives.1 y (subst (λ (b : Bounded F S). AnyMayGive polled b.slots y) h.1.3 any)) _ _ x fewer gives.0
+  rest_of registers takes old new Pending h fewer = tt
+
+  pub same_of : (registers : S → S → Type 0) (takes : S → Taken → S → Type 0) (old new : Bounded F S) (answer : Poll (Option A)) → PollGives polled registers takes old answer new
+      → OnPending answer (held_count new.slots ≡ held_count old.slots) → OnPending answer (Within (ComesFrom polled old.slots) (ComesFrom polled new.slots))
+  same_of registers takes old new (Ready o) h same = tt
+  same_of registers takes old new Pending h same =
+      let asks = h.1 in
+      Gathers-Within {A = A} {P = AnyMayGive polled old.slots} {Q = AnyMayGive polled new.slots} (λ (y : A) (any : AnyMayGive polled new.slots y). gives_ran polled _ _ _ y asks.3.polls any) _ _ same

@@ -1,0 +1,65 @@
+-- What a contract sees of a bounded set, and what its calls make of it.
+use Rattle.std.specs.Prelude.{◌≡◌, ℕ, ◌<◌, ◌≤◌, List, [], ◌∷◌, ◌++◌, map, length, Option, Some, None, ◌⊎◌, refl}
+use Rattle.std.specs.List.{FoldsTo}
+use Rattle.std.specs.Coded.{Coded, code_by, coded×, coded_ℕ}
+use Rattle.futures.specs.declared.task.Poll.{Poll}
+use Rattle.futures.specs.declared.task.Poll.TheVariants.{Ready, Pending}
+use Rattle.futures_buffered_core.specs.SlotMap.{Slots, slots_code, held_count, without, Inserts}
+use Rattle.futures_buffered_core.specs.declared.ready_core.Taken.{Taken}
+use Rattle.futures_buffered_core.specs.declared.ready_core.Taken.TheVariants.{Slot, Empty, Pause}
+use Rattle.futures_buffered_core.specs.declared.ready_core.Woke.{Woke}
+use Rattle.futures_buffered_sets.specs.Held.{NamesRun}
+
+-- what is held, the source, and how many names one poll takes
+pub record Bounded (F S : Type 0) : Type 0 where
+  pub slots : Slots F
+  pub source : S
+  pub limit : ℕ
+
+abbrev pub bounded_code : {F S : Type 0} → Coded F → Coded S → Coded (Bounded F S)
+bounded_code {F} {S} code source_code =
+    code_by
+    (Slots F × (S × ℕ))
+    (coded× (slots_code code) (coded× source_code coded_ℕ))
+    (λ b. (b.slots, (b.source, b.limit)))
+    (λ p. record { slots = p.0; source = p.1.0; limit = p.1.1 })
+    (λ _. refl)
+
+abbrev pub with_empty_slot : {F S : Type 0} → Bounded F S → ℕ → Bounded F S
+with_empty_slot b i = record b { slots = without b.slots i }
+
+-- a value went into the first free place, i, which was marked
+pub record PushesAt {F S : Type 0} (marks : S → ℕ → Woke → S → Type 0) (old : Bounded F S) (i : ℕ) (value : F) (new : Bounded F S) : Type 0 where
+  pub inserted : Inserts old.slots i value new.slots
+  pub woke : Woke
+  pub marked : marks old.source i woke new.source
+  pub same_limit : new.limit ≡ old.limit
+
+abbrev pub Pushes : {F S : Type 0} → (S → ℕ → Woke → S → Type 0) → Bounded F S → F → Bounded F S → Type 0
+Pushes marks old value new = (i : ℕ) × PushesAt marks old i value new
+
+-- no further name came, or the limit did
+abbrev pub EndsWaiting : ℕ → List ℕ → List Taken → Type 0
+EndsWaiting limit names ended = ((length names < limit) × ((ended ≡ Empty ∷ []) ⊎ (ended ≡ Pause ∷ [])))
+    ⊎ ((length names ≡ limit) × (ended ≡ []))
+
+module _ {F A S : Type 0} (polled : F → Poll A → F → Type 0) (registers : S → S → Type 0) (takes : S → Taken → S → Type 0) where
+  -- the source was registered with, gave these names and then what ended the asking, and the values at the names were polled
+  pub record Runs (old : Bounded F S) (names : List ℕ) (ended : List Taken) (out : Option (ℕ × A)) (new : Bounded F S) : Type 0 where
+    pub registered : S
+    pub registers_first : registers old.source registered
+    pub answers : FoldsTo takes registered (map Slot names ++ ended) new.source
+    pub polls : NamesRun polled old.slots names out new.slots
+    pub same_limit : new.limit ≡ old.limit
+
+  -- one count of names, up to the first output, with its slot
+  abbrev pub AsksUntil : Bounded F S → Poll (ℕ × A) → Bounded F S → Type 0
+  AsksUntil old (Ready out) new = (names : List ℕ) × (length names ≤ old.limit) × Runs old names [] (Some out) new
+  AsksUntil old Pending new = (names : List ℕ) × (ended : List Taken) × EndsWaiting old.limit names ended × Runs old names ended None new
+
+  -- one poll: the slot of the output is emptied, and is the first free place
+  abbrev pub PollGives : Bounded F S → Poll (Option A) → Bounded F S → Type 0
+  PollGives old (Ready None) new = (held_count old.slots ≡ 0) × (new ≡ old)
+  PollGives old (Ready (Some x)) new = (0 < held_count old.slots)
+      × ((i : ℕ) × (left : Bounded F S) × AsksUntil old (Ready (i, x)) left × (new ≡ with_empty_slot left i))
+  PollGives old Pending new = (0 < held_count old.slots) × AsksUntil old Pending new
