@@ -1,0 +1,10 @@
+-- One poll of the future of a script.
+use Rattle.std.specs.Prelude.{◌≡◌, ℕ, ◌-◌, ◌<◌}
+use Rattle.futures.specs.declared.task.Poll.{Poll}
+use Rattle.futures.specs.declared.task.Poll.TheVariants.{Ready, Pending}
+use Rattle.fbuf.specs.declared.timed.Timed.{Timed}
+
+-- one time less to be pending, or the value once none is left
+abbrev pub TimedPolled : Timed → Poll ℕ → Timed → Type 0
+TimedPolled old Pending new = (0 < old.pending) × (new ≡ record { value = old.value; pending = old.pending - 1 })
+TimedPolled old (Ready x) new = (old.pending ≡ 0) × (x ≡ old.value) × (new ≡ old)

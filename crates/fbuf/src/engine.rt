@@ -1,0 +1,91 @@
+//! What a script has begun, and what each line does to it.
+ghost use Rattle.std.specs.Prelude.{◌≡◌, ◌≢◌, ℕ, ◌<◌, ◌≤◌, IfOk};
+ghost use Rattle.futures.specs.Task.{Keeps};
+ghost use Rattle.fbuf.specs.Engine.{LineGives, ObjectGives, SetGives, Begins, new_bounded};
+
+use crate::command::{Command, parse};
+use crate::reply::Reply;
+use crate::timed::{PollTimed, Timed};
+use futures::task::Context;
+use futures_buffered_core::ready_core::{MAX_CAPACITY, NewFault};
+use futures_buffered_core::ready_source::{CoreSource, NewSource};
+use futures_buffered_sets::futures_unordered_bounded::FuturesUnorderedBounded;
+use std::alloc::{AllocError, Global};
+
+/// A bounded set of the script's futures, over a ready core.
+pub type TimedSet = FuturesUnorderedBounded<Timed, CoreSource>;
+
+/// What was begun last.
+#[derive(Drop)]
+pub enum Object {
+    /// No line began anything yet.
+    Nothing,
+    /// `unordered C` did.
+    Unordered(TimedSet),
+}
+
+impl Object {
+    /// Answers one line. Where there is no memory, the script ends.
+    pub fn answer(&mut self, alloc: Global, line: &[u8], cx: &mut Context<'_>) -> Result<Reply, AllocError>
+        ensures reply { IfOk result (λ reply. LineGives self.old line.now reply self.new) }
+        ensures kept { Keeps cx.old cx.new }
+    {
+        match parse(line) {
+            Some(Command::Unordered(capacity)) => self.begin_unordered(alloc, capacity),
+            Some(command) => Ok(self.carry_out(command, cx)),
+            None => Ok(Reply::Bad),
+        }
+    }
+
+    // What was there before is dropped, unless the capacity is too large.
+    fn begin_unordered(&mut self, alloc: Global, capacity: usize) -> Result<Reply, AllocError>
+        ensures { IfOk result (λ reply. Begins self.old capacity reply self.new) }
+    {
+        match new_set(alloc, capacity) {
+            Ok(set) => {
+                *self = Object::Unordered(set);
+                Ok(Reply::Done)
+            }
+            Err(NewFault::TooLarge) => Ok(Reply::TooLarge),
+            Err(NewFault::Memory) => Err(AllocError),
+        }
+    }
+
+    fn carry_out(&mut self, command: Command, cx: &mut Context<'_>) -> Reply
+        requires { (capacity : ℕ) → command ≢ Command.Unordered capacity }
+        ensures reply { ObjectGives self.old command result self.new }
+        ensures kept { Keeps cx.old cx.new }
+    {
+        match self {
+            Object::Unordered(set) => set_reply(set, command, cx),
+            Object::Nothing => Reply::Bad,
+        }
+    }
+}
+
+fn new_set(alloc: Global, capacity: usize) -> Result<TimedSet, NewFault>
+    ensures ok { IfOk result (λ set. (set ≡ new_bounded capacity) × (capacity ≤ MAX_CAPACITY)) }
+    ensures large { result ≡ Err NewFault.TooLarge → MAX_CAPACITY < capacity }
+{
+    let source = CoreSource::make(&(), alloc, capacity)?;
+    FuturesUnorderedBounded::with_source(alloc, source)
+}
+
+// A command to a bounded set.
+fn set_reply(set: &mut TimedSet, command: Command, cx: &mut Context<'_>) -> Reply
+    requires { (capacity : ℕ) → command ≢ Command.Unordered capacity }
+    ensures reply { SetGives set.old command result set.new }
+    ensures kept { Keeps cx.old cx.new }
+{
+    match command {
+        Command::Push(future) => match set.try_push(future) {
+            Ok(()) => Reply::Done,
+            Err(_) => Reply::Full,
+        },
+        Command::Wake(slot) if slot < set.capacity() => Reply::of_woke(set.mark_slot(slot)),
+        Command::Poll => Reply::of_poll(set.poll_with(&PollTimed, cx)),
+        Command::Len => Reply::Count(set.len()),
+        Command::Wake(_) => Reply::Bad,
+        Command::Unordered(_) => unreachable!(),
+    }
+}
