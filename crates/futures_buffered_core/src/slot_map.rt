@@ -1,4 +1,6 @@
 //! Fixed slots that hold values.
+//!
+//! A value goes into the first free slot and stays there until it is removed. For a new map the free slots are 0, 1, 2 and so on; a slot that a removal frees is the first to be used again. No call but the constructors takes memory.
 ghost use Rattle.std.specs.Prelude.{◌≡◌, ◌≢◌, ◌+◌, ◌<◌, ◌≤◌, [], ◌∷◌, IfOk, IfErr, OnOk, MatchOption, IsTrue, ◌↔◌, ◌==◌, replicate, vec_len, is_some, IsSome};
 ghost use Rattle.std.specs.List.{range_with_len};
 ghost use Rattle.std.specs.VecDeque.{deque_capacity};
@@ -13,6 +15,8 @@ use std::collections::VecDeque;
 use std::marker::Model;
 
 /// Values in slots whose number never changes.
+///
+/// A contract sees what each slot holds, and the list of free slots in the order in which they will be used.
 #[derive(Drop)]
 pub struct PinSlotMap<F> {
     places: Vec<Option<F>>,
@@ -70,10 +74,13 @@ fn free_places(alloc: Global, n: usize) -> Result<VecDeque<usize>, AllocError>
 impl<F: Drop> PinSlotMap<F> {
     ghost use Rattle.futures_buffered_core.specs.SlotMapLends.{lends_slot, lends_value};
 
+    /// A map of `capacity` free slots.
+    ///
+    /// Takes time and memory in proportion to `capacity`.
     pub fn new(alloc: Global, capacity: usize) -> Result<Self, NewFault>
         ensures empty { IfOk result (λ m. m ≡ no_slots capacity) }
         ensures fits { IfOk result (λ _. capacity ≤ MAX_CAPACITY) }
-        ensures large { result ≡ Err NewFault.TooLarge → MAX_CAPACITY < capacity }
+        ensures large { (result ≡ Err NewFault.TooLarge) ↔ (MAX_CAPACITY < capacity) }
         ensures memory { result ≡ Err NewFault.Memory → capacity ≤ MAX_CAPACITY }
     {
         if capacity > MAX_CAPACITY {
@@ -84,25 +91,30 @@ impl<F: Drop> PinSlotMap<F> {
         Ok(PinSlotMap { places, free })
     }
 
+    /// The number of slots, free or not.
     pub fn capacity(&self) -> usize
         ensures { result ≡ slot_count self.now }
     {
         self.places.len()
     }
 
+    /// The number of values held. Takes the same time at any capacity.
     pub fn len(&self) -> usize
         ensures { result ≡ held_count self.now }
     {
         self.places.len() - self.free.len()
     }
 
+    /// Whether no value is held.
     pub fn is_empty(&self) -> bool
         ensures { IsTrue result ↔ (held_count self.now ≡ 0) }
     {
         self.len() == 0
     }
 
-    /// Puts what `f` makes of `arg` into the first free place, and answers its slot.
+    /// Puts what `f` makes of `arg` into the first free slot, and answers which one that is.
+    ///
+    /// A full map hands `arg` back and does not call `f`. Takes the same time at any capacity, besides the call of `f`.
     pub fn insert_with<Arg, G: FnOnce(Arg) -> F>(&mut self, arg: Arg, f: G) -> Result<usize, Arg>
     where
         G: Drop,
@@ -117,7 +129,9 @@ impl<F: Drop> PinSlotMap<F> {
         Ok(i)
     }
 
-    /// Empties a slot. A slot that is free or not there changes nothing.
+    /// Drops the value of a slot, which is then the first free one. A slot that is free or not there changes nothing.
+    ///
+    /// Takes the same time at any capacity, besides the drop of the value.
     pub fn remove(&mut self, key: usize)
         ensures slots { MatchOption (held self.old key) (self.new ≡ self.old) (λ _. self.new ≡ without self.old key) }
         ensures count { IsSome (held self.old key) → held_count self.new + 1 ≡ held_count self.old }
@@ -128,6 +142,7 @@ impl<F: Drop> PinSlotMap<F> {
         }
     }
 
+    /// The value of a slot, for writing. `None` where the slot is free or not there.
     pub fn get(&mut self, key: usize) -> Option<&mut F>
         ensures* writes_back { sem 𝓛 (lends_slot F.row self.entry key result) }
         ensures value { option_copied_mut result ≡ held self.old key }
