@@ -239,3 +239,6 @@ impl<F: SlotFuture<S::Waker>, S: ReadySource> Stream for FuturesUnorderedBounded
         self.poll_with(&PollFuture, cx)
     }
 }
+
+#[cfg(test)]
+mod tests;
