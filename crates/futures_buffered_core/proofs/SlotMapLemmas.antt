@@ -9,6 +9,7 @@ use Rattle.std.proofs.lemmas.List.Folds.{sum_by-replicate}
 use Rattle.std.proofs.lemmas.List.Sums.{sum_by-set}
 use Rattle.std.proofs.lemmas.Bool.{cases_lt, ne_eqb, or_right, or_left, or_from}
 use Rattle.std.proofs.lemmas.Bool.Decides.{eqb_tells}
+use Rattle.futures_buffered_core.specs.SlotMap.{Slots, held, IsFirstHeld}
 use Rattle.futures_buffered_core.specs.SlotMapInvariant.{KeepsPlaces}
 use Rattle.futures_buffered_core.proofs.ReadyCoreLemmas.{KeepsOnce-first, KeepsOnce-take, KeepsOnce-marked, KeepsOnce-return}
 
@@ -108,6 +109,20 @@ module _ {F : Type 0} where
         | inr above ↦ get_or_past (map is_none (replicate {A = Option F} n None)) q false (omega (arith, length-map (replicate {A = Option F} n None) is_none, length-replicate {A = Option F} n None))
             ∙ sym (past_range 0 n q (omega arith))
       ]
+
+-- the first slot that holds a value is one slot
+pub first_held_once : {F : Type 0} (m : Slots F) (start i j : ℕ) → IsFirstHeld m start i → IsFirstHeld m start j → i ≡ j
+first_held_once {F} m start i j first other =
+    elim (cases_lt i j) [
+      | inl below ↦ absurd (none_and_some (held m i) (other.none_before i first.from_start below) first.holds)
+      | inr above ↦ elim (cases_lt j i) [
+        | inl below ↦ absurd (none_and_some (held m j) (first.none_before j other.from_start below) other.holds)
+        | inr equal ↦ omega arith
+      ]
+    ]
+  where
+    none_and_some : (o : Option F) → o ≡ None → IsSome o → ⊥
+    none_and_some o e some = true≢false (sym some ∙ ap is_some e)
 
 range_suc : (a n : ℕ) → range_with_len a (suc n) ≡ range_with_len a n ++ (a + n) ∷ []
 range_suc a zero = ap (λ (x : ℕ). x ∷ []) (omega arith)

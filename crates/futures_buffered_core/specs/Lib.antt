@@ -4,3 +4,4 @@ pub mod History
 pub mod SlotMap
 pub mod SlotMapInvariant
 pub mod SlotMapLends
+pub mod SlotMapIterMut

@@ -1,6 +1,12 @@
-//! Marks and namings, and slots that hold values.
+//! The ground that the sets of futures stand on: which slots are marked and which one is named next, and fixed slots that hold values.
+//!
+//! In the order in which to read them:
+//!
+//! - `ready_core`: marks and takings as plain data. `ReadyCore` names the slot whose unserved mark is oldest; `run` does a whole list of events.
+//! - `ready_source`: the trait by which a set asks for names, and two sources for one caller, `CoreSource` over a core and `ScriptSource` over a list of answers.
+//! - `slot_map`: `PinSlotMap`, a fixed number of slots, each of which holds a value or is free.
 #![tactic(auto)]
 
 pub mod ready_core;
-pub mod slot_map;
 pub mod ready_source;
+pub mod slot_map;

@@ -1,6 +1,7 @@
 //! Which slots are marked, and which one is named next.
-ghost use Rattle.std.specs.Prelude.{◌≡◌, ◌<◌, ◌≤◌, [], IfOk, IfErr};
-ghost use Rattle.std.specs.Prelude.{ℕ, List, ◌++◌, length, slice_get, IfNone, IfSome, OnOk, OnErr, nat_eq};
+//!
+//! Events are marks and takings. A mark of a slot is unserved until a taking names that slot. A taking names the slot whose unserved mark is oldest. Nothing here waits, and after construction nothing takes memory but `run`, for its replies.
+ghost use Rattle.std.specs.Prelude.{◌≡◌, ◌<◌, ◌≤◌, ◌↔◌, [], IfOk, IfErr, ℕ, List, ◌++◌, length, slice_get, IfNone, IfSome, OnOk, OnErr, nat_eq};
 ghost use Rattle.std.specs.List.{IsDistinct};
 ghost use Rattle.futures_buffered_core.specs.ReadyCore.{MarkGives, TakeGives, IsNameBelow};
 ghost use Rattle.futures_buffered_core.specs.declared.ready_core.Reply.{Reply};
@@ -10,36 +11,53 @@ use std::alloc::{AllocError, AllocFailed, Global};
 use std::collections::VecDeque;
 use std::marker::Model;
 
+/// The most slots that a core, a source or a set can have: 4611686018427387903.
 pub const MAX_CAPACITY: usize = usize::MAX / 4;
 
+/// What is done to a ready core.
 #[derive(Clone, Copy, Debug, PartialEq, Eq)]
 pub enum Event {
+    /// Marks the slot.
     Mark(usize),
+    /// Asks for a name.
     Take,
 }
 
+/// The answer of a taking.
 #[derive(Clone, Copy, Debug, PartialEq, Eq)]
 pub enum Taken {
+    /// This slot was marked, and is not any more.
     Slot(usize),
+    /// No slot is marked.
     Empty,
+    /// A mark is being made by another thread: ask again later. A `ReadyCore` never answers it.
     Pause,
 }
 
+/// The answer of a mark.
 #[derive(Clone, Copy, Debug, PartialEq, Eq)]
 pub enum Woke {
+    /// The slot was not marked.
     Fresh,
+    /// The slot was marked, and keeps its place.
     Already,
 }
 
+/// The answer of an event.
 #[derive(Clone, Copy, Debug, PartialEq, Eq)]
 pub enum Reply {
+    /// Of a mark.
     Woke(Woke),
+    /// Of a taking.
     Taken(Taken),
 }
 
+/// Why nothing was made.
 #[derive(Clone, Copy, Debug, PartialEq, Eq)]
 pub enum NewFault {
+    /// A request for memory was refused.
     Memory,
+    /// The capacity is above `MAX_CAPACITY`. This is tested before any memory is asked for.
     TooLarge,
 }
 
@@ -54,7 +72,9 @@ impl From<AllocError> for NewFault {
     }
 }
 
-/// The marked slots by their oldest unserved mark.
+/// Slots with at most one unserved mark each that counts, in the order in which these marks were made.
+///
+/// A contract sees the capacity and the list of marked slots, oldest unserved mark first.
 #[derive(Drop)]
 pub struct ReadyCore {
     marks: Vec<bool>,
@@ -76,11 +96,13 @@ impl Model for ReadyCore {
 }
 
 impl ReadyCore {
-    /// No slot is marked.
+    /// A core of `cap` slots, none of which is marked.
+    ///
+    /// Takes time and memory in proportion to `cap`: room for every slot to be marked, so that no later call takes any.
     pub fn new(alloc: Global, cap: usize) -> Result<Self, NewFault>
         ensures empty { IfOk result (λ core. core ≡ record { capacity = cap; marked = [] }) }
-        ensures large { result ≡ Err NewFault.TooLarge → MAX_CAPACITY < cap }
         ensures fits { IfOk result (λ _. cap ≤ MAX_CAPACITY) }
+        ensures large { (result ≡ Err NewFault.TooLarge) ↔ (MAX_CAPACITY < cap) }
         ensures memory { result ≡ Err NewFault.Memory → cap ≤ MAX_CAPACITY }
     {
         if cap > MAX_CAPACITY {
@@ -91,6 +113,7 @@ impl ReadyCore {
         Ok(ReadyCore { marks, queue })
     }
 
+    /// The number of slots.
     pub fn capacity(&self) -> usize
         ensures value { result ≡ self.now.capacity }
         ensures once { IsDistinct nat_eq self.now.marked }
@@ -98,6 +121,9 @@ impl ReadyCore {
         self.marks.len()
     }
 
+    /// Marks a slot. A slot that is marked already keeps its place.
+    ///
+    /// Takes the same time at any capacity, and no memory.
     pub fn mark(&mut self, i: usize) -> Woke
         requires { i < self.old.capacity }
         ensures marked { MarkGives self.old.marked i result self.new.marked }
@@ -111,6 +137,9 @@ impl ReadyCore {
         Woke::Fresh
     }
 
+    /// Names the slot whose unserved mark is oldest, and unmarks it. `Empty` where no slot is marked, and never `Pause`.
+    ///
+    /// Takes the same time at any capacity, and no memory.
     pub fn take(&mut self) -> Taken
         ensures taken { TakeGives self.old.marked result self.new.marked }
         ensures below { IsNameBelow self.old.capacity result }
@@ -124,13 +153,16 @@ impl ReadyCore {
     }
 }
 
-/// Why a list of events was not done: no memory for the replies, or the position of the first event that names no slot.
+/// Why a list was refused.
 #[derive(Clone, Copy, Debug, PartialEq, Eq)]
 pub enum RunFault {
+    /// A request for memory was refused.
     Memory,
+    /// The position of the first entry that names a slot not below the capacity. This is tested before any memory is asked for.
     Event(usize),
 }
 
+// The position of the first event that marks no slot below `cap`.
 fn first_wrong(events: &[Event], cap: usize) -> Option<usize>
     ensures none { IfNone result (NamesAllBelow cap events.now (length events.now)) }
     ensures wrong { IfSome result (IsWrongAt cap events.now) }
@@ -146,7 +178,9 @@ fn first_wrong(events: &[Event], cap: usize) -> Option<usize>
     None
 }
 
-/// Does the events in order, and appends a reply for each. A fault changes nothing.
+/// Does the events in order, and appends a reply for each to `out`.
+///
+/// All slots are tested first, and room for all replies is made next: only then is the first event done, so a fault changes nothing. Each event takes the same time at any capacity; the memory is that of the replies.
 pub fn run(core: &mut ReadyCore, events: &[Event], out: &mut Vec<Reply>) -> Result<(), RunFault>
     // The marks and namings of the events, after one mark of each slot that stands at the start, decide each reply.
     ensures right { OnOk result ((replies : List Reply) × (out.new.items ≡ out.old.items ++ replies)
@@ -155,6 +189,7 @@ pub fn run(core: &mut ReadyCore, events: &[Event], out: &mut Vec<Reply>) -> Resu
     ensures err { OnErr result ((core.new ≡ core.old) × (out.new.items ≡ out.old.items)) }
     ensures wrong { (p : ℕ) → result ≡ Err (RunFault.Event p)
         → IsWrongAt core.old.capacity events.now p × NamesAllBelow core.old.capacity events.now p }
+    ensures named { OnOk result (NamesAllBelow core.old.capacity events.now (length events.now)) }
     ensures below { result ≡ Err RunFault.Memory → NamesAllBelow core.old.capacity events.now (length events.now) }
 {
     if let Some(p) = first_wrong(events, core.capacity()) {
@@ -171,4 +206,61 @@ pub fn run(core: &mut ReadyCore, events: &[Event], out: &mut Vec<Reply>) -> Resu
         out.push_reserved(reply);
     }
     Ok(())
+}
+
+#[cfg(test)]
+mod tests {
+    use super::*;
+    use std::test::Fail;
+
+    const ROW: [(Event, Reply); 8] = [
+        (Event::Mark(2), Reply::Woke(Woke::Fresh)),
+        (Event::Mark(0), Reply::Woke(Woke::Fresh)),
+        (Event::Mark(2), Reply::Woke(Woke::Already)),
+        (Event::Take, Reply::Taken(Taken::Slot(2))),
+        (Event::Mark(2), Reply::Woke(Woke::Fresh)),
+        (Event::Take, Reply::Taken(Taken::Slot(0))),
+        (Event::Take, Reply::Taken(Taken::Slot(2))),
+        (Event::Take, Reply::Taken(Taken::Empty)),
+    ];
+
+    #[test]
+    fn names_the_oldest_unserved_mark(rt: HostRuntime) -> Result<(), Fail> {
+        let mut core = ReadyCore::new(rt.alloc(), 3)?;
+        assert_eq!(rt; core.capacity(), 3);
+        for (event, want) in ROW {
+            let got = match event {
+                Event::Mark(i) if i < core.capacity() => Reply::Woke(core.mark(i)),
+                _ => Reply::Taken(core.take()),
+            };
+            assert_eq!(rt; got, want, "at {event:?}");
+        }
+        Ok(())
+    }
+
+    #[test]
+    fn runs_a_list(rt: HostRuntime) -> Result<(), Fail> {
+        let mut core = ReadyCore::new(rt.alloc(), 3)?;
+        let mut out = Vec::new(rt.alloc());
+        assert_eq!(rt; run(&mut core, &ROW.map(|row| row.0), &mut out), Ok(()));
+        assert_eq!(rt; out.as_slice(), ROW.map(|row| row.1).as_slice());
+        Ok(())
+    }
+
+    #[test]
+    fn refuses_a_list_that_marks_no_slot(rt: HostRuntime) -> Result<(), Fail> {
+        let mut core = ReadyCore::new(rt.alloc(), 3)?;
+        let mut out = Vec::new(rt.alloc());
+        let wrong = [Event::Mark(0), Event::Mark(3), Event::Mark(4)];
+        assert_eq!(rt; run(&mut core, &wrong, &mut out), Err(RunFault::Event(1)));
+        assert_eq!(rt; out.len(), 0);
+        assert_eq!(rt; core.take(), Taken::Empty);
+        Ok(())
+    }
+
+    #[test]
+    fn refuses_a_capacity(rt: HostRuntime) {
+        let large = ReadyCore::new(rt.alloc(), MAX_CAPACITY + 1);
+        assert_eq!(rt; large.err(), Some(NewFault::TooLarge));
+    }
 }

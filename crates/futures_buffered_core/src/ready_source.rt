@@ -1,5 +1,7 @@
-//! What a set asks: marks, namings, and the task's waker.
-ghost use Rattle.std.specs.Prelude.{◌≡◌, ◌<◌, ◌≤◌, ℕ, [], IfOk, IfErr};
+//! What a set asks for names: marks, takings, and the task's waker.
+//!
+//! A source has a content of its own, of which a contract knows only what the source's relations say. `CoreSource` is a ready core under one caller, with exact relations.
+ghost use Rattle.std.specs.Prelude.{◌≡◌, ◌<◌, ◌≤◌, ◌↔◌, ℕ, [], IfOk, IfErr};
 ghost use Rattle.futures.specs.Task.{Covers, Keeps};
 ghost use Rattle.futures_buffered_core.specs.declared.ready_core.Woke.{Woke};
 ghost use Rattle.futures_buffered_core.specs.declared.ready_core.Taken.{Taken};
@@ -11,76 +13,93 @@ use futures::task::{Context, Poll, Source, Waker};
 use std::alloc::Global;
 use std::marker::Model;
 
-/// Wakes one slot, any number of times, from any thread.
+/// Wakes one slot, any number of times, also once the set that it came from is gone.
 pub trait SlotWaker {
+    /// Marks the slot; where that mark was fresh, wakes the task that registered last.
     fn wake(&self);
 }
 
 /// Names slots that were marked.
+///
+/// Beside the calls a source states what they may do: relations between its content before, the answer, and its content after. Each named slot is below the capacity, and the capacity stays: these are laws below.
 pub trait ReadySource: Drop {
+    /// What wakes one slot.
     type Waker: SlotWaker;
 
-    // How many slots it has.
+    // The capacity: how many slots it has.
     ghost slots: { Self → ℕ };
 
-    // What a mark of a slot, a taking and a registration may make of it.
+    // What a mark of a slot may answer, and make of the content.
     ghost marks: { Self → ℕ → Woke → Self → Type 0 };
 
+    // What a taking may answer, and make of the content.
     ghost takes: { Self → Taken → Self → Type 0 };
 
+    // What a registration may make of the content.
     ghost registers: { Self → Self → Type 0 };
 
-    // Holds of each source of a task's wakes at which a registration waits.
+    // The places of a task's wakes at which a registration waits, by their names.
     ghost needs: { Self → ℕ → Type 0 };
 
+    /// The number of slots.
     fn capacity(&self) -> usize
         ensures { result ≡ slots self.now };
 
+    /// Marks a slot, and wakes nobody. Takes no memory.
     fn mark(&mut self, i: usize) -> Woke
         requires { i < slots self.old }
         ensures { marks self.old i result self.new };
 
+    /// Asks for a name. Takes no memory.
     fn take(&mut self) -> Taken
         ensures { takes self.old result self.new };
 
+    /// The waker of a slot, made when the source was. Takes no memory.
     fn waker(&self, i: usize) -> &Self::Waker
         requires { i < slots self.now };
 
+    /// Keeps the waker of the task that polls, in place of the one kept before.
     fn register(&mut self, cx: &mut Context<'_>)
         ensures registered { registers self.old self.new }
         ensures covered { Covers cx.new (needs self.old) }
         ensures kept { Keeps cx.old cx.new };
 
+    // A slot that is named is below the capacity.
     ghost names_below: { (old : Self) (i : ℕ) (new : Self) → takes old (Slot i) new → i < slots old };
 
+    // The capacity stays.
     ghost mark_keeps: { (old : Self) (i : ℕ) (woke : Woke) (new : Self) → marks old i woke new → slots new ≡ slots old };
 
     ghost take_keeps: { (old : Self) (taken : Taken) (new : Self) → takes old taken new → slots new ≡ slots old };
 
     ghost register_keeps: { (old new : Self) → registers old new → slots new ≡ slots old };
 
+    // A registration waits no longer at more places than before.
     ghost take_needs: { (old : Self) (taken : Taken) (new : Self) → takes old taken new → (n : ℕ) → needs new n → needs old n };
 
     ghost register_needs: { (old new : Self) → registers old new → (n : ℕ) → needs new n → needs old n };
 }
 
-/// A source that a set can make.
+/// A source that a set can make for itself.
 pub trait NewSource: ReadySource {
+    /// What making one needs besides memory, as a handle for locks.
     type Env;
 
-    // What a new source of this capacity is.
+    // What a new source of this capacity may be.
     ghost made: { ℕ → Self → Type 0 };
 
+    /// A source of `cap` slots. Takes memory in proportion to `cap`, so that no later call takes any.
     fn make(env: &Self::Env, alloc: Global, cap: usize) -> Result<Self, NewFault>
         ensures made { IfOk result (made cap) }
         ensures fits { IfOk result (λ _. cap ≤ MAX_CAPACITY) }
-        ensures large { result ≡ Err NewFault.TooLarge → MAX_CAPACITY < cap }
+        ensures large { (result ≡ Err NewFault.TooLarge) ↔ (MAX_CAPACITY < cap) }
         ensures memory { result ≡ Err NewFault.Memory → cap ≤ MAX_CAPACITY };
 
+    // A new source has the capacity that was asked for.
     ghost made_slots: { (cap : ℕ) (new : Self) → made cap new → Self.slots new ≡ cap };
 }
 
-/// Wakes nobody.
+/// A waker that does nothing.
 #[derive(Drop)]
 pub struct Silent;
 
@@ -88,7 +107,9 @@ impl SlotWaker for Silent {
     fn wake(&self) {}
 }
 
-/// A ready core under one caller. Its wakers do nothing.
+/// A ready core under one caller. Its wakers do nothing, so a slot is marked by its set alone, and it never wakes the task that it keeps.
+///
+/// A contract sees what it sees of the core: the capacity, and the marked slots by their oldest unserved marks. Marks and takings are those of the core, and a registration changes nothing of it.
 #[derive(Drop)]
 pub struct CoreSource {
     core: ReadyCore,

@@ -1,11 +1,13 @@
 //! Fixed slots that hold values.
-ghost use Rattle.std.specs.Prelude.{◌≡◌, ◌≢◌, ◌+◌, ◌<◌, ◌≤◌, [], ◌∷◌, IfOk, IfErr, OnOk, MatchOption, IsTrue, ◌↔◌, ◌==◌, replicate, vec_len, is_some, IsSome};
+//!
+//! A value goes into the first free slot and stays there until it is removed. For a new map the free slots are 0, 1, 2 and so on; a slot that a removal frees is the first to be used again. No call but the constructors takes memory.
+ghost use Rattle.std.specs.Prelude.{◌≡◌, ◌≢◌, ◌+◌, ◌<◌, ◌≤◌, [], ◌∷◌, IfOk, IfErr, OnOk, MatchOption, IfSome, IfNone, ℕ, ◌^◌, IsTrue, ◌↔◌, ◌==◌, replicate, vec_len, is_some, IsSome};
 ghost use Rattle.std.specs.List.{range_with_len};
 ghost use Rattle.std.specs.VecDeque.{deque_capacity};
 ghost use Rattle.std.specs.Option.{option_copied_mut};
 ghost use Rattle.std.specs.Option.Follows.{option_follows_value};
 ghost use Rattle.std.specs.Borrow.{sem};
-ghost use Rattle.futures_buffered_core.specs.SlotMap.{held, held_count, slot_count, no_slots, without, Inserts};
+ghost use Rattle.futures_buffered_core.specs.SlotMap.{held, held_count, slot_count, no_slots, without, Inserts, IsFirstHeld, NoneHeldFrom};
 
 use crate::ready_core::{MAX_CAPACITY, NewFault};
 use std::alloc::{AllocError, Global};
@@ -13,6 +15,8 @@ use std::collections::VecDeque;
 use std::marker::Model;
 
 /// Values in slots whose number never changes.
+///
+/// A contract sees what each slot holds, and the list of free slots in the order in which they will be used.
 #[derive(Drop)]
 pub struct PinSlotMap<F> {
     places: Vec<Option<F>>,
@@ -69,11 +73,15 @@ fn free_places(alloc: Global, n: usize) -> Result<VecDeque<usize>, AllocError>
 
 impl<F: Drop> PinSlotMap<F> {
     ghost use Rattle.futures_buffered_core.specs.SlotMapLends.{lends_slot, lends_value};
+    ghost use Rattle.futures_buffered_core.specs.SlotMapIterMut.{iter_name, iter_slots, iter_from};
 
+    /// A map of `capacity` free slots.
+    ///
+    /// Takes time and memory in proportion to `capacity`.
     pub fn new(alloc: Global, capacity: usize) -> Result<Self, NewFault>
         ensures empty { IfOk result (λ m. m ≡ no_slots capacity) }
         ensures fits { IfOk result (λ _. capacity ≤ MAX_CAPACITY) }
-        ensures large { result ≡ Err NewFault.TooLarge → MAX_CAPACITY < capacity }
+        ensures large { (result ≡ Err NewFault.TooLarge) ↔ (MAX_CAPACITY < capacity) }
         ensures memory { result ≡ Err NewFault.Memory → capacity ≤ MAX_CAPACITY }
     {
         if capacity > MAX_CAPACITY {
@@ -84,25 +92,30 @@ impl<F: Drop> PinSlotMap<F> {
         Ok(PinSlotMap { places, free })
     }
 
+    /// The number of slots, free or not.
     pub fn capacity(&self) -> usize
         ensures { result ≡ slot_count self.now }
     {
         self.places.len()
     }
 
+    /// The number of values held. Takes the same time at any capacity.
     pub fn len(&self) -> usize
         ensures { result ≡ held_count self.now }
     {
-        self.places.len() - self.free.len()
+        self.capacity() - self.free.len()
     }
 
+    /// Whether no value is held.
     pub fn is_empty(&self) -> bool
         ensures { IsTrue result ↔ (held_count self.now ≡ 0) }
     {
         self.len() == 0
     }
 
-    /// Puts what `f` makes of `arg` into the first free place, and answers its slot.
+    /// Puts what `f` makes of `arg` into the first free slot, and answers which one that is.
+    ///
+    /// A full map hands `arg` back and does not call `f`. Takes the same time at any capacity, besides the call of `f`.
     pub fn insert_with<Arg, G: FnOnce(Arg) -> F>(&mut self, arg: Arg, f: G) -> Result<usize, Arg>
     where
         G: Drop,
@@ -117,7 +130,9 @@ impl<F: Drop> PinSlotMap<F> {
         Ok(i)
     }
 
-    /// Empties a slot. A slot that is free or not there changes nothing.
+    /// Drops the value of a slot, which is then the first free one. A slot that is free or not there changes nothing.
+    ///
+    /// Takes the same time at any capacity, besides the drop of the value.
     pub fn remove(&mut self, key: usize)
         ensures slots { MatchOption (held self.old key) (self.new ≡ self.old) (λ _. self.new ≡ without self.old key) }
         ensures count { IsSome (held self.old key) → held_count self.new + 1 ≡ held_count self.old }
@@ -128,6 +143,7 @@ impl<F: Drop> PinSlotMap<F> {
         }
     }
 
+    /// The value of a slot, for writing. `None` where the slot is free or not there.
     pub fn get(&mut self, key: usize) -> Option<&mut F>
         ensures* writes_back { sem 𝓛 (lends_slot F.row self.entry key result) }
         ensures value { option_copied_mut result ≡ held self.old key }
@@ -137,6 +153,31 @@ impl<F: Drop> PinSlotMap<F> {
         } else {
             None
         }
+    }
+
+    /// The held values by rising slot, each lent for writing.
+    ///
+    /// Takes no memory. Going over all of them takes time in proportion to `capacity`.
+    pub fn iter_mut(&mut self) -> SlotMapIterMut<'_, F>
+        ensures same_map { iter_name result ≡ self.entry.ghost_name }
+        ensures slots { iter_slots result ≡ self.old }
+        ensures from_the_first { iter_from result ≡ 0 }
+    {
+        SlotMapIterMut { map: self, from: 0 }
+    }
+
+    // The first slot from `from` on that holds a value.
+    fn first_held(&self, from: usize) -> Option<usize>
+        ensures found { IfSome result (IsFirstHeld self.now from) }
+        ensures none { IfNone result (NoneHeldFrom self.now from) }
+        ensures fits { IfSome result (λ i. i + 1 < 2 ^ 64) }
+    {
+        for i in from..self.places.len() {
+            if self.places[i].is_some() {
+                return Some(i);
+            }
+        }
+        None
     }
 
     fn holds(&self, key: usize) -> bool
@@ -151,5 +192,76 @@ impl<F: Drop> PinSlotMap<F> {
         ensures value { held self.old key ≡ Some result.now }
     {
         value_of(&mut self.places[key])
+    }
+}
+
+/// The held values of a map by rising slot, each lent for writing until the next one is asked for.
+///
+/// It is no `Iterator` of std, since an item is lent by the iterator and not by the map: that way the map stays whole between two items. After as many items as the map holds it answers `None`.
+#[derive(Drop)]
+pub struct SlotMapIterMut<'a, F> {
+    map: &'a mut PinSlotMap<F>,
+    // The first slot that was not looked at yet.
+    from: usize,
+}
+
+impl<'a, F: Drop> SlotMapIterMut<'a, F> {
+    ghost use Rattle.futures_buffered_core.specs.SlotMapIterMut.{iter_slots, iter_from, lends_next};
+
+    /// The value of the first slot, of those not passed yet, that holds one. `None` once there is no such slot, and from then on.
+    pub fn next(&mut self) -> Option<&mut F>
+        ensures* writes_back { sem 𝓛 (lends_next F.row self.entry result) }
+        ensures value { IfSome result (λ f. (i : ℕ) × IsFirstHeld (iter_slots self.old) (iter_from self.old) i
+            × (held (iter_slots self.old) i ≡ Some f.now)) }
+        ensures end { IfNone result (NoneHeldFrom (iter_slots self.old) (iter_from self.old)) }
+    {
+        let i = self.map.first_held(self.from)?;
+        self.from = i + 1;
+        Some(self.map.value_mut(i))
+    }
+}
+
+#[cfg(test)]
+mod tests {
+    use super::*;
+    use std::test::Fail;
+
+    #[test]
+    fn uses_the_freed_slot_first(rt: HostRuntime) -> Result<(), Fail> {
+        let mut map = PinSlotMap::new(rt.alloc(), 3)?;
+        assert_eq!(rt; (map.len(), map.capacity(), map.is_empty()), (0, 3, true));
+        for (value, slot) in [(10_u64, 0), (11, 1), (12, 2)] {
+            assert_eq!(rt; map.insert_with(value, |value| value), Ok(slot));
+        }
+        assert_eq!(rt; map.insert_with(13, |value| value), Err(13));
+        map.remove(0);
+        map.remove(2);
+        map.remove(2);
+        map.remove(3);
+        assert_eq!(rt;
+            (map.len(), map.get(0).is_some(), map.get(3).is_some()),
+            (1, false, false)
+        );
+        assert_eq!(rt; map.insert_with(14, |value| value), Ok(2));
+        assert_eq!(rt; map.insert_with(15, |value| value), Ok(0));
+        if let Some(value) = map.get(1) {
+            *value = 16;
+        }
+        let mut held = map.iter_mut();
+        for want in [Some(15), Some(16), Some(14), None, None] {
+            let next = held.next();
+            assert_eq!(rt; next.as_deref().copied(), want);
+            if let Some(value) = next {
+                *value = 17;
+            }
+        }
+        assert_eq!(rt; map.get(1).copied(), Some(17));
+        Ok(())
+    }
+
+    #[test]
+    fn refuses_a_capacity(rt: HostRuntime) {
+        let large = PinSlotMap::<u64>::new(rt.alloc(), MAX_CAPACITY + 1);
+        assert_eq!(rt; large.err(), Some(NewFault::TooLarge));
     }
 }

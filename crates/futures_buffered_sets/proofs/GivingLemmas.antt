@@ -1,6 +1,5 @@
 -- What the polls of a set may still give.
-use Rattle.std.proofs.Common.{◌≡◌, ◌⊎◌, ℕ, ◌+◌, ◌<◌, List, [], ◌∷◌, ◌++◌, length, Option, Some, None, MatchOption, IfSome, refl, sym, subst, ap, inl, inr, arith, ◌∙◌, ◌≢◌, OnSome, set, length-set}
-use Rattle.std.specs.List.{FoldsTo, AllByRecursion}
+use Rattle.std.proofs.Common.{◌≡◌, ◌⊎◌, ℕ, ◌+◌, List, [], ◌∷◌, length, Option, Some, None, MatchOption, IfSome, refl, sym, subst, ap, inl, inr, arith, ◌∙◌, ◌≢◌, OnSome, set, length-set}
 use Rattle.std.proofs.lemmas.List.{get_or-set_same, get_or-set_other, get_or_past}
 use Rattle.std.proofs.lemmas.Bool.{cases_eq, cases_lt}
 use Rattle.futures.proofs.SentLemmas.{AllByRecursion_weaker}
@@ -49,6 +48,7 @@ module _ {F A : Type 0} (polled : F → Poll A → F → Type 0) where
     where
       Some-same : {g k : F} → Some g ≡ Some k → g ≡ k
       Some-same eq = cc
+
       from_next : {g : F} → g ≡ f2 → MayGive polled g y → MayGive polled f y
       from_next {g} eq may = (g ∷ may.0, may.1, may.2, (g, (subst (λ k. polled f Pending k) (sym eq) h, refl), may.3), may.4)
 

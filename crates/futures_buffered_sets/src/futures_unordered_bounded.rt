@@ -1,4 +1,6 @@
-//! A set of as many futures as it has slots.
+//! A set of as many futures as it has slots, yielded as they finish.
+//!
+//! Each future stands in a slot. A push marks its slot, and a future's waker marks it again. A poll takes the names of marked slots from the set's source, at most `POLL_LIMIT` of them, and polls what these slots hold until one is ready. A slot that nobody marked costs nothing.
 ghost use Rattle.std.specs.Prelude.{◌≡◌, ◌<◌, ◌≤◌, ◌+◌, ◌==◌, ◌↔◌, [], ℕ, IfOk, IfErr, OnOk, OnSome, IfSome, is_some, IsSome, IsTrue};
 ghost use Rattle.futures.specs.Task.{Covers, Keeps};
 ghost use Rattle.futures.specs.Runs.{After, Within};
@@ -9,17 +11,20 @@ ghost use Rattle.futures_buffered_sets.specs.FuturesUnorderedBounded.{Pushes, Pu
 
 use crate::poll_one::{PollFuture, PollOne};
 use crate::slot_future::SlotFuture;
-use futures_buffered_core::ready_core::{MAX_CAPACITY, NewFault, Taken, Woke};
-use futures_buffered_core::slot_map::PinSlotMap;
-use futures_buffered_core::ready_source::ReadySource;
-use futures::task::{Context, Poll};
 use futures::Stream;
+use futures::task::{Context, Poll};
+use futures_buffered_core::ready_core::{MAX_CAPACITY, NewFault, Taken, Woke};
+use futures_buffered_core::ready_source::ReadySource;
+use futures_buffered_core::slot_map::PinSlotMap;
 use std::alloc::Global;
 use std::marker::Model;
 
-/// How many names one poll takes.
-pub const LIMIT: usize = 61;
+/// How many names one poll takes from the source, at most.
+pub const POLL_LIMIT: usize = 61;
 
+/// Futures in slots, over a source that names the slots to poll.
+///
+/// A contract sees what each slot holds and which slots are free, the content of the source, and the limit of names of one poll. The calls take no memory once the set is made. They wait for nobody where those of the source do not.
 #[derive(Drop)]
 pub struct FuturesUnorderedBounded<F: Drop, S: ReadySource> {
     slots: PinSlotMap<F>,
@@ -43,32 +48,38 @@ impl<F: Drop, S: ReadySource> Model for FuturesUnorderedBounded<F, S> {
 }
 
 impl<F: Drop, S: ReadySource> FuturesUnorderedBounded<F, S> {
+    /// An empty set over this source, with as many slots as the source has.
+    ///
+    /// Takes time and memory in proportion to that number. The source is dropped where the set is refused.
     pub fn with_source(alloc: Global, source: S) -> Result<Self, NewFault>
-        ensures empty { IfOk result (λ s. s ≡ record { slots = no_slots (S.slots source); source = source; limit = LIMIT }) }
+        ensures empty { IfOk result (λ s. s ≡ record { slots = no_slots (S.slots source); source = source; limit = POLL_LIMIT }) }
         ensures fits { IfOk result (λ _. S.slots source ≤ MAX_CAPACITY) }
-        ensures large { result ≡ Err NewFault.TooLarge → MAX_CAPACITY < S.slots source }
+        ensures large { (result ≡ Err NewFault.TooLarge) ↔ (MAX_CAPACITY < S.slots source) }
         ensures memory { result ≡ Err NewFault.Memory → S.slots source ≤ MAX_CAPACITY }
     {
         let slots = PinSlotMap::new(alloc, source.capacity())?;
         Ok(FuturesUnorderedBounded {
             slots,
             source,
-            limit: LIMIT,
+            limit: POLL_LIMIT,
         })
     }
 
+    /// The number of futures held.
     pub fn len(&self) -> usize
         ensures { result ≡ held_count self.now.slots }
     {
         self.slots.len()
     }
 
+    /// Whether no future is held.
     pub fn is_empty(&self) -> bool
         ensures { IsTrue result ↔ (held_count self.now.slots ≡ 0) }
     {
         self.slots.is_empty()
     }
 
+    /// The number of slots, which never changes.
     pub fn capacity(&self) -> usize
         ensures value { result ≡ slot_count self.now.slots }
         ensures source { result ≡ S.slots self.now.source }
@@ -76,7 +87,9 @@ impl<F: Drop, S: ReadySource> FuturesUnorderedBounded<F, S> {
         self.slots.capacity()
     }
 
-    /// Hands the value back where the set is full.
+    /// Puts the value into the first free slot and marks that slot, so that a later poll polls it. A full set hands the value back.
+    ///
+    /// Takes the same time at any capacity. Polls nothing, and wakes nobody: a task that waits for this set polls it again by itself.
     pub fn try_push(&mut self, value: F) -> Result<(), F>
         ensures ok { OnOk result (Pushes S.marks self.old value self.new) }
         ensures full { IfErr result (λ back. (back ≡ value) × (self.new ≡ self.old)
@@ -86,7 +99,7 @@ impl<F: Drop, S: ReadySource> FuturesUnorderedBounded<F, S> {
         Ok(())
     }
 
-    /// The same, and answers the slot.
+    /// As `try_push`, and answers the slot.
     pub fn try_push_at(&mut self, value: F) -> Result<usize, F>
         ensures ok { IfOk result (λ i. PushesAt S.marks self.old i value self.new) }
         ensures full { IfErr result (λ back. (back ≡ value) × (self.new ≡ self.old)
@@ -97,6 +110,7 @@ impl<F: Drop, S: ReadySource> FuturesUnorderedBounded<F, S> {
         Ok(i)
     }
 
+    /// As `try_push`, for a set that is not full: `len` is below `capacity`.
     pub fn push(&mut self, value: F)
         requires { held_count self.old.slots < slot_count self.old.slots }
         ensures { Pushes S.marks self.old value self.new }
@@ -107,7 +121,7 @@ impl<F: Drop, S: ReadySource> FuturesUnorderedBounded<F, S> {
         }
     }
 
-    /// The same, and answers the slot.
+    /// As `push`, and answers the slot.
     pub fn push_at(&mut self, value: F) -> usize
         requires { held_count self.old.slots < slot_count self.old.slots }
         ensures { PushesAt S.marks self.old result value self.new }
@@ -118,6 +132,7 @@ impl<F: Drop, S: ReadySource> FuturesUnorderedBounded<F, S> {
         }
     }
 
+    /// Marks a slot by hand, whether it holds a future or not. Wakes nobody.
     pub fn mark_slot(&mut self, i: usize) -> Woke
         requires { i < slot_count self.old.slots }
         ensures marked { S.marks self.old.source i result self.new.source }
@@ -127,7 +142,9 @@ impl<F: Drop, S: ReadySource> FuturesUnorderedBounded<F, S> {
         self.source.mark(i)
     }
 
-    /// One count of names: registers, and polls the values named until one is ready. Its slot is not emptied.
+    /// Registers the task, takes at most as many names as one poll may, and polls the values named until one is ready. No slot is emptied: the answer says which slot is done.
+    ///
+    /// `Pending` wakes the task at once where the source paused, or where the limit was reached. Takes time in proportion to the names taken, besides the polls.
     pub fn poll_first<R: PollOne<F, S::Waker>>(
         &mut self,
         rule: &R,
@@ -161,7 +178,7 @@ impl<F: Drop, S: ReadySource> FuturesUnorderedBounded<F, S> {
         cx.yield_now()
     }
 
-    /// Empties a slot, which is the first free place then.
+    /// Drops the value of a slot, which is then the first free one.
     pub fn empty_slot(&mut self, i: usize)
         requires { IsSome (held self.old.slots i) }
         ensures emptied { self.new ≡ with_empty_slot self.old i }
@@ -170,6 +187,9 @@ impl<F: Drop, S: ReadySource> FuturesUnorderedBounded<F, S> {
         self.slots.remove(i);
     }
 
+    /// One poll of the set, where `rule` says how one held value is polled.
+    ///
+    /// `Ready(None)` where nothing is held, and then nothing was asked. Else names are taken from the source and the values named are polled, in that order, until one is ready: it is yielded, and its slot is freed. `Pending` where no further name came or the limit was reached; where the source paused and at the limit the task is woken at once. Takes no memory, and time in proportion to the names taken, besides the polls.
     pub fn poll_with<R: PollOne<F, S::Waker>>(
         &mut self,
         rule: &R,
@@ -219,3 +239,6 @@ impl<F: SlotFuture<S::Waker>, S: ReadySource> Stream for FuturesUnorderedBounded
         self.poll_with(&PollFuture, cx)
     }
 }
+
+#[cfg(test)]
+mod tests;
