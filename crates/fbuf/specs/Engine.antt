@@ -8,7 +8,7 @@ use Rattle.futures_buffered_core.specs.declared.ready_core.TheConstants.{MAX_CAP
 use Rattle.futures_buffered_core.specs.ReadyCore.{Standing, Marks, Takes}
 use Rattle.futures_buffered_core.specs.SlotMap.{no_slots, slot_count, held_count}
 use Rattle.futures_buffered_sets.specs.FuturesUnorderedBounded.{Bounded, Pushes, PollGives}
-use Rattle.futures_buffered_sets.specs.declared.futures_unordered_bounded.TheConstants.{LIMIT}
+use Rattle.futures_buffered_sets.specs.declared.futures_unordered_bounded.TheConstants.{POLL_LIMIT}
 use Rattle.fbuf.specs.Timed.{TimedPolled}
 use Rattle.fbuf.specs.Command.{Asks}
 use Rattle.fbuf.specs.declared.timed.Timed.{Timed}
@@ -25,7 +25,7 @@ TimedBounded = Bounded Timed Standing
 
 -- no future, every place free, no slot marked
 abbrev pub new_bounded : ℕ → TimedBounded
-new_bounded capacity = record { slots = no_slots capacity; source = record { capacity = capacity; marked = [] }; limit = LIMIT }
+new_bounded capacity = record { slots = no_slots capacity; source = record { capacity = capacity; marked = [] }; limit = POLL_LIMIT }
 
 -- one poll; registering leaves the standing as it is
 abbrev pub Polls : TimedBounded → PollAnswer (Option ℕ) → TimedBounded → Type 0

@@ -26,7 +26,12 @@ pub enum Object {
 
 impl Object {
     /// Answers one line. Where there is no memory, the script ends.
-    pub fn answer(&mut self, alloc: Global, line: &[u8], cx: &mut Context<'_>) -> Result<Reply, AllocError>
+    pub fn answer(
+        &mut self,
+        alloc: Global,
+        line: &[u8],
+        cx: &mut Context<'_>,
+    ) -> Result<Reply, AllocError>
         ensures reply { IfOk result (λ reply. LineGives self.old line.now reply self.new) }
         ensures kept { Keeps cx.old cx.new }
     {

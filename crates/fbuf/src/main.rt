@@ -5,20 +5,13 @@
 //! the program as a function of its words.
 #![tactic(auto)]
 
-pub mod lines;
-
-pub mod timed;
-
 pub mod command;
-
-pub mod reply;
-
 pub mod engine;
-
-pub mod watched;
-
+pub mod lines;
+pub mod reply;
 pub mod script;
-
+pub mod timed;
+pub mod watched;
 pub mod words;
 
 use std::env;

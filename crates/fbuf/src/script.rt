@@ -57,7 +57,10 @@ pub fn script<R: Read + Drop, W: Write + Drop>(
     answer_all(alloc, cx, &bytes, output)
 }
 
-fn read_to_end<R: Read + Drop>(alloc: Global, input: &mut Watched<R>) -> Result<Vec<u8>, ScriptFault>
+fn read_to_end<R: Read + Drop>(
+    alloc: Global,
+    input: &mut Watched<R>,
+) -> Result<Vec<u8>, ScriptFault>
     ensures ok { IfOk result (λ bytes. IfSome (R.remaining input.old.inner) (λ known. bytes.items ≡ known)) }
     ensures fault { IfErr result (λ fault. ((fault ≡ ScriptFault.Read) × (input.new.failed ≡ true)) ⊎ (fault ≡ ScriptFault.Memory)) }
 {
@@ -140,3 +143,6 @@ fn write_all<W: Write + Drop>(output: &mut Watched<W>, text: &[u8]) -> Result<()
     }
     Ok(())
 }
+
+#[cfg(test)]
+mod tests;

@@ -34,6 +34,14 @@ impl<T: Drop> Watched<T> {
         }
     }
 
+    /// What was wrapped.
+    pub fn into_inner(self) -> T
+        ensures { result ≡ self.inner }
+    {
+        let Watched { inner, failed: _ } = self;
+        inner
+    }
+
     /// Whether a read or a write failed; a write that took nothing of some bytes counts.
     pub fn failed(&self) -> bool
         ensures { result ≡ self.now.failed }
@@ -65,7 +73,9 @@ impl<W: Write + Drop> Write for Watched<W> {
         ensures failed { self.new.failed ≡ (self.old.failed || write_failed result buf.now) }
     {
         let result = self.inner.write(buf);
-        self.failed = self.failed || matches!(result, Err(_)) || (matches!(result, Ok(0)) && !buf.is_empty());
+        self.failed = self.failed
+            || matches!(result, Err(_))
+            || (matches!(result, Ok(0)) && !buf.is_empty());
         result
     }
 

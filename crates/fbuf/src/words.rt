@@ -122,3 +122,6 @@ fn start_fault(error: &io::Error, other: Fault) -> Fault {
         _ => other,
     }
 }
+
+#[cfg(test)]
+mod tests;

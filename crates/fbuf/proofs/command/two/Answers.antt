@@ -10,6 +10,6 @@ pub returns-in_err-number-2-clause-none : goal.returns-in_err-number-2-clause-no
 returns-in_err-number-2-clause-none c =
     rw (c.from_residual-in_err-number-2.ensures, c.in_ok-rest.was)
     (λ m n fits_m fits_n e.
-        let parts = two_parts c.in_ok-rest.field-0.now c.cut.result.0.now _ c.cut.ensures.word (rest_is c.cut.result.1) c.cut.ensures.whole m n fits_m e in
-        let rest = rw c.in_ok-second.was at parts.1 in
-        c.in_err-number-2.ensures.none n fits_n (cc))
+    let parts = two_parts c.in_ok-rest.field-0.now c.cut.result.0.now _ c.cut.ensures.word (rest_is c.cut.result.1) c.cut.ensures.whole m n fits_m e in
+    let rest = rw c.in_ok-second.was at parts.1 in
+    c.in_err-number-2.ensures.none n fits_n (cc))
