@@ -62,7 +62,7 @@ struct Outcome {
     failed: (bool, bool),
 }
 
-fn outcome<H: RandomSource + AllocGlobal>(
+fn run_over<H: RandomSource + AllocGlobal>(
     rt: &H,
     source: Source<'_>,
     sink: Sink,
