@@ -14,7 +14,7 @@ use Rattle.std.proofs.lemmas.Str.Parse.{IsNumeralModel, numerals_by_value, digit
 use Rattle.std.proofs.lemmas.Bool.{or_left, or_right, or_from, ne_eqb, eq-eqb}
 use Rattle.std.proofs.lemmas.Bool.Decides.{eqb_tells}
 use Rattle.fbuf.specs.declared.command.Command.{Command}
-use Rattle.fbuf.specs.declared.command.Command.TheVariants.{Unordered, Push, Wake, Poll, Len}
+use Rattle.fbuf.specs.declared.command.Command.TheVariants.{Unordered, Steps, Push, Wake, Poll, Len, Mark, Go, Step}
 use Rattle.fbuf.specs.Command.{HasNoSpace, StartsAsNumber, IsWritable, word_of, numbers_of, text_of, one_number, rest_text}
 use Rattle.fbuf.proofs.LinesLemmas.{NoneBefore, NoneBefore-rest}
 
@@ -101,17 +101,25 @@ two_parts text first rest word is whole m n fits e = cut_one_way first (decimal 
 
 word_no_space : (command : Command) → HasNoSpace (word_of command)
 word_no_space (Unordered capacity) = refl
+word_no_space (Steps capacity) = refl
 word_no_space (Push future) = refl
 word_no_space (Wake slot) = refl
 word_no_space Poll = refl
 word_no_space Len = refl
+word_no_space (Mark seat slot) = refl
+word_no_space (Go seat) = refl
+word_no_space Step = refl
 
 numbers_rest : (command : Command) → IsRest (flat_map one_number (numbers_of command))
 numbers_rest (Unordered capacity) = refl
+numbers_rest (Steps capacity) = refl
 numbers_rest (Push future) = refl
 numbers_rest (Wake slot) = refl
 numbers_rest Poll = tt
 numbers_rest Len = tt
+numbers_rest (Mark seat slot) = refl
+numbers_rest (Go seat) = refl
+numbers_rest Step = tt
 
 -- the word of a line is that of its command, and its numbers stand behind
 pub command_parts : (line word rest : List ℕ) → HasNoSpace word → IsRest rest → line ≡ word ++ rest → (command : Command) → line ≡ text_of command → (word ≡ word_of command) × (rest ≡ flat_map one_number (numbers_of command))
@@ -120,8 +128,8 @@ command_parts line word rest none is whole command e =
 
 -- a text behind the word, where the word is none of those that numbers follow
 pub no_bare_word : (line word : List ℕ) (rest : Option (Bor (List ℕ))) → HasNoSpace word → line ≡ word ++ rest_text rest → is_some rest ≡ true
-    → word ≢ codes "unordered" → word ≢ codes "push" → word ≢ codes "wake" → (command : Command) → line ≢ text_of command
-no_bare_word line word rest none whole some not_unordered not_push not_wake command e =
+    → word ≢ codes "unordered" → word ≢ codes "steps" → word ≢ codes "push" → word ≢ codes "wake" → word ≢ codes "mark" → word ≢ codes "go" → (command : Command) → line ≢ text_of command
+no_bare_word line word rest none whole some not_unordered not_steps not_push not_wake not_mark not_go command e =
     by_command command (command_parts line word (rest_text rest) none (rest_is rest) whole command e)
   where
     more : (rest : Option (Bor (List ℕ))) → is_some rest ≡ true → rest_text rest ≡ [] → ⊥
@@ -130,10 +138,14 @@ no_bare_word line word rest none whole some not_unordered not_push not_wake comm
 
     by_command : (command : Command) → (word ≡ word_of command) × (rest_text rest ≡ flat_map one_number (numbers_of command)) → ⊥
     by_command (Unordered capacity) parts = not_unordered parts.0
+    by_command (Steps capacity) parts = not_steps parts.0
     by_command (Push future) parts = not_push parts.0
     by_command (Wake slot) parts = not_wake parts.0
     by_command Poll parts = more rest some parts.1
     by_command Len parts = more rest some parts.1
+    by_command (Mark seat slot) parts = not_mark parts.0
+    by_command (Go seat) parts = not_go parts.0
+    by_command Step parts = more rest some parts.1
 
 all_same : (text : List ℕ) → pointwise eqb text text ≡ true
 all_same [] = refl

@@ -4,21 +4,29 @@ use Rattle.std.specs.Borrow.{Bor}
 use Rattle.std.specs.List.{AllByRecursion, flat_map, list_any}
 use Rattle.std.specs.Fmt.{decimal}
 use Rattle.fbuf.specs.declared.command.Command.{Command}
-use Rattle.fbuf.specs.declared.command.Command.TheVariants.{Unordered, Push, Wake, Poll, Len}
+use Rattle.fbuf.specs.declared.command.Command.TheVariants.{Unordered, Steps, Push, Wake, Poll, Len, Mark, Go, Step}
 
 abbrev pub word_of : Command → List ℕ
 word_of (Unordered capacity) = codes "unordered"
+word_of (Steps capacity) = codes "steps"
 word_of (Push future) = codes "push"
 word_of (Wake slot) = codes "wake"
 word_of Poll = codes "poll"
 word_of Len = codes "len"
+word_of (Mark seat slot) = codes "mark"
+word_of (Go seat) = codes "go"
+word_of Step = codes "step"
 
 abbrev pub numbers_of : Command → List ℕ
 numbers_of (Unordered capacity) = capacity ∷ []
+numbers_of (Steps capacity) = capacity ∷ []
 numbers_of (Push future) = future.value ∷ future.pending ∷ []
 numbers_of (Wake slot) = slot ∷ []
 numbers_of Poll = []
 numbers_of Len = []
+numbers_of (Mark seat slot) = seat ∷ slot ∷ []
+numbers_of (Go seat) = seat ∷ []
+numbers_of Step = []
 
 -- one space, and the number
 abbrev pub one_number : ℕ → List ℕ

@@ -9,13 +9,19 @@ use Rattle.futures_buffered_core.specs.ReadyCore.{Standing, Marks, Takes}
 use Rattle.futures_buffered_core.specs.SlotMap.{no_slots, slot_count, held_count}
 use Rattle.futures_buffered_sets.specs.FuturesUnorderedBounded.{Bounded, Pushes, PollGives}
 use Rattle.futures_buffered_sets.specs.declared.futures_unordered_bounded.TheConstants.{POLL_LIMIT}
+use Rattle.futures_buffered_core.specs.declared.ready_core.Taken.TheVariants as taken
+use Rattle.futures_buffered_core.specs.declared.ready_table.step.Step.{Step as StepOf}
+use Rattle.futures_buffered_core.specs.declared.ready_table.step.Step.TheVariants as step
+use Rattle.futures_buffered_core.specs.declared.ready_table.step.StepReply.{StepReply}
+use Rattle.futures_buffered_core.specs.declared.ready_table.step.StepReply.TheVariants as replied
+use Rattle.futures_buffered_core.specs.ReadyTable.Machine.{Machine, IsNew, May, Steps as MachineSteps}
 use Rattle.fbuf.specs.Timed.{TimedPolled}
 use Rattle.fbuf.specs.Command.{Asks}
 use Rattle.fbuf.specs.declared.timed.Timed.{Timed}
 use Rattle.fbuf.specs.declared.command.Command.{Command}
-use Rattle.fbuf.specs.declared.command.Command.TheVariants.{Unordered, Push, Wake, Poll, Len}
+use Rattle.fbuf.specs.declared.command.Command.TheVariants.{Unordered, Steps, Push, Wake, Poll, Len, Mark, Go, Step}
 use Rattle.fbuf.specs.declared.reply.Reply.{Reply}
-use Rattle.fbuf.specs.declared.reply.Reply.TheVariants.{Done, Full, TooLarge, Output, Pending, Ended, Fresh, Already, Count, Bad}
+use Rattle.fbuf.specs.declared.reply.Reply.TheVariants.{Done, Full, TooLarge, Output, Pending, Ended, Fresh, Already, Count, More, Slot, Empty, Pause, Stuck, Bad}
 use Rattle.fbuf.specs.declared.engine.Object.{Object}
 use Rattle.fbuf.specs.declared.engine.Object.TheVariants as object
 
@@ -45,31 +51,54 @@ poll_reply (polled.Ready (Some value)) = Output value
 poll_reply (polled.Ready None) = Ended
 poll_reply polled.Pending = Pending
 
--- a command to a bounded set; none of them begins another
+abbrev pub step_reply : StepReply → Reply
+step_reply replied.More = More
+step_reply (replied.Woke woke) = woke_reply woke
+step_reply (replied.Taken (taken.Slot slot)) = Slot slot
+step_reply (replied.Taken taken.Empty) = Empty
+step_reply (replied.Taken taken.Pause) = Pause
+
+-- the last line says that no other command stands
 abbrev pub SetGives : TimedBounded → Command → Reply → TimedBounded → Type 0
 SetGives old (Push future) reply new = ((reply ≡ Done) × Pushes Marks old future new) ⊎ ((reply ≡ Full) × (old.slots.free ≡ []) × (new ≡ old))
 SetGives old (Wake slot) reply new = ((woke : Woke) × (reply ≡ woke_reply woke) × MarksSlot old slot woke new)
     ⊎ ((reply ≡ Bad) × (slot_count old.slots ≤ slot) × (new ≡ old))
 SetGives old Poll reply new = (answer : PollAnswer (Option ℕ)) × (reply ≡ poll_reply answer) × Polls old answer new
 SetGives old Len reply new = (reply ≡ Count (held_count old.slots)) × (new ≡ old)
-SetGives old (Unordered capacity) reply new = ⊥
+SetGives old command reply new = (reply ≡ Bad) × (new ≡ old)
 
--- a line that begins a bounded set
-abbrev pub Begins : Object → ℕ → Reply → Object → Type 0
-Begins old capacity reply new = ((reply ≡ Done) × (capacity ≤ MAX_CAPACITY) × (new ≡ object.Unordered (new_bounded capacity)))
+-- the step was made, or it cannot be made and nothing changed
+abbrev pub StepGives : Machine → StepOf → Reply → Machine → Type 0
+StepGives old step reply new = (May old step × ((answer : StepReply) × (reply ≡ step_reply answer) × MachineSteps old step new answer))
+    ⊎ ((May old step → ⊥) × (reply ≡ Stuck) × (new ≡ old))
+
+-- the last line says that no other command stands
+abbrev pub MachineGives : Machine → Command → Reply → Machine → Type 0
+MachineGives old (Mark seat slot) reply new = StepGives old (step.Mark seat slot) reply new
+MachineGives old (Go seat) reply new = StepGives old (step.Go seat) reply new
+MachineGives old Step reply new = StepGives old step.Poll reply new
+MachineGives old command reply new = (reply ≡ Bad) × (new ≡ old)
+
+-- a line that begins a bounded set, or a machine
+abbrev pub BeginsSet : Object → ℕ → Reply → Object → Type 0
+BeginsSet old capacity reply new = ((reply ≡ Done) × (capacity ≤ MAX_CAPACITY) × (new ≡ object.Unordered (new_bounded capacity)))
     ⊎ ((reply ≡ TooLarge) × (MAX_CAPACITY < capacity) × (new ≡ old))
 
--- a command to what was begun last; before anything is begun no command stands
+abbrev pub BeginsMachine : Object → ℕ → Reply → Object → Type 0
+BeginsMachine old capacity reply new = ((reply ≡ Done) × (capacity ≤ MAX_CAPACITY) × ((machine : Machine) × IsNew capacity machine × (new ≡ object.Steps machine)))
+    ⊎ ((reply ≡ TooLarge) × (MAX_CAPACITY < capacity) × (new ≡ old))
+
+-- a command to what was begun last; before anything is begun none stands
 abbrev pub ObjectGives : Object → Command → Reply → Object → Type 0
 ObjectGives object.Nothing command reply new = (reply ≡ Bad) × (new ≡ object.Nothing)
 ObjectGives (object.Unordered old) command reply new = (set : TimedBounded) × SetGives old command reply set × (new ≡ object.Unordered set)
+ObjectGives (object.Steps old) command reply new = (machine : Machine) × MachineGives old command reply machine × (new ≡ object.Steps machine)
 
+-- a command that begins something stands always
 abbrev pub CommandGives : Object → Command → Reply → Object → Type 0
-CommandGives old (Unordered capacity) reply new = Begins old capacity reply new
-CommandGives old (Push future) reply new = ObjectGives old (Push future) reply new
-CommandGives old (Wake slot) reply new = ObjectGives old (Wake slot) reply new
-CommandGives old Poll reply new = ObjectGives old Poll reply new
-CommandGives old Len reply new = ObjectGives old Len reply new
+CommandGives old (Unordered capacity) reply new = BeginsSet old capacity reply new
+CommandGives old (Steps capacity) reply new = BeginsMachine old capacity reply new
+CommandGives old command reply new = ObjectGives old command reply new
 
 -- one line: what it asks for, or `bad`
 abbrev pub LineGives : Object → List ℕ → Reply → Object → Type 0

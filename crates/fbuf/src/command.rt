@@ -11,6 +11,8 @@ use memchr::memchr;
 pub enum Command {
     /// `unordered C`: begins a bounded set of this capacity.
     Unordered(usize),
+    /// `steps C`: begins a machine of single steps of this capacity.
+    Steps(usize),
     /// `push V K`: pushes the future that is pending K times and then V.
     Push(Timed),
     /// `wake I`: marks a slot.
@@ -19,6 +21,12 @@ pub enum Command {
     Poll,
     /// `len`: how many are held.
     Len,
+    /// `mark S I`: a wake seat begins to wake a slot.
+    Mark { seat: usize, slot: usize },
+    /// `go S`: a wake seat makes the next step of its wake.
+    Go { seat: usize },
+    /// `step`: the poll seat makes its next step.
+    Step,
 }
 
 // The text up to the first space, and the text behind it.
@@ -77,12 +85,27 @@ pub fn parse(line: &[u8]) -> Option<Command>
     if word == b"unordered".as_slice() {
         return Some(Command::Unordered(one(rest)? as usize));
     }
+    if word == b"steps".as_slice() {
+        return Some(Command::Steps(one(rest)? as usize));
+    }
     if word == b"push".as_slice() {
         let (value, pending) = two(rest)?;
         return Some(Command::Push(Timed { value, pending }));
     }
     if word == b"wake".as_slice() {
         return Some(Command::Wake(one(rest)? as usize));
+    }
+    if word == b"mark".as_slice() {
+        let (seat, slot) = two(rest)?;
+        return Some(Command::Mark {
+            seat: seat as usize,
+            slot: slot as usize,
+        });
+    }
+    if word == b"go".as_slice() {
+        return Some(Command::Go {
+            seat: one(rest)? as usize,
+        });
     }
     if rest.is_some() {
         return None;
@@ -92,6 +115,9 @@ pub fn parse(line: &[u8]) -> Option<Command>
     }
     if word == b"len".as_slice() {
         return Some(Command::Len);
+    }
+    if word == b"step".as_slice() {
+        return Some(Command::Step);
     }
     None
 }

@@ -4,7 +4,8 @@ ghost use Rattle.std.specs.Fmt.{decimal};
 ghost use Rattle.fbuf.specs.Reply.{reply_line, newline};
 
 use futures::task::Poll;
-use futures_buffered_core::ready_core::Woke;
+use futures_buffered_core::ready_core::{Taken, Woke};
+use futures_buffered_core::ready_table::StepReply;
 use itoa::Buffer;
 use std::alloc::AllocError;
 
@@ -29,6 +30,16 @@ pub enum Reply {
     Already,
     /// A number: how many are held.
     Count(usize),
+    /// `more`: a step that does not end its call.
+    More,
+    /// `slot I`: a taking that ended with a slot.
+    Slot(usize),
+    /// `empty`: a taking that ended, since no slot was in the list.
+    Empty,
+    /// `pause`: a taking that ended, since a waker is about to write a link.
+    Pause,
+    /// `stuck`: a step that its seat cannot make now, or a seat or slot that is not there; nothing changed.
+    Stuck,
     /// `bad`: no line of the grammar, or one that does not stand now; nothing changed.
     Bad,
 }
@@ -62,7 +73,7 @@ fn append_reserved(text: &mut Vec<u8>, piece: &[u8])
 }
 
 impl Reply {
-    ghost use Rattle.fbuf.specs.Engine.{woke_reply, poll_reply};
+    ghost use Rattle.fbuf.specs.Engine.{woke_reply, poll_reply, step_reply};
 
     /// What a mark is answered.
     pub fn of_woke(woke: Woke) -> Reply
@@ -85,6 +96,19 @@ impl Reply {
         }
     }
 
+    /// What a step is answered.
+    pub fn of_step(reply: StepReply) -> Reply
+        ensures { result ≡ step_reply reply }
+    {
+        match reply {
+            StepReply::More => Reply::More,
+            StepReply::Woke(woke) => Reply::of_woke(woke),
+            StepReply::Taken(Taken::Slot(slot)) => Reply::Slot(slot),
+            StepReply::Taken(Taken::Empty) => Reply::Empty,
+            StepReply::Taken(Taken::Pause) => Reply::Pause,
+        }
+    }
+
     /// Appends the reply's line to the text. A refusal of memory leaves the text as it was.
     pub fn append_to(self, text: &mut Vec<u8>) -> Result<(), AllocError>
         ensures ok { OnOk result (text.new.items ≡ text.old.items ++ reply_line self) }
@@ -100,6 +124,11 @@ impl Reply {
             Reply::Fresh => text.extend_from_slice(b"fresh\n"),
             Reply::Already => text.extend_from_slice(b"already\n"),
             Reply::Count(count) => append_number(text, b"", count as u64),
+            Reply::More => text.extend_from_slice(b"more\n"),
+            Reply::Slot(slot) => append_number(text, b"slot ", slot as u64),
+            Reply::Empty => text.extend_from_slice(b"empty\n"),
+            Reply::Pause => text.extend_from_slice(b"pause\n"),
+            Reply::Stuck => text.extend_from_slice(b"stuck\n"),
             Reply::Bad => text.extend_from_slice(b"bad\n"),
         }
     }

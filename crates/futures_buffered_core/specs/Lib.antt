@@ -5,3 +5,4 @@ pub mod SlotMap
 pub mod SlotMapInvariant
 pub mod SlotMapLends
 pub mod SlotMapIterMut
+pub mod ReadyTable

@@ -1,0 +1,15 @@
+pub mod Sums
+pub mod Rows
+pub mod Flow
+pub mod Flowing
+pub mod Abouts
+pub mod EachStep
+pub mod Keeps
+pub mod LedOn
+pub mod Runs
+pub mod FirstWords
+pub mod Starts
+pub mod Reaches
+pub mod Lawful
+pub mod Tallies
+pub mod StepOn

@@ -1,0 +1,10 @@
+pub mod OneStep
+pub mod Row
+pub mod Views
+pub mod Whereabouts
+pub mod Tally
+pub mod RowInvariant
+pub mod Schedule
+pub mod Machine
+pub mod MachineInvariant
+pub mod Law

@@ -1,0 +1,31 @@
+//! A single step of a schedule, and what it answers.
+use crate::ready_core::{Taken, Woke};
+
+/// How many wake seats a machine has: their numbers are below this.
+pub const WAKE_SEATS: usize = 64;
+
+#[derive(Clone, Copy, Debug, PartialEq, Eq)]
+pub enum Step {
+    /// An idle wake seat begins to wake a slot.
+    Mark { seat: usize, slot: usize },
+    /// A wake seat that is not idle goes on with its wake.
+    Go { seat: usize },
+    /// The poll seat begins a taking or goes on with it.
+    Poll,
+}
+
+#[derive(Clone, Copy, Debug, PartialEq, Eq)]
+pub enum StepReply {
+    /// The seat's call is not over.
+    More,
+    Woke(Woke),
+    Taken(Taken),
+}
+
+#[derive(Clone, Copy, Debug, PartialEq, Eq)]
+pub enum StepFault {
+    TooLarge,
+    Memory,
+    /// The place in the list of the first step that cannot be made.
+    Step(usize),
+}
