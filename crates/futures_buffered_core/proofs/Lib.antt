@@ -1,3 +1,4 @@
 pub mod ReadyCoreLemmas
 pub mod SlotMapLemmas
 pub mod HistoryLemmas
+pub mod ScriptSourceLemmas
