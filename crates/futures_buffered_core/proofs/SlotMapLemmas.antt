@@ -82,6 +82,10 @@ module _ {F : Type 0} where
         total = omega (arith, kept.total, length-set {A = Option F} places i None, rw some at (count-set places i None within));
       }
 
+  -- one value more
+  pub count-insert : (places : List (Option F)) (i : ℕ) (value : F) → i < length places → get_or places i None ≡ None → count_by is_some (set places i (Some value)) ≡ count_by is_some places + 1
+  count-insert places i value within none = omega (arith, rw none at (count-set places i (Some value) within))
+
   -- one value fewer
   pub count-without : (places : List (Option F)) (i : ℕ) → IsSome (get_or places i None) → count_by is_some (set places i None) + 1 ≡ count_by is_some places
   count-without places i some = omega (arith, rw some at (count-set places i None (held_within places i some)))

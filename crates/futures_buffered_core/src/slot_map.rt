@@ -145,6 +145,7 @@ impl<F: Drop> PinSlotMap<F> {
         G: Drop,
         requires { self.old.free ≢ [] → G.pre f arg }
         ensures ok { IfOk result (λ i. (value : _) × G.post f arg value × Inserts self.old i value self.new) }
+        ensures count { OnOk result (held_count self.new ≡ held_count self.old + 1) }
         ensures full { IfErr result (λ back. (back ≡ arg) × (self.new ≡ self.old) × (self.old.free ≡ []) × (held_count self.old ≡ slot_count self.old)) }
     {
         let Some(i) = self.free.pop_front() else {

@@ -124,6 +124,7 @@ impl<F: Drop, S: ReadySource> FuturesUnorderedBounded<F, S> {
     /// Takes the same time at any capacity. Polls nothing, and wakes nobody: a task that waits for this set polls it again by itself.
     pub fn try_push(&mut self, value: F) -> Result<(), F>
         ensures ok { OnOk result (Pushes S.marks self.old value self.new) }
+        ensures count { OnOk result (held_count self.new.slots ≡ held_count self.old.slots + 1) }
         ensures full { IfErr result (λ back. (back ≡ value) × (self.new ≡ self.old)
             × (self.old.slots.free ≡ []) × (held_count self.old.slots ≡ slot_count self.old.slots)) }
     {
@@ -134,6 +135,7 @@ impl<F: Drop, S: ReadySource> FuturesUnorderedBounded<F, S> {
     /// As `try_push`, and answers the slot.
     pub fn try_push_at(&mut self, value: F) -> Result<usize, F>
         ensures ok { IfOk result (λ i. PushesAt S.marks self.old i value self.new) }
+        ensures count { OnOk result (held_count self.new.slots ≡ held_count self.old.slots + 1) }
         ensures full { IfErr result (λ back. (back ≡ value) × (self.new ≡ self.old)
             × (self.old.slots.free ≡ []) × (held_count self.old.slots ≡ slot_count self.old.slots)) }
     {
@@ -145,7 +147,8 @@ impl<F: Drop, S: ReadySource> FuturesUnorderedBounded<F, S> {
     /// As `try_push`, for a set that is not full: `len` is below `capacity`.
     pub fn push(&mut self, value: F)
         requires { held_count self.old.slots < slot_count self.old.slots }
-        ensures { Pushes S.marks self.old value self.new }
+        ensures pushed { Pushes S.marks self.old value self.new }
+        ensures count { held_count self.new.slots ≡ held_count self.old.slots + 1 }
     {
         match self.try_push(value) {
             Ok(()) => {}
@@ -156,7 +159,8 @@ impl<F: Drop, S: ReadySource> FuturesUnorderedBounded<F, S> {
     /// As `push`, and answers the slot.
     pub fn push_at(&mut self, value: F) -> usize
         requires { held_count self.old.slots < slot_count self.old.slots }
-        ensures { PushesAt S.marks self.old result value self.new }
+        ensures pushed { PushesAt S.marks self.old result value self.new }
+        ensures count { held_count self.new.slots ≡ held_count self.old.slots + 1 }
     {
         match self.try_push_at(value) {
             Ok(i) => i,
