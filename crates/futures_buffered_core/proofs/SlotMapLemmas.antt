@@ -1,17 +1,17 @@
 -- What each call leaves of the places and the free ones.
-use Rattle.std.proofs.Common.{◌≡◌, ℕ, zero, suc, ◌+◌, ◌<◌, ◌≤◌, true, false, cond, eqb, List, [], ◌∷◌, ◌++◌, map, length, get_or, set, replicate, Option, Some, None, is_some, IsSome, count_by, refl, sym, ap, ◌∙◌, inl, inr, arith, length-set, add-one, true≢false}
+use Rattle.std.proofs.Common.{◌≡◌, ℕ, zero, suc, ◌+◌, ◌<◌, ◌≤◌, Bool, true, false, cond, eqb, List, [], ◌∷◌, ◌++◌, map, length, get_or, set, replicate, Option, Some, None, is_some, IsSome, count_by, refl, sym, ap, ◌∙◌, inl, inr, arith, length-set, add-one, true≢false}
 use Rattle.std.specs.Option.{is_none}
 use Rattle.std.specs.List.{list_any, IsDistinct, AllByRecursion, range_with_len}
 use Rattle.std.proofs.lemmas.List.{length-replicate, map-set, length-map, get_or-map, get_or_past, get_or-replicate}
 use Rattle.std.proofs.Math.Seq.{map-set_same}
 use Rattle.std.proofs.lemmas.List.FromFn.{length-range_with_len}
 use Rattle.std.proofs.lemmas.List.Folds.{sum_by-replicate}
-use Rattle.std.proofs.lemmas.List.Sums.{sum_by-set}
+use Rattle.std.proofs.lemmas.List.Sums.{sum_by-set, sum_by-cons}
 use Rattle.std.proofs.lemmas.Bool.{cases_lt, ne_eqb, or_right, or_left, or_from}
 use Rattle.std.proofs.lemmas.Bool.Decides.{eqb_tells}
 use Rattle.futures_buffered_core.specs.SlotMap.{Slots, held, IsFirstHeld}
 use Rattle.futures_buffered_core.specs.SlotMapInvariant.{KeepsPlaces}
-use Rattle.futures_buffered_core.proofs.ReadyCoreLemmas.{KeepsOnce-first, KeepsOnce-take, KeepsOnce-marked, KeepsOnce-return}
+use Rattle.futures_buffered_core.proofs.ReadyCoreLemmas.{KeepsOnce-first, KeepsOnce-take, KeepsOnce-marked, KeepsOnce-return, KeepsOnce-none}
 
 in_range : (a n q : ℕ) → a ≤ q → q < a + n → list_any (eqb q) (range_with_len a n) ≡ true
 in_range a zero q low high = absurd (omega arith)
@@ -82,6 +82,10 @@ module _ {F : Type 0} where
         total = omega (arith, kept.total, length-set {A = Option F} places i None, rw some at (count-set places i None within));
       }
 
+  -- one value more
+  pub count-insert : (places : List (Option F)) (i : ℕ) (value : F) → i < length places → get_or places i None ≡ None → count_by is_some (set places i (Some value)) ≡ count_by is_some places + 1
+  count-insert places i value within none = omega (arith, rw none at (count-set places i (Some value) within))
+
   -- one value fewer
   pub count-without : (places : List (Option F)) (i : ℕ) → IsSome (get_or places i None) → count_by is_some (set places i None) + 1 ≡ count_by is_some places
   count-without places i some = omega (arith, rw some at (count-set places i None (held_within places i some)))
@@ -123,6 +127,23 @@ first_held_once {F} m start i j first other =
   where
     none_and_some : (o : Option F) → o ≡ None → IsSome o → ⊥
     none_and_some o e some = true≢false (sym some ∙ ap is_some e)
+
+-- a map whose places all hold a value has no free one
+module _ {F : Type 0} where
+  map-is_none : (values : List F) → map is_none (map Some values) ≡ replicate (length values) false
+  map-is_none [] = refl
+  map-is_none (value ∷ values) = ap (λ (marks : List Bool). false ∷ marks) (map-is_none values)
+
+  count-all : (values : List F) → count_by is_some (map Some values) ≡ length values
+  count-all [] = refl
+  count-all (value ∷ values) = omega (arith, count-all values, sum_by-cons (λ (o : Option F). cond (is_some o) 1 0) (Some value) (map Some values))
+
+  pub KeepsPlaces-all : (values : List F) (room : ℕ) → length values ≤ room → KeepsPlaces (map Some values) [] room
+  KeepsPlaces-all values room fits =
+      record {
+        once = rw (map-is_none values) (KeepsOnce-none (length values) room fits);
+        total = omega (arith, count-all values, length-map values Some);
+      }
 
 range_suc : (a n : ℕ) → range_with_len a (suc n) ≡ range_with_len a n ++ (a + n) ∷ []
 range_suc a zero = ap (λ (x : ℕ). x ∷ []) (omega arith)

@@ -1,8 +1,10 @@
 pub mod ReadyCore
 pub mod ReadyCoreInvariant
 pub mod History
+pub mod ScriptSource
 pub mod SlotMap
 pub mod SlotMapInvariant
 pub mod SlotMapLends
 pub mod SlotMapIterMut
 pub mod ReadyTable
+pub mod Drawn

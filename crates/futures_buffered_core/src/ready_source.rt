@@ -1,17 +1,19 @@
 //! What a set asks for names: marks, takings, and the task's waker.
 //!
-//! A source has a content of its own, of which a contract knows only what the source's relations say. `CoreSource` is a ready core under one caller, with exact relations.
-ghost use Rattle.std.specs.Prelude.{◌≡◌, ◌<◌, ◌≤◌, ◌↔◌, ℕ, [], IfOk, IfErr};
+//! A source has a content of its own, of which a contract knows only what the source's relations say. `CoreSource` is a ready core under one caller, and `ScriptSource` gives a list of answers; both have exact relations.
+ghost use Rattle.std.specs.Prelude.{◌≡◌, ◌<◌, ◌≤◌, ◌↔◌, ◌≢◌, ℕ, [], IfOk, IfErr, IfSome, IfNone, OnOk, length};
 ghost use Rattle.futures.specs.Task.{Covers, Keeps};
 ghost use Rattle.futures_buffered_core.specs.declared.ready_core.Woke.{Woke};
 ghost use Rattle.futures_buffered_core.specs.declared.ready_core.Taken.{Taken};
 ghost use Rattle.futures_buffered_core.specs.declared.ready_core.Taken.TheVariants.{Slot};
 ghost use Rattle.futures_buffered_core.specs.ReadyCore.{Marks, Takes};
+ghost use Rattle.futures_buffered_core.specs.ScriptSource.{AnswersAllBelow, IsWrongAnswerAt};
 
-use crate::ready_core::{MAX_CAPACITY, NewFault, ReadyCore, Taken, Woke};
+use crate::ready_core::{MAX_CAPACITY, NewFault, ReadyCore, RunFault, Taken, Woke};
 use futures::task::{Context, Poll, Source, Waker};
 use std::alloc::Global;
 use std::marker::Model;
+use std::vec;
 
 /// Wakes one slot, any number of times, also once the set that it came from is gone.
 pub trait SlotWaker {
@@ -189,5 +191,164 @@ impl NewSource for CoreSource {
             source: Source::new(),
             task: None,
         })
+    }
+}
+
+/// Gives the answers of a list in order, and then `Empty` for good: for a test of what a set does with the names that it gets. Its wakers do nothing, and it never wakes the task that it keeps.
+///
+/// A contract sees the capacity and the answers that are left.
+#[derive(Drop)]
+pub struct ScriptSource {
+    capacity: usize,
+    answers: vec::IntoIter<Taken>,
+    silent: Silent,
+    source: Source,
+    task: Option<Waker>,
+}
+
+impl Model for ScriptSource {
+    ghost use Rattle.futures_buffered_core.specs.ScriptSource.{Script, AnswersAllBelow};
+
+    ghost Value = { Script };
+
+    ghost use Rattle.std.specs.Prelude.{length};
+    ghost use Rattle.std.specs.Vec.Iter.{into_iter_items};
+
+    ghost view = { λ s. record { capacity = s.capacity; left = into_iter_items s.answers } };
+
+    ghost invariant = { λ s. AnswersAllBelow s.capacity (into_iter_items s.answers) (length (into_iter_items s.answers)) };
+}
+
+// The position of the first answer that names no slot below `cap`.
+fn first_wrong_answer(answers: &[Taken], cap: usize) -> Option<usize>
+    ensures none { IfNone result (AnswersAllBelow cap answers.now (length answers.now)) }
+    ensures wrong { IfSome result (IsWrongAnswerAt cap answers.now) }
+    ensures least { IfSome result (AnswersAllBelow cap answers.now) }
+{
+    for (p, answer) in answers.iter().enumerate() {
+        if let Taken::Slot(i) = answer {
+            if *i >= cap {
+                return Some(p);
+            }
+        }
+    }
+    None
+}
+
+impl ScriptSource {
+    /// A source of `cap` slots with these answers to give. `cap` can be any number.
+    ///
+    /// `RunFault::Event` has the position of the first answer that names a slot not below `cap`. No memory is asked for, so `RunFault::Memory` never comes.
+    pub fn new(_alloc: Global, cap: usize, answers: Vec<Taken>) -> Result<Self, RunFault>
+        ensures ok { IfOk result (λ s. s ≡ record { capacity = cap; left = answers.items }) }
+        ensures named { OnOk result (AnswersAllBelow cap answers.items (length answers.items)) }
+        ensures wrong { (p : ℕ) → result ≡ Err (RunFault.Event p)
+            → IsWrongAnswerAt cap answers.items p × AnswersAllBelow cap answers.items p }
+        ensures never_memory { result ≢ Err RunFault.Memory }
+    {
+        if let Some(p) = first_wrong_answer(&answers, cap) {
+            return Err(RunFault::Event(p));
+        }
+        Ok(ScriptSource {
+            capacity: cap,
+            answers: answers.into_iter(),
+            silent: Silent,
+            source: Source::new(),
+            task: None,
+        })
+    }
+}
+
+impl ReadySource for ScriptSource {
+    ghost use Rattle.futures_buffered_core.specs.ScriptSource.{TakesNext, MarksNothing};
+
+    type Waker = Silent;
+
+    ghost slots = { λ s. s.capacity };
+
+    ghost marks = { MarksNothing };
+
+    ghost takes = { TakesNext };
+
+    ghost registers = { λ old new. new ≡ old };
+
+    ghost needs = { λ _ _. ⊥ };
+
+    ghost names_below = { λ old i new h. h.1 };
+
+    ghost mark_keeps = { λ old i woke new h. Prim.cc (h.1) };
+
+    ghost take_keeps = { λ old taken new h. h.2 };
+
+    ghost register_keeps = { λ old new h. Prim.cc (h) };
+
+    ghost take_needs = { λ old taken new h n k. k };
+
+    ghost register_needs = { λ old new h n k. k };
+
+    fn capacity(&self) -> usize {
+        self.capacity
+    }
+
+    /// Changes nothing: the answers are those of the list.
+    fn mark(&mut self, _i: usize) -> Woke {
+        Woke::Fresh
+    }
+
+    fn take(&mut self) -> Taken {
+        self.answers.next().unwrap_or(Taken::Empty)
+    }
+
+    fn waker(&self, _i: usize) -> &Silent {
+        &self.silent
+    }
+
+    fn register(&mut self, cx: &mut Context<'_>) {
+        let _pending: Poll<()> = cx.register(&self.source, &mut self.task);
+    }
+}
+
+#[cfg(test)]
+mod tests {
+    use super::*;
+    use std::test::Fail;
+
+    #[test]
+    fn gives_the_answers_and_then_empty(rt: HostRuntime) -> Result<(), Fail> {
+        let answers = vec![in rt.alloc(); Taken::Slot(1), Taken::Pause]?;
+        let mut source = ScriptSource::new(rt.alloc(), 2, answers)?;
+        assert_eq!(rt; source.capacity(), 2);
+        if source.capacity() > 1 {
+            assert_eq!(rt;
+                (source.mark(0), source.mark(0)),
+                (Woke::Fresh, Woke::Fresh)
+            );
+        }
+        for want in [Taken::Slot(1), Taken::Pause, Taken::Empty, Taken::Empty] {
+            assert_eq!(rt; source.take(), want);
+        }
+        Ok(())
+    }
+
+    #[test]
+    fn refuses_an_answer_that_names_no_slot(rt: HostRuntime) -> Result<(), Fail> {
+        let answers = vec![in rt.alloc(); Taken::Slot(1), Taken::Slot(2), Taken::Slot(3)]?;
+        let refused = ScriptSource::new(rt.alloc(), 2, answers);
+        assert_eq!(rt; refused.err(), Some(RunFault::Event(1)));
+        Ok(())
+    }
+
+    #[test]
+    fn makes_a_core(rt: HostRuntime) -> Result<(), Fail> {
+        let mut source = CoreSource::make(&(), rt.alloc(), 2)?;
+        if source.capacity() > 1 {
+            assert_eq!(rt; source.mark(1), Woke::Fresh);
+            source.waker(1).wake();
+        }
+        assert_eq!(rt;
+            (source.take(), source.take()),
+            (Taken::Slot(1), Taken::Empty)
+        );
+        Ok(())
     }
 }

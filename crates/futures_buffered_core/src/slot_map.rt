@@ -1,13 +1,15 @@
 //! Fixed slots that hold values.
 //!
 //! A value goes into the first free slot and stays there until it is removed. For a new map the free slots are 0, 1, 2 and so on; a slot that a removal frees is the first to be used again. No call but the constructors takes memory.
-ghost use Rattle.std.specs.Prelude.{◌≡◌, ◌≢◌, ◌+◌, ◌<◌, ◌≤◌, [], ◌∷◌, IfOk, IfErr, OnOk, MatchOption, IfSome, IfNone, ℕ, ◌^◌, IsTrue, ◌↔◌, ◌==◌, replicate, vec_len, is_some, IsSome};
+ghost use Rattle.std.specs.Prelude.{◌≡◌, ◌≢◌, ◌+◌, ◌<◌, ◌≤◌, [], ◌∷◌, IfOk, IfErr, OnOk, MatchOption, IfSome, IfNone, ℕ, ◌^◌, List, IsTrue, ◌↔◌, ◌==◌, replicate, vec_len, is_some, IsSome};
 ghost use Rattle.std.specs.List.{range_with_len};
 ghost use Rattle.std.specs.VecDeque.{deque_capacity};
 ghost use Rattle.std.specs.Option.{option_copied_mut};
 ghost use Rattle.std.specs.Option.Follows.{option_follows_value};
 ghost use Rattle.std.specs.Borrow.{sem};
-ghost use Rattle.futures_buffered_core.specs.SlotMap.{held, held_count, slot_count, no_slots, without, Inserts, IsFirstHeld, NoneHeldFrom};
+ghost use Rattle.std.specs.Iterator.{IsFiniteIterable};
+ghost use Rattle.futures_buffered_core.specs.Drawn.{Draws, DrawsMoreThan};
+ghost use Rattle.futures_buffered_core.specs.SlotMap.{held, held_count, slot_count, no_slots, all_slots, without, Inserts, IsFirstHeld, NoneHeldFrom};
 
 use crate::ready_core::{MAX_CAPACITY, NewFault};
 use std::alloc::{AllocError, Global};
@@ -92,6 +94,28 @@ impl<F: Drop> PinSlotMap<F> {
         Ok(PinSlotMap { places, free })
     }
 
+    /// A map without a free slot, which has item k in slot k, and as many slots as there are items.
+    ///
+    /// Takes time and memory in proportion to that number. Where it is refused, the items that came are dropped: `TooLarge` where one more than `MAX_CAPACITY` came, and `Memory` where there was no room for the next.
+    pub fn from_iter<I: IntoIterator<Item = F>>(alloc: Global, iter: I) -> Result<Self, NewFault>
+        requires { IsFiniteIterable I.into_iter_gives I.IntoIter.can_next I.IntoIter.remaining iter }
+        ensures full { IfOk result (λ m. (items : List F) × Draws I.into_iter_gives I.IntoIter.next_gives iter items × (m ≡ all_slots items)) }
+        ensures fits { IfOk result (λ m. slot_count m ≤ MAX_CAPACITY) }
+        ensures large { result ≡ Err NewFault.TooLarge → DrawsMoreThan I.into_iter_gives I.IntoIter.next_gives iter MAX_CAPACITY }
+    {
+        let mut places = Vec::new(alloc);
+        for item in iter {
+            if places.len() == MAX_CAPACITY {
+                return Err(NewFault::TooLarge);
+            }
+            let Ok(()) = places.push(Some(item)) else {
+                return Err(NewFault::Memory);
+            };
+        }
+        let free = VecDeque::with_capacity(alloc, places.len())?;
+        Ok(PinSlotMap { places, free })
+    }
+
     /// The number of slots, free or not.
     pub fn capacity(&self) -> usize
         ensures { result ≡ slot_count self.now }
@@ -121,6 +145,7 @@ impl<F: Drop> PinSlotMap<F> {
         G: Drop,
         requires { self.old.free ≢ [] → G.pre f arg }
         ensures ok { IfOk result (λ i. (value : _) × G.post f arg value × Inserts self.old i value self.new) }
+        ensures count { OnOk result (held_count self.new ≡ held_count self.old + 1) }
         ensures full { IfErr result (λ back. (back ≡ arg) × (self.new ≡ self.old) × (self.old.free ≡ []) × (held_count self.old ≡ slot_count self.old)) }
     {
         let Some(i) = self.free.pop_front() else {
@@ -263,5 +288,19 @@ mod tests {
     fn refuses_a_capacity(rt: HostRuntime) {
         let large = PinSlotMap::<u64>::new(rt.alloc(), MAX_CAPACITY + 1);
         assert_eq!(rt; large.err(), Some(NewFault::TooLarge));
+    }
+
+    #[test]
+    fn holds_each_item(rt: HostRuntime) -> Result<(), Fail> {
+        let mut map = PinSlotMap::from_iter(rt.alloc(), 0..3_u64)?;
+        assert_eq!(rt; (map.len(), map.capacity()), (3, 3));
+        assert_eq!(rt;
+            (map.get(0).copied(), map.get(2).copied()),
+            (Some(0), Some(2))
+        );
+        assert_eq!(rt; map.insert_with(3, |value| value), Err(3));
+        map.remove(1);
+        assert_eq!(rt; map.insert_with(4, |value| value), Ok(1));
+        Ok(())
     }
 }

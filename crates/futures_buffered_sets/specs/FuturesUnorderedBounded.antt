@@ -1,10 +1,10 @@
 -- What a contract sees of a bounded set, and what its calls make of it.
 use Rattle.std.specs.Prelude.{◌≡◌, ℕ, ◌<◌, ◌≤◌, List, [], ◌∷◌, ◌++◌, map, length, Option, Some, None, ◌⊎◌, refl}
-use Rattle.std.specs.List.{FoldsTo}
+use Rattle.std.specs.List.{FoldsTo, range_with_len}
 use Rattle.std.specs.Coded.{Coded, code_by, coded×, coded_ℕ}
 use Rattle.futures.specs.declared.task.Poll.{Poll}
 use Rattle.futures.specs.declared.task.Poll.TheVariants.{Ready, Pending}
-use Rattle.futures_buffered_core.specs.SlotMap.{Slots, slots_code, held_count, without, Inserts}
+use Rattle.futures_buffered_core.specs.SlotMap.{Slots, slots_code, held_count, all_slots, without, Inserts}
 use Rattle.futures_buffered_core.specs.declared.ready_core.Taken.{Taken}
 use Rattle.futures_buffered_core.specs.declared.ready_core.Taken.TheVariants.{Slot, Empty, Pause}
 use Rattle.futures_buffered_core.specs.declared.ready_core.Woke.{Woke}
@@ -27,6 +27,22 @@ bounded_code {F} {S} code source_code =
 
 abbrev pub with_empty_slot : {F S : Type 0} → Bounded F S → ℕ → Bounded F S
 with_empty_slot b i = record b { slots = without b.slots i }
+
+-- one mark of a slot, whatever it answered
+abbrev pub MarksSlot : {S : Type 0} → (S → ℕ → Woke → S → Type 0) → S → ℕ → S → Type 0
+MarksSlot marks old i new = (woke : Woke) × marks old i woke new
+
+-- one mark of each of these slots, in order, took the source from old to new
+abbrev pub MarksEach : {S : Type 0} → (S → ℕ → Woke → S → Type 0) → S → List ℕ → S → Type 0
+MarksEach marks = FoldsTo (MarksSlot marks)
+
+-- item k is held in slot k, no slot is free, and each slot was marked, in order, in a source made for this number of slots
+pub record HoldsEach {F S : Type 0} (made : ℕ → S → Type 0) (marks : S → ℕ → Woke → S → Type 0) (names : ℕ) (items : List F) (set : Bounded F S) : Type 0 where
+  pub slots_hold : set.slots ≡ all_slots items
+  pub new_source : S
+  pub was_made : made (length items) new_source
+  pub marked : MarksEach marks new_source (range_with_len 0 (length items)) set.source
+  pub takes_at_most : set.limit ≡ names
 
 -- a value went into the first free place, i, which was marked
 pub record PushesAt {F S : Type 0} (marks : S → ℕ → Woke → S → Type 0) (old : Bounded F S) (i : ℕ) (value : F) (new : Bounded F S) : Type 0 where

@@ -1,22 +1,26 @@
 //! A set of as many futures as it has slots, yielded as they finish.
 //!
 //! Each future stands in a slot. A push marks its slot, and a future's waker marks it again. A poll takes the names of marked slots from the set's source, at most `POLL_LIMIT` of them, and polls what these slots hold until one is ready. A slot that nobody marked costs nothing.
-ghost use Rattle.std.specs.Prelude.{◌≡◌, ◌<◌, ◌≤◌, ◌+◌, ◌==◌, ◌↔◌, [], ℕ, IfOk, IfErr, OnOk, OnSome, IfSome, is_some, IsSome, IsTrue};
+ghost use Rattle.std.specs.Prelude.{◌≡◌, ◌<◌, ◌≤◌, ◌+◌, ◌==◌, ◌↔◌, [], ℕ, List, IfOk, IfErr, OnOk, OnSome, IfSome, is_some, IsSome, IsTrue};
 ghost use Rattle.futures.specs.Task.{Covers, Keeps};
 ghost use Rattle.futures.specs.Runs.{After, Within};
 ghost use Rattle.futures.specs.Poll.{IfReady, OnPending};
+ghost use Rattle.std.specs.Iterator.{IsFiniteIterable};
+ghost use Rattle.futures_buffered_core.specs.Drawn.{Draws, DrawsMoreThan};
 ghost use Rattle.futures_buffered_core.specs.SlotMap.{held, held_count, slot_count, no_slots};
 ghost use Rattle.futures_buffered_sets.specs.Held.{AllHeld, AllHeldBut, EndsWith, ComesFrom};
-ghost use Rattle.futures_buffered_sets.specs.FuturesUnorderedBounded.{Pushes, PushesAt, AsksUntil, PollGives, with_empty_slot};
+ghost use Rattle.futures_buffered_sets.specs.FuturesUnorderedBounded.{HoldsEach, Pushes, PushesAt, AsksUntil, PollGives, with_empty_slot};
 
+use crate::fused::{FusedStream, SizeHint};
 use crate::poll_one::{PollFuture, PollOne};
 use crate::slot_future::SlotFuture;
 use futures::Stream;
 use futures::task::{Context, Poll};
 use futures_buffered_core::ready_core::{MAX_CAPACITY, NewFault, Taken, Woke};
-use futures_buffered_core::ready_source::ReadySource;
+use futures_buffered_core::ready_source::{NewSource, ReadySource};
 use futures_buffered_core::slot_map::PinSlotMap;
 use std::alloc::Global;
+use std::fmt;
 use std::marker::Model;
 
 /// How many names one poll takes from the source, at most.
@@ -65,6 +69,34 @@ impl<F: Drop, S: ReadySource> FuturesUnorderedBounded<F, S> {
         })
     }
 
+    /// A set without a free slot, which holds item k in slot k, each marked, in this order. It has as many slots as there are items, and a source made for it.
+    ///
+    /// Takes time and memory in proportion to that number. Where it is refused, the items that came are dropped: `TooLarge` where one more than `MAX_CAPACITY` came, and `Memory` where a request for memory was refused.
+    pub fn over<I: IntoIterator<Item = F>>(
+        env: &S::Env,
+        alloc: Global,
+        iter: I,
+    ) -> Result<Self, NewFault>
+    where
+        S: NewSource,
+        requires { IsFiniteIterable I.into_iter_gives I.IntoIter.can_next I.IntoIter.remaining iter }
+        ensures holds { IfOk result (λ set. (items : List F) × Draws I.into_iter_gives I.IntoIter.next_gives iter items
+            × HoldsEach S.made S.marks POLL_LIMIT items set) }
+        ensures fits { IfOk result (λ set. slot_count set.slots ≤ MAX_CAPACITY) }
+        ensures large { result ≡ Err NewFault.TooLarge → DrawsMoreThan I.into_iter_gives I.IntoIter.next_gives iter MAX_CAPACITY }
+    {
+        let slots = PinSlotMap::from_iter(alloc, iter)?;
+        let mut source = S::make(env, alloc, slots.capacity())?;
+        for i in 0..slots.capacity() {
+            let _woke = source.mark(i);
+        }
+        Ok(FuturesUnorderedBounded {
+            slots,
+            source,
+            limit: POLL_LIMIT,
+        })
+    }
+
     /// The number of futures held.
     pub fn len(&self) -> usize
         ensures { result ≡ held_count self.now.slots }
@@ -92,6 +124,7 @@ impl<F: Drop, S: ReadySource> FuturesUnorderedBounded<F, S> {
     /// Takes the same time at any capacity. Polls nothing, and wakes nobody: a task that waits for this set polls it again by itself.
     pub fn try_push(&mut self, value: F) -> Result<(), F>
         ensures ok { OnOk result (Pushes S.marks self.old value self.new) }
+        ensures count { OnOk result (held_count self.new.slots ≡ held_count self.old.slots + 1) }
         ensures full { IfErr result (λ back. (back ≡ value) × (self.new ≡ self.old)
             × (self.old.slots.free ≡ []) × (held_count self.old.slots ≡ slot_count self.old.slots)) }
     {
@@ -102,6 +135,7 @@ impl<F: Drop, S: ReadySource> FuturesUnorderedBounded<F, S> {
     /// As `try_push`, and answers the slot.
     pub fn try_push_at(&mut self, value: F) -> Result<usize, F>
         ensures ok { IfOk result (λ i. PushesAt S.marks self.old i value self.new) }
+        ensures count { OnOk result (held_count self.new.slots ≡ held_count self.old.slots + 1) }
         ensures full { IfErr result (λ back. (back ≡ value) × (self.new ≡ self.old)
             × (self.old.slots.free ≡ []) × (held_count self.old.slots ≡ slot_count self.old.slots)) }
     {
@@ -113,7 +147,8 @@ impl<F: Drop, S: ReadySource> FuturesUnorderedBounded<F, S> {
     /// As `try_push`, for a set that is not full: `len` is below `capacity`.
     pub fn push(&mut self, value: F)
         requires { held_count self.old.slots < slot_count self.old.slots }
-        ensures { Pushes S.marks self.old value self.new }
+        ensures pushed { Pushes S.marks self.old value self.new }
+        ensures count { held_count self.new.slots ≡ held_count self.old.slots + 1 }
     {
         match self.try_push(value) {
             Ok(()) => {}
@@ -124,7 +159,8 @@ impl<F: Drop, S: ReadySource> FuturesUnorderedBounded<F, S> {
     /// As `push`, and answers the slot.
     pub fn push_at(&mut self, value: F) -> usize
         requires { held_count self.old.slots < slot_count self.old.slots }
-        ensures { PushesAt S.marks self.old result value self.new }
+        ensures pushed { PushesAt S.marks self.old result value self.new }
+        ensures count { held_count self.new.slots ≡ held_count self.old.slots + 1 }
     {
         match self.try_push_at(value) {
             Ok(i) => i,
@@ -237,6 +273,35 @@ impl<F: SlotFuture<S::Waker>, S: ReadySource> Stream for FuturesUnorderedBounded
         ensures kept { Keeps cx.old cx.new }
     {
         self.poll_with(&PollFuture, cx)
+    }
+}
+
+impl<F: SlotFuture<S::Waker>, S: ReadySource> FusedStream for FuturesUnorderedBounded<F, S> {
+    ghost use Rattle.std.specs.Prelude.{◌≡◌};
+
+    ghost is_over = { λ set. held_count set.slots ≡ 0 };
+
+    fn is_terminated(&self) -> bool {
+        self.is_empty()
+    }
+}
+
+impl<F: Drop, S: ReadySource> SizeHint for FuturesUnorderedBounded<F, S> {
+    ghost use Rattle.std.specs.Prelude.{Some};
+
+    ghost items_left = { λ set. (held_count set.slots, Some (held_count set.slots)) };
+
+    fn size_hint(&self) -> (usize, Option<usize>) {
+        (self.len(), Some(self.len()))
+    }
+}
+
+/// Prints the number of futures held.
+impl<F: Drop, S: ReadySource> fmt::Debug for FuturesUnorderedBounded<F, S> {
+    fn fmt<W: fmt::Write>(&self, f: &mut fmt::Formatter<W>) -> fmt::Result {
+        f.debug_struct("FuturesUnorderedBounded")
+            .field("len", &self.len())
+            .finish_non_exhaustive()
     }
 }
 

@@ -1,11 +1,12 @@
 //! Rows of calls of a set over a `CoreSource`, and what each call answers.
 use super::{FuturesUnorderedBounded, POLL_LIMIT};
+use crate::fused::{FusedStream, SizeHint};
 use crate::slot_future::SlotFuture;
 use futures::Stream;
 use futures::task::Poll;
 use futures::test::MockTask;
-use futures_buffered_core::ready_core::{MAX_CAPACITY, NewFault, Woke};
-use futures_buffered_core::ready_source::{CoreSource, NewSource};
+use futures_buffered_core::ready_core::{MAX_CAPACITY, NewFault, Taken, Woke};
+use futures_buffered_core::ready_source::{CoreSource, NewSource, ScriptSource};
 use std::alloc::{AllocGlobal, Global};
 use std::process::Abort;
 use std::random::RandomSource;
@@ -185,5 +186,84 @@ fn counts_what_it_holds(rt: HostRuntime) -> Result<(), Fail> {
         new_set(rt.alloc(), MAX_CAPACITY + 1).err(),
         Some(NewFault::TooLarge)
     );
+    Ok(())
+}
+
+#[test]
+fn wakes_its_task_where_the_source_pauses(rt: HostRuntime) -> Result<(), Fail> {
+    let task = MockTask::new(&rt)?;
+    let answers = vec![in rt.alloc(); Taken::Slot(1), Taken::Pause, Taken::Slot(0)]?;
+    let source = ScriptSource::new(rt.alloc(), 2, answers)?;
+    let mut set = FuturesUnorderedBounded::with_source(rt.alloc(), source)?;
+    assert!(rt;
+        set.try_push(Timed {
+            value: 5,
+            polls_left: 0
+        })
+        .is_ok()
+    );
+    assert!(rt;
+        set.try_push(Timed {
+            value: 6,
+            polls_left: 1
+        })
+        .is_ok()
+    );
+    let rows = [
+        (Poll::Pending, true),
+        (Poll::Ready(Some(5)), false),
+        (Poll::Pending, false),
+    ];
+    for (want, is_woken) in rows {
+        assert_eq!(rt; task.enter(|cx| set.poll_next(cx)), want);
+        assert_eq!(rt; task.is_woken(), is_woken);
+    }
+    Ok(())
+}
+
+#[test]
+fn holds_each_item_it_is_made_of(rt: HostRuntime) -> Result<(), Fail> {
+    let task = MockTask::new(&rt)?;
+    let mut items = Vec::new(rt.alloc());
+    for value in 0..10 {
+        items.push(Timed {
+            value,
+            polls_left: 0,
+        })?;
+    }
+    let mut set: Set = FuturesUnorderedBounded::over(&(), rt.alloc(), items)?;
+    assert_eq!(rt;
+        (set.len(), set.capacity(), set.is_terminated()),
+        (10, 10, false)
+    );
+    assert_eq!(rt; set.size_hint(), (10, Some(10)));
+    for value in 0..10 {
+        assert_eq!(rt; gave(&task, &mut set, Call::Poll), Answer::Some(value));
+    }
+    assert_eq!(rt; gave(&task, &mut set, Call::Poll), Answer::None);
+    assert!(rt; set.is_terminated());
+    Ok(())
+}
+
+#[test]
+fn has_no_slot_where_it_is_made_of_nothing(rt: HostRuntime) -> Result<(), Fail> {
+    let mut set: Set = FuturesUnorderedBounded::over(&(), rt.alloc(), Vec::new(rt.alloc()))?;
+    assert_eq!(rt; (set.capacity(), set.is_terminated()), (0, true));
+    assert_eq!(rt; set.size_hint(), (0, Some(0)));
+    assert!(rt;
+        set.try_push(Timed {
+            value: 1,
+            polls_left: 0
+        })
+        .is_err()
+    );
+    Ok(())
+}
+
+#[test]
+fn prints_its_length(rt: HostRuntime) -> Result<(), Fail> {
+    let set = new_set(rt.alloc(), 3)?;
+    let text = format!(in rt.alloc(); "{set:?}")?;
+    assert_eq!(rt; text.as_str(), "FuturesUnorderedBounded { len: 0, .. }");
     Ok(())
 }

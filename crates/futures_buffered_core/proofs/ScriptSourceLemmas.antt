@@ -1,0 +1,11 @@
+-- What a taking leaves of a list of answers.
+use Rattle.std.proofs.Common.{◌≡◌, ℕ, suc, List, ◌++◌, length, Option, Some, None, ap, arith}
+use Rattle.std.specs.Option.{option_to_list}
+use Rattle.futures_buffered_core.specs.declared.ready_core.Taken.{Taken}
+use Rattle.futures_buffered_core.specs.ScriptSource.{AnswersAllBelow}
+
+-- the answers after the first name slots below the capacity, as all did
+pub AnswersAllBelow-rest : (cap : ℕ) (answers rest : List Taken) (given : Option Taken) → AnswersAllBelow cap answers (length answers)
+    → answers ≡ option_to_list given ++ rest → AnswersAllBelow cap rest (length rest)
+AnswersAllBelow-rest cap answers rest None all e p i below named = all p i (omega (arith, ap length e)) (rw e named)
+AnswersAllBelow-rest cap answers rest (Some first) all e p i below named = all (suc p) i (omega (arith, ap length e)) (rw e named)

@@ -1,0 +1,33 @@
+-- A source that gives the answers of a list.
+use Rattle.std.specs.Prelude.{◌≡◌, ℕ, ◌<◌, ◌≤◌, List, [], ◌∷◌, Some, slice_get}
+use Rattle.futures_buffered_core.specs.ReadyCore.{IsNameBelow}
+use Rattle.futures_buffered_core.specs.declared.ready_core.Woke.{Woke}
+use Rattle.futures_buffered_core.specs.declared.ready_core.Woke.TheVariants.{Fresh}
+use Rattle.futures_buffered_core.specs.declared.ready_core.Taken.{Taken}
+use Rattle.futures_buffered_core.specs.declared.ready_core.Taken.TheVariants.{Slot, Empty}
+
+-- the capacity, and the answers that are left
+pub record Script : Type 0 where
+  pub capacity : ℕ
+  pub left : List Taken
+
+-- the first answer is given, and `Empty` where none is left
+abbrev pub AnswersNext : List Taken → Taken → List Taken → Type 0
+AnswersNext [] given rest = (given ≡ Empty) × (rest ≡ [])
+AnswersNext (first ∷ others) given rest = (given ≡ first) × (rest ≡ others)
+
+-- one taking
+abbrev pub TakesNext : Script → Taken → Script → Type 0
+TakesNext old given new = AnswersNext old.left given new.left × IsNameBelow old.capacity given × (new.capacity ≡ old.capacity)
+
+-- one mark, of any slot: it is fresh, and changes nothing
+abbrev pub MarksNothing : Script → ℕ → Woke → Script → Type 0
+MarksNothing old i woke new = (woke ≡ Fresh) × (new ≡ old)
+
+-- each slot that the first n answers name is below the capacity
+abbrev pub AnswersAllBelow : ℕ → List Taken → ℕ → Type 0
+AnswersAllBelow cap answers n = (p i : ℕ) → p < n → slice_get answers p ≡ Some (Slot i) → i < cap
+
+-- the answer at p names no slot that is there
+abbrev pub IsWrongAnswerAt : ℕ → List Taken → ℕ → Type 0
+IsWrongAnswerAt cap answers p = (i : ℕ) × (slice_get answers p ≡ Some (Slot i)) × (cap ≤ i)

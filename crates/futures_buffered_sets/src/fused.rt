@@ -1,0 +1,34 @@
+//! What `futures` leaves out: whether a stream or a future has ended, and how many items are left.
+ghost use Rattle.std.specs.Prelude.{◌≡◌, ◌↔◌, ℕ, IsTrue, Option};
+
+use futures::{Future, Stream};
+
+/// A stream that says when it has no more to give.
+pub trait FusedStream: Stream {
+    // Holds of a stream whose next poll gives the end.
+    ghost is_over: { Self → Type 0 };
+
+    /// Whether the next poll gives the end.
+    fn is_terminated(&self) -> bool
+        ensures { IsTrue result ↔ is_over self.now };
+}
+
+/// A future that says when it is not to be polled again.
+pub trait FusedFuture: Future {
+    // Holds of a future that has ended.
+    ghost is_over: { Self → Type 0 };
+
+    /// Whether the future has ended.
+    fn is_terminated(&self) -> bool
+        ensures { IsTrue result ↔ is_over self.now };
+}
+
+/// What bounds the number of items that are left, as `size_hint` of an iterator does.
+pub trait SizeHint {
+    // The least and the greatest number of items that are left. `None` says that no greatest is known.
+    ghost items_left: { Self → ℕ × Option ℕ };
+
+    /// The least and the greatest number of items that are left.
+    fn size_hint(&self) -> (usize, Option<usize>)
+        ensures { result ≡ items_left self.now };
+}
