@@ -2,5 +2,6 @@
 #![tactic(auto)]
 
 pub mod ready_core;
-pub mod slot_map;
+pub mod ready_shared;
 pub mod ready_source;
+pub mod slot_map;

@@ -11,11 +11,13 @@ use crate::poll_one::{PollFuture, PollOne};
 use crate::slot_future::SlotFuture;
 use futures_buffered_core::ready_core::{MAX_CAPACITY, NewFault, Taken, Woke};
 use futures_buffered_core::slot_map::PinSlotMap;
+use futures_buffered_core::ready_shared::SharedReady;
 use futures_buffered_core::ready_source::ReadySource;
 use futures::task::{Context, Poll};
 use futures::Stream;
 use std::alloc::Global;
 use std::marker::Model;
+use std::sync::Wait;
 
 /// How many names one poll takes.
 pub const LIMIT: usize = 61;
@@ -217,5 +219,20 @@ impl<F: SlotFuture<S::Waker>, S: ReadySource> Stream for FuturesUnorderedBounded
         ensures kept { Keeps cx.old cx.new }
     {
         self.poll_with(&PollFuture, cx)
+    }
+}
+
+impl<R: Wait + Clone + Drop, F: Drop> FuturesUnorderedBounded<F, SharedReady<R>> {
+    /// A set whose values are woken from any thread. It keeps a copy of the handle.
+    pub fn new(env: &R, alloc: Global, cap: usize) -> Result<Self, NewFault>
+        ensures empty { IfOk result (λ set. set.slots ≡ no_slots cap) }
+        ensures source { IfOk result (λ set. set.source.capacity ≡ cap) }
+        ensures limit { IfOk result (λ set. set.limit ≡ LIMIT) }
+        ensures fits { IfOk result (λ _. cap ≤ MAX_CAPACITY) }
+        ensures large { result ≡ Err NewFault.TooLarge → MAX_CAPACITY < cap }
+        ensures memory { result ≡ Err NewFault.Memory → cap ≤ MAX_CAPACITY }
+    {
+        let source = SharedReady::new(env, alloc, cap)?;
+        FuturesUnorderedBounded::with_source(alloc, source)
     }
 }
