@@ -1,7 +1,7 @@
 //! A source whose slots are woken from any thread.
 //!
 //! The source and its wakers share one list. The marks stand under one lock, the waker of the task that polls under a second.
-//! No call here holds both, and none holds a lock while it wakes the task. No mark, taking, wake or registration takes memory.
+//! No call holds both, and a wake holds neither while it wakes the task. No mark, taking or wake takes memory.
 ghost use Rattle.std.specs.Prelude.{◌≡◌, ◌<◌, ◌≤◌, [], IfOk, nat_eq};
 ghost use Rattle.std.specs.List.{IsDistinct, range_with_len};
 ghost use Rattle.futures_buffered_core.specs.ReadyCore.{MarkGives, TakeGives, IsNameBelow};
@@ -312,6 +312,7 @@ impl<R: Wait + Drop> ReadySource for SharedReady<R> {
         SharedReady::waker(self, i)
     }
 
+    /// Keeps the task's waker for the next fresh wake. The waker of another task that is kept is let go, which wakes that task.
     fn register(&mut self, cx: &mut Context<'_>) {
         let mut outer = self.list.outer.lock(&self.list.rt);
         let _: Poll<()> = cx.register(&self.source, &mut outer);
