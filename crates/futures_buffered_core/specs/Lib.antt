@@ -1,5 +1,6 @@
 pub mod ReadyCore
 pub mod ReadyCoreInvariant
+pub mod ReadyShared
 pub mod History
 pub mod ScriptSource
 pub mod SlotMap

@@ -17,11 +17,13 @@ use crate::slot_future::SlotFuture;
 use futures::Stream;
 use futures::task::{Context, Poll};
 use futures_buffered_core::ready_core::{MAX_CAPACITY, NewFault, Taken, Woke};
+use futures_buffered_core::ready_shared::SharedReady;
 use futures_buffered_core::ready_source::{NewSource, ReadySource};
 use futures_buffered_core::slot_map::PinSlotMap;
 use std::alloc::Global;
 use std::fmt;
 use std::marker::Model;
+use std::sync::Wait;
 
 /// How many names one poll takes from the source, at most.
 pub const POLL_LIMIT: usize = 61;
@@ -273,6 +275,21 @@ impl<F: SlotFuture<S::Waker>, S: ReadySource> Stream for FuturesUnorderedBounded
         ensures kept { Keeps cx.old cx.new }
     {
         self.poll_with(&PollFuture, cx)
+    }
+}
+
+impl<R: Wait + Clone + Drop, F: Drop> FuturesUnorderedBounded<F, SharedReady<R>> {
+    /// A set whose values are woken from any thread. It keeps a copy of the handle.
+    pub fn new(env: &R, alloc: Global, cap: usize) -> Result<Self, NewFault>
+        ensures empty { IfOk result (λ set. set.slots ≡ no_slots cap) }
+        ensures source { IfOk result (λ set. set.source.capacity ≡ cap) }
+        ensures limit { IfOk result (λ set. set.limit ≡ POLL_LIMIT) }
+        ensures fits { IfOk result (λ _. cap ≤ MAX_CAPACITY) }
+        ensures large { (result ≡ Err NewFault.TooLarge) ↔ (MAX_CAPACITY < cap) }
+        ensures memory { result ≡ Err NewFault.Memory → cap ≤ MAX_CAPACITY }
+    {
+        let source = SharedReady::new(env, alloc, cap)?;
+        FuturesUnorderedBounded::with_source(alloc, source)
     }
 }
 

@@ -1,0 +1,77 @@
+//! A cell that is sent one value.
+use futures::task::Poll;
+use futures_buffered_core::ready_shared::SlotWake;
+use futures_buffered_core::ready_source::SlotWaker;
+use futures_buffered_sets::slot_future::SlotFuture;
+use std::alloc::{AllocError, Global};
+use std::sync::{Arc, Mutex, Wait};
+
+#[derive(Drop)]
+struct Cell<T, R> {
+    value: Option<T>,
+    waker: Option<SlotWake<R>>,
+}
+
+#[derive(Drop)]
+pub struct Sender<T, R> {
+    rt: R,
+    cell: Arc<Mutex<Cell<T, R>>>,
+}
+
+/// Pending until a value is sent, then ready with `Ok` of it. It is an error where its waker can't be kept.
+#[derive(Drop)]
+pub struct Receiver<T, R> {
+    rt: R,
+    cell: Arc<Mutex<Cell<T, R>>>,
+}
+
+pub fn one_shot<T: Drop, R: Clone + Drop>(
+    env: &R,
+    alloc: Global,
+) -> Result<(Sender<T, R>, Receiver<T, R>), AllocError> {
+    let cell = Cell {
+        value: None,
+        waker: None,
+    };
+    let cell = Arc::new(alloc, Mutex::new(cell))?;
+    let receiver = Receiver {
+        rt: env.clone()?,
+        cell: Arc::try_clone(&cell)?,
+    };
+    let rt = env.clone()?;
+    Ok((Sender { rt, cell }, receiver))
+}
+
+impl<T: Drop, R: Wait + Drop> Sender<T, R> {
+    /// Sends the value, and wakes the receiver once the lock of the cell is let go. A value sent before and not taken is dropped.
+    pub fn send(&self, value: T) {
+        let waker = {
+            let mut guard = self.cell.lock(&self.rt);
+            let cell = &mut *guard;
+            cell.value = Some(value);
+            cell.waker.take()
+        };
+        if let Some(waker) = waker {
+            waker.wake();
+        }
+    }
+}
+
+impl<T: Drop, R: Wait + Drop> SlotFuture<SlotWake<R>> for Receiver<T, R> {
+    type Output = Result<T, AllocError>;
+
+    fn poll(&mut self, waker: &SlotWake<R>) -> Poll<Result<T, AllocError>> {
+        let mut guard = self.cell.lock(&self.rt);
+        let cell = &mut *guard;
+        if let Some(value) = cell.value.take() {
+            return Poll::Ready(Ok(value));
+        }
+        match waker.try_clone() {
+            Ok(kept) => {
+                cell.waker = Some(kept);
+                Poll::Pending
+            }
+            Err(error) => Poll::Ready(Err(error)),
+        }
+    }
+}

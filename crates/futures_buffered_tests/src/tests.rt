@@ -1,0 +1,6 @@
+mod outer;
+mod receivers;
+mod stale;
+mod threads;
+mod wakes;
+mod yields;

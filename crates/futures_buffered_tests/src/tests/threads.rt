@@ -1,0 +1,88 @@
+// Sets that move to another thread, or are woken from one.
+use crate::receiver::{Receiver, Sender, one_shot};
+use crate::timed::Timed;
+use crate::yields::Yield;
+use futures::StreamExt;
+use futures::executor::block_on;
+use futures::future::ready;
+use futures_buffered_core::ready_shared::SharedReady;
+use futures_buffered_sets::futures_unordered_bounded::FuturesUnorderedBounded;
+use std::alloc::{AllocError, Global};
+use std::sync::Wait;
+use std::test::Fail;
+use std::thread;
+
+type Shared<F, R> = FuturesUnorderedBounded<F, SharedReady<R>>;
+
+// The set gives each receiver, and each has its sender.
+fn receivers<R: Wait + Clone + Drop>(
+    rt: &R,
+    alloc: Global,
+    set: &mut Shared<Receiver<u64, R>, R>,
+) -> Result<Vec<Sender<u64, R>>, AllocError> {
+    let mut senders = Vec::new(alloc);
+    for _ in 0..4 {
+        let (sender, receiver) = one_shot(rt, alloc)?;
+        senders.push(sender)?;
+        let _ = set.try_push(receiver);
+    }
+    Ok(senders)
+}
+
+#[test]
+fn a_set_is_polled_on_another_thread(rt: HostRuntime) -> Result<(), Fail> {
+    let mut set: Shared<Timed, _> = FuturesUnorderedBounded::new(&rt, rt.alloc(), 2)?;
+    assert!(rt; set.try_push(Timed { v: 1, k: 0 }).is_ok());
+    assert!(rt; set.try_push(Timed { v: 2, k: 0 }).is_ok());
+    let child = thread::spawn(&rt, move || block_on(&rt, set.collect(rt.alloc())))?;
+    let outputs = child.join(&rt)??;
+    assert_eq!(rt; outputs.as_slice(), [1, 2].as_slice());
+    Ok(())
+}
+
+#[test]
+fn a_set_that_yields_is_polled_on_another_thread(rt: HostRuntime) -> Result<(), Fail> {
+    let mut set: Shared<Yield, _> = FuturesUnorderedBounded::new(&rt, rt.alloc(), 2)?;
+    assert!(rt; set.try_push(Yield::new()).is_ok());
+    assert!(rt; set.try_push(Yield::new()).is_ok());
+    let child = thread::spawn(&rt, move || block_on(&rt, set.count()))?;
+    assert_eq!(rt; child.join(&rt)?, 2);
+    Ok(())
+}
+
+#[test]
+fn next_and_fold_while_a_thread_wakes(rt: HostRuntime) -> Result<(), Fail> {
+    let mut set = FuturesUnorderedBounded::new(&rt, rt.alloc(), 4)?;
+    let senders = receivers(&rt, rt.alloc(), &mut set)?;
+    let child = thread::spawn(&rt, move || {
+        for (bit, sender) in [1, 2, 4, 8].iter().zip(&senders) {
+            sender.send(*bit);
+        }
+    })?;
+    let first = block_on(&rt, set.next())?;
+    let first = first.ok_or("no first")??;
+    let others = block_on(&rt, set.fold(0, |sum, x| ready(sum | x.unwrap_or(0))))?;
+    assert_eq!(rt; others & first, 0);
+    assert_eq!(rt; others | first, 15);
+    child.join(&rt);
+    Ok(())
+}
+
+#[test]
+fn collect_while_a_thread_wakes(rt: HostRuntime) -> Result<(), Fail> {
+    let mut set = FuturesUnorderedBounded::new(&rt, rt.alloc(), 4)?;
+    let senders = receivers(&rt, rt.alloc(), &mut set)?;
+    let child = thread::spawn(&rt, move || {
+        for (value, sender) in [5, 6, 7, 8].iter().zip(&senders) {
+            sender.send(*value);
+        }
+    })?;
+    let outputs = block_on(&rt, set.collect(rt.alloc()))??;
+    child.join(&rt);
+    let mut sum = 0u64;
+    for output in outputs {
+        sum = sum.saturating_add(output?);
+    }
+    assert_eq!(rt; sum, 26);
+    Ok(())
+}
