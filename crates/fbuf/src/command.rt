@@ -51,8 +51,8 @@ fn starts_as_number(text: &[u8]) -> bool
     }
 }
 
-// The number that the text writes: decimal digits with no leading zero, below 2^64.
-fn number(text: &[u8]) -> Option<u64>
+/// The number that the text writes: decimal digits with no leading zero, below 2^64.
+pub fn number(text: &[u8]) -> Option<u64>
     ensures some { IfSome result (λ n. text.now ≡ decimal n) }
     ensures none { IfNone result ((n : ℕ) → n < 2 ^ 64 → text.now ≢ decimal n) }
 {

@@ -1,8 +1,8 @@
 //! `fbuf` answers scripts over the sets of futures_buffered.
 //!
 //! From the bytes of a script to its replies: [`lines`] cuts the text, [`command`] reads a line, [`engine`] carries it
-//! out on what the script has begun, [`reply`] writes the answer, and [`script`] does so for a whole input. [`words`] is
-//! the program as a function of its words.
+//! out on what the script has begun, [`reply`] writes the answer, and [`script`] does so for a whole input. [`threads`] runs threads
+//! that wake the slots of one set. [`words`] is the program as a function of its words.
 #![tactic(auto)]
 
 pub mod command;
@@ -12,6 +12,8 @@ pub mod reply;
 pub mod script;
 pub mod timed;
 pub mod watched;
+pub mod threads;
+
 pub mod words;
 
 use std::env;

@@ -1,7 +1,11 @@
 //! The program as a function of its words: what it reads, what it writes, and its exit status.
-ghost use Rattle.std.specs.Prelude.{◌≡◌, ◌≤◌};
+ghost use Rattle.std.specs.Prelude.{◌≡◌, ◌≤◌, IfSome};
+ghost use Rattle.std.specs.Fmt.{decimal};
+ghost use Rattle.fbuf.specs.Words.{IsInBounds};
 
+use crate::command::number;
 use crate::script::{ScriptFault, script};
+use crate::threads::{MAX_THREADS, MAX_WAKES, OpenGate, ThreadsFault, threads_run};
 use crate::watched::Watched;
 use futures::task::{Doorbell, Solo};
 use std::alloc::AllocGlobal;
@@ -9,6 +13,8 @@ use std::env::Args;
 use std::io;
 use std::io::{ErrorKind, Read, Write};
 use std::random::RandomSource;
+use std::sync::Wait;
+use std::thread::Threads;
 
 // Why the program ends with a status other than 0.
 #[derive(Clone, Copy, Debug, PartialEq, Eq)]
@@ -55,12 +61,57 @@ impl From<ScriptFault> for Fault {
     }
 }
 
+impl From<ThreadsFault> for Fault {
+    fn from(fault: ThreadsFault) -> Fault {
+        match fault {
+            ThreadsFault::Memory => Fault::Memory,
+            ThreadsFault::Thread => Fault::Start,
+            ThreadsFault::Write => Fault::Write,
+        }
+    }
+}
+
+// What the words ask for.
+#[derive(Clone, Copy, Debug, PartialEq, Eq)]
+enum Call {
+    Script,
+    Threads { threads: usize, wakes: usize },
+}
+
+// The words after the program's name; `None` where they ask for nothing that there is.
+fn call_of(mut words: Args) -> Option<Call>
+    ensures { IfSome result IsInBounds }
+{
+    let _name = words.next();
+    let Some(first) = words.next() else {
+        return Some(Call::Script);
+    };
+    let threads = up_to(words.next()?.as_bytes(), MAX_THREADS)?;
+    let wakes = up_to(words.next()?.as_bytes(), MAX_WAKES)?;
+    if first.as_str() != "threads" || words.next().is_some() {
+        return None;
+    }
+    Some(Call::Threads { threads, wakes })
+}
+
+// A number from 1 to `most`.
+fn up_to(word: &[u8], most: usize) -> Option<usize>
+    ensures { IfSome result (λ n. (1 ≤ n) × (n ≤ most) × (word.now ≡ decimal n)) }
+{
+    let n = number(word)? as usize;
+    if n == 0 || n > most {
+        return None;
+    }
+    Some(n)
+}
+
 /// Does what the words of a call ask for, and answers the exit status.
 ///
 /// `words` are those of the program's call, its name first, as `std::env::args` gives them; an error other than the
 /// want of memory says that a word was no text. With no word after the name, the script on `input` is answered on
-/// `output`: status 0, or 1 with a line on `errors` where memory, a read or a write failed. Any other words: the usage
-/// text on `errors`, status 2, and nothing is read. A fault in writing to `errors` changes nothing.
+/// `output`; `threads N M` runs N threads, each of which wakes a slot M times, and writes a line. Status 0, or 1 with a
+/// line on `errors` where memory, a thread, a read or a write failed. Any other words: the usage text on `errors`, status
+/// 2, and nothing is read. A fault in writing to `errors` changes nothing.
 pub fn run_words<T, R, W, E>(
     rt: &T,
     words: io::Result<Args>,
@@ -69,7 +120,7 @@ pub fn run_words<T, R, W, E>(
     errors: &mut E,
 ) -> u8
 where
-    T: RandomSource + AllocGlobal,
+    T: Threads + Wait + RandomSource + AllocGlobal + Copy + Send + Sync + 'static,
     R: Read + Drop,
     W: Write + Drop,
     E: Write,
@@ -85,18 +136,21 @@ where
     }
 }
 
-fn run<T, R, W>(rt: &T, words: io::Result<Args>, input: R, output: W) -> Result<(), Fault>
+fn run<T, R, W>(rt: &T, words: io::Result<Args>, input: R, mut output: W) -> Result<(), Fault>
 where
-    T: RandomSource + AllocGlobal,
+    T: Threads + Wait + RandomSource + AllocGlobal + Copy + Send + Sync + 'static,
     R: Read + Drop,
     W: Write + Drop,
 {
-    let mut words = words.map_err(|error| start_fault(&error, Fault::Usage))?;
-    let _name = words.next();
-    if words.next().is_some() {
-        return Err(Fault::Usage);
+    let words = words.map_err(|error| start_fault(&error, Fault::Usage))?;
+    match call_of(words) {
+        None => Err(Fault::Usage),
+        Some(Call::Script) => answer_script(rt, input, output),
+        Some(Call::Threads { threads, wakes }) => {
+            threads_run(*rt, rt.alloc(), threads, wakes, OpenGate, &mut output)?;
+            Ok(())
+        }
     }
-    answer_script(rt, input, output)
 }
 
 // Answers the script in one poll of a task of its own, which nothing wakes.

@@ -13,3 +13,10 @@ pub mod Reaches
 pub mod Lawful
 pub mod Tallies
 pub mod StepOn
+pub mod Told
+pub mod TableSteps
+pub mod Begins
+pub mod Joined
+pub mod Closing
+pub mod Laws
+pub mod SeatsKept

@@ -8,3 +8,9 @@ pub mod Schedule
 pub mod Machine
 pub mod MachineInvariant
 pub mod Law
+pub mod Rule
+pub mod RuleLaws
+pub mod Shapes
+pub mod Seats
+pub mod SeatsInvariant
+pub mod Takings

@@ -2,7 +2,7 @@
 //!
 //! The source and its wakers share one list. The marks stand under one lock, the waker of the task that polls under a second.
 //! No call holds both, and a wake holds neither while it wakes the task. No mark, taking or wake takes memory.
-ghost use Rattle.std.specs.Prelude.{◌≡◌, ◌<◌, ◌≤◌, [], IfOk, nat_eq};
+ghost use Rattle.std.specs.Prelude.{◌≡◌, ◌<◌, ◌≤◌, ◌↔◌, [], IfOk, nat_eq};
 ghost use Rattle.std.specs.List.{IsDistinct, range_with_len};
 ghost use Rattle.futures_buffered_core.specs.ReadyCore.{MarkGives, TakeGives, IsNameBelow};
 
@@ -32,7 +32,7 @@ impl ReadyState {
     pub fn new(alloc: Global, cap: usize) -> Result<Self, NewFault>
         ensures empty { IfOk result (λ state. state ≡ record { capacity = cap; marked = [] }) }
         ensures fits { IfOk result (λ _. cap ≤ MAX_CAPACITY) }
-        ensures large { result ≡ Err NewFault.TooLarge → MAX_CAPACITY < cap }
+        ensures large { (result ≡ Err NewFault.TooLarge) ↔ (MAX_CAPACITY < cap) }
         ensures memory { result ≡ Err NewFault.Memory → cap ≤ MAX_CAPACITY }
     {
         let core = ReadyCore::new(alloc, cap)?;
@@ -220,7 +220,7 @@ impl<R: Wait + Drop, O: OuterWaker> SharedReady<R, O> {
         R: Clone,
         ensures capacity { IfOk result (λ source. source.capacity ≡ cap) }
         ensures fits { IfOk result (λ _. cap ≤ MAX_CAPACITY) }
-        ensures large { result ≡ Err NewFault.TooLarge → MAX_CAPACITY < cap }
+        ensures large { (result ≡ Err NewFault.TooLarge) ↔ (MAX_CAPACITY < cap) }
         ensures memory { result ≡ Err NewFault.Memory → cap ≤ MAX_CAPACITY }
     {
         let state = Mutex::new(ReadyState::new(alloc, cap)?);

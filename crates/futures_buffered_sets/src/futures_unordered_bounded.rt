@@ -293,6 +293,26 @@ impl<R: Wait + Clone + Drop, F: Drop> FuturesUnorderedBounded<F, SharedReady<R>>
     }
 }
 
+impl<R: Wait + Clone + Drop + Send + Sync, F: Drop> FuturesUnorderedBounded<F, SharedReady<R>> {
+    ghost use Rattle.std.specs.Prelude.{List};
+
+    /// A set without a free slot, which holds item k in slot k, each marked, in this order, and whose values are woken from any thread. It is `over` with a shared source, and refuses as `over` does.
+    pub fn from_iter<I: IntoIterator<Item = F>>(
+        env: &R,
+        alloc: Global,
+        iter: I,
+    ) -> Result<Self, NewFault>
+    where
+        requires { IsFiniteIterable I.into_iter_gives I.IntoIter.can_next I.IntoIter.remaining iter }
+        ensures holds { IfOk result (λ set. (items : List F) × Draws I.into_iter_gives I.IntoIter.next_gives iter items
+            × HoldsEach (λ cap source. source.capacity ≡ cap) (λ old _ _ new. new ≡ old) POLL_LIMIT items set) }
+        ensures fits { IfOk result (λ set. slot_count set.slots ≤ MAX_CAPACITY) }
+        ensures large { result ≡ Err NewFault.TooLarge → DrawsMoreThan I.into_iter_gives I.IntoIter.next_gives iter MAX_CAPACITY }
+    {
+        Self::over(env, alloc, iter)
+    }
+}
+
 impl<F: SlotFuture<S::Waker>, S: ReadySource> FusedStream for FuturesUnorderedBounded<F, S> {
     ghost use Rattle.std.specs.Prelude.{◌≡◌};
 

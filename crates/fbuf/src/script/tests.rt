@@ -236,6 +236,48 @@ fn reads_a_long_line(rt: HostRuntime) -> Result<(), Fail> {
     assert_replies(&rt, &text, b"ok\nbad\n0\n")
 }
 
+#[test]
+fn answers_scripts_over_a_machine(rt: HostRuntime) -> Result<(), Fail> {
+    let rows = [
+        // The gap at the stub, and a taking of eight steps.
+        (
+            "steps 2\nmark 0 0\ngo 0\ngo 0\nstep\nstep\ngo 0\nstep\nstep\nstep\nstep\nstep\nstep\nstep\nstep\nstep\nstep\n",
+            "ok\nmore\nmore\nmore\nmore\npause\nfresh\nmore\nmore\nmore\nmore\nmore\nmore\nmore\nslot 0\nmore\nempty\n",
+        ),
+        (
+            "steps 1\nmark 0 0\nmark 0 0\nmark 1 0\ngo 1\nmark 1 1\n",
+            "ok\nmore\nstuck\nalready\nstuck\nstuck\n",
+        ),
+        // The later waker ends first, and the order is still that of the tail swaps.
+        (
+            "steps 2\nmark 0 0\ngo 0\ngo 0\nmark 1 1\ngo 1\ngo 1\ngo 1\nstep\nstep\ngo 0\nstep\nstep\nstep\nstep\nstep\nstep\nstep\nstep\nstep\nstep\nstep\nstep\n",
+            "ok\nmore\nmore\nmore\nmore\nmore\nmore\nfresh\nmore\npause\nfresh\nmore\nmore\nslot 0\nmore\nmore\nmore\nmore\nmore\nmore\nslot 1\nmore\nempty\n",
+        ),
+        // A waker swaps while the poller puts the stub in.
+        (
+            "steps 2\nmark 0 0\ngo 0\ngo 0\ngo 0\nstep\nstep\nstep\nmark 1 1\ngo 1\ngo 1\nstep\nstep\nstep\nstep\ngo 1\nstep\nstep\nstep\nstep\nstep\nstep\n",
+            "ok\nmore\nmore\nmore\nfresh\nmore\nmore\nmore\nmore\nmore\nmore\nmore\nmore\nmore\npause\nfresh\nmore\nslot 0\nmore\nslot 1\nmore\nempty\n",
+        ),
+        (
+            "steps 1\nmark 64 0\ngo 63\nmark 63 0\ngo 63\n",
+            "ok\nstuck\nstuck\nmore\nmore\n",
+        ),
+        // Over a machine no command to a set stands, and the other way round.
+        (
+            "step\nsteps 1\npush 1 0\npoll\nlen\nwake 0\nstep\nunordered 1\nstep\ngo 0\nmark 0 0\nlen\n",
+            "bad\nok\nbad\nbad\nbad\nbad\nmore\nok\nbad\nbad\nbad\n0\n",
+        ),
+        (
+            "steps 4611686018427387904\nsteps 0\nstep\nstep\nmark 0 0\n",
+            "large\nok\nmore\nempty\nstuck\n",
+        ),
+    ];
+    for (text, want) in rows {
+        assert_replies(&rt, text.as_bytes(), want.as_bytes())?;
+    }
+    Ok(())
+}
+
 const TEXT: &[u8] = b"unordered 2\npush 7 0\npoll\nlen\n";
 
 const REPLIES: &[u8] = b"ok\nok\nsome 7\n0\n";

@@ -6,8 +6,9 @@ use std::io;
 use std::io::{ErrorKind, Write};
 use std::process::Abort;
 use std::random::RandomSource;
-use std::sync::{Arc, Mutex, Wait};
+use std::sync::Wait;
 use std::test::Fail;
+use std::thread::Threads;
 
 // Refuses every write.
 #[derive(Drop)]
@@ -40,7 +41,7 @@ fn assert_ends<H>(
     errors: &[u8],
 ) -> Result<(), Fail>
 where
-    H: Abort + RandomSource + AllocGlobal,
+    H: Abort + Threads + Wait + RandomSource + AllocGlobal + Copy + Send + Sync + 'static,
 {
     let output = Vec::new(rt.alloc());
     let mut written = Vec::new(rt.alloc());
@@ -53,12 +54,22 @@ const USAGE: &[u8] = b"fbuf: usage: fbuf, or fbuf threads N M\n";
 
 #[test]
 fn tells_the_usage(rt: HostRuntime) -> Result<(), Fail> {
-    let rows: [&[&str]; 5] = [
+    let rows: [&[&str]; 15] = [
         &["script"],
-        &["threads"],
-        &["threads", "1"],
         &[""],
         &["--help"],
+        &["threads"],
+        &["threads", "2"],
+        &["threads", "0", "1"],
+        &["threads", "33", "1"],
+        &["threads", "1", "0"],
+        &["threads", "1", "1000001"],
+        &["threads", "02", "1"],
+        &["threads", "2", "+1"],
+        &["threads", "2", "1 "],
+        &["threads", "2", "1", "1"],
+        &["threads", "18446744073709551616", "1"],
+        &["thread", "1", "1"],
     ];
     for words in rows {
         assert_ends(&rt, Ok(args(rt.alloc(), words)?), b"", 2, USAGE)?;
@@ -103,5 +114,30 @@ fn says_that_a_write_failed(rt: HostRuntime) -> Result<(), Fail> {
         run_words(&rt, Ok(words), b"len\n".as_slice(), Closed, &mut Closed),
         1
     );
+    Ok(())
+}
+
+#[test]
+fn runs_threads(rt: HostRuntime) -> Result<(), Fail> {
+    let rows: [(&[&str], &[u8]); 2] = [
+        (&["threads", "1", "1"], b"threads 1 wakes 1 outputs 0\n"),
+        (
+            &["threads", "4", "1000"],
+            b"threads 4 wakes 4000 outputs 0 1 2 3\n",
+        ),
+    ];
+    for (words, line) in rows {
+        let mut output = Vec::new(rt.alloc());
+        let mut errors = Vec::new(rt.alloc());
+        let words = args(rt.alloc(), words)?;
+        let input = b"len\n".as_slice();
+        assert_eq!(rt; run_words(&rt, Ok(words), input, &mut output, &mut errors), 0);
+        assert_eq!(rt; output.as_slice(), line);
+        assert_eq!(rt; errors.len(), 0);
+    }
+    let words = args(rt.alloc(), &["threads", "1", "1"])?;
+    let mut errors = Vec::new(rt.alloc());
+    assert_eq!(rt; run_words(&rt, Ok(words), b"".as_slice(), Closed, &mut errors), 1);
+    assert_eq!(rt; errors.as_slice(), b"fbuf: write failed\n".as_slice());
     Ok(())
 }
