@@ -7,7 +7,7 @@ ghost use Rattle.futures_buffered_core.specs.ReadyCore.{MarkGives, TakeGives, Is
 ghost use Rattle.futures_buffered_core.specs.declared.ready_core.Reply.{Reply};
 ghost use Rattle.futures_buffered_core.specs.History.{EachIsRight, IsStanding, marks_before, replies_before, NamesAllBelow, IsWrongAt, Answers};
 
-use std::alloc::{AllocError, AllocFailed, Global};
+use std::alloc::{AllocError, Global};
 use std::collections::VecDeque;
 use std::marker::Model;
 

@@ -10,12 +10,13 @@ use Rattle.futures_buffered_core.specs.declared.ready_core.Taken.TheVariants.{Sl
 use Rattle.futures_buffered_core.specs.declared.ready_core.Woke.{Woke}
 use Rattle.futures_buffered_sets.specs.Held.{NamesRun}
 
--- what is held, the source, and how many names one poll takes
+-- what each slot holds, the content of the source, and how many names one poll takes at most
 pub record Bounded (F S : Type 0) : Type 0 where
   pub slots : Slots F
   pub source : S
   pub limit : ℕ
 
+-- its code, made of those of its parts
 abbrev pub bounded_code : {F S : Type 0} → Coded F → Coded S → Coded (Bounded F S)
 bounded_code {F} {S} code source_code =
     code_by
@@ -25,6 +26,7 @@ bounded_code {F} {S} code source_code =
     (λ p. record { slots = p.0; source = p.1.0; limit = p.1.1 })
     (λ _. refl)
 
+-- the slot is emptied, and is the first free one; the source and the limit stay
 abbrev pub with_empty_slot : {F S : Type 0} → Bounded F S → ℕ → Bounded F S
 with_empty_slot b i = record b { slots = without b.slots i }
 
@@ -44,23 +46,24 @@ pub record HoldsEach {F S : Type 0} (made : ℕ → S → Type 0) (marks : S →
   pub marked : MarksEach marks new_source (range_with_len 0 (length items)) set.source
   pub takes_at_most : set.limit ≡ names
 
--- a value went into the first free place, i, which was marked
+-- a value went into the first free slot, i, which was then marked
 pub record PushesAt {F S : Type 0} (marks : S → ℕ → Woke → S → Type 0) (old : Bounded F S) (i : ℕ) (value : F) (new : Bounded F S) : Type 0 where
   pub inserted : Inserts old.slots i value new.slots
   pub woke : Woke
   pub marked : marks old.source i woke new.source
   pub same_limit : new.limit ≡ old.limit
 
+-- the same, where it does not matter which slot that was
 abbrev pub Pushes : {F S : Type 0} → (S → ℕ → Woke → S → Type 0) → Bounded F S → F → Bounded F S → Type 0
 Pushes marks old value new = (i : ℕ) × PushesAt marks old i value new
 
--- no further name came, or the limit did
+-- fewer names than the limit came, and then Empty or Pause; or as many as the limit, and nothing more was asked
 abbrev pub EndsWaiting : ℕ → List ℕ → List Taken → Type 0
 EndsWaiting limit names ended = ((length names < limit) × ((ended ≡ Empty ∷ []) ⊎ (ended ≡ Pause ∷ [])))
     ⊎ ((length names ≡ limit) × (ended ≡ []))
 
 module _ {F A S : Type 0} (polled : F → Poll A → F → Type 0) (registers : S → S → Type 0) (takes : S → Taken → S → Type 0) where
-  -- the source was registered with, gave these names and then what ended the asking, and the values at the names were polled
+  -- the task was registered first; the source then gave these names, in order, and after them what ended the asking; the slots named were gone through
   pub record Runs (old : Bounded F S) (names : List ℕ) (ended : List Taken) (out : Option (ℕ × A)) (new : Bounded F S) : Type 0 where
     pub registered : S
     pub registers_first : registers old.source registered
@@ -68,12 +71,12 @@ module _ {F A S : Type 0} (polled : F → Poll A → F → Type 0) (registers : 
     pub polls : NamesRun polled old.slots names out new.slots
     pub same_limit : new.limit ≡ old.limit
 
-  -- one count of names, up to the first output, with its slot
+  -- one count of names: until an output came, which is given with its slot, or until the asking ended without one
   abbrev pub AsksUntil : Bounded F S → Poll (ℕ × A) → Bounded F S → Type 0
   AsksUntil old (Ready out) new = (names : List ℕ) × (length names ≤ old.limit) × Runs old names [] (Some out) new
   AsksUntil old Pending new = (names : List ℕ) × (ended : List Taken) × EndsWaiting old.limit names ended × Runs old names ended None new
 
-  -- one poll: the slot of the output is emptied, and is the first free place
+  -- one poll: the end exactly where nothing is held, and then nothing changes; the output of the last name, whose slot is emptied; or Pending, where the asking ended without an output
   abbrev pub PollGives : Bounded F S → Poll (Option A) → Bounded F S → Type 0
   PollGives old (Ready None) new = (held_count old.slots ≡ 0) × (new ≡ old)
   PollGives old (Ready (Some x)) new = (0 < held_count old.slots)
