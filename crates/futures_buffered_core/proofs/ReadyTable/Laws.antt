@@ -1,8 +1,5 @@
 -- What the rule of the table gives of every state.
-use Rattle.std.proofs.Common.{◌≡◌, ℕ, ◌≤◌, List, [], ◌∷◌, refl, sym, ◌∙◌, subst, arith}
-use mathlib.Core.Option.{some}
-use Rattle.futures_buffered_core.specs.declared.ready_table.view.Phase.TheVariants.{AtStub}
-use Rattle.futures_buffered_core.specs.declared.ready_table.view.Role.TheVariants.{Polls}
+use Rattle.std.proofs.Common.{◌≡◌, ℕ, ◌≤◌, List, ◌∷◌, sym, ◌∙◌, subst, arith}
 use Rattle.futures_buffered_core.specs.ReadyTable.Row.{times, last_entry}
 use Rattle.futures_buffered_core.specs.ReadyTable.RowInvariant.{RoleOk}
 use Rattle.futures_buffered_core.specs.ReadyTable.RuleLaws.{RulePlacesSlots, RuleEmptiesRow, RuleLosesNoMark}

@@ -1,26 +1,15 @@
 -- What the rule tells of a word that a step finds.
-use Rattle.std.proofs.Common.{◌≡◌, ◌≢◌, ℕ, zero, suc, ◌+◌, ◌<◌, ◌≤◌, List, [], ◌∷◌, ◌++◌, length, set, get_or, Bool, true, false, refl, sym, ap, ◌∙◌, subst, ⊎_elim, arith, append-nil, ◌⊎◌, inl, inr}
-use Rattle.std.proofs.lemmas.Bool.{eqb-true, eqb-false}
-use Rattle.std.specs.Prelude.{if◌then◌else◌, ◌==◌}
-use mathlib.Core.Option.{some, some-injective}
-use lib.ListN.{get_elem?}
-use Rattle.atomic_table.proofs.Lists.{set_again}
-use Rattle.futures_buffered_core.specs.declared.ready_table.view.Made.{Made}
-use Rattle.futures_buffered_core.specs.declared.ready_table.view.Made.TheVariants.{MarkSwap, LinkClear, TailSwap, LinkWrite, LinkRead, TailRead, Unmark}
+use Rattle.std.proofs.Common.{◌≡◌, ◌≢◌, ℕ, suc, ◌<◌, ◌≤◌, List, [], ◌∷◌, get_or, refl, sym, ap, ◌∙◌, subst, ⊎_elim, arith}
 use Rattle.futures_buffered_core.specs.declared.ready_table.view.Phase.{Phase}
 use Rattle.futures_buffered_core.specs.declared.ready_table.view.Phase.TheVariants.{Start, AtStub, Moved, NoNext, Last, StubCleared, StubPut, StubLinked, InHand}
 use Rattle.futures_buffered_core.specs.declared.ready_table.view.Role.{Role}
 use Rattle.futures_buffered_core.specs.declared.ready_table.view.Role.TheVariants.{Idle, Won, Cleared, Swapped, Polls}
 use Rattle.futures_buffered_core.specs.declared.ready_table.view.View.{View}
-use Rattle.futures_buffered_core.specs.ReadyTable.OneStep.{tail_at, touches, puts, first_read, slot_read, role_after, made}
-use Rattle.futures_buffered_core.specs.ReadyTable.Row.{same, times, next, last_entry, owed_by, owed, mark, link, tail}
-use Rattle.futures_buffered_core.specs.ReadyTable.RowInvariant.{out_by, out, PhaseOk, RoleOk, KeepsRow}
-use Rattle.futures_buffered_core.specs.ReadyTable.Tally.{is_win, is_unmark}
-use Rattle.futures_buffered_core.proofs.ReadyTable.Flow.{slots, Flows}
-use Rattle.futures_buffered_core.proofs.ReadyTable.Flowing.{slots_slot, slots_stub, slots_put, slots_put_stub}
-use Rattle.futures_buffered_core.proofs.ReadyTable.Sums.{same_cases, total_none, same_here, same_else, total_some}
-use Rattle.futures_buffered_core.proofs.ReadyTable.Rows.{next_first, next_last, last_in}
-use Rattle.futures_buffered_core.proofs.ReadyTable.EachStep.{quiet, takes_stub, wins_mark, clears, puts_in, links_up, unmarks_slot, goes_on}
+use Rattle.futures_buffered_core.specs.ReadyTable.OneStep.{touches}
+use Rattle.futures_buffered_core.specs.ReadyTable.Row.{same, times, next, owed, link, tail}
+use Rattle.futures_buffered_core.specs.ReadyTable.RowInvariant.{KeepsRow}
+use Rattle.futures_buffered_core.proofs.ReadyTable.Sums.{same_cases, same_here}
+use Rattle.futures_buffered_core.proofs.ReadyTable.Rows.{next_first, last_in}
 use Rattle.futures_buffered_core.specs.ReadyTable.Rule.{Tells}
 
 head_in : (h : ℕ) (rest : List ℕ) → 0 < times h (h ∷ rest)

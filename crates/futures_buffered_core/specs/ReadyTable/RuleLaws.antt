@@ -1,9 +1,8 @@
 -- What the rule of the atomic table promises of every state, and so of the state between any two steps of any threads.
-use Rattle.std.specs.Prelude.{◌≡◌, ℕ, ◌+◌, ◌<◌, [], length}
+use Rattle.std.specs.Prelude.{◌≡◌, ℕ, ◌+◌, ◌<◌, []}
 use mathlib.Core.Option.{some}
 use lib.ListN.{get_elem?}
 use Rattle.atomic_table.specs.Table.{State}
-use Rattle.futures_buffered_core.specs.declared.ready_table.view.Phase.{Phase}
 use Rattle.futures_buffered_core.specs.declared.ready_table.view.Phase.TheVariants.{AtStub}
 use Rattle.futures_buffered_core.specs.declared.ready_table.view.Role.TheVariants.{Polls}
 use Rattle.futures_buffered_core.specs.declared.ready_table.view.View.{View}

@@ -1,5 +1,5 @@
 -- A list, its seats, and a list that was closed, as callers see them.
-use Rattle.std.specs.Prelude.{◌≡◌, ℕ, List, [], ◌∷◌, ◌++◌}
+use Rattle.std.specs.Prelude.{ℕ, List, [], ◌∷◌, ◌++◌}
 use Rattle.atomic_table.specs.Seated.{TableId}
 use Rattle.futures_buffered_core.specs.declared.ready_table.view.Made.{Made}
 

@@ -6,6 +6,7 @@ use std::alloc::Global;
 use std::process::Abort;
 use std::test::Fail;
 use std::thread;
+use std::thread::Threads;
 
 // A list whose capacity is the one asked for.
 fn list_of(rt: &impl Abort, alloc: Global, capacity: usize) -> (ReadyList, PollSeat, WakeSeat)
@@ -75,6 +76,14 @@ fn closes_with_a_mark(rt: HostRuntime) -> Result<(), Fail> {
     Ok(())
 }
 
+fn sum(numbers: &[u64]) -> u64 {
+    let mut all = 0u64;
+    for number in numbers {
+        all = all.wrapping_add(*number);
+    }
+    all
+}
+
 // A waker's seat after its wakes, and how many of each slot were Fresh, and how many wakes answered.
 #[derive(Drop)]
 struct Woken {
@@ -129,6 +138,28 @@ fn takes(list: &ReadyList, poll: PollSeat) -> Polled
     Polled { poll, slots }
 }
 
+// Two wakers at once.
+fn two_wakers(rt: &impl Threads, list: &ReadyList, one: WakeSeat, two: WakeSeat) -> (Woken, Woken)
+    requires { (one.list ≡ list.now.list) × (two.list ≡ list.now.list) × (list.now.capacity ≡ 8) }
+    ensures { (result.0.seat.list ≡ list.now.list) × (result.1.seat.list ≡ list.now.list) }
+{
+    thread::join(rt, || wakes(list, one), || wakes(list, two))
+}
+
+// Two wakers and the poller at once.
+fn wakers_and_poller<R: Threads + Sync>(
+    rt: &R,
+    list: &ReadyList,
+    one: WakeSeat,
+    two: WakeSeat,
+    poll: PollSeat,
+) -> ((Woken, Woken), Polled)
+    requires { (one.list ≡ list.now.list) × (two.list ≡ list.now.list) × (poll.list ≡ list.now.list) × (list.now.capacity ≡ 8) }
+    ensures { (result.0.0.seat.list ≡ list.now.list) × (result.0.1.seat.list ≡ list.now.list) × (result.1.poll.list ≡ list.now.list) }
+{
+    thread::join(rt, || two_wakers(rt, list, one, two), || takes(list, poll))
+}
+
 // Four wakers and the poller at once; then, for each slot, what was Fresh was taken, but for one where the slot is still marked.
 #[test]
 fn four_wakers(rt: HostRuntime) -> Result<(), Fail> {
@@ -138,32 +169,19 @@ fn four_wakers(rt: HostRuntime) -> Result<(), Fail> {
     let (two, four) = two.split(&list);
     let ((a, b), ((c, d), polled)) = thread::join(
         &rt,
-        || thread::join(&rt, || wakes(&list, one), || wakes(&list, two)),
-        || {
-            thread::join(
-                &rt,
-                || thread::join(&rt, || wakes(&list, three), || wakes(&list, four)),
-                || takes(&list, poll),
-            )
-        },
+        || two_wakers(&rt, &list, one, two),
+        || wakers_and_poller(&rt, &list, three, four, poll),
     );
     let mut seats = Vec::new(rt.alloc());
     seats.push(a.seat)?;
     seats.push(b.seat)?;
     seats.push(c.seat)?;
     seats.push(d.seat)?;
-    let answers = a
-        .answers
-        .wrapping_add(b.answers)
-        .wrapping_add(c.answers)
-        .wrapping_add(d.answers);
+    let answers = sum(&[a.answers, b.answers, c.answers, d.answers]);
     let closed = list.close(polled.poll, seats);
     let mut all = true;
     for slot in 0..8 {
-        let fresh = a.fresh[slot]
-            .wrapping_add(b.fresh[slot])
-            .wrapping_add(c.fresh[slot])
-            .wrapping_add(d.fresh[slot]);
+        let fresh = sum(&[a.fresh[slot], b.fresh[slot], c.fresh[slot], d.fresh[slot]]);
         let left = if closed.marked(slot) { 1 } else { 0 };
         all &= fresh == polled.slots[slot].wrapping_add(left);
     }

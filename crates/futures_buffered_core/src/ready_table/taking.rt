@@ -178,7 +178,7 @@ impl ReadyList {
         if head == self.capacity {
             if found == 0 {
                 let tail = self.read_tail_first(seat, head);
-                if tail as usize == self.capacity {
+                if tail == self.capacity {
                     return (head, Taken::Empty);
                 }
                 return (head, Taken::Pause);

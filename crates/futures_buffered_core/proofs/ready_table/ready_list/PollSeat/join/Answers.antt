@@ -1,4 +1,4 @@
-use Rattle.std.proofs.Common.{sym, ap, ◌∙◌, arith, ◌≡◌}
+use Rattle.std.proofs.Common.{sym, ap, ◌∙◌, arith}
 use Rattle.futures_buffered_core.specs.ReadyTable.Seats.{SharedList, Poller, Waker}
 use Rattle.futures_buffered_core.specs.ReadyTable.Tally.{unmarks}
 use Rattle.futures_buffered_core.proofs.ReadyTable.Joined.{joins}

@@ -1,9 +1,6 @@
-use Rattle.std.proofs.Common.{◌≡◌, ◌≤◌, ◌+◌, ◌++◌, [], ℕ, List, All, refl, sym, ap, ◌∙◌, subst}
-use Rattle.futures_buffered_core.specs.declared.ready_table.view.View.{View}
+use Rattle.std.proofs.Common.{◌≡◌, ◌++◌, [], All, refl, sym, ap, ◌∙◌, subst}
 use Rattle.futures_buffered_core.specs.ReadyTable.Row.{mark}
 use Rattle.futures_buffered_core.specs.ReadyTable.Seats.{Waker, steps_of}
-use Rattle.futures_buffered_core.specs.ReadyTable.Tally.{wins, unmarks}
-use Rattle.futures_buffered_core.specs.ReadyTable.Whereabouts.{Whereabouts}
 use Rattle.futures_buffered_core.proofs.ReadyTable.Closing.{first_of, others_of, joined_on, joined_all, empty_of, handed_in}
 use Rattle.futures_buffered_core.proofs.ready_table.ready_list.ReadyList.close.Goals as goal
 

@@ -1,4 +1,4 @@
-use Rattle.std.proofs.Common.{◌≡◌, ◌∙◌, ℕ, ◌+◌, ◌<◌, ◌≤◌, arith, refl, sym, ap}
+use Rattle.std.proofs.Common.{◌≡◌, ◌∙◌, ℕ, ◌+◌, ◌<◌, arith, refl, sym, ap}
 use Rattle.futures_buffered_core.specs.ReadyTable.Seats.{SharedList}
 use Rattle.futures_buffered_core.specs.declared.ready_table.view.Role.TheVariants.{Cleared}
 use Rattle.futures_buffered_core.proofs.ReadyTable.TableSteps.{seated, is_seated, swaps}

@@ -1,4 +1,4 @@
-use Rattle.std.proofs.Common.{◌≡◌, ℕ, ◌≤◌, sym, ap, ◌∙◌, arith}
+use Rattle.std.proofs.Common.{◌≡◌, sym, ap, ◌∙◌, arith}
 use Rattle.futures_buffered_core.specs.ReadyTable.Seats.{SharedList, Poller}
 use Rattle.futures_buffered_core.proofs.ReadyTable.SeatsKept.{stub_is, taken}
 use Rattle.futures_buffered_core.proofs.ready_table.ready_list.ReadyList.take.Goals as goal

@@ -1,6 +1,5 @@
-use Rattle.std.proofs.Common.{◌≡◌, ◌≢◌, ℕ, [], List, ◌∷◌, ◌++◌, refl, sym, ap, ◌∙◌, subst}
+use Rattle.std.proofs.Common.{◌≡◌, ℕ, [], ◌∷◌, ◌++◌, refl, sym, ap, ◌∙◌, subst}
 use Rattle.futures_buffered_core.specs.declared.ready_core.Woke.TheVariants.{Fresh, Already}
-use Rattle.futures_buffered_core.specs.declared.ready_table.view.Made.{Made}
 use Rattle.futures_buffered_core.specs.declared.ready_table.view.Made.TheVariants.{MarkSwap, LinkClear, TailSwap, LinkWrite}
 use Rattle.futures_buffered_core.specs.declared.ready_table.view.Role.{Role}
 use Rattle.futures_buffered_core.specs.ReadyTable.Seats.{SharedList, Waker}
