@@ -1,5 +1,5 @@
 -- A word, and what stands behind it, come from their text in one way; and the numbers of a command.
-use Rattle.std.proofs.Common.{◌≡◌, ◌≢◌, ℕ, zero, suc, ◌+◌, ◌^◌, ◌<◌, ◌≤◌, true, false, Bool, ◌||◌, eqb, List, [], ◌∷◌, ◌++◌, length, take, get_or, Option, Some, None, IfSome, IfNone, is_some, codes, Result, Ok, Err, MatchResult, rules, refl, sym, ap, arith, inl, inr, true≢false, ◌∙◌}
+use Rattle.std.proofs.Common.{◌≡◌, ◌≢◌, ℕ, zero, suc, ◌^◌, ◌<◌, ◌≤◌, true, false, Bool, ◌||◌, eqb, List, [], ◌∷◌, ◌++◌, length, take, get_or, Option, Some, None, IfSome, IfNone, is_some, codes, Result, Ok, Err, MatchResult, rules, refl, sym, ap, arith, inl, inr, true≢false, ◌∙◌}
 use lib.Pointwise.{pointwise}
 use Rattle.std.specs.Borrow.{Bor}
 use Rattle.std.specs.Result.{result_ok}
@@ -8,14 +8,13 @@ use Rattle.std.proofs.lemmas.Str.{IsUtf8-from_ascii}
 use Rattle.std.specs.Fmt.{decimal}
 use Rattle.std.specs.List.{list_any, flat_map}
 use Rattle.std.specs.Str.Parse.{AllDigits, digits_value, ParsesUnsigned}
-use Rattle.std.specs.Char.{digit_value}
-use Rattle.std.proofs.lemmas.Fmt.{decimal_digit, decimal_is_IsNumeral, decimal_nonempty, first_decimal, length-decimal-le, decimal-digits_value, parse-decimal, IsAscii-decimal}
+use Rattle.std.proofs.lemmas.Fmt.{decimal_digit, decimal_is_IsNumeral, decimal_nonempty, first_decimal, decimal-digits_value, parse-decimal, IsAscii-decimal}
 use Rattle.std.proofs.lemmas.Str.Parse.{IsNumeralModel, numerals_by_value, digit_from_value, digit_at, parse_plain}
-use Rattle.std.proofs.lemmas.Bool.{or_left, or_right, or_from, ne_eqb, eq-eqb}
+use Rattle.std.proofs.lemmas.Bool.{or_left, or_from, ne_eqb, eq-eqb}
 use Rattle.std.proofs.lemmas.Bool.Decides.{eqb_tells}
 use Rattle.fbuf.specs.declared.command.Command.{Command}
 use Rattle.fbuf.specs.declared.command.Command.TheVariants.{Unordered, Steps, Push, Wake, Poll, Len, Mark, Go, Step}
-use Rattle.fbuf.specs.Command.{HasNoSpace, StartsAsNumber, IsWritable, word_of, numbers_of, text_of, one_number, rest_text}
+use Rattle.fbuf.specs.Command.{HasNoSpace, StartsAsNumber, word_of, numbers_of, text_of, one_number, rest_text}
 use Rattle.fbuf.proofs.LinesLemmas.{NoneBefore, NoneBefore-rest}
 
 -- nothing, or a space first

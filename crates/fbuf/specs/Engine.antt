@@ -1,5 +1,5 @@
 -- What a line of a script is answered, over the models of what the script has begun.
-use Rattle.std.specs.Prelude.{◌≡◌, ℕ, ◌<◌, ◌≤◌, List, [], ◌∷◌, Option, Some, None, MatchOption, ◌⊎◌}
+use Rattle.std.specs.Prelude.{◌≡◌, ℕ, ◌<◌, ◌≤◌, List, [], Option, Some, None, MatchOption, ◌⊎◌}
 use Rattle.futures.specs.declared.task.Poll.{Poll as PollAnswer}
 use Rattle.futures.specs.declared.task.Poll.TheVariants as polled
 use Rattle.futures_buffered_core.specs.declared.ready_core.Woke.{Woke}

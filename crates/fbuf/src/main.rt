@@ -10,10 +10,9 @@ pub mod engine;
 pub mod lines;
 pub mod reply;
 pub mod script;
+pub mod threads;
 pub mod timed;
 pub mod watched;
-pub mod threads;
-
 pub mod words;
 
 use std::env;

@@ -131,13 +131,19 @@ fn runs_threads(rt: HostRuntime) -> Result<(), Fail> {
         let mut errors = Vec::new(rt.alloc());
         let words = args(rt.alloc(), words)?;
         let input = b"len\n".as_slice();
-        assert_eq!(rt; run_words(&rt, Ok(words), input, &mut output, &mut errors), 0);
+        assert_eq!(rt;
+            run_words(&rt, Ok(words), input, &mut output, &mut errors),
+            0
+        );
         assert_eq!(rt; output.as_slice(), line);
         assert_eq!(rt; errors.len(), 0);
     }
     let words = args(rt.alloc(), &["threads", "1", "1"])?;
     let mut errors = Vec::new(rt.alloc());
-    assert_eq!(rt; run_words(&rt, Ok(words), b"".as_slice(), Closed, &mut errors), 1);
+    assert_eq!(rt;
+        run_words(&rt, Ok(words), b"".as_slice(), Closed, &mut errors),
+        1
+    );
     assert_eq!(rt; errors.as_slice(), b"fbuf: write failed\n".as_slice());
     Ok(())
 }

@@ -1,4 +1,4 @@
--- Each kind of step keeps `Ready`.
+-- Each kind of step keeps the row (`KeepsRow`).
 use Rattle.std.proofs.Common.{◌≡◌, ◌≢◌, ◌⊎◌, ℕ, suc, ◌+◌, ◌<◌, ◌≤◌, List, [], ◌∷◌, ◌++◌, length, set, get_or, refl, sym, ap, ◌∙◌, subst, inl, inr, ⊎_elim, arith, length-set, get_or-set_other, get_or-set_same, length-append}
 use mathlib.Core.Option.{some}
 use lib.ListN.{get_elem?}

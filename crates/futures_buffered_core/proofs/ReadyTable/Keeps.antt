@@ -1,4 +1,4 @@
--- Every step of a seat, in whatever role it is, keeps `Ready`.
+-- Every step of a seat, in whatever role it is, keeps the row (`KeepsRow`).
 use Rattle.std.proofs.Common.{◌≡◌, ◌≢◌, ℕ, zero, suc, ◌+◌, ◌<◌, ◌≤◌, List, [], ◌∷◌, ◌++◌, length, set, get_or, Bool, true, false, refl, sym, ap, ◌∙◌, subst, ⊎_elim, arith, append-nil, ◌⊎◌, inl, inr}
 use Rattle.std.proofs.lemmas.Bool.{eqb-true, eqb-false}
 use Rattle.std.specs.Prelude.{if◌then◌else◌, ◌==◌}
@@ -187,7 +187,7 @@ module _ (n h : ℕ) (rest : List ℕ) (poller : ℕ) (words : List ℕ) (views 
   head_le : h ≤ n
   head_le = (R.linked h (let a = same_here h in omega arith)).0
 
-  -- P2 and P7: the head is a slot
+  -- Moved and StubLinked: the head is a slot
   read_on : (phase none : Phase) → get_elem? views poller ≡ some (polling phase) → h < n
       → ((e : ℕ) → out_by n e (Polls h phase) ≡ 0) → ((p : ℕ) → owed_by p (Polls h phase) ≡ 0) → ((e : ℕ) → out_by n e (Polls h none) ≡ 0) → ((p : ℕ) → owed_by p (Polls h none) ≡ 0) → PhaseOk n words h rest none
       → Flows n (Polls h phase) (Polls h none) (h ∷ rest) (h ∷ rest) → ((q : ℕ) (xs : List ℕ) → rest ≡ q ∷ xs → Flows n (Polls h phase) (Polls q (InHand h)) (h ∷ rest) (q ∷ xs))

@@ -1,4 +1,4 @@
-use Rattle.std.proofs.Common.{length, ◌≡◌, ◌++◌, sym, ◌∙◌}
+use Rattle.std.proofs.Common.{◌∙◌}
 use Rattle.fbuf.proofs.ScriptLemmas.{SoFar-none, SoFar-line, SoFar-sent, answered, cut_short, part_written, OnOk_map, fault_of, Appends-same}
 use Rattle.fbuf.proofs.script.answer_all.Goals as goal
 
