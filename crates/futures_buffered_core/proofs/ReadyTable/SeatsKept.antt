@@ -1,10 +1,12 @@
 -- A seat after a call, and a seat's list.
-use Rattle.std.proofs.Common.{◌≡◌, ◌≢◌, ℕ, zero, suc, ◌+◌, ◌≤◌, List, ◌++◌, refl, sym, ap, ◌∙◌, subst, arith, append_assoc}
+use Rattle.std.proofs.Common.{◌≡◌, ◌≢◌, ℕ, zero, suc, ◌+◌, ◌≤◌, List, [], ◌∷◌, ◌++◌, refl, sym, ap, ◌∙◌, subst, arith, append_assoc}
 use Rattle.atomic_table.specs.Seated.{TableId}
 use Rattle.atomic_table.specs.Table.{Me}
 use Rattle.atomic_table.specs.declared.shared.Seat.{Seat}
 use Rattle.futures_buffered_core.specs.declared.ready_core.Woke.{Woke}
+use Rattle.futures_buffered_core.specs.declared.ready_core.Woke.TheVariants.{Fresh}
 use Rattle.futures_buffered_core.specs.declared.ready_table.view.Made.{Made}
+use Rattle.futures_buffered_core.specs.declared.ready_table.view.Made.TheVariants.{MarkSwap, LinkClear, TailSwap, LinkWrite}
 use Rattle.futures_buffered_core.specs.declared.ready_table.view.Phase.TheVariants.{Start}
 use Rattle.futures_buffered_core.specs.declared.ready_table.view.Role.{Role}
 use Rattle.futures_buffered_core.specs.declared.ready_table.view.Role.TheVariants.{Idle, Polls}
@@ -21,8 +23,14 @@ use Rattle.futures_buffered_core.proofs.ReadyTable.Closing.{no_unmark, unmarks-a
 pub stub_is : (mine theirs : TableId) (me : Me ℕ View) (role : Role) (key capacity : ℕ) → KeepsSeat mine me role → KeepsList theirs key capacity → mine ≡ theirs → me.0.stub ≡ capacity
 stub_is mine theirs me role key capacity S L is = half_of _ _ _ _ S.sized (sym L.words) (ap (λ (t : TableId). t.words) is)
 
-pub came_more : (a b c : Seat ℕ View) (s t : List Made) → Came a b s → Came b c t → Came a c (s ++ t)
+came_more : (a b c : Seat ℕ View) (s t : List Made) → Came a b s → Came b c t → Came a c (s ++ t)
 came_more a b c s t one two = (two.0 ∙ one.0, two.1 ∙ (ap (λ (l : List Made). l ++ t) one.1 ∙ append_assoc a.me.0.steps s t))
+
+-- a mark swap that found the mark clear, and the steps that put the slot in
+pub came_fresh : (a b c : Seat ℕ View) (i found : ℕ) → found ≡ 0 → Came a b (MarkSwap i found ∷ []) → ((p : ℕ) × Came b c (LinkClear i ∷ TailSwap i p ∷ LinkWrite p i ∷ [])) → (shape : List Made) × Came a c shape × IsWake i shape Fresh
+came_fresh a b c i found clear one (p, two) =
+    let shape = MarkSwap i 0 ∷ LinkClear i ∷ TailSwap i p ∷ LinkWrite p i ∷ [] in
+    (shape, came_more a b c (MarkSwap i 0 ∷ []) (LinkClear i ∷ TailSwap i p ∷ LinkWrite p i ∷ []) (subst (λ (k : ℕ). Came a b (MarkSwap i k ∷ [])) clear one) two, (p, refl))
 
 seat_kept : (before now : Seat ℕ View) (role after : Role) (n : ℕ) → KeepsSeat before.table_id before.me role → before.me.0.stub ≡ n → Sits n after now → now.table_id ≡ before.table_id → KeepsSeat now.table_id now.me after
 seat_kept before now role after n K stub sits same = record {

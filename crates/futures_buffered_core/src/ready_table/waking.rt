@@ -1,5 +1,5 @@
 //! A wake: the steps of a wake seat.
-ghost use Rattle.std.specs.Prelude.{◌≡◌, ◌<◌, ◌≤◌, List, [], ◌∷◌, ◌++◌};
+ghost use Rattle.std.specs.Prelude.{◌≡◌, ℕ, ◌<◌, ◌≤◌, List, [], ◌∷◌, ◌++◌};
 ghost use Rattle.futures_buffered_core.specs.declared.ready_table.view.Made.{Made};
 ghost use Rattle.futures_buffered_core.specs.declared.ready_table.view.Made.TheVariants.{MarkSwap, LinkClear, TailSwap, LinkWrite};
 ghost use Rattle.futures_buffered_core.specs.declared.ready_table.view.Role.TheVariants.{Idle, Won, Cleared, Swapped};
@@ -63,6 +63,18 @@ impl ReadyList {
             .store::<SeatStep>(seat, self.capacity + before, slot as u64 + 1);
     }
 
+    // The slot that was won stands last in the row.
+    fn put_in(&self, seat: &mut Seat<u8, View>, slot: usize)
+        requires list { seat.old.table_id ≡ self.now.list }
+        requires phase { Sits self.now.capacity (Won slot) seat.old × (slot < self.now.capacity) }
+        ensures phase { Sits self.now.capacity Idle seat.new }
+        ensures came { (p : ℕ) × Came seat.old seat.new (LinkClear slot ∷ TailSwap slot p ∷ LinkWrite p slot ∷ []) }
+    {
+        self.clear_link(seat, slot);
+        let before = self.swap_tail(seat, slot);
+        self.write_link(seat, slot, before);
+    }
+
     /// Marks the slot, and puts it in if it was not marked: one atomic step or four, none of them tried again, with no lock and no memory.
     pub fn wake(&self, seat: &mut WakeSeat, slot: usize) -> Woke
         requires list { seat.old.list ≡ self.now.list }
@@ -74,9 +86,7 @@ impl ReadyList {
         if self.swap_mark(&mut seat.seat, slot) != 0 {
             return Woke::Already;
         }
-        self.clear_link(&mut seat.seat, slot);
-        let before = self.swap_tail(&mut seat.seat, slot);
-        self.write_link(&mut seat.seat, slot, before);
+        self.put_in(&mut seat.seat, slot);
         Woke::Fresh
     }
 }

@@ -1,10 +1,10 @@
 use Rattle.std.proofs.Common.{◌≡◌, ℕ, [], ◌∷◌, ◌++◌, refl, sym, ap, ◌∙◌, subst}
 use Rattle.futures_buffered_core.specs.declared.ready_core.Woke.TheVariants.{Fresh, Already}
-use Rattle.futures_buffered_core.specs.declared.ready_table.view.Made.TheVariants.{MarkSwap, LinkClear, TailSwap, LinkWrite}
+use Rattle.futures_buffered_core.specs.declared.ready_table.view.Made.TheVariants.{MarkSwap}
 use Rattle.futures_buffered_core.specs.declared.ready_table.view.Role.{Role}
 use Rattle.futures_buffered_core.specs.ReadyTable.Seats.{SharedList, Waker}
 use Rattle.futures_buffered_core.specs.ReadyTable.Takings.{Sits, Came}
-use Rattle.futures_buffered_core.proofs.ReadyTable.SeatsKept.{stub_is, came_more, woken, still_idle, one_found}
+use Rattle.futures_buffered_core.proofs.ReadyTable.SeatsKept.{stub_is, came_fresh, woken, still_idle, one_found}
 use Rattle.futures_buffered_core.proofs.ready_table.ready_list.ReadyList.wake.Goals as goal
 
 pub swap_mark-requires-clause-phase : goal.swap_mark-requires-clause-phase
@@ -32,21 +32,12 @@ invariant_of-seat-2 c =
     let cap : c.self.inside.capacity ≡ c.args.self.now.capacity = ap (λ (l : SharedList). l.capacity) c.self.view_is in
     let mine = c.seat.inside.seat in
     let stub : mine.me.0.stub ≡ c.args.self.now.capacity = stub_is mine.table_id c.self.inside.table.shared.table_id mine.me _ _ _ c.seat.invariant.seat c.self.invariant same ∙ cap in
-    let i : ℕ = c.args.slot in let p : ℕ = c.swap_tail-before.result in
-    let first = c.swap_mark.ensures.came in
-    let came = came_more mine c.clear_link.new.seat c.write_link.new.seat (MarkSwap i c.swap_mark.result ∷ LinkClear i ∷ []) (TailSwap i p ∷ LinkWrite p i ∷ [])
-    (came_more mine c.swap_mark.new.seat c.clear_link.new.seat (MarkSwap i c.swap_mark.result ∷ []) (LinkClear i ∷ []) first c.clear_link.ensures.came)
-    (came_more c.clear_link.new.seat c.swap_tail-before.new.seat c.write_link.new.seat (TailSwap i p ∷ []) (LinkWrite p i ∷ []) c.swap_tail-before.ensures.came c.write_link.ensures.came) in
-    let whole : Came mine c.write_link.new.seat (MarkSwap i 0 ∷ LinkClear i ∷ TailSwap i p ∷ LinkWrite p i ∷ []) = subst (λ (k : ℕ). Came mine c.write_link.new.seat (MarkSwap i k ∷ LinkClear i ∷ TailSwap i p ∷ LinkWrite p i ∷ [])) c.if-swap_mark-ne0.false came in
-    woken mine c.write_link.new.seat c.args.self.now.capacity i (MarkSwap i 0 ∷ LinkClear i ∷ TailSwap i p ∷ LinkWrite p i ∷ []) Fresh c.seat.invariant stub c.write_link.ensures.phase whole (p, refl)
+    let n : ℕ = c.args.self.now.capacity in let i : ℕ = c.args.slot in
+    let won = came_fresh mine c.swap_mark.new.seat c.put_in.new.seat i c.swap_mark.result c.if-swap_mark-ne0.false c.swap_mark.ensures.came c.put_in.ensures.came in
+    woken mine c.put_in.new.seat n i won.0 Fresh c.seat.invariant stub c.put_in.ensures.phase won.1 won.2
 
 pub returns-clause-shape : goal.returns-clause-shape
 returns-clause-shape c =
-    let mine = c.seat.inside.seat in
-    let i : ℕ = c.args.slot in let p : ℕ = c.swap_tail-before.result in
-    let first = c.swap_mark.ensures.came in
-    let came = came_more mine c.clear_link.new.seat c.write_link.new.seat (MarkSwap i c.swap_mark.result ∷ LinkClear i ∷ []) (TailSwap i p ∷ LinkWrite p i ∷ [])
-    (came_more mine c.swap_mark.new.seat c.clear_link.new.seat (MarkSwap i c.swap_mark.result ∷ []) (LinkClear i ∷ []) first c.clear_link.ensures.came)
-    (came_more c.clear_link.new.seat c.swap_tail-before.new.seat c.write_link.new.seat (TailSwap i p ∷ []) (LinkWrite p i ∷ []) c.swap_tail-before.ensures.came c.write_link.ensures.came) in
-    let whole : Came mine c.write_link.new.seat (MarkSwap i 0 ∷ LinkClear i ∷ TailSwap i p ∷ LinkWrite p i ∷ []) = subst (λ (k : ℕ). Came mine c.write_link.new.seat (MarkSwap i k ∷ LinkClear i ∷ TailSwap i p ∷ LinkWrite p i ∷ [])) c.if-swap_mark-ne0.false came in
-    (MarkSwap i 0 ∷ LinkClear i ∷ TailSwap i p ∷ LinkWrite p i ∷ [], whole.1 ∙ ap (λ (v : Waker). v.steps ++ (MarkSwap i 0 ∷ LinkClear i ∷ TailSwap i p ∷ LinkWrite p i ∷ [])) c.seat.view_is, (p, refl))
+    let mine = c.seat.inside.seat in let i : ℕ = c.args.slot in
+    let won = came_fresh mine c.swap_mark.new.seat c.put_in.new.seat i c.swap_mark.result c.if-swap_mark-ne0.false c.swap_mark.ensures.came c.put_in.ensures.came in
+    (won.0, won.1.1 ∙ ap (λ (v : Waker). v.steps ++ won.0) c.seat.view_is, won.2)
