@@ -3,7 +3,6 @@ use Rattle.std.proofs.Common.{◌≡◌, ◌⊎◌, ℕ, zero, suc, ◌+◌, ◌
 use Rattle.std.specs.List.{IsDistinct, AllByRecursion}
 use Rattle.std.proofs.lemmas.Map.Keys.{IsDistinct-head, IsDistinct-tail}
 use Rattle.std.proofs.lemmas.List.{length-map, map_push, length_push, take-append-le}
-use Rattle.std.proofs.lemmas.List.Folds.{list_any-append}
 use Rattle.std.proofs.lemmas.Option.{slice_get_within}
 use Rattle.std.proofs.lemmas.Bool.{eqb-true, eq-eqb, or_cases, or_left, or_right, or_from, ne_eqb}
 use Rattle.futures_buffered_core.specs.declared.ready_core.Event.{Event}
@@ -16,6 +15,7 @@ use Rattle.futures_buffered_core.specs.declared.ready_core.Taken.{Taken}
 use Rattle.futures_buffered_core.specs.declared.ready_core.Taken.TheVariants.{Slot, Empty, Pause}
 use Rattle.futures_buffered_core.specs.ReadyCore.{is_marked, MarkGives, TakeGives}
 use Rattle.futures_buffered_core.specs.History.{IsUnserved, IsRight, IsOldest, StandInOrder, IsStanding, marks_before, replies_before, EachIsRight, Answers}
+use Rattle.futures_buffered_core.proofs.ReadyCoreLemmas.{listed_push}
 
 module _ {X : Type 0} where
   -- what a longer list has before its end, and at its end
@@ -34,9 +34,6 @@ module _ {X : Type 0} where
   read_cases (z ∷ xs) y x zero e = inl e
   read_cases (z ∷ xs) y x (suc q) e =
       elim (read_cases xs y x q e) [ inl h ↦ inl h | inr h ↦ inr (ap suc h.0, h.1) ]
-
-listed_push : (slots : List ℕ) (i j : ℕ) → is_marked (slots ++ i ∷ []) j ≡ (is_marked slots j || (eqb j i || false))
-listed_push slots i j = list_any-append (eqb j) slots (i ∷ [])
 
 module _ (events : List Event) (replies : List Reply) where
   -- a slot that stands from low on has no unserved mark before
@@ -118,9 +115,9 @@ module _ (events : List Event) (replies : List Reply) (same : length events ≡ 
   standing_fresh i slots marks fresh clear h =
       record {
         in_order = order_push 0 i slots marks (λ j named. cc) (λ p u. true≢false (sym (h.all i p u) ∙ clear)) (omega arith) h.in_order;
-        all = λ j q u. listed_push slots i j ∙ elim (unserved_cases q j u) as (λ _. (is_marked slots j || (eqb j i || false)) ≡ true) [
-          | inl old ↦ or_left (is_marked slots j) (eqb j i || false) (h.all j q old)
-          | inr new ↦ let n = new.1 in or_right (is_marked slots j) (eqb j i || false) (or_left (eqb j i) false (eq-eqb j i cc))
+        all = λ j q u. listed_push slots i j ∙ elim (unserved_cases q j u) as (λ _. (is_marked slots j || eqb j i) ≡ true) [
+          | inl old ↦ or_left (is_marked slots j) (eqb j i) (h.all j q old)
+          | inr new ↦ let n = new.1 in or_right (is_marked slots j) (eqb j i) (eq-eqb j i cc)
         ];
       }
 
@@ -234,7 +231,7 @@ marks_more front (i ∷ rest) apart distinct h =
     let pushed : IsStanding (marks_before (front ++ i ∷ [])) (replies_before (front ++ i ∷ [])) (front ++ i ∷ []) = rw (map_push (λ (k : ℕ). event.Mark k) front i, map_push (λ (k : ℕ). reply.Woke Fresh) front i) more in
     let others = IsDistinct-head eqb i rest distinct in
     let left = marks_more (front ++ i ∷ []) rest
-    (λ j listed. listed_push front i j ∙ or_from (is_marked front j) (eqb j i || false) (apart j (or_right (eqb j i) (is_marked rest j) listed)) (or_from (eqb j i) false (ne_eqb j i (λ e. true≢false (sym listed ∙ ap (is_marked rest) e ∙ apart_rest i rest others))) refl))
+    (λ j listed. listed_push front i j ∙ or_from (is_marked front j) (eqb j i) (apart j (or_right (eqb j i) (is_marked rest j) listed)) (ne_eqb j i (λ e. true≢false (sym listed ∙ ap (is_marked rest) e ∙ apart_rest i rest others))))
     (IsDistinct-tail eqb i rest distinct) pushed in
     rw (append_assoc front (i ∷ []) rest) at left
 

@@ -23,7 +23,8 @@ pub KeepsOnce-first : (marks : List Bool) (queue rest : List ℕ) (n i : ℕ) �
 KeepsOnce-first marks queue rest n i kept e =
     KeepsOnce-below marks queue n i kept (ap (list_any (eqb i)) e ∙ head_listed i rest)
 
-listed_push : (queue : List ℕ) (i q : ℕ) → list_any (eqb q) (queue ++ i ∷ []) ≡ (list_any (eqb q) queue || eqb q i)
+-- what is listed once i was put last
+pub listed_push : (queue : List ℕ) (i q : ℕ) → list_any (eqb q) (queue ++ i ∷ []) ≡ (list_any (eqb q) queue || eqb q i)
 listed_push queue i q = list_any-append (eqb q) queue (i ∷ []) ∙ or_last (list_any (eqb q) queue) (eqb q i)
   where
     or_last : (a b : Bool) → (a || (b || false)) ≡ (a || b)

@@ -39,6 +39,7 @@ impl ReadyState {
         Ok(ReadyState { core })
     }
 
+    /// The number of slots.
     pub fn capacity(&self) -> usize
         ensures value { result ≡ self.now.capacity }
         ensures once { IsDistinct nat_eq self.now.marked }
@@ -67,6 +68,7 @@ impl ReadyState {
 
 /// What a fresh wake of a slot wakes in its turn.
 pub trait OuterWaker: Drop {
+    /// Wakes it, once. No lock of the list is held.
     fn wake_outer(self);
 }
 
@@ -134,6 +136,7 @@ impl<R, O> Model for SlotWake<R, O> {
 }
 
 impl<R, O> SlotWake<R, O> {
+    /// The slot that a wake marks.
     pub fn slot(&self) -> usize
         ensures { result ≡ self.now }
     {
@@ -198,6 +201,7 @@ fn slot_wakers<R: Drop, O: Drop>(
 }
 
 impl<R, O> SharedReady<R, O> {
+    /// The number of slots.
     pub fn capacity(&self) -> usize
         ensures { result ≡ self.now.capacity }
     {

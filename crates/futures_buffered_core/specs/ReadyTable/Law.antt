@@ -6,6 +6,7 @@ use Rattle.futures_buffered_core.specs.declared.ready_table.step.Step.TheVariant
 use Rattle.futures_buffered_core.specs.declared.ready_table.step.StepReply.{StepReply}
 use Rattle.futures_buffered_core.specs.declared.ready_table.step.StepReply.TheVariants.{More, Taken}
 use Rattle.futures_buffered_core.specs.ReadyTable.Schedule.{seat_of}
+use Rattle.futures_buffered_core.specs.declared.ready_table.step.TheConstants.{WAKE_SEATS}
 
 -- a step that was made, with its reply; of a history the newest stands first
 pub record Turn : Type 0 where
@@ -46,7 +47,7 @@ answered (t ∷ past) = answered past ++ slot_in t.reply
 
 -- some waker stands between its tail swap, its third step, and its link write, its fourth
 abbrev pub WakerStands : List Turn → Type 0
-WakerStands past = (seat : ℕ) × (seat < 64) × ((wake_of seat past).made ≡ 3)
+WakerStands past = (seat : ℕ) × (seat < WAKE_SEATS) × ((wake_of seat past).made ≡ 3)
 
 -- by the kind of step: a poll's that ends no taking, a poll's that ends one, or a wake's
 abbrev pub by_kind : Type 0 → Type 0 → Type 0 → Step → StepReply → Type 0

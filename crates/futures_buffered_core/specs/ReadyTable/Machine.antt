@@ -12,7 +12,7 @@ use Rattle.futures_buffered_core.specs.ReadyTable.Whereabouts.{Whereabouts}
 pub record Machine : Type 0 where
   pub capacity : ℕ
   pub words : List ℕ
-  -- of the wake seats 0 to 63 and the poll seat, seat 64
+  -- of the wake seats and the poll seat, the one after them
   pub roles : List Role
 
 -- these are the words and roles of this moment

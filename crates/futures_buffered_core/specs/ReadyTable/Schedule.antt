@@ -1,4 +1,4 @@
--- A schedule: which steps of 64 wake seats and one poll seat, seat 64, are made in which order. It determines every word, every view and every reply.
+-- A schedule: which steps of the wake seats and one poll seat, the seat after them, are made in which order. It determines every word, every view and every reply.
 use Rattle.std.specs.Prelude.{◌≡◌, ◌≢◌, ℕ, ◌+◌, ◌<◌, List, [], ◌∷◌, ◌++◌, map, replicate, slice_index, slice_index_or, slice_set, take}
 use mathlib.Core.Option.{some}
 use lib.ListN.{get_elem?}
@@ -10,11 +10,12 @@ use Rattle.futures_buffered_core.specs.declared.ready_table.step.StepReply.{Step
 use Rattle.futures_buffered_core.specs.declared.ready_table.view.View.{View}
 use Rattle.futures_buffered_core.specs.ReadyTable.OneStep.{touches, puts, view_after, reply_of}
 use Rattle.futures_buffered_core.specs.ReadyTable.Views.{role_of, polling, fresh_beside, spent_view}
+use Rattle.futures_buffered_core.specs.declared.ready_table.step.TheConstants.{WAKE_SEATS}
 
 abbrev pub seat_of : Step → ℕ
 seat_of (Mark seat slot) = seat
 seat_of (Go seat) = seat
-seat_of Poll = 64
+seat_of Poll = WAKE_SEATS
 
 -- the slot that an idle seat is to wake
 abbrev pub slot_of : Step → ℕ
@@ -27,8 +28,8 @@ role_at roles seat = slice_index_or roles seat Idle
 
 -- a wake of a slot below the capacity begins at an idle wake seat, and goes on at one that is not idle; the poller can always step
 abbrev pub CanStep : ℕ → List Role → Step → Type 0
-CanStep n roles (Mark seat slot) = (seat < 64) × (slot < n) × (role_at roles seat ≡ Idle)
-CanStep n roles (Go seat) = (seat < 64) × (role_at roles seat ≢ Idle)
+CanStep n roles (Mark seat slot) = (seat < WAKE_SEATS) × (slot < n) × (role_at roles seat ≡ Idle)
+CanStep n roles (Go seat) = (seat < WAKE_SEATS) × (role_at roles seat ≢ Idle)
 CanStep n roles Poll = Unit {0}
 
 -- all words and all views between two steps
@@ -38,7 +39,7 @@ pub record Moment : Type 0 where
 
 -- no mark, no link, the stub as the tail; idle wake seats, and a poll seat whose head is the stub
 abbrev pub at_start : ℕ → Moment
-at_start n = record { words = replicate (n + n + 1) 0 ++ n ∷ []; views = replicate 64 (fresh_beside (polling n)) ++ polling n ∷ [] }
+at_start n = record { words = replicate (n + n + 1) 0 ++ n ∷ []; views = replicate WAKE_SEATS (fresh_beside (polling n)) ++ polling n ∷ [] }
 
 abbrev pub view_at : Moment → Step → View
 view_at c step = slice_index_or c.views (seat_of step) spent_view

@@ -5,6 +5,7 @@ use Rattle.futures_buffered_core.specs.declared.ready_table.view.Made.TheVariant
 use Rattle.futures_buffered_core.specs.declared.ready_table.view.View.{View}
 use Rattle.futures_buffered_core.specs.ReadyTable.Row.{total, same, mark}
 use Rattle.futures_buffered_core.specs.ReadyTable.Views.{spent_view}
+use Rattle.futures_buffered_core.specs.declared.ready_table.step.TheConstants.{WAKE_SEATS}
 
 abbrev pub is_win : ℕ → Made → ℕ
 is_win e (MarkSwap i zero) = same e i
@@ -21,6 +22,6 @@ wins e steps = total (is_win e) steps
 abbrev pub unmarks : ℕ → List Made → ℕ
 unmarks e steps = total (is_unmark e) steps
 
--- for each slot, the mark swaps of the 64 wake seats that found it clear are the poll seat's unmarks of it, and one more where it is marked
+-- for each slot, the mark swaps of the wake seats that found it clear are the poll seat's unmarks of it, and one more where it is marked
 abbrev pub Tallied : ℕ → List ℕ → List View → Type 0
-Tallied n words views = (e : ℕ) → e < n → total (λ v. wins e v.steps) (take 64 views) ≡ unmarks e (slice_index_or views 64 spent_view).steps + mark words e
+Tallied n words views = (e : ℕ) → e < n → total (λ v. wins e v.steps) (take WAKE_SEATS views) ≡ unmarks e (slice_index_or views WAKE_SEATS spent_view).steps + mark words e

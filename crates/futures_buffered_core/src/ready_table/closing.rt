@@ -66,6 +66,7 @@ impl Closed {
         self.words.word(slot) != 0
     }
 
+    /// Gives the memory of the words back.
     pub fn free(self) {
         let Closed { words, capacity: _ } = self;
         words.free();

@@ -43,7 +43,7 @@ pub fn first_words(alloc: Global, capacity: usize) -> Result<Vec<u64>, AllocErro
 
 // The roles of idle wake seats and a poll seat whose head is the stub.
 fn first_roles(alloc: Global, capacity: usize) -> Result<Vec<Role>, AllocError>
-    ensures { IfOk result (λ v. v.items ≡ replicate 64 Idle ++ Polls capacity Start ∷ []) }
+    ensures { IfOk result (λ v. v.items ≡ replicate WAKE_SEATS Idle ++ Polls capacity Start ∷ []) }
 {
     let mut roles = Vec::new(alloc);
     roles.resize(WAKE_SEATS, Role::Idle)?;
@@ -53,7 +53,7 @@ fn first_roles(alloc: Global, capacity: usize) -> Result<Vec<Role>, AllocError>
 
 // The seat and the slot of a step that can be made.
 fn seat_and_slot(capacity: usize, roles: &[Role], step: Step) -> Option<(usize, usize)>
-    requires { length roles.now ≡ 65 }
+    requires { length roles.now ≡ WAKE_SEATS + 1 }
     ensures { MatchOption result (CanStep capacity roles.now step → ⊥) (λ s. CanStep capacity roles.now step × (s.0 ≡ seat_of step) × (s.1 ≡ slot_of step)) }
 {
     match step {
