@@ -1,5 +1,10 @@
--- What the program says of a fault, and the status that it ends with.
-use Rattle.std.specs.Prelude.{ℕ, ◌≤◌, List, codes}
+-- What the program's words ask for, what it says of a fault, and the status that it ends with.
+use Rattle.std.specs.Prelude.{◌≡◌, ◌≢◌, ℕ, ◌≤◌, List, [], ◌∷◌, Option, Some, None, codes}
+use Rattle.std.specs.Fmt.{decimal}
+use Rattle.fbuf.specs.declared.script.ScriptFault.{ScriptFault}
+use Rattle.fbuf.specs.declared.script.ScriptFault.TheVariants as script
+use Rattle.fbuf.specs.declared.threads.ThreadsFault.{ThreadsFault}
+use Rattle.fbuf.specs.declared.threads.ThreadsFault.TheVariants as threads
 use Rattle.fbuf.specs.declared.words.Call.{Call}
 use Rattle.fbuf.specs.declared.words.Call.TheVariants.{Script, Threads}
 use Rattle.fbuf.specs.declared.threads.TheConstants.{MAX_THREADS, MAX_WAKES}
@@ -25,3 +30,28 @@ status_of Start = 1
 abbrev pub IsInBounds : Call → Type 0
 IsInBounds Script = Unit {0}
 IsInBounds (Threads threads wakes) = (1 ≤ threads) × (threads ≤ MAX_THREADS) × (1 ≤ wakes) × (wakes ≤ MAX_WAKES)
+
+-- how a call is written, behind the program's name
+abbrev pub words_of : Call → List (List ℕ)
+words_of Script = []
+words_of (Threads threads wakes) = codes "threads" ∷ decimal threads ∷ decimal wakes ∷ []
+
+abbrev pub behind_name : List (List ℕ) → List (List ℕ)
+behind_name [] = []
+behind_name (name ∷ words) = words
+
+-- words ask for the call that they write, and for none if they write none
+abbrev pub AsksFor : List (List ℕ) → Option Call → Type 0
+AsksFor words (Some call) = (behind_name words ≡ words_of call) × IsInBounds call
+AsksFor words None = (call : Call) → IsInBounds call → behind_name words ≢ words_of call
+
+-- what ends the program where a script or a run of threads was ended
+abbrev pub fault_of_script : ScriptFault → Fault
+fault_of_script script.Read = Read
+fault_of_script script.Write = Write
+fault_of_script script.Memory = Memory
+
+abbrev pub fault_of_threads : ThreadsFault → Fault
+fault_of_threads threads.Memory = Memory
+fault_of_threads threads.Thread = Start
+fault_of_threads threads.Write = Write

@@ -1,6 +1,8 @@
 //! A run in which threads wake the slots of one set.
-ghost use Rattle.std.specs.Prelude.{◌≡◌, ℕ, ◌+◌, ◌<◌, ◌≤◌, ⊤, IfOk, length, vec_len, vec_capacity};
+ghost use Rattle.std.specs.Prelude.{◌≡◌, ◌≢◌, ℕ, ◌+◌, ◌<◌, ◌≤◌, ⊤, IfOk, IfErr, length, vec_len, vec_capacity};
 ghost use Rattle.std.specs.Arc.{arc_value};
+ghost use Rattle.std.specs.IoError.{error_kind};
+ghost use Rattle.std.specs.declared.io.ErrorKind.TheVariants.{OutOfMemory};
 ghost use Rattle.futures_buffered_core.specs.SlotMap.{no_slots};
 
 use futures::StreamExt;
@@ -46,6 +48,11 @@ impl From<AllocError> for ThreadsFault {
 }
 
 impl<T: Drop> From<AllocFailed<T>> for ThreadsFault {
+    ghost use Rattle.std.specs.Prelude.{◌≡◌};
+    ghost use Rattle.fbuf.specs.declared.threads.ThreadsFault.TheVariants.{Memory};
+
+    ghost from_gives = { λ _ fault. fault ≡ Memory };
+
     fn from(_failed: AllocFailed<T>) -> ThreadsFault {
         ThreadsFault::Memory
     }
@@ -90,7 +97,12 @@ struct AllWakes<R> {
 }
 
 impl<R: Wait + Drop> SlotFuture<SlotWake<R>> for AllWakes<R> {
+    ghost use Rattle.std.specs.Prelude.{◌≡◌};
+    ghost use Rattle.futures.specs.Poll.{IfReady};
+
     type Output = usize;
+
+    ghost polled = { λ old answer new. IfReady answer (λ number. number ≡ old.number) };
 
     fn poll(&mut self, waker: &SlotWake<R>) -> Poll<usize> {
         if self.seat.wakes.load(SeqCst) >= self.goal {
@@ -133,7 +145,8 @@ fn seated<R: Wait + Clone + Drop>(
     set: &mut Set<R>,
 ) -> Result<Vec<Arc<Seat<R>>>, ThreadsFault>
     requires { set.old.slots ≡ no_slots n }
-    ensures { IfOk result (λ seats. vec_len seats ≡ n) }
+    ensures seats { IfOk result (λ seats. vec_len seats ≡ n) }
+    ensures fault { IfErr result (λ fault. fault ≡ ThreadsFault.Memory) }
 {
     let mut seats = Vec::with_capacity(alloc, n)?;
     for number in 0..n {
@@ -190,7 +203,8 @@ where
 
 fn new_set<R: Wait + Clone + Drop>(rt: &R, alloc: Global, n: usize) -> Result<Set<R>, ThreadsFault>
     requires { n ≤ MAX_THREADS }
-    ensures { IfOk result (λ set. set.slots ≡ no_slots n) }
+    ensures set { IfOk result (λ set. set.slots ≡ no_slots n) }
+    ensures fault { IfErr result (λ fault. fault ≡ ThreadsFault.Memory) }
 {
     match FuturesUnorderedBounded::new(rt, alloc, n) {
         Ok(set) => Ok(set),
@@ -200,7 +214,10 @@ fn new_set<R: Wait + Clone + Drop>(rt: &R, alloc: Global, n: usize) -> Result<Se
 }
 
 // Why `block_on` did not run.
-fn fault_of(error: io::Error) -> ThreadsFault {
+fn fault_of(error: io::Error) -> ThreadsFault
+    ensures memory { error_kind error ≡ OutOfMemory → result ≡ ThreadsFault.Memory }
+    ensures other { error_kind error ≢ OutOfMemory → result ≡ ThreadsFault.Thread }
+{
     match error.kind() {
         io::ErrorKind::OutOfMemory => ThreadsFault::Memory,
         _ => ThreadsFault::Thread,

@@ -1,7 +1,11 @@
 //! The program as a function of its words: what it reads, what it writes, and its exit status.
-ghost use Rattle.std.specs.Prelude.{◌≡◌, ◌≤◌, IfSome};
+ghost use Rattle.std.specs.Prelude.{◌≡◌, ◌≢◌, ◌≤◌, ◌↔◌, ◌⊎◌, ℕ, map, IfSome, IfNone, IfOk, None, Err};
+ghost use Rattle.std.specs.IoError.{error_kind};
+ghost use Rattle.std.specs.declared.io.ErrorKind.TheVariants.{OutOfMemory};
+ghost use Rattle.std.specs.Vec.Iter.{into_iter_items};
+ghost use Rattle.std.specs.String.{string_bytes};
 ghost use Rattle.std.specs.Fmt.{decimal};
-ghost use Rattle.fbuf.specs.Words.{IsInBounds};
+ghost use Rattle.fbuf.specs.Words.{AsksFor};
 
 use crate::command::number;
 use crate::script::{ScriptFault, script};
@@ -52,6 +56,11 @@ impl Fault {
 }
 
 impl From<ScriptFault> for Fault {
+    ghost use Rattle.std.specs.Prelude.{◌≡◌};
+    ghost use Rattle.fbuf.specs.Words.{fault_of_script};
+
+    ghost from_gives = { λ fault given. given ≡ fault_of_script fault };
+
     fn from(fault: ScriptFault) -> Fault {
         match fault {
             ScriptFault::Read => Fault::Read,
@@ -62,6 +71,11 @@ impl From<ScriptFault> for Fault {
 }
 
 impl From<ThreadsFault> for Fault {
+    ghost use Rattle.std.specs.Prelude.{◌≡◌};
+    ghost use Rattle.fbuf.specs.Words.{fault_of_threads};
+
+    ghost from_gives = { λ fault given. given ≡ fault_of_threads fault };
+
     fn from(fault: ThreadsFault) -> Fault {
         match fault {
             ThreadsFault::Memory => Fault::Memory,
@@ -78,25 +92,28 @@ enum Call {
     Threads { threads: usize, wakes: usize },
 }
 
-// The words after the program's name; `None` where they ask for nothing that there is.
+// What the words ask for, the program's name first; `None` where they ask for nothing that there is.
 fn call_of(mut words: Args) -> Option<Call>
-    ensures { IfSome result IsInBounds }
+    ensures { AsksFor (map string_bytes (into_iter_items words)) result }
 {
-    let _name = words.next();
+    let Some(_name) = words.next() else {
+        return Some(Call::Script);
+    };
     let Some(first) = words.next() else {
         return Some(Call::Script);
     };
     let threads = up_to(words.next()?.as_bytes(), MAX_THREADS)?;
     let wakes = up_to(words.next()?.as_bytes(), MAX_WAKES)?;
-    if first.as_str() != "threads" || words.next().is_some() {
-        return None;
+    if first.as_bytes() == b"threads".as_slice() && words.next().is_none() {
+        return Some(Call::Threads { threads, wakes });
     }
-    Some(Call::Threads { threads, wakes })
+    None
 }
 
 // A number from 1 to `most`.
 fn up_to(word: &[u8], most: usize) -> Option<usize>
-    ensures { IfSome result (λ n. (1 ≤ n) × (n ≤ most) × (word.now ≡ decimal n)) }
+    ensures some { IfSome result (λ n. (1 ≤ n) × (n ≤ most) × (word.now ≡ decimal n)) }
+    ensures none { IfNone result ((n : ℕ) → 1 ≤ n → n ≤ most → word.now ≢ decimal n) }
 {
     let n = number(word)? as usize;
     if n == 0 || n > most {
@@ -124,7 +141,8 @@ where
     R: Read + Drop,
     W: Write + Drop,
     E: Write,
-    ensures { result ≤ 2 }
+    ensures low { result ≤ 2 }
+    ensures usage { IfOk words (λ given. (result ≡ 2) ↔ AsksFor (map string_bytes (into_iter_items given)) None) }
 {
     match run(rt, words, input, output) {
         Ok(()) => 0,
@@ -141,6 +159,7 @@ where
     T: Threads + Wait + RandomSource + AllocGlobal + Copy + Send + Sync + 'static,
     R: Read + Drop,
     W: Write + Drop,
+    ensures { IfOk words (λ given. (result ≡ Err Fault.Usage) ↔ AsksFor (map string_bytes (into_iter_items given)) None) }
 {
     let words = words.map_err(|error| start_fault(&error, Fault::Usage))?;
     match call_of(words) {
@@ -159,6 +178,7 @@ where
     T: RandomSource + AllocGlobal,
     R: Read + Drop,
     W: Write + Drop,
+    ensures { result ≢ Err Fault.Usage }
 {
     let solo = Solo::new(rt, Doorbell::spinning());
     let solo = solo.map_err(|error| start_fault(&error, Fault::Start))?;
@@ -170,7 +190,12 @@ where
     Ok(answered?)
 }
 
-fn start_fault(error: &io::Error, other: Fault) -> Fault {
+// Why something was not begun: memory, or another fault.
+fn start_fault(error: &io::Error, other: Fault) -> Fault
+    ensures memory { error_kind error.now ≡ OutOfMemory → result ≡ Fault.Memory }
+    ensures other { error_kind error.now ≢ OutOfMemory → result ≡ other }
+    ensures either { (result ≡ Fault.Memory) ⊎ (result ≡ other) }
+{
     match error.kind() {
         ErrorKind::OutOfMemory => Fault::Memory,
         _ => other,

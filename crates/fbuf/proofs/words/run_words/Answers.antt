@@ -1,15 +1,8 @@
-use Rattle.std.proofs.Common.{◌≤◌, arith}
-use Rattle.fbuf.specs.Words.{status_of}
-use Rattle.fbuf.specs.declared.words.Fault.{Fault}
-use Rattle.fbuf.specs.declared.words.Fault.TheVariants.{Usage, Memory, Read, Write, Start}
+use Rattle.fbuf.proofs.WordsLemmas.{status_low, usage_status}
 use Rattle.fbuf.proofs.words.run_words.Goals as goal
 
-low : (fault : Fault) → status_of fault ≤ 2
-low Usage = omega arith
-low Memory = omega arith
-low Read = omega arith
-low Write = omega arith
-low Start = omega arith
+pub returns-in-Err-clause-low : goal.returns-in-Err-clause-low
+returns-in-Err-clause-low g c = rw c.status.ensures (status_low c.in-Err.fault)
 
-pub returns-in-Err : goal.returns-in-Err
-returns-in-Err g c = rw c.status.ensures (low c.in-Err.fault)
+pub returns-in-Err-clause-usage : goal.returns-in-Err-clause-usage
+returns-in-Err-clause-usage g c = usage_status c.args.words _ c.run.result c.in-Err.fault c.status.result c.in-Err.is c.status.ensures c.run.ensures
