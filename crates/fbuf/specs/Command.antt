@@ -6,6 +6,7 @@ use Rattle.std.specs.Fmt.{decimal}
 use Rattle.fbuf.specs.declared.command.Command.{Command}
 use Rattle.fbuf.specs.declared.command.Command.TheVariants.{Unordered, Steps, Push, Wake, Poll, Len, Mark, Go, Step}
 
+-- the word that a command begins with
 abbrev pub word_of : Command → List ℕ
 word_of (Unordered capacity) = codes "unordered"
 word_of (Steps capacity) = codes "steps"
@@ -17,6 +18,7 @@ word_of (Mark seat slot) = codes "mark"
 word_of (Go seat) = codes "go"
 word_of Step = codes "step"
 
+-- its numbers, in the order in which they are written
 abbrev pub numbers_of : Command → List ℕ
 numbers_of (Unordered capacity) = capacity ∷ []
 numbers_of (Steps capacity) = capacity ∷ []

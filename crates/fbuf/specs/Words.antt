@@ -19,6 +19,7 @@ message_of Read = codes "read failed"
 message_of Write = codes "write failed"
 message_of Start = codes "thread failed"
 
+-- the exit status
 abbrev pub status_of : Fault → ℕ
 status_of Usage = 2
 status_of Memory = 1

@@ -9,6 +9,7 @@ use Rattle.futures_buffered_core.specs.ReadyTable.Tally.{Tallied}
 use Rattle.futures_buffered_core.specs.ReadyTable.Views.{role_of}
 use Rattle.futures_buffered_core.specs.ReadyTable.Whereabouts.{Whereabouts}
 
+-- what a caller sees of a machine between two steps
 pub record Machine : Type 0 where
   pub capacity : ℕ
   pub words : List ℕ
@@ -23,6 +24,7 @@ Shown words roles c = (words ≡ c.words) × (roles ≡ map role_of c.views)
 abbrev pub IsNew : ℕ → Machine → Type 0
 IsNew n m = (m.capacity ≡ n) × Shown m.words m.roles (at_start n)
 
+-- the step can be made now
 abbrev pub May : Machine → Step → Type 0
 May m step = CanStep m.capacity m.roles step
 
@@ -37,6 +39,7 @@ Steps old step new reply =
 abbrev pub Leads : List Step → Machine → Type 0
 Leads schedule m = Legal m.capacity (at_start m.capacity) schedule × Shown m.words m.roles (run m.capacity (at_start m.capacity) schedule)
 
+-- some legal schedule led here
 abbrev pub Reached : Machine → Type 0
 Reached m = (schedule : List Step) × Leads schedule m
 

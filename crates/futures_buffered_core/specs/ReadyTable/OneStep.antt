@@ -13,6 +13,7 @@ use Rattle.futures_buffered_core.specs.declared.ready_table.step.StepReply.{Step
 use Rattle.futures_buffered_core.specs.declared.ready_table.step.StepReply.TheVariants.{More, Woke, Taken}
 use Rattle.futures_buffered_core.specs.declared.ready_table.view.View.{View}
 
+-- where the tail word stands
 abbrev pub tail_at : ℕ → ℕ
 tail_at n = n + n + 1
 
@@ -58,6 +59,7 @@ abbrev pub slot_read : ℕ → Phase → ℕ → Role
 slot_read h none zero = Polls h none
 slot_read h none (suc q) = Polls q (InHand h)
 
+-- what the seat is after the step
 abbrev pub role_after : ℕ → ℕ → Role → ℕ → Role
 role_after n slot Idle zero = Won slot
 role_after n slot Idle (suc k) = Idle
@@ -108,6 +110,7 @@ reply_of n (Polls h StubLinked) zero = Taken Pause
 reply_of n (Polls h StubLinked) (suc q) = More
 reply_of n (Polls h (InHand i)) found = Taken (Slot i)
 
+-- the view after the step
 abbrev pub view_after : ℕ → View → ℕ → View
 view_after slot v found = record {
   stub = v.stub;

@@ -24,10 +24,12 @@ abbrev pub next : ℕ → ℕ → List ℕ → ℕ
 next p h [] = 0
 next p h (x ∷ xs) = if p == h then suc x else next p x xs
 
+-- the end of the row that begins with h
 abbrev pub last_entry : ℕ → List ℕ → ℕ
 last_entry h [] = h
 last_entry h (x ∷ xs) = last_entry x xs
 
+-- the mark of an entry, its link, and the tail
 abbrev pub mark : List ℕ → ℕ → ℕ
 mark words e = slice_index words e
 
@@ -43,6 +45,7 @@ owed_by p (Swapped i q) = same p q
 owed_by p (Polls h (StubPut q)) = same p q
 owed_by p _ = 0
 
+-- how many seats owe the link of p
 abbrev pub owed : List View → ℕ → ℕ
 owed views p = total (λ v. owed_by p v.role) views
 

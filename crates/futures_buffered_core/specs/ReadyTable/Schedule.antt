@@ -12,6 +12,7 @@ use Rattle.futures_buffered_core.specs.ReadyTable.OneStep.{touches, puts, view_a
 use Rattle.futures_buffered_core.specs.ReadyTable.Views.{role_of, polling, fresh_beside, spent_view}
 use Rattle.futures_buffered_core.specs.declared.ready_table.step.TheConstants.{WAKE_SEATS}
 
+-- the seat that makes the step
 abbrev pub seat_of : Step → ℕ
 seat_of (Mark seat slot) = seat
 seat_of (Go seat) = seat
@@ -23,6 +24,7 @@ slot_of (Mark seat slot) = slot
 slot_of (Go seat) = 0
 slot_of Poll = 0
 
+-- the role of a seat
 abbrev pub role_at : List Role → ℕ → Role
 role_at roles seat = slice_index_or roles seat Idle
 
@@ -41,12 +43,15 @@ pub record Moment : Type 0 where
 abbrev pub at_start : ℕ → Moment
 at_start n = record { words = replicate (n + n + 1) 0 ++ n ∷ []; views = replicate WAKE_SEATS (fresh_beside (polling n)) ++ polling n ∷ [] }
 
+-- the view of the step's seat
 abbrev pub view_at : Moment → Step → View
 view_at c step = slice_index_or c.views (seat_of step) spent_view
 
+-- the word that the step reads or writes
 abbrev pub word_of : ℕ → Moment → Step → ℕ
 word_of n c step = touches n (slot_of step) (view_at c step).role
 
+-- what the step finds there
 abbrev pub found_at : ℕ → Moment → Step → ℕ
 found_at n c step = slice_index c.words (word_of n c step)
 
@@ -57,6 +62,7 @@ goes n c step = record {
   views = slice_set c.views (seat_of step) (view_after (slot_of step) (view_at c step) (found_at n c step));
 }
 
+-- all the steps, in order
 abbrev pub run : ℕ → Moment → List Step → Moment
 run n c [] = c
 run n c (s ∷ ss) = run n (goes n c s) ss
@@ -66,6 +72,7 @@ abbrev pub Legal : ℕ → Moment → List Step → Type 0
 Legal n c [] = Unit {0}
 Legal n c (s ∷ ss) = CanStep n (map role_of c.views) s × Legal n (goes n c s) ss
 
+-- what they are answered
 abbrev pub replies_of : ℕ → Moment → List Step → List StepReply
 replies_of n c [] = []
 replies_of n c (s ∷ ss) = reply_of n (view_at c s).role (found_at n c s) ∷ replies_of n (goes n c s) ss

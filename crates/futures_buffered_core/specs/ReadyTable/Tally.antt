@@ -7,10 +7,12 @@ use Rattle.futures_buffered_core.specs.ReadyTable.Row.{total, same, mark}
 use Rattle.futures_buffered_core.specs.ReadyTable.Views.{spent_view}
 use Rattle.futures_buffered_core.specs.declared.ready_table.step.TheConstants.{WAKE_SEATS}
 
+-- 1 where this step is a mark swap that found e clear
 abbrev pub is_win : ℕ → Made → ℕ
 is_win e (MarkSwap i zero) = same e i
 is_win e _ = 0
 
+-- 1 where this step unmarked e
 abbrev pub is_unmark : ℕ → Made → ℕ
 is_unmark e (Unmark i) = same e i
 is_unmark e _ = 0
@@ -19,6 +21,7 @@ is_unmark e _ = 0
 abbrev pub wins : ℕ → List Made → ℕ
 wins e steps = total (is_win e) steps
 
+-- the unmarks of e among these steps
 abbrev pub unmarks : ℕ → List Made → ℕ
 unmarks e steps = total (is_unmark e) steps
 

@@ -19,9 +19,11 @@ abbrev pub takes_by : ℕ → Role → ℕ
 takes_by e (Polls h (InHand i)) = same e i
 takes_by e _ = 0
 
+-- how many wake seats have the slot e
 abbrev pub wakers : ℕ → List View → ℕ
 wakers e views = total (λ v. wakes_by e v.role) views
 
+-- how often the poller has it in hand
 abbrev pub takers : ℕ → List View → ℕ
 takers e views = total (λ v. takes_by e v.role) views
 
@@ -32,6 +34,7 @@ AgreesWith n head rest (Polls h (StubPut p)) = (h ≡ head) × (next p head rest
 AgreesWith n head rest (Polls h _) = h ≡ head
 AgreesWith n head rest _ = Unit {0}
 
+-- the one place of each slot
 pub record Whereabouts (n : ℕ) (words : List ℕ) (views : List View) : Type 0 where
   -- the row begins with the poller's head, goes on by links or by what one seat owes, and ends with the tail word
   pub head : ℕ
