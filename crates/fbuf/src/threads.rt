@@ -1,9 +1,10 @@
 //! A run in which threads wake the slots of one set.
-ghost use Rattle.std.specs.Prelude.{◌≡◌, ◌≢◌, ℕ, ◌+◌, ◌<◌, ◌≤◌, ⊤, IfOk, IfErr, length, vec_len, vec_capacity};
+ghost use Rattle.std.specs.Prelude.{◌≡◌, ◌≢◌, ℕ, ◌+◌, ◌<◌, ◌≤◌, ⊤, IfOk, IfErr, OnOk, length, vec_len, vec_capacity};
 ghost use Rattle.std.specs.Arc.{arc_value};
 ghost use Rattle.std.specs.IoError.{error_kind};
 ghost use Rattle.std.specs.declared.io.ErrorKind.TheVariants.{OutOfMemory};
 ghost use Rattle.futures_buffered_core.specs.SlotMap.{no_slots};
+ghost use Rattle.futures_buffered_sets.specs.Held.{AllHeld};
 
 use futures::StreamExt;
 use futures::executor::block_on;
@@ -146,6 +147,7 @@ fn seated<R: Wait + Clone + Drop>(
 ) -> Result<Vec<Arc<Seat<R>>>, ThreadsFault>
     requires { set.old.slots ≡ no_slots n }
     ensures seats { IfOk result (λ seats. vec_len seats ≡ n) }
+    ensures goals { OnOk result (AllHeld (λ future. future.goal ≡ m) set.new.slots) }
     ensures fault { IfErr result (λ fault. fault ≡ ThreadsFault.Memory) }
 {
     let mut seats = Vec::with_capacity(alloc, n)?;

@@ -1,5 +1,5 @@
 -- What a poll has done so far, and what one more name makes of it.
-use Rattle.std.proofs.Common.{◌≡◌, ◌⊎◌, ℕ, ◌+◌, ◌<◌, List, [], ◌∷◌, ◌++◌, map, length, set, Option, Some, None, MatchOption, IsSome, is_some, cond, true≢false, refl, sym, ap, subst, inl, inr, arith, length-set, append-nil, ◌∙◌}
+use Rattle.std.proofs.Common.{◌≡◌, ◌⊎◌, ℕ, zero, suc, ◌+◌, ◌<◌, List, [], ◌∷◌, ◌++◌, map, length, set, Option, Some, None, MatchOption, IsSome, is_some, cond, true≢false, refl, sym, ap, subst, inl, inr, arith, length-set, append-nil, ◌∙◌}
 use Rattle.std.specs.List.{FoldsTo}
 use Rattle.std.proofs.lemmas.Fn.{FoldsTo-push}
 use Rattle.std.proofs.lemmas.List.{map_push, length_push, get_or-set_same, get_or-set_other, get_or_past}
@@ -7,7 +7,7 @@ use Rattle.std.proofs.lemmas.List.Sums.{sum_by-set}
 use Rattle.std.proofs.lemmas.Bool.{cases_eq, cases_lt}
 use Rattle.futures.specs.declared.task.Poll.{Poll}
 use Rattle.futures.specs.declared.task.Poll.TheVariants.{Ready, Pending}
-use Rattle.futures_buffered_core.specs.SlotMap.{Slots, held, held_count, with_value, without}
+use Rattle.futures_buffered_core.specs.SlotMap.{Slots, held, held_count, no_slots, with_value, without}
 use Rattle.futures_buffered_core.specs.declared.ready_core.Taken.{Taken}
 use Rattle.futures_buffered_core.specs.declared.ready_core.Taken.TheVariants.{Slot, Empty, Pause}
 use Rattle.futures_buffered_sets.specs.Held.{AllHeld, AllHeldBut, EndsWith, NamesRun}
@@ -34,6 +34,12 @@ module _ {F A : Type 0} (polled : F → Poll A → F → Type 0) where
 
   pub one_ready : (m : Slots F) (i : ℕ) (f f2 : F) (x : A) → held m i ≡ Some f → polled f (Ready x) f2 → NamesRun polled m (i ∷ []) (Some (i, x)) (with_value m i f2)
   one_ready m i f f2 x e h = rw e (inr (x, f2, h, refl, refl, refl))
+
+-- no value is held where all slots are free
+pub AllHeld-none : {F : Type 0} (P : F → Type 0) (n : ℕ) → AllHeld P (no_slots n)
+AllHeld-none P zero i = tt
+AllHeld-none P (suc n) zero = tt
+AllHeld-none P (suc n) (suc i) = AllHeld-none P n i
 
 -- a value that may be polled in place of another
 pub AllHeld-with : {F : Type 0} (P : F → Type 0) (m : Slots F) (i : ℕ) (f : F) → AllHeld P m → P f → AllHeld P (with_value m i f)
