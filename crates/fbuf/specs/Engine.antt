@@ -2,19 +2,19 @@
 use Rattle.std.specs.Prelude.{◌≡◌, ℕ, ◌<◌, ◌≤◌, List, [], Option, Some, None, MatchOption, ◌⊎◌}
 use Rattle.futures.specs.declared.task.Poll.{Poll as PollAnswer}
 use Rattle.futures.specs.declared.task.Poll.TheVariants as polled
-use Rattle.futures_buffered_core.specs.declared.ready_core.Woke.{Woke}
-use Rattle.futures_buffered_core.specs.declared.ready_core.Woke.TheVariants as woke
-use Rattle.futures_buffered_core.specs.declared.ready_core.TheConstants.{MAX_CAPACITY}
+use Rattle.futures_buffered_table.specs.declared.answer.Woke.{Woke}
+use Rattle.futures_buffered_table.specs.declared.answer.Woke.TheVariants as woke
+use Rattle.futures_buffered_table.specs.declared.answer.TheConstants.{MAX_CAPACITY}
 use Rattle.futures_buffered_core.specs.ReadyCore.{Standing, Marks, Takes}
 use Rattle.futures_buffered_core.specs.SlotMap.{no_slots, slot_count, held_count}
 use Rattle.futures_buffered_sets.specs.FuturesUnorderedBounded.{Bounded, Pushes, PollGives}
 use Rattle.futures_buffered_sets.specs.declared.futures_unordered_bounded.TheConstants.{POLL_LIMIT}
-use Rattle.futures_buffered_core.specs.declared.ready_core.Taken.TheVariants as taken
-use Rattle.futures_buffered_core.specs.declared.ready_table.step.Step.{Step as StepOf}
-use Rattle.futures_buffered_core.specs.declared.ready_table.step.Step.TheVariants as step
-use Rattle.futures_buffered_core.specs.declared.ready_table.step.StepReply.{StepReply}
-use Rattle.futures_buffered_core.specs.declared.ready_table.step.StepReply.TheVariants as replied
-use Rattle.futures_buffered_core.specs.ReadyTable.Machine.{Machine, IsNew, May, Steps as MachineSteps}
+use Rattle.futures_buffered_table.specs.declared.answer.Taken.TheVariants as taken
+use Rattle.futures_buffered_table.specs.declared.step.Step.{Step as StepOf}
+use Rattle.futures_buffered_table.specs.declared.step.Step.TheVariants as step
+use Rattle.futures_buffered_table.specs.declared.step.StepReply.{StepReply}
+use Rattle.futures_buffered_table.specs.declared.step.StepReply.TheVariants as replied
+use Rattle.futures_buffered_table.specs.Machine.{Machine, IsNew, May, Steps as MachineSteps}
 use Rattle.fbuf.specs.Timed.{TimedPolled}
 use Rattle.fbuf.specs.Command.{Asks}
 use Rattle.fbuf.specs.declared.timed.Timed.{Timed}

@@ -9,10 +9,10 @@ use Rattle.futures_buffered_core.specs.declared.ready_core.Event.{Event}
 use Rattle.futures_buffered_core.specs.declared.ready_core.Event.TheVariants as event
 use Rattle.futures_buffered_core.specs.declared.ready_core.Reply.{Reply}
 use Rattle.futures_buffered_core.specs.declared.ready_core.Reply.TheVariants as reply
-use Rattle.futures_buffered_core.specs.declared.ready_core.Woke.{Woke}
-use Rattle.futures_buffered_core.specs.declared.ready_core.Woke.TheVariants.{Fresh, Already}
-use Rattle.futures_buffered_core.specs.declared.ready_core.Taken.{Taken}
-use Rattle.futures_buffered_core.specs.declared.ready_core.Taken.TheVariants.{Slot, Empty, Pause}
+use Rattle.futures_buffered_table.specs.declared.answer.Woke.{Woke}
+use Rattle.futures_buffered_table.specs.declared.answer.Woke.TheVariants.{Fresh, Already}
+use Rattle.futures_buffered_table.specs.declared.answer.Taken.{Taken}
+use Rattle.futures_buffered_table.specs.declared.answer.Taken.TheVariants.{Slot, Empty, Pause}
 use Rattle.futures_buffered_core.specs.ReadyCore.{is_marked, MarkGives, TakeGives}
 use Rattle.futures_buffered_core.specs.History.{IsUnserved, IsRight, IsOldest, StandInOrder, IsStanding, marks_before, replies_before, EachIsRight, Answers}
 use Rattle.futures_buffered_core.proofs.ReadyCoreLemmas.{listed_push}

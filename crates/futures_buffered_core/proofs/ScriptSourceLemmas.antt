@@ -1,7 +1,7 @@
 -- What a taking leaves of a list of answers.
 use Rattle.std.proofs.Common.{◌≡◌, ℕ, suc, List, ◌++◌, length, Option, Some, None, ap, arith}
 use Rattle.std.specs.Option.{option_to_list}
-use Rattle.futures_buffered_core.specs.declared.ready_core.Taken.{Taken}
+use Rattle.futures_buffered_table.specs.declared.answer.Taken.{Taken}
 use Rattle.futures_buffered_core.specs.ScriptSource.{AnswersAllBelow}
 
 -- the answers after the first name slots below the capacity, as all did

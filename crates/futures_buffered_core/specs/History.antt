@@ -5,8 +5,8 @@ use Rattle.futures_buffered_core.specs.declared.ready_core.Event.{Event}
 use Rattle.futures_buffered_core.specs.declared.ready_core.Event.TheVariants as event
 use Rattle.futures_buffered_core.specs.declared.ready_core.Reply.{Reply}
 use Rattle.futures_buffered_core.specs.declared.ready_core.Reply.TheVariants as reply
-use Rattle.futures_buffered_core.specs.declared.ready_core.Woke.TheVariants.{Fresh, Already}
-use Rattle.futures_buffered_core.specs.declared.ready_core.Taken.TheVariants.{Slot, Empty, Pause}
+use Rattle.futures_buffered_table.specs.declared.answer.Woke.TheVariants.{Fresh, Already}
+use Rattle.futures_buffered_table.specs.declared.answer.Taken.TheVariants.{Slot, Empty, Pause}
 
 -- a taking at this position was answered with the slot
 abbrev pub IsNamedAt : List Reply → ℕ → ℕ → Type 0

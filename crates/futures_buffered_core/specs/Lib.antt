@@ -7,5 +7,4 @@ pub mod SlotMap
 pub mod SlotMapInvariant
 pub mod SlotMapLends
 pub mod SlotMapIterMut
-pub mod ReadyTable
 pub mod Drawn

@@ -1,10 +1,10 @@
 -- What a ready core stands for, and what one event does to it.
 use Rattle.std.specs.Prelude.{◌≡◌, ℕ, ◌<◌, Bool, true, false, eqb, List, [], ◌∷◌, ◌++◌}
 use Rattle.std.specs.List.{list_any}
-use Rattle.futures_buffered_core.specs.declared.ready_core.Woke.{Woke}
-use Rattle.futures_buffered_core.specs.declared.ready_core.Woke.TheVariants.{Fresh, Already}
-use Rattle.futures_buffered_core.specs.declared.ready_core.Taken.{Taken}
-use Rattle.futures_buffered_core.specs.declared.ready_core.Taken.TheVariants.{Slot, Empty, Pause}
+use Rattle.futures_buffered_table.specs.declared.answer.Woke.{Woke}
+use Rattle.futures_buffered_table.specs.declared.answer.Woke.TheVariants.{Fresh, Already}
+use Rattle.futures_buffered_table.specs.declared.answer.Taken.{Taken}
+use Rattle.futures_buffered_table.specs.declared.answer.Taken.TheVariants.{Slot, Empty, Pause}
 
 -- the capacity, and the marked slots by their oldest unserved mark
 pub record Standing : Type 0 where

@@ -1,10 +1,10 @@
 -- A source that gives the answers of a list.
 use Rattle.std.specs.Prelude.{◌≡◌, ℕ, ◌<◌, ◌≤◌, List, [], ◌∷◌, Some, slice_get}
 use Rattle.futures_buffered_core.specs.ReadyCore.{IsNameBelow}
-use Rattle.futures_buffered_core.specs.declared.ready_core.Woke.{Woke}
-use Rattle.futures_buffered_core.specs.declared.ready_core.Woke.TheVariants.{Fresh}
-use Rattle.futures_buffered_core.specs.declared.ready_core.Taken.{Taken}
-use Rattle.futures_buffered_core.specs.declared.ready_core.Taken.TheVariants.{Slot, Empty}
+use Rattle.futures_buffered_table.specs.declared.answer.Woke.{Woke}
+use Rattle.futures_buffered_table.specs.declared.answer.Woke.TheVariants.{Fresh}
+use Rattle.futures_buffered_table.specs.declared.answer.Taken.{Taken}
+use Rattle.futures_buffered_table.specs.declared.answer.Taken.TheVariants.{Slot, Empty}
 
 -- the capacity, and the answers that are left
 pub record Script : Type 0 where

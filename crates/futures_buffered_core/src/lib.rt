@@ -12,5 +12,7 @@
 pub mod ready_core;
 pub mod ready_shared;
 pub mod ready_source;
-pub mod ready_table;
+
 pub mod slot_map;
+
+pub use futures_buffered_table::ready_table;

@@ -7,12 +7,11 @@ ghost use Rattle.futures_buffered_core.specs.ReadyCore.{MarkGives, TakeGives, Is
 ghost use Rattle.futures_buffered_core.specs.declared.ready_core.Reply.{Reply};
 ghost use Rattle.futures_buffered_core.specs.History.{EachIsRight, IsStanding, marks_before, replies_before, NamesAllBelow, IsWrongAt, Answers};
 
-use std::alloc::{AllocError, Global};
+pub use futures_buffered_table::answer::{MAX_CAPACITY, NewFault, Taken, Woke};
+
+use std::alloc::Global;
 use std::collections::VecDeque;
 use std::marker::Model;
-
-/// The most slots that a core, a source or a set can have: 4611686018427387903.
-pub const MAX_CAPACITY: usize = usize::MAX / 4;
 
 /// What is done to a ready core.
 #[derive(Clone, Copy, Debug, PartialEq, Eq)]
@@ -23,26 +22,6 @@ pub enum Event {
     Take,
 }
 
-/// The answer of a taking.
-#[derive(Clone, Copy, Debug, PartialEq, Eq)]
-pub enum Taken {
-    /// This slot was marked, and is not any more.
-    Slot(usize),
-    /// No slot is marked.
-    Empty,
-    /// A mark is being made by another thread: ask again later. A `ReadyCore` never answers it.
-    Pause,
-}
-
-/// The answer of a mark.
-#[derive(Clone, Copy, Debug, PartialEq, Eq)]
-pub enum Woke {
-    /// The slot was not marked.
-    Fresh,
-    /// The slot was marked, and keeps its place.
-    Already,
-}
-
 /// The answer of an event.
 #[derive(Clone, Copy, Debug, PartialEq, Eq)]
 pub enum Reply {
@@ -50,26 +29,6 @@ pub enum Reply {
     Woke(Woke),
     /// Of a taking.
     Taken(Taken),
-}
-
-/// Why nothing was made.
-#[derive(Clone, Copy, Debug, PartialEq, Eq)]
-pub enum NewFault {
-    /// A request for memory was refused.
-    Memory,
-    /// The capacity is above `MAX_CAPACITY`. This is tested before any memory is asked for.
-    TooLarge,
-}
-
-impl From<AllocError> for NewFault {
-    ghost use Rattle.std.specs.Prelude.{◌≡◌};
-    ghost use Rattle.futures_buffered_core.specs.declared.ready_core.NewFault.TheVariants.{Memory};
-
-    ghost from_gives = { λ _ e. e ≡ Memory };
-
-    fn from(_: AllocError) -> NewFault {
-        NewFault::Memory
-    }
 }
 
 /// Slots with at most one unserved mark each that counts, in the order in which these marks were made.

@@ -3,9 +3,9 @@
 //! A source has a content of its own, of which a contract knows only what the source's relations say. `CoreSource` is a ready core under one caller, and `ScriptSource` gives a list of answers; both have exact relations.
 ghost use Rattle.std.specs.Prelude.{◌≡◌, ◌<◌, ◌≤◌, ◌↔◌, ◌≢◌, ℕ, [], IfOk, IfErr, IfSome, IfNone, OnOk, length};
 ghost use Rattle.futures.specs.Task.{Covers, Keeps};
-ghost use Rattle.futures_buffered_core.specs.declared.ready_core.Woke.{Woke};
-ghost use Rattle.futures_buffered_core.specs.declared.ready_core.Taken.{Taken};
-ghost use Rattle.futures_buffered_core.specs.declared.ready_core.Taken.TheVariants.{Slot};
+ghost use Rattle.futures_buffered_table.specs.declared.answer.Woke.{Woke};
+ghost use Rattle.futures_buffered_table.specs.declared.answer.Taken.{Taken};
+ghost use Rattle.futures_buffered_table.specs.declared.answer.Taken.TheVariants.{Slot};
 ghost use Rattle.futures_buffered_core.specs.ReadyCore.{Marks, Takes};
 ghost use Rattle.futures_buffered_core.specs.ScriptSource.{AnswersAllBelow, IsWrongAnswerAt};
 

@@ -9,7 +9,7 @@ use Rattle.futures.specs.Poll.{IfReady, OnPending}
 use Rattle.futures.specs.Runs.{After, Within}
 use Rattle.futures.specs.Queued.{Gathers}
 use Rattle.futures_buffered_core.specs.SlotMap.{Slots, held, held_count, with_value, without}
-use Rattle.futures_buffered_core.specs.declared.ready_core.Taken.{Taken}
+use Rattle.futures_buffered_table.specs.declared.answer.Taken.{Taken}
 use Rattle.futures_buffered_sets.specs.Held.{NamesRun, MayGive, AnyMayGive, ComesFrom}
 use Rattle.futures_buffered_sets.specs.FuturesUnorderedBounded.{Bounded, PollGives}
 use Rattle.futures_buffered_sets.proofs.HeldLemmas.{held-with}

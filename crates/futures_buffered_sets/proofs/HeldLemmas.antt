@@ -8,8 +8,8 @@ use Rattle.std.proofs.lemmas.Bool.{cases_eq, cases_lt}
 use Rattle.futures.specs.declared.task.Poll.{Poll}
 use Rattle.futures.specs.declared.task.Poll.TheVariants.{Ready, Pending}
 use Rattle.futures_buffered_core.specs.SlotMap.{Slots, held, held_count, no_slots, with_value, without}
-use Rattle.futures_buffered_core.specs.declared.ready_core.Taken.{Taken}
-use Rattle.futures_buffered_core.specs.declared.ready_core.Taken.TheVariants.{Slot, Empty, Pause}
+use Rattle.futures_buffered_table.specs.declared.answer.Taken.{Taken}
+use Rattle.futures_buffered_table.specs.declared.answer.Taken.TheVariants.{Slot, Empty, Pause}
 use Rattle.futures_buffered_sets.specs.Held.{AllHeld, AllHeldBut, EndsWith, NamesRun}
 use Rattle.futures_buffered_sets.specs.FuturesUnorderedBounded.{Bounded, Runs, EndsWaiting, AsksUntil}
 

@@ -1,5 +1,5 @@
 use Rattle.std.proofs.Common.{◌≡◌, ◌≤◌, Some, map, vec_len}
-use Rattle.futures_buffered_core.specs.declared.ready_core.TheConstants.{MAX_CAPACITY}
+use Rattle.futures_buffered_table.specs.declared.answer.TheConstants.{MAX_CAPACITY}
 use Rattle.futures_buffered_core.proofs.slot_map.PinSlotMap.from_iter.Given as goal
 
 abbrev pub invariant-loop-item : goal.invariant-loop-item

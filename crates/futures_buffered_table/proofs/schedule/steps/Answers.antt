@@ -1,0 +1,50 @@
+use Rattle.std.proofs.Common.{rules, get_or, take, ◌≡◌, ◌++◌, [], ◌∷◌, sym, ap, ◌∙◌, subst}
+use Rattle.std.proofs.lemmas.List.{take_more}
+use Rattle.futures_buffered_table.specs.declared.step.Step.{Step}
+use Rattle.futures_buffered_table.specs.declared.step.Step.TheVariants.{Mark}
+use Rattle.futures_buffered_table.specs.Law.{AfterEach, AnswersInOrder, EmptyIsTrue, PauseHasCause}
+use Rattle.futures_buffered_table.specs.Schedule.{at_start, Legal, IsStuckAt}
+use Rattle.futures_buffered_table.proofs.LawfulLemmas.{in_order, empties, pauses}
+use Rattle.futures_buffered_table.proofs.ReachesLemmas.{elem_at, stuck_here, take_all, whole}
+use Rattle.futures_buffered_table.proofs.schedule.steps.Goals as goal
+
+pub loop-k-preserved : goal.loop-k-preserved
+loop-k-preserved c =
+    let steps = c.args.steps.now in let k = c.loop-k.k in let so_far = c.loop-k.invariant in let did = c.in-Some.ensures in
+    let step : Step = get_or steps k (Mark 0 0) in
+    let more = take_more steps k (Mark 0 0) c.loop-k-test.true in
+    let on = did.leads (take k steps) so_far.leads in
+    rw more (record {
+      capacity = did.made.1.0 ∙ so_far.capacity;
+      leads = on.0;
+      replied = c.push_reserved.ensures.items ∙ (ap (λ l. l ++ c.in-Some.reply ∷ []) so_far.replied ∙ sym on.1);
+      room = search rules;
+    })
+
+pub returns-in_default-step-clause-stuck : goal.returns-in_default-step-clause-stuck
+returns-in_default-step-clause-stuck c = λ k e.
+    let n = c.args.capacity in let steps = c.args.steps.now in let so_far = c.loop-k.invariant in
+    let same : c.loop-k.k ≡ k = cc in
+    let step : Step = get_or steps c.loop-k.k (Mark 0 0) in
+    subst (IsStuckAt n steps) same (
+      subst (λ m. Legal m (at_start m) (take c.loop-k.k steps)) so_far.capacity so_far.leads.0,
+      (step, elem_at steps c.loop-k.k (Mark 0 0) c.loop-k-test.true, stuck_here n c.loop-k.machine (take c.loop-k.k steps) step so_far.capacity so_far.leads c.in_default-step.ensures.refused.0),
+    )
+
+pub returns-clause-order : goal.returns-clause-order
+returns-clause-order c =
+    let n = c.args.capacity in let steps = c.args.steps.now in let so_far = c.loop-k.invariant in
+    let all = whole n c.loop-k.machine (take c.loop-k.k steps) steps c.loop-k.replies.items so_far.capacity (take_all c.loop-k.k steps c.loop-k-test.false) so_far.leads so_far.replied in
+    subst (AfterEach AnswersInOrder [] steps) (sym all.1) (in_order n steps all.0)
+
+pub returns-clause-empty : goal.returns-clause-empty
+returns-clause-empty c =
+    let n = c.args.capacity in let steps = c.args.steps.now in let so_far = c.loop-k.invariant in
+    let all = whole n c.loop-k.machine (take c.loop-k.k steps) steps c.loop-k.replies.items so_far.capacity (take_all c.loop-k.k steps c.loop-k-test.false) so_far.leads so_far.replied in
+    subst (AfterEach EmptyIsTrue [] steps) (sym all.1) (empties n steps all.0)
+
+pub returns-clause-pause : goal.returns-clause-pause
+returns-clause-pause c =
+    let n = c.args.capacity in let steps = c.args.steps.now in let so_far = c.loop-k.invariant in
+    let all = whole n c.loop-k.machine (take c.loop-k.k steps) steps c.loop-k.replies.items so_far.capacity (take_all c.loop-k.k steps c.loop-k-test.false) so_far.leads so_far.replied in
+    subst (AfterEach PauseHasCause [] steps) (sym all.1) (pauses n steps all.0)

@@ -1,0 +1,54 @@
+-- The row of entries h ∷ rest, from the poller's head to the tail word: what follows an entry, by its link or by the view of a seat that is about to write that link.
+use Rattle.std.specs.Prelude.{◌≡◌, ◌⊎◌, ℕ, suc, ◌+◌, ◌<◌, ◌==◌, List, [], ◌∷◌, if◌then◌else◌, slice_index}
+use Rattle.futures_buffered_table.specs.declared.view.Phase.TheVariants.{StubPut}
+use Rattle.futures_buffered_table.specs.declared.view.Role.{Role}
+use Rattle.futures_buffered_table.specs.declared.view.Role.TheVariants.{Swapped, Polls}
+use Rattle.futures_buffered_table.specs.declared.view.View.{View}
+use Rattle.futures_buffered_table.specs.OneStep.{tail_at}
+
+-- the sum of f over xs
+abbrev pub total : {X : Type 0} → (X → ℕ) → List X → ℕ
+total f [] = 0
+total f (x ∷ xs) = f x + total f xs
+
+-- 1 where the two are one number
+abbrev pub same : ℕ → ℕ → ℕ
+same a b = if a == b then 1 else 0
+
+-- how often e stands in the row
+abbrev pub times : ℕ → List ℕ → ℕ
+times e row = total (same e) row
+
+-- the entry behind p in the row that begins with h, as a link names it: 0 for none
+abbrev pub next : ℕ → ℕ → List ℕ → ℕ
+next p h [] = 0
+next p h (x ∷ xs) = if p == h then suc x else next p x xs
+
+-- the end of the row that begins with h
+abbrev pub last_entry : ℕ → List ℕ → ℕ
+last_entry h [] = h
+last_entry h (x ∷ xs) = last_entry x xs
+
+-- the mark of an entry, its link, and the tail
+abbrev pub mark : List ℕ → ℕ → ℕ
+mark words e = slice_index words e
+
+abbrev pub link : ℕ → List ℕ → ℕ → ℕ
+link n words e = slice_index words (n + e)
+
+abbrev pub tail : ℕ → List ℕ → ℕ
+tail n words = slice_index words (tail_at n)
+
+-- 1 where this role owes the link of p: it has swapped the tail and not yet written
+abbrev pub owed_by : ℕ → Role → ℕ
+owed_by p (Swapped i q) = same p q
+owed_by p (Polls h (StubPut q)) = same p q
+owed_by p _ = 0
+
+-- how many seats owe the link of p
+abbrev pub owed : List View → ℕ → ℕ
+owed views p = total (λ v. owed_by p v.role) views
+
+-- the link of p names the next entry, or it names none and one seat owes it
+abbrev pub Linked : ℕ → ℕ → ℕ → Type 0
+Linked next link owed = ((link ≡ next) × (owed ≡ 0)) ⊎ ((link ≡ 0) × (owed ≡ 1) × (0 < next))

@@ -1,0 +1,25 @@
+-- The views of seats: as they begin, are split, and go into another.
+use Rattle.std.specs.Prelude.{ℕ, [], ◌++◌}
+use Rattle.futures_buffered_table.specs.declared.view.Phase.TheVariants.{Start}
+use Rattle.futures_buffered_table.specs.declared.view.Role.{Role}
+use Rattle.futures_buffered_table.specs.declared.view.Role.TheVariants.{Idle, Polls}
+use Rattle.futures_buffered_table.specs.declared.view.View.{View}
+
+abbrev pub role_of : View → Role
+role_of v = v.role
+
+-- the poll seat's at first: its head is the stub
+abbrev pub polling : ℕ → View
+polling n = record { stub = n; role = Polls n Start; steps = [] }
+
+-- a new wake seat's, beside another seat of its list
+abbrev pub fresh_beside : View → View
+fresh_beside v = record { stub = v.stub; role = Idle; steps = [] }
+
+-- the seat that another went into keeps both lists
+abbrev pub with_steps_of : View → View → View
+with_steps_of v w = record { stub = v.stub; role = v.role; steps = v.steps ++ w.steps }
+
+-- a seat that went into another is idle, with an empty list
+abbrev pub spent_view : View
+spent_view = record { stub = 0; role = Idle; steps = [] }

@@ -1,0 +1,45 @@
+//! What a list of ready slots answers, and how many slots it can have.
+use std::alloc::AllocError;
+
+/// The most slots that a list, a core, a source or a set can have: 4611686018427387903.
+pub const MAX_CAPACITY: usize = usize::MAX / 4;
+
+/// The answer of a taking.
+#[derive(Clone, Copy, Debug, PartialEq, Eq)]
+pub enum Taken {
+    /// This slot was marked, and is not any more.
+    Slot(usize),
+    /// No slot is marked.
+    Empty,
+    /// A mark is being made by another thread: ask again later. A `ReadyCore` never answers it.
+    Pause,
+}
+
+/// The answer of a mark.
+#[derive(Clone, Copy, Debug, PartialEq, Eq)]
+pub enum Woke {
+    /// The slot was not marked.
+    Fresh,
+    /// The slot was marked, and keeps its place.
+    Already,
+}
+
+/// Why nothing was made.
+#[derive(Clone, Copy, Debug, PartialEq, Eq)]
+pub enum NewFault {
+    /// A request for memory was refused.
+    Memory,
+    /// The capacity is above `MAX_CAPACITY`. This is tested before any memory is asked for.
+    TooLarge,
+}
+
+impl From<AllocError> for NewFault {
+    ghost use Rattle.std.specs.Prelude.{◌≡◌};
+    ghost use Rattle.futures_buffered_table.specs.declared.answer.NewFault.TheVariants.{Memory};
+
+    ghost from_gives = { λ _ e. e ≡ Memory };
+
+    fn from(_: AllocError) -> NewFault {
+        NewFault::Memory
+    }
+}

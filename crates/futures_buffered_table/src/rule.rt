@@ -1,0 +1,46 @@
+//! The rule of the table that the list's words lie in, what a step tells its seat, and the laws that the rule gives.
+use crate::view::View;
+use atomic_table::{Join, Play, Split, TableRule};
+
+/// The words and all views have a row from the poller's head to the tail.
+pub struct RowRule;
+
+impl TableRule<u8, View, usize> for RowRule {
+    ghost use Rattle.futures_buffered_table.specs.Rule.{Held};
+    ghost use Rattle.futures_buffered_table.specs.Views.{polling};
+
+    ghost holds = { Held };
+
+    ghost first = { polling };
+}
+
+/// The step of a seat, by its role.
+pub struct SeatStep;
+
+impl Play<u8, View> for SeatStep {
+    ghost use Rattle.futures_buffered_table.specs.Rule.{Stepped};
+
+    ghost then = { Stepped };
+}
+
+/// A new wake seat beside another seat.
+pub struct NewWaker;
+
+impl Split<View> for NewWaker {
+    ghost use Rattle.futures_buffered_table.specs.Views.{fresh_beside};
+
+    ghost left = { λ v. v };
+
+    ghost right = { fresh_beside };
+}
+
+/// A wake seat goes into the poll seat, with its list.
+pub struct IntoPoller;
+
+impl Join<View> for IntoPoller {
+    ghost use Rattle.futures_buffered_table.specs.Views.{with_steps_of, spent_view};
+
+    ghost both = { with_steps_of };
+
+    ghost spent = { spent_view };
+}
