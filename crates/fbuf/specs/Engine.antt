@@ -7,8 +7,8 @@ use Rattle.futures_buffered_table.specs.declared.answer.Woke.TheVariants as woke
 use Rattle.futures_buffered_table.specs.declared.answer.TheConstants.{MAX_CAPACITY}
 use Rattle.futures_buffered_core.specs.ReadyCore.{Standing, Marks, Takes}
 use Rattle.futures_buffered_core.specs.SlotMap.{no_slots, slot_count, held_count}
-use Rattle.futures_buffered_sets.specs.FuturesUnorderedBounded.{Bounded, Pushes, PollGives}
-use Rattle.futures_buffered_sets.specs.declared.futures_unordered_bounded.TheConstants.{POLL_LIMIT}
+use Rattle.futures_buffered_bounded.specs.FuturesUnorderedBounded.{Bounded, Pushes, PollGives}
+use Rattle.futures_buffered_bounded.specs.declared.futures_unordered_bounded.TheConstants.{POLL_LIMIT}
 use Rattle.futures_buffered_table.specs.declared.answer.Taken.TheVariants as taken
 use Rattle.futures_buffered_table.specs.declared.step.Step.{Step as StepOf}
 use Rattle.futures_buffered_table.specs.declared.step.Step.TheVariants as step

@@ -4,7 +4,7 @@ ghost use Rattle.std.specs.Arc.{arc_value};
 ghost use Rattle.std.specs.IoError.{error_kind};
 ghost use Rattle.std.specs.declared.io.ErrorKind.TheVariants.{OutOfMemory};
 ghost use Rattle.futures_buffered_core.specs.SlotMap.{no_slots};
-ghost use Rattle.futures_buffered_sets.specs.Held.{AllHeld};
+ghost use Rattle.futures_buffered_bounded.specs.Held.{AllHeld};
 
 use futures::StreamExt;
 use futures::executor::block_on;

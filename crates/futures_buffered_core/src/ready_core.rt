@@ -166,6 +166,3 @@ pub fn run(core: &mut ReadyCore, events: &[Event], out: &mut Vec<Reply>) -> Resu
     }
     Ok(())
 }
-
-#[cfg(test)]
-mod tests;

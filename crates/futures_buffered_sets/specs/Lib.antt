@@ -1,2 +1,2 @@
-pub mod Held
-pub mod FuturesUnorderedBounded
+pub use Rattle.futures_buffered_bounded.specs.Held
+pub use Rattle.futures_buffered_bounded.specs.FuturesUnorderedBounded

@@ -1,5 +1,7 @@
 //! Sets of futures that are polled by name: a poll asks a source which slots were woken, and polls what these hold.
 //!
+//! Everything here is found under its own module, and the types by their names alone as well.
+//!
 //! In the order in which to read them:
 //!
 //! - `slot_future`: `SlotFuture`, what a set holds: a future that is polled with the waker of its slot.
@@ -8,12 +10,11 @@
 //! - `futures_unordered_bounded`: `FuturesUnorderedBounded`, as many futures as it has slots, yielded as they finish.
 #![tactic(auto)]
 
-pub mod fused;
-pub mod futures_unordered_bounded;
-pub mod poll_one;
-pub mod slot_future;
-
-pub use fused::{FusedFuture, FusedStream, SizeHint};
-pub use futures_unordered_bounded::FuturesUnorderedBounded;
-pub use poll_one::{PollFuture, PollOne};
-pub use slot_future::SlotFuture;
+pub use futures_buffered_bounded::fused;
+pub use futures_buffered_bounded::fused::{FusedFuture, FusedStream, SizeHint};
+pub use futures_buffered_bounded::futures_unordered_bounded;
+pub use futures_buffered_bounded::futures_unordered_bounded::FuturesUnorderedBounded;
+pub use futures_buffered_bounded::poll_one;
+pub use futures_buffered_bounded::poll_one::{PollFuture, PollOne};
+pub use futures_buffered_bounded::slot_future;
+pub use futures_buffered_bounded::slot_future::SlotFuture;

@@ -1,7 +1,7 @@
 use Rattle.std.proofs.Common.{◌≡◌, ap, ◌∙◌, length, arith}
 use Rattle.std.proofs.lemmas.List.FromFn.{length-range_with_len}
 use Rattle.std.proofs.lemmas.Grind.{common_steps}
-use Rattle.futures_buffered_sets.proofs.HeldLemmas.{AllHeld-none}
+use Rattle.futures_buffered_bounded.proofs.HeldLemmas.{AllHeld-none}
 use Rattle.fbuf.proofs.threads.seated.Goals as goal
 
 pub loop-number-init : goal.loop-number-init

@@ -1,5 +1,5 @@
 use Rattle.std.proofs.Common.{◌≡◌, ◌+◌, ◌≤◌, length, vec_len, vec_capacity}
-use Rattle.futures_buffered_sets.specs.Held.{AllHeld}
+use Rattle.futures_buffered_bounded.specs.Held.{AllHeld}
 use Rattle.fbuf.proofs.threads.seated.Given as goal
 
 abbrev pub invariant-loop-number : goal.invariant-loop-number

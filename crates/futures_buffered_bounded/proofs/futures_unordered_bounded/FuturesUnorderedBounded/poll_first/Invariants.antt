@@ -1,8 +1,8 @@
 use Rattle.std.proofs.Common.{◌≡◌, ℕ, is_some}
 use Rattle.futures.specs.Task.{Covers, Keeps}
 use Rattle.futures_buffered_core.specs.SlotMap.{held, held_count, slot_count}
-use Rattle.futures_buffered_sets.proofs.HeldLemmas.{SoFar}
-use Rattle.futures_buffered_sets.proofs.futures_unordered_bounded.FuturesUnorderedBounded.poll_first.Given as goal
+use Rattle.futures_buffered_bounded.proofs.HeldLemmas.{SoFar}
+use Rattle.futures_buffered_bounded.proofs.futures_unordered_bounded.FuturesUnorderedBounded.poll_first.Given as goal
 
 abbrev pub invariant-names : goal.invariant-names
 invariant-names g l =

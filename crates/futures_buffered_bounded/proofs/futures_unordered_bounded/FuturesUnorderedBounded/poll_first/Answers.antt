@@ -1,8 +1,8 @@
-use Rattle.futures_buffered_sets.specs.FuturesUnorderedBounded.{Bounded}
+use Rattle.futures_buffered_bounded.specs.FuturesUnorderedBounded.{Bounded}
 use Rattle.std.proofs.Common.{Some, refl, sym, inl, inr, arith, ◌∙◌, length-set, ap}
-use Rattle.futures_buffered_sets.proofs.HeldLemmas.{SoFar-skip, SoFar-pending, ready_after, ended_after, count-with, same-with}
-use Rattle.futures_buffered_sets.proofs.futures_unordered_bounded.FuturesUnorderedBounded.poll_first.Goals.{in-Some+in_default-poll_one, in_default}
-use Rattle.futures_buffered_sets.proofs.futures_unordered_bounded.FuturesUnorderedBounded.poll_first.Goals as goal
+use Rattle.futures_buffered_bounded.proofs.HeldLemmas.{SoFar-skip, SoFar-pending, ready_after, ended_after, count-with, same-with}
+use Rattle.futures_buffered_bounded.proofs.futures_unordered_bounded.FuturesUnorderedBounded.poll_first.Goals.{in-Some+in_default-poll_one, in_default}
+use Rattle.futures_buffered_bounded.proofs.futures_unordered_bounded.FuturesUnorderedBounded.poll_first.Goals as goal
 
 pub returns-in-Empty-clause-polled : goal.returns-in-Empty-clause-polled
 returns-in-Empty-clause-polled g c =

@@ -4,8 +4,8 @@ use Rattle.std.proofs.lemmas.Fn.{FoldsTo-push}
 use Rattle.std.proofs.lemmas.List.{length-map}
 use Rattle.futures_buffered_core.specs.SlotMap.{slot_count}
 use Rattle.futures_buffered_core.proofs.SlotMapLemmas.{range_push}
-use Rattle.futures_buffered_sets.specs.FuturesUnorderedBounded.{MarksSlot}
-use Rattle.futures_buffered_sets.proofs.futures_unordered_bounded.FuturesUnorderedBounded.over.Goals as goal
+use Rattle.futures_buffered_bounded.specs.FuturesUnorderedBounded.{MarksSlot}
+use Rattle.futures_buffered_bounded.proofs.futures_unordered_bounded.FuturesUnorderedBounded.over.Goals as goal
 
 pub loop-i-preserved : goal.loop-i-preserved
 loop-i-preserved g c =

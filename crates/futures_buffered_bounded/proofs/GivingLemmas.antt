@@ -10,9 +10,9 @@ use Rattle.futures.specs.Runs.{After, Within}
 use Rattle.futures.specs.Queued.{Gathers}
 use Rattle.futures_buffered_core.specs.SlotMap.{Slots, held, held_count, with_value, without}
 use Rattle.futures_buffered_table.specs.declared.answer.Taken.{Taken}
-use Rattle.futures_buffered_sets.specs.Held.{NamesRun, MayGive, AnyMayGive, ComesFrom}
-use Rattle.futures_buffered_sets.specs.FuturesUnorderedBounded.{Bounded, PollGives}
-use Rattle.futures_buffered_sets.proofs.HeldLemmas.{held-with}
+use Rattle.futures_buffered_bounded.specs.Held.{NamesRun, MayGive, AnyMayGive, ComesFrom}
+use Rattle.futures_buffered_bounded.specs.FuturesUnorderedBounded.{Bounded, PollGives}
+use Rattle.futures_buffered_bounded.proofs.HeldLemmas.{held-with}
 
 module _ {A : Type 0} {P Q : A → Type 0} (weaker : (x : A) → Q x → P x) where
   pub Gathers-Within : (m n : ℕ) → n ≡ m → Within (Gathers P m) (Gathers Q n)

@@ -1,8 +1,8 @@
 use Rattle.std.proofs.Common.{◌<◌, arith}
 use Rattle.std.proofs.lemmas.Grind.{common_steps}
 use Rattle.futures_buffered_core.specs.SlotMap.{held_count}
-use Rattle.futures_buffered_sets.proofs.HeldLemmas.{some_from_end}
-use Rattle.futures_buffered_sets.proofs.futures_unordered_bounded.FuturesUnorderedBounded.poll_with.Goals as goal
+use Rattle.futures_buffered_bounded.proofs.HeldLemmas.{some_from_end}
+use Rattle.futures_buffered_bounded.proofs.futures_unordered_bounded.FuturesUnorderedBounded.poll_with.Goals as goal
 
 pub empty_slot-requires : goal.empty_slot-requires
 empty_slot-requires g c = some_from_end g.R.PollOne.polled _ _ c.in-Ready.ensures.last

@@ -8,8 +8,8 @@ ghost use Rattle.futures.specs.Poll.{IfReady, OnPending};
 ghost use Rattle.std.specs.Iterator.{IsFiniteIterable};
 ghost use Rattle.futures_buffered_core.specs.Drawn.{Draws, DrawsMoreThan};
 ghost use Rattle.futures_buffered_core.specs.SlotMap.{held, held_count, slot_count, no_slots};
-ghost use Rattle.futures_buffered_sets.specs.Held.{AllHeld, AllHeldBut, EndsWith, ComesFrom};
-ghost use Rattle.futures_buffered_sets.specs.FuturesUnorderedBounded.{HoldsEach, Pushes, PushesAt, AsksUntil, PollGives, with_empty_slot};
+ghost use Rattle.futures_buffered_bounded.specs.Held.{AllHeld, AllHeldBut, EndsWith, ComesFrom};
+ghost use Rattle.futures_buffered_bounded.specs.FuturesUnorderedBounded.{HoldsEach, Pushes, PushesAt, AsksUntil, PollGives, with_empty_slot};
 
 use crate::fused::{FusedStream, SizeHint};
 use crate::poll_one::{PollFuture, PollOne};
@@ -39,7 +39,7 @@ pub struct FuturesUnorderedBounded<F: Drop, S: ReadySource> {
 }
 
 impl<F: Drop, S: ReadySource> Model for FuturesUnorderedBounded<F, S> {
-    ghost use Rattle.futures_buffered_sets.specs.FuturesUnorderedBounded.{Bounded, bounded_code};
+    ghost use Rattle.futures_buffered_bounded.specs.FuturesUnorderedBounded.{Bounded, bounded_code};
 
     ghost Value = { Bounded F S };
 
@@ -341,6 +341,3 @@ impl<F: Drop, S: ReadySource> fmt::Debug for FuturesUnorderedBounded<F, S> {
             .finish_non_exhaustive()
     }
 }
-
-#[cfg(test)]
-mod tests;

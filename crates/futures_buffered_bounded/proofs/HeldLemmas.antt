@@ -10,8 +10,8 @@ use Rattle.futures.specs.declared.task.Poll.TheVariants.{Ready, Pending}
 use Rattle.futures_buffered_core.specs.SlotMap.{Slots, held, held_count, no_slots, with_value, without}
 use Rattle.futures_buffered_table.specs.declared.answer.Taken.{Taken}
 use Rattle.futures_buffered_table.specs.declared.answer.Taken.TheVariants.{Slot, Empty, Pause}
-use Rattle.futures_buffered_sets.specs.Held.{AllHeld, AllHeldBut, EndsWith, NamesRun}
-use Rattle.futures_buffered_sets.specs.FuturesUnorderedBounded.{Bounded, Runs, EndsWaiting, AsksUntil}
+use Rattle.futures_buffered_bounded.specs.Held.{AllHeld, AllHeldBut, EndsWith, NamesRun}
+use Rattle.futures_buffered_bounded.specs.FuturesUnorderedBounded.{Bounded, Runs, EndsWaiting, AsksUntil}
 
 module _ {F A : Type 0} (polled : F → Poll A → F → Type 0) where
   -- one more name

@@ -8,7 +8,7 @@ use Rattle.futures_buffered_core.specs.SlotMap.{Slots, slots_code, held_count, a
 use Rattle.futures_buffered_table.specs.declared.answer.Taken.{Taken}
 use Rattle.futures_buffered_table.specs.declared.answer.Taken.TheVariants.{Slot, Empty, Pause}
 use Rattle.futures_buffered_table.specs.declared.answer.Woke.{Woke}
-use Rattle.futures_buffered_sets.specs.Held.{NamesRun}
+use Rattle.futures_buffered_bounded.specs.Held.{NamesRun}
 
 -- what each slot holds, the content of the source, and how many names one poll takes at most
 pub record Bounded (F S : Type 0) : Type 0 where

@@ -1,0 +1,19 @@
+//! Sets of futures that are polled by name: a poll asks a source which slots were woken, and polls what these hold.
+//!
+//! In the order in which to read them:
+//!
+//! - `slot_future`: `SlotFuture`, what a set holds: a future that is polled with the waker of its slot.
+//! - `poll_one`: `PollOne`, the rule by which one held value is polled, and `PollFuture`, the rule for `SlotFuture`s.
+//! - `fused`: the traits `FusedStream`, `FusedFuture` and `SizeHint`, by which a type says whether it has ended and how much is left.
+//! - `futures_unordered_bounded`: `FuturesUnorderedBounded`, as many futures as it has slots, yielded as they finish.
+#![tactic(auto)]
+
+pub mod fused;
+pub mod futures_unordered_bounded;
+pub mod poll_one;
+pub mod slot_future;
+
+pub use fused::{FusedFuture, FusedStream, SizeHint};
+pub use futures_unordered_bounded::FuturesUnorderedBounded;
+pub use poll_one::{PollFuture, PollOne};
+pub use slot_future::SlotFuture;
