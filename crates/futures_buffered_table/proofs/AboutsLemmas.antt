@@ -4,11 +4,11 @@ use Rattle.futures_buffered_table.specs.declared.view.Phase.TheVariants.{Start, 
 use Rattle.futures_buffered_table.specs.declared.view.Role.{Role}
 use Rattle.futures_buffered_table.specs.declared.view.Role.TheVariants.{Idle, Won, Cleared, Swapped, Polls}
 use Rattle.futures_buffered_table.specs.declared.view.View.{View}
-use Rattle.futures_buffered_table.specs.RowInvariant.{out_by, out, RoleOk, KeepsRow}
+use Rattle.futures_buffered_table.specs.RowInvariant.{outside_by, outside, FitsRole, KeepsRow}
 use Rattle.futures_buffered_table.specs.Whereabouts.{AgreesWith, wakes_by, takes_by, wakers, takers, Whereabouts}
 use Rattle.futures_buffered_table.proofs.SumsLemmas.{same_else}
 
-out_is : (n e : ℕ) (role : Role) → e < n → out_by n e role ≡ wakes_by e role + takes_by e role
+out_is : (n e : ℕ) (role : Role) → e < n → outside_by n e role ≡ wakes_by e role + takes_by e role
 out_is n e Idle lt = refl
 out_is n e (Won i) lt = omega arith
 out_is n e (Cleared i) lt = omega arith
@@ -23,11 +23,11 @@ out_is n e (Polls h (StubPut p)) lt = refl
 out_is n e (Polls h StubLinked) lt = refl
 out_is n e (Polls h (InHand i)) lt = omega arith
 
-pub out_are : (n e : ℕ) (views : List View) → e < n → out n views e ≡ wakers e views + takers e views
+pub out_are : (n e : ℕ) (views : List View) → e < n → outside n views e ≡ wakers e views + takers e views
 out_are n e [] lt = refl
 out_are n e (v ∷ vs) lt = omega (arith, out_is n e v.role lt, out_are n e vs lt)
 
-pub agrees : (n h : ℕ) (rest : List ℕ) (poller j : ℕ) (words : List ℕ) (role : Role) → RoleOk n words h rest poller j role → AgreesWith n h rest role
+pub agrees : (n h : ℕ) (rest : List ℕ) (poller j : ℕ) (words : List ℕ) (role : Role) → FitsRole n words h rest poller j role → AgreesWith n h rest role
 agrees n h rest poller j words Idle ok = tt
 agrees n h rest poller j words (Won i) ok = tt
 agrees n h rest poller j words (Cleared i) ok = tt

@@ -6,13 +6,13 @@ use lib.ListN.{get_elem?}
 use Rattle.futures_buffered_table.specs.declared.view.View.{View}
 use Rattle.futures_buffered_table.specs.Row.{same}
 use Rattle.futures_buffered_table.specs.Tally.{unmarks}
-use Rattle.futures_buffered_table.specs.RowInvariant.{RoleOk, KeepsRow}
-use Rattle.futures_buffered_table.specs.Rule.{Held}
-use Rattle.futures_buffered_table.specs.Views.{polling}
+use Rattle.futures_buffered_table.specs.RowInvariant.{FitsRole, KeepsRow}
+use Rattle.futures_buffered_table.specs.Rule.{HoldsRow}
+use Rattle.futures_buffered_table.specs.Views.{first_poller}
 use Rattle.futures_buffered_table.proofs.SumsLemmas.{same_here, same_else, same_cases}
 
-pub begins : (n : ℕ) → KeepsRow n n [] 0 (replicate (n + n + 1) 0 ++ n ∷ []) (polling n ∷ [])
-begins n = record {
+pub list_begins : (n : ℕ) → KeepsRow n n [] 0 (replicate (n + n + 1) 0 ++ n ∷ []) (first_poller n ∷ [])
+list_begins n = record {
   wide = omega (arith, long (n + n + 1) n);
   ends = sym (end_of (n + n + 1) n);
   linked = λ p there. ⊎_elim
@@ -25,12 +25,12 @@ begins n = record {
   tallied = λ e lt. let a = zeros (n + n + 1) e n (omega arith) in omega arith;
 }
   where
-    seats : (j : ℕ) (v : View) → get_elem? (polling n ∷ []) j ≡ some v → RoleOk n (replicate (n + n + 1) 0 ++ n ∷ []) n [] 0 j v.role × (j ≢ 0 → (e : ℕ) → unmarks e v.steps ≡ 0)
-    seats zero v e = subst (λ (u : View). RoleOk n (replicate (n + n + 1) 0 ++ n ∷ []) n [] 0 0 u.role × (zero ≢ 0 → (x : ℕ) → unmarks x u.steps ≡ 0)) (some-injective (polling n) v e) ((refl, refl, (let a : n ≤ n = omega arith in a)), λ ne. absurd (ne refl))
+    seats : (j : ℕ) (v : View) → get_elem? (first_poller n ∷ []) j ≡ some v → FitsRole n (replicate (n + n + 1) 0 ++ n ∷ []) n [] 0 j v.role × (j ≢ 0 → (e : ℕ) → unmarks e v.steps ≡ 0)
+    seats zero v e = subst (λ (u : View). FitsRole n (replicate (n + n + 1) 0 ++ n ∷ []) n [] 0 0 u.role × (zero ≢ 0 → (x : ℕ) → unmarks x u.steps ≡ 0)) (some-injective (first_poller n) v e) ((refl, refl, (let a : n ≤ n = omega arith in a)), λ ne. absurd (ne refl))
     seats (suc j) v e = absurd (some-ne-none v (sym e))
 
-pub begins_at : (n : ℕ) (words : List ℕ) → words ≡ replicate (n + n + 1) 0 ++ n ∷ [] → Held n record { words = words; homes = []; views = polling n ∷ [] }
-begins_at n words is = (n, [], 0, subst (λ (ws : List ℕ). KeepsRow n n [] 0 ws (polling n ∷ [])) (sym is) (begins n))
+pub begins_at : (n : ℕ) (words : List ℕ) → words ≡ replicate (n + n + 1) 0 ++ n ∷ [] → HoldsRow n record { words = words; homes = []; views = first_poller n ∷ [] }
+begins_at n words is = (n, [], 0, subst (λ (ws : List ℕ). KeepsRow n n [] 0 ws (first_poller n ∷ [])) (sym is) (list_begins n))
 
 pub first_wide : (n : ℕ) (words : List ℕ) → words ≡ replicate (n + n + 1) 0 ++ n ∷ [] → length words ≡ n + n + 2
-first_wide n words is = ap (λ (l : List ℕ). length l) is ∙ (begins n).wide
+first_wide n words is = ap (λ (l : List ℕ). length l) is ∙ (list_begins n).wide

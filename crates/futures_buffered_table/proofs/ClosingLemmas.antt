@@ -3,7 +3,7 @@ use Rattle.std.proofs.Common.{◌≡◌, ℕ, zero, suc, ◌+◌, ◌≤◌, Lis
 use mathlib.Core.Bool.{not}
 use mathlib.Core.Option.{some, some-injective, some-ne-none}
 use lib.ListN.{get_elem?}
-use Rattle.futures_buffered_table.specs.declared.view.Made.{Made}
+use Rattle.futures_buffered_table.specs.declared.view.AtomicStep.{AtomicStep}
 use Rattle.futures_buffered_table.specs.Seats.{Waker}
 use Rattle.futures_buffered_table.specs.declared.answer.Woke.{Woke}
 use Rattle.futures_buffered_table.specs.declared.answer.Woke.TheVariants.{Fresh, Already}
@@ -19,32 +19,32 @@ first_of P all x xs is every = (subst (All P) is every) 0 x (omega arith)
 pub others_of : {X : Type 0} (P : X → Type 0) (all : List X) (x : X) (xs : List X) → all ≡ x ∷ xs → All P all → All P xs
 others_of P all x xs is every = λ k d lt. (subst (All P) is every) (suc k) d (omega arith)
 
-pub joined_on : (mine now whole : List Made) (left : List Waker) (s : Waker) (rest : List Waker) → left ≡ s ∷ rest → now ≡ mine ++ s.steps → mine ++ steps_of left ≡ whole → now ++ steps_of rest ≡ whole
+pub joined_on : (mine now whole : List AtomicStep) (left : List Waker) (s : Waker) (rest : List Waker) → left ≡ s ∷ rest → now ≡ mine ++ s.steps → mine ++ steps_of left ≡ whole → now ++ steps_of rest ≡ whole
 joined_on mine now whole left s rest is join so_far = ap (λ l. l ++ steps_of rest) join ∙ (append_assoc mine s.steps (steps_of rest) ∙ (ap (λ l. mine ++ steps_of l) (sym is) ∙ so_far))
 
-pub joined_all : (mine whole : List Made) (left : List Waker) → left ≡ [] → mine ++ steps_of left ≡ whole → mine ≡ whole
+pub joined_all : (mine whole : List AtomicStep) (left : List Waker) → left ≡ [] → mine ++ steps_of left ≡ whole → mine ≡ whole
 joined_all mine whole left none so_far = sym (append-nil mine) ∙ (ap (λ l. mine ++ steps_of l) (sym none) ∙ so_far)
 
 pub empty_of : {X : Type 0} (xs : List X) → length xs ≡ 0 → xs ≡ []
 empty_of [] is = refl
 empty_of (x ∷ xs) is = absurd (omega arith)
 
-pub unmarks-append : (e : ℕ) (a b : List Made) → unmarks e (a ++ b) ≡ unmarks e a + unmarks e b
+pub unmarks-append : (e : ℕ) (a b : List AtomicStep) → unmarks e (a ++ b) ≡ unmarks e a + unmarks e b
 unmarks-append e a b = total-append (is_unmark e) a b
 
-pub wins-append : (e : ℕ) (a b : List Made) → wins e (a ++ b) ≡ wins e a + wins e b
+pub wins-append : (e : ℕ) (a b : List AtomicStep) → wins e (a ++ b) ≡ wins e a + wins e b
 wins-append e a b = total-append (is_win e) a b
 
 -- a wake unmarks nothing
-pub no_unmark : (e i : ℕ) (shape : List Made) (woke : Woke) → IsWake i shape woke → unmarks e shape ≡ 0
+pub no_unmark : (e i : ℕ) (shape : List AtomicStep) (woke : Woke) → IsWake i shape woke → unmarks e shape ≡ 0
 no_unmark e i shape Already is = ap (unmarks e) is
 no_unmark e i shape Fresh is = ap (unmarks e) is.1
 
 -- where the wake seats unmarked nothing, all that was won by them was unmarked by the poller, or is marked
-pub handed_in : (e : ℕ) (poll all : List Made) (seats : List Waker) (left : ℕ) → all ≡ poll ++ steps_of seats → unmarks e all ≡ unmarks e poll → wins e all ≤ unmarks e all + left → wins e (steps_of seats) ≤ unmarks e poll + left
+pub handed_in : (e : ℕ) (poll all : List AtomicStep) (seats : List Waker) (left : ℕ) → all ≡ poll ++ steps_of seats → unmarks e all ≡ unmarks e poll → wins e all ≤ unmarks e all + left → wins e (steps_of seats) ≤ unmarks e poll + left
 handed_in e poll all seats left is same le = let a = wins-append e poll (steps_of seats) in let b : wins e all ≡ wins e (poll ++ steps_of seats) = ap (wins e) is in omega arith
 
-pub none_more : (e : ℕ) (steps : List Made) (m : Made) → is_unmark e m ≡ 0 → unmarks e steps ≡ 0 → unmarks e (steps ++ m ∷ []) ≡ 0
+pub none_more : (e : ℕ) (steps : List AtomicStep) (m : AtomicStep) → is_unmark e m ≡ 0 → unmarks e steps ≡ 0 → unmarks e (steps ++ m ∷ []) ≡ 0
 none_more e steps m last_entry so_far = unmarks-append e steps (m ∷ []) ∙ omega arith
 
 pub word_is : (items : List ℕ) (i r : ℕ) → get_elem? items i ≡ some r → get_or items i 0 ≡ r

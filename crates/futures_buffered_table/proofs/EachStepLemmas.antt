@@ -3,15 +3,15 @@ use Rattle.std.proofs.Common.{◌≡◌, ◌≢◌, ◌⊎◌, ℕ, suc, ◌+◌
 use mathlib.Core.Option.{some}
 use lib.ListN.{get_elem?}
 use Rattle.atomic_table.proofs.Lists.{at_set}
-use Rattle.futures_buffered_table.specs.declared.view.Made.{Made}
+use Rattle.futures_buffered_table.specs.declared.view.AtomicStep.{AtomicStep}
 use Rattle.futures_buffered_table.specs.declared.view.Phase.{Phase}
 use Rattle.futures_buffered_table.specs.declared.view.Phase.TheVariants.{Start, AtStub, Moved, NoNext, Last, StubCleared, StubPut, StubLinked, InHand}
 use Rattle.futures_buffered_table.specs.declared.view.Role.{Role}
 use Rattle.futures_buffered_table.specs.declared.view.Role.TheVariants.{Idle, Won, Cleared, Swapped, Polls}
 use Rattle.futures_buffered_table.specs.declared.view.View.{View}
 use Rattle.futures_buffered_table.specs.OneStep.{tail_at}
-use Rattle.futures_buffered_table.specs.Row.{total, same, times, next, last_entry, owed_by, owed, mark, link, tail, Linked}
-use Rattle.futures_buffered_table.specs.RowInvariant.{out_by, out, PhaseOk, RoleOk, KeepsRow}
+use Rattle.futures_buffered_table.specs.Row.{total, same, times, next, last_entry, owed_by, owed, mark, link, tail, IsLinked}
+use Rattle.futures_buffered_table.specs.RowInvariant.{outside_by, outside, FitsPhase, FitsRole, KeepsRow}
 use Rattle.futures_buffered_table.specs.Tally.{is_win, is_unmark, unmarks}
 use Rattle.futures_buffered_table.proofs.SumsLemmas.{total-append, total_set, total_at, same_here, same_else, same_cases, times_snoc}
 use Rattle.futures_buffered_table.proofs.RowsLemmas.{next_later, next_absent, last_in, last_snoc, next_last, next_put, next_kept, next_stays}
@@ -22,9 +22,9 @@ one i = omega (arith, same_here i)
 -- what a seat knows stays true where the links that it cleared stay clear, the gap that it made stays, and the head too
 module _ (n : ℕ) (words now : List ℕ) (h : ℕ) (rest : List ℕ) (h' : ℕ) (rest' : List ℕ) where
   phase_moves : (phase : Phase) (head : ℕ)
-      → ((i : ℕ) → i ≤ n → 0 < out_by n i (Polls head phase) → link n words i ≡ 0 → link n now i ≡ 0)
+      → ((i : ℕ) → i ≤ n → 0 < outside_by n i (Polls head phase) → link n words i ≡ 0 → link n now i ≡ 0)
       → ((p i : ℕ) → 0 < owed_by p (Polls head phase) → next p h rest ≡ suc i → next p h' rest' ≡ suc i)
-      → h ≡ h' → length rest ≤ length rest' → PhaseOk n words h rest phase → PhaseOk n now h' rest' phase
+      → h ≡ h' → length rest ≤ length rest' → FitsPhase n words h rest phase → FitsPhase n now h' rest' phase
   phase_moves Start head f g e more ok = omega arith
   phase_moves AtStub head f g e more ok = sym e ∙ ok
   phase_moves Moved head f g e more ok = omega arith
@@ -36,9 +36,9 @@ module _ (n : ℕ) (words now : List ℕ) (h : ℕ) (rest : List ℕ) (h' : ℕ)
   phase_moves (InHand i) head f g e more ok = (omega arith, ok.1)
 
   pub role_moves : (poller j : ℕ) (role : Role)
-      → ((i : ℕ) → i ≤ n → 0 < out_by n i role → link n words i ≡ 0 → link n now i ≡ 0)
+      → ((i : ℕ) → i ≤ n → 0 < outside_by n i role → link n words i ≡ 0 → link n now i ≡ 0)
       → ((p i : ℕ) → 0 < owed_by p role → next p h rest ≡ suc i → next p h' rest' ≡ suc i)
-      → (j ≡ poller → (h ≡ h') × (length rest ≤ length rest')) → RoleOk n words h rest poller j role → RoleOk n now h' rest' poller j role
+      → (j ≡ poller → (h ≡ h') × (length rest ≤ length rest')) → FitsRole n words h rest poller j role → FitsRole n now h' rest' poller j role
   role_moves poller j Idle f g k ok = tt
   role_moves poller j (Won i) f g k ok = ok
   role_moves poller j (Cleared i) f g k ok = (ok.0, f i (let a = ok.0 in omega arith) (one i) ok.1)
@@ -47,39 +47,39 @@ module _ (n : ℕ) (words now : List ℕ) (h : ℕ) (rest : List ℕ) (h' : ℕ)
 
 -- the seat id, with the view v, makes the step m and then has the view w
 module _ (n h : ℕ) (rest : List ℕ) (poller : ℕ) (words : List ℕ) (views : List View) (R : KeepsRow n h rest poller words views)
-    (id : ℕ) (v w : View) (m : Made) (at : get_elem? views id ≡ some v) (ws : w.steps ≡ v.steps ++ m ∷ []) (by_poller : id ≢ poller → (e : ℕ) → is_unmark e m ≡ 0) where
+    (id : ℕ) (v w : View) (m : AtomicStep) (at : get_elem? views id ≡ some v) (ws : w.steps ≡ v.steps ++ m ∷ []) (by_poller : id ≢ poller → (e : ℕ) → is_unmark e m ≡ 0) where
   abbrev seen : List View
   seen = set views id w
 
   owed_now : (p : ℕ) → owed seen p + owed_by p v.role ≡ owed views p + owed_by p w.role
   owed_now p = total_set (λ (u : View). owed_by p u.role) views id v w at
 
-  out_now : (e : ℕ) → out n seen e + out_by n e v.role ≡ out n views e + out_by n e w.role
-  out_now e = total_set (λ (u : View). out_by n e u.role) views id v w at
+  out_now : (e : ℕ) → outside n seen e + outside_by n e v.role ≡ outside n views e + outside_by n e w.role
+  out_now e = total_set (λ (u : View). outside_by n e u.role) views id v w at
 
-  once : (e : ℕ) → e ≤ n → times e (h ∷ rest) + out n views e ≤ 1
-  once e le = ⊎_elim (λ (lt : e < n). let a = R.whereabouts e lt in omega arith) (λ (is : e ≡ n). subst (λ (x : ℕ). times x (h ∷ rest) + out n views x ≤ 1) (sym is) R.stub_once) (split e le)
+  once : (e : ℕ) → e ≤ n → times e (h ∷ rest) + outside n views e ≤ 1
+  once e le = ⊎_elim (λ (lt : e < n). let a = R.whereabouts e lt in omega arith) (λ (is : e ≡ n). subst (λ (x : ℕ). times x (h ∷ rest) + outside n views x ≤ 1) (sym is) R.stub_once) (split e le)
     where
       split : (e : ℕ) → e ≤ n → (e < n) ⊎ (e ≡ n)
       split e le = grind arith
 
-  counted : (f : Made → ℕ) → total (λ (u : View). total f u.steps) seen ≡ total (λ (u : View). total f u.steps) views + f m
+  counted : (f : AtomicStep → ℕ) → total (λ (u : View). total f u.steps) seen ≡ total (λ (u : View). total f u.steps) views + f m
   counted f =
       let a = total_set (λ (u : View). total f u.steps) views id v w at in
       let b : total f w.steps ≡ total f v.steps + (f m + 0) = ap (total f) ws ∙ total-append f v.steps (m ∷ []) in omega arith
 
   seats_now : (now : List ℕ) (h' : ℕ) (rest' : List ℕ)
-      → ((i : ℕ) → i ≤ n → 0 < out n views i → link n words i ≡ 0 → link n now i ≡ 0)
+      → ((i : ℕ) → i ≤ n → 0 < outside n views i → link n words i ≡ 0 → link n now i ≡ 0)
       → ((p i : ℕ) → 0 < owed views p → next p h rest ≡ suc i → next p h' rest' ≡ suc i)
       → (id ≢ poller → (h ≡ h') × (length rest ≤ length rest'))
-      → RoleOk n now h' rest' poller id w.role
-      → (j : ℕ) (u : View) → get_elem? seen j ≡ some u → RoleOk n now h' rest' poller j u.role × (j ≢ poller → (e : ℕ) → unmarks e u.steps ≡ 0)
+      → FitsRole n now h' rest' poller id w.role
+      → (j : ℕ) (u : View) → get_elem? seen j ≡ some u → FitsRole n now h' rest' poller j u.role × (j ≢ poller → (e : ℕ) → unmarks e u.steps ≡ 0)
   seats_now now h' rest' f g k mine j u e = ⊎_elim
-      (λ (t : (j ≡ id) × (w ≡ u)). subst (λ (y : ℕ × View). RoleOk n now h' rest' poller y.0 y.1.role × (y.0 ≢ poller → (x : ℕ) → unmarks x y.1.steps ≡ 0)) (λ i. (sym t.0 i, t.1 i))
+      (λ (t : (j ≡ id) × (w ≡ u)). subst (λ (y : ℕ × View). FitsRole n now h' rest' poller y.0 y.1.role × (y.0 ≢ poller → (x : ℕ) → unmarks x y.1.steps ≡ 0)) (λ i. (sym t.0 i, t.1 i))
       (mine, λ ne x. ap (unmarks x) ws ∙ (let a = (R.seats id v at).1 ne x in let b = by_poller ne x in omega (arith, total-append (is_unmark x) v.steps (m ∷ [])))))
       (λ (t : (j ≢ id) × (get_elem? views j ≡ some u)). let was = R.seats j u t.1 in (
         role_moves n words now h rest h' rest' poller j u.role
-            (λ i le some_out. f i le (let a = total_at (λ (y : View). out_by n i y.role) views j u t.1 in omega arith))
+            (λ i le some_out. f i le (let a = total_at (λ (y : View). outside_by n i y.role) views j u t.1 in omega arith))
             (λ p i some_owed. g p i (let a = total_at (λ (y : View). owed_by p y.role) views j u t.1 in omega arith))
             (λ is. k (λ same_seat. t.0 (is ∙ sym same_seat))) was.0,
         was.1,
@@ -87,13 +87,13 @@ module _ (n h : ℕ) (rest : List ℕ) (poller : ℕ) (words : List ℕ) (views 
       (at_set views id j w u e)
 
   -- nothing changes but the role
-  pub quiet : ((e : ℕ) → out_by n e w.role ≡ out_by n e v.role) → ((p : ℕ) → owed_by p w.role ≡ owed_by p v.role)
-      → ((e : ℕ) → is_win e m ≡ 0) → ((e : ℕ) → is_unmark e m ≡ 0) → RoleOk n words h rest poller id w.role
+  pub quiet : ((e : ℕ) → outside_by n e w.role ≡ outside_by n e v.role) → ((p : ℕ) → owed_by p w.role ≡ owed_by p v.role)
+      → ((e : ℕ) → is_win e m ≡ 0) → ((e : ℕ) → is_unmark e m ≡ 0) → FitsRole n words h rest poller id w.role
       → KeepsRow n h rest poller words seen
   quiet same_out same_owed no_win no_unmark mine = record {
     wide = R.wide;
     ends = R.ends;
-    linked = λ p some_p. subst (λ (o : ℕ). (p ≤ n) × Linked (next p h rest) (link n words p) o) (let a = owed_now p in let b = same_owed p in omega arith) (R.linked p some_p);
+    linked = λ p some_p. subst (λ (o : ℕ). (p ≤ n) × IsLinked (next p h rest) (link n words p) o) (let a = owed_now p in let b = same_owed p in omega arith) (R.linked p some_p);
     unowed = λ p none. let a = owed_now p in let b = same_owed p in let c = R.unowed p none in omega arith;
     whereabouts = λ e lt. let a = out_now e in let b = same_out e in let c = R.whereabouts e lt in (omega arith, c.1);
     stub_once = let a = out_now n in let b = same_out n in let c = R.stub_once in omega arith;
@@ -102,14 +102,14 @@ module _ (n h : ℕ) (rest : List ℕ) (poller : ℕ) (words : List ℕ) (views 
   }
 
   -- the poller found itself at the last entry, so the stub is out of the row, and the poller has it then
-  pub takes_stub : times n (h ∷ rest) ≡ 0 → out n views n ≡ 0
-      → ((e : ℕ) → out_by n e v.role ≡ 0) → ((e : ℕ) → out_by n e w.role ≡ same e n) → ((p : ℕ) → owed_by p w.role ≡ owed_by p v.role)
-      → ((e : ℕ) → is_win e m ≡ 0) → ((e : ℕ) → is_unmark e m ≡ 0) → RoleOk n words h rest poller id w.role
+  pub takes_stub : times n (h ∷ rest) ≡ 0 → outside n views n ≡ 0
+      → ((e : ℕ) → outside_by n e v.role ≡ 0) → ((e : ℕ) → outside_by n e w.role ≡ same e n) → ((p : ℕ) → owed_by p w.role ≡ owed_by p v.role)
+      → ((e : ℕ) → is_win e m ≡ 0) → ((e : ℕ) → is_unmark e m ≡ 0) → FitsRole n words h rest poller id w.role
       → KeepsRow n h rest poller words seen
   takes_stub free alone old_out new_out same_owed no_win no_unmark mine = record {
     wide = R.wide;
     ends = R.ends;
-    linked = λ p some_p. subst (λ (o : ℕ). (p ≤ n) × Linked (next p h rest) (link n words p) o) (let a = owed_now p in let b = same_owed p in omega arith) (R.linked p some_p);
+    linked = λ p some_p. subst (λ (o : ℕ). (p ≤ n) × IsLinked (next p h rest) (link n words p) o) (let a = owed_now p in let b = same_owed p in omega arith) (R.linked p some_p);
     unowed = λ p none. let a = owed_now p in let b = same_owed p in let c = R.unowed p none in omega arith;
     whereabouts = λ e lt. let a = out_now e in let b = old_out e in let b' = new_out e in let c = R.whereabouts e lt in let d = same_else e n (λ z. omega arith) in (omega arith, c.1);
     stub_once = let a = out_now n in let b = old_out n in let b' = new_out n in let c = same_here n in omega arith;
@@ -129,8 +129,8 @@ module _ (n h : ℕ) (rest : List ℕ) (poller : ℕ) (words : List ℕ) (views 
 
   -- a seat wins the mark of a slot that was idle
   pub wins_mark : (i : ℕ) → i < n → mark words i ≡ 0
-      → ((e : ℕ) → out_by n e w.role ≡ out_by n e v.role + same e i) → ((p : ℕ) → owed_by p w.role ≡ owed_by p v.role)
-      → ((e : ℕ) → is_win e m ≡ same e i) → ((e : ℕ) → is_unmark e m ≡ 0) → RoleOk n words h rest poller id w.role
+      → ((e : ℕ) → outside_by n e w.role ≡ outside_by n e v.role + same e i) → ((p : ℕ) → owed_by p w.role ≡ owed_by p v.role)
+      → ((e : ℕ) → is_win e m ≡ same e i) → ((e : ℕ) → is_unmark e m ≡ 0) → FitsRole n words h rest poller id w.role
       → KeepsRow n h rest poller (set words i 1) seen
   wins_mark i lt clear new_out same_owed a_win no_unmark mine =
       let room : i < n + n + 2 = omega arith in
@@ -138,7 +138,7 @@ module _ (n h : ℕ) (rest : List ℕ) (poller : ℕ) (words : List ℕ) (views 
       record {
         wide = still_wide i 1 room;
         ends = R.ends ∙ sym (off_i i 1 room (tail_at n) (λ z. omega arith));
-        linked = λ p some_p. subst (λ (z : ℕ × ℕ). (p ≤ n) × Linked (next p h rest) z.0 z.1) (λ k. (sym (links p) k, (let q : owed views p ≡ owed seen p = let a = owed_now p in let b = same_owed p in omega arith in q) k)) (R.linked p some_p);
+        linked = λ p some_p. subst (λ (z : ℕ × ℕ). (p ≤ n) × IsLinked (next p h rest) z.0 z.1) (λ k. (sym (links p) k, (let q : owed views p ≡ owed seen p = let a = owed_now p in let b = same_owed p in omega arith in q) k)) (R.linked p some_p);
         unowed = λ p none. let a = owed_now p in let b = same_owed p in let c = R.unowed p none in omega arith;
         whereabouts = λ e lt'. ⊎_elim
             (λ (t : (e ≡ i) × (same e i ≡ 1)). let a = out_now e in let b = new_out e in let c = R.whereabouts e lt' in
@@ -156,13 +156,13 @@ module _ (n h : ℕ) (rest : List ℕ) (poller : ℕ) (words : List ℕ) (views 
 
   -- a seat clears the link of an entry outside the row
   pub clears : (i : ℕ) → i ≤ n
-      → ((e : ℕ) → out_by n e v.role ≡ same e i) → ((e : ℕ) → out_by n e w.role ≡ same e i) → ((p : ℕ) → owed_by p w.role ≡ owed_by p v.role)
-      → ((e : ℕ) → is_win e m ≡ 0) → ((e : ℕ) → is_unmark e m ≡ 0) → (link n (set words (n + i) 0) i ≡ 0 → RoleOk n (set words (n + i) 0) h rest poller id w.role)
+      → ((e : ℕ) → outside_by n e v.role ≡ same e i) → ((e : ℕ) → outside_by n e w.role ≡ same e i) → ((p : ℕ) → owed_by p w.role ≡ owed_by p v.role)
+      → ((e : ℕ) → is_win e m ≡ 0) → ((e : ℕ) → is_unmark e m ≡ 0) → (link n (set words (n + i) 0) i ≡ 0 → FitsRole n (set words (n + i) 0) h rest poller id w.role)
       → KeepsRow n h rest poller (set words (n + i) 0) seen
   clears i le old_out new_out same_owed no_win no_unmark mine =
       let room : n + i < n + n + 2 = omega arith in
       let now : List ℕ = set words (n + i) 0 in
-      let outside : times i (h ∷ rest) ≡ 0 = let a = once i le in let b = total_at (λ (u : View). out_by n i u.role) views id v at in let c = old_out i in let d = same_here i in omega arith in
+      let absent : times i (h ∷ rest) ≡ 0 = let a = once i le in let b = total_at (λ (u : View). outside_by n i u.role) views id v at in let c = old_out i in let d = same_here i in omega arith in
       let links : (p : ℕ) → p ≢ i → link n now p ≡ link n words p = λ p ne. off_i (n + i) 0 room (n + p) (λ z. ne (omega arith)) in
       let marks : (e : ℕ) → e < n → mark now e ≡ mark words e = λ e lt. off_i (n + i) 0 room e (λ z. omega arith) in
       let zeros : (p : ℕ) → link n words p ≡ 0 → link n now p ≡ 0 = λ p z. ⊎_elim (λ (t : (p ≡ i) × (same p i ≡ 1)). ap (link n now) t.0 ∙ at_i (n + i) 0 room) (λ (t : (p ≢ i) × (same p i ≡ 0)). links p t.0 ∙ z) (same_cases p i) in
@@ -170,7 +170,7 @@ module _ (n h : ℕ) (rest : List ℕ) (poller : ℕ) (words : List ℕ) (views 
         wide = still_wide (n + i) 0 room;
         ends = R.ends ∙ sym (off_i (n + i) 0 room (tail_at n) (λ z. omega arith));
         linked = λ p some_p. let ne : p ≢ i = λ is. let a : times i (h ∷ rest) ≡ times p (h ∷ rest) = ap (λ (q : ℕ). times q (h ∷ rest)) (sym is) in omega arith in
-            subst (λ (z : ℕ × ℕ). (p ≤ n) × Linked (next p h rest) z.0 z.1) (λ k. (sym (links p ne) k, (let q : owed views p ≡ owed seen p = let a = owed_now p in let b = same_owed p in omega arith in q) k)) (R.linked p some_p);
+            subst (λ (z : ℕ × ℕ). (p ≤ n) × IsLinked (next p h rest) z.0 z.1) (λ k. (sym (links p ne) k, (let q : owed views p ≡ owed seen p = let a = owed_now p in let b = same_owed p in omega arith in q) k)) (R.linked p some_p);
         unowed = λ p none. let a = owed_now p in let b = same_owed p in let c = R.unowed p none in omega arith;
         whereabouts = λ e lt. let a = out_now e in let b = old_out e in let b' = new_out e in let c = R.whereabouts e lt in let d = marks e lt in (omega arith, omega arith);
         stub_once = let a = out_now n in let b = old_out n in let b' = new_out n in let c = R.stub_once in omega arith;
@@ -180,10 +180,10 @@ module _ (n h : ℕ) (rest : List ℕ) (poller : ℕ) (words : List ℕ) (views 
 
   -- a seat puts its entry in at the end of the row, by a swap of the tail
   pub puts_in : (i : ℕ) → i ≤ n → link n words i ≡ 0
-      → ((e : ℕ) → out_by n e v.role ≡ same e i) → ((e : ℕ) → out_by n e w.role ≡ 0)
+      → ((e : ℕ) → outside_by n e v.role ≡ same e i) → ((e : ℕ) → outside_by n e w.role ≡ 0)
       → ((p : ℕ) → owed_by p v.role ≡ 0) → ((p : ℕ) → owed_by p w.role ≡ same p (tail n words))
       → ((e : ℕ) → is_win e m ≡ 0) → ((e : ℕ) → is_unmark e m ≡ 0)
-      → (tail n words ≤ n → next (tail n words) h (rest ++ i ∷ []) ≡ suc i → RoleOk n (set words (tail_at n) i) h (rest ++ i ∷ []) poller id w.role)
+      → (tail n words ≤ n → next (tail n words) h (rest ++ i ∷ []) ≡ suc i → FitsRole n (set words (tail_at n) i) h (rest ++ i ∷ []) poller id w.role)
       → KeepsRow n h (rest ++ i ∷ []) poller (set words (tail_at n) i) seen
   puts_in i le clear old_out new_out old_owed new_owed no_win no_unmark mine =
       let room : tail_at n < n + n + 2 = omega arith in
@@ -195,7 +195,7 @@ module _ (n h : ℕ) (rest : List ℕ) (poller : ℕ) (words : List ℕ) (views 
       let one_last : times l (h ∷ rest) ≤ 1 = let a = once l at_last.0 in omega arith in
       let behind : next l h (rest ++ i ∷ []) ≡ suc i = next_put l h rest i is_last one_last in
       let none_behind : next l h rest ≡ 0 = next_last l h rest is_last one_last in
-      let outside : times i (h ∷ rest) ≡ 0 = let a = once i le in let b = total_at (λ (u : View). out_by n i u.role) views id v at in let c = old_out i in let d = same_here i in omega arith in
+      let absent : times i (h ∷ rest) ≡ 0 = let a = once i le in let b = total_at (λ (u : View). outside_by n i u.role) views id v at in let c = old_out i in let d = same_here i in omega arith in
       let apart : l ≢ i = λ is. let a : times i (h ∷ rest) ≡ times l (h ∷ rest) = ap (λ (q : ℕ). times q (h ∷ rest)) (sym is) in omega arith in
       let links : (p : ℕ) → p ≤ n → link n now p ≡ link n words p = λ p lt. off_i (tail_at n) i room (n + p) (λ z. omega arith) in
       let marks : (e : ℕ) → e < n → mark now e ≡ mark words e = λ e lt. off_i (tail_at n) i room e (λ z. omega arith) in
@@ -205,7 +205,7 @@ module _ (n h : ℕ) (rest : List ℕ) (poller : ℕ) (words : List ℕ) (views 
         ends = last_snoc h rest i ∙ sym (at_i (tail_at n) i room);
         linked = λ p some_p. ⊎_elim
             (λ (t : (p ≡ i) × (same p i ≡ 1)).
-            let gone : times p (h ∷ rest) ≡ 0 = ap (λ (q : ℕ). times q (h ∷ rest)) t.0 ∙ outside in
+            let gone : times p (h ∷ rest) ≡ 0 = ap (λ (q : ℕ). times q (h ∷ rest)) t.0 ∙ absent in
             let le' : p ≤ n = omega arith in
             let ne : p ≢ last_entry h rest = λ is. apart (is_last ∙ (sym is ∙ t.0)) in
             let none : next p h (rest ++ i ∷ []) ≡ 0 = next_kept p h rest i ne ∙ next_absent p h rest gone in
@@ -244,10 +244,10 @@ module _ (n h : ℕ) (rest : List ℕ) (poller : ℕ) (words : List ℕ) (views 
 
   -- a seat writes the link that it owes
   pub links_up : (i p : ℕ) → i ≤ n → p ≤ n → next p h rest ≡ suc i
-      → ((e : ℕ) → out_by n e v.role ≡ 0) → ((e : ℕ) → out_by n e w.role ≡ 0)
+      → ((e : ℕ) → outside_by n e v.role ≡ 0) → ((e : ℕ) → outside_by n e w.role ≡ 0)
       → ((q : ℕ) → owed_by q v.role ≡ same q p) → ((q : ℕ) → owed_by q w.role ≡ 0)
       → ((e : ℕ) → is_win e m ≡ 0) → ((e : ℕ) → is_unmark e m ≡ 0)
-      → RoleOk n (set words (n + p) (suc i)) h rest poller id w.role
+      → FitsRole n (set words (n + p) (suc i)) h rest poller id w.role
       → KeepsRow n h rest poller (set words (n + p) (suc i)) seen
   links_up i p le lep follows old_out new_out old_owed new_owed no_win no_unmark mine =
       let room : n + p < n + n + 2 = omega arith in
@@ -270,7 +270,7 @@ module _ (n h : ℕ) (rest : List ℕ) (poller : ℕ) (words : List ℕ) (views 
                     (λ (y : (link n words q ≡ 0) × (owed views q ≡ 1) × (0 < next q h rest)). let d = y.1 in omega arith) was.1,
               ),
             ))
-            (λ (t : (q ≢ p) × (same q p ≡ 0)). (was.0, subst (λ (z : ℕ × ℕ). Linked (next q h rest) z.0 z.1) (λ k. (sym (links q t.0) k, (let o : owed views q ≡ owed seen q = omega arith in o) k)) was.1))
+            (λ (t : (q ≢ p) × (same q p ≡ 0)). (was.0, subst (λ (z : ℕ × ℕ). IsLinked (next q h rest) z.0 z.1) (λ k. (sym (links q t.0) k, (let o : owed views q ≡ owed seen q = omega arith in o) k)) was.1))
             (same_cases q p);
         unowed = λ q none. let a = owed_now q in let b = old_owed q in let c = new_owed q in let d = R.unowed q none in omega arith;
         whereabouts = λ e lt. let a = out_now e in let b = old_out e in let b' = new_out e in let c = R.whereabouts e lt in let d = marks e lt in (omega arith, omega arith);
@@ -287,8 +287,8 @@ module _ (n h : ℕ) (rest : List ℕ) (poller : ℕ) (words : List ℕ) (views 
 
   -- the poller takes a slot out of its hand: the slot is idle again
   pub unmarks_slot : (i : ℕ) → i < n
-      → ((e : ℕ) → out_by n e v.role ≡ same e i) → ((e : ℕ) → out_by n e w.role ≡ 0) → ((p : ℕ) → owed_by p w.role ≡ owed_by p v.role)
-      → ((e : ℕ) → is_win e m ≡ 0) → ((e : ℕ) → is_unmark e m ≡ same e i) → RoleOk n words h rest poller id w.role
+      → ((e : ℕ) → outside_by n e v.role ≡ same e i) → ((e : ℕ) → outside_by n e w.role ≡ 0) → ((p : ℕ) → owed_by p w.role ≡ owed_by p v.role)
+      → ((e : ℕ) → is_win e m ≡ 0) → ((e : ℕ) → is_unmark e m ≡ same e i) → FitsRole n words h rest poller id w.role
       → KeepsRow n h rest poller (set words i 0) seen
   unmarks_slot i lt old_out new_out same_owed no_win an_unmark mine =
       let room : i < n + n + 2 = omega arith in
@@ -296,7 +296,7 @@ module _ (n h : ℕ) (rest : List ℕ) (poller : ℕ) (words : List ℕ) (views 
       record {
         wide = still_wide i 0 room;
         ends = R.ends ∙ sym (off_i i 0 room (tail_at n) (λ z. omega arith));
-        linked = λ p some_p. subst (λ (z : ℕ × ℕ). (p ≤ n) × Linked (next p h rest) z.0 z.1) (λ k. (sym (links p) k, (let q : owed views p ≡ owed seen p = let a = owed_now p in let b = same_owed p in omega arith in q) k)) (R.linked p some_p);
+        linked = λ p some_p. subst (λ (z : ℕ × ℕ). (p ≤ n) × IsLinked (next p h rest) z.0 z.1) (λ k. (sym (links p) k, (let q : owed views p ≡ owed seen p = let a = owed_now p in let b = same_owed p in omega arith in q) k)) (R.linked p some_p);
         unowed = λ p none. let a = owed_now p in let b = same_owed p in let c = R.unowed p none in omega arith;
         whereabouts = λ e lt'. let a = out_now e in let b = old_out e in let b' = new_out e in let c = R.whereabouts e lt' in ⊎_elim
             (λ (t : (e ≡ i) × (same e i ≡ 1)). let d : mark (set words i 0) e ≡ 0 = ap (mark (set words i 0)) t.0 ∙ at_i i 0 room in (omega arith, omega arith))
@@ -305,7 +305,7 @@ module _ (n h : ℕ) (rest : List ℕ) (poller : ℕ) (words : List ℕ) (views 
         stub_once = let a = out_now n in let b = old_out n in let b' = new_out n in let c = R.stub_once in let d = same_else n i (λ z. omega arith) in omega arith;
         seats = seats_now (set words i 0) h rest (λ i' _ _ z. links i' ∙ z) (λ p i' _ z. z) (λ _. (refl, omega arith))
             (role_moves n words (set words i 0) h rest h rest poller id w.role (λ i' _ _ z. links i' ∙ z) (λ p i' _ z. z) (λ _. (refl, omega arith)) mine);
-        tallied = λ e lt'. let a = counted (is_win e) in let b = counted (is_unmark e) in let c = R.tallied e lt' in let d = no_win e in let x = an_unmark e in let o = R.whereabouts e lt' in let p = total_at (λ (u : View). out_by n e u.role) views id v at in let q = old_out e in ⊎_elim
+        tallied = λ e lt'. let a = counted (is_win e) in let b = counted (is_unmark e) in let c = R.tallied e lt' in let d = no_win e in let x = an_unmark e in let o = R.whereabouts e lt' in let p = total_at (λ (u : View). outside_by n e u.role) views id v at in let q = old_out e in ⊎_elim
             (λ (t : (e ≡ i) × (same e i ≡ 1)). let d' : mark (set words i 0) e ≡ 0 = ap (mark (set words i 0)) t.0 ∙ at_i i 0 room in omega arith)
             (λ (t : (e ≢ i) × (same e i ≡ 0)). let d' = off_i i 0 room e t.0 in omega arith)
             (same_cases e i);
@@ -313,12 +313,12 @@ module _ (n h : ℕ) (rest : List ℕ) (poller : ℕ) (words : List ℕ) (views 
 
 -- the poller's head moves on to the entry that its link names; where it was a slot, the poller has it then
 module _ (n h q : ℕ) (rest : List ℕ) (poller : ℕ) (words : List ℕ) (views : List View) (R : KeepsRow n h (q ∷ rest) poller words views)
-    (v w : View) (m : Made) (at : get_elem? views poller ≡ some v) (ws : w.steps ≡ v.steps ++ m ∷ []) where
+    (v w : View) (m : AtomicStep) (at : get_elem? views poller ≡ some v) (ws : w.steps ≡ v.steps ++ m ∷ []) where
   pub goes_on : link n words h ≢ 0
-      → ((e : ℕ) → out_by n e v.role ≡ 0) → ((e : ℕ) → e < n → out_by n e w.role ≡ same e h) → out_by n n w.role ≡ 0
+      → ((e : ℕ) → outside_by n e v.role ≡ 0) → ((e : ℕ) → e < n → outside_by n e w.role ≡ same e h) → outside_by n n w.role ≡ 0
       → ((p : ℕ) → owed_by p v.role ≡ 0) → ((p : ℕ) → owed_by p w.role ≡ 0)
       → ((e : ℕ) → is_win e m ≡ 0) → ((e : ℕ) → is_unmark e m ≡ 0)
-      → (q ≤ n → q ≢ h → h ≤ n → RoleOk n words q rest poller poller w.role)
+      → (q ≤ n → q ≢ h → h ≤ n → FitsRole n words q rest poller poller w.role)
       → KeepsRow n q rest poller words (set views poller w)
   goes_on named old_out new_out new_out_stub old_owed new_owed no_win no_unmark mine =
       let by_poller : poller ≢ poller → (e : ℕ) → is_unmark e m ≡ 0 = λ ne. absurd (ne refl) in
@@ -336,7 +336,7 @@ module _ (n h q : ℕ) (rest : List ℕ) (poller : ℕ) (words : List ℕ) (view
         wide = R.wide;
         ends = R.ends;
         linked = λ p some_p. let was = R.linked p (omega arith) in let a = owed_is p in let b = old_owed p in let c = new_owed p in
-            (was.0, subst (λ (z : ℕ × ℕ). Linked z.0 (link n words p) z.1) (λ k. (next_later p h q rest (apart p some_p) k, (let o : owed views p ≡ owed (set views poller w) p = omega arith in o) k)) was.1);
+            (was.0, subst (λ (z : ℕ × ℕ). IsLinked z.0 (link n words p) z.1) (λ k. (next_later p h q rest (apart p some_p) k, (let o : owed views p ≡ owed (set views poller w) p = omega arith in o) k)) was.1);
         unowed = λ p none. let a = owed_is p in let b = old_owed p in let c = new_owed p in ⊎_elim
             (λ (t : (p ≡ h) × (same p h ≡ 1)). let d : owed views p ≡ owed views h = ap (owed views) t.0 in omega arith)
             (λ (t : (p ≢ h) × (same p h ≡ 0)). let d = R.unowed p (omega arith) in omega arith)

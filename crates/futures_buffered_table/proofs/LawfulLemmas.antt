@@ -6,7 +6,7 @@ use Rattle.std.specs.Prelude.{if◌then◌else◌, ◌==◌}
 use mathlib.Core.Option.{some, some-injective}
 use lib.ListN.{get_elem?}
 use Rattle.atomic_table.proofs.Lists.{at_set, set_else, set_here}
-use Rattle.futures_buffered_table.specs.declared.view.Made.{Made}
+use Rattle.futures_buffered_table.specs.declared.view.AtomicStep.{AtomicStep}
 use Rattle.futures_buffered_table.specs.declared.view.Phase.{Phase}
 use Rattle.futures_buffered_table.specs.declared.view.Phase.TheVariants.{Start, AtStub, Moved, NoNext, Last, StubCleared, StubPut, StubLinked, InHand}
 use Rattle.futures_buffered_table.specs.declared.view.Role.{Role}
@@ -17,45 +17,45 @@ use Rattle.futures_buffered_table.specs.declared.step.Step.{Step}
 use Rattle.futures_buffered_table.specs.declared.step.Step.TheVariants.{Mark, Go, Poll}
 use Rattle.futures_buffered_table.specs.declared.step.StepReply.{StepReply}
 use Rattle.futures_buffered_table.specs.declared.step.StepReply.TheVariants.{More, Woke, Taken}
-use Rattle.futures_buffered_table.specs.OneStep.{tail_at, touches, puts, role_after, view_after, reply_of}
+use Rattle.futures_buffered_table.specs.OneStep.{tail_at, word_of_role, put_by_role, next_role, next_view, reply_of_role}
 use Rattle.futures_buffered_table.specs.Row.{times, last_entry, owed_by, tail, link}
-use Rattle.futures_buffered_table.specs.RowInvariant.{RoleOk, KeepsRow}
-use Rattle.futures_buffered_table.proofs.KeepsLemmas.{Waits, gap}
-use Rattle.futures_buffered_table.proofs.FlowLemmas.{slots, put, in_hand, answer}
+use Rattle.futures_buffered_table.specs.RowInvariant.{FitsRole, KeepsRow}
+use Rattle.futures_buffered_table.proofs.KeepsLemmas.{SomeWakerStands, row_ends_or_waker_stands}
+use Rattle.futures_buffered_table.proofs.FlowLemmas.{row_slots, put_by, in_hand, answered_by}
 use Rattle.futures_buffered_table.specs.Views.{role_of}
-use Rattle.futures_buffered_table.specs.Schedule.{CanStep, seat_of, slot_of, Moment, at_start, view_at, found_at, goes, Legal, replies_of}
-use Rattle.futures_buffered_table.proofs.RunsLemmas.{Good, pending, here_at, role_there, step_on}
-use Rattle.futures_buffered_table.specs.Law.{Turn, Wake, wake_on, wake_of, put_by, put_in, slot_in, answered, WakerStands, IsUnderWay, WakerStood, AnswersInOrder, EmptyIsTrue, PauseHasCause, AfterEach}
+use Rattle.futures_buffered_table.specs.Schedule.{CanStep, seat_of, slot_of, Moment, at_start, view_at, found_at, after_step, Legal, replies_of}
+use Rattle.futures_buffered_table.proofs.RunsLemmas.{IsReachable, pending, here_at, role_there, step_reaches}
+use Rattle.futures_buffered_table.specs.Law.{Turn, Wake, wake_after, wake_of, put_in_by, put_in, slot_named, answered, WakerStands, IsUnderWay, WakerStood, AnswersInOrder, EmptyIsTrue, PauseHasCause, AfterEach}
 use Rattle.futures_buffered_table.proofs.SumsLemmas.{same_here}
 use Rattle.futures_buffered_table.proofs.RowsLemmas.{alone}
 use Rattle.futures_buffered_table.proofs.FlowingLemmas.{slots_stub}
 use Rattle.futures_buffered_table.proofs.LedOnLemmas.{index_low}
-use Rattle.futures_buffered_table.proofs.StartsLemmas.{starts, each}
+use Rattle.futures_buffered_table.proofs.StartsLemmas.{reachable_start, each}
 
 -- what a seat's role says of the wake that is told of it
-abbrev Shows : Wake → Role → Type 0
-Shows w Idle = Unit {0}
-Shows w (Won e) = (w.slot ≡ e) × (w.made ≡ 1)
-Shows w (Cleared e) = (w.slot ≡ e) × (w.made ≡ 2)
-Shows w (Swapped e p) = (w.slot ≡ e) × (w.made ≡ 3)
-Shows w (Polls h phase) = Unit {0}
+abbrev ShowsWake : Wake → Role → Type 0
+ShowsWake w Idle = Unit {0}
+ShowsWake w (Won e) = (w.slot ≡ e) × (w.made ≡ 1)
+ShowsWake w (Cleared e) = (w.slot ≡ e) × (w.made ≡ 2)
+ShowsWake w (Swapped e p) = (w.slot ≡ e) × (w.made ≡ 3)
+ShowsWake w (Polls h phase) = Unit {0}
 
 -- what is told of the taking under way; the tail is t
-abbrev Takes : List Turn → ℕ → ℕ → Phase → Type 0
-Takes past t h Start = Unit {0}
-Takes past t h AtStub = IsUnderWay past × (WakerStood past ⊎ (t ≡ h))
-Takes past t h NoNext = IsUnderWay past × (WakerStood past ⊎ (t ≡ h))
-Takes past t h _ = IsUnderWay past
+abbrev TellsPhase : List Turn → ℕ → ℕ → Phase → Type 0
+TellsPhase past t h Start = Unit {0}
+TellsPhase past t h AtStub = IsUnderWay past × (WakerStood past ⊎ (t ≡ h))
+TellsPhase past t h NoNext = IsUnderWay past × (WakerStood past ⊎ (t ≡ h))
+TellsPhase past t h _ = IsUnderWay past
 
 -- the same of what seat 64 does
-abbrev TakesAs : List Turn → ℕ → Role → Type 0
-TakesAs past t (Polls h phase) = Takes past t h phase
-TakesAs past t _ = Unit {0}
+abbrev TellsRole : List Turn → ℕ → Role → Type 0
+TellsRole past t (Polls h phase) = TellsPhase past t h phase
+TellsRole past t _ = Unit {0}
 
-record Tells (n : ℕ) (past : List Turn) (c : Moment) (good : Good n c) : Type 0 where
-  wakes : (seat : ℕ) → seat < 64 → (v : View) → get_elem? c.views seat ≡ some v → Shows (wake_of seat past) v.role
+record IsTold (n : ℕ) (past : List Turn) (c : Moment) (good : IsReachable n c) : Type 0 where
+  wakes : (seat : ℕ) → seat < 64 → (v : View) → get_elem? c.views seat ≡ some v → ShowsWake (wake_of seat past) v.role
   flow : put_in past ≡ answered past ++ pending n c good
-  takes : (v : View) → get_elem? c.views 64 ≡ some v → TakesAs past (tail n c.words) v.role
+  takes : (v : View) → get_elem? c.views 64 ≡ some v → TellsRole past (tail n c.words) v.role
 
 -- what a reply says of the history before it
 abbrev IsRight : StepReply → List Turn → Type 0
@@ -71,27 +71,27 @@ if_no : {X : Type 0} (b : Bool) (x y : X) → b ≡ false → (if b then x else 
 if_no true x y e = cc
 if_no false x y e = refl
 
-wake_same : (seat : ℕ) (e : Turn) (past : List Turn) → seat_of e.step ≡ seat → wake_of seat (e ∷ past) ≡ wake_on e.step e.reply (wake_of seat past)
+wake_same : (seat : ℕ) (e : Turn) (past : List Turn) → seat_of e.step ≡ seat → wake_of seat (e ∷ past) ≡ wake_after e.step e.reply (wake_of seat past)
 wake_same seat e past is = if_yes (seat_of e.step == seat) _ _ (grind (arith, nat_tests))
 
 wake_else : (seat : ℕ) (e : Turn) (past : List Turn) → seat_of e.step ≢ seat → wake_of seat (e ∷ past) ≡ wake_of seat past
 wake_else seat e past ne = if_no (seat_of e.step == seat) _ _ (grind (arith, nat_tests))
 
 -- a waker that stands so is told of
-told : (n : ℕ) (past : List Turn) (c : Moment) (good : Good n c) → Tells n past c good → Waits c.views → WakerStands past
-told n past c good tells waits =
+stands_told : (n : ℕ) (past : List Turn) (c : Moment) (good : IsReachable n c) → IsTold n past c good → SomeWakerStands c.views → WakerStands past
+stands_told n past c good tells waits =
     let j = waits.0 in let u = waits.1.2 in let at = waits.1.3 in let is = waits.1.4 in let polls = good.2.3 in
     let other : j ≢ 64 = λ z.
     let same_view = some-injective _ _ (sym at ∙ (ap (get_elem? c.views) z ∙ polls.2)) in
     let r : Swapped waits.1.0 waits.1.1 ≡ Polls good.2.0 polls.0 = sym is ∙ ap (λ (v : View). v.role) same_view in cc in
     let low : j < 64 = let a = index_low c.views j u at in let b = good.1 in grind arith in
-    (j, low, (subst (Shows (wake_of j past)) is (tells.wakes j low u at)).1)
+    (j, low, (subst (ShowsWake (wake_of j past)) is (tells.wakes j low u at)).1)
 
 abbrev event : (n : ℕ) (c : Moment) → Step → Turn
-event n c s = record { step = s; reply = reply_of n (view_at c s).role (found_at n c s) }
+event n c s = record { step = s; reply = reply_of_role n (view_at c s).role (found_at n c s) }
 
-abbrev Next : (n : ℕ) (past : List Turn) (c : Moment) (good : Good n c) → Step → Type 0
-Next n past c good s = IsRight (event n c s).reply past × ((on : Good n (goes n c s)) × Tells n (event n c s ∷ past) (goes n c s) on)
+abbrev StaysTold : (n : ℕ) (past : List Turn) (c : Moment) (good : IsReachable n c) → Step → Type 0
+StaysTold n past c good s = IsRight (event n c s).reply past × ((on : IsReachable n (after_step n c s)) × IsTold n (event n c s ∷ past) (after_step n c s) on)
 
 -- a wake's step
 abbrev IsPolls : Role → Type 0
@@ -103,7 +103,7 @@ MayMake (Mark seat slot) role = role ≡ Idle
 MayMake (Go seat) role = (role ≢ Idle) × (IsPolls role → ⊥)
 MayMake Poll role = ⊥
 
-shows_on : (n m : ℕ) (s : Step) (role : Role) (found : ℕ) (w : Wake) → MayMake s role → Shows w role → Shows (wake_on s (reply_of n role found) w) (role_after m (slot_of s) role found)
+shows_on : (n m : ℕ) (s : Step) (role : Role) (found : ℕ) (w : Wake) → MayMake s role → ShowsWake w role → ShowsWake (wake_after s (reply_of_role n role found) w) (next_role m (slot_of s) role found)
 shows_on n m (Mark seat slot) Idle zero w may shows = (refl, refl)
 shows_on n m (Mark seat slot) Idle (suc k) w may shows = tt
 shows_on n m (Mark seat slot) (Won e) found w may shows = absurd cc
@@ -117,7 +117,7 @@ shows_on n m (Go seat) (Swapped e p) found w may shows = tt
 shows_on n m (Go seat) (Polls h phase) found w may shows = absurd (may.1 tt)
 shows_on n m Poll role found w may shows = absurd may
 
-put_on : (n : ℕ) (s : Step) (role : Role) (found : ℕ) (w : Wake) → MayMake s role → Shows w role → put_by s (reply_of n role found) w ≡ put role
+put_on : (n : ℕ) (s : Step) (role : Role) (found : ℕ) (w : Wake) → MayMake s role → ShowsWake w role → put_in_by s (reply_of_role n role found) w ≡ put_by role
 put_on n (Mark seat slot) Idle zero w may shows = refl
 put_on n (Mark seat slot) Idle (suc k) w may shows = refl
 put_on n (Mark seat slot) (Won e) found w may shows = absurd cc
@@ -135,16 +135,16 @@ by_answer : (P : StepReply → Type 0) (b : Bool) (x y : StepReply) → P x → 
 by_answer P true x y a b = a
 by_answer P false x y a b = b
 
-slot_on : (n : ℕ) (role : Role) (found : ℕ) → slot_in (reply_of n role found) ≡ answer role
+slot_on : (n : ℕ) (role : Role) (found : ℕ) → slot_named (reply_of_role n role found) ≡ answered_by role
 slot_on n Idle zero = refl
 slot_on n Idle (suc k) = refl
 slot_on n (Won e) found = refl
 slot_on n (Cleared e) found = refl
 slot_on n (Swapped e p) found = refl
 slot_on n (Polls h Start) found = refl
-slot_on n (Polls h AtStub) found = by_answer (λ r. slot_in r ≡ []) (found == n) (Taken Empty) (Taken Pause) refl refl
+slot_on n (Polls h AtStub) found = by_answer (λ r. slot_named r ≡ []) (found == n) (Taken Empty) (Taken Pause) refl refl
 slot_on n (Polls h Moved) found = refl
-slot_on n (Polls h NoNext) found = by_answer (λ r. slot_in r ≡ []) (found == h) More (Taken Pause) refl refl
+slot_on n (Polls h NoNext) found = by_answer (λ r. slot_named r ≡ []) (found == h) More (Taken Pause) refl refl
 slot_on n (Polls h Last) found = refl
 slot_on n (Polls h StubCleared) found = refl
 slot_on n (Polls h (StubPut p)) found = refl
@@ -152,12 +152,12 @@ slot_on n (Polls h StubLinked) zero = refl
 slot_on n (Polls h StubLinked) (suc q) = refl
 slot_on n (Polls h (InHand i)) found = refl
 
-put_poll : (reply : StepReply) (w : Wake) → put_by Poll reply w ≡ []
+put_poll : (reply : StepReply) (w : Wake) → put_in_by Poll reply w ≡ []
 put_poll More w = refl
 put_poll (Woke x) w = refl
 put_poll (Taken x) w = refl
 
-right_wake : (n : ℕ) (role : Role) (found : ℕ) (past : List Turn) → (IsPolls role → ⊥) → IsRight (reply_of n role found) past
+right_wake : (n : ℕ) (role : Role) (found : ℕ) (past : List Turn) → (IsPolls role → ⊥) → IsRight (reply_of_role n role found) past
 right_wake n Idle zero past wakes = tt
 right_wake n Idle (suc k) past wakes = tt
 right_wake n (Won e) found past wakes = tt
@@ -166,7 +166,7 @@ right_wake n (Swapped e p) found past wakes = tt
 right_wake n (Polls h phase) found past wakes = absurd (wakes tt)
 
 -- the taking under way goes on while a wake makes a step that leaves the tail, or after which its waker stands so
-takes_on : (s : Step) (r : StepReply) (past : List Turn) (t now h : ℕ) (phase : Phase) → seat_of s < 64 → (now ≡ t) ⊎ WakerStands (record { step = s; reply = r } ∷ past) → Takes past t h phase → Takes (record { step = s; reply = r } ∷ past) now h phase
+takes_on : (s : Step) (r : StepReply) (past : List Turn) (t now h : ℕ) (phase : Phase) → seat_of s < 64 → (now ≡ t) ⊎ WakerStands (record { step = s; reply = r } ∷ past) → TellsPhase past t h phase → TellsPhase (record { step = s; reply = r } ∷ past) now h phase
 takes_on (Mark seat slot) r past t now h Start low or takes = tt
 takes_on (Mark seat slot) r past t now h AtStub low or takes = (takes.0, ⊎_elim (λ (e : now ≡ t). ⊎_elim (λ (z : WakerStood past). inl (inr z)) (λ (z : t ≡ h). inr (e ∙ z)) takes.1) (λ (z : WakerStands (record { step = Mark seat slot; reply = r } ∷ past)). inl (inl (takes.0, z))) or)
 takes_on (Mark seat slot) r past t now h NoNext low or takes = (takes.0, ⊎_elim (λ (e : now ≡ t). ⊎_elim (λ (z : WakerStood past). inl (inr z)) (λ (z : t ≡ h). inr (e ∙ z)) takes.1) (λ (z : WakerStands (record { step = Mark seat slot; reply = r } ∷ past)). inl (inl (takes.0, z))) or)
@@ -187,7 +187,7 @@ takes_on (Go seat) r past t now h StubLinked low or takes = takes
 takes_on (Go seat) r past t now h (InHand i) low or takes = takes
 takes_on Poll r past t now h phase low or takes = absurd (omega arith)
 
-takes_as : (s : Step) (r : StepReply) (past : List Turn) (t now : ℕ) (role : Role) → seat_of s < 64 → (now ≡ t) ⊎ WakerStands (record { step = s; reply = r } ∷ past) → TakesAs past t role → TakesAs (record { step = s; reply = r } ∷ past) now role
+takes_as : (s : Step) (r : StepReply) (past : List Turn) (t now : ℕ) (role : Role) → seat_of s < 64 → (now ≡ t) ⊎ WakerStands (record { step = s; reply = r } ∷ past) → TellsRole past t role → TellsRole (record { step = s; reply = r } ∷ past) now role
 takes_as s r past t now Idle low or takes = tt
 takes_as s r past t now (Won e) low or takes = tt
 takes_as s r past t now (Cleared e) low or takes = tt
@@ -198,8 +198,8 @@ tail_kept : (n : ℕ) (words : List ℕ) (i x : ℕ) → i ≢ tail_at n → tai
 tail_kept n words i x ne = get_or-set_other words i (tail_at n) x 0 (λ z. ne (sym z))
 
 -- a step of a wake leaves the tail, or its waker stands so after it
-tail_or : (n h : ℕ) (rest : List ℕ) (words : List ℕ) (j : ℕ) (s : Step) (role : Role) (found : ℕ) (w : Wake) → RoleOk n words h rest 64 j role → (role ≡ Idle → slot_of s < n) → (IsPolls role → ⊥) → Shows (wake_on s (reply_of n role found) w) (role_after n (slot_of s) role found)
-    → (tail n (set words (touches n (slot_of s) role) (puts n role found)) ≡ tail n words) ⊎ ((wake_on s (reply_of n role found) w).made ≡ 3)
+tail_or : (n h : ℕ) (rest : List ℕ) (words : List ℕ) (j : ℕ) (s : Step) (role : Role) (found : ℕ) (w : Wake) → FitsRole n words h rest 64 j role → (role ≡ Idle → slot_of s < n) → (IsPolls role → ⊥) → ShowsWake (wake_after s (reply_of_role n role found) w) (next_role n (slot_of s) role found)
+    → (tail n (set words (word_of_role n (slot_of s) role) (put_by_role n role found)) ≡ tail n words) ⊎ ((wake_after s (reply_of_role n role found) w).made ≡ 3)
 tail_or n h rest words j s Idle found w ok lt wakes shows = inl (tail_kept n words (slot_of s) 1 (let a = lt refl in λ z. omega arith))
 tail_or n h rest words j s (Won e) found w ok lt wakes shows = inl (tail_kept n words (n + e) 0 (λ z. omega arith))
 tail_or n h rest words j s (Cleared e) found w ok lt wakes shows = inr shows.1
@@ -216,18 +216,18 @@ role_polls (Cleared e) is = absurd is
 role_polls (Swapped e p) is = absurd is
 role_polls (Polls h phase) is = (h, phase, refl)
 
-wake_next : (n : ℕ) (past : List Turn) (c : Moment) (good : Good n c) → Tells n past c good → (s : Step) → CanStep n (map role_of c.views) s → seat_of s < 64 → ((IsPolls (view_at c s).role → ⊥) → MayMake s (view_at c s).role) → ((view_at c s).role ≡ Idle → slot_of s < n) → Next n past c good s
+wake_next : (n : ℕ) (past : List Turn) (c : Moment) (good : IsReachable n c) → IsTold n past c good → (s : Step) → CanStep n (map role_of c.views) s → seat_of s < 64 → ((IsPolls (view_at c s).role → ⊥) → MayMake s (view_at c s).role) → ((view_at c s).role ≡ Idle → slot_of s < n) → StaysTold n past c good s
 wake_next n past c good tells s can low may_of lt =
     let seat = seat_of s in let v = view_at c s in let found = found_at n c s in
     let there : get_elem? c.views seat ≡ some v = here_at c.views seat (let a = good.1 in omega arith) in
-    let ok : RoleOk n c.words good.2.0 good.2.1 64 seat v.role = (good.2.2.seats seat v there).0 in
-    let wakes : IsPolls v.role → ⊥ = λ is. let p = role_polls v.role is in let a = (subst (RoleOk n c.words good.2.0 good.2.1 64 seat) p.2 ok).0 in omega arith in
+    let ok : FitsRole n c.words good.2.0 good.2.1 64 seat v.role = (good.2.2.seats seat v there).0 in
+    let wakes : IsPolls v.role → ⊥ = λ is. let p = role_polls v.role is in let a = (subst (FitsRole n c.words good.2.0 good.2.1 64 seat) p.2 ok).0 in omega arith in
     let may = may_of wakes in
     let stub : v.stub ≡ n = good.0 seat v there in
-    let goes_there = step_on n c good s can in
+    let goes_there = step_reaches n c good s can in
     let e : Turn = event n c s in
     let shows = tells.wakes seat low v there in
-    let mine : wake_of seat (e ∷ past) ≡ wake_on s e.reply (wake_of seat past) = wake_same seat e past refl in
+    let mine : wake_of seat (e ∷ past) ≡ wake_after s e.reply (wake_of seat past) = wake_same seat e past refl in
     let shows_now = shows_on n n s v.role found (wake_of seat past) may shows in
     let or = tail_or n good.2.0 good.2.1 c.words seat s v.role found (wake_of seat past) ok lt wakes shows_now in (
       right_wake n v.role found past wakes,
@@ -235,18 +235,18 @@ wake_next n past c good tells s can low may_of lt =
         goes_there.0,
         record {
           wakes = λ j lj u at. ⊎_elim
-              (λ (t : (j ≡ seat) × (view_after (slot_of s) v found ≡ u)).
-              subst (λ (y : ℕ × View). Shows (wake_of y.0 (e ∷ past)) y.1.role) (λ k. (sym t.0 k, t.1 k))
-              (subst (λ (w : Wake). Shows w (role_after v.stub (slot_of s) v.role found)) (sym mine) (shows_on n v.stub s v.role found (wake_of seat past) may shows)))
-              (λ (t : (j ≢ seat) × (get_elem? c.views j ≡ some u)). subst (λ (w : Wake). Shows w u.role) (sym (wake_else j e past (λ z. t.0 (sym z)))) (tells.wakes j lj u t.1))
-              (at_set c.views seat j (view_after (slot_of s) v found) u at);
+              (λ (t : (j ≡ seat) × (next_view (slot_of s) v found ≡ u)).
+              subst (λ (y : ℕ × View). ShowsWake (wake_of y.0 (e ∷ past)) y.1.role) (λ k. (sym t.0 k, t.1 k))
+              (subst (λ (w : Wake). ShowsWake w (next_role v.stub (slot_of s) v.role found)) (sym mine) (shows_on n v.stub s v.role found (wake_of seat past) may shows)))
+              (λ (t : (j ≢ seat) × (get_elem? c.views j ≡ some u)). subst (λ (w : Wake). ShowsWake w u.role) (sym (wake_else j e past (λ z. t.0 (sym z)))) (tells.wakes j lj u t.1))
+              (at_set c.views seat j (next_view (slot_of s) v found) u at);
           flow = (λ k. put_in past ++ put_on n s v.role found (wake_of seat past) may shows k)
-              ∙ (moved_on (pending n c good) (put v.role) (answered past) (answer v.role) (pending n (goes n c s) goes_there.0) (put_in past) tells.flow goes_there.1
-              ∙ (λ k. (answered past ++ sym (slot_on n v.role found) k) ++ pending n (goes n c s) goes_there.0));
-          takes = λ u at. takes_as s e.reply past (tail n c.words) (tail n (goes n c s).words) u.role low
-              (⊎_elim (λ (t : tail n (set c.words (touches n (slot_of s) v.role) (puts n v.role found)) ≡ tail n c.words). inl t)
-              (λ (t : (wake_on s (reply_of n v.role found) (wake_of seat past)).made ≡ 3). inr (seat, low, ap (λ (w : Wake). w.made) mine ∙ t)) or)
-              (tells.takes u (sym (set_else c.views seat 64 (view_after (slot_of s) v found) (λ z. omega arith)) ∙ at));
+              ∙ (moved_on (pending n c good) (put_by v.role) (answered past) (answered_by v.role) (pending n (after_step n c s) goes_there.0) (put_in past) tells.flow goes_there.1
+              ∙ (λ k. (answered past ++ sym (slot_on n v.role found) k) ++ pending n (after_step n c s) goes_there.0));
+          takes = λ u at. takes_as s e.reply past (tail n c.words) (tail n (after_step n c s).words) u.role low
+              (⊎_elim (λ (t : tail n (set c.words (word_of_role n (slot_of s) v.role) (put_by_role n v.role found)) ≡ tail n c.words). inl t)
+              (λ (t : (wake_after s (reply_of_role n v.role found) (wake_of seat past)).made ≡ 3). inr (seat, low, ap (λ (w : Wake). w.made) mine ∙ t)) or)
+              (tells.takes u (sym (set_else c.views seat 64 (next_view (slot_of s) v found) (λ z. omega arith)) ∙ at));
         },
       ),
     )
@@ -260,15 +260,15 @@ both_test P true r q x y f g = f refl
 both_test P false r q x y f g = g refl
 
 -- a step of the poller
-module _ (n h : ℕ) (rest : List ℕ) (words : List ℕ) (views : List View) (R : KeepsRow n h rest 64 words views) (steps : List Made) (past : List Turn) (stands : Waits views → WakerStands past) where
+module _ (n h : ℕ) (rest : List ℕ) (words : List ℕ) (views : List View) (R : KeepsRow n h rest 64 words views) (steps : List AtomicStep) (past : List Turn) (stands : SomeWakerStands views → WakerStands past) where
   abbrev now_tail : Phase → ℕ → ℕ
-  now_tail phase f = tail n (set words (touches n 0 (Polls h phase)) (puts n (Polls h phase) f))
+  now_tail phase f = tail n (set words (word_of_role n 0 (Polls h phase)) (put_by_role n (Polls h phase) f))
 
   abbrev made : Phase → ℕ → Turn
-  made phase f = record { step = Poll; reply = reply_of n (Polls h phase) f }
+  made phase f = record { step = Poll; reply = reply_of_role n (Polls h phase) f }
 
   abbrev Case : Phase → ℕ → Type 0
-  Case phase f = IsRight (reply_of n (Polls h phase) f) past × TakesAs (made phase f ∷ past) (now_tail phase f) (role_after n 0 (Polls h phase) f)
+  Case phase f = IsRight (reply_of_role n (Polls h phase) f) past × TellsRole (made phase f ∷ past) (now_tail phase f) (next_role n 0 (Polls h phase) f)
 
   head_le : h ≤ n
   head_le = (R.linked h (let a = same_here h in omega arith)).0
@@ -277,15 +277,15 @@ module _ (n h : ℕ) (rest : List ℕ) (words : List ℕ) (views : List View) (R
   none_behind : (phase : Phase) → get_elem? views 64 ≡ some (record { stub = n; role = Polls h phase; steps = steps }) → owed_by h (Polls h phase) ≡ 0 → link n words h ≡ 0 → (x : ℕ) → (WakerStands past ⊎ WakerStood past) ⊎ (tail n (set words (n + h) x) ≡ h)
   none_behind phase at owes zero_link x = ⊎_elim
       (λ (t : rest ≡ []). inr (tail_kept n words (n + h) x (let a = head_le in λ z. omega arith) ∙ (sym R.ends ∙ ap (last_entry h) t)))
-      (λ (t : Waits views). inl (inl (stands t)))
-      (gap n h rest 64 words views R steps phase at owes zero_link)
+      (λ (t : SomeWakerStands views). inl (inl (stands t)))
+      (row_ends_or_waker_stands n h rest 64 words views R steps phase at owes zero_link)
 
-  poll_case : (phase : Phase) → get_elem? views 64 ≡ some (record { stub = n; role = Polls h phase; steps = steps }) → Takes past (tail n words) h phase
-      → put_in past ≡ answered past ++ (in_hand (Polls h phase) ++ slots n (h ∷ rest)) → (f : ℕ) → f ≡ get_or words (touches n 0 (Polls h phase)) 0 → Case phase f
+  poll_case : (phase : Phase) → get_elem? views 64 ≡ some (record { stub = n; role = Polls h phase; steps = steps }) → TellsPhase past (tail n words) h phase
+      → put_in past ≡ answered past ++ (in_hand (Polls h phase) ++ row_slots n (h ∷ rest)) → (f : ℕ) → f ≡ get_or words (word_of_role n 0 (Polls h phase)) 0 → Case phase f
   poll_case Start at takes flow zero is =
       let or = none_behind Start at refl (sym is) 0 in
-      (tt, on_test (λ role. TakesAs (made Start zero ∷ past) (now_tail Start zero) role) (h == n) (Polls h AtStub) (Polls h NoNext) (λ _. (tt, or)) (λ _. (tt, or)))
-  poll_case Start at takes flow (suc q) is = (tt, on_test (λ role. TakesAs (made Start (suc q) ∷ past) (now_tail Start (suc q)) role) (h == n) (Polls q Moved) (Polls q (InHand h)) (λ _. tt) (λ _. tt))
+      (tt, on_test (λ role. TellsRole (made Start zero ∷ past) (now_tail Start zero) role) (h == n) (Polls h AtStub) (Polls h NoNext) (λ _. (tt, or)) (λ _. (tt, or)))
+  poll_case Start at takes flow (suc q) is = (tt, on_test (λ role. TellsRole (made Start (suc q) ∷ past) (now_tail Start (suc q)) role) (h == n) (Polls q Moved) (Polls q (InHand h)) (λ _. tt) (λ _. tt))
   poll_case AtStub at takes flow f is =
       let at_stub : h ≡ n = (R.seats 64 _ at).0.2 in (
         on_test (λ r. IsRight r past) (f == n) (Taken Empty) (Taken Pause)
@@ -293,7 +293,7 @@ module _ (n h : ℕ) (rest : List ℕ) (words : List ℕ) (views : List View) (R
             let g : f ≡ n = eqb-true f n t in
             let is_last : h ≡ last_entry h rest = at_stub ∙ (sym g ∙ (is ∙ sym R.ends)) in
             let once : times h (h ∷ rest) ≤ 1 = subst (λ (k : ℕ). times k (h ∷ rest) ≤ 1) (sym at_stub) (let d = R.stub_once in omega arith) in
-            let none : slots n (h ∷ rest) ≡ [] = ap (λ (r : List ℕ). slots n (h ∷ r)) (alone h rest is_last once) ∙ slots_stub n h [] at_stub in
+            let none : row_slots n (h ∷ rest) ≡ [] = ap (λ (r : List ℕ). row_slots n (h ∷ r)) (alone h rest is_last once) ∙ slots_stub n h [] at_stub in
             flow ∙ (ap (λ (l : List ℕ). answered past ++ l) none ∙ append-nil (answered past)))
             (λ t.
             let g : f ≢ n = eqb-false f n t in
@@ -302,7 +302,7 @@ module _ (n h : ℕ) (rest : List ℕ) (words : List ℕ) (views : List View) (R
       )
   poll_case Moved at takes flow zero is = (tt, (tt, none_behind Moved at refl (sym is) 0))
   poll_case Moved at takes flow (suc q) is = (tt, tt)
-  poll_case NoNext at takes flow f is = both_test (λ r role. IsRight r past × TakesAs (record { step = Poll; reply = r } ∷ past) (now_tail NoNext f) role) (f == h) More (Taken Pause) (Polls h Last) (Polls h Start)
+  poll_case NoNext at takes flow f is = both_test (λ r role. IsRight r past × TellsRole (record { step = Poll; reply = r } ∷ past) (now_tail NoNext f) role) (f == h) More (Taken Pause) (Polls h Last) (Polls h Start)
       (λ t. (tt, tt))
       (λ t. (⊎_elim (λ (z : WakerStood past). inr z) (λ (z : tail n words ≡ h). absurd (eqb-false f h t (is ∙ z))) takes.1, tt))
   poll_case Last at takes flow f is = (tt, tt)
@@ -311,44 +311,44 @@ module _ (n h : ℕ) (rest : List ℕ) (words : List ℕ) (views : List View) (R
   poll_case StubLinked at takes flow zero is =
       let ok = (R.seats 64 _ at).0.2 in
       let more : (r : List ℕ) → rest ≡ r → rest ≡ [] → ⊥ = λ r e none. let a : 0 < length rest = ok.1 in let b : length rest ≡ 0 = ap (λ (l : List ℕ). length l) none in omega arith in
-      (⊎_elim (λ (t : rest ≡ []). absurd (more rest refl t)) (λ (t : Waits views). inl (stands t)) (gap n h rest 64 words views R steps StubLinked at refl (sym is)), tt)
+      (⊎_elim (λ (t : rest ≡ []). absurd (more rest refl t)) (λ (t : SomeWakerStands views). inl (stands t)) (row_ends_or_waker_stands n h rest 64 words views R steps StubLinked at refl (sym is)), tt)
   poll_case StubLinked at takes flow (suc q) is = (tt, tt)
   poll_case (InHand i) at takes flow f is = (tt, tt)
 
-poll_next : (n : ℕ) (past : List Turn) (c : Moment) (good : Good n c) → Tells n past c good → Next n past c good Poll
+poll_next : (n : ℕ) (past : List Turn) (c : Moment) (good : IsReachable n c) → IsTold n past c good → StaysTold n past c good Poll
 poll_next n past c good tells =
     let h = good.2.0 in let polls = good.2.3 in let phase = polls.0 in
     let v = view_at c Poll in
     let p : View = record { stub = n; role = Polls h phase; steps = polls.1 } in
     let there : get_elem? c.views 64 ≡ some v = here_at c.views 64 (let a = good.1 in omega arith) in
     let same_v : p ≡ v = some-injective p v (sym polls.2 ∙ there) in
-    let goes_there = step_on n c good Poll tt in
-    let f : ℕ = get_or c.words (touches n 0 p.role) 0 in
-    let case = poll_case n h good.2.1 c.words c.views good.2.2 polls.1 past (told n past c good tells) phase polls.2 (tells.takes p polls.2) tells.flow f refl in
-    let Right : View → Type 0 = λ u. IsRight (reply_of n u.role (get_or c.words (touches n 0 u.role) 0)) past
-    × TakesAs (record { step = Poll; reply = reply_of n u.role (get_or c.words (touches n 0 u.role) 0) } ∷ past) (tail n (set c.words (touches n 0 u.role) (puts n u.role (get_or c.words (touches n 0 u.role) 0)))) (role_after n 0 u.role (get_or c.words (touches n 0 u.role) 0)) in
+    let goes_there = step_reaches n c good Poll tt in
+    let f : ℕ = get_or c.words (word_of_role n 0 p.role) 0 in
+    let case = poll_case n h good.2.1 c.words c.views good.2.2 polls.1 past (stands_told n past c good tells) phase polls.2 (tells.takes p polls.2) tells.flow f refl in
+    let Right : View → Type 0 = λ u. IsRight (reply_of_role n u.role (get_or c.words (word_of_role n 0 u.role) 0)) past
+    × TellsRole (record { step = Poll; reply = reply_of_role n u.role (get_or c.words (word_of_role n 0 u.role) 0) } ∷ past) (tail n (set c.words (word_of_role n 0 u.role) (put_by_role n u.role (get_or c.words (word_of_role n 0 u.role) 0)))) (next_role n 0 u.role (get_or c.words (word_of_role n 0 u.role) 0)) in
     let right : Right v = subst Right same_v case in
     let stub : n ≡ v.stub = ap (λ (u : View). u.stub) same_v in
     let found = found_at n c Poll in
     let e : Turn = event n c Poll in
-    let no_put : put v.role ≡ [] = ap (λ (u : View). put u.role) (sym same_v) in (
+    let no_put : put_by v.role ≡ [] = ap (λ (u : View). put_by u.role) (sym same_v) in (
       right.0,
       (
         goes_there.0,
         record {
-          wakes = λ j lj u at. subst (λ (w : Wake). Shows w u.role) (sym (wake_else j e past (λ z. omega arith)))
-              (tells.wakes j lj u (sym (set_else c.views 64 j (view_after 0 v found) (λ z. omega arith)) ∙ at));
+          wakes = λ j lj u at. subst (λ (w : Wake). ShowsWake w u.role) (sym (wake_else j e past (λ z. omega arith)))
+              (tells.wakes j lj u (sym (set_else c.views 64 j (next_view 0 v found) (λ z. omega arith)) ∙ at));
           flow = (λ k. put_in past ++ (put_poll e.reply (wake_of 64 past) ∙ sym no_put) k)
-              ∙ (moved_on (pending n c good) (put v.role) (answered past) (answer v.role) (pending n (goes n c Poll) goes_there.0) (put_in past) tells.flow goes_there.1
-              ∙ (λ k. (answered past ++ sym (slot_on n v.role found) k) ++ pending n (goes n c Poll) goes_there.0));
-          takes = λ u at. subst (λ (y : View). TakesAs (e ∷ past) (tail n (goes n c Poll).words) y.role)
-              (some-injective (view_after 0 v found) u (sym (set_here c.views 64 (view_after 0 v found) (index_low c.views 64 v there)) ∙ at))
-              (subst (λ (m : ℕ). TakesAs (e ∷ past) (tail n (goes n c Poll).words) (role_after m 0 v.role found)) stub right.1);
+              ∙ (moved_on (pending n c good) (put_by v.role) (answered past) (answered_by v.role) (pending n (after_step n c Poll) goes_there.0) (put_in past) tells.flow goes_there.1
+              ∙ (λ k. (answered past ++ sym (slot_on n v.role found) k) ++ pending n (after_step n c Poll) goes_there.0));
+          takes = λ u at. subst (λ (y : View). TellsRole (e ∷ past) (tail n (after_step n c Poll).words) y.role)
+              (some-injective (next_view 0 v found) u (sym (set_here c.views 64 (next_view 0 v found) (index_low c.views 64 v there)) ∙ at))
+              (subst (λ (m : ℕ). TellsRole (e ∷ past) (tail n (after_step n c Poll).words) (next_role m 0 v.role found)) stub right.1);
         },
       ),
     )
 
-next_here : (n : ℕ) (past : List Turn) (c : Moment) (good : Good n c) → Tells n past c good → (s : Step) → CanStep n (map role_of c.views) s → Next n past c good s
+next_here : (n : ℕ) (past : List Turn) (c : Moment) (good : IsReachable n c) → IsTold n past c good → (s : Step) → CanStep n (map role_of c.views) s → StaysTold n past c good s
 next_here n past c good tells (Mark seat slot) can = wake_next n past c good tells (Mark seat slot) can can.0 (λ wakes. sym (role_there c.views seat) ∙ can.2) (λ _. can.1)
 next_here n past c good tells (Go seat) can = wake_next n past c good tells (Go seat) can can.0 (λ wakes. ((λ e. can.1 (role_there c.views seat ∙ e)), wakes)) (λ e. absurd (can.1 (role_there c.views seat ∙ e)))
 next_here n past c good tells Poll can = poll_next n past c good tells
@@ -364,18 +364,18 @@ pause_caused t past right = λ is. subst (λ (r : StepReply). IsRight r past) is
 abbrev Lawful : List Turn → Type 0
 Lawful history = AnswersInOrder history × EmptyIsTrue history × PauseHasCause history
 
-lawful_from : (n : ℕ) (past : List Turn) (c : Moment) (good : Good n c) → Tells n past c good → (ss : List Step) → Legal n c ss → AfterEach Lawful past ss (replies_of n c ss)
+lawful_from : (n : ℕ) (past : List Turn) (c : Moment) (good : IsReachable n c) → IsTold n past c good → (ss : List Step) → Legal n c ss → AfterEach Lawful past ss (replies_of n c ss)
 lawful_from n past c good tells [] legal = tt
 lawful_from n past c good tells (s ∷ ss) legal =
     let one = next_here n past c good tells s legal.0 in
     let t : Turn = event n c s in
-    (((pending n (goes n c s) one.1.0, one.1.1.flow), empty_true t past one.0, pause_caused t past one.0), lawful_from n (t ∷ past) (goes n c s) one.1.0 one.1.1 ss legal.1)
+    (((pending n (after_step n c s) one.1.0, one.1.1.flow), empty_true t past one.0, pause_caused t past one.0), lawful_from n (t ∷ past) (after_step n c s) one.1.0 one.1.1 ss legal.1)
 
 lawful : (n : ℕ) (ss : List Step) → Legal n (at_start n) ss → AfterEach Lawful [] ss (replies_of n (at_start n) ss)
-lawful n ss legal = lawful_from n [] (at_start n) (starts n) (record {
-  wakes = λ j lj v at. each n (λ j v. Shows (wake_of j []) v.role) (λ j l. tt) tt j v at;
+lawful n ss legal = lawful_from n [] (at_start n) (reachable_start n) (record {
+  wakes = λ j lj v at. each n (λ j v. ShowsWake (wake_of j []) v.role) (λ j l. tt) tt j v at;
   flow = sym (slots_stub n n [] refl);
-  takes = each n (λ j v. TakesAs [] (tail n (at_start n).words) v.role) (λ j l. tt) tt 64;
+  takes = each n (λ j v. TellsRole [] (tail n (at_start n).words) v.role) (λ j l. tt) tt 64;
 }) ss legal
 
 each_of : (P Q : List Turn → Type 0) → ((history : List Turn) → P history → Q history) → (past : List Turn) (ss : List Step) (rs : List StepReply) → AfterEach P past ss rs → AfterEach Q past ss rs

@@ -9,14 +9,14 @@ use Rattle.futures_buffered_table.specs.declared.view.Phase.TheVariants.{Start, 
 use Rattle.futures_buffered_table.specs.declared.view.Role.{Role}
 use Rattle.futures_buffered_table.specs.declared.view.Role.TheVariants.{Idle, Won, Cleared, Swapped, Polls}
 use Rattle.futures_buffered_table.specs.declared.view.View.{View}
-use Rattle.futures_buffered_table.specs.OneStep.{touches, role_after, InRange}
+use Rattle.futures_buffered_table.specs.OneStep.{word_of_role, next_role, InRange}
 use Rattle.std.proofs.Props.{props}
 use Rattle.std.proofs.lemmas.List.{get_or_default}
 use Rattle.futures_buffered_table.specs.declared.step.Step.{Step}
 use Rattle.futures_buffered_table.specs.declared.step.Step.TheVariants.{Mark, Go, Poll}
 use Rattle.futures_buffered_table.specs.Schedule.{CanStep, seat_of, slot_of}
 use Rattle.futures_buffered_table.specs.Views.{role_of}
-use Rattle.futures_buffered_table.specs.RowInvariant.{RoleOk, KeepsRow}
+use Rattle.futures_buffered_table.specs.RowInvariant.{FitsRole, KeepsRow}
 use Rattle.futures_buffered_table.proofs.SumsLemmas.{same_here}
 
 at_role : (views : List View) (seat : ℕ) → seat < length (map role_of views) → (v : View) × (get_elem? views seat ≡ some v) × (v.role ≡ get_or (map role_of views) seat Idle)
@@ -29,7 +29,7 @@ map_set [] seat w = refl
 map_set (v ∷ vs) zero w = refl
 map_set (v ∷ vs) (suc seat) w = λ k. v.role ∷ map_set vs seat w k
 
-pub role_range : (n : ℕ) (words : List ℕ) (h : ℕ) (rest : List ℕ) (poller j : ℕ) (role : Role) → h ≤ n → RoleOk n words h rest poller j role → InRange n role
+pub role_range : (n : ℕ) (words : List ℕ) (h : ℕ) (rest : List ℕ) (poller j : ℕ) (role : Role) → h ≤ n → FitsRole n words h rest poller j role → InRange n role
 role_range n words h rest poller j Idle le ok = tt
 role_range n words h rest poller j (Won i) le ok = omega arith
 role_range n words h rest poller j (Cleared i) le ok = let a = ok.0 in omega arith
@@ -44,7 +44,7 @@ role_range n words h rest poller j (Polls head (StubPut p)) le ok = (let a = ok.
 role_range n words h rest poller j (Polls head StubLinked) le ok = let a = ok.1 in omega arith
 role_range n words h rest poller j (Polls head (InHand i)) le ok = (let a = ok.1 in omega arith, let b = ok.2.1 in omega arith)
 
-pub word_range : (n slot : ℕ) (role : Role) → slot ≤ n → InRange n role → touches n slot role < n + n + 2
+pub word_range : (n slot : ℕ) (role : Role) → slot ≤ n → InRange n role → word_of_role n slot role < n + n + 2
 word_range n slot Idle le ok = omega arith
 word_range n slot (Won e) le ok = omega arith
 word_range n slot (Cleared e) le ok = omega arith
@@ -60,7 +60,7 @@ word_range n slot (Polls h StubLinked) le ok = omega arith
 word_range n slot (Polls h (InHand i)) le ok = let a = ok.1 in omega arith
 
 -- a poller stays one
-pub still_polls : (n h : ℕ) (phase : Phase) (found : ℕ) → (head : ℕ) × (next_phase : Phase) × (role_after n 0 (Polls h phase) found ≡ Polls head next_phase)
+pub still_polls : (n h : ℕ) (phase : Phase) (found : ℕ) → (head : ℕ) × (next_phase : Phase) × (next_role n 0 (Polls h phase) found ≡ Polls head next_phase)
 still_polls n h Start zero = pick (h == n) h h AtStub NoNext
   where
     pick : (b : Bool) (x y : ℕ) (p q : Phase) → (head : ℕ) × (next_phase : Phase) × ((if b then Polls x p else Polls y q) ≡ Polls head next_phase)

@@ -3,7 +3,7 @@ use Rattle.std.proofs.Common.{◌≡◌, ◌≢◌, ℕ, zero, suc, ◌<◌, Lis
 use mathlib.Core.Option.{some, some-injective}
 use lib.ListN.{get_elem?}
 use Rattle.atomic_table.proofs.Lists.{set_else, set_here}
-use Rattle.futures_buffered_table.specs.declared.view.Made.{Made}
+use Rattle.futures_buffered_table.specs.declared.view.AtomicStep.{AtomicStep}
 use Rattle.futures_buffered_table.specs.declared.view.Phase.{Phase}
 use Rattle.futures_buffered_table.specs.declared.view.Phase.TheVariants.{Start, AtStub, Moved, NoNext, Last, StubCleared, StubPut, StubLinked, InHand}
 use Rattle.futures_buffered_table.specs.declared.view.Role.{Role}
@@ -11,27 +11,27 @@ use Rattle.futures_buffered_table.specs.declared.view.Role.TheVariants.{Idle, Wo
 use Rattle.futures_buffered_table.specs.declared.view.View.{View}
 use Rattle.futures_buffered_table.specs.declared.step.Step.{Step}
 use Rattle.futures_buffered_table.specs.declared.step.Step.TheVariants.{Mark, Go, Poll}
-use Rattle.futures_buffered_table.specs.OneStep.{touches, puts, role_after, made, view_after}
-use Rattle.futures_buffered_table.specs.RowInvariant.{RoleOk, KeepsRow}
-use Rattle.futures_buffered_table.proofs.FlowLemmas.{slots, put, in_hand, Flows, answer}
+use Rattle.futures_buffered_table.specs.OneStep.{word_of_role, put_by_role, next_role, step_of_role, next_view}
+use Rattle.futures_buffered_table.specs.RowInvariant.{FitsRole, KeepsRow}
+use Rattle.futures_buffered_table.proofs.FlowLemmas.{row_slots, put_by, in_hand, Flows, answered_by}
 use Rattle.futures_buffered_table.specs.Views.{role_of, spent_view}
-use Rattle.futures_buffered_table.specs.Schedule.{CanStep, seat_of, slot_of, Moment, view_at, word_of, found_at, goes, run, Legal}
-use Rattle.futures_buffered_table.proofs.KeepsLemmas.{wake_keeps, poll_keeps_here}
+use Rattle.futures_buffered_table.specs.Schedule.{CanStep, seat_of, slot_of, Moment, view_at, word_of, found_at, after_step, run, Legal}
+use Rattle.futures_buffered_table.proofs.KeepsLemmas.{wake_keeps, poll_keeps}
 use Rattle.futures_buffered_table.proofs.LedOnLemmas.{still_polls, stubs_set, index_low}
 
 -- the seat 64 polls, at the head h
 abbrev pub PollsAt : ℕ → ℕ → List View → Type 0
-PollsAt n h views = (phase : Phase) × (steps : List Made) × (get_elem? views 64 ≡ some (record { stub = n; role = Polls h phase; steps = steps }))
+PollsAt n h views = (phase : Phase) × (steps : List AtomicStep) × (get_elem? views 64 ≡ some (record { stub = n; role = Polls h phase; steps = steps }))
 
 -- 64 wake seats and the poll seat of one list for n slots, with some row that keeps itself
-abbrev pub Good : ℕ → Moment → Type 0
-Good n c =
+abbrev pub IsReachable : ℕ → Moment → Type 0
+IsReachable n c =
     ((j : ℕ) (v : View) → get_elem? c.views j ≡ some v → v.stub ≡ n) × (length c.views ≡ 65)
     × ((h : ℕ) × (rest : List ℕ) × KeepsRow n h rest 64 c.words c.views × PollsAt n h c.views)
 
 -- what is out of the row and not yet answered, and then the row
-abbrev pub pending : (n : ℕ) (c : Moment) → Good n c → List ℕ
-pending n c good = in_hand (Polls good.2.0 good.2.3.0) ++ slots n (good.2.0 ∷ good.2.1)
+abbrev pub pending : (n : ℕ) (c : Moment) → IsReachable n c → List ℕ
+pending n c good = in_hand (Polls good.2.0 good.2.3.0) ++ row_slots n (good.2.0 ∷ good.2.1)
 
 pub here_at : (views : List View) (seat : ℕ) → seat < length views → get_elem? views seat ≡ some (get_or views seat spent_view)
 here_at [] seat lt = absurd (omega arith)
@@ -44,17 +44,17 @@ role_there (v ∷ vs) zero = refl
 role_there (v ∷ vs) (suc seat) = role_there vs seat
 
 -- where the poller's phase has nothing in hand, or is answered
-abbrev pub Goes : (n : ℕ) (c : Moment) → Good n c → Step → Type 0
-Goes n c good step = (on : Good n (goes n c step)) × (pending n c good ++ put (view_at c step).role ≡ answer (view_at c step).role ++ pending n (goes n c step) on)
+abbrev pub StaysReachable : (n : ℕ) (c : Moment) → IsReachable n c → Step → Type 0
+StaysReachable n c good step = (on : IsReachable n (after_step n c step)) × (pending n c good ++ put_by (view_at c step).role ≡ answered_by (view_at c step).role ++ pending n (after_step n c step) on)
 
-wake_answer : (role : Role) → ((head : ℕ) (phase : Phase) → role ≢ Polls head phase) → answer role ≡ []
+wake_answer : (role : Role) → ((head : ℕ) (phase : Phase) → role ≢ Polls head phase) → answered_by role ≡ []
 wake_answer Idle wakes = refl
 wake_answer (Won e) wakes = refl
 wake_answer (Cleared e) wakes = refl
 wake_answer (Swapped e p) wakes = refl
 wake_answer (Polls h phase) wakes = absurd (wakes h phase refl)
 
-wake_flow : (n : ℕ) (old now : Role) (row after : List ℕ) → ((head : ℕ) (phase : Phase) → old ≢ Polls head phase) → ((head : ℕ) (phase : Phase) → now ≢ Polls head phase) → Flows n old now row after → slots n row ++ put old ≡ slots n after
+wake_flow : (n : ℕ) (old now : Role) (row after : List ℕ) → ((head : ℕ) (phase : Phase) → old ≢ Polls head phase) → ((head : ℕ) (phase : Phase) → now ≢ Polls head phase) → Flows n old now row after → row_slots n row ++ put_by old ≡ row_slots n after
 wake_flow n Idle Idle row after w w' f = f
 wake_flow n Idle (Won a) row after w w' f = f
 wake_flow n Idle (Cleared a) row after w w' f = f
@@ -77,7 +77,7 @@ wake_flow n (Swapped e p) (Swapped a b) row after w w' f = f
 wake_flow n (Swapped e p) (Polls a b) row after w w' f = absurd (w' a b refl)
 wake_flow n (Polls h phase) now row after w w' f = absurd (w h phase refl)
 
-wake_stays : (n slot : ℕ) (role : Role) (found : ℕ) → ((head : ℕ) (phase : Phase) → role ≢ Polls head phase) → (head : ℕ) (phase : Phase) → role_after n slot role found ≢ Polls head phase
+wake_stays : (n slot : ℕ) (role : Role) (found : ℕ) → ((head : ℕ) (phase : Phase) → role ≢ Polls head phase) → (head : ℕ) (phase : Phase) → next_role n slot role found ≢ Polls head phase
 wake_stays n slot Idle zero wakes head phase = λ e. cc
 wake_stays n slot Idle (suc k) wakes head phase = λ e. cc
 wake_stays n slot (Won e') found wakes head phase = λ e. cc
@@ -86,7 +86,7 @@ wake_stays n slot (Swapped e' p) found wakes head phase = λ e. cc
 wake_stays n slot (Polls h ph) found wakes head phase = absurd (wakes h ph refl)
 
 poll_flow : (n h : ℕ) (phase : Phase) (head : ℕ) (next : Phase) (row after : List ℕ) → Flows n (Polls h phase) (Polls head next) row after
-    → (in_hand (Polls h phase) ++ slots n row) ++ [] ≡ answer (Polls h phase) ++ (in_hand (Polls head next) ++ slots n after)
+    → (in_hand (Polls h phase) ++ row_slots n row) ++ [] ≡ answered_by (Polls h phase) ++ (in_hand (Polls head next) ++ row_slots n after)
 poll_flow n h Start head next row after f = f
 poll_flow n h AtStub head next row after f = f
 poll_flow n h Moved head next row after f = f
@@ -95,70 +95,70 @@ poll_flow n h Last head next row after f = f
 poll_flow n h StubCleared head next row after f = f
 poll_flow n h (StubPut p) head next row after f = f
 poll_flow n h StubLinked head next row after f = f
-poll_flow n h (InHand i) head next row after f = ap (λ (l : List ℕ). i ∷ l) (append-nil (slots n row) ∙ (sym f.1 ∙ ap (λ (l : List ℕ). l ++ slots n after) (sym f.0)))
+poll_flow n h (InHand i) head next row after f = ap (λ (l : List ℕ). i ∷ l) (append-nil (row_slots n row) ∙ (sym f.1 ∙ ap (λ (l : List ℕ). l ++ row_slots n after) (sym f.0)))
 
 -- a wake's step
-wake_on : (n : ℕ) (c : Moment) (good : Good n c) (step : Step) → seat_of step < 64 → ((view_at c step).role ≡ Idle → slot_of step < n) → Goes n c good step
-wake_on n c good step low lt =
+wake_reaches : (n : ℕ) (c : Moment) (good : IsReachable n c) (step : Step) → seat_of step < 64 → ((view_at c step).role ≡ Idle → slot_of step < n) → StaysReachable n c good step
+wake_reaches n c good step low lt =
     let h = good.2.0 in let rest = good.2.1 in let R = good.2.2 in let polls = good.2.3 in
     let seat = seat_of step in let v = view_at c step in
     let there : get_elem? c.views seat ≡ some v = here_at c.views seat (let a = good.1 in omega arith) in
     let stub : v.stub ≡ n = good.0 seat v there in
     let found = found_at n c step in
     let at : get_elem? c.views seat ≡ some (record { stub = n; role = v.role; steps = v.steps }) = there ∙ (λ k. some (record { stub = stub k; role = v.role; steps = v.steps })) in
-    let wakes : (head : ℕ) (phase : Phase) → v.role ≢ Polls head phase = λ head phase e. let a = (subst (RoleOk n c.words h rest 64 seat) e (R.seats seat v there).0).0 in omega arith in
+    let wakes : (head : ℕ) (phase : Phase) → v.role ≢ Polls head phase = λ head phase e. let a = (subst (FitsRole n c.words h rest 64 seat) e (R.seats seat v there).0).0 in omega arith in
     let kept = wake_keeps n h rest 64 c.words c.views R seat v.steps (slot_of step) v.role lt wakes at found refl in
-    let w : View = record { stub = n; role = role_after n (slot_of step) v.role found; steps = v.steps ++ made n (slot_of step) v.role found ∷ [] } in
-    let same_view : w ≡ view_after (slot_of step) v found = λ k. record { stub = sym stub k; role = role_after (sym stub k) (slot_of step) v.role found; steps = v.steps ++ made (sym stub k) (slot_of step) v.role found ∷ [] } in
+    let w : View = record { stub = n; role = next_role n (slot_of step) v.role found; steps = v.steps ++ step_of_role n (slot_of step) v.role found ∷ [] } in
+    let same_view : w ≡ next_view (slot_of step) v found = λ k. record { stub = sym stub k; role = next_role (sym stub k) (slot_of step) v.role found; steps = v.steps ++ step_of_role (sym stub k) (slot_of step) v.role found ∷ [] } in
     let now : List View = set c.views seat w in
     let still : get_elem? now 64 ≡ some (record { stub = n; role = Polls h polls.0; steps = polls.1 }) = set_else c.views seat 64 w (λ z. omega arith) ∙ polls.2 in
     let same_head : h ≡ kept.0 = (kept.2.seats 64 _ still).0.1 in
-    let words_now = set c.words (word_of n c step) (puts n v.role found) in
-    let on : Good n (record { words = words_now; views = now }) = (
+    let words_now = set c.words (word_of n c step) (put_by_role n v.role found) in
+    let on : IsReachable n (record { words = words_now; views = now }) = (
       stubs_set n c.views seat w good.0 refl,
       length-set c.views seat w ∙ good.1,
       (kept.0, kept.1, kept.2, (polls.0, polls.1, still ∙ ap (λ (x : ℕ). let y : View = record { stub = n; role = Polls x polls.0; steps = polls.1 } in some y) same_head)),
     ) in
-    let flow = wake_flow n v.role (role_after n (slot_of step) v.role found) (h ∷ rest) (kept.0 ∷ kept.1) wakes (wake_stays n (slot_of step) v.role found wakes) kept.3 in
+    let flow = wake_flow n v.role (next_role n (slot_of step) v.role found) (h ∷ rest) (kept.0 ∷ kept.1) wakes (wake_stays n (slot_of step) v.role found wakes) kept.3 in
     let hand : in_hand (Polls h polls.0) ≡ in_hand (Polls kept.0 polls.0) = ap (λ (x : ℕ). in_hand (Polls x polls.0)) same_head in
-    let all : (in_hand (Polls h polls.0) ++ slots n (h ∷ rest)) ++ put v.role ≡ answer v.role ++ (in_hand (Polls kept.0 polls.0) ++ slots n (kept.0 ∷ kept.1)) =
-    append_assoc (in_hand (Polls h polls.0)) (slots n (h ∷ rest)) (put v.role) ∙ ((λ k. hand k ++ flow k) ∙ ap (λ (l : List ℕ). l ++ (in_hand (Polls kept.0 polls.0) ++ slots n (kept.0 ∷ kept.1))) (sym (wake_answer v.role wakes))) in
-    subst (λ (u : View). (on : Good n (record { words = words_now; views = set c.views seat u })) × ((in_hand (Polls h polls.0) ++ slots n (h ∷ rest)) ++ put v.role ≡ answer v.role ++ pending n (record { words = words_now; views = set c.views seat u }) on)) same_view (on, all)
+    let all : (in_hand (Polls h polls.0) ++ row_slots n (h ∷ rest)) ++ put_by v.role ≡ answered_by v.role ++ (in_hand (Polls kept.0 polls.0) ++ row_slots n (kept.0 ∷ kept.1)) =
+    append_assoc (in_hand (Polls h polls.0)) (row_slots n (h ∷ rest)) (put_by v.role) ∙ ((λ k. hand k ++ flow k) ∙ ap (λ (l : List ℕ). l ++ (in_hand (Polls kept.0 polls.0) ++ row_slots n (kept.0 ∷ kept.1))) (sym (wake_answer v.role wakes))) in
+    subst (λ (u : View). (on : IsReachable n (record { words = words_now; views = set c.views seat u })) × ((in_hand (Polls h polls.0) ++ row_slots n (h ∷ rest)) ++ put_by v.role ≡ answered_by v.role ++ pending n (record { words = words_now; views = set c.views seat u }) on)) same_view (on, all)
 
 -- the poller's step
-poll_on : (n : ℕ) (c : Moment) (good : Good n c) → Goes n c good Poll
-poll_on n c good =
+poll_reaches : (n : ℕ) (c : Moment) (good : IsReachable n c) → StaysReachable n c good Poll
+poll_reaches n c good =
     let h = good.2.0 in let rest = good.2.1 in let R = good.2.2 in let polls = good.2.3 in
     let v = view_at c Poll in
     let there : get_elem? c.views 64 ≡ some v = here_at c.views 64 (let a = good.1 in omega arith) in
     let p : View = record { stub = n; role = Polls h polls.0; steps = polls.1 } in
     let same_v : p ≡ v = some-injective p v (sym polls.2 ∙ there) in
-    let f : ℕ = get_or c.words (touches n 0 (Polls h polls.0)) 0 in
-    let kept = poll_keeps_here n h rest 64 c.words c.views R polls.1 0 polls.0 polls.2 f refl in
-    let w : View = view_after 0 p f in
+    let f : ℕ = get_or c.words (word_of_role n 0 (Polls h polls.0)) 0 in
+    let kept = poll_keeps n h rest 64 c.words c.views R polls.1 0 polls.0 polls.2 f refl in
+    let w : View = next_view 0 p f in
     let next = still_polls n h polls.0 f in
     let at : get_elem? (set c.views 64 w) 64 ≡ some w = set_here c.views 64 w (index_low c.views 64 _ there) in
     let at_next : get_elem? (set c.views 64 w) 64 ≡ some (record { stub = n; role = Polls next.0 next.1; steps = w.steps }) = at ∙ ap (λ (x : Role). let y : View = record { stub = n; role = x; steps = w.steps } in some y) next.2 in
     let same_head : next.0 ≡ kept.0 = (kept.2.seats 64 _ at_next).0.1 in
-    let c1 : Moment = record { words = set c.words (touches n 0 p.role) (puts n p.role f); views = set c.views 64 w } in
-    let on : Good n c1 = (
+    let c1 : Moment = record { words = set c.words (word_of_role n 0 p.role) (put_by_role n p.role f); views = set c.views 64 w } in
+    let on : IsReachable n c1 = (
       stubs_set n c.views 64 w good.0 refl,
       length-set c.views 64 w ∙ good.1,
       (kept.0, kept.1, kept.2, (next.1, w.steps, at_next ∙ ap (λ (x : ℕ). let y : View = record { stub = n; role = Polls x next.1; steps = w.steps } in some y) same_head)),
     ) in
-    let role_is : role_after n 0 (Polls h polls.0) f ≡ Polls kept.0 next.1 = next.2 ∙ ap (λ (x : ℕ). Polls x next.1) same_head in
+    let role_is : next_role n 0 (Polls h polls.0) f ≡ Polls kept.0 next.1 = next.2 ∙ ap (λ (x : ℕ). Polls x next.1) same_head in
     let flow : Flows n (Polls h polls.0) (Polls kept.0 next.1) (h ∷ rest) (kept.0 ∷ kept.1) = subst (λ (x : Role). Flows n (Polls h polls.0) x (h ∷ rest) (kept.0 ∷ kept.1)) role_is kept.3 in
     let all = poll_flow n h polls.0 kept.0 next.1 (h ∷ rest) (kept.0 ∷ kept.1) flow in
-    subst (λ (u : View). (on' : Good n (record { words = set c.words (touches n 0 u.role) (puts n u.role (get_or c.words (touches n 0 u.role) 0)); views = set c.views 64 (view_after 0 u (get_or c.words (touches n 0 u.role) 0)) }))
-    × (pending n c good ++ put u.role ≡ answer u.role ++ pending n (record { words = set c.words (touches n 0 u.role) (puts n u.role (get_or c.words (touches n 0 u.role) 0)); views = set c.views 64 (view_after 0 u (get_or c.words (touches n 0 u.role) 0)) }) on'))
+    subst (λ (u : View). (on' : IsReachable n (record { words = set c.words (word_of_role n 0 u.role) (put_by_role n u.role (get_or c.words (word_of_role n 0 u.role) 0)); views = set c.views 64 (next_view 0 u (get_or c.words (word_of_role n 0 u.role) 0)) }))
+    × (pending n c good ++ put_by u.role ≡ answered_by u.role ++ pending n (record { words = set c.words (word_of_role n 0 u.role) (put_by_role n u.role (get_or c.words (word_of_role n 0 u.role) 0)); views = set c.views 64 (next_view 0 u (get_or c.words (word_of_role n 0 u.role) 0)) }) on'))
     same_v (on, all)
 
-pub step_on : (n : ℕ) (c : Moment) (good : Good n c) (step : Step) → CanStep n (map role_of c.views) step → Goes n c good step
-step_on n c good (Mark seat slot) can = wake_on n c good (Mark seat slot) can.0 (λ _. can.1)
-step_on n c good (Go seat) can = wake_on n c good (Go seat) can.0 (λ e. absurd (can.1 (role_there c.views seat ∙ e)))
-step_on n c good Poll can = poll_on n c good
+pub step_reaches : (n : ℕ) (c : Moment) (good : IsReachable n c) (step : Step) → CanStep n (map role_of c.views) step → StaysReachable n c good step
+step_reaches n c good (Mark seat slot) can = wake_reaches n c good (Mark seat slot) can.0 (λ _. can.1)
+step_reaches n c good (Go seat) can = wake_reaches n c good (Go seat) can.0 (λ e. absurd (can.1 (role_there c.views seat ∙ e)))
+step_reaches n c good Poll can = poll_reaches n c good
 
 -- after a legal schedule
-pub good_on : (n : ℕ) (c : Moment) (good : Good n c) (steps : List Step) → Legal n c steps → Good n (run n c steps)
-good_on n c good [] legal = good
-good_on n c good (s ∷ ss) legal = good_on n (goes n c s) (step_on n c good s legal.0).0 ss legal.1
+pub run_reaches : (n : ℕ) (c : Moment) (good : IsReachable n c) (steps : List Step) → Legal n c steps → IsReachable n (run n c steps)
+run_reaches n c good [] legal = good
+run_reaches n c good (s ∷ ss) legal = run_reaches n (after_step n c s) (step_reaches n c good s legal.0).0 ss legal.1

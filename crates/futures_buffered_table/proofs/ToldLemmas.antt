@@ -5,12 +5,12 @@ use Rattle.futures_buffered_table.specs.declared.view.Phase.TheVariants.{Start, 
 use Rattle.futures_buffered_table.specs.declared.view.Role.{Role}
 use Rattle.futures_buffered_table.specs.declared.view.Role.TheVariants.{Idle, Won, Cleared, Swapped, Polls}
 use Rattle.futures_buffered_table.specs.declared.view.View.{View}
-use Rattle.futures_buffered_table.specs.OneStep.{touches}
+use Rattle.futures_buffered_table.specs.OneStep.{word_of_role}
 use Rattle.futures_buffered_table.specs.Row.{same, times, next, owed, link, tail}
 use Rattle.futures_buffered_table.specs.RowInvariant.{KeepsRow}
 use Rattle.futures_buffered_table.proofs.SumsLemmas.{same_cases, same_here}
 use Rattle.futures_buffered_table.proofs.RowsLemmas.{next_first, last_in}
-use Rattle.futures_buffered_table.specs.Rule.{Tells}
+use Rattle.futures_buffered_table.specs.Rule.{MayFind}
 
 head_in : (h : ℕ) (rest : List ℕ) → 0 < times h (h ∷ rest)
 head_in h rest = let a = same_here h in omega arith
@@ -20,7 +20,7 @@ module _ (n h : ℕ) (rest : List ℕ) (poller : ℕ) (words : List ℕ) (views 
   tail_below = (R.linked (tail n words) (subst (λ (q : ℕ). 0 < times q (h ∷ rest)) R.ends (last_in h rest))).0
 
   -- what the rule tells of the number that a wake's step finds
-  pub wake_tells : (slot : ℕ) (role : Role) → (role ≡ Idle → slot < n) → ((head : ℕ) (phase : Phase) → role ≢ Polls head phase) → Tells n role (get_or words (touches n slot role) 0)
+  pub wake_tells : (slot : ℕ) (role : Role) → (role ≡ Idle → slot < n) → ((head : ℕ) (phase : Phase) → role ≢ Polls head phase) → MayFind n role (get_or words (word_of_role n slot role) 0)
   wake_tells slot Idle lt wakes = (R.whereabouts slot (lt refl)).1
   wake_tells slot (Won e) lt wakes = tt
   wake_tells slot (Cleared e) lt wakes = tail_below
@@ -49,7 +49,7 @@ module _ (n h : ℕ) (rest : List ℕ) (poller : ℕ) (words : List ℕ) (views 
           ⊎_elim (λ (t : (h ≡ x) × (same h x ≡ 1)). absurd (let d = same_here h in omega arith)) (λ (t : (h ≢ x) × (same h x ≡ 0)). grind arith) (same_cases h x)
 
   -- what the rule tells of the number that a step of a taking finds
-  pub poll_tells : (slot : ℕ) (phase : Phase) → Tells n (Polls h phase) (get_or words (touches n slot (Polls h phase)) 0)
+  pub poll_tells : (slot : ℕ) (phase : Phase) → MayFind n (Polls h phase) (get_or words (word_of_role n slot (Polls h phase)) 0)
   poll_tells slot Start = (link_low, stub_low)
   poll_tells slot AtStub = tt
   poll_tells slot Moved = link_low

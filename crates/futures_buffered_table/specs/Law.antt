@@ -19,35 +19,35 @@ pub record Wake : Type 0 where
   pub made : ℕ
 
 -- what this step of the seat makes of its wake
-abbrev pub wake_on : Step → StepReply → Wake → Wake
-wake_on (Mark seat i) More w = record { slot = i; made = 1 }
-wake_on (Go seat) More w = record { slot = w.slot; made = suc w.made }
-wake_on _ _ w = record { slot = 0; made = 0 }
+abbrev pub wake_after : Step → StepReply → Wake → Wake
+wake_after (Mark seat i) More w = record { slot = i; made = 1 }
+wake_after (Go seat) More w = record { slot = w.slot; made = suc w.made }
+wake_after _ _ w = record { slot = 0; made = 0 }
 
 -- the wake that this seat has under way
 abbrev pub wake_of : ℕ → List Turn → Wake
 wake_of seat [] = record { slot = 0; made = 0 }
-wake_of seat (t ∷ past) = if seat_of t.step == seat then wake_on t.step t.reply (wake_of seat past) else wake_of seat past
+wake_of seat (t ∷ past) = if seat_of t.step == seat then wake_after t.step t.reply (wake_of seat past) else wake_of seat past
 
 -- the third step of a wake, its tail swap, puts its slot in
-abbrev pub put_by : Step → StepReply → Wake → List ℕ
-put_by (Go seat) More w = if w.made == 2 then w.slot ∷ [] else []
-put_by _ _ w = []
+abbrev pub put_in_by : Step → StepReply → Wake → List ℕ
+put_in_by (Go seat) More w = if w.made == 2 then w.slot ∷ [] else []
+put_in_by _ _ w = []
 
 -- the slots put in, in order
 abbrev pub put_in : List Turn → List ℕ
 put_in [] = []
-put_in (t ∷ past) = put_in past ++ put_by t.step t.reply (wake_of (seat_of t.step) past)
+put_in (t ∷ past) = put_in past ++ put_in_by t.step t.reply (wake_of (seat_of t.step) past)
 
 -- the slot that a reply names
-abbrev pub slot_in : StepReply → List ℕ
-slot_in (Taken (Slot i)) = i ∷ []
-slot_in _ = []
+abbrev pub slot_named : StepReply → List ℕ
+slot_named (Taken (Slot i)) = i ∷ []
+slot_named _ = []
 
 -- the slots answered, in order
 abbrev pub answered : List Turn → List ℕ
 answered [] = []
-answered (t ∷ past) = answered past ++ slot_in t.reply
+answered (t ∷ past) = answered past ++ slot_named t.reply
 
 -- some waker stands between its tail swap, its third step, and its link write, its fourth
 abbrev pub WakerStands : List Turn → Type 0

@@ -3,9 +3,9 @@ use Rattle.std.specs.Prelude.{◌≡◌, ℕ, List, [], ◌∷◌, ◌++◌, map
 use Rattle.futures_buffered_table.specs.declared.view.Role.{Role}
 use Rattle.futures_buffered_table.specs.declared.step.Step.{Step}
 use Rattle.futures_buffered_table.specs.declared.step.StepReply.{StepReply}
-use Rattle.futures_buffered_table.specs.OneStep.{touches, puts, role_after, reply_of}
+use Rattle.futures_buffered_table.specs.OneStep.{word_of_role, put_by_role, next_role, reply_of_role}
 use Rattle.futures_buffered_table.specs.Schedule.{role_at, CanStep, seat_of, slot_of, Moment, at_start, run, Legal, replies_of}
-use Rattle.futures_buffered_table.specs.Tally.{Tallied}
+use Rattle.futures_buffered_table.specs.Tally.{LosesNoMark}
 use Rattle.futures_buffered_table.specs.Views.{role_of}
 use Rattle.futures_buffered_table.specs.Whereabouts.{Whereabouts}
 
@@ -17,31 +17,31 @@ pub record Machine : Type 0 where
   pub roles : List Role
 
 -- these are the words and roles of this moment
-abbrev pub Shown : List ℕ → List Role → Moment → Type 0
-Shown words roles c = (words ≡ c.words) × (roles ≡ map role_of c.views)
+abbrev pub AreThoseOf : List ℕ → List Role → Moment → Type 0
+AreThoseOf words roles c = (words ≡ c.words) × (roles ≡ map role_of c.views)
 
 -- a machine to which no step was made
 abbrev pub IsNew : ℕ → Machine → Type 0
-IsNew n m = (m.capacity ≡ n) × Shown m.words m.roles (at_start n)
+IsNew n m = (m.capacity ≡ n) × AreThoseOf m.words m.roles (at_start n)
 
 -- the step can be made now
-abbrev pub May : Machine → Step → Type 0
-May m step = CanStep m.capacity m.roles step
+abbrev pub CanMake : Machine → Step → Type 0
+CanMake m step = CanStep m.capacity m.roles step
 
 -- what the step makes of the machine, and what it answers
-abbrev pub Steps : Machine → Step → Machine → StepReply → Type 0
-Steps old step new reply =
-    let n = old.capacity in let seat = seat_of step in let role = role_at old.roles seat in let word = touches n (slot_of step) role in
+abbrev pub MakesStep : Machine → Step → Machine → StepReply → Type 0
+MakesStep old step new reply =
+    let n = old.capacity in let seat = seat_of step in let role = role_at old.roles seat in let word = word_of_role n (slot_of step) role in
     let found = slice_index old.words word in
-    (new.capacity ≡ n) × (new.words ≡ slice_set old.words word (puts n role found)) × (new.roles ≡ slice_set old.roles seat (role_after n (slot_of step) role found)) × (reply ≡ reply_of n role found)
+    (new.capacity ≡ n) × (new.words ≡ slice_set old.words word (put_by_role n role found)) × (new.roles ≡ slice_set old.roles seat (next_role n (slot_of step) role found)) × (reply ≡ reply_of_role n role found)
 
 -- this schedule is legal, and leads a new machine to this one
 abbrev pub Leads : List Step → Machine → Type 0
-Leads schedule m = Legal m.capacity (at_start m.capacity) schedule × Shown m.words m.roles (run m.capacity (at_start m.capacity) schedule)
+Leads schedule m = Legal m.capacity (at_start m.capacity) schedule × AreThoseOf m.words m.roles (run m.capacity (at_start m.capacity) schedule)
 
 -- some legal schedule led here
-abbrev pub Reached : Machine → Type 0
-Reached m = (schedule : List Step) × Leads schedule m
+abbrev pub IsLedTo : Machine → Type 0
+IsLedTo m = (schedule : List Step) × Leads schedule m
 
 -- the replies of a whole schedule on a machine of this one's capacity
 abbrev pub replies_to : Machine → List Step → List StepReply
@@ -54,4 +54,4 @@ LeadsOn old step new reply = (schedule : List Step) → Leads schedule old → L
 -- some legal schedule led here, and with the lists of steps that it made each slot is in its one place and no mark was lost
 abbrev pub IsPlaced : Machine → Type 0
 IsPlaced m = (schedule : List Step) × Leads schedule m
-    × (let views = (run m.capacity (at_start m.capacity) schedule).views in Whereabouts m.capacity m.words views × Tallied m.capacity m.words views)
+    × (let views = (run m.capacity (at_start m.capacity) schedule).views in Whereabouts m.capacity m.words views × LosesNoMark m.capacity m.words views)

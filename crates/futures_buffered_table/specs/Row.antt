@@ -50,5 +50,5 @@ abbrev pub owed : List View → ℕ → ℕ
 owed views p = total (λ v. owed_by p v.role) views
 
 -- the link of p names the next entry, or it names none and one seat owes it
-abbrev pub Linked : ℕ → ℕ → ℕ → Type 0
-Linked next link owed = ((link ≡ next) × (owed ≡ 0)) ⊎ ((link ≡ 0) × (owed ≡ 1) × (0 < next))
+abbrev pub IsLinked : ℕ → ℕ → ℕ → Type 0
+IsLinked next link owed = ((link ≡ next) × (owed ≡ 0)) ⊎ ((link ≡ 0) × (owed ≡ 1) × (0 < next))

@@ -7,19 +7,19 @@ use Rattle.futures_buffered_table.specs.declared.view.Phase.TheVariants.{AtStub}
 use Rattle.futures_buffered_table.specs.declared.view.Role.TheVariants.{Polls}
 use Rattle.futures_buffered_table.specs.declared.view.View.{View}
 use Rattle.futures_buffered_table.specs.Row.{total, mark, tail}
-use Rattle.futures_buffered_table.specs.Rule.{Held}
+use Rattle.futures_buffered_table.specs.Rule.{HoldsRow}
 use Rattle.futures_buffered_table.specs.Tally.{wins, unmarks}
 use Rattle.futures_buffered_table.specs.Whereabouts.{Whereabouts}
 
 -- each slot is in its one place, in a row from the poller's head to the tail
 abbrev pub RulePlacesSlots : Type 0
-RulePlacesSlots = (n : ℕ) (s : State ℕ View) → Held n s → Whereabouts n s.words s.views
+RulePlacesSlots = (n : ℕ) (s : State ℕ View) → HoldsRow n s → Whereabouts n s.words s.views
 
 -- where the poller has found no link at the stub, and the tail word names the stub, the row is the stub alone: it holds no slot
 abbrev pub RuleEmptiesRow : Type 0
-RuleEmptiesRow = (n : ℕ) (s : State ℕ View) → Held n s → (j : ℕ) (v : View) (h : ℕ) → get_elem? s.views j ≡ some v → v.role ≡ Polls h AtStub → tail n s.words ≡ n
+RuleEmptiesRow = (n : ℕ) (s : State ℕ View) → HoldsRow n s → (j : ℕ) (v : View) (h : ℕ) → get_elem? s.views j ≡ some v → v.role ≡ Polls h AtStub → tail n s.words ≡ n
     → (at : Whereabouts n s.words s.views) × (at.head ≡ n) × (at.rest ≡ [])
 
 -- for each slot, the mark swaps in all lists that found it clear are the unmarks in all lists, and one more where it is marked
 abbrev pub RuleLosesNoMark : Type 0
-RuleLosesNoMark = (n : ℕ) (s : State ℕ View) → Held n s → (e : ℕ) → e < n → total (λ v. wins e v.steps) s.views ≡ total (λ v. unmarks e v.steps) s.views + mark s.words e
+RuleLosesNoMark = (n : ℕ) (s : State ℕ View) → HoldsRow n s → (e : ℕ) → e < n → total (λ v. wins e v.steps) s.views ≡ total (λ v. unmarks e v.steps) s.views + mark s.words e

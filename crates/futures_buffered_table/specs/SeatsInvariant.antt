@@ -31,7 +31,7 @@ pub record KeepsPoller (table : TableId) (me : Me ℕ View) (head : ℕ) : Type 
   pub low : head ≤ me.0.stub
 
 -- so many words, no slot of the table, and each mark is clear or set
-pub record KeepsLeft (words : List ℕ) (count slots capacity : ℕ) : Type 0 where
+pub record KeepsClosed (words : List ℕ) (count slots capacity : ℕ) : Type 0 where
   pub wide : count ≡ capacity + capacity + 2
   pub no_slots : slots ≡ 0
   pub marks : (e : ℕ) → e < capacity → mark words e ≤ 1

@@ -4,32 +4,32 @@ use Rattle.futures_buffered_table.specs.declared.answer.Taken.{Taken}
 use Rattle.futures_buffered_table.specs.declared.answer.Taken.TheVariants.{Slot, Empty, Pause}
 use Rattle.futures_buffered_table.specs.declared.answer.Woke.{Woke}
 use Rattle.futures_buffered_table.specs.declared.answer.Woke.TheVariants.{Fresh, Already}
-use Rattle.futures_buffered_table.specs.declared.view.Made.{Made}
-use Rattle.futures_buffered_table.specs.declared.view.Made.TheVariants.{MarkSwap, LinkClear, TailSwap, LinkWrite, LinkRead, TailRead, Unmark}
+use Rattle.futures_buffered_table.specs.declared.view.AtomicStep.{AtomicStep}
+use Rattle.futures_buffered_table.specs.declared.view.AtomicStep.TheVariants.{MarkSwap, LinkClear, TailSwap, LinkWrite, LinkRead, TailRead, Unmark}
 
 -- a wake of the slot i: one step where its mark was set, four where it was clear
-abbrev pub IsWake : ℕ → List Made → Woke → Type 0
+abbrev pub IsWake : ℕ → List AtomicStep → Woke → Type 0
 IsWake i shape Already = shape ≡ MarkSwap i 1 ∷ []
 IsWake i shape Fresh = (p : ℕ) × (shape ≡ MarkSwap i 0 ∷ LinkClear i ∷ TailSwap i p ∷ LinkWrite p i ∷ [])
 
 -- In the shapes of a taking, h is the poller's head before, and `head` its head after.
 -- the link of h names the entry `head`: the slot h is answered, its unmark the last step
-abbrev pub IsHanded : ℕ → List Made → Taken → ℕ → Type 0
+abbrev pub IsHanded : ℕ → List AtomicStep → Taken → ℕ → Type 0
 IsHanded h shape answer head = (shape ≡ LinkRead h (suc head) ∷ Unmark h ∷ []) × (answer ≡ Slot h)
 
 -- h is a slot, and its link named none
-abbrev pub IsAtLast : ℕ → ℕ → List Made → Taken → ℕ → Type 0
+abbrev pub IsAtLast : ℕ → ℕ → List AtomicStep → Taken → ℕ → Type 0
 IsAtLast n h shape answer head =
     ((t : ℕ) × (t ≢ h) × (shape ≡ TailRead t ∷ []) × (answer ≡ Pause) × (head ≡ h))
-    ⊎ ((p : ℕ) × (rest : List Made) × (shape ≡ TailRead h ∷ LinkClear n ∷ TailSwap n p ∷ LinkWrite p n ∷ rest) × (((rest ≡ LinkRead h 0 ∷ []) × (answer ≡ Pause) × (head ≡ h)) ⊎ IsHanded h rest answer head))
+    ⊎ ((p : ℕ) × (rest : List AtomicStep) × (shape ≡ TailRead h ∷ LinkClear n ∷ TailSwap n p ∷ LinkWrite p n ∷ rest) × (((rest ≡ LinkRead h 0 ∷ []) × (answer ≡ Pause) × (head ≡ h)) ⊎ IsHanded h rest answer head))
 
 -- h is a slot
-abbrev pub IsFromSlot : ℕ → ℕ → List Made → Taken → ℕ → Type 0
-IsFromSlot n h shape answer head = IsHanded h shape answer head ⊎ ((rest : List Made) × (shape ≡ LinkRead h 0 ∷ rest) × IsAtLast n h rest answer head)
+abbrev pub IsFromSlot : ℕ → ℕ → List AtomicStep → Taken → ℕ → Type 0
+IsFromSlot n h shape answer head = IsHanded h shape answer head ⊎ ((rest : List AtomicStep) × (shape ≡ LinkRead h 0 ∷ rest) × IsAtLast n h rest answer head)
 
 -- h is the stub and its link names none: Empty where the tail is the stub too, else Pause; or the head moves to the slot that it names; or h is a slot
-abbrev pub IsTaking : ℕ → ℕ → List Made → Taken → ℕ → Type 0
+abbrev pub IsTaking : ℕ → ℕ → List AtomicStep → Taken → ℕ → Type 0
 IsTaking n h shape answer head =
     ((h ≡ n) × ((t : ℕ) × (shape ≡ LinkRead n 0 ∷ TailRead t ∷ []) × (head ≡ n) × (((t ≡ n) × (answer ≡ Empty)) ⊎ ((t ≢ n) × (answer ≡ Pause)))))
-    ⊎ ((h ≡ n) × ((q : ℕ) × (rest : List Made) × (shape ≡ LinkRead n (suc q) ∷ rest) × IsFromSlot n q rest answer head))
+    ⊎ ((h ≡ n) × ((q : ℕ) × (rest : List AtomicStep) × (shape ≡ LinkRead n (suc q) ∷ rest) × IsFromSlot n q rest answer head))
     ⊎ ((h ≢ n) × IsFromSlot n h shape answer head)

@@ -1,14 +1,14 @@
 -- A seat of the table in the midst of a call: what the parts of a taking ask of it and leave.
 use Rattle.std.specs.Prelude.{◌≡◌, ℕ, List, [], ◌++◌}
 use Rattle.atomic_table.specs.declared.shared.Seat.{Seat}
-use Rattle.futures_buffered_table.specs.declared.view.Made.{Made}
+use Rattle.futures_buffered_table.specs.declared.view.AtomicStep.{AtomicStep}
 use Rattle.futures_buffered_table.specs.declared.view.Role.{Role}
 use Rattle.futures_buffered_table.specs.declared.view.View.{View}
 
 -- the seat is one for n slots, in this role
-abbrev pub Sits : ℕ → Role → Seat ℕ View → Type 0
-Sits n role seat = (seat.me.0.stub ≡ n) × (seat.me.0.role ≡ role) × (seat.me.1 ≡ [])
+abbrev pub IsInRole : ℕ → Role → Seat ℕ View → Type 0
+IsInRole n role seat = (seat.me.0.stub ≡ n) × (seat.me.0.role ≡ role) × (seat.me.1 ≡ [])
 
 -- the same seat, which has made these steps more
-abbrev pub Came : Seat ℕ View → Seat ℕ View → List Made → Type 0
-Came before now shape = (now.table_id ≡ before.table_id) × (now.me.0.steps ≡ before.me.0.steps ++ shape)
+abbrev pub Adds : Seat ℕ View → Seat ℕ View → List AtomicStep → Type 0
+Adds before now shape = (now.table_id ≡ before.table_id) × (now.me.0.steps ≡ before.me.0.steps ++ shape)

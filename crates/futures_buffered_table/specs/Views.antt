@@ -9,12 +9,12 @@ abbrev pub role_of : View → Role
 role_of v = v.role
 
 -- the poll seat's at first: its head is the stub
-abbrev pub polling : ℕ → View
-polling n = record { stub = n; role = Polls n Start; steps = [] }
+abbrev pub first_poller : ℕ → View
+first_poller n = record { stub = n; role = Polls n Start; steps = [] }
 
 -- a new wake seat's, beside another seat of its list
-abbrev pub fresh_beside : View → View
-fresh_beside v = record { stub = v.stub; role = Idle; steps = [] }
+abbrev pub new_waker_beside : View → View
+new_waker_beside v = record { stub = v.stub; role = Idle; steps = [] }
 
 -- the seat that another went into keeps both lists
 abbrev pub with_steps_of : View → View → View

@@ -6,7 +6,7 @@ use Rattle.futures_buffered_table.specs.declared.view.Phase.TheVariants.{StubPut
 use Rattle.futures_buffered_table.specs.declared.view.Role.{Role}
 use Rattle.futures_buffered_table.specs.declared.view.Role.TheVariants.{Won, Cleared, Swapped, Polls}
 use Rattle.futures_buffered_table.specs.declared.view.View.{View}
-use Rattle.futures_buffered_table.specs.Row.{total, same, times, next, last_entry, owed, mark, link, tail, Linked}
+use Rattle.futures_buffered_table.specs.Row.{total, same, times, next, last_entry, owed, mark, link, tail, IsLinked}
 
 -- 1 where a seat in this role has won the slot e and not yet put it in
 abbrev pub wakes_by : ℕ → Role → ℕ
@@ -39,7 +39,7 @@ pub record Whereabouts (n : ℕ) (words : List ℕ) (views : List View) : Type 0
   -- the row begins with the poller's head, goes on by links or by what one seat owes, and ends with the tail word
   pub head : ℕ
   pub rest : List ℕ
-  pub linked : (p : ℕ) → 0 < times p (head ∷ rest) → Linked (next p head rest) (link n words p) (owed views p)
+  pub linked : (p : ℕ) → 0 < times p (head ∷ rest) → IsLinked (next p head rest) (link n words p) (owed views p)
   pub ends : last_entry head rest ≡ tail n words
   pub seats : (j : ℕ) (v : View) → get_elem? views j ≡ some v → AgreesWith n head rest v.role
   -- a slot that is not idle is once in the row, or with one wake seat, or with the poller, and no two of these: then alone its mark is set

@@ -20,14 +20,14 @@ pub struct Closed {
 
 impl Model for Closed {
     ghost use Rattle.std.specs.Mem.Slots.{slots_items, slots_len, IsFull};
-    ghost use Rattle.futures_buffered_table.specs.Seats.{LeftWords};
-    ghost use Rattle.futures_buffered_table.specs.SeatsInvariant.{KeepsLeft};
+    ghost use Rattle.futures_buffered_table.specs.Seats.{ClosedWords};
+    ghost use Rattle.futures_buffered_table.specs.SeatsInvariant.{KeepsClosed};
 
-    ghost Value = { LeftWords };
+    ghost Value = { ClosedWords };
 
     ghost view = { λ c. record { capacity = c.capacity; words = slots_items c.words.words } };
 
-    ghost invariant = { λ c. IsFull c.words.words × KeepsLeft (slots_items c.words.words) (slots_len c.words.words) (slots_len c.words.slots) c.capacity };
+    ghost invariant = { λ c. IsFull c.words.words × KeepsClosed (slots_items c.words.words) (slots_len c.words.words) (slots_len c.words.slots) c.capacity };
 }
 
 impl WakeSeat {

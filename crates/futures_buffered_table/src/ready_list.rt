@@ -17,10 +17,10 @@ pub struct ReadyList {
 }
 
 impl Model for ReadyList {
-    ghost use Rattle.futures_buffered_table.specs.Seats.{SharedList};
+    ghost use Rattle.futures_buffered_table.specs.Seats.{ListIdentity};
     ghost use Rattle.futures_buffered_table.specs.SeatsInvariant.{KeepsList};
 
-    ghost Value = { SharedList };
+    ghost Value = { ListIdentity };
 
     ghost view = { λ l. record { list = l.table.shared.table_id; capacity = l.capacity } };
 

@@ -6,4 +6,4 @@ pub use crate::rule::{IntoPoller, NewWaker, RowRule, SeatStep};
 pub use crate::schedule::steps;
 pub use crate::step::{Step, StepFault, StepReply, WAKE_SEATS};
 pub use crate::step_machine::StepMachine;
-pub use crate::view::{Made, Phase, Role, View};
+pub use crate::view::{AtomicStep, Phase, Role, View};

@@ -76,7 +76,7 @@ fn seat_and_slot(capacity: usize, roles: &[Role], step: Step) -> Option<(usize, 
 }
 
 impl StepMachine {
-    ghost use Rattle.futures_buffered_table.specs.Machine.{IsNew, IsPlaced, LeadsOn, May, Steps};
+    ghost use Rattle.futures_buffered_table.specs.Machine.{IsNew, IsPlaced, LeadsOn, CanMake, MakesStep};
     ghost use Rattle.futures_buffered_table.specs.Answer.{RefusesTooLarge};
 
     /// A machine for an empty list of so many slots. Tests the capacity before it asks for memory.
@@ -102,8 +102,8 @@ impl StepMachine {
 
     /// Makes a step, in constant time and with no memory. None where the step cannot be made.
     pub fn step(&mut self, step: Step) -> Option<StepReply>
-        ensures refused { IfNone result ((May self.old step → ⊥) × (self.new ≡ self.old)) }
-        ensures made { IfSome result (λ reply. May self.old step × Steps self.old step self.new reply) }
+        ensures refused { IfNone result ((CanMake self.old step → ⊥) × (self.new ≡ self.old)) }
+        ensures made { IfSome result (λ reply. CanMake self.old step × MakesStep self.old step self.new reply) }
         ensures leads { IfSome result (LeadsOn self.old step self.new) }
         ensures placed { ∥ IsPlaced self.new ∥₁ }
     {

@@ -1,11 +1,11 @@
 //! A taking: the steps of the poll seat, from its head.
 ghost use Rattle.std.specs.Prelude.{◌≡◌, ◌≢◌, ℕ, ◌+◌, ◌<◌, ◌≤◌, List, [], ◌∷◌, ◌++◌};
 ghost use Rattle.futures_buffered_table.specs.declared.answer.Taken.TheVariants.{Empty};
-ghost use Rattle.futures_buffered_table.specs.declared.view.Made.{Made};
-ghost use Rattle.futures_buffered_table.specs.declared.view.Made.TheVariants.{LinkClear, TailSwap, LinkWrite, LinkRead, TailRead, Unmark};
+ghost use Rattle.futures_buffered_table.specs.declared.view.AtomicStep.{AtomicStep};
+ghost use Rattle.futures_buffered_table.specs.declared.view.AtomicStep.TheVariants.{LinkClear, TailSwap, LinkWrite, LinkRead, TailRead, Unmark};
 ghost use Rattle.futures_buffered_table.specs.declared.view.Phase.TheVariants.{Start, AtStub, Moved, NoNext, Last, StubCleared, StubPut, StubLinked, InHand};
 ghost use Rattle.futures_buffered_table.specs.declared.view.Role.TheVariants.{Polls};
-ghost use Rattle.futures_buffered_table.specs.OneStep.{role_after};
+ghost use Rattle.futures_buffered_table.specs.OneStep.{next_role};
 ghost use Rattle.futures_buffered_table.specs.Shapes.{IsAtLast, IsFromSlot, IsTaking};
 
 use crate::answer::Taken;
@@ -15,15 +15,15 @@ use crate::view::View;
 use atomic_table::Seat;
 
 impl ReadyList {
-    ghost use Rattle.futures_buffered_table.specs.Takings.{Sits, Came};
+    ghost use Rattle.futures_buffered_table.specs.Takings.{IsInRole, Adds};
 
     // The link of the head, as a taking begins.
     fn read_first(&self, seat: &mut Seat<u8, View>, head: usize) -> usize
         requires list { seat.old.table_id ≡ self.now.list }
-        requires phase { Sits self.now.capacity (Polls head Start) seat.old × (head ≤ self.now.capacity) }
+        requires phase { IsInRole self.now.capacity (Polls head Start) seat.old × (head ≤ self.now.capacity) }
         ensures low { (result ≤ self.now.capacity + 1) × (head ≡ self.now.capacity → result ≤ self.now.capacity) }
-        ensures phase { Sits self.now.capacity (role_after self.now.capacity 0 (Polls head Start) result) seat.new }
-        ensures came { Came seat.old seat.new (LinkRead head result ∷ []) }
+        ensures phase { IsInRole self.now.capacity (next_role self.now.capacity 0 (Polls head Start) result) seat.new }
+        ensures came { Adds seat.old seat.new (LinkRead head result ∷ []) }
     {
         self.table
             .shared
@@ -33,9 +33,9 @@ impl ReadyList {
     // The tail, where the head is a slot whose link named none.
     fn read_tail(&self, seat: &mut Seat<u8, View>, head: usize) -> usize
         requires list { seat.old.table_id ≡ self.now.list }
-        requires phase { Sits self.now.capacity (Polls head NoNext) seat.old }
-        ensures phase { Sits self.now.capacity (role_after self.now.capacity 0 (Polls head NoNext) result) seat.new }
-        ensures came { Came seat.old seat.new (TailRead result ∷ []) }
+        requires phase { IsInRole self.now.capacity (Polls head NoNext) seat.old }
+        ensures phase { IsInRole self.now.capacity (next_role self.now.capacity 0 (Polls head NoNext) result) seat.new }
+        ensures came { Adds seat.old seat.new (TailRead result ∷ []) }
     {
         self.table
             .shared
@@ -45,9 +45,9 @@ impl ReadyList {
     // The stub's link names none.
     fn clear_stub(&self, seat: &mut Seat<u8, View>, head: usize)
         requires list { seat.old.table_id ≡ self.now.list }
-        requires phase { Sits self.now.capacity (Polls head Last) seat.old }
-        ensures phase { Sits self.now.capacity (Polls head StubCleared) seat.new }
-        ensures came { Came seat.old seat.new (LinkClear self.now.capacity ∷ []) }
+        requires phase { IsInRole self.now.capacity (Polls head Last) seat.old }
+        ensures phase { IsInRole self.now.capacity (Polls head StubCleared) seat.new }
+        ensures came { Adds seat.old seat.new (LinkClear self.now.capacity ∷ []) }
     {
         self.table
             .shared
@@ -57,10 +57,10 @@ impl ReadyList {
     // The stub becomes the tail.
     fn swap_stub(&self, seat: &mut Seat<u8, View>, head: usize) -> usize
         requires list { seat.old.table_id ≡ self.now.list }
-        requires phase { Sits self.now.capacity (Polls head StubCleared) seat.old }
+        requires phase { IsInRole self.now.capacity (Polls head StubCleared) seat.old }
         ensures low { result ≤ self.now.capacity }
-        ensures phase { Sits self.now.capacity (Polls head (StubPut result)) seat.new }
-        ensures came { Came seat.old seat.new (TailSwap self.now.capacity result ∷ []) }
+        ensures phase { IsInRole self.now.capacity (Polls head (StubPut result)) seat.new }
+        ensures came { Adds seat.old seat.new (TailSwap self.now.capacity result ∷ []) }
     {
         self.table.shared.swap::<SeatStep>(
             seat,
@@ -72,9 +72,9 @@ impl ReadyList {
     // The entry before the stub names it.
     fn link_stub(&self, seat: &mut Seat<u8, View>, head: usize, before: usize)
         requires list { seat.old.table_id ≡ self.now.list }
-        requires phase { Sits self.now.capacity (Polls head (StubPut before)) seat.old × (before ≤ self.now.capacity) }
-        ensures phase { Sits self.now.capacity (Polls head StubLinked) seat.new }
-        ensures came { Came seat.old seat.new (LinkWrite before self.now.capacity ∷ []) }
+        requires phase { IsInRole self.now.capacity (Polls head (StubPut before)) seat.old × (before ≤ self.now.capacity) }
+        ensures phase { IsInRole self.now.capacity (Polls head StubLinked) seat.new }
+        ensures came { Adds seat.old seat.new (LinkWrite before self.now.capacity ∷ []) }
     {
         self.table
             .shared
@@ -84,10 +84,10 @@ impl ReadyList {
     // The link of a slot to which the stub gave way.
     fn read_slot(&self, seat: &mut Seat<u8, View>, head: usize) -> usize
         requires list { seat.old.table_id ≡ self.now.list }
-        requires phase { Sits self.now.capacity (Polls head Moved) seat.old × (head ≤ self.now.capacity) }
+        requires phase { IsInRole self.now.capacity (Polls head Moved) seat.old × (head ≤ self.now.capacity) }
         ensures low { result ≤ self.now.capacity + 1 }
-        ensures phase { Sits self.now.capacity (role_after self.now.capacity 0 (Polls head Moved) result) seat.new }
-        ensures came { Came seat.old seat.new (LinkRead head result ∷ []) }
+        ensures phase { IsInRole self.now.capacity (next_role self.now.capacity 0 (Polls head Moved) result) seat.new }
+        ensures came { Adds seat.old seat.new (LinkRead head result ∷ []) }
     {
         self.table
             .shared
@@ -97,10 +97,10 @@ impl ReadyList {
     // The link of the head, now that the stub stands behind it.
     fn read_again(&self, seat: &mut Seat<u8, View>, head: usize) -> usize
         requires list { seat.old.table_id ≡ self.now.list }
-        requires phase { Sits self.now.capacity (Polls head StubLinked) seat.old × (head ≤ self.now.capacity) }
+        requires phase { IsInRole self.now.capacity (Polls head StubLinked) seat.old × (head ≤ self.now.capacity) }
         ensures low { result ≤ self.now.capacity + 1 }
-        ensures phase { Sits self.now.capacity (role_after self.now.capacity 0 (Polls head StubLinked) result) seat.new }
-        ensures came { Came seat.old seat.new (LinkRead head result ∷ []) }
+        ensures phase { IsInRole self.now.capacity (next_role self.now.capacity 0 (Polls head StubLinked) result) seat.new }
+        ensures came { Adds seat.old seat.new (LinkRead head result ∷ []) }
     {
         self.table
             .shared
@@ -110,9 +110,9 @@ impl ReadyList {
     // The tail, where the head is the stub, whose link named none.
     fn read_tail_first(&self, seat: &mut Seat<u8, View>, head: usize) -> usize
         requires list { seat.old.table_id ≡ self.now.list }
-        requires phase { Sits self.now.capacity (Polls head AtStub) seat.old }
-        ensures phase { Sits self.now.capacity (Polls head Start) seat.new }
-        ensures came { Came seat.old seat.new (TailRead result ∷ []) }
+        requires phase { IsInRole self.now.capacity (Polls head AtStub) seat.old }
+        ensures phase { IsInRole self.now.capacity (Polls head Start) seat.new }
+        ensures came { Adds seat.old seat.new (TailRead result ∷ []) }
     {
         self.table
             .shared
@@ -122,9 +122,9 @@ impl ReadyList {
     // The slot's mark is clear.
     fn unmark(&self, seat: &mut Seat<u8, View>, head: usize, slot: usize)
         requires list { seat.old.table_id ≡ self.now.list }
-        requires phase { Sits self.now.capacity (Polls head (InHand slot)) seat.old × (slot ≤ self.now.capacity) }
-        ensures phase { Sits self.now.capacity (Polls head Start) seat.new }
-        ensures came { Came seat.old seat.new (Unmark slot ∷ []) }
+        requires phase { IsInRole self.now.capacity (Polls head (InHand slot)) seat.old × (slot ≤ self.now.capacity) }
+        ensures phase { IsInRole self.now.capacity (Polls head Start) seat.new }
+        ensures came { Adds seat.old seat.new (Unmark slot ∷ []) }
     {
         self.table.shared.store::<SeatStep>(seat, slot, 0);
     }
@@ -132,10 +132,10 @@ impl ReadyList {
     // The head is a slot whose link named none.
     fn take_last(&self, seat: &mut Seat<u8, View>, head: usize) -> (usize, Taken)
         requires list { seat.old.table_id ≡ self.now.list }
-        requires phase { Sits self.now.capacity (Polls head NoNext) seat.old × (head < self.now.capacity) }
-        ensures phase { Sits self.now.capacity (Polls result.0 Start) seat.new × (result.0 ≤ self.now.capacity) }
+        requires phase { IsInRole self.now.capacity (Polls head NoNext) seat.old × (head < self.now.capacity) }
+        ensures phase { IsInRole self.now.capacity (Polls result.0 Start) seat.new × (result.0 ≤ self.now.capacity) }
         ensures never { result.1 ≢ Empty }
-        ensures shape { (shape : List Made) × Came seat.old seat.new shape × IsAtLast self.now.capacity head shape result.1 result.0 }
+        ensures shape { (shape : List AtomicStep) × Adds seat.old seat.new shape × IsAtLast self.now.capacity head shape result.1 result.0 }
     {
         if self.read_tail(seat, head) != head {
             return (head, Taken::Pause);
@@ -154,10 +154,10 @@ impl ReadyList {
     // The head is a slot, to which the stub gave way.
     fn take_slot(&self, seat: &mut Seat<u8, View>, head: usize) -> (usize, Taken)
         requires list { seat.old.table_id ≡ self.now.list }
-        requires phase { Sits self.now.capacity (Polls head Moved) seat.old × (head < self.now.capacity) }
-        ensures phase { Sits self.now.capacity (Polls result.0 Start) seat.new × (result.0 ≤ self.now.capacity) }
+        requires phase { IsInRole self.now.capacity (Polls head Moved) seat.old × (head < self.now.capacity) }
+        ensures phase { IsInRole self.now.capacity (Polls result.0 Start) seat.new × (result.0 ≤ self.now.capacity) }
         ensures never { result.1 ≢ Empty }
-        ensures shape { (shape : List Made) × Came seat.old seat.new shape × IsFromSlot self.now.capacity head shape result.1 result.0 }
+        ensures shape { (shape : List AtomicStep) × Adds seat.old seat.new shape × IsFromSlot self.now.capacity head shape result.1 result.0 }
     {
         let found = self.read_slot(seat, head);
         if found == 0 {
@@ -170,9 +170,9 @@ impl ReadyList {
     // A taking, from this head: the head after it, and its answer.
     fn take_from(&self, seat: &mut Seat<u8, View>, head: usize) -> (usize, Taken)
         requires list { seat.old.table_id ≡ self.now.list }
-        requires phase { Sits self.now.capacity (Polls head Start) seat.old × (head ≤ self.now.capacity) }
-        ensures phase { Sits self.now.capacity (Polls result.0 Start) seat.new × (result.0 ≤ self.now.capacity) }
-        ensures shape { (shape : List Made) × Came seat.old seat.new shape × IsTaking self.now.capacity head shape result.1 result.0 }
+        requires phase { IsInRole self.now.capacity (Polls head Start) seat.old × (head ≤ self.now.capacity) }
+        ensures phase { IsInRole self.now.capacity (Polls result.0 Start) seat.new × (result.0 ≤ self.now.capacity) }
+        ensures shape { (shape : List AtomicStep) × Adds seat.old seat.new shape × IsTaking self.now.capacity head shape result.1 result.0 }
     {
         let found = self.read_first(seat, head);
         if head == self.capacity {
@@ -198,7 +198,7 @@ impl ReadyList {
     pub fn take(&self, seat: &mut PollSeat) -> Taken
         requires { seat.old.list ≡ self.now.list }
         ensures list { seat.new.list ≡ seat.old.list }
-        ensures shape { (shape : List Made) × (seat.new.steps ≡ seat.old.steps ++ shape) × IsTaking self.now.capacity seat.old.head shape result seat.new.head }
+        ensures shape { (shape : List AtomicStep) × (seat.new.steps ≡ seat.old.steps ++ shape) × IsTaking self.now.capacity seat.old.head shape result seat.new.head }
     {
         let _ = &self.table;
         let (head, taken) = self.take_from(&mut seat.seat, seat.head);

@@ -3,7 +3,7 @@ use std::collections::LinkedList;
 
 /// A step that a seat made, with what it found.
 #[derive(Clone, Copy, Debug, PartialEq, Eq)]
-pub enum Made {
+pub enum AtomicStep {
     /// The slot, and what its mark was. The mark is set now.
     MarkSwap(usize, u64),
     /// The entry whose link names none now.
@@ -62,5 +62,5 @@ pub enum Role {
 pub struct View {
     pub stub: usize,
     pub role: Role,
-    pub steps: LinkedList<Made>,
+    pub steps: LinkedList<AtomicStep>,
 }

@@ -1,5 +1,5 @@
 use Rattle.std.proofs.Common.{◌≡◌, ◌∙◌, ℕ, ◌+◌, arith, refl, sym, ap}
-use Rattle.futures_buffered_table.specs.Seats.{SharedList}
+use Rattle.futures_buffered_table.specs.Seats.{ListIdentity}
 use Rattle.futures_buffered_table.specs.declared.view.Phase.TheVariants.{NoNext}
 use Rattle.futures_buffered_table.specs.declared.view.Role.TheVariants.{Polls}
 use Rattle.futures_buffered_table.proofs.TableStepsLemmas.{seated, is_seated, poll_steps}
@@ -8,8 +8,8 @@ use Rattle.futures_buffered_table.proofs.ready_list.ReadyList.read_tail.Goals as
 pub load-requires : goal.load-requires
 load-requires c =
     let f = c.self.inside in let K = c.self.invariant in let s = c.args.seat.now in let n : ℕ = f.capacity in
-    let cap : n ≡ c.args.self.now.capacity = ap (λ (l : SharedList). l.capacity) c.self.view_is in
-    let here = c.requires.list ∙ sym (ap (λ (l : SharedList). l.list) c.self.view_is) in
+    let cap : n ≡ c.args.self.now.capacity = ap (λ (l : ListIdentity). l.capacity) c.self.view_is in
+    let here = c.requires.list ∙ sym (ap (λ (l : ListIdentity). l.list) c.self.view_is) in
     let h : ℕ = c.args.head in let sits = c.requires.phase in
     let is : s.me ≡ seated n (Polls h NoNext) s.me.0.steps = is_seated n (Polls h NoNext) s.me (sits.0 ∙ sym cap) sits.1 sits.2 in
     (here, (let a = K.words in let d = cap in omega arith), poll_steps n _ _ (n + n + 1) h NoNext s.me.0.steps refl _ s.me 0 0 (λ x. x) K.keyed is (λ _. refl))

@@ -1,5 +1,5 @@
 use Rattle.std.proofs.Common.{◌≡◌, ◌∙◌, ℕ, ◌<◌, arith, refl, sym, ap}
-use Rattle.futures_buffered_table.specs.Seats.{SharedList}
+use Rattle.futures_buffered_table.specs.Seats.{ListIdentity}
 use Rattle.futures_buffered_table.specs.declared.view.Role.TheVariants.{Idle}
 use Rattle.futures_buffered_table.proofs.TableStepsLemmas.{seated, is_seated, swaps}
 use Rattle.futures_buffered_table.proofs.ready_list.ReadyList.swap_mark.Goals as goal
@@ -7,8 +7,8 @@ use Rattle.futures_buffered_table.proofs.ready_list.ReadyList.swap_mark.Goals as
 pub swap-requires : goal.swap-requires
 swap-requires c =
     let f = c.self.inside in let K = c.self.invariant in let s = c.args.seat.now in let n : ℕ = f.capacity in
-    let cap : n ≡ c.args.self.now.capacity = ap (λ (l : SharedList). l.capacity) c.self.view_is in
-    let here = c.requires.list ∙ sym (ap (λ (l : SharedList). l.list) c.self.view_is) in
+    let cap : n ≡ c.args.self.now.capacity = ap (λ (l : ListIdentity). l.capacity) c.self.view_is in
+    let here = c.requires.list ∙ sym (ap (λ (l : ListIdentity). l.list) c.self.view_is) in
     let i : ℕ = c.args.slot in let sits = c.requires.phase.0 in
     let is : s.me ≡ seated n Idle s.me.0.steps = is_seated n Idle s.me (sits.0 ∙ sym cap) sits.1 sits.2 in
     let low = c.requires.phase.1 in

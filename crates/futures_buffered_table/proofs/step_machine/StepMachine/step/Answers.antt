@@ -1,7 +1,7 @@
 use Rattle.std.proofs.Common.{rules, List, subst}
 use Rattle.futures_buffered_table.specs.declared.view.Role.{Role}
 use Rattle.futures_buffered_table.specs.Schedule.{CanStep}
-use Rattle.futures_buffered_table.specs.Machine.{Machine, May, Steps, LeadsOn, IsPlaced}
+use Rattle.futures_buffered_table.specs.Machine.{Machine, CanMake, MakesStep, LeadsOn, IsPlaced}
 use Rattle.futures_buffered_table.proofs.ReachesLemmas.{leads_on}
 use Rattle.futures_buffered_table.proofs.StepOnLemmas.{placed, may_touch, may_put, word_low, now, did, keeps}
 use Rattle.futures_buffered_table.proofs.step_machine.StepMachine.step.Goals as goal
@@ -43,7 +43,7 @@ pub returns-clause-made : goal.returns-clause-made
 returns-clause-made c =
     let f = c.self.inside in let m : Machine = record { capacity = f.capacity; words = f.words.items; roles = f.roles.items } in
     let told = c.in_ok-seat.ensures in let can = subst (λ (l : List Role). CanStep f.capacity l c.args.step) c.as_slice.ensures.value told.0 in
-    subst (λ (old : Machine). May old c.args.step × Steps old c.args.step (now m c.self.invariant c.args.step c.in_ok-seat.seat c.in_ok-seat.slot c.index-role.result.now can told.1 told.2 c.index-role.ensures c.touches-word.result c.index-found.result.now c.puts.result c.role_after.result c.reply.result c.touches-word.ensures c.index-found.ensures c.puts.ensures c.role_after.ensures c.reply.ensures) c.reply.result) c.self.view_is (can, did m c.self.invariant c.args.step c.in_ok-seat.seat c.in_ok-seat.slot c.index-role.result.now can told.1 told.2 c.index-role.ensures c.touches-word.result c.index-found.result.now c.puts.result c.role_after.result c.reply.result c.touches-word.ensures c.index-found.ensures c.puts.ensures c.role_after.ensures c.reply.ensures)
+    subst (λ (old : Machine). CanMake old c.args.step × MakesStep old c.args.step (now m c.self.invariant c.args.step c.in_ok-seat.seat c.in_ok-seat.slot c.index-role.result.now can told.1 told.2 c.index-role.ensures c.touches-word.result c.index-found.result.now c.puts.result c.role_after.result c.reply.result c.touches-word.ensures c.index-found.ensures c.puts.ensures c.role_after.ensures c.reply.ensures) c.reply.result) c.self.view_is (can, did m c.self.invariant c.args.step c.in_ok-seat.seat c.in_ok-seat.slot c.index-role.result.now can told.1 told.2 c.index-role.ensures c.touches-word.result c.index-found.result.now c.puts.result c.role_after.result c.reply.result c.touches-word.ensures c.index-found.ensures c.puts.ensures c.role_after.ensures c.reply.ensures)
 
 pub returns-clause-leads : goal.returns-clause-leads
 returns-clause-leads c =
