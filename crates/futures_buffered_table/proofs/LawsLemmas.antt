@@ -1,10 +1,10 @@
 -- What the rule of the table gives of every state.
 use Rattle.std.proofs.Common.{◌≡◌, ℕ, ◌≤◌, List, ◌∷◌, sym, ◌∙◌, subst, arith}
-use Rattle.futures_buffered_table.specs.Row.{times, last_entry}
+use Rattle.futures_buffered_table.specs.Laws.{RuleEmptiesRow, RuleLosesNoMark, RulePlacesSlots}
+use Rattle.futures_buffered_table.proofs.WhereaboutsLemmas.{whereabouts}
 use Rattle.futures_buffered_table.specs.RowInvariant.{FitsRole}
-use Rattle.futures_buffered_table.specs.RuleLaws.{RulePlacesSlots, RuleEmptiesRow, RuleLosesNoMark}
-use Rattle.futures_buffered_table.proofs.AboutsLemmas.{whereabouts}
-use Rattle.futures_buffered_table.proofs.RowsLemmas.{alone}
+use Rattle.futures_buffered_table.proofs.RowLemmas.{alone}
+use Rattle.futures_buffered_table.specs.Row.{last_entry, times}
 
 pub places_slots : RulePlacesSlots
 places_slots = λ n s held. whereabouts n held.0 held.1 held.2 s.words s.views held.3

@@ -4,7 +4,7 @@ use Rattle.futures_buffered_table.specs.declared.view.Phase.TheVariants.{StubPut
 use Rattle.futures_buffered_table.specs.declared.view.Role.{Role}
 use Rattle.futures_buffered_table.specs.declared.view.Role.TheVariants.{Swapped, Polls}
 use Rattle.futures_buffered_table.specs.declared.view.View.{View}
-use Rattle.futures_buffered_table.specs.OneStep.{tail_at}
+use Rattle.futures_buffered_table.specs.Words.{link}
 
 -- the sum of f over xs
 abbrev pub total : {X : Type 0} → (X → ℕ) → List X → ℕ
@@ -28,16 +28,6 @@ next p h (x ∷ xs) = if p == h then suc x else next p x xs
 abbrev pub last_entry : ℕ → List ℕ → ℕ
 last_entry h [] = h
 last_entry h (x ∷ xs) = last_entry x xs
-
--- the mark of an entry, its link, and the tail
-abbrev pub mark : List ℕ → ℕ → ℕ
-mark words e = slice_index words e
-
-abbrev pub link : ℕ → List ℕ → ℕ → ℕ
-link n words e = slice_index words (n + e)
-
-abbrev pub tail : ℕ → List ℕ → ℕ
-tail n words = slice_index words (tail_at n)
 
 -- 1 where this role owes the link of p: it has swapped the tail and not yet written
 abbrev pub owed_by : ℕ → Role → ℕ

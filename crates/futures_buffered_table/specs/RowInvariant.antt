@@ -7,8 +7,9 @@ use Rattle.futures_buffered_table.specs.declared.view.Phase.TheVariants.{Start, 
 use Rattle.futures_buffered_table.specs.declared.view.Role.{Role}
 use Rattle.futures_buffered_table.specs.declared.view.Role.TheVariants.{Idle, Won, Cleared, Swapped, Polls}
 use Rattle.futures_buffered_table.specs.declared.view.View.{View}
-use Rattle.futures_buffered_table.specs.Row.{total, same, times, next, last_entry, owed, mark, link, tail, IsLinked}
-use Rattle.futures_buffered_table.specs.Tally.{wins, unmarks}
+use Rattle.futures_buffered_table.specs.Row.{IsLinked, last_entry, next, owed, same, times, total}
+use Rattle.futures_buffered_table.specs.Words.{link, mark, tail}
+use Rattle.futures_buffered_table.specs.Tally.{unmarks, wins}
 
 -- 1 where this role has the entry e outside the row
 abbrev pub outside_by : ℕ → ℕ → Role → ℕ

@@ -5,8 +5,8 @@ use Rattle.futures_buffered_table.specs.declared.view.Phase.TheVariants.{Start, 
 use Rattle.futures_buffered_table.specs.declared.view.Role.{Role}
 use Rattle.futures_buffered_table.specs.declared.view.Role.TheVariants.{Idle, Cleared, Polls}
 use Rattle.futures_buffered_table.specs.declared.view.View.{View}
-use Rattle.futures_buffered_table.specs.OneStep.{next_view}
 use Rattle.futures_buffered_table.specs.RowInvariant.{KeepsRow}
+use Rattle.futures_buffered_table.specs.Effect.{next_view}
 
 -- the words and all views, of a list for n slots, have a row that keeps itself, from the head of one poller to the tail
 abbrev pub HoldsRow : ℕ → State ℕ View → Type 0

@@ -8,31 +8,10 @@ use Rattle.futures_buffered_table.specs.declared.step.Step.{Step}
 use Rattle.futures_buffered_table.specs.declared.step.Step.TheVariants.{Mark, Go, Poll}
 use Rattle.futures_buffered_table.specs.declared.step.StepReply.{StepReply}
 use Rattle.futures_buffered_table.specs.declared.view.View.{View}
-use Rattle.futures_buffered_table.specs.OneStep.{word_of_role, put_by_role, next_view, reply_of_role}
-use Rattle.futures_buffered_table.specs.Views.{role_of, first_poller, new_waker_beside, spent_view}
 use Rattle.futures_buffered_table.specs.declared.step.TheConstants.{WAKE_SEATS}
-
--- the seat that makes the step
-abbrev pub seat_of : Step → ℕ
-seat_of (Mark seat slot) = seat
-seat_of (Go seat) = seat
-seat_of Poll = WAKE_SEATS
-
--- the slot that an idle seat is to wake
-abbrev pub slot_of : Step → ℕ
-slot_of (Mark seat slot) = slot
-slot_of (Go seat) = 0
-slot_of Poll = 0
-
--- the role of a seat
-abbrev pub role_at : List Role → ℕ → Role
-role_at roles seat = slice_index_or roles seat Idle
-
--- a wake of a slot below the capacity begins at an idle wake seat, and goes on at one that is not idle; the poller can always step
-abbrev pub CanStep : ℕ → List Role → Step → Type 0
-CanStep n roles (Mark seat slot) = (seat < WAKE_SEATS) × (slot < n) × (role_at roles seat ≡ Idle)
-CanStep n roles (Go seat) = (seat < WAKE_SEATS) × (role_at roles seat ≢ Idle)
-CanStep n roles Poll = Unit {0}
+use Rattle.futures_buffered_table.specs.View.{first_poller, new_waker_beside, role_of, spent_view}
+use Rattle.futures_buffered_table.specs.Step.{CanStep, seat_of, slot_of}
+use Rattle.futures_buffered_table.specs.Effect.{next_view, put_by_role, reply_of_role, word_of_role}
 
 -- all words and all views between two steps
 pub record Moment : Type 0 where

@@ -3,9 +3,10 @@ use Rattle.std.specs.Prelude.{◌≡◌, ℕ, zero, ◌+◌, ◌<◌, List, slic
 use Rattle.futures_buffered_table.specs.declared.view.AtomicStep.{AtomicStep}
 use Rattle.futures_buffered_table.specs.declared.view.AtomicStep.TheVariants.{MarkSwap, Unmark}
 use Rattle.futures_buffered_table.specs.declared.view.View.{View}
-use Rattle.futures_buffered_table.specs.Row.{total, same, mark}
-use Rattle.futures_buffered_table.specs.Views.{spent_view}
 use Rattle.futures_buffered_table.specs.declared.step.TheConstants.{WAKE_SEATS}
+use Rattle.futures_buffered_table.specs.Row.{same, total}
+use Rattle.futures_buffered_table.specs.Words.{mark}
+use Rattle.futures_buffered_table.specs.View.{spent_view}
 
 -- 1 where this step is a mark swap that found e clear
 abbrev pub is_win : ℕ → AtomicStep → ℕ

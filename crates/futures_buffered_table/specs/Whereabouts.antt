@@ -6,7 +6,8 @@ use Rattle.futures_buffered_table.specs.declared.view.Phase.TheVariants.{StubPut
 use Rattle.futures_buffered_table.specs.declared.view.Role.{Role}
 use Rattle.futures_buffered_table.specs.declared.view.Role.TheVariants.{Won, Cleared, Swapped, Polls}
 use Rattle.futures_buffered_table.specs.declared.view.View.{View}
-use Rattle.futures_buffered_table.specs.Row.{total, same, times, next, last_entry, owed, mark, link, tail, IsLinked}
+use Rattle.futures_buffered_table.specs.Row.{IsLinked, last_entry, next, owed, same, times, total}
+use Rattle.futures_buffered_table.specs.Words.{link, mark, tail}
 
 -- 1 where a seat in this role has won the slot e and not yet put it in
 abbrev pub wakes_by : ℕ → Role → ℕ

@@ -1,8 +1,8 @@
 //! Seats that are split, and the end of a list.
 ghost use Rattle.std.specs.Prelude.{◌≡◌, ℕ, ◌+◌, ◌<◌, ◌≤◌, [], List, ◌++◌, ◌↔◌, All, IsTrue};
 ghost use Rattle.futures_buffered_table.specs.declared.view.View.{View};
-ghost use Rattle.futures_buffered_table.specs.Row.{mark};
-ghost use Rattle.futures_buffered_table.specs.Seats.{steps_of};
+ghost use Rattle.futures_buffered_table.specs.Words.{mark};
+ghost use Rattle.futures_buffered_table.specs.Closing.{steps_of};
 ghost use Rattle.futures_buffered_table.specs.Tally.{wins, unmarks};
 ghost use Rattle.futures_buffered_table.specs.Whereabouts.{Whereabouts};
 
@@ -20,8 +20,8 @@ pub struct Closed {
 
 impl Model for Closed {
     ghost use Rattle.std.specs.Mem.Slots.{slots_items, slots_len, IsFull};
-    ghost use Rattle.futures_buffered_table.specs.Seats.{ClosedWords};
-    ghost use Rattle.futures_buffered_table.specs.SeatsInvariant.{KeepsClosed};
+    ghost use Rattle.futures_buffered_table.specs.Closing.{ClosedWords};
+    ghost use Rattle.futures_buffered_table.specs.ClosingInvariant.{KeepsClosed};
 
     ghost Value = { ClosedWords };
 

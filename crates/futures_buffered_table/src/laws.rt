@@ -1,5 +1,5 @@
 //! The laws of the rule, each the contract of a function that does nothing.
-ghost use Rattle.futures_buffered_table.specs.RuleLaws.{RulePlacesSlots, RuleEmptiesRow, RuleLosesNoMark};
+ghost use Rattle.futures_buffered_table.specs.Laws.{RulePlacesSlots, RuleEmptiesRow, RuleLosesNoMark};
 
 /// In every state that [`RowRule`](super::RowRule) allows, each slot is in its one place.
 ///

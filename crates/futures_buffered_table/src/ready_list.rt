@@ -17,8 +17,8 @@ pub struct ReadyList {
 }
 
 impl Model for ReadyList {
-    ghost use Rattle.futures_buffered_table.specs.Seats.{ListIdentity};
-    ghost use Rattle.futures_buffered_table.specs.SeatsInvariant.{KeepsList};
+    ghost use Rattle.futures_buffered_table.specs.ReadyList.{ListIdentity};
+    ghost use Rattle.futures_buffered_table.specs.ReadyListInvariant.{KeepsList};
 
     ghost Value = { ListIdentity };
 
@@ -34,8 +34,8 @@ pub struct WakeSeat {
 }
 
 impl Model for WakeSeat {
-    ghost use Rattle.futures_buffered_table.specs.Seats.{Waker};
-    ghost use Rattle.futures_buffered_table.specs.SeatsInvariant.{KeepsWaker};
+    ghost use Rattle.futures_buffered_table.specs.ReadyList.{Waker};
+    ghost use Rattle.futures_buffered_table.specs.ReadyListInvariant.{KeepsWaker};
 
     ghost Value = { Waker };
 
@@ -52,8 +52,8 @@ pub struct PollSeat {
 }
 
 impl Model for PollSeat {
-    ghost use Rattle.futures_buffered_table.specs.Seats.{Poller};
-    ghost use Rattle.futures_buffered_table.specs.SeatsInvariant.{KeepsPoller};
+    ghost use Rattle.futures_buffered_table.specs.ReadyList.{Poller};
+    ghost use Rattle.futures_buffered_table.specs.ReadyListInvariant.{KeepsPoller};
 
     ghost Value = { Poller };
 

@@ -7,7 +7,7 @@ pub struct RowRule;
 
 impl TableRule<u8, View, usize> for RowRule {
     ghost use Rattle.futures_buffered_table.specs.Rule.{HoldsRow};
-    ghost use Rattle.futures_buffered_table.specs.Views.{first_poller};
+    ghost use Rattle.futures_buffered_table.specs.View.{first_poller};
 
     ghost holds = { HoldsRow };
 
@@ -27,7 +27,7 @@ impl Play<u8, View> for SeatStep {
 pub struct NewWaker;
 
 impl Split<View> for NewWaker {
-    ghost use Rattle.futures_buffered_table.specs.Views.{new_waker_beside};
+    ghost use Rattle.futures_buffered_table.specs.View.{new_waker_beside};
 
     ghost left = { λ v. v };
 
@@ -38,7 +38,7 @@ impl Split<View> for NewWaker {
 pub struct IntoPoller;
 
 impl Join<View> for IntoPoller {
-    ghost use Rattle.futures_buffered_table.specs.Views.{with_steps_of, spent_view};
+    ghost use Rattle.futures_buffered_table.specs.View.{with_steps_of, spent_view};
 
     ghost both = { with_steps_of };
 

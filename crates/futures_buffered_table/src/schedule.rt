@@ -1,6 +1,6 @@
 //! A whole schedule on a new machine.
 ghost use Rattle.std.specs.Prelude.{◌≡◌, ℕ, ◌<◌, [], ◌↔◌, IfOk, Err};
-ghost use Rattle.futures_buffered_table.specs.Law.{AfterEach, AnswersInOrder, EmptyIsTrue, PauseHasCause};
+ghost use Rattle.futures_buffered_table.specs.ScheduleLaw.{AfterEach, AnswersInOrder, EmptyIsTrue, PauseHasCause};
 ghost use Rattle.futures_buffered_table.specs.Schedule.{at_start, Legal, replies_of, IsStuckAt};
 ghost use Rattle.futures_buffered_table.specs.declared.step.StepFault.TheVariants.{TooLarge, Step as StuckAt};
 

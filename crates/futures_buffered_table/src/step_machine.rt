@@ -1,6 +1,6 @@
 //! The machine of single steps: the list's words and the roles of 64 wake seats and one poll seat, as plain data.
 ghost use Rattle.std.specs.Prelude.{◌≡◌, ◌<◌, ◌++◌, ◌∷◌, [], ◌+◌, ◌^◌, length, replicate, MatchOption, IfOk, IfNone, IfSome};
-ghost use Rattle.futures_buffered_table.specs.Schedule.{CanStep, seat_of, slot_of};
+ghost use Rattle.futures_buffered_table.specs.Step.{CanStep, seat_of, slot_of};
 ghost use Rattle.futures_buffered_table.specs.declared.view.Role.TheVariants.{Idle, Polls};
 ghost use Rattle.futures_buffered_table.specs.declared.view.Phase.TheVariants.{Start};
 
@@ -20,8 +20,8 @@ pub struct StepMachine {
 }
 
 impl Model for StepMachine {
-    ghost use Rattle.futures_buffered_table.specs.Machine.{Machine};
-    ghost use Rattle.futures_buffered_table.specs.MachineInvariant.{KeepsMachine};
+    ghost use Rattle.futures_buffered_table.specs.StepMachine.{Machine};
+    ghost use Rattle.futures_buffered_table.specs.StepMachineInvariant.{KeepsMachine};
 
     ghost Value = { Machine };
 
@@ -76,7 +76,7 @@ fn seat_and_slot(capacity: usize, roles: &[Role], step: Step) -> Option<(usize, 
 }
 
 impl StepMachine {
-    ghost use Rattle.futures_buffered_table.specs.Machine.{IsNew, IsPlaced, LeadsOn, CanMake, MakesStep};
+    ghost use Rattle.futures_buffered_table.specs.StepMachine.{IsNew, IsPlaced, LeadsOn, CanMake, MakesStep};
     ghost use Rattle.futures_buffered_table.specs.Answer.{RefusesTooLarge};
 
     /// A machine for an empty list of so many slots. Tests the capacity before it asks for memory.

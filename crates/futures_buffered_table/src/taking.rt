@@ -5,8 +5,8 @@ ghost use Rattle.futures_buffered_table.specs.declared.view.AtomicStep.{AtomicSt
 ghost use Rattle.futures_buffered_table.specs.declared.view.AtomicStep.TheVariants.{LinkClear, TailSwap, LinkWrite, LinkRead, TailRead, Unmark};
 ghost use Rattle.futures_buffered_table.specs.declared.view.Phase.TheVariants.{Start, AtStub, Moved, NoNext, Last, StubCleared, StubPut, StubLinked, InHand};
 ghost use Rattle.futures_buffered_table.specs.declared.view.Role.TheVariants.{Polls};
-ghost use Rattle.futures_buffered_table.specs.OneStep.{next_role};
-ghost use Rattle.futures_buffered_table.specs.Shapes.{IsAtLast, IsFromSlot, IsTaking};
+ghost use Rattle.futures_buffered_table.specs.Effect.{next_role};
+ghost use Rattle.futures_buffered_table.specs.Taking.{IsAtLast, IsFromSlot, IsTaking};
 
 use crate::answer::Taken;
 use crate::ready_list::{PollSeat, ReadyList};
@@ -15,7 +15,7 @@ use crate::view::View;
 use atomic_table::Seat;
 
 impl ReadyList {
-    ghost use Rattle.futures_buffered_table.specs.Takings.{IsInRole, Adds};
+    ghost use Rattle.futures_buffered_table.specs.ReadyList.{IsInRole, Adds};
 
     // The link of the head, as a taking begins.
     fn read_first(&self, seat: &mut Seat<u8, View>, head: usize) -> usize

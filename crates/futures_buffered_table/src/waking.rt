@@ -3,8 +3,8 @@ ghost use Rattle.std.specs.Prelude.{◌≡◌, ℕ, ◌<◌, ◌≤◌, List, []
 ghost use Rattle.futures_buffered_table.specs.declared.view.AtomicStep.{AtomicStep};
 ghost use Rattle.futures_buffered_table.specs.declared.view.AtomicStep.TheVariants.{MarkSwap, LinkClear, TailSwap, LinkWrite};
 ghost use Rattle.futures_buffered_table.specs.declared.view.Role.TheVariants.{Idle, Won, Cleared, Swapped};
-ghost use Rattle.futures_buffered_table.specs.OneStep.{next_role};
-ghost use Rattle.futures_buffered_table.specs.Shapes.{IsWake};
+ghost use Rattle.futures_buffered_table.specs.Effect.{next_role};
+ghost use Rattle.futures_buffered_table.specs.Waking.{IsWake};
 
 use crate::answer::Woke;
 use crate::ready_list::{ReadyList, WakeSeat};
@@ -13,7 +13,7 @@ use crate::view::View;
 use atomic_table::Seat;
 
 impl ReadyList {
-    ghost use Rattle.futures_buffered_table.specs.Takings.{IsInRole, Adds};
+    ghost use Rattle.futures_buffered_table.specs.ReadyList.{IsInRole, Adds};
 
     // The slot's mark is set: what it was.
     fn swap_mark(&self, seat: &mut Seat<u8, View>, slot: usize) -> u64

@@ -1,8 +1,8 @@
 use Rattle.std.proofs.Common.{sym, ap, ◌∙◌, arith}
-use Rattle.futures_buffered_table.specs.Seats.{ListIdentity, Poller, Waker}
+use Rattle.futures_buffered_table.specs.ReadyList.{ListIdentity, Poller, Waker}
 use Rattle.futures_buffered_table.specs.Tally.{unmarks}
-use Rattle.futures_buffered_table.proofs.JoinedLemmas.{joins}
-use Rattle.futures_buffered_table.proofs.ClosingLemmas.{unmarks-append}
+use Rattle.futures_buffered_table.proofs.RuleLemmas.{joins}
+use Rattle.futures_buffered_table.proofs.TallyLemmas.{unmarks-append}
 use Rattle.futures_buffered_table.proofs.ready_list.PollSeat.join.Goals as goal
 
 pub join_seat-requires : goal.join_seat-requires

@@ -1,7 +1,7 @@
 use Rattle.std.proofs.Common.{◌≡◌, ◌∙◌, ℕ, ◌+◌, ◌<◌, arith, refl, sym, ap}
-use Rattle.futures_buffered_table.specs.Seats.{ListIdentity}
+use Rattle.futures_buffered_table.specs.ReadyList.{ListIdentity}
 use Rattle.futures_buffered_table.specs.declared.view.Role.TheVariants.{Won}
-use Rattle.futures_buffered_table.proofs.TableStepsLemmas.{seated, is_seated, stores}
+use Rattle.futures_buffered_table.proofs.RuleLemmas.{seated, is_seated, stores}
 use Rattle.futures_buffered_table.proofs.ready_list.ReadyList.clear_link.Goals as goal
 
 pub store-requires : goal.store-requires

@@ -1,6 +1,7 @@
 use Rattle.std.proofs.Common.{◌≡◌, ◌++◌, [], All, refl, sym, ap, ◌∙◌, subst}
-use Rattle.futures_buffered_table.specs.Row.{mark}
-use Rattle.futures_buffered_table.specs.Seats.{Waker, steps_of}
+use Rattle.futures_buffered_table.specs.Words.{mark}
+use Rattle.futures_buffered_table.specs.ReadyList.{Waker}
+use Rattle.futures_buffered_table.specs.Closing.{steps_of}
 use Rattle.futures_buffered_table.proofs.ClosingLemmas.{first_of, others_of, joined_on, joined_all, empty_of, handed_in}
 use Rattle.futures_buffered_table.proofs.ready_list.ReadyList.close.Goals as goal
 

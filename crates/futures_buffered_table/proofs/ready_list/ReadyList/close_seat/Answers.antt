@@ -2,11 +2,11 @@ use Rattle.std.proofs.Common.{◌≡◌, ◌<◌, ◌≤◌, ◌+◌, List, ℕ,
 use Rattle.std.specs.Mem.Slots.{slots_items}
 use Rattle.futures_buffered_table.specs.declared.view.AtomicStep.{AtomicStep}
 use Rattle.futures_buffered_table.specs.declared.view.View.{View}
-use Rattle.futures_buffered_table.specs.Row.{mark}
-use Rattle.futures_buffered_table.specs.Seats.{ListIdentity, Poller}
+use Rattle.futures_buffered_table.specs.Words.{mark}
+use Rattle.futures_buffered_table.specs.ReadyList.{ListIdentity, Poller}
 use Rattle.futures_buffered_table.specs.Tally.{wins, unmarks}
 use Rattle.futures_buffered_table.specs.Whereabouts.{Whereabouts}
-use Rattle.futures_buffered_table.proofs.JoinedLemmas.{ends, ends_placed}
+use Rattle.futures_buffered_table.proofs.ClosingLemmas.{ends, ends_placed}
 use Rattle.futures_buffered_table.proofs.ready_list.ReadyList.close_seat.Goals as goal
 
 pub returns-clause-placed : goal.returns-clause-placed

@@ -1,6 +1,6 @@
 use Rattle.std.proofs.Common.{rules, arith, ◌≡◌, ◌+◌, ◌++◌, ◌∷◌, [], replicate}
-use Rattle.futures_buffered_table.proofs.BeginsLemmas.{begins_at, first_wide}
-use Rattle.futures_buffered_table.proofs.JoinedLemmas.{splits}
+use Rattle.futures_buffered_table.proofs.RuleLemmas.{begins_at, first_wide}
+use Rattle.futures_buffered_table.proofs.RuleLemmas.{splits}
 use Rattle.futures_buffered_table.proofs.ready_list.ReadyList.new.Goals as goal
 
 pub of_words-requires : goal.of_words-requires

@@ -1,8 +1,8 @@
 use Rattle.std.proofs.Common.{◌≡◌, ◌∙◌, ℕ, ◌+◌, arith, refl, sym, ap}
-use Rattle.futures_buffered_table.specs.Seats.{ListIdentity}
+use Rattle.futures_buffered_table.specs.ReadyList.{ListIdentity}
 use Rattle.futures_buffered_table.specs.declared.view.Phase.TheVariants.{AtStub}
 use Rattle.futures_buffered_table.specs.declared.view.Role.TheVariants.{Polls}
-use Rattle.futures_buffered_table.proofs.TableStepsLemmas.{seated, is_seated, poll_steps}
+use Rattle.futures_buffered_table.proofs.RuleLemmas.{seated, is_seated, poll_steps}
 use Rattle.futures_buffered_table.proofs.ready_list.ReadyList.read_tail_first.Goals as goal
 
 pub load-requires : goal.load-requires

@@ -1,6 +1,7 @@
 use Rattle.std.proofs.Common.{◌≡◌, sym, ap, ◌∙◌, arith}
-use Rattle.futures_buffered_table.specs.Seats.{ListIdentity, Poller}
-use Rattle.futures_buffered_table.proofs.SeatsKeptLemmas.{stub_is, taken}
+use Rattle.futures_buffered_table.specs.ReadyList.{ListIdentity, Poller}
+use Rattle.futures_buffered_table.proofs.ReadyListLemmas.{stub_is}
+use Rattle.futures_buffered_table.proofs.TakingLemmas.{taken}
 use Rattle.futures_buffered_table.proofs.ready_list.ReadyList.take.Goals as goal
 
 pub take_from-head-requires-clause-phase : goal.take_from-head-requires-clause-phase

@@ -1,8 +1,8 @@
 use Rattle.std.proofs.Common.{◌≡◌, ◌∙◌, ℕ, arith, refl, sym, ap}
-use Rattle.futures_buffered_table.specs.Seats.{ListIdentity}
+use Rattle.futures_buffered_table.specs.ReadyList.{ListIdentity}
 use Rattle.futures_buffered_table.specs.declared.view.Phase.TheVariants.{InHand}
 use Rattle.futures_buffered_table.specs.declared.view.Role.TheVariants.{Polls}
-use Rattle.futures_buffered_table.proofs.TableStepsLemmas.{seated, is_seated, poll_stores}
+use Rattle.futures_buffered_table.proofs.RuleLemmas.{seated, is_seated, poll_stores}
 use Rattle.futures_buffered_table.proofs.ready_list.ReadyList.unmark.Goals as goal
 
 pub store-requires : goal.store-requires

@@ -2,9 +2,10 @@ use Rattle.std.proofs.Common.{◌≡◌, ℕ, [], ◌∷◌, ◌++◌, refl, sym
 use Rattle.futures_buffered_table.specs.declared.answer.Woke.TheVariants.{Fresh, Already}
 use Rattle.futures_buffered_table.specs.declared.view.AtomicStep.TheVariants.{MarkSwap}
 use Rattle.futures_buffered_table.specs.declared.view.Role.{Role}
-use Rattle.futures_buffered_table.specs.Seats.{ListIdentity, Waker}
-use Rattle.futures_buffered_table.specs.Takings.{IsInRole, Adds}
-use Rattle.futures_buffered_table.proofs.SeatsKeptLemmas.{stub_is, came_fresh, woken, still_idle, one_found}
+use Rattle.futures_buffered_table.specs.ReadyList.{ListIdentity, Waker}
+use Rattle.futures_buffered_table.specs.ReadyList.{IsInRole, Adds}
+use Rattle.futures_buffered_table.proofs.ReadyListLemmas.{stub_is}
+use Rattle.futures_buffered_table.proofs.WakingLemmas.{came_fresh, woken, still_idle, one_found}
 use Rattle.futures_buffered_table.proofs.ready_list.ReadyList.wake.Goals as goal
 
 pub swap_mark-requires-clause-phase : goal.swap_mark-requires-clause-phase

@@ -1,6 +1,6 @@
 use Rattle.std.proofs.Common.{sym, ap, ◌∙◌, arith}
-use Rattle.futures_buffered_table.specs.Seats.{ListIdentity, Waker}
-use Rattle.futures_buffered_table.proofs.JoinedLemmas.{splits}
+use Rattle.futures_buffered_table.specs.ReadyList.{ListIdentity, Waker}
+use Rattle.futures_buffered_table.proofs.RuleLemmas.{splits}
 use Rattle.futures_buffered_table.proofs.ready_list.WakeSeat.split.Goals as goal
 
 pub split_seat-other-requires : goal.split_seat-other-requires

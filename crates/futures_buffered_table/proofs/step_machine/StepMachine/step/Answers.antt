@@ -1,9 +1,9 @@
 use Rattle.std.proofs.Common.{rules, List, subst}
 use Rattle.futures_buffered_table.specs.declared.view.Role.{Role}
-use Rattle.futures_buffered_table.specs.Schedule.{CanStep}
-use Rattle.futures_buffered_table.specs.Machine.{Machine, CanMake, MakesStep, LeadsOn, IsPlaced}
-use Rattle.futures_buffered_table.proofs.ReachesLemmas.{leads_on}
-use Rattle.futures_buffered_table.proofs.StepOnLemmas.{placed, may_touch, may_put, word_low, now, did, keeps}
+use Rattle.futures_buffered_table.specs.Step.{CanStep}
+use Rattle.futures_buffered_table.specs.StepMachine.{Machine, CanMake, MakesStep, LeadsOn, IsPlaced}
+use Rattle.futures_buffered_table.proofs.StepMachineLemmas.{leads_on}
+use Rattle.futures_buffered_table.proofs.StepMachineLemmas.{placed, may_touch, may_put, word_low, now, did, keeps}
 use Rattle.futures_buffered_table.proofs.step_machine.StepMachine.step.Goals as goal
 
 pub returns-in_err-seat-clause-placed : goal.returns-in_err-seat-clause-placed

@@ -1,4 +1,4 @@
--- How a list, its seats and a closed list keep themselves.
+-- How a list and its seats keep themselves.
 use Rattle.std.specs.Prelude.{◌≡◌, ℕ, ◌+◌, ◌<◌, ◌≤◌, ◌^◌, List, []}
 use Rattle.atomic_table.specs.Seated.{TableId}
 use Rattle.atomic_table.specs.Table.{Me}
@@ -6,7 +6,6 @@ use Rattle.futures_buffered_table.specs.declared.view.Phase.TheVariants.{Start}
 use Rattle.futures_buffered_table.specs.declared.view.Role.{Role}
 use Rattle.futures_buffered_table.specs.declared.view.Role.TheVariants.{Idle, Polls}
 use Rattle.futures_buffered_table.specs.declared.view.View.{View}
-use Rattle.futures_buffered_table.specs.Row.{mark}
 use Rattle.futures_buffered_table.specs.Tally.{unmarks}
 
 -- the table has 2n + 2 words and no slot of its own
@@ -29,9 +28,3 @@ pub record KeepsWaker (table : TableId) (me : Me ℕ View) : Type 0 where
 pub record KeepsPoller (table : TableId) (me : Me ℕ View) (head : ℕ) : Type 0 where
   pub seat : KeepsSeat table me (Polls head Start)
   pub low : head ≤ me.0.stub
-
--- so many words, no slot of the table, and each mark is clear or set
-pub record KeepsClosed (words : List ℕ) (count slots capacity : ℕ) : Type 0 where
-  pub wide : count ≡ capacity + capacity + 2
-  pub no_slots : slots ≡ 0
-  pub marks : (e : ℕ) → e < capacity → mark words e ≤ 1

@@ -1,5 +1,5 @@
--- What one step of a seat does, over words and a view: which word it changes, to what, what the seat is then, and what the step answers.
--- For n slots the words are n marks, n + 1 links and the tail. The entries are the slots 0 to n - 1 and the stub, entry n. A link is 0 for none, or k + 1 for the entry k.
+-- What one atomic step of a seat does, over words and a view: which word it changes, to what, what the seat is then, and what the step answers.
+-- The entries are the slots 0 to n - 1 and the stub, entry n. A link is 0 for none, or k + 1 for the entry k.
 use Rattle.std.specs.Prelude.{ℕ, zero, suc, ◌+◌, ◌≤◌, ◌==◌, [], ◌∷◌, ◌++◌, if◌then◌else◌}
 use Rattle.futures_buffered_table.specs.declared.answer.Woke.TheVariants.{Fresh, Already}
 use Rattle.futures_buffered_table.specs.declared.answer.Taken.TheVariants.{Slot, Empty, Pause}
@@ -12,10 +12,7 @@ use Rattle.futures_buffered_table.specs.declared.view.Role.TheVariants.{Idle, Wo
 use Rattle.futures_buffered_table.specs.declared.step.StepReply.{StepReply}
 use Rattle.futures_buffered_table.specs.declared.step.StepReply.TheVariants.{More, Woke, Taken}
 use Rattle.futures_buffered_table.specs.declared.view.View.{View}
-
--- where the tail word stands
-abbrev pub tail_at : ℕ → ℕ
-tail_at n = n + n + 1
+use Rattle.futures_buffered_table.specs.Words.{tail_at}
 
 -- the word that a step of a seat in this role changes; `slot` is the slot that an idle seat is to wake
 abbrev pub word_of_role : ℕ → ℕ → Role → ℕ

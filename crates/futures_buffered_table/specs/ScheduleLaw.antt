@@ -5,8 +5,8 @@ use Rattle.futures_buffered_table.specs.declared.step.Step.{Step}
 use Rattle.futures_buffered_table.specs.declared.step.Step.TheVariants.{Mark, Go, Poll}
 use Rattle.futures_buffered_table.specs.declared.step.StepReply.{StepReply}
 use Rattle.futures_buffered_table.specs.declared.step.StepReply.TheVariants.{More, Taken}
-use Rattle.futures_buffered_table.specs.Schedule.{seat_of}
 use Rattle.futures_buffered_table.specs.declared.step.TheConstants.{WAKE_SEATS}
+use Rattle.futures_buffered_table.specs.Step.{seat_of}
 
 -- a step that was made, with its reply; of a history the newest stands first
 pub record Turn : Type 0 where

@@ -1,7 +1,7 @@
 -- How a `StepMachine` keeps itself.
 use Rattle.std.specs.Prelude.{◌≡◌, ◌+◌, ◌<◌, ◌^◌, length}
-use Rattle.futures_buffered_table.specs.Machine.{Machine, IsLedTo}
 use Rattle.futures_buffered_table.specs.declared.step.TheConstants.{WAKE_SEATS}
+use Rattle.futures_buffered_table.specs.StepMachine.{IsLedTo, Machine}
 
 pub record KeepsMachine (m : Machine) : Type 0 where
   pub sized : m.capacity < 2 ^ 62

@@ -3,10 +3,11 @@ use Rattle.std.specs.Prelude.{◌≡◌, ℕ, List, [], ◌∷◌, ◌++◌, map
 use Rattle.futures_buffered_table.specs.declared.view.Role.{Role}
 use Rattle.futures_buffered_table.specs.declared.step.Step.{Step}
 use Rattle.futures_buffered_table.specs.declared.step.StepReply.{StepReply}
-use Rattle.futures_buffered_table.specs.OneStep.{word_of_role, put_by_role, next_role, reply_of_role}
-use Rattle.futures_buffered_table.specs.Schedule.{role_at, CanStep, seat_of, slot_of, Moment, at_start, run, Legal, replies_of}
+use Rattle.futures_buffered_table.specs.Schedule.{Legal, Moment, at_start, replies_of, run}
+use Rattle.futures_buffered_table.specs.View.{role_of}
+use Rattle.futures_buffered_table.specs.Step.{CanStep, role_at, seat_of, slot_of}
+use Rattle.futures_buffered_table.specs.Effect.{next_role, put_by_role, reply_of_role, word_of_role}
 use Rattle.futures_buffered_table.specs.Tally.{LosesNoMark}
-use Rattle.futures_buffered_table.specs.Views.{role_of}
 use Rattle.futures_buffered_table.specs.Whereabouts.{Whereabouts}
 
 -- what a caller sees of a machine between two steps

@@ -1,26 +1,85 @@
--- Every step of a seat, in whatever role it is, keeps the row (`KeepsRow`).
-use Rattle.std.proofs.Common.{◌≡◌, ◌≢◌, ℕ, zero, suc, ◌+◌, ◌<◌, ◌≤◌, List, [], ◌∷◌, ◌++◌, length, set, get_or, Bool, true, false, refl, sym, ap, ◌∙◌, subst, ⊎_elim, arith, append-nil, ◌⊎◌, inl, inr}
-use Rattle.std.proofs.lemmas.Bool.{eqb-true, eqb-false}
+-- The step of each role stays in range, and keeps the row (`KeepsRow`).
+use Rattle.std.proofs.Common.{◌≡◌, ◌≢◌, ℕ, zero, suc, ◌+◌, ◌<◌, ◌≤◌, List, [], ◌∷◌, length, map, set, get_or, Bool, true, false, refl, sym, ap, ◌∙◌, ⊎_elim, arith, ◌++◌, subst, append-nil, ◌⊎◌, inl, inr}
 use Rattle.std.specs.Prelude.{if◌then◌else◌, ◌==◌}
-use mathlib.Core.Option.{some, some-injective}
+use mathlib.Core.Option.{some, some-ne-none, some-injective}
 use lib.ListN.{get_elem?}
-use Rattle.atomic_table.proofs.Lists.{set_again}
-use Rattle.futures_buffered_table.specs.declared.view.AtomicStep.{AtomicStep}
-use Rattle.futures_buffered_table.specs.declared.view.AtomicStep.TheVariants.{MarkSwap, LinkClear, TailSwap, LinkWrite, LinkRead, TailRead, Unmark}
+use Rattle.atomic_table.proofs.Lists.{at_set, set_again}
 use Rattle.futures_buffered_table.specs.declared.view.Phase.{Phase}
 use Rattle.futures_buffered_table.specs.declared.view.Phase.TheVariants.{Start, AtStub, Moved, NoNext, Last, StubCleared, StubPut, StubLinked, InHand}
 use Rattle.futures_buffered_table.specs.declared.view.Role.{Role}
 use Rattle.futures_buffered_table.specs.declared.view.Role.TheVariants.{Idle, Won, Cleared, Swapped, Polls}
 use Rattle.futures_buffered_table.specs.declared.view.View.{View}
-use Rattle.futures_buffered_table.specs.OneStep.{tail_at, word_of_role, put_by_role, after_first_read, after_slot_read, next_role, step_of_role}
-use Rattle.futures_buffered_table.specs.Row.{same, times, next, last_entry, owed_by, owed, mark, link, tail}
-use Rattle.futures_buffered_table.specs.RowInvariant.{outside_by, outside, FitsPhase, FitsRole, KeepsRow}
-use Rattle.futures_buffered_table.specs.Tally.{is_win, is_unmark}
-use Rattle.futures_buffered_table.proofs.FlowLemmas.{row_slots, Flows}
-use Rattle.futures_buffered_table.proofs.FlowingLemmas.{slots_slot, slots_stub, slots_put, slots_put_stub}
-use Rattle.futures_buffered_table.proofs.SumsLemmas.{total_none, same_here, same_else, total_some}
-use Rattle.futures_buffered_table.proofs.RowsLemmas.{next_first, next_last, last_in}
-use Rattle.futures_buffered_table.proofs.EachStepLemmas.{quiet, takes_stub, wins_mark, clears, puts_in, links_up, unmarks_slot, goes_on}
+use Rattle.std.proofs.Props.{props}
+use Rattle.std.proofs.lemmas.List.{get_or_default}
+use Rattle.futures_buffered_table.specs.declared.step.Step.{Step}
+use Rattle.futures_buffered_table.specs.declared.step.Step.TheVariants.{Mark, Go, Poll}
+use Rattle.std.proofs.lemmas.Bool.{eqb-true, eqb-false}
+use Rattle.futures_buffered_table.specs.declared.view.AtomicStep.{AtomicStep}
+use Rattle.futures_buffered_table.specs.declared.view.AtomicStep.TheVariants.{MarkSwap, LinkClear, TailSwap, LinkWrite, LinkRead, TailRead, Unmark}
+use Rattle.futures_buffered_table.specs.Effect.{InRange, after_first_read, after_slot_read, next_role, put_by_role, step_of_role, word_of_role}
+use Rattle.futures_buffered_table.proofs.RowLemmas.{Flows, last_in, next_first, next_last, row_slots, same_else, same_here, slots_put, slots_put_stub, slots_slot, slots_stub, total_none, total_some}
+use Rattle.futures_buffered_table.specs.RowInvariant.{FitsPhase, FitsRole, KeepsRow, outside, outside_by}
+use Rattle.futures_buffered_table.proofs.RowInvariantLemmas.{clears, goes_on, links_up, puts_in, quiet, takes_stub, unmarks_slot, wins_mark}
+use Rattle.futures_buffered_table.specs.Words.{link, mark, tail, tail_at}
+use Rattle.futures_buffered_table.specs.Row.{last_entry, next, owed, owed_by, same, times}
+use Rattle.futures_buffered_table.specs.Tally.{is_unmark, is_win}
+
+pub word_range : (n slot : ℕ) (role : Role) → slot ≤ n → InRange n role → word_of_role n slot role < n + n + 2
+word_range n slot Idle le ok = omega arith
+word_range n slot (Won e) le ok = omega arith
+word_range n slot (Cleared e) le ok = omega arith
+word_range n slot (Swapped e p) le ok = let a = ok.1 in omega arith
+word_range n slot (Polls h Start) le ok = omega arith
+word_range n slot (Polls h AtStub) le ok = omega arith
+word_range n slot (Polls h Moved) le ok = omega arith
+word_range n slot (Polls h NoNext) le ok = omega arith
+word_range n slot (Polls h Last) le ok = omega arith
+word_range n slot (Polls h StubCleared) le ok = omega arith
+word_range n slot (Polls h (StubPut p)) le ok = let a = ok.1 in omega arith
+word_range n slot (Polls h StubLinked) le ok = omega arith
+word_range n slot (Polls h (InHand i)) le ok = let a = ok.1 in omega arith
+
+-- a poller stays one
+pub still_polls : (n h : ℕ) (phase : Phase) (found : ℕ) → (head : ℕ) × (next_phase : Phase) × (next_role n 0 (Polls h phase) found ≡ Polls head next_phase)
+still_polls n h Start zero = pick (h == n) h h AtStub NoNext
+  where
+    pick : (b : Bool) (x y : ℕ) (p q : Phase) → (head : ℕ) × (next_phase : Phase) × ((if b then Polls x p else Polls y q) ≡ Polls head next_phase)
+    pick true x y p q = (x, p, refl)
+    pick false x y p q = (y, q, refl)
+still_polls n h Start (suc q) = pick (h == n) q q Moved (InHand h)
+  where
+    pick : (b : Bool) (x y : ℕ) (p q : Phase) → (head : ℕ) × (next_phase : Phase) × ((if b then Polls x p else Polls y q) ≡ Polls head next_phase)
+    pick true x y p q = (x, p, refl)
+    pick false x y p q = (y, q, refl)
+still_polls n h AtStub found = (h, Start, refl)
+still_polls n h Moved zero = (h, NoNext, refl)
+still_polls n h Moved (suc q) = (q, InHand h, refl)
+still_polls n h NoNext found = pick (found == h)
+  where
+    pick : (b : Bool) → (head : ℕ) × (next_phase : Phase) × ((if b then Polls h Last else Polls h Start) ≡ Polls head next_phase)
+    pick true = (h, Last, refl)
+    pick false = (h, Start, refl)
+still_polls n h Last found = (h, StubCleared, refl)
+still_polls n h StubCleared found = (h, StubPut found, refl)
+still_polls n h (StubPut p) found = (h, StubLinked, refl)
+still_polls n h StubLinked zero = (h, Start, refl)
+still_polls n h StubLinked (suc q) = (q, InHand h, refl)
+still_polls n h (InHand i) found = (h, Start, refl)
+
+pub in_range_prop : (n : ℕ) (role : Role) → IsProp (InRange n role)
+in_range_prop n Idle = hlevel props
+in_range_prop n (Won e) = hlevel props
+in_range_prop n (Cleared e) = hlevel props
+in_range_prop n (Swapped e p) = hlevel props
+in_range_prop n (Polls h Start) = hlevel props
+in_range_prop n (Polls h AtStub) = hlevel props
+in_range_prop n (Polls h Moved) = hlevel props
+in_range_prop n (Polls h NoNext) = hlevel props
+in_range_prop n (Polls h Last) = hlevel props
+in_range_prop n (Polls h StubCleared) = hlevel props
+in_range_prop n (Polls h (StubPut p)) = hlevel props
+in_range_prop n (Polls h StubLinked) = hlevel props
+in_range_prop n (Polls h (InHand i)) = hlevel props
 
 -- some waker stands between its tail swap and its link write
 abbrev pub SomeWakerStands : List View → Type 0

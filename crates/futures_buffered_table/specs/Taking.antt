@@ -1,4 +1,5 @@
--- The shapes of calls: which steps a wake and a taking make, with what was found, for each answer. There is no other shape.
+-- The shapes of a taking: which steps it makes, with what was found, for each answer. There is no other shape.
+-- In each, h is the poller's head before the taking, and `head` its head after.
 use Rattle.std.specs.Prelude.{◌≡◌, ◌≢◌, ◌⊎◌, ℕ, suc, List, [], ◌∷◌}
 use Rattle.futures_buffered_table.specs.declared.answer.Taken.{Taken}
 use Rattle.futures_buffered_table.specs.declared.answer.Taken.TheVariants.{Slot, Empty, Pause}
@@ -6,11 +7,6 @@ use Rattle.futures_buffered_table.specs.declared.answer.Woke.{Woke}
 use Rattle.futures_buffered_table.specs.declared.answer.Woke.TheVariants.{Fresh, Already}
 use Rattle.futures_buffered_table.specs.declared.view.AtomicStep.{AtomicStep}
 use Rattle.futures_buffered_table.specs.declared.view.AtomicStep.TheVariants.{MarkSwap, LinkClear, TailSwap, LinkWrite, LinkRead, TailRead, Unmark}
-
--- a wake of the slot i: one step where its mark was set, four where it was clear
-abbrev pub IsWake : ℕ → List AtomicStep → Woke → Type 0
-IsWake i shape Already = shape ≡ MarkSwap i 1 ∷ []
-IsWake i shape Fresh = (p : ℕ) × (shape ≡ MarkSwap i 0 ∷ LinkClear i ∷ TailSwap i p ∷ LinkWrite p i ∷ [])
 
 -- In the shapes of a taking, h is the poller's head before, and `head` its head after.
 -- the link of h names the entry `head`: the slot h is answered, its unmark the last step

@@ -1,6 +1,6 @@
--- Over a legal schedule the slots come out in the order in which they were put in.
-use Rattle.std.proofs.Common.{◌≡◌, ◌≢◌, ℕ, zero, suc, ◌<◌, List, [], ◌∷◌, ◌++◌, length, map, set, get_or, refl, sym, ap, ◌∙◌, subst, arith, append-nil, append_assoc, length-set}
-use mathlib.Core.Option.{some, some-injective}
+-- Over a legal schedule the row keeps itself, and the slots come out in the order in which they were put in.
+use Rattle.std.proofs.Common.{◌≡◌, ◌≢◌, ℕ, zero, suc, ◌<◌, List, [], ◌∷◌, ◌++◌, length, map, set, get_or, refl, sym, ap, ◌∙◌, subst, arith, append-nil, append_assoc, length-set, ◌⊎◌, ◌+◌, ◌≤◌, replicate, inl, inr, ⊎_elim, take}
+use mathlib.Core.Option.{some, some-injective, some-ne-none}
 use lib.ListN.{get_elem?}
 use Rattle.atomic_table.proofs.Lists.{set_else, set_here}
 use Rattle.futures_buffered_table.specs.declared.view.AtomicStep.{AtomicStep}
@@ -11,13 +11,18 @@ use Rattle.futures_buffered_table.specs.declared.view.Role.TheVariants.{Idle, Wo
 use Rattle.futures_buffered_table.specs.declared.view.View.{View}
 use Rattle.futures_buffered_table.specs.declared.step.Step.{Step}
 use Rattle.futures_buffered_table.specs.declared.step.Step.TheVariants.{Mark, Go, Poll}
-use Rattle.futures_buffered_table.specs.OneStep.{word_of_role, put_by_role, next_role, step_of_role, next_view}
-use Rattle.futures_buffered_table.specs.RowInvariant.{FitsRole, KeepsRow}
-use Rattle.futures_buffered_table.proofs.FlowLemmas.{row_slots, put_by, in_hand, Flows, answered_by}
-use Rattle.futures_buffered_table.specs.Views.{role_of, spent_view}
-use Rattle.futures_buffered_table.specs.Schedule.{CanStep, seat_of, slot_of, Moment, view_at, word_of, found_at, after_step, run, Legal}
-use Rattle.futures_buffered_table.proofs.KeepsLemmas.{wake_keeps, poll_keeps}
-use Rattle.futures_buffered_table.proofs.LedOnLemmas.{still_polls, stubs_set, index_low}
+use Rattle.futures_buffered_table.specs.declared.step.StepReply.{StepReply}
+use Rattle.futures_buffered_table.specs.RowInvariant.{FitsRole, KeepsRow, outside, outside_by}
+use Rattle.futures_buffered_table.specs.Schedule.{Legal, Moment, after_step, at_start, found_at, replies_of, run, view_at, word_of}
+use Rattle.futures_buffered_table.proofs.RowLemmas.{Flows, answered_by, in_hand, put_by, row_slots, same_cases, same_else, same_here, total_none}
+use Rattle.futures_buffered_table.specs.Effect.{next_role, next_view, put_by_role, reply_of_role, step_of_role, word_of_role}
+use Rattle.futures_buffered_table.proofs.ViewLemmas.{here_at, index_low, role_there, stubs_set}
+use Rattle.futures_buffered_table.specs.Step.{CanStep, seat_of, slot_of}
+use Rattle.futures_buffered_table.proofs.EffectLemmas.{poll_keeps, still_polls, wake_keeps}
+use Rattle.futures_buffered_table.specs.View.{first_poller, new_waker_beside, role_of}
+use Rattle.futures_buffered_table.proofs.WordsLemmas.{end_of, long, zeros}
+use Rattle.futures_buffered_table.specs.Row.{owed, owed_by, same}
+use Rattle.futures_buffered_table.specs.Tally.{unmarks, wins}
 
 -- the seat 64 polls, at the head h
 abbrev pub PollsAt : ℕ → ℕ → List View → Type 0
@@ -32,16 +37,6 @@ IsReachable n c =
 -- what is out of the row and not yet answered, and then the row
 abbrev pub pending : (n : ℕ) (c : Moment) → IsReachable n c → List ℕ
 pending n c good = in_hand (Polls good.2.0 good.2.3.0) ++ row_slots n (good.2.0 ∷ good.2.1)
-
-pub here_at : (views : List View) (seat : ℕ) → seat < length views → get_elem? views seat ≡ some (get_or views seat spent_view)
-here_at [] seat lt = absurd (omega arith)
-here_at (v ∷ vs) zero lt = refl
-here_at (v ∷ vs) (suc seat) lt = here_at vs seat (omega arith)
-
-pub role_there : (views : List View) (seat : ℕ) → get_or (map role_of views) seat Idle ≡ (get_or views seat spent_view).role
-role_there [] seat = refl
-role_there (v ∷ vs) zero = refl
-role_there (v ∷ vs) (suc seat) = role_there vs seat
 
 -- where the poller's phase has nothing in hand, or is answered
 abbrev pub StaysReachable : (n : ℕ) (c : Moment) → IsReachable n c → Step → Type 0
@@ -162,3 +157,73 @@ step_reaches n c good Poll can = poll_reaches n c good
 pub run_reaches : (n : ℕ) (c : Moment) (good : IsReachable n c) (steps : List Step) → Legal n c steps → IsReachable n (run n c steps)
 run_reaches n c good [] legal = good
 run_reaches n c good (s ∷ ss) legal = run_reaches n (after_step n c s) (step_reaches n c good s legal.0).0 ss legal.1
+
+split_at : {X : Type 0} (k : ℕ) (a b : X) (j : ℕ) (v : X) → get_elem? (replicate k a ++ b ∷ []) j ≡ some v → ((j < k) × (a ≡ v)) ⊎ ((j ≡ k) × (b ≡ v))
+split_at zero a b zero v e = inr (refl, some-injective b v e)
+split_at zero a b (suc j) v e = absurd (some-ne-none v (sym e))
+split_at (suc k) a b zero v e = inl (omega arith, some-injective a v e)
+split_at (suc k) a b (suc j) v e = ⊎_elim (λ (t : (j < k) × (a ≡ v)). inl (omega (arith, t.0), t.1)) (λ (t : (j ≡ k) × (b ≡ v)). inr (ap suc t.0, t.1)) (split_at k a b j v e)
+
+pub lone : {X : Type 0} (k : ℕ) (a b : X) → get_elem? (replicate k a ++ b ∷ []) k ≡ some b
+lone zero a b = refl
+lone (suc k) a b = lone k a b
+
+pub long_of : {X : Type 0} (k : ℕ) (a b : X) → length (replicate k a ++ b ∷ []) ≡ k + 1
+long_of zero a b = refl
+long_of (suc k) a b = omega (arith, long_of k a b)
+
+-- what holds of an idle view and of the poller's holds of each view at the start
+pub each : (n : ℕ) (P : ℕ → View → Type 0) → ((j : ℕ) → j < 64 → P j (new_waker_beside (first_poller n))) → P 64 (first_poller n) → (j : ℕ) (v : View) → get_elem? (at_start n).views j ≡ some v → P j v
+each n P wakes polls j v e = ⊎_elim (λ (t : (j < 64) × (new_waker_beside (first_poller n) ≡ v)). subst (P j) t.1 (wakes j t.0))
+    (λ (t : (j ≡ 64) × (first_poller n ≡ v)). subst (λ (y : ℕ × View). P y.0 y.1) (λ k. (sym t.0 k, t.1 k)) polls) (split_at 64 (new_waker_beside (first_poller n)) (first_poller n) j v e)
+
+pub machine_begins : (n : ℕ) → KeepsRow n n [] 64 (at_start n).words (at_start n).views
+machine_begins n = record {
+  wide = omega (arith, long (n + n + 1) n);
+  ends = sym (end_of (n + n + 1) n);
+  linked = λ p there. ⊎_elim
+      (λ (t : (p ≡ n) × (same p n ≡ 1)). (omega arith, inl (zeros (n + n + 1) (n + p) n (omega arith), no_owed p)))
+      (λ (t : (p ≢ n) × (same p n ≡ 0)). absurd (omega arith)) (same_cases p n);
+  unowed = λ p none. no_owed p;
+  whereabouts = λ e lt. let a = zeros (n + n + 1) e n (omega arith) in let b = same_else e n (λ z. omega arith) in let d = no_out e in (omega arith, omega arith);
+  stub_once = let a = same_here n in let d = no_out n in omega arith;
+  seats = each n (λ j v. FitsRole n (at_start n).words n [] 64 j v.role × (j ≢ 64 → (e : ℕ) → unmarks e v.steps ≡ 0)) (λ j lt. (tt, λ ne e. refl)) ((refl, refl, (let a : n ≤ n = omega arith in a)), λ ne e. refl);
+  tallied = λ e lt. let a = zeros (n + n + 1) e n (omega arith) in
+      let b = total_none (λ (v : View). wins e v.steps) (at_start n).views (each n (λ j v. wins e v.steps ≡ 0) (λ j l. refl) refl) in
+      let d = total_none (λ (v : View). unmarks e v.steps) (at_start n).views (each n (λ j v. unmarks e v.steps ≡ 0) (λ j l. refl) refl) in omega arith;
+}
+  where
+    no_out : (e : ℕ) → outside n (at_start n).views e ≡ 0
+    no_out e = total_none (λ (v : View). outside_by n e v.role) (at_start n).views (each n (λ j v. outside_by n e v.role ≡ 0) (λ j l. refl) refl)
+
+    no_owed : (p : ℕ) → owed (at_start n).views p ≡ 0
+    no_owed p = total_none (λ (v : View). owed_by p v.role) (at_start n).views (each n (λ j v. owed_by p v.role ≡ 0) (λ j l. refl) refl)
+
+abbrev pub reachable_start : (n : ℕ) → IsReachable n (at_start n)
+reachable_start n = (each n (λ j v. v.stub ≡ n) (λ j l. refl) refl, long_of 64 (new_waker_beside (first_poller n)) (first_poller n), (n, [], machine_begins n, (Start, [], lone 64 (new_waker_beside (first_poller n)) (first_poller n))))
+
+pub run_more : (n : ℕ) (c : Moment) (ss : List Step) (s : Step) → run n c (ss ++ s ∷ []) ≡ after_step n (run n c ss) s
+run_more n c [] s = refl
+run_more n c (x ∷ xs) s = run_more n (after_step n c x) xs s
+
+pub legal_more : (n : ℕ) (c : Moment) (ss : List Step) (s : Step) → Legal n c ss → CanStep n (map role_of (run n c ss).views) s → Legal n c (ss ++ s ∷ [])
+legal_more n c [] s legal can = (can, tt)
+legal_more n c (x ∷ xs) s legal can = (legal.0, legal_more n (after_step n c x) xs s legal.1 can)
+
+pub replies_more : (n : ℕ) (c : Moment) (ss : List Step) (s : Step) → replies_of n c (ss ++ s ∷ []) ≡ replies_of n c ss ++ reply_of_role n (view_at (run n c ss) s).role (found_at n (run n c ss) s) ∷ []
+replies_more n c [] s = refl
+replies_more n c (x ∷ xs) s = ap (λ (l : List StepReply). reply_of_role n (view_at c x).role (found_at n c x) ∷ l) (replies_more n (after_step n c x) xs s)
+
+pub reachable_at : (n : ℕ) (schedule : List Step) → Legal n (at_start n) schedule → IsReachable n (run n (at_start n) schedule)
+reachable_at n schedule legal = run_reaches n (at_start n) (reachable_start n) schedule legal
+
+pub elem_at : {X : Type 0} (xs : List X) (k : ℕ) (d : X) → k < length xs → get_elem? xs k ≡ some (get_or xs k d)
+elem_at [] k d lt = absurd (omega arith)
+elem_at (x ∷ xs) zero d lt = refl
+elem_at (x ∷ xs) (suc k) d lt = elem_at xs k d (omega arith)
+
+pub take_all : {X : Type 0} (k : ℕ) (xs : List X) → length xs ≤ k → take k xs ≡ xs
+take_all zero [] le = refl
+take_all zero (x ∷ xs) le = absurd (omega arith)
+take_all (suc k) [] le = refl
+take_all (suc k) (x ∷ xs) le = ap (λ l. x ∷ l) (take_all k xs (omega arith))

@@ -1,4 +1,4 @@
--- A legal schedule is lawful.
+-- A legal schedule keeps the laws.
 use Rattle.std.proofs.Common.{◌≡◌, ◌≢◌, ◌⊎◌, ℕ, zero, suc, ◌+◌, ◌<◌, ◌≤◌, List, [], ◌∷◌, ◌++◌, length, map, set, get_or, Bool, true, false, refl, sym, ap, ◌∙◌, subst, inl, inr, ⊎_elim, arith, append-nil, append_assoc, get_or-set_other}
 use Rattle.std.proofs.lemmas.Bool.{eqb-true, eqb-false}
 use Rattle.std.proofs.lemmas.Bool.Decides.{nat_tests}
@@ -17,20 +17,19 @@ use Rattle.futures_buffered_table.specs.declared.step.Step.{Step}
 use Rattle.futures_buffered_table.specs.declared.step.Step.TheVariants.{Mark, Go, Poll}
 use Rattle.futures_buffered_table.specs.declared.step.StepReply.{StepReply}
 use Rattle.futures_buffered_table.specs.declared.step.StepReply.TheVariants.{More, Woke, Taken}
-use Rattle.futures_buffered_table.specs.OneStep.{tail_at, word_of_role, put_by_role, next_role, next_view, reply_of_role}
-use Rattle.futures_buffered_table.specs.Row.{times, last_entry, owed_by, tail, link}
+use Rattle.futures_buffered_table.specs.ScheduleLaw.{AfterEach, AnswersInOrder, EmptyIsTrue, IsUnderWay, PauseHasCause, Turn, Wake, WakerStands, WakerStood, answered, put_in, put_in_by, slot_named, wake_after, wake_of}
+use Rattle.futures_buffered_table.proofs.ScheduleLemmas.{IsReachable, each, pending, reachable_start, step_reaches}
+use Rattle.futures_buffered_table.specs.Schedule.{Legal, Moment, after_step, at_start, found_at, replies_of, view_at}
+use Rattle.futures_buffered_table.specs.Words.{link, tail}
+use Rattle.futures_buffered_table.specs.Step.{CanStep, seat_of, slot_of}
+use Rattle.futures_buffered_table.proofs.EffectLemmas.{SomeWakerStands, row_ends_or_waker_stands}
+use Rattle.futures_buffered_table.proofs.ViewLemmas.{here_at, index_low, role_there}
+use Rattle.futures_buffered_table.specs.Effect.{next_role, next_view, put_by_role, reply_of_role, word_of_role}
+use Rattle.futures_buffered_table.proofs.RowLemmas.{alone, answered_by, in_hand, put_by, row_slots, same_here, slots_stub}
 use Rattle.futures_buffered_table.specs.RowInvariant.{FitsRole, KeepsRow}
-use Rattle.futures_buffered_table.proofs.KeepsLemmas.{SomeWakerStands, row_ends_or_waker_stands}
-use Rattle.futures_buffered_table.proofs.FlowLemmas.{row_slots, put_by, in_hand, answered_by}
-use Rattle.futures_buffered_table.specs.Views.{role_of}
-use Rattle.futures_buffered_table.specs.Schedule.{CanStep, seat_of, slot_of, Moment, at_start, view_at, found_at, after_step, Legal, replies_of}
-use Rattle.futures_buffered_table.proofs.RunsLemmas.{IsReachable, pending, here_at, role_there, step_reaches}
-use Rattle.futures_buffered_table.specs.Law.{Turn, Wake, wake_after, wake_of, put_in_by, put_in, slot_named, answered, WakerStands, IsUnderWay, WakerStood, AnswersInOrder, EmptyIsTrue, PauseHasCause, AfterEach}
-use Rattle.futures_buffered_table.proofs.SumsLemmas.{same_here}
-use Rattle.futures_buffered_table.proofs.RowsLemmas.{alone}
-use Rattle.futures_buffered_table.proofs.FlowingLemmas.{slots_stub}
-use Rattle.futures_buffered_table.proofs.LedOnLemmas.{index_low}
-use Rattle.futures_buffered_table.proofs.StartsLemmas.{reachable_start, each}
+use Rattle.futures_buffered_table.proofs.WordsLemmas.{tail_kept}
+use Rattle.futures_buffered_table.specs.View.{role_of}
+use Rattle.futures_buffered_table.specs.Row.{last_entry, owed_by, times}
 
 -- what a seat's role says of the wake that is told of it
 abbrev ShowsWake : Wake → Role → Type 0
@@ -193,9 +192,6 @@ takes_as s r past t now (Won e) low or takes = tt
 takes_as s r past t now (Cleared e) low or takes = tt
 takes_as s r past t now (Swapped e p) low or takes = tt
 takes_as s r past t now (Polls h phase) low or takes = takes_on s r past t now h phase low or takes
-
-tail_kept : (n : ℕ) (words : List ℕ) (i x : ℕ) → i ≢ tail_at n → tail n (set words i x) ≡ tail n words
-tail_kept n words i x ne = get_or-set_other words i (tail_at n) x 0 (λ z. ne (sym z))
 
 -- a step of a wake leaves the tail, or its waker stands so after it
 tail_or : (n h : ℕ) (rest : List ℕ) (words : List ℕ) (j : ℕ) (s : Step) (role : Role) (found : ℕ) (w : Wake) → FitsRole n words h rest 64 j role → (role ≡ Idle → slot_of s < n) → (IsPolls role → ⊥) → ShowsWake (wake_after s (reply_of_role n role found) w) (next_role n (slot_of s) role found)

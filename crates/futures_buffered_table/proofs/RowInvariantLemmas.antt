@@ -1,20 +1,43 @@
 -- Each kind of step keeps the row (`KeepsRow`).
-use Rattle.std.proofs.Common.{◌≡◌, ◌≢◌, ◌⊎◌, ℕ, suc, ◌+◌, ◌<◌, ◌≤◌, List, [], ◌∷◌, ◌++◌, length, set, get_or, refl, sym, ap, ◌∙◌, subst, inl, inr, ⊎_elim, arith, length-set, get_or-set_other, get_or-set_same, length-append}
-use mathlib.Core.Option.{some}
+use Rattle.std.proofs.Common.{◌≡◌, ◌≢◌, ℕ, zero, suc, ◌+◌, ◌<◌, ◌≤◌, List, [], ◌∷◌, length, map, set, get_or, Bool, true, false, refl, sym, ap, ◌∙◌, ⊎_elim, arith, ◌⊎◌, ◌++◌, subst, inl, inr, length-set, get_or-set_other, get_or-set_same, length-append}
+use Rattle.std.specs.Prelude.{if◌then◌else◌, ◌==◌}
+use mathlib.Core.Option.{some, some-ne-none}
 use lib.ListN.{get_elem?}
 use Rattle.atomic_table.proofs.Lists.{at_set}
-use Rattle.futures_buffered_table.specs.declared.view.AtomicStep.{AtomicStep}
 use Rattle.futures_buffered_table.specs.declared.view.Phase.{Phase}
 use Rattle.futures_buffered_table.specs.declared.view.Phase.TheVariants.{Start, AtStub, Moved, NoNext, Last, StubCleared, StubPut, StubLinked, InHand}
 use Rattle.futures_buffered_table.specs.declared.view.Role.{Role}
 use Rattle.futures_buffered_table.specs.declared.view.Role.TheVariants.{Idle, Won, Cleared, Swapped, Polls}
 use Rattle.futures_buffered_table.specs.declared.view.View.{View}
-use Rattle.futures_buffered_table.specs.OneStep.{tail_at}
-use Rattle.futures_buffered_table.specs.Row.{total, same, times, next, last_entry, owed_by, owed, mark, link, tail, IsLinked}
-use Rattle.futures_buffered_table.specs.RowInvariant.{outside_by, outside, FitsPhase, FitsRole, KeepsRow}
-use Rattle.futures_buffered_table.specs.Tally.{is_win, is_unmark, unmarks}
-use Rattle.futures_buffered_table.proofs.SumsLemmas.{total-append, total_set, total_at, same_here, same_else, same_cases, times_snoc}
-use Rattle.futures_buffered_table.proofs.RowsLemmas.{next_later, next_absent, last_in, last_snoc, next_last, next_put, next_kept, next_stays}
+use Rattle.std.proofs.Props.{props}
+use Rattle.std.proofs.lemmas.List.{get_or_default}
+use Rattle.futures_buffered_table.specs.declared.step.Step.{Step}
+use Rattle.futures_buffered_table.specs.declared.step.Step.TheVariants.{Mark, Go, Poll}
+use Rattle.futures_buffered_table.specs.declared.view.AtomicStep.{AtomicStep}
+use Rattle.futures_buffered_table.specs.RowInvariant.{FitsPhase, FitsRole, KeepsRow, outside, outside_by}
+use Rattle.futures_buffered_table.specs.Effect.{InRange}
+use Rattle.futures_buffered_table.proofs.RowLemmas.{last_in, last_snoc, next_absent, next_kept, next_last, next_later, next_put, next_stays, same_cases, same_else, same_here, times_snoc, total-append, total_at, total_set}
+use Rattle.futures_buffered_table.specs.Row.{IsLinked, last_entry, next, owed, owed_by, same, times, total}
+use Rattle.futures_buffered_table.specs.Words.{link, mark, tail, tail_at}
+use Rattle.futures_buffered_table.specs.Tally.{is_unmark, is_win, unmarks}
+
+pub role_range : (n : ℕ) (words : List ℕ) (h : ℕ) (rest : List ℕ) (poller j : ℕ) (role : Role) → h ≤ n → FitsRole n words h rest poller j role → InRange n role
+role_range n words h rest poller j Idle le ok = tt
+role_range n words h rest poller j (Won i) le ok = omega arith
+role_range n words h rest poller j (Cleared i) le ok = let a = ok.0 in omega arith
+role_range n words h rest poller j (Swapped i p) le ok = (let a = ok.0 in omega arith, ok.1)
+role_range n words h rest poller j (Polls head Start) le ok = let a = ok.1 in omega arith
+role_range n words h rest poller j (Polls head AtStub) le ok = let a = ok.1 in omega arith
+role_range n words h rest poller j (Polls head Moved) le ok = let a = ok.1 in omega arith
+role_range n words h rest poller j (Polls head NoNext) le ok = let a = ok.1 in omega arith
+role_range n words h rest poller j (Polls head Last) le ok = let a = ok.1 in omega arith
+role_range n words h rest poller j (Polls head StubCleared) le ok = let a = ok.1 in omega arith
+role_range n words h rest poller j (Polls head (StubPut p)) le ok = (let a = ok.1 in omega arith, ok.2.1)
+role_range n words h rest poller j (Polls head StubLinked) le ok = let a = ok.1 in omega arith
+role_range n words h rest poller j (Polls head (InHand i)) le ok = (let a = ok.1 in omega arith, let b = ok.2.1 in omega arith)
+
+pub head_low : (n h : ℕ) (rest : List ℕ) (poller : ℕ) (words : List ℕ) (views : List View) → KeepsRow n h rest poller words views → h ≤ n
+head_low n h rest poller words views R = (R.linked h (let a = same_here h in omega arith)).0
 
 one : (i : ℕ) → 0 < same i i
 one i = omega (arith, same_here i)

@@ -1,7 +1,12 @@
--- Over a legal schedule no mark is lost: what the wake seats won is what the poll seat unmarked, and what is marked.
-use Rattle.std.proofs.Common.{◌≡◌, ℕ, zero, suc, ◌+◌, ◌<◌, List, [], ◌∷◌, length, get_or, take, refl, sym, ap, ◌∙◌, subst, arith}
-use mathlib.Core.Option.{some, some-injective}
+-- No mark is lost over a legal schedule: what the wake seats won is what the poll seat unmarked, and what is marked.
+use Rattle.std.proofs.Common.{◌≡◌, ℕ, zero, suc, ◌+◌, ◌≤◌, List, [], ◌∷◌, ◌++◌, length, get_or, nat_eq, true, false, All, refl, sym, ap, ◌∙◌, subst, arith, append-nil, append_assoc, ◌<◌, take}
+use mathlib.Core.Bool.{not}
+use mathlib.Core.Option.{some, some-injective, some-ne-none}
 use lib.ListN.{get_elem?}
+use Rattle.futures_buffered_table.specs.declared.view.AtomicStep.{AtomicStep}
+use Rattle.futures_buffered_table.specs.declared.answer.Woke.{Woke}
+use Rattle.futures_buffered_table.specs.declared.answer.Woke.TheVariants.{Fresh, Already}
+use Rattle.std.proofs.lemmas.Bool.Decides.{nat_tests}
 use Rattle.atomic_table.proofs.Lists.{set_else, set_here}
 use Rattle.futures_buffered_table.specs.declared.view.Phase.{Phase}
 use Rattle.futures_buffered_table.specs.declared.view.Phase.TheVariants.{Start, AtStub, Moved, NoNext, Last, StubCleared, StubPut, StubLinked, InHand}
@@ -10,16 +15,22 @@ use Rattle.futures_buffered_table.specs.declared.view.Role.TheVariants.{Polls}
 use Rattle.futures_buffered_table.specs.declared.view.View.{View}
 use Rattle.futures_buffered_table.specs.declared.step.Step.{Step}
 use Rattle.futures_buffered_table.specs.declared.step.Step.TheVariants.{Mark, Go, Poll}
-use Rattle.futures_buffered_table.specs.OneStep.{step_of_role, next_view}
+use Rattle.futures_buffered_table.specs.Tally.{LosesNoMark, is_unmark, is_win, unmarks, wins}
+use Rattle.futures_buffered_table.proofs.RowLemmas.{total-append, total_one}
+use Rattle.futures_buffered_table.specs.Schedule.{Legal, Moment, after_step, at_start, found_at, run, view_at}
+use Rattle.futures_buffered_table.specs.Effect.{next_view, step_of_role}
+use Rattle.futures_buffered_table.specs.Step.{CanStep, seat_of, slot_of}
+use Rattle.futures_buffered_table.proofs.ScheduleLemmas.{IsReachable, each, reachable_start, step_reaches}
+use Rattle.futures_buffered_table.proofs.ViewLemmas.{here_at, index_low}
 use Rattle.futures_buffered_table.specs.Row.{total}
 use Rattle.futures_buffered_table.specs.RowInvariant.{KeepsRow}
-use Rattle.futures_buffered_table.specs.Schedule.{CanStep, seat_of, slot_of, Moment, at_start, view_at, found_at, after_step, run, Legal}
-use Rattle.futures_buffered_table.specs.Tally.{is_win, wins, unmarks, LosesNoMark}
-use Rattle.futures_buffered_table.specs.Views.{spent_view}
-use Rattle.futures_buffered_table.proofs.SumsLemmas.{total-append, total_one}
-use Rattle.futures_buffered_table.proofs.LedOnLemmas.{index_low}
-use Rattle.futures_buffered_table.proofs.RunsLemmas.{IsReachable, here_at, step_reaches}
-use Rattle.futures_buffered_table.proofs.StartsLemmas.{reachable_start, each}
+use Rattle.futures_buffered_table.specs.View.{spent_view}
+
+pub unmarks-append : (e : ℕ) (a b : List AtomicStep) → unmarks e (a ++ b) ≡ unmarks e a + unmarks e b
+unmarks-append e a b = total-append (is_unmark e) a b
+
+pub wins-append : (e : ℕ) (a b : List AtomicStep) → wins e (a ++ b) ≡ wins e a + wins e b
+wins-append e a b = total-append (is_win e) a b
 
 -- the poll seat wins no mark
 abbrev pub NoWin : Moment → Type 0

@@ -1,12 +1,12 @@
--- Where each slot is, by the rule.
+-- Where each slot is, by the invariant of the row.
 use Rattle.std.proofs.Common.{◌≡◌, ℕ, ◌+◌, ◌<◌, List, [], ◌∷◌, refl, arith}
 use Rattle.futures_buffered_table.specs.declared.view.Phase.TheVariants.{Start, AtStub, Moved, NoNext, Last, StubCleared, StubPut, StubLinked, InHand}
 use Rattle.futures_buffered_table.specs.declared.view.Role.{Role}
 use Rattle.futures_buffered_table.specs.declared.view.Role.TheVariants.{Idle, Won, Cleared, Swapped, Polls}
 use Rattle.futures_buffered_table.specs.declared.view.View.{View}
-use Rattle.futures_buffered_table.specs.RowInvariant.{outside_by, outside, FitsRole, KeepsRow}
-use Rattle.futures_buffered_table.specs.Whereabouts.{AgreesWith, wakes_by, takes_by, wakers, takers, Whereabouts}
-use Rattle.futures_buffered_table.proofs.SumsLemmas.{same_else}
+use Rattle.futures_buffered_table.specs.RowInvariant.{FitsRole, KeepsRow, outside, outside_by}
+use Rattle.futures_buffered_table.proofs.RowLemmas.{same_else}
+use Rattle.futures_buffered_table.specs.Whereabouts.{AgreesWith, Whereabouts, takers, takes_by, wakers, wakes_by}
 
 out_is : (n e : ℕ) (role : Role) → e < n → outside_by n e role ≡ wakes_by e role + takes_by e role
 out_is n e Idle lt = refl

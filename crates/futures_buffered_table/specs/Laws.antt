@@ -6,10 +6,11 @@ use Rattle.atomic_table.specs.Table.{State}
 use Rattle.futures_buffered_table.specs.declared.view.Phase.TheVariants.{AtStub}
 use Rattle.futures_buffered_table.specs.declared.view.Role.TheVariants.{Polls}
 use Rattle.futures_buffered_table.specs.declared.view.View.{View}
-use Rattle.futures_buffered_table.specs.Row.{total, mark, tail}
 use Rattle.futures_buffered_table.specs.Rule.{HoldsRow}
-use Rattle.futures_buffered_table.specs.Tally.{wins, unmarks}
 use Rattle.futures_buffered_table.specs.Whereabouts.{Whereabouts}
+use Rattle.futures_buffered_table.specs.Words.{mark, tail}
+use Rattle.futures_buffered_table.specs.Row.{total}
+use Rattle.futures_buffered_table.specs.Tally.{unmarks, wins}
 
 -- each slot is in its one place, in a row from the poller's head to the tail
 abbrev pub RulePlacesSlots : Type 0
