@@ -10,7 +10,7 @@ use Rattle.futures_buffered_table.specs.declared.view.Role.{Role}
 use Rattle.futures_buffered_table.specs.declared.view.Role.TheVariants.{Idle, Won, Cleared, Swapped, Polls}
 use Rattle.futures_buffered_table.specs.declared.view.View.{View}
 use Rattle.std.proofs.Props.{props}
-use Rattle.std.proofs.lemmas.List.{get_or_default}
+use Rattle.std.proofs.lemmas.List.{get_or_default, set-get_or}
 use Rattle.futures_buffered_table.specs.declared.step.Step.{Step}
 use Rattle.futures_buffered_table.specs.declared.step.Step.TheVariants.{Mark, Go, Poll}
 use Rattle.std.proofs.lemmas.Bool.{eqb-true, eqb-false}
@@ -19,10 +19,11 @@ use Rattle.futures_buffered_table.specs.declared.view.AtomicStep.TheVariants.{Ma
 use Rattle.futures_buffered_table.specs.Effect.{InRange, after_first_read, after_slot_read, next_role, put_by_role, step_of_role, word_of_role}
 use Rattle.futures_buffered_table.proofs.RowLemmas.{Flows, last_in, next_first, next_last, row_slots, same_else, same_here, slots_put, slots_put_stub, slots_slot, slots_stub, total_none, total_some}
 use Rattle.futures_buffered_table.specs.RowInvariant.{FitsPhase, FitsRole, KeepsRow, outside, outside_by}
-use Rattle.futures_buffered_table.proofs.RowInvariantLemmas.{clears, goes_on, links_up, puts_in, quiet, takes_stub, unmarks_slot, wins_mark}
+use Rattle.futures_buffered_table.proofs.RowInvariantLemmas.{clears, goes_on, links_up, puts_in, quiet, takes_stub, unmarks_slot, wins_mark, head_low}
 use Rattle.futures_buffered_table.specs.Words.{link, mark, tail, tail_at}
 use Rattle.futures_buffered_table.specs.Row.{last_entry, next, owed, owed_by, same, times}
 use Rattle.futures_buffered_table.specs.Tally.{is_unmark, is_win}
+use Rattle.futures_buffered_table.proofs.ListLemmas.{by_test}
 
 pub word_range : (n slot : ℕ) (role : Role) → slot ≤ n → InRange n role → word_of_role n slot role < n + n + 2
 word_range n slot Idle le ok = omega arith
@@ -85,18 +86,6 @@ in_range_prop n (Polls h (InHand i)) = hlevel props
 abbrev pub SomeWakerStands : List View → Type 0
 SomeWakerStands views = (j : ℕ) × ((i : ℕ) × (p : ℕ) × (u : View) × (get_elem? views j ≡ some u) × (u.role ≡ Swapped i p))
 
-pub by_test : (P : Role → Type 0) (b : Bool) (x y : Role) → (b ≡ true → P x) → (b ≡ false → P y) → P (if b then x else y)
-by_test P true x y yes_case no_case = yes_case refl
-by_test P false x y yes_case no_case = no_case refl
-
-at_index_0 : (l : List ℕ) (i : ℕ) → i < length l → get_elem? l i ≡ some (get_or l i 0)
-at_index_0 [] i h = absurd (omega arith)
-at_index_0 (x ∷ xs) zero h = refl
-at_index_0 (x ∷ xs) (suc i) h = at_index_0 xs i (omega arith)
-
-set_same : (words : List ℕ) (i : ℕ) → i < length words → set words i (get_or words i 0) ≡ words
-set_same words i lt = set_again words i (get_or words i 0) (at_index_0 words i lt)
-
 -- the seat id has the role and the steps, and makes a step
 module _ (n h : ℕ) (rest : List ℕ) (poller : ℕ) (words : List ℕ) (views : List View) (R : KeepsRow n h rest poller words views) (id : ℕ) (steps : List AtomicStep) where
   abbrev with_role : Role → View
@@ -112,9 +101,6 @@ module _ (n h : ℕ) (rest : List ℕ) (poller : ℕ) (words : List ℕ) (views 
   row_stays : row_slots n (h ∷ rest) ++ [] ≡ row_slots n (h ∷ rest)
   row_stays = append-nil (row_slots n (h ∷ rest))
 
-  tail_below : tail n words ≤ n
-  tail_below = (R.linked (tail n words) (subst (λ (q : ℕ). 0 < times q (h ∷ rest)) R.ends (last_in h rest))).0
-
   mark_swap : (slot : ℕ) → slot < n → get_elem? views id ≡ some (with_role Idle) → (found : ℕ) → found ≡ mark words slot → KeepsSomeRow Idle (set words slot 1) (next_role n slot Idle found) (step_of_role n slot Idle found)
   mark_swap slot lt at zero is = (
     h,
@@ -125,7 +111,7 @@ module _ (n h : ℕ) (rest : List ℕ) (poller : ℕ) (words : List ℕ) (views 
   )
   mark_swap slot lt at (suc k) is =
       let one : get_or words slot 0 ≡ 1 = let a = R.whereabouts slot lt in omega arith in
-      let same_words : set words slot 1 ≡ words = subst (λ (x : ℕ). set words slot x ≡ words) one (set_same words slot (let a = R.wide in omega arith)) in (
+      let same_words : set words slot 1 ≡ words = subst (λ (x : ℕ). set words slot x ≡ words) one (set-get_or words slot 0) in (
         h,
         rest,
         subst (λ (ws : List ℕ). KeepsRow n h rest poller ws (set views id (then_role Idle (MarkSwap slot (suc k))))) (sym same_words)
@@ -200,7 +186,7 @@ module _ (n h : ℕ) (rest : List ℕ) (poller : ℕ) (words : List ℕ) (views 
   reads phase next_phase m at outs oweds no_win no_unmark ok flow i lt = (
     h,
     rest,
-    subst (λ (ws : List ℕ). KeepsRow n h rest poller ws (set views poller (record { stub = n; role = Polls h next_phase; steps = steps ++ m ∷ [] }))) (sym (set_same words i (let a = R.wide in omega arith)))
+    subst (λ (ws : List ℕ). KeepsRow n h rest poller ws (set views poller (record { stub = n; role = Polls h next_phase; steps = steps ++ m ∷ [] }))) (sym (set-get_or words i 0))
         (quiet n h rest poller words views R poller (poller_in phase) (record { stub = n; role = Polls h next_phase; steps = steps ++ m ∷ [] }) m at refl (λ ne. absurd (ne refl)) outs oweds no_win no_unmark (refl, refl, ok)),
     flow,
   )
@@ -231,7 +217,7 @@ module _ (n h : ℕ) (rest : List ℕ) (poller : ℕ) (words : List ℕ) (views 
           let le = (R.linked h here).0 in (
             q,
             xs,
-            subst (λ (ws : List ℕ). KeepsRow n q xs poller ws (set views poller w)) (sym (set_same words (n + h) (let d = R.wide in omega arith)))
+            subst (λ (ws : List ℕ). KeepsRow n q xs poller ws (set views poller w)) (sym (set-get_or words (n + h) 0))
                 (goes_on n h q xs poller words views R' (poller_in phase) w (LinkRead h (suc q)) at refl (λ z. let d = named in omega arith) old_out new_out new_out_stub old_owed new_owed (λ e. refl) (λ e. refl)
                 (λ lq ne lh. (refl, refl, ok xs lq ne lh))),
             flow xs (is ∙ ap (λ (y : ℕ). y ∷ xs) q_is),
@@ -243,30 +229,27 @@ module _ (n h : ℕ) (rest : List ℕ) (poller : ℕ) (words : List ℕ) (views 
   in_tail : tail_at n < n + n + 2
   in_tail = omega arith
 
-  head_le : h ≤ n
-  head_le = (R.linked h (let a = same_here h in omega arith)).0
-
   -- Moved and StubLinked: the head is a slot
   read_on : (phase none : Phase) → get_elem? views poller ≡ some (poller_in phase) → h < n
       → ((e : ℕ) → outside_by n e (Polls h phase) ≡ 0) → ((p : ℕ) → owed_by p (Polls h phase) ≡ 0) → ((e : ℕ) → outside_by n e (Polls h none) ≡ 0) → ((p : ℕ) → owed_by p (Polls h none) ≡ 0) → FitsPhase n words h rest none
       → Flows n (Polls h phase) (Polls h none) (h ∷ rest) (h ∷ rest) → ((q : ℕ) (xs : List ℕ) → rest ≡ q ∷ xs → Flows n (Polls h phase) (Polls q (InHand h)) (h ∷ rest) (q ∷ xs))
       → (found : ℕ) → found ≡ link n words h → PollKeepsRow phase (set words (n + h) found) (after_slot_read h none found) (LinkRead h found)
   read_on phase none at lt old_out old_owed new_out new_owed ok flow flows zero is =
-      subst (λ (x : ℕ). PollKeepsRow phase (set words (n + h) x) (Polls h none) (LinkRead h zero)) (sym is) (reads phase none (LinkRead h zero) at (λ e. new_out e ∙ sym (old_out e)) (λ p. new_owed p ∙ sym (old_owed p)) (λ e. refl) (λ e. refl) ok flow (n + h) (in_links head_le))
+      subst (λ (x : ℕ). PollKeepsRow phase (set words (n + h) x) (Polls h none) (LinkRead h zero)) (sym is) (reads phase none (LinkRead h zero) at (λ e. new_out e ∙ sym (old_out e)) (λ p. new_owed p ∙ sym (old_owed p)) (λ e. refl) (λ e. refl) ok flow (n + h) (in_links (head_low n h rest poller words views R)))
   read_on phase none at lt old_out old_owed new_out new_owed ok flow flows (suc q) is =
       subst (λ (x : ℕ). PollKeepsRow phase (set words (n + h) x) (Polls q (InHand h)) (LinkRead h (suc q))) (sym is) (heads_on phase (InHand h) q at (sym is) old_out old_owed (λ e _. refl) (same_else n h (λ z. omega arith)) (λ p. refl) (λ _ lq _ _. (lq, lt)) (λ xs e. flows q xs e))
 
   read_at_first : get_elem? views poller ≡ some (poller_in Start) → (found : ℕ) → found ≡ link n words h → PollKeepsRow Start (set words (n + h) found) (after_first_read n h found) (LinkRead h found)
   read_at_first at zero is = by_test (λ (r : Role). PollKeepsRow Start (set words (n + h) zero) r (LinkRead h zero)) (h == n) (Polls h AtStub) (Polls h NoNext)
-      (λ t. subst (λ (x : ℕ). PollKeepsRow Start (set words (n + h) x) (Polls h AtStub) (LinkRead h zero)) (sym is) (reads Start AtStub (LinkRead h zero) at (λ e. refl) (λ p. refl) (λ e. refl) (λ e. refl) (eqb-true h n t) stays (n + h) (in_links head_le)))
-      (λ t. subst (λ (x : ℕ). PollKeepsRow Start (set words (n + h) x) (Polls h NoNext) (LinkRead h zero)) (sym is) (reads Start NoNext (LinkRead h zero) at (λ e. refl) (λ p. refl) (λ e. refl) (λ e. refl) (slot_below (eqb-false h n t)) stays (n + h) (in_links head_le)))
+      (λ t. subst (λ (x : ℕ). PollKeepsRow Start (set words (n + h) x) (Polls h AtStub) (LinkRead h zero)) (sym is) (reads Start AtStub (LinkRead h zero) at (λ e. refl) (λ p. refl) (λ e. refl) (λ e. refl) (eqb-true h n t) stays (n + h) (in_links (head_low n h rest poller words views R))))
+      (λ t. subst (λ (x : ℕ). PollKeepsRow Start (set words (n + h) x) (Polls h NoNext) (LinkRead h zero)) (sym is) (reads Start NoNext (LinkRead h zero) at (λ e. refl) (λ p. refl) (λ e. refl) (λ e. refl) (slot_below (eqb-false h n t)) stays (n + h) (in_links (head_low n h rest poller words views R))))
     where
       slot_below : h ≢ n → h < n
-      slot_below ne = let a = head_le in grind arith
+      slot_below ne = let a = (head_low n h rest poller words views R) in grind arith
   read_at_first at (suc q) is = by_test (λ (r : Role). PollKeepsRow Start (set words (n + h) (suc q)) r (LinkRead h (suc q))) (h == n) (Polls q Moved) (Polls q (InHand h))
       (λ t. let at_stub : h ≡ n = eqb-true h n t in subst (λ (x : ℕ). PollKeepsRow Start (set words (n + h) x) (Polls q Moved) (LinkRead h (suc q))) (sym is)
       (heads_on Start Moved q at (sym is) (λ e. refl) (λ p. refl) (λ e lt. sym (same_else e h (λ z. omega arith))) refl (λ p. refl) (λ _ lq ne lh. below q lq (λ z. ne (z ∙ sym at_stub))) (λ xs e. stub_out q xs at_stub e)))
-      (λ t. let slot : h < n = below h head_le (eqb-false h n t) in subst (λ (x : ℕ). PollKeepsRow Start (set words (n + h) x) (Polls q (InHand h)) (LinkRead h (suc q))) (sym is)
+      (λ t. let slot : h < n = below h (head_low n h rest poller words views R) (eqb-false h n t) in subst (λ (x : ℕ). PollKeepsRow Start (set words (n + h) x) (Polls q (InHand h)) (LinkRead h (suc q))) (sym is)
       (heads_on Start (InHand h) q at (sym is) (λ e. refl) (λ p. refl) (λ e _. refl) (same_else n h (λ z. omega arith)) (λ p. refl) (λ _ lq _ _. (lq, slot)) (λ xs e. slot_out q xs slot e)))
     where
       below : (k : ℕ) → k ≤ n → k ≢ n → k < n
@@ -288,12 +271,12 @@ module _ (n h : ℕ) (rest : List ℕ) (poller : ℕ) (words : List ℕ) (views 
 
   tail_read_first : get_elem? views poller ≡ some (poller_in AtStub) → (found : ℕ) → found ≡ tail n words → PollKeepsRow AtStub (set words (tail_at n) found) (Polls h Start) (TailRead found)
   tail_read_first at found is = subst (λ (x : ℕ). PollKeepsRow AtStub (set words (tail_at n) x) (Polls h Start) (TailRead found)) (sym is)
-      (reads AtStub Start (TailRead found) at (λ e. refl) (λ p. refl) (λ e. refl) (λ e. refl) head_le stays (tail_at n) in_tail)
+      (reads AtStub Start (TailRead found) at (λ e. refl) (λ p. refl) (λ e. refl) (λ e. refl) (head_low n h rest poller words views R) stays (tail_at n) in_tail)
 
   tail_read : get_elem? views poller ≡ some (poller_in NoNext) → (found : ℕ) → found ≡ tail n words → PollKeepsRow NoNext (set words (tail_at n) found) (if found == h then Polls h Last else Polls h Start) (TailRead found)
   tail_read at found is = by_test (λ (r : Role). PollKeepsRow NoNext (set words (tail_at n) found) r (TailRead found)) (found == h) (Polls h Last) (Polls h Start)
       (λ t. takes_stub_alone (eqb-true found h t))
-      (λ t. subst (λ (x : ℕ). PollKeepsRow NoNext (set words (tail_at n) x) (Polls h Start) (TailRead found)) (sym is) (reads NoNext Start (TailRead found) at (λ e. refl) (λ p. refl) (λ e. refl) (λ e. refl) head_le stays (tail_at n) in_tail))
+      (λ t. subst (λ (x : ℕ). PollKeepsRow NoNext (set words (tail_at n) x) (Polls h Start) (TailRead found)) (sym is) (reads NoNext Start (TailRead found) at (λ e. refl) (λ p. refl) (λ e. refl) (λ e. refl) (head_low n h rest poller words views R) stays (tail_at n) in_tail))
     where
       lt : h < n
       lt = ok_of NoNext at
@@ -313,7 +296,7 @@ module _ (n h : ℕ) (rest : List ℕ) (poller : ℕ) (words : List ℕ) (views 
       takes_stub_alone e = let w : View = record { stub = n; role = Polls h Last; steps = steps ++ TailRead found ∷ [] } in (
         h,
         rest,
-        subst (λ (ws : List ℕ). KeepsRow n h rest poller ws (set views poller w)) (sym (subst (λ (x : ℕ). set words (tail_at n) x ≡ words) (sym is) (set_same words (tail_at n) (subst (λ (k : ℕ). tail_at n < k) (sym R.wide) in_tail))))
+        subst (λ (ws : List ℕ). KeepsRow n h rest poller ws (set views poller w)) (sym (subst (λ (x : ℕ). set words (tail_at n) x ≡ words) (sym is) (set-get_or words (tail_at n) 0)))
             (takes_stub n h rest poller words views R poller (poller_in NoNext) w (TailRead found) at refl (λ ne. absurd (ne refl)) (stub_free e) (no_stub NoNext refl at)
             (λ x. refl) (λ x. refl) (λ p. refl) (λ x. refl) (λ x. refl) (refl, refl, lt)),
         stays,
@@ -375,7 +358,7 @@ module _ (n h : ℕ) (rest : List ℕ) (poller : ℕ) (words : List ℕ) (views 
         n p (omega arith) ok.1 ok.2 (λ x. refl) (λ x. refl) (λ q. refl) (λ q. refl) (λ x. refl) (λ x. refl) (refl, refl, (ok.0, behind p n rest refl ok.2)),
     stays,
   )
-  poll_keeps slot StubLinked at found is = read_on StubLinked Start at (ok_of StubLinked at).0 (λ e. refl) (λ p. refl) (λ e. refl) (λ p. refl) head_le stays (λ q xs e. slot_out q xs (ok_of StubLinked at).0 e) found is
+  poll_keeps slot StubLinked at found is = read_on StubLinked Start at (ok_of StubLinked at).0 (λ e. refl) (λ p. refl) (λ e. refl) (λ p. refl) (head_low n h rest poller words views R) stays (λ q xs e. slot_out q xs (ok_of StubLinked at).0 e) found is
   poll_keeps slot (InHand i) at found is = let ok = ok_of (InHand i) at in (
     h,
     rest,

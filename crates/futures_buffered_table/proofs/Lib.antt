@@ -1,3 +1,4 @@
+pub mod ListLemmas
 pub mod WordsLemmas
 pub mod ViewLemmas
 pub mod StepLemmas

@@ -16,10 +16,13 @@ use Rattle.futures_buffered_table.specs.declared.step.Step.TheVariants.{Mark, Go
 use Rattle.futures_buffered_table.specs.declared.view.AtomicStep.{AtomicStep}
 use Rattle.futures_buffered_table.specs.RowInvariant.{FitsPhase, FitsRole, KeepsRow, outside, outside_by}
 use Rattle.futures_buffered_table.specs.Effect.{InRange}
-use Rattle.futures_buffered_table.proofs.RowLemmas.{last_in, last_snoc, next_absent, next_kept, next_last, next_later, next_put, next_stays, same_cases, same_else, same_here, times_snoc, total-append, total_at, total_set}
+use Rattle.futures_buffered_table.proofs.RowLemmas.{last_in, last_snoc, next_absent, next_kept, next_last, next_later, next_put, next_stays, same_cases, same_else, same_here, times_snoc, total-append, total_at, total_set, total_none}
 use Rattle.futures_buffered_table.specs.Row.{IsLinked, last_entry, next, owed, owed_by, same, times, total}
-use Rattle.futures_buffered_table.specs.Words.{link, mark, tail, tail_at}
-use Rattle.futures_buffered_table.specs.Tally.{is_unmark, is_win, unmarks}
+use Rattle.futures_buffered_table.specs.Words.{link, mark, tail, tail_at, empty_words}
+use Rattle.futures_buffered_table.specs.Tally.{is_unmark, is_win, unmarks, wins}
+use Rattle.futures_buffered_table.proofs.ViewLemmas.{each_first}
+use Rattle.futures_buffered_table.proofs.WordsLemmas.{empty_word, empty_tail, empty_wide}
+use Rattle.futures_buffered_table.specs.View.{first_views, first_poller, new_waker_beside}
 
 pub role_range : (n : ℕ) (words : List ℕ) (h : ℕ) (rest : List ℕ) (poller j : ℕ) (role : Role) → h ≤ n → FitsRole n words h rest poller j role → InRange n role
 role_range n words h rest poller j Idle le ok = tt
@@ -371,3 +374,30 @@ module _ (n h q : ℕ) (rest : List ℕ) (poller : ℕ) (words : List ℕ) (view
             (λ ne. absurd (ne refl)) (mine (R.linked q next_there).0 (apart q (let a = same_here q in omega arith)) at_h.0);
         tallied = λ e lt. let a = counts (is_win e) in let b = counts (is_unmark e) in let c = R.tallied e lt in let d = no_win e in let x = no_unmark e in omega arith;
       }
+
+pub tail_low : (n h : ℕ) (rest : List ℕ) (poller : ℕ) (words : List ℕ) (views : List View) → KeepsRow n h rest poller words views → tail n words ≤ n
+tail_low n h rest poller words views R = (R.linked (tail n words) (subst (λ (q : ℕ). 0 < times q (h ∷ rest)) R.ends (last_in h rest))).0
+
+-- the row of an empty list, with so many wake seats
+pub keeps_first : (count n : ℕ) → KeepsRow n n [] count (empty_words n) (first_views count n)
+keeps_first count n = record {
+  wide = empty_wide n;
+  ends = sym (empty_tail n);
+  linked = λ p there. ⊎_elim
+      (λ (t : (p ≡ n) × (same p n ≡ 1)). (omega arith, inl (empty_word n (n + p) (omega arith), no_owed p)))
+      (λ (t : (p ≢ n) × (same p n ≡ 0)). absurd (omega arith)) (same_cases p n);
+  unowed = λ p none. no_owed p;
+  whereabouts = λ e lt. let a = empty_word n e (omega arith) in let b = same_else e n (λ z. omega arith) in let d = no_out e in (omega arith, omega arith);
+  stub_once = let a = same_here n in let d = no_out n in omega arith;
+  seats = each_first count n (λ j v. FitsRole n (empty_words n) n [] count j v.role × (j ≢ count → (e : ℕ) → unmarks e v.steps ≡ 0)) (λ j lt. (tt, λ ne e. refl)) ((refl, refl, (let a : n ≤ n = omega arith in a)), λ ne e. refl);
+  tallied = λ e lt. let a = empty_word n e (omega arith) in let b = none_of (λ v. wins e v.steps) refl refl in let d = none_of (λ v. unmarks e v.steps) refl refl in omega arith;
+}
+  where
+    none_of : (f : View → ℕ) → f (new_waker_beside (first_poller n)) ≡ 0 → f (first_poller n) ≡ 0 → total f (first_views count n) ≡ 0
+    none_of f wakes polls = total_none f (first_views count n) (each_first count n (λ j v. f v ≡ 0) (λ j l. wakes) polls)
+
+    no_out : (e : ℕ) → outside n (first_views count n) e ≡ 0
+    no_out e = none_of (λ v. outside_by n e v.role) refl refl
+
+    no_owed : (p : ℕ) → owed (first_views count n) p ≡ 0
+    no_owed p = none_of (λ v. owed_by p v.role) refl refl

@@ -8,6 +8,7 @@ use Rattle.futures_buffered_table.specs.declared.view.Phase.TheVariants.{InHand}
 use Rattle.futures_buffered_table.specs.declared.view.Role.{Role}
 use Rattle.futures_buffered_table.specs.declared.view.Role.TheVariants.{Cleared, Polls}
 use Rattle.futures_buffered_table.specs.Row.{last_entry, next, same, times, total}
+use Rattle.futures_buffered_table.proofs.ListLemmas.{if_yes, if_no}
 
 pub total-append : {X : Type 0} (f : X → ℕ) (xs ys : List X) → total f (xs ++ ys) ≡ total f xs + total f ys
 total-append f [] ys = omega arith
@@ -39,9 +40,6 @@ same_here a = grind (arith, nat_tests)
 
 pub same_else : (a b : ℕ) → a ≢ b → same a b ≡ 0
 same_else a b ne = grind (arith, nat_tests)
-
-pub same_found : (a b : ℕ) → 0 < same a b → a ≡ b
-same_found a b h = grind (arith, nat_tests)
 
 pub same_cases : (a b : ℕ) → ((a ≡ b) × (same a b ≡ 1)) ⊎ ((a ≢ b) × (same a b ≡ 0))
 same_cases a b = grind (arith, nat_tests)
@@ -80,13 +78,6 @@ next_last p h [] is once = refl
 next_last p h (x ∷ xs) is once =
     let more : 0 < times p (x ∷ xs) = subst (λ (q : ℕ). 0 < times q (x ∷ xs)) (sym is) (last_in x xs) in
     ⊎_elim (λ (t : (p ≡ h) × (same p h ≡ 1)). absurd (omega arith)) (λ (t : (p ≢ h) × (same p h ≡ 0)). next_later p h x xs t.0 ∙ next_last p x xs is (omega arith)) (same_cases p h)
-
--- only behind the last entry does none stand
-pub next_inner : (p h : ℕ) (rest : List ℕ) → 0 < times p (h ∷ rest) → p ≢ last_entry h rest → 0 < next p h rest
-next_inner p h [] in_row ne = ⊎_elim (λ (t : (p ≡ h) × (same p h ≡ 1)). absurd (ne t.0)) (λ (t : (p ≢ h) × (same p h ≡ 0)). absurd (omega arith)) (same_cases p h)
-next_inner p h (x ∷ xs) in_row ne = ⊎_elim
-    (λ (t : (p ≡ h) × (same p h ≡ 1)). subst (λ (q : ℕ). 0 < next q h (x ∷ xs)) (sym t.0) (subst (λ (k : ℕ). 0 < k) (sym (next_first h x xs)) (omega arith)))
-    (λ (t : (p ≢ h) × (same p h ≡ 0)). subst (λ (k : ℕ). 0 < k) (sym (next_later p h x xs t.0)) (next_inner p x xs (omega arith) ne)) (same_cases p h)
 
 -- an entry that is put in at the end comes behind the last, and nothing else changes
 pub next_put : (p h : ℕ) (rest : List ℕ) (e : ℕ) → p ≡ last_entry h rest → times p (h ∷ rest) ≤ 1 → next p h (rest ++ e ∷ []) ≡ suc e
@@ -138,19 +129,11 @@ abbrev pub Flows : ℕ → Role → Role → List ℕ → List ℕ → Type 0
 Flows n (Polls h (InHand i)) new row now = (in_hand new ≡ []) × (row_slots n now ≡ row_slots n row)
 Flows n old new row now = row_slots n row ++ put_by old ≡ in_hand new ++ row_slots n now
 
-chosen : (b : Bool) (x : ℕ) (xs : List ℕ) → b ≡ true → (if b then x ∷ xs else xs) ≡ x ∷ xs
-chosen true x xs e = refl
-chosen false x xs e = cc
-
-left_out : (b : Bool) (x : ℕ) (xs : List ℕ) → b ≡ false → (if b then x ∷ xs else xs) ≡ xs
-left_out false x xs e = refl
-left_out true x xs e = cc
-
 pub slots_slot : (n x : ℕ) (xs : List ℕ) → x < n → row_slots n (x ∷ xs) ≡ x ∷ row_slots n xs
-slots_slot n x xs lt = chosen (ltb x n) x (row_slots n xs) ((Decides-ltb x n).1 lt)
+slots_slot n x xs lt = if_yes (ltb x n) (x ∷ row_slots n xs) (row_slots n xs) ((Decides-ltb x n).1 lt)
 
 pub slots_stub : (n x : ℕ) (xs : List ℕ) → x ≡ n → row_slots n (x ∷ xs) ≡ row_slots n xs
-slots_stub n x xs is = left_out (ltb x n) x (row_slots n xs) (grind (arith, nat_tests))
+slots_stub n x xs is = if_no (ltb x n) (x ∷ row_slots n xs) (row_slots n xs) (grind (arith, nat_tests))
 
 both : (b : Bool) (x : ℕ) (a c d : List ℕ) → a ++ c ≡ d → (if b then x ∷ a else a) ++ c ≡ (if b then x ∷ d else d)
 both true x a c d e = ap (λ (l : List ℕ). x ∷ l) e

@@ -12,54 +12,27 @@ use Rattle.futures_buffered_table.specs.declared.view.AtomicStep.{AtomicStep}
 use Rattle.futures_buffered_table.specs.declared.view.AtomicStep.TheVariants.{MarkSwap}
 use Rattle.atomic_table.proofs.Lists.{at_set, at_snoc, set_again}
 use Rattle.futures_buffered_table.specs.RowInvariant.{FitsRole, KeepsRow, outside, outside_by}
-use Rattle.futures_buffered_table.proofs.WordsLemmas.{end_of, long, zeros}
 use Rattle.futures_buffered_table.specs.View.{first_poller, new_waker_beside, spent_view, with_steps_of}
 use Rattle.futures_buffered_table.specs.Row.{IsLinked, next, owed, owed_by, same, times, total}
 use Rattle.futures_buffered_table.proofs.RowLemmas.{last_in, next_first, same_cases, same_else, same_here, total-append, total_set}
 use Rattle.futures_buffered_table.specs.Tally.{is_unmark, is_win, unmarks, wins}
 use Rattle.futures_buffered_table.specs.Rule.{HoldsRow, MayFind, PlaysRole}
-use Rattle.futures_buffered_table.specs.Words.{link, tail}
+use Rattle.futures_buffered_table.specs.Words.{link, tail, empty_words}
 use Rattle.futures_buffered_table.specs.Effect.{next_role, next_view, put_by_role, step_of_role, word_of_role}
 use Rattle.futures_buffered_table.proofs.EffectLemmas.{poll_keeps, wake_keeps}
 use Rattle.futures_buffered_table.proofs.ClosingLemmas.{ends}
 use Rattle.futures_buffered_table.proofs.WhereaboutsLemmas.{whereabouts}
+use Rattle.futures_buffered_table.proofs.RowInvariantLemmas.{keeps_first, tail_low}
 
-pub list_begins : (n : ℕ) → KeepsRow n n [] 0 (replicate (n + n + 1) 0 ++ n ∷ []) (first_poller n ∷ [])
-list_begins n = record {
-  wide = omega (arith, long (n + n + 1) n);
-  ends = sym (end_of (n + n + 1) n);
-  linked = λ p there. ⊎_elim
-      (λ (t : (p ≡ n) × (same p n ≡ 1)). (omega arith, inl (zeros (n + n + 1) (n + p) n (omega arith), refl)))
-      (λ (t : (p ≢ n) × (same p n ≡ 0)). absurd (omega arith)) (same_cases p n);
-  unowed = λ p none. refl;
-  whereabouts = λ e lt. let a = zeros (n + n + 1) e n (omega arith) in let b = same_else e n (λ z. omega arith) in (omega arith, omega arith);
-  stub_once = let a = same_here n in omega arith;
-  seats = seats;
-  tallied = λ e lt. let a = zeros (n + n + 1) e n (omega arith) in omega arith;
-}
-  where
-    seats : (j : ℕ) (v : View) → get_elem? (first_poller n ∷ []) j ≡ some v → FitsRole n (replicate (n + n + 1) 0 ++ n ∷ []) n [] 0 j v.role × (j ≢ 0 → (e : ℕ) → unmarks e v.steps ≡ 0)
-    seats zero v e = subst (λ (u : View). FitsRole n (replicate (n + n + 1) 0 ++ n ∷ []) n [] 0 0 u.role × (zero ≢ 0 → (x : ℕ) → unmarks x u.steps ≡ 0)) (some-injective (first_poller n) v e) ((refl, refl, (let a : n ≤ n = omega arith in a)), λ ne. absurd (ne refl))
-    seats (suc j) v e = absurd (some-ne-none v (sym e))
-
-pub begins_at : (n : ℕ) (words : List ℕ) → words ≡ replicate (n + n + 1) 0 ++ n ∷ [] → HoldsRow n record { words = words; homes = []; views = first_poller n ∷ [] }
-begins_at n words is = (n, [], 0, subst (λ (ws : List ℕ). KeepsRow n n [] 0 ws (first_poller n ∷ [])) (sym is) (list_begins n))
-
-pub first_wide : (n : ℕ) (words : List ℕ) → words ≡ replicate (n + n + 1) 0 ++ n ∷ [] → length words ≡ n + n + 2
-first_wide n words is = ap (λ (l : List ℕ). length l) is ∙ (list_begins n).wide
-
-head_in : (h : ℕ) (rest : List ℕ) → 0 < times h (h ∷ rest)
-head_in h rest = let a = same_here h in omega arith
+pub begins_at : (n : ℕ) (words : List ℕ) → words ≡ empty_words n → HoldsRow n record { words = words; homes = []; views = first_poller n ∷ [] }
+begins_at n words is = (n, [], 0, subst (λ (ws : List ℕ). KeepsRow n n [] 0 ws (first_poller n ∷ [])) (sym is) (keeps_first 0 n))
 
 module _ (n h : ℕ) (rest : List ℕ) (poller : ℕ) (words : List ℕ) (views : List View) (R : KeepsRow n h rest poller words views) where
-  tail_below : tail n words ≤ n
-  tail_below = (R.linked (tail n words) (subst (λ (q : ℕ). 0 < times q (h ∷ rest)) R.ends (last_in h rest))).0
-
   -- what the rule tells of the number that a wake's step finds
   pub wake_tells : (slot : ℕ) (role : Role) → (role ≡ Idle → slot < n) → ((head : ℕ) (phase : Phase) → role ≢ Polls head phase) → MayFind n role (get_or words (word_of_role n slot role) 0)
   wake_tells slot Idle lt wakes = (R.whereabouts slot (lt refl)).1
   wake_tells slot (Won e) lt wakes = tt
-  wake_tells slot (Cleared e) lt wakes = tail_below
+  wake_tells slot (Cleared e) lt wakes = tail_low n h rest poller words views R
   wake_tells slot (Swapped e p) lt wakes = tt
   wake_tells slot (Polls head phase) lt wakes = absurd (wakes head phase refl)
 
@@ -91,7 +64,7 @@ module _ (n h : ℕ) (rest : List ℕ) (poller : ℕ) (words : List ℕ) (views 
   poll_tells slot Moved = link_low
   poll_tells slot NoNext = tt
   poll_tells slot Last = tt
-  poll_tells slot StubCleared = tail_below
+  poll_tells slot StubCleared = tail_low n h rest poller words views R
   poll_tells slot (StubPut p) = tt
   poll_tells slot StubLinked = link_low
   poll_tells slot (InHand i) = tt
@@ -145,10 +118,6 @@ module _ (n slots id i : ℕ) (role : Role) (steps : List AtomicStep) (lt : role
 
 pub is_seated : (n : ℕ) (role : Role) (me : Me ℕ View) → me.0.stub ≡ n → me.0.role ≡ role → me.1 ≡ [] → me ≡ seated n role me.0.steps
 is_seated n role me a b c = λ k. (record { stub = a k; role = b k; steps = me.0.steps }, c k)
-
--- a seat that won its slot, in one step from an idle one
-pub won : (n : ℕ) (me now : Me ℕ View) (slots i found : ℕ) → found ≡ 0 → me ≡ seated n Idle me.0.steps → PlaysRole (step slots i 1 0 none) me found now → now ≡ seated n (Won i) (me.0.steps ++ MarkSwap i 0 ∷ [])
-won n me now slots i found zero_found is did = seated_after n Idle me.0.steps me now slots i 1 0 found none is did ∙ ap (λ (x : ℕ). seated n (next_role n i Idle x) (me.0.steps ++ step_of_role n i Idle x ∷ [])) zero_found
 
 -- the poller's steps
 module _ (n slots id i head : ℕ) (phase : Phase) (steps : List AtomicStep) (there : i ≡ word_of_role n i (Polls head phase)) where

@@ -16,23 +16,26 @@ use Rattle.futures_buffered_table.specs.RowInvariant.{FitsRole, KeepsRow, outsid
 use Rattle.futures_buffered_table.specs.Schedule.{Legal, Moment, after_step, at_start, found_at, replies_of, run, view_at, word_of}
 use Rattle.futures_buffered_table.proofs.RowLemmas.{Flows, answered_by, in_hand, put_by, row_slots, same_cases, same_else, same_here, total_none}
 use Rattle.futures_buffered_table.specs.Effect.{next_role, next_view, put_by_role, reply_of_role, step_of_role, word_of_role}
-use Rattle.futures_buffered_table.proofs.ViewLemmas.{here_at, index_low, role_there, stubs_set}
+use Rattle.futures_buffered_table.proofs.ViewLemmas.{stubs_set, each_first}
 use Rattle.futures_buffered_table.specs.Step.{CanStep, seat_of, slot_of}
 use Rattle.futures_buffered_table.proofs.EffectLemmas.{poll_keeps, still_polls, wake_keeps}
-use Rattle.futures_buffered_table.specs.View.{first_poller, new_waker_beside, role_of}
-use Rattle.futures_buffered_table.proofs.WordsLemmas.{end_of, long, zeros}
+use Rattle.futures_buffered_table.specs.View.{first_poller, new_waker_beside, role_of, spent_view}
 use Rattle.futures_buffered_table.specs.Row.{owed, owed_by, same}
 use Rattle.futures_buffered_table.specs.Tally.{unmarks, wins}
+use Rattle.futures_buffered_table.proofs.ListLemmas.{elem_at, place_low, length_and_last, last_at}
+use Rattle.std.proofs.Math.ListN.{get_or-map}
+use Rattle.futures_buffered_table.specs.declared.step.TheConstants.{WAKE_SEATS}
+use Rattle.futures_buffered_table.proofs.RowInvariantLemmas.{keeps_first}
 
 -- the seat 64 polls, at the head h
 abbrev pub PollsAt : ℕ → ℕ → List View → Type 0
-PollsAt n h views = (phase : Phase) × (steps : List AtomicStep) × (get_elem? views 64 ≡ some (record { stub = n; role = Polls h phase; steps = steps }))
+PollsAt n h views = (phase : Phase) × (steps : List AtomicStep) × (get_elem? views WAKE_SEATS ≡ some (record { stub = n; role = Polls h phase; steps = steps }))
 
 -- 64 wake seats and the poll seat of one list for n slots, with some row that keeps itself
 abbrev pub IsReachable : ℕ → Moment → Type 0
 IsReachable n c =
-    ((j : ℕ) (v : View) → get_elem? c.views j ≡ some v → v.stub ≡ n) × (length c.views ≡ 65)
-    × ((h : ℕ) × (rest : List ℕ) × KeepsRow n h rest 64 c.words c.views × PollsAt n h c.views)
+    ((j : ℕ) (v : View) → get_elem? c.views j ≡ some v → v.stub ≡ n) × (length c.views ≡ WAKE_SEATS + 1)
+    × ((h : ℕ) × (rest : List ℕ) × KeepsRow n h rest WAKE_SEATS c.words c.views × PollsAt n h c.views)
 
 -- what is out of the row and not yet answered, and then the row
 abbrev pub pending : (n : ℕ) (c : Moment) → IsReachable n c → List ℕ
@@ -93,21 +96,21 @@ poll_flow n h StubLinked head next row after f = f
 poll_flow n h (InHand i) head next row after f = ap (λ (l : List ℕ). i ∷ l) (append-nil (row_slots n row) ∙ (sym f.1 ∙ ap (λ (l : List ℕ). l ++ row_slots n after) (sym f.0)))
 
 -- a wake's step
-wake_reaches : (n : ℕ) (c : Moment) (good : IsReachable n c) (step : Step) → seat_of step < 64 → ((view_at c step).role ≡ Idle → slot_of step < n) → StaysReachable n c good step
+wake_reaches : (n : ℕ) (c : Moment) (good : IsReachable n c) (step : Step) → seat_of step < WAKE_SEATS → ((view_at c step).role ≡ Idle → slot_of step < n) → StaysReachable n c good step
 wake_reaches n c good step low lt =
     let h = good.2.0 in let rest = good.2.1 in let R = good.2.2 in let polls = good.2.3 in
     let seat = seat_of step in let v = view_at c step in
-    let there : get_elem? c.views seat ≡ some v = here_at c.views seat (let a = good.1 in omega arith) in
+    let there : get_elem? c.views seat ≡ some v = elem_at c.views seat spent_view (let a = good.1 in omega arith) in
     let stub : v.stub ≡ n = good.0 seat v there in
     let found = found_at n c step in
     let at : get_elem? c.views seat ≡ some (record { stub = n; role = v.role; steps = v.steps }) = there ∙ (λ k. some (record { stub = stub k; role = v.role; steps = v.steps })) in
-    let wakes : (head : ℕ) (phase : Phase) → v.role ≢ Polls head phase = λ head phase e. let a = (subst (FitsRole n c.words h rest 64 seat) e (R.seats seat v there).0).0 in omega arith in
-    let kept = wake_keeps n h rest 64 c.words c.views R seat v.steps (slot_of step) v.role lt wakes at found refl in
+    let wakes : (head : ℕ) (phase : Phase) → v.role ≢ Polls head phase = λ head phase e. let a = (subst (FitsRole n c.words h rest WAKE_SEATS seat) e (R.seats seat v there).0).0 in omega arith in
+    let kept = wake_keeps n h rest WAKE_SEATS c.words c.views R seat v.steps (slot_of step) v.role lt wakes at found refl in
     let w : View = record { stub = n; role = next_role n (slot_of step) v.role found; steps = v.steps ++ step_of_role n (slot_of step) v.role found ∷ [] } in
     let same_view : w ≡ next_view (slot_of step) v found = λ k. record { stub = sym stub k; role = next_role (sym stub k) (slot_of step) v.role found; steps = v.steps ++ step_of_role (sym stub k) (slot_of step) v.role found ∷ [] } in
     let now : List View = set c.views seat w in
-    let still : get_elem? now 64 ≡ some (record { stub = n; role = Polls h polls.0; steps = polls.1 }) = set_else c.views seat 64 w (λ z. omega arith) ∙ polls.2 in
-    let same_head : h ≡ kept.0 = (kept.2.seats 64 _ still).0.1 in
+    let still : get_elem? now WAKE_SEATS ≡ some (record { stub = n; role = Polls h polls.0; steps = polls.1 }) = set_else c.views seat WAKE_SEATS w (λ z. omega arith) ∙ polls.2 in
+    let same_head : h ≡ kept.0 = (kept.2.seats WAKE_SEATS _ still).0.1 in
     let words_now = set c.words (word_of n c step) (put_by_role n v.role found) in
     let on : IsReachable n (record { words = words_now; views = now }) = (
       stubs_set n c.views seat w good.0 refl,
@@ -125,32 +128,32 @@ poll_reaches : (n : ℕ) (c : Moment) (good : IsReachable n c) → StaysReachabl
 poll_reaches n c good =
     let h = good.2.0 in let rest = good.2.1 in let R = good.2.2 in let polls = good.2.3 in
     let v = view_at c Poll in
-    let there : get_elem? c.views 64 ≡ some v = here_at c.views 64 (let a = good.1 in omega arith) in
+    let there : get_elem? c.views WAKE_SEATS ≡ some v = elem_at c.views WAKE_SEATS spent_view (let a = good.1 in omega arith) in
     let p : View = record { stub = n; role = Polls h polls.0; steps = polls.1 } in
     let same_v : p ≡ v = some-injective p v (sym polls.2 ∙ there) in
     let f : ℕ = get_or c.words (word_of_role n 0 (Polls h polls.0)) 0 in
-    let kept = poll_keeps n h rest 64 c.words c.views R polls.1 0 polls.0 polls.2 f refl in
+    let kept = poll_keeps n h rest WAKE_SEATS c.words c.views R polls.1 0 polls.0 polls.2 f refl in
     let w : View = next_view 0 p f in
     let next = still_polls n h polls.0 f in
-    let at : get_elem? (set c.views 64 w) 64 ≡ some w = set_here c.views 64 w (index_low c.views 64 _ there) in
-    let at_next : get_elem? (set c.views 64 w) 64 ≡ some (record { stub = n; role = Polls next.0 next.1; steps = w.steps }) = at ∙ ap (λ (x : Role). let y : View = record { stub = n; role = x; steps = w.steps } in some y) next.2 in
-    let same_head : next.0 ≡ kept.0 = (kept.2.seats 64 _ at_next).0.1 in
-    let c1 : Moment = record { words = set c.words (word_of_role n 0 p.role) (put_by_role n p.role f); views = set c.views 64 w } in
+    let at : get_elem? (set c.views WAKE_SEATS w) WAKE_SEATS ≡ some w = set_here c.views WAKE_SEATS w (place_low c.views WAKE_SEATS _ there) in
+    let at_next : get_elem? (set c.views WAKE_SEATS w) WAKE_SEATS ≡ some (record { stub = n; role = Polls next.0 next.1; steps = w.steps }) = at ∙ ap (λ (x : Role). let y : View = record { stub = n; role = x; steps = w.steps } in some y) next.2 in
+    let same_head : next.0 ≡ kept.0 = (kept.2.seats WAKE_SEATS _ at_next).0.1 in
+    let c1 : Moment = record { words = set c.words (word_of_role n 0 p.role) (put_by_role n p.role f); views = set c.views WAKE_SEATS w } in
     let on : IsReachable n c1 = (
-      stubs_set n c.views 64 w good.0 refl,
-      length-set c.views 64 w ∙ good.1,
+      stubs_set n c.views WAKE_SEATS w good.0 refl,
+      length-set c.views WAKE_SEATS w ∙ good.1,
       (kept.0, kept.1, kept.2, (next.1, w.steps, at_next ∙ ap (λ (x : ℕ). let y : View = record { stub = n; role = Polls x next.1; steps = w.steps } in some y) same_head)),
     ) in
     let role_is : next_role n 0 (Polls h polls.0) f ≡ Polls kept.0 next.1 = next.2 ∙ ap (λ (x : ℕ). Polls x next.1) same_head in
     let flow : Flows n (Polls h polls.0) (Polls kept.0 next.1) (h ∷ rest) (kept.0 ∷ kept.1) = subst (λ (x : Role). Flows n (Polls h polls.0) x (h ∷ rest) (kept.0 ∷ kept.1)) role_is kept.3 in
     let all = poll_flow n h polls.0 kept.0 next.1 (h ∷ rest) (kept.0 ∷ kept.1) flow in
-    subst (λ (u : View). (on' : IsReachable n (record { words = set c.words (word_of_role n 0 u.role) (put_by_role n u.role (get_or c.words (word_of_role n 0 u.role) 0)); views = set c.views 64 (next_view 0 u (get_or c.words (word_of_role n 0 u.role) 0)) }))
-    × (pending n c good ++ put_by u.role ≡ answered_by u.role ++ pending n (record { words = set c.words (word_of_role n 0 u.role) (put_by_role n u.role (get_or c.words (word_of_role n 0 u.role) 0)); views = set c.views 64 (next_view 0 u (get_or c.words (word_of_role n 0 u.role) 0)) }) on'))
+    subst (λ (u : View). (on' : IsReachable n (record { words = set c.words (word_of_role n 0 u.role) (put_by_role n u.role (get_or c.words (word_of_role n 0 u.role) 0)); views = set c.views WAKE_SEATS (next_view 0 u (get_or c.words (word_of_role n 0 u.role) 0)) }))
+    × (pending n c good ++ put_by u.role ≡ answered_by u.role ++ pending n (record { words = set c.words (word_of_role n 0 u.role) (put_by_role n u.role (get_or c.words (word_of_role n 0 u.role) 0)); views = set c.views WAKE_SEATS (next_view 0 u (get_or c.words (word_of_role n 0 u.role) 0)) }) on'))
     same_v (on, all)
 
 pub step_reaches : (n : ℕ) (c : Moment) (good : IsReachable n c) (step : Step) → CanStep n (map role_of c.views) step → StaysReachable n c good step
 step_reaches n c good (Mark seat slot) can = wake_reaches n c good (Mark seat slot) can.0 (λ _. can.1)
-step_reaches n c good (Go seat) can = wake_reaches n c good (Go seat) can.0 (λ e. absurd (can.1 (role_there c.views seat ∙ e)))
+step_reaches n c good (Go seat) can = wake_reaches n c good (Go seat) can.0 (λ e. absurd (can.1 (get_or-map role_of c.views seat spent_view ∙ e)))
 step_reaches n c good Poll can = poll_reaches n c good
 
 -- after a legal schedule
@@ -158,49 +161,8 @@ pub run_reaches : (n : ℕ) (c : Moment) (good : IsReachable n c) (steps : List 
 run_reaches n c good [] legal = good
 run_reaches n c good (s ∷ ss) legal = run_reaches n (after_step n c s) (step_reaches n c good s legal.0).0 ss legal.1
 
-split_at : {X : Type 0} (k : ℕ) (a b : X) (j : ℕ) (v : X) → get_elem? (replicate k a ++ b ∷ []) j ≡ some v → ((j < k) × (a ≡ v)) ⊎ ((j ≡ k) × (b ≡ v))
-split_at zero a b zero v e = inr (refl, some-injective b v e)
-split_at zero a b (suc j) v e = absurd (some-ne-none v (sym e))
-split_at (suc k) a b zero v e = inl (omega arith, some-injective a v e)
-split_at (suc k) a b (suc j) v e = ⊎_elim (λ (t : (j < k) × (a ≡ v)). inl (omega (arith, t.0), t.1)) (λ (t : (j ≡ k) × (b ≡ v)). inr (ap suc t.0, t.1)) (split_at k a b j v e)
-
-pub lone : {X : Type 0} (k : ℕ) (a b : X) → get_elem? (replicate k a ++ b ∷ []) k ≡ some b
-lone zero a b = refl
-lone (suc k) a b = lone k a b
-
-pub long_of : {X : Type 0} (k : ℕ) (a b : X) → length (replicate k a ++ b ∷ []) ≡ k + 1
-long_of zero a b = refl
-long_of (suc k) a b = omega (arith, long_of k a b)
-
--- what holds of an idle view and of the poller's holds of each view at the start
-pub each : (n : ℕ) (P : ℕ → View → Type 0) → ((j : ℕ) → j < 64 → P j (new_waker_beside (first_poller n))) → P 64 (first_poller n) → (j : ℕ) (v : View) → get_elem? (at_start n).views j ≡ some v → P j v
-each n P wakes polls j v e = ⊎_elim (λ (t : (j < 64) × (new_waker_beside (first_poller n) ≡ v)). subst (P j) t.1 (wakes j t.0))
-    (λ (t : (j ≡ 64) × (first_poller n ≡ v)). subst (λ (y : ℕ × View). P y.0 y.1) (λ k. (sym t.0 k, t.1 k)) polls) (split_at 64 (new_waker_beside (first_poller n)) (first_poller n) j v e)
-
-pub machine_begins : (n : ℕ) → KeepsRow n n [] 64 (at_start n).words (at_start n).views
-machine_begins n = record {
-  wide = omega (arith, long (n + n + 1) n);
-  ends = sym (end_of (n + n + 1) n);
-  linked = λ p there. ⊎_elim
-      (λ (t : (p ≡ n) × (same p n ≡ 1)). (omega arith, inl (zeros (n + n + 1) (n + p) n (omega arith), no_owed p)))
-      (λ (t : (p ≢ n) × (same p n ≡ 0)). absurd (omega arith)) (same_cases p n);
-  unowed = λ p none. no_owed p;
-  whereabouts = λ e lt. let a = zeros (n + n + 1) e n (omega arith) in let b = same_else e n (λ z. omega arith) in let d = no_out e in (omega arith, omega arith);
-  stub_once = let a = same_here n in let d = no_out n in omega arith;
-  seats = each n (λ j v. FitsRole n (at_start n).words n [] 64 j v.role × (j ≢ 64 → (e : ℕ) → unmarks e v.steps ≡ 0)) (λ j lt. (tt, λ ne e. refl)) ((refl, refl, (let a : n ≤ n = omega arith in a)), λ ne e. refl);
-  tallied = λ e lt. let a = zeros (n + n + 1) e n (omega arith) in
-      let b = total_none (λ (v : View). wins e v.steps) (at_start n).views (each n (λ j v. wins e v.steps ≡ 0) (λ j l. refl) refl) in
-      let d = total_none (λ (v : View). unmarks e v.steps) (at_start n).views (each n (λ j v. unmarks e v.steps ≡ 0) (λ j l. refl) refl) in omega arith;
-}
-  where
-    no_out : (e : ℕ) → outside n (at_start n).views e ≡ 0
-    no_out e = total_none (λ (v : View). outside_by n e v.role) (at_start n).views (each n (λ j v. outside_by n e v.role ≡ 0) (λ j l. refl) refl)
-
-    no_owed : (p : ℕ) → owed (at_start n).views p ≡ 0
-    no_owed p = total_none (λ (v : View). owed_by p v.role) (at_start n).views (each n (λ j v. owed_by p v.role ≡ 0) (λ j l. refl) refl)
-
 abbrev pub reachable_start : (n : ℕ) → IsReachable n (at_start n)
-reachable_start n = (each n (λ j v. v.stub ≡ n) (λ j l. refl) refl, long_of 64 (new_waker_beside (first_poller n)) (first_poller n), (n, [], machine_begins n, (Start, [], lone 64 (new_waker_beside (first_poller n)) (first_poller n))))
+reachable_start n = (each_first WAKE_SEATS n (λ j v. v.stub ≡ n) (λ j l. refl) refl, length_and_last WAKE_SEATS (new_waker_beside (first_poller n)) (first_poller n), (n, [], keeps_first WAKE_SEATS n, (Start, [], last_at WAKE_SEATS (new_waker_beside (first_poller n)) (first_poller n))))
 
 pub run_more : (n : ℕ) (c : Moment) (ss : List Step) (s : Step) → run n c (ss ++ s ∷ []) ≡ after_step n (run n c ss) s
 run_more n c [] s = refl
@@ -216,14 +178,3 @@ replies_more n c (x ∷ xs) s = ap (λ (l : List StepReply). reply_of_role n (vi
 
 pub reachable_at : (n : ℕ) (schedule : List Step) → Legal n (at_start n) schedule → IsReachable n (run n (at_start n) schedule)
 reachable_at n schedule legal = run_reaches n (at_start n) (reachable_start n) schedule legal
-
-pub elem_at : {X : Type 0} (xs : List X) (k : ℕ) (d : X) → k < length xs → get_elem? xs k ≡ some (get_or xs k d)
-elem_at [] k d lt = absurd (omega arith)
-elem_at (x ∷ xs) zero d lt = refl
-elem_at (x ∷ xs) (suc k) d lt = elem_at xs k d (omega arith)
-
-pub take_all : {X : Type 0} (k : ℕ) (xs : List X) → length xs ≤ k → take k xs ≡ xs
-take_all zero [] le = refl
-take_all zero (x ∷ xs) le = absurd (omega arith)
-take_all (suc k) [] le = refl
-take_all (suc k) (x ∷ xs) le = ap (λ l. x ∷ l) (take_all k xs (omega arith))

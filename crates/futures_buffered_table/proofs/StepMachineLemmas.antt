@@ -13,13 +13,12 @@ use Rattle.atomic_table.proofs.Lists.{at_set}
 use Rattle.futures_buffered_table.specs.declared.view.Phase.{Phase}
 use Rattle.futures_buffered_table.specs.declared.view.Phase.TheVariants.{Start, AtStub, Moved, NoNext, Last, StubCleared, StubPut, StubLinked, InHand}
 use Rattle.std.proofs.Props.{props}
-use Rattle.std.proofs.lemmas.List.{get_or_default}
+use Rattle.std.proofs.lemmas.List.{get_or_default, map-set}
 use Rattle.std.proofs.Math.Logic.{∥∥₁_elim, ∥∥₁_prop}
 use Rattle.std.proofs.lemmas.Grind.{get_or_default_zero}
 use Rattle.futures_buffered_table.specs.StepMachine.{AreThoseOf, CanMake, IsLedTo, IsNew, IsPlaced, Leads, LeadsOn, Machine, MakesStep, replies_to}
 use Rattle.futures_buffered_table.specs.Schedule.{Legal, Moment, after_step, at_start, found_at, replies_of, run, view_at}
 use Rattle.futures_buffered_table.specs.Step.{CanStep, role_at, seat_of, slot_of}
-use Rattle.futures_buffered_table.proofs.ViewLemmas.{here_at, map_set, role_there}
 use Rattle.futures_buffered_table.proofs.ScheduleLemmas.{legal_more, reachable_at, replies_more, run_more}
 use Rattle.futures_buffered_table.specs.Effect.{InRange, next_role, next_view, put_by_role, reply_of_role, word_of_role}
 use Rattle.futures_buffered_table.specs.View.{role_of, spent_view}
@@ -30,6 +29,9 @@ use Rattle.futures_buffered_table.proofs.TallyLemmas.{tallied_at}
 use Rattle.futures_buffered_table.proofs.WhereaboutsLemmas.{whereabouts}
 use Rattle.futures_buffered_table.specs.StepMachineInvariant.{KeepsMachine}
 use Rattle.futures_buffered_table.proofs.EffectLemmas.{in_range_prop, word_range}
+use Rattle.futures_buffered_table.proofs.ListLemmas.{elem_at}
+use Rattle.std.proofs.Math.ListN.{get_or-map}
+use Rattle.futures_buffered_table.specs.declared.step.TheConstants.{WAKE_SEATS}
 
 -- a schedule for n slots leads to these words and roles
 abbrev LeadsTo : ℕ → List Step → List ℕ → List Role → Type 0
@@ -48,14 +50,14 @@ leads_one_more n words roles s schedule leads can =
     let w : words ≡ c.words = leads.1.0 in
     let rs : roles ≡ map role_of c.views = leads.1.1 in
     let v : View = view_at c s in
-    let r : role ≡ v.role = ap (λ (l : List Role). get_or l (seat_of s) Idle) rs ∙ role_there c.views (seat_of s) in
+    let r : role ≡ v.role = ap (λ (l : List Role). get_or l (seat_of s) Idle) rs ∙ get_or-map role_of c.views (seat_of s) spent_view in
     let f : found ≡ found_at n c s = λ k. get_or (w k) (word_of_role n (slot_of s) (r k)) 0 in
-    let stub : v.stub ≡ n = good.0 (seat_of s) v (here_at c.views (seat_of s) (let a = good.1 in let b = seat_in n roles s can in omega arith)) in
+    let stub : v.stub ≡ n = good.0 (seat_of s) v (elem_at c.views (seat_of s) spent_view (let a = good.1 in let b = seat_in n roles s can in omega arith)) in
     let words_on : set words (word_of_role n (slot_of s) role) (put_by_role n role found) ≡ (after_step n c s).words = λ k. set (w k) (word_of_role n (slot_of s) (r k)) (put_by_role n (r k) (f k)) in
     let roles_on : set roles (seat_of s) (next_role n (slot_of s) role found) ≡ map role_of (after_step n c s).views =
     (λ k. set (rs k) (seat_of s) (next_role n (slot_of s) (r k) (f k)))
     ∙ ((λ k. set (map role_of c.views) (seat_of s) (next_role (sym stub k) (slot_of s) v.role (found_at n c s)))
-    ∙ sym (map_set c.views (seat_of s) (next_view (slot_of s) v (found_at n c s)))) in (
+    ∙ sym (map-set role_of c.views (seat_of s) (next_view (slot_of s) v (found_at n c s)))) in (
       (
         legal_more n (at_start n) schedule s leads.0 (subst (λ (l : List Role). CanStep n l s) rs can),
         subst (AreThoseOf (set words (word_of_role n (slot_of s) role) (put_by_role n role found)) (set roles (seat_of s) (next_role n (slot_of s) role found))) (sym (run_more n (at_start n) schedule s)) (words_on, roles_on),
@@ -90,20 +92,20 @@ whole n m made steps replies cap all leads replied = (
 pub read_role : (roles : List Role) (seat : ℕ) (x : Role) → x ≡ get_or roles seat x → seat < length roles → get_or roles seat Idle ≡ x
 read_role roles seat x is low = get_or_default roles seat Idle x low ∙ sym is
 
-range_there : (m : Machine) (seat : ℕ) → seat < 65 → IsLedTo m → InRange m.capacity (get_or m.roles seat Idle)
+range_there : (m : Machine) (seat : ℕ) → seat < WAKE_SEATS + 1 → IsLedTo m → InRange m.capacity (get_or m.roles seat Idle)
 range_there m seat low r =
     let n = m.capacity in let c : Moment = run n (at_start n) r.0 in let good = reachable_at n r.0 r.1.0 in
     let v : View = get_or c.views seat spent_view in
-    let there : get_elem? c.views seat ≡ some v = here_at c.views seat (let a = good.1 in omega arith) in
-    let role_is : get_or m.roles seat Idle ≡ v.role = ap (λ (l : List Role). get_or l seat Idle) r.1.1.1 ∙ role_there c.views seat in
+    let there : get_elem? c.views seat ≡ some v = elem_at c.views seat spent_view (let a = good.1 in omega arith) in
+    let role_is : get_or m.roles seat Idle ≡ v.role = ap (λ (l : List Role). get_or l seat Idle) r.1.1.1 ∙ get_or-map role_of c.views seat spent_view in
     let R = good.2.2 in
-    subst (InRange n) (sym role_is) (role_range n c.words good.2.0 good.2.1 64 seat v.role (head_low n good.2.0 good.2.1 64 c.words c.views R) (R.seats seat v there).0)
+    subst (InRange n) (sym role_is) (role_range n c.words good.2.0 good.2.1 WAKE_SEATS seat v.role (head_low n good.2.0 good.2.1 WAKE_SEATS c.words c.views R) (R.seats seat v there).0)
 
 placed_here : (m : Machine) → IsLedTo m → IsPlaced m
 placed_here m r =
     let n = m.capacity in let c : Moment = run n (at_start n) r.0 in let good = reachable_at n r.0 r.1.0 in
-    let R : KeepsRow n good.2.0 good.2.1 64 m.words c.views = subst (λ (ws : List ℕ). KeepsRow n good.2.0 good.2.1 64 ws c.views) (sym r.1.1.0) good.2.2 in
-    (r.0, r.1, (whereabouts n good.2.0 good.2.1 64 m.words c.views R, tallied_at n m.words r.0 r.1.0 good r.1.1.0))
+    let R : KeepsRow n good.2.0 good.2.1 WAKE_SEATS m.words c.views = subst (λ (ws : List ℕ). KeepsRow n good.2.0 good.2.1 WAKE_SEATS ws c.views) (sym r.1.1.0) good.2.2 in
+    (r.0, r.1, (whereabouts n good.2.0 good.2.1 WAKE_SEATS m.words c.views R, tallied_at n m.words r.0 r.1.0 good r.1.1.0))
 
 pub placed : (m : Machine) → KeepsMachine m → ∥ IsPlaced m ∥₁
 placed m K = ∥∥₁_elim K.reached ∥∥₁_prop (λ r. ∣ placed_here m r ∣₁)

@@ -14,32 +14,14 @@ use Rattle.std.proofs.lemmas.List.{get_or_default}
 use Rattle.futures_buffered_table.specs.declared.step.Step.{Step}
 use Rattle.futures_buffered_table.specs.declared.step.Step.TheVariants.{Mark, Go, Poll}
 use Rattle.futures_buffered_table.specs.declared.view.AtomicStep.{AtomicStep}
-use Rattle.futures_buffered_table.specs.View.{role_of, spent_view}
-
-at_role : (views : List View) (seat : ℕ) → seat < length (map role_of views) → (v : View) × (get_elem? views seat ≡ some v) × (v.role ≡ get_or (map role_of views) seat Idle)
-at_role [] seat lt = absurd (omega arith)
-at_role (v ∷ vs) zero lt = (v, refl, refl)
-at_role (v ∷ vs) (suc seat) lt = at_role vs seat (omega arith)
-
-pub map_set : (views : List View) (seat : ℕ) (w : View) → map role_of (set views seat w) ≡ set (map role_of views) seat w.role
-map_set [] seat w = refl
-map_set (v ∷ vs) zero w = refl
-map_set (v ∷ vs) (suc seat) w = λ k. v.role ∷ map_set vs seat w k
+use Rattle.futures_buffered_table.specs.View.{role_of, spent_view, new_waker_beside, first_poller, first_views}
+use Rattle.futures_buffered_table.proofs.ListLemmas.{earlier_or_last}
 
 pub stubs_set : (n : ℕ) (views : List View) (seat : ℕ) (w : View) → ((j : ℕ) (v : View) → get_elem? views j ≡ some v → v.stub ≡ n) → w.stub ≡ n → (j : ℕ) (v : View) → get_elem? (set views seat w) j ≡ some v → v.stub ≡ n
 stubs_set n views seat w all mine j v e = ⊎_elim (λ (t : (j ≡ seat) × (w ≡ v)). ap (λ (u : View). u.stub) (sym t.1) ∙ mine) (λ (t : (j ≢ seat) × (get_elem? views j ≡ some v)). all j v t.1) (at_set views seat j w v e)
 
-pub index_low : (views : List View) (j : ℕ) (v : View) → get_elem? views j ≡ some v → j < length views
-index_low [] j v e = absurd (some-ne-none v (sym e))
-index_low (x ∷ xs) zero v e = omega arith
-index_low (x ∷ xs) (suc j) v e = omega (arith, index_low xs j v e)
-
-pub here_at : (views : List View) (seat : ℕ) → seat < length views → get_elem? views seat ≡ some (get_or views seat spent_view)
-here_at [] seat lt = absurd (omega arith)
-here_at (v ∷ vs) zero lt = refl
-here_at (v ∷ vs) (suc seat) lt = here_at vs seat (omega arith)
-
-pub role_there : (views : List View) (seat : ℕ) → get_or (map role_of views) seat Idle ≡ (get_or views seat spent_view).role
-role_there [] seat = refl
-role_there (v ∷ vs) zero = refl
-role_there (v ∷ vs) (suc seat) = role_there vs seat
+-- what holds of an idle view and of the poller's holds of each view at the start
+pub each_first : (count n : ℕ) (P : ℕ → View → Type 0) → ((j : ℕ) → j < count → P j (new_waker_beside (first_poller n))) → P count (first_poller n) → (j : ℕ) (v : View) → get_elem? (first_views count n) j ≡ some v → P j v
+each_first count n P wakes polls j v e = ⊎_elim (λ (t : (j < count) × (new_waker_beside (first_poller n) ≡ v)). subst (P j) t.1 (wakes j t.0))
+    (λ (t : (j ≡ count) × (first_poller n ≡ v)). subst (λ (y : ℕ × View). P y.0 y.1) (λ k. (sym t.0 k, t.1 k)) polls)
+    (earlier_or_last count (new_waker_beside (first_poller n)) (first_poller n) j v e)

@@ -1,5 +1,5 @@
 -- A schedule: which steps of the wake seats and one poll seat, the seat after them, are made in which order. It determines every word, every view and every reply.
-use Rattle.std.specs.Prelude.{◌≡◌, ◌≢◌, ℕ, ◌+◌, ◌<◌, List, [], ◌∷◌, ◌++◌, map, replicate, slice_index, slice_index_or, slice_set, take}
+use Rattle.std.specs.Prelude.{◌≡◌, ◌≢◌, ℕ, ◌+◌, ◌<◌, List, [], ◌∷◌, ◌++◌, map, slice_index, slice_index_or, slice_set, take}
 use mathlib.Core.Option.{some}
 use lib.ListN.{get_elem?}
 use Rattle.futures_buffered_table.specs.declared.view.Role.{Role}
@@ -9,9 +9,10 @@ use Rattle.futures_buffered_table.specs.declared.step.Step.TheVariants.{Mark, Go
 use Rattle.futures_buffered_table.specs.declared.step.StepReply.{StepReply}
 use Rattle.futures_buffered_table.specs.declared.view.View.{View}
 use Rattle.futures_buffered_table.specs.declared.step.TheConstants.{WAKE_SEATS}
-use Rattle.futures_buffered_table.specs.View.{first_poller, new_waker_beside, role_of, spent_view}
+use Rattle.futures_buffered_table.specs.View.{role_of, spent_view, first_views}
 use Rattle.futures_buffered_table.specs.Step.{CanStep, seat_of, slot_of}
 use Rattle.futures_buffered_table.specs.Effect.{next_view, put_by_role, reply_of_role, word_of_role}
+use Rattle.futures_buffered_table.specs.Words.{empty_words}
 
 -- all words and all views between two steps
 pub record Moment : Type 0 where
@@ -20,7 +21,7 @@ pub record Moment : Type 0 where
 
 -- no mark, no link, the stub as the tail; idle wake seats, and a poll seat whose head is the stub
 abbrev pub at_start : ℕ → Moment
-at_start n = record { words = replicate (n + n + 1) 0 ++ n ∷ []; views = replicate WAKE_SEATS (new_waker_beside (first_poller n)) ++ first_poller n ∷ [] }
+at_start n = record { words = empty_words n; views = first_views WAKE_SEATS n }
 
 -- the view of the step's seat
 abbrev pub view_at : Moment → Step → View

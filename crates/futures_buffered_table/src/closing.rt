@@ -1,4 +1,4 @@
-//! Seats that are split, and the end of a list.
+//! The end of a list.
 ghost use Rattle.std.specs.Prelude.{◌≡◌, ℕ, ◌+◌, ◌<◌, ◌≤◌, [], List, ◌++◌, ◌↔◌, All, IsTrue};
 ghost use Rattle.futures_buffered_table.specs.declared.view.View.{View};
 ghost use Rattle.futures_buffered_table.specs.Words.{mark};
@@ -7,7 +7,7 @@ ghost use Rattle.futures_buffered_table.specs.Tally.{wins, unmarks};
 ghost use Rattle.futures_buffered_table.specs.Whereabouts.{Whereabouts};
 
 use crate::ready_list::{PollSeat, ReadyList, WakeSeat};
-use crate::rule::{IntoPoller, NewWaker};
+use crate::rule::IntoPoller;
 use atomic_table::Closed as Words;
 use std::alloc::Global;
 use std::marker::Model;
@@ -28,18 +28,6 @@ impl Model for Closed {
     ghost view = { λ c. record { capacity = c.capacity; words = slots_items c.words.words } };
 
     ghost invariant = { λ c. IsFull c.words.words × KeepsClosed (slots_items c.words.words) (slots_len c.words.words) (slots_len c.words.slots) c.capacity };
-}
-
-impl WakeSeat {
-    /// Two seats of one list, the second for another thread, with no step made.
-    pub fn split(mut self, list: &ReadyList) -> (WakeSeat, WakeSeat)
-        requires { self.list ≡ list.now.list }
-        ensures first { result.0 ≡ self }
-        ensures second { (result.1.list ≡ self.list) × (result.1.steps ≡ []) }
-    {
-        let other = list.table.shared.split_seat::<NewWaker>(&mut self.seat);
-        (self, WakeSeat { seat: other })
-    }
 }
 
 impl PollSeat {

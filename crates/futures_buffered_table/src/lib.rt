@@ -23,3 +23,4 @@ mod step_machine;
 mod taking;
 mod view;
 mod waking;
+mod words;

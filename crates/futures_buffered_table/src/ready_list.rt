@@ -3,8 +3,8 @@ ghost use Rattle.std.specs.Prelude.{◌≡◌, [], IfOk};
 
 use crate::answer::{MAX_CAPACITY, NewFault};
 use crate::rule::{NewWaker, RowRule};
-use crate::step_machine::first_words;
 use crate::view::View;
+use crate::words::first_words;
 use atomic_table::{Seat, Table};
 use std::alloc::Global;
 use std::marker::Model;
@@ -42,6 +42,18 @@ impl Model for WakeSeat {
     ghost view = { λ s. record { list = s.seat.table_id; steps = s.seat.me.0.steps } };
 
     ghost invariant = { λ s. KeepsWaker s.seat.table_id s.seat.me };
+}
+
+impl WakeSeat {
+    /// Two seats of one list, the second for another thread, with no step made.
+    pub fn split(mut self, list: &ReadyList) -> (WakeSeat, WakeSeat)
+        requires { self.list ≡ list.now.list }
+        ensures first { result.0 ≡ self }
+        ensures second { (result.1.list ≡ self.list) × (result.1.steps ≡ []) }
+    {
+        let other = list.table.shared.split_seat::<NewWaker>(&mut self.seat);
+        (self, WakeSeat { seat: other })
+    }
 }
 
 /// The one seat that takes from its list. It takes the bytes of its head alone.

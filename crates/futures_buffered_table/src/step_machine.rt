@@ -8,6 +8,7 @@ use crate::answer::{MAX_CAPACITY, NewFault};
 use crate::effect::{puts, reply, role_after, touches};
 use crate::step::{Step, StepReply, WAKE_SEATS};
 use crate::view::{Phase, Role};
+use crate::words::first_words;
 use std::alloc::{AllocError, Global};
 use std::marker::Model;
 
@@ -28,17 +29,6 @@ impl Model for StepMachine {
     ghost view = { λ m. record { capacity = m.capacity; words = m.words.items; roles = m.roles.items } };
 
     ghost invariant = { λ m. KeepsMachine (record { capacity = m.capacity; words = m.words.items; roles = m.roles.items }) };
-}
-
-// The words of an empty list: no mark, no link, and the stub as the tail.
-pub fn first_words(alloc: Global, capacity: usize) -> Result<Vec<u64>, AllocError>
-    requires { capacity < 2 ^ 62 }
-    ensures { IfOk result (λ v. v.items ≡ replicate (capacity + capacity + 1) 0 ++ capacity ∷ []) }
-{
-    let mut words = Vec::new(alloc);
-    words.resize(capacity + capacity + 1, 0)?;
-    words.push(capacity as u64)?;
-    Ok(words)
 }
 
 // The roles of idle wake seats and a poll seat whose head is the stub.
