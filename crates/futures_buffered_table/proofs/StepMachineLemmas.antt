@@ -16,7 +16,7 @@ use Rattle.std.proofs.Props.{props}
 use Rattle.std.proofs.lemmas.List.{get_or_default, map-set}
 use Rattle.std.proofs.Math.Logic.{∥∥₁_elim, ∥∥₁_prop}
 use Rattle.std.proofs.lemmas.Grind.{get_or_default_zero}
-use Rattle.futures_buffered_table.specs.StepMachine.{AreThoseOf, CanMake, IsLedTo, IsNew, IsPlaced, Leads, LeadsOn, Machine, MakesStep, replies_to}
+use Rattle.futures_buffered_table.specs.StepMachine.{AreThoseOf, CanMake, IsLedTo, IsNew, Leads, LeadsOn, Machine, MakesStep, replies_to, PlacesSlots}
 use Rattle.futures_buffered_table.specs.Schedule.{Legal, Moment, after_step, at_start, found_at, replies_of, run, view_at}
 use Rattle.futures_buffered_table.specs.Step.{CanStep, role_at, seat_of, slot_of}
 use Rattle.futures_buffered_table.proofs.ScheduleLemmas.{legal_more, reachable_at, replies_more, run_more}
@@ -73,10 +73,6 @@ leads_on old new step reply can did = λ schedule leads.
       ap (λ (n : ℕ). replies_of n (at_start n) (schedule ++ step ∷ [])) did.0 ∙ (more.1 ∙ ap (λ (r : StepReply). replies_to old schedule ++ r ∷ []) (sym did.3)),
     )
 
--- an empty schedule leads to a new machine
-pub leads_new : (n : ℕ) (m : Machine) → IsNew n m → Leads [] m
-leads_new n m is = (tt, subst (λ (k : ℕ). AreThoseOf m.words m.roles (at_start k)) (sym is.0) is.1)
-
 pub stuck_here : (n : ℕ) (m : Machine) (schedule : List Step) (s : Step) → m.capacity ≡ n → Leads schedule m → (CanMake m s → ⊥) → CanStep n (map role_of (run n (at_start n) schedule).views) s → ⊥
 stuck_here n m schedule s is leads cannot can = cannot (subst (λ (l : List Role). CanStep m.capacity l s) (sym leads.1.1) (subst (λ (k : ℕ). CanStep k (map role_of (run k (at_start k) schedule).views) s) (sym is) can))
 
@@ -101,65 +97,86 @@ range_there m seat low r =
     let R = good.2.2 in
     subst (InRange n) (sym role_is) (role_range n c.words good.2.0 good.2.1 WAKE_SEATS seat v.role (head_low n good.2.0 good.2.1 WAKE_SEATS c.words c.views R) (R.seats seat v there).0)
 
-placed_here : (m : Machine) → IsLedTo m → IsPlaced m
-placed_here m r =
-    let n = m.capacity in let c : Moment = run n (at_start n) r.0 in let good = reachable_at n r.0 r.1.0 in
-    let R : KeepsRow n good.2.0 good.2.1 WAKE_SEATS m.words c.views = subst (λ (ws : List ℕ). KeepsRow n good.2.0 good.2.1 WAKE_SEATS ws c.views) (sym r.1.1.0) good.2.2 in
-    (r.0, r.1, (whereabouts n good.2.0 good.2.1 WAKE_SEATS m.words c.views R, tallied_at n m.words r.0 r.1.0 good r.1.1.0))
+pub places_slots : (m : Machine) → PlacesSlots m
+places_slots m = λ schedule leads.
+    let n = m.capacity in let c : Moment = run n (at_start n) schedule in let good = reachable_at n schedule leads.0 in
+    let R : KeepsRow n good.2.0 good.2.1 WAKE_SEATS m.words c.views = subst (λ (ws : List ℕ). KeepsRow n good.2.0 good.2.1 WAKE_SEATS ws c.views) (sym leads.1.0) good.2.2 in
+    (whereabouts n good.2.0 good.2.1 WAKE_SEATS m.words c.views R, tallied_at n m.words schedule leads.0 good leads.1.0)
 
-pub placed : (m : Machine) → KeepsMachine m → ∥ IsPlaced m ∥₁
-placed m K = ∥∥₁_elim K.reached ∥∥₁_prop (λ r. ∣ placed_here m r ∣₁)
+-- the code has read the seat and the slot of a step that can be made, and the seat's role
+pub record HasRead (m : Machine) (step : Step) (seat slot : ℕ) (role : Role) : Type 0 where
+  pub keeps : KeepsMachine m
+  pub can : CanStep m.capacity m.roles step
+  pub of_seat : seat ≡ seat_of step
+  pub of_slot : slot ≡ slot_of step
+  pub of_role : role ≡ get_or m.roles seat role
 
--- the code has read the role x of the seat
-module _ (m : Machine) (K : KeepsMachine m) (step : Step) (seat slot : ℕ) (x : Role) (can : CanStep m.capacity m.roles step) (is_seat : seat ≡ seat_of step) (is_slot : slot ≡ slot_of step) (is_role : x ≡ get_or m.roles seat x) where
-  pub low : seat < length m.roles
-  low = subst (λ (k : ℕ). k < length m.roles) (sym is_seat) (seat_low m.capacity m.roles step can K.seated)
+-- then it has found a word, and says what it puts there, what the seat is then, and what the step answers
+pub record HasFound (m : Machine) (slot : ℕ) (role : Role) (word found put : ℕ) (next : Role) (reply : StepReply) : Type 0 where
+  pub at_word : word ≡ word_of_role m.capacity slot role
+  pub of_word : found ≡ get_or m.words word found
+  pub of_put : put ≡ put_by_role m.capacity role found
+  pub of_next : next ≡ next_role m.capacity slot role found
+  pub of_reply : reply ≡ reply_of_role m.capacity role found
+
+pub has_read : {m : Machine} {roles : List Role} {step : Step} {seat slot : ℕ} {role : Role} → KeepsMachine m → roles ≡ m.roles → CanStep m.capacity roles step × (seat ≡ seat_of step) × (slot ≡ slot_of step) → role ≡ get_or m.roles seat role
+    → HasRead m step seat slot role
+has_read {m} {roles} {step} {seat} {slot} {role} K same told of_role = record { keeps = K; can = subst (λ (l : List Role). CanStep m.capacity l step) same told.0; of_seat = told.1; of_slot = told.2; of_role = of_role }
+
+pub has_found : {m : Machine} {slot : ℕ} {role : Role} {word found put : ℕ} {next : Role} {reply : StepReply} → word ≡ word_of_role m.capacity slot role → found ≡ get_or m.words word found → put ≡ put_by_role m.capacity role found
+    → next ≡ next_role m.capacity slot role found → reply ≡ reply_of_role m.capacity role found → HasFound m slot role word found put next reply
+has_found at_word of_word of_put of_next of_reply = record { at_word = at_word; of_word = of_word; of_put = of_put; of_next = of_next; of_reply = of_reply }
+
+module _ (m : Machine) (step : Step) (seat slot : ℕ) (x : Role) (read : HasRead m step seat slot x) where
+  low : seat < length m.roles
+  low = subst (λ (k : ℕ). k < length m.roles) (sym read.of_seat) (seat_low m.capacity m.roles step read.can read.keeps.seated)
 
   role_is : get_or m.roles seat Idle ≡ x
-  role_is = read_role m.roles seat x is_role low
+  role_is = read_role m.roles seat x read.of_role low
 
   slot_in : slot ≤ m.capacity
-  slot_in = subst (λ (k : ℕ). k ≤ m.capacity) (sym is_slot) (slot_low m.capacity m.roles step can)
+  slot_in = subst (λ (k : ℕ). k ≤ m.capacity) (sym read.of_slot) (slot_low m.capacity m.roles step read.can)
 
   range : InRange m.capacity x
-  range = subst (InRange m.capacity) role_is (∥∥₁_elim K.reached (in_range_prop m.capacity _) (λ r. range_there m seat (let a = K.seated in let b = low in omega arith) r))
+  range = subst (InRange m.capacity) role_is (∥∥₁_elim read.keeps.reached (in_range_prop m.capacity _) (λ r. range_there m seat (let a = read.keeps.seated in let b = low in omega arith) r))
 
   pub may_touch : (m.capacity < 2 ^ 62) × (slot ≤ m.capacity) × InRange m.capacity x
-  may_touch = (K.sized, slot_in, range)
+  may_touch = (read.keeps.sized, slot_in, range)
 
   pub may_put : (m.capacity < 2 ^ 62) × InRange m.capacity x
-  may_put = (K.sized, range)
+  may_put = (read.keeps.sized, range)
 
   pub word_low : (word : ℕ) → word ≡ word_of_role m.capacity slot x → word < length m.words
-  word_low word is = let a = word_range m.capacity slot x slot_in range in let b = K.wide in omega arith
+  word_low word is = let a = word_range m.capacity slot x slot_in range in let b = read.keeps.wide in omega arith
 
-  -- and found a word there, and wrote one word and one role
-  module _ (word found put : ℕ) (next : Role) (reply : StepReply) (is_word : word ≡ word_of_role m.capacity slot x) (is_found : found ≡ get_or m.words word found)
-      (is_put : put ≡ put_by_role m.capacity x found) (is_next : next ≡ next_role m.capacity slot x found) (is_reply : reply ≡ reply_of_role m.capacity x found) where
+  module _ (word found put : ℕ) (next : Role) (reply : StepReply) (did : HasFound m slot x word found put next reply) where
     abbrev pub now : Machine
     now = record { capacity = m.capacity; words = set m.words word put; roles = set m.roles seat next }
 
     role_at_seat : x ≡ get_or m.roles (seat_of step) Idle
-    role_at_seat = sym role_is ∙ ap (λ (k : ℕ). get_or m.roles k Idle) is_seat
+    role_at_seat = sym role_is ∙ ap (λ (k : ℕ). get_or m.roles k Idle) read.of_seat
 
     word_at : word ≡ word_of_role m.capacity (slot_of step) (get_or m.roles (seat_of step) Idle)
-    word_at = is_word ∙ (λ k. word_of_role m.capacity (is_slot k) (role_at_seat k))
+    word_at = did.at_word ∙ (λ k. word_of_role m.capacity (read.of_slot k) (role_at_seat k))
 
     found_there : found ≡ get_or m.words (word_of_role m.capacity (slot_of step) (get_or m.roles (seat_of step) Idle)) 0
-    found_there = is_found ∙ (get_or_default_zero m.words word found (word_low word is_word) ∙ ap (λ (k : ℕ). get_or m.words k 0) word_at)
+    found_there = did.of_word ∙ (get_or_default_zero m.words word found (word_low word did.at_word) ∙ ap (λ (k : ℕ). get_or m.words k 0) word_at)
 
-    pub did : MakesStep m step now reply
-    did = (
+    pub makes_step : MakesStep m step now reply
+    makes_step = (
       refl,
-      (λ k. set m.words (word_at k) ((is_put ∙ (λ i. put_by_role m.capacity (role_at_seat i) (found_there i))) k)),
-      (λ k. set m.roles (is_seat k) ((is_next ∙ (λ i. next_role m.capacity (is_slot i) (role_at_seat i) (found_there i))) k)),
-      is_reply ∙ (λ k. reply_of_role m.capacity (role_at_seat k) (found_there k)),
+      (λ k. set m.words (word_at k) ((did.of_put ∙ (λ i. put_by_role m.capacity (role_at_seat i) (found_there i))) k)),
+      (λ k. set m.roles (read.of_seat k) ((did.of_next ∙ (λ i. next_role m.capacity (read.of_slot i) (role_at_seat i) (found_there i))) k)),
+      did.of_reply ∙ (λ k. reply_of_role m.capacity (role_at_seat k) (found_there k)),
     )
 
-    pub keeps : KeepsMachine now
-    keeps = record {
-      sized = K.sized;
-      wide = length-set m.words word put ∙ K.wide;
-      seated = length-set m.roles seat next ∙ K.seated;
-      reached = ∥∥₁_elim K.reached ∥∥₁_prop (λ r. ∣ (r.0 ++ step ∷ [], (leads_on m now step reply can did r.0 r.1).0) ∣₁);
+    pub leads_there : LeadsOn m step now reply
+    leads_there = leads_on m now step reply read.can makes_step
+
+    pub keeps_now : KeepsMachine now
+    keeps_now = record {
+      sized = read.keeps.sized;
+      wide = length-set m.words word put ∙ read.keeps.wide;
+      seated = length-set m.roles seat next ∙ read.keeps.seated;
+      reached = ∥∥₁_elim read.keeps.reached ∥∥₁_prop (λ r. ∣ (r.0 ++ step ∷ [], (leads_there r.0 r.1).0) ∣₁);
     }

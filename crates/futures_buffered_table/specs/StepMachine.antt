@@ -32,9 +32,13 @@ CanMake m step = CanStep m.capacity m.roles step
 -- what the step makes of the machine, and what it answers
 abbrev pub MakesStep : Machine → Step → Machine → StepReply → Type 0
 MakesStep old step new reply =
-    let n = old.capacity in let seat = seat_of step in let role = role_at old.roles seat in let word = word_of_role n (slot_of step) role in
+    let n = old.capacity in let seat = seat_of step in let slot = slot_of step in
+    let role = role_at old.roles seat in let word = word_of_role n slot role in
     let found = slice_index old.words word in
-    (new.capacity ≡ n) × (new.words ≡ slice_set old.words word (put_by_role n role found)) × (new.roles ≡ slice_set old.roles seat (next_role n (slot_of step) role found)) × (reply ≡ reply_of_role n role found)
+    (new.capacity ≡ n)
+    × (new.words ≡ slice_set old.words word (put_by_role n role found))
+    × (new.roles ≡ slice_set old.roles seat (next_role n slot role found))
+    × (reply ≡ reply_of_role n role found)
 
 -- this schedule is legal, and leads a new machine to this one
 abbrev pub Leads : List Step → Machine → Type 0
@@ -50,9 +54,12 @@ replies_to m schedule = replies_of m.capacity (at_start m.capacity) schedule
 
 -- each schedule that led to the old machine leads, with the step at its end, to the new one, and this reply comes last
 abbrev pub LeadsOn : Machine → Step → Machine → StepReply → Type 0
-LeadsOn old step new reply = (schedule : List Step) → Leads schedule old → Leads (schedule ++ step ∷ []) new × (replies_to new (schedule ++ step ∷ []) ≡ replies_to old schedule ++ reply ∷ [])
+LeadsOn old step new reply = (schedule : List Step) → Leads schedule old →
+    Leads (schedule ++ step ∷ []) new
+    × (replies_to new (schedule ++ step ∷ []) ≡ replies_to old schedule ++ reply ∷ [])
 
--- some legal schedule led here, and with the lists of steps that it made each slot is in its one place and no mark was lost
-abbrev pub IsPlaced : Machine → Type 0
-IsPlaced m = (schedule : List Step) × Leads schedule m
-    × (let views = (run m.capacity (at_start m.capacity) schedule).views in Whereabouts m.capacity m.words views × LosesNoMark m.capacity m.words views)
+-- with the lists of steps that a schedule which leads here makes, each slot is in its one place and no mark is lost
+abbrev pub PlacesSlots : Machine → Type 0
+PlacesSlots m = (schedule : List Step) → Leads schedule m →
+    let views = (run m.capacity (at_start m.capacity) schedule).views in
+    Whereabouts m.capacity m.words views × LosesNoMark m.capacity m.words views

@@ -66,7 +66,7 @@ fn seat_and_slot(capacity: usize, roles: &[Role], step: Step) -> Option<(usize, 
 }
 
 impl StepMachine {
-    ghost use Rattle.futures_buffered_table.specs.StepMachine.{IsNew, IsPlaced, LeadsOn, CanMake, MakesStep};
+    ghost use Rattle.futures_buffered_table.specs.StepMachine.{CanMake, IsLedTo, IsNew, LeadsOn, MakesStep, PlacesSlots};
     ghost use Rattle.futures_buffered_table.specs.Answer.{RefusesTooLarge};
 
     /// A machine for an empty list of so many slots. Tests the capacity before it asks for memory.
@@ -95,7 +95,8 @@ impl StepMachine {
         ensures refused { IfNone result ((CanMake self.old step → ⊥) × (self.new ≡ self.old)) }
         ensures made { IfSome result (λ reply. CanMake self.old step × MakesStep self.old step self.new reply) }
         ensures leads { IfSome result (LeadsOn self.old step self.new) }
-        ensures placed { ∥ IsPlaced self.new ∥₁ }
+        ensures reached { ∥ IsLedTo self.new ∥₁ }
+        ensures placed { PlacesSlots self.new }
     {
         let (seat, slot) = seat_and_slot(self.capacity, self.roles.as_slice(), step)?;
         let role = self.roles[seat];
