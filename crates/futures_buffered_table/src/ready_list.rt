@@ -108,4 +108,11 @@ impl ReadyList {
             WakeSeat { seat: other },
         ))
     }
+
+    /// The number of slots.
+    pub fn capacity(&self) -> usize
+        ensures { result ≡ self.now.capacity }
+    {
+        self.capacity
+    }
 }

@@ -1,6 +1,6 @@
 //! A taking: the steps of the poll seat, from its head.
 ghost use Rattle.std.specs.Prelude.{◌≡◌, ◌≢◌, ℕ, ◌+◌, ◌<◌, ◌≤◌, List, [], ◌∷◌, ◌++◌};
-ghost use Rattle.futures_buffered_table.specs.declared.answer.Taken.TheVariants.{Empty};
+ghost use Rattle.futures_buffered_table.specs.declared.answer.Taken.TheVariants.{Empty, Slot};
 ghost use Rattle.futures_buffered_table.specs.declared.view.AtomicStep.{AtomicStep};
 ghost use Rattle.futures_buffered_table.specs.declared.view.AtomicStep.TheVariants.{LinkClear, TailSwap, LinkWrite, LinkRead, TailRead, Unmark};
 ghost use Rattle.futures_buffered_table.specs.declared.view.Phase.TheVariants.{Start, AtStub, Moved, NoNext, Last, StubCleared, StubPut, StubLinked, InHand};
@@ -135,6 +135,7 @@ impl ReadyList {
         requires phase { IsInRole self.now.capacity (Polls head NoNext) seat.old × (head < self.now.capacity) }
         ensures phase { IsInRole self.now.capacity (Polls result.0 Start) seat.new × (result.0 ≤ self.now.capacity) }
         ensures never { result.1 ≢ Empty }
+        ensures named { (slot : ℕ) → result.1 ≡ Slot slot → slot < self.now.capacity }
         ensures shape { (shape : List AtomicStep) × Adds seat.old seat.new shape × IsAtLast self.now.capacity head shape result.1 result.0 }
     {
         if self.read_tail(seat, head) != head {
@@ -157,6 +158,7 @@ impl ReadyList {
         requires phase { IsInRole self.now.capacity (Polls head Moved) seat.old × (head < self.now.capacity) }
         ensures phase { IsInRole self.now.capacity (Polls result.0 Start) seat.new × (result.0 ≤ self.now.capacity) }
         ensures never { result.1 ≢ Empty }
+        ensures named { (slot : ℕ) → result.1 ≡ Slot slot → slot < self.now.capacity }
         ensures shape { (shape : List AtomicStep) × Adds seat.old seat.new shape × IsFromSlot self.now.capacity head shape result.1 result.0 }
     {
         let found = self.read_slot(seat, head);
@@ -172,6 +174,7 @@ impl ReadyList {
         requires list { seat.old.table_id ≡ self.now.list }
         requires phase { IsInRole self.now.capacity (Polls head Start) seat.old × (head ≤ self.now.capacity) }
         ensures phase { IsInRole self.now.capacity (Polls result.0 Start) seat.new × (result.0 ≤ self.now.capacity) }
+        ensures named { (slot : ℕ) → result.1 ≡ Slot slot → slot < self.now.capacity }
         ensures shape { (shape : List AtomicStep) × Adds seat.old seat.new shape × IsTaking self.now.capacity head shape result.1 result.0 }
     {
         let found = self.read_first(seat, head);
@@ -198,6 +201,7 @@ impl ReadyList {
     pub fn take(&self, seat: &mut PollSeat) -> Taken
         requires { seat.old.list ≡ self.now.list }
         ensures list { seat.new.list ≡ seat.old.list }
+        ensures named { (slot : ℕ) → result ≡ Slot slot → slot < self.now.capacity }
         ensures shape { (shape : List AtomicStep) × (seat.new.steps ≡ seat.old.steps ++ shape) × IsTaking self.now.capacity seat.old.head shape result seat.new.head }
     {
         let _ = &self.table;
