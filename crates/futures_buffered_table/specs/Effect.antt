@@ -1,5 +1,7 @@
--- What one atomic step of a seat does, over words and a view: which word it changes, to what, what the seat is then, and what the step answers.
--- The entries are the slots 0 to n - 1 and the stub, entry n. A link is 0 for none, or k + 1 for the entry k.
+-- What one atomic step of a seat does, over words and a view: which word it changes, to what, what
+-- the seat is then, and what the step answers.
+-- The entries are the slots 0 to n - 1 and the stub, entry n. A link is 0 for none, or k + 1 for
+-- the entry k.
 use Rattle.std.specs.Prelude.{ℕ, zero, suc, ◌+◌, ◌≤◌, ◌==◌, [], ◌∷◌, ◌++◌, if◌then◌else◌}
 use Rattle.futures_buffered_table.specs.declared.answer.Woke.TheVariants.{Fresh, Already}
 use Rattle.futures_buffered_table.specs.declared.answer.Taken.TheVariants.{Slot, Empty, Pause}
@@ -14,7 +16,8 @@ use Rattle.futures_buffered_table.specs.declared.step.StepReply.TheVariants.{Mor
 use Rattle.futures_buffered_table.specs.declared.view.View.{View}
 use Rattle.futures_buffered_table.specs.Words.{tail_at}
 
--- the word that a step of a seat in this role changes; `slot` is the slot that an idle seat is to wake
+-- the word that a step of a seat in this role changes; `slot` is the slot that an idle seat is to
+-- wake
 abbrev pub word_of_role : ℕ → ℕ → Role → ℕ
 word_of_role n slot Idle = slot
 word_of_role n slot (Won e) = n + e

@@ -27,4 +27,5 @@ IsInRole n role seat = (seat.me.0.stub ≡ n) × (seat.me.0.role ≡ role) × (s
 
 -- the same seat, which has made these steps more
 abbrev pub Adds : Seat ℕ View → Seat ℕ View → List AtomicStep → Type 0
-Adds before now shape = (now.table_id ≡ before.table_id) × (now.me.0.steps ≡ before.me.0.steps ++ shape)
+Adds before now shape = (now.table_id ≡ before.table_id)
+    × (now.me.0.steps ≡ before.me.0.steps ++ shape)

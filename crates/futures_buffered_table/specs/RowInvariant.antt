@@ -1,4 +1,5 @@
--- How words and views keep themselves between any two steps (`KeepsRow`). No public clause needs more of it than that it gives the whereabouts.
+-- How words and views keep themselves between any two steps (`KeepsRow`). No public clause needs
+-- more of it than that it gives the whereabouts.
 use Rattle.std.specs.Prelude.{◌≡◌, ◌≢◌, ℕ, suc, ◌+◌, ◌<◌, ◌≤◌, List, ◌∷◌, length}
 use mathlib.Core.Option.{some}
 use lib.ListN.{get_elem?}
@@ -44,15 +45,21 @@ module _ (n : ℕ) (words : List ℕ) (h : ℕ) (rest : List ℕ) where
   FitsRole poller j (Swapped i p) = (i < n) × (p ≤ n) × (next p h rest ≡ suc i)
   FitsRole poller j (Polls head phase) = (j ≡ poller) × (head ≡ h) × FitsPhase phase
 
-pub record KeepsRow (n h : ℕ) (rest : List ℕ) (poller : ℕ) (words : List ℕ) (views : List View) : Type 0 where
+pub record KeepsRow (n h : ℕ) (rest : List ℕ) (poller : ℕ) (words : List ℕ) (views : List View) :
+    Type 0 where
   pub wide : length words ≡ n + n + 2
   pub ends : last_entry h rest ≡ tail n words
-  -- each entry of the row is followed by the next, or one seat is between its tail swap and its link write
-  pub linked : (p : ℕ) → 0 < times p (h ∷ rest) → (p ≤ n) × IsLinked (next p h rest) (link n words p) (owed views p)
+  -- each entry of the row is followed by the next, or one seat is between its tail swap and its
+  -- link write
+  pub linked : (p : ℕ) → 0 < times p (h ∷ rest) → (p ≤ n)
+      × IsLinked (next p h rest) (link n words p) (owed views p)
   pub unowed : (p : ℕ) → times p (h ∷ rest) ≡ 0 → owed views p ≡ 0
   -- each slot is idle, or in the row once, or with one seat
-  pub whereabouts : (e : ℕ) → e < n → (times e (h ∷ rest) + outside n views e ≡ mark words e) × (mark words e ≤ 1)
+  pub whereabouts : (e : ℕ) → e < n → (times e (h ∷ rest) + outside n views e ≡ mark words e)
+      × (mark words e ≤ 1)
   pub stub_once : times n (h ∷ rest) + outside n views n ≤ 1
   -- the poller alone unmarks
-  pub seats : (j : ℕ) (v : View) → get_elem? views j ≡ some v → FitsRole n words h rest poller j v.role × (j ≢ poller → (e : ℕ) → unmarks e v.steps ≡ 0)
-  pub tallied : (e : ℕ) → e < n → total (λ v. wins e v.steps) views ≡ total (λ v. unmarks e v.steps) views + mark words e
+  pub seats : (j : ℕ) (v : View) → get_elem? views j ≡ some v →
+      FitsRole n words h rest poller j v.role × (j ≢ poller → (e : ℕ) → unmarks e v.steps ≡ 0)
+  pub tallied : (e : ℕ) → e < n →
+      total (λ v. wins e v.steps) views ≡ total (λ v. unmarks e v.steps) views + mark words e

@@ -1,4 +1,5 @@
--- The rule of the atomic table (`Held`), which holds between any two steps of any threads, and what a step tells the seat that makes it (`Stepped`).
+-- The rule of the atomic table (`HoldsRow`), which holds between any two steps of any threads, and what
+-- a step tells the seat that makes it (`PlaysRole`).
 use Rattle.std.specs.Prelude.{◌≡◌, ℕ, suc, ◌≤◌, List}
 use Rattle.atomic_table.specs.Table.{State, Me, Step}
 use Rattle.futures_buffered_table.specs.declared.view.Phase.TheVariants.{Start, Moved, StubCleared, StubLinked}
@@ -8,7 +9,8 @@ use Rattle.futures_buffered_table.specs.declared.view.View.{View}
 use Rattle.futures_buffered_table.specs.RowInvariant.{KeepsRow}
 use Rattle.futures_buffered_table.specs.Effect.{next_view}
 
--- the words and all views, of a list for n slots, have a row that keeps itself, from the head of one poller to the tail
+-- the words and all views, of a list for n slots, have a row that keeps itself, from the head of
+-- one poller to the tail
 abbrev pub HoldsRow : ℕ → State ℕ View → Type 0
 HoldsRow n s = (h : ℕ) × (rest : List ℕ) × (poller : ℕ) × KeepsRow n h rest poller s.words s.views
 
@@ -24,4 +26,5 @@ MayFind n _ found = Unit {0}
 
 -- a seat's step is the one of its role, and is put at the end of its list
 abbrev pub PlaysRole : Step ℕ → Me ℕ View → ℕ → Me ℕ View → Type 0
-PlaysRole s before found after = (after.0 ≡ next_view s.word before.0 found) × (after.1 ≡ before.1) × MayFind before.0.stub before.0.role found
+PlaysRole s before found after = (after.0 ≡ next_view s.word before.0 found) × (after.1 ≡ before.1)
+    × MayFind before.0.stub before.0.role found

@@ -1,4 +1,5 @@
--- A schedule: which steps of the wake seats and one poll seat, the seat after them, are made in which order. It determines every word, every view and every reply.
+-- A schedule: which steps of the wake seats and one poll seat, the seat after them, are made in
+-- which order. It determines every word, every view and every reply.
 use Rattle.std.specs.Prelude.{◌≡◌, ◌≢◌, ℕ, ◌+◌, ◌<◌, List, [], ◌∷◌, ◌++◌, map, slice_index, slice_index_or, slice_set, take}
 use mathlib.Core.Option.{some}
 use lib.ListN.{get_elem?}
@@ -38,8 +39,10 @@ found_at n c step = slice_index c.words (word_of n c step)
 -- one step: one word and one view change
 abbrev pub after_step : ℕ → Moment → Step → Moment
 after_step n c step = record {
-  words = slice_set c.words (word_of n c step) (put_by_role n (view_at c step).role (found_at n c step));
-  views = slice_set c.views (seat_of step) (next_view (slot_of step) (view_at c step) (found_at n c step));
+  words = slice_set c.words (word_of n c step)
+      (put_by_role n (view_at c step).role (found_at n c step));
+  views = slice_set c.views (seat_of step)
+      (next_view (slot_of step) (view_at c step) (found_at n c step));
 }
 
 -- all the steps, in order
@@ -55,8 +58,11 @@ Legal n c (s ∷ ss) = CanStep n (map role_of c.views) s × Legal n (after_step 
 -- what they are answered
 abbrev pub replies_of : ℕ → Moment → List Step → List StepReply
 replies_of n c [] = []
-replies_of n c (s ∷ ss) = reply_of_role n (view_at c s).role (found_at n c s) ∷ replies_of n (after_step n c s) ss
+replies_of n c (s ∷ ss) =
+    reply_of_role n (view_at c s).role (found_at n c s) ∷ replies_of n (after_step n c s) ss
 
 -- the steps before the k-th can be made, and it cannot
 abbrev pub IsStuckAt : ℕ → List Step → ℕ → Type 0
-IsStuckAt n steps k = Legal n (at_start n) (take k steps) × ((s : Step) × (get_elem? steps k ≡ some s) × (CanStep n (map role_of (run n (at_start n) (take k steps)).views) s → ⊥))
+IsStuckAt n steps k = let before = take k steps in Legal n (at_start n) before
+    × ((s : Step) × (get_elem? steps k ≡ some s)
+    × (CanStep n (map role_of (run n (at_start n) before).views) s → ⊥))

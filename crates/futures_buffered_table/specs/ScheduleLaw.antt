@@ -1,4 +1,5 @@
--- What a schedule keeps, told from its steps and their replies alone: in which order slots are answered, and what Empty and Pause say. No word, link or view is spoken of.
+-- What a schedule keeps, told from its steps and their replies alone: in which order slots are
+-- answered, and what Empty and Pause say. No word, link or view is spoken of.
 use Rattle.std.specs.Prelude.{◌≡◌, ◌⊎◌, ℕ, suc, ◌<◌, ◌==◌, if◌then◌else◌, List, [], ◌∷◌, ◌++◌}
 use Rattle.futures_buffered_table.specs.declared.answer.Taken.TheVariants.{Slot, Empty, Pause}
 use Rattle.futures_buffered_table.specs.declared.step.Step.{Step}
@@ -13,7 +14,8 @@ pub record Turn : Type 0 where
   pub step : Step
   pub reply : StepReply
 
--- a wake under way: its slot, and how many of its four steps are made; no wake is under way where none is made
+-- a wake under way: its slot, and how many of its four steps are made; no wake is under way where
+-- none is made
 pub record Wake : Type 0 where
   pub slot : ℕ
   pub made : ℕ
@@ -27,7 +29,9 @@ wake_after _ _ w = record { slot = 0; made = 0 }
 -- the wake that this seat has under way
 abbrev pub wake_of : ℕ → List Turn → Wake
 wake_of seat [] = record { slot = 0; made = 0 }
-wake_of seat (t ∷ past) = if seat_of t.step == seat then wake_after t.step t.reply (wake_of seat past) else wake_of seat past
+wake_of seat (t ∷ past) =
+    if seat_of t.step == seat then wake_after t.step t.reply (wake_of seat past)
+    else wake_of seat past
 
 -- the third step of a wake, its tail swap, puts its slot in
 abbrev pub put_in_by : Step → StepReply → Wake → List ℕ
@@ -67,7 +71,8 @@ IsUnderWay (t ∷ past) = by_kind (Unit {0}) ⊥ (IsUnderWay past) t.step t.repl
 -- a taking is under way, and some waker stood so when a step of it was made, or since
 abbrev pub WakerStood : List Turn → Type 0
 WakerStood [] = ⊥
-WakerStood (t ∷ past) = by_kind (WakerStands past ⊎ WakerStood past) ⊥ ((IsUnderWay past × WakerStands (t ∷ past)) ⊎ WakerStood past) t.step t.reply
+WakerStood (t ∷ past) = by_kind (WakerStands past ⊎ WakerStood past) ⊥
+    ((IsUnderWay past × WakerStands (t ∷ past)) ⊎ WakerStood past) t.step t.reply
 
 -- the slots answered are a beginning of those put in
 abbrev pub AnswersInOrder : List Turn → Type 0
@@ -78,7 +83,8 @@ abbrev pub EmptyIsTrue : List Turn → Type 0
 EmptyIsTrue [] = Unit {0}
 EmptyIsTrue (t ∷ past) = t.reply ≡ Taken Empty → put_in past ≡ answered past
 
--- where a taking has just answered Pause, some waker stood between its tail swap and its link write at some moment of that taking
+-- where a taking has just answered Pause, some waker stood between its tail swap and its link write
+-- at some moment of that taking
 abbrev pub PauseHasCause : List Turn → Type 0
 PauseHasCause [] = Unit {0}
 PauseHasCause (t ∷ past) = t.reply ≡ Taken Pause → WakerStands past ⊎ WakerStood past
@@ -86,5 +92,6 @@ PauseHasCause (t ∷ past) = t.reply ≡ Taken Pause → WakerStands past ⊎ Wa
 -- each step has one reply, and the fact holds of the history after each of them
 abbrev pub AfterEach : (List Turn → Type 0) → List Turn → List Step → List StepReply → Type 0
 AfterEach Holds past [] [] = Unit {0}
-AfterEach Holds past (s ∷ ss) (r ∷ rs) = Holds (record { step = s; reply = r } ∷ past) × AfterEach Holds (record { step = s; reply = r } ∷ past) ss rs
+AfterEach Holds past (s ∷ ss) (r ∷ rs) = Holds (record { step = s; reply = r } ∷ past)
+    × AfterEach Holds (record { step = s; reply = r } ∷ past) ss rs
 AfterEach Holds past _ _ = ⊥

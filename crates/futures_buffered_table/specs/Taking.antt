@@ -1,4 +1,5 @@
--- The shapes of a taking: which steps it makes, with what was found, for each answer. There is no other shape.
+-- The shapes of a taking: which steps it makes, with what was found, for each answer. There is no
+-- other shape.
 -- In each, h is the poller's head before the taking, and `head` its head after.
 use Rattle.std.specs.Prelude.{◌≡◌, ◌≢◌, ◌⊎◌, ℕ, suc, List, [], ◌∷◌}
 use Rattle.futures_buffered_table.specs.declared.answer.Taken.{Taken}
@@ -17,15 +18,22 @@ IsHanded h shape answer head = (shape ≡ LinkRead h (suc head) ∷ Unmark h ∷
 abbrev pub IsAtLast : ℕ → ℕ → List AtomicStep → Taken → ℕ → Type 0
 IsAtLast n h shape answer head =
     ((t : ℕ) × (t ≢ h) × (shape ≡ TailRead t ∷ []) × (answer ≡ Pause) × (head ≡ h))
-    ⊎ ((p : ℕ) × (rest : List AtomicStep) × (shape ≡ TailRead h ∷ LinkClear n ∷ TailSwap n p ∷ LinkWrite p n ∷ rest) × (((rest ≡ LinkRead h 0 ∷ []) × (answer ≡ Pause) × (head ≡ h)) ⊎ IsHanded h rest answer head))
+    ⊎ ((p : ℕ) × (rest : List AtomicStep)
+    × (shape ≡ TailRead h ∷ LinkClear n ∷ TailSwap n p ∷ LinkWrite p n ∷ rest)
+    × (((rest ≡ LinkRead h 0 ∷ []) × (answer ≡ Pause) × (head ≡ h))
+    ⊎ IsHanded h rest answer head))
 
 -- h is a slot
 abbrev pub IsFromSlot : ℕ → ℕ → List AtomicStep → Taken → ℕ → Type 0
-IsFromSlot n h shape answer head = IsHanded h shape answer head ⊎ ((rest : List AtomicStep) × (shape ≡ LinkRead h 0 ∷ rest) × IsAtLast n h rest answer head)
+IsFromSlot n h shape answer head = IsHanded h shape answer head
+    ⊎ ((rest : List AtomicStep) × (shape ≡ LinkRead h 0 ∷ rest) × IsAtLast n h rest answer head)
 
--- h is the stub and its link names none: Empty where the tail is the stub too, else Pause; or the head moves to the slot that it names; or h is a slot
+-- h is the stub and its link names none: Empty where the tail is the stub too, else Pause; or the
+-- head moves to the slot that it names; or h is a slot
 abbrev pub IsTaking : ℕ → ℕ → List AtomicStep → Taken → ℕ → Type 0
 IsTaking n h shape answer head =
-    ((h ≡ n) × ((t : ℕ) × (shape ≡ LinkRead n 0 ∷ TailRead t ∷ []) × (head ≡ n) × (((t ≡ n) × (answer ≡ Empty)) ⊎ ((t ≢ n) × (answer ≡ Pause)))))
-    ⊎ ((h ≡ n) × ((q : ℕ) × (rest : List AtomicStep) × (shape ≡ LinkRead n (suc q) ∷ rest) × IsFromSlot n q rest answer head))
+    ((h ≡ n) × ((t : ℕ) × (shape ≡ LinkRead n 0 ∷ TailRead t ∷ []) × (head ≡ n)
+    × (((t ≡ n) × (answer ≡ Empty)) ⊎ ((t ≢ n) × (answer ≡ Pause)))))
+    ⊎ ((h ≡ n) × ((q : ℕ) × (rest : List AtomicStep) × (shape ≡ LinkRead n (suc q) ∷ rest)
+    × IsFromSlot n q rest answer head))
     ⊎ ((h ≢ n) × IsFromSlot n h shape answer head)

@@ -1,4 +1,5 @@
--- The shapes of a wake: which steps it makes, with what was found, for each answer. There is no other shape.
+-- The shapes of a wake: which steps it makes, with what was found, for each answer. There is no
+-- other shape.
 use Rattle.std.specs.Prelude.{◌≡◌, ◌≢◌, ◌⊎◌, ℕ, suc, List, [], ◌∷◌}
 use Rattle.futures_buffered_table.specs.declared.answer.Taken.{Taken}
 use Rattle.futures_buffered_table.specs.declared.answer.Taken.TheVariants.{Slot, Empty, Pause}
@@ -10,4 +11,5 @@ use Rattle.futures_buffered_table.specs.declared.view.AtomicStep.TheVariants.{Ma
 -- a wake of the slot i: one step where its mark was set, four where it was clear
 abbrev pub IsWake : ℕ → List AtomicStep → Woke → Type 0
 IsWake i shape Already = shape ≡ MarkSwap i 1 ∷ []
-IsWake i shape Fresh = (p : ℕ) × (shape ≡ MarkSwap i 0 ∷ LinkClear i ∷ TailSwap i p ∷ LinkWrite p i ∷ [])
+IsWake i shape Fresh = (p : ℕ)
+    × (shape ≡ MarkSwap i 0 ∷ LinkClear i ∷ TailSwap i p ∷ LinkWrite p i ∷ [])

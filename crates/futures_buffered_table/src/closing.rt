@@ -27,14 +27,16 @@ impl Model for Closed {
 
     ghost view = { λ c. record { capacity = c.capacity; words = slots_items c.words.words } };
 
-    ghost invariant = { λ c. IsFull c.words.words × KeepsClosed (slots_items c.words.words) (slots_len c.words.words) (slots_len c.words.slots) c.capacity };
+    ghost invariant = { λ c. let words = c.words.words in IsFull words
+        × KeepsClosed (slots_items words) (slots_len words) (slots_len c.words.slots) c.capacity };
 }
 
 impl PollSeat {
     // The poll seat with the list of a wake seat that went into it.
     fn join(mut self, list: &ReadyList, other: WakeSeat) -> PollSeat
         requires { (self.list ≡ list.now.list) × (other.list ≡ list.now.list) }
-        ensures joined { (result.list ≡ self.list) × (result.head ≡ self.head) × (result.steps ≡ self.steps ++ other.steps) }
+        ensures joined { (result.list ≡ self.list) × (result.head ≡ self.head)
+            × (result.steps ≡ self.steps ++ other.steps) }
         ensures unmarks { (e : ℕ) → unmarks e result.steps ≡ unmarks e self.steps }
     {
         let WakeSeat { seat } = other;
@@ -65,8 +67,10 @@ impl ReadyList {
     fn close_seat(self, poll: PollSeat) -> Closed
         requires { poll.list ≡ self.list }
         ensures capacity { result.capacity ≡ self.capacity }
-        ensures placed { (views : List View) × (at : Whereabouts self.capacity result.words views) × (at.head ≡ poll.head) }
-        ensures none_lost { (e : ℕ) → e < self.capacity → wins e poll.steps ≤ unmarks e poll.steps + mark result.words e }
+        ensures placed { (views : List View) × (at : Whereabouts self.capacity result.words views)
+            × (at.head ≡ poll.head) }
+        ensures none_lost { (e : ℕ) → e < self.capacity →
+            wins e poll.steps ≤ unmarks e poll.steps + mark result.words e }
     {
         let ReadyList { table, capacity } = self;
         let PollSeat { seat, head: _ } = poll;
@@ -76,17 +80,20 @@ impl ReadyList {
         }
     }
 
-    /// Ends the list: no thread has a `&` to it any more. The wake seats that are handed in are counted with the poll seat; one that was dropped is not.
+    /// Ends the list: no thread has a `&` to it any more. The wake seats that are handed in are
+    /// counted with the poll seat; one that was dropped is not.
     pub fn close(self, poll: PollSeat, seats: Vec<WakeSeat>) -> Closed
         requires poll { poll.list ≡ self.list }
         requires seats { All (λ s. s.list ≡ self.list) seats.items }
         ensures capacity { result.capacity ≡ self.capacity }
 
         // At the last, each slot is in its one place, in a row from the poller's head.
-        ensures placed { (views : List View) × (at : Whereabouts self.capacity result.words views) × (at.head ≡ poll.head) }
+        ensures placed { (views : List View) × (at : Whereabouts self.capacity result.words views)
+            × (at.head ≡ poll.head) }
 
         // The marks that these seats won were taken, but for one where the slot is still marked.
-        ensures none_lost { (e : ℕ) → e < self.capacity → wins e (steps_of seats.items) ≤ unmarks e poll.steps + mark result.words e }
+        ensures none_lost { (e : ℕ) → e < self.capacity →
+            wins e (steps_of seats.items) ≤ unmarks e poll.steps + mark result.words e }
     {
         let mut all = poll;
         for seat in seats {

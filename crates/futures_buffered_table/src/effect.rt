@@ -47,7 +47,8 @@ pub fn puts(n: usize, role: Role, found: u64) -> u64
     }
 }
 
-// The poller's role after a read of its head's link, which named `found`: the phase is `none` where it named none.
+// The poller's role after a read of its head's link, which named `found`: the phase is `none` where
+// it named none.
 fn after_link(head: usize, none: Phase, found: u64) -> Role
     ensures { result ≡ after_slot_read head none found }
 {

@@ -27,7 +27,8 @@ impl Model for ReadyList {
     ghost invariant = { λ l. KeepsList l.table.shared.table_id l.table.shared.key l.capacity };
 }
 
-/// A seat that wakes slots of its list. It takes no bytes, and a thread that has none gets one by [`WakeSeat::split`].
+/// A seat that wakes slots of its list. It takes no bytes, and a thread that has none gets one by
+/// [`WakeSeat::split`].
 #[derive(Drop)]
 pub struct WakeSeat {
     pub(crate) seat: Seat<u8, View>,
@@ -69,7 +70,8 @@ impl Model for PollSeat {
 
     ghost Value = { Poller };
 
-    ghost view = { λ s. record { list = s.seat.table_id; head = s.head; steps = s.seat.me.0.steps } };
+    ghost view = { λ s.
+        record { list = s.seat.table_id; head = s.head; steps = s.seat.me.0.steps } };
 
     ghost invariant = { λ s. KeepsPoller s.seat.table_id s.seat.me s.head };
 }
@@ -77,10 +79,12 @@ impl Model for PollSeat {
 impl ReadyList {
     ghost use Rattle.futures_buffered_table.specs.Answer.{RefusesTooLarge};
 
-    /// A list for this many slots, none of them marked, with its poll seat and a first wake seat. Tests the capacity before it asks for memory.
+    /// A list for this many slots, none of them marked, with its poll seat and a first wake seat.
+    /// Tests the capacity before it asks for memory.
     pub fn new(alloc: Global, capacity: usize) -> Result<(ReadyList, PollSeat, WakeSeat), NewFault>
         ensures list { IfOk result (λ r. r.0.capacity ≡ capacity) }
-        ensures poller { IfOk result (λ r. (r.1.list ≡ r.0.list) × (r.1.head ≡ capacity) × (r.1.steps ≡ [])) }
+        ensures poller { IfOk result
+            (λ r. (r.1.list ≡ r.0.list) × (r.1.head ≡ capacity) × (r.1.steps ≡ [])) }
         ensures waker { IfOk result (λ r. (r.2.list ≡ r.0.list) × (r.2.steps ≡ [])) }
         ensures refuses { RefusesTooLarge capacity result }
     {

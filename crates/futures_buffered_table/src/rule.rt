@@ -1,4 +1,5 @@
-//! The rule of the table that the list's words lie in, what a step tells its seat, and the laws that the rule gives.
+//! The rule of the table that the list's words lie in, what a step tells its seat, and the laws
+//! that the rule gives.
 use crate::view::View;
 use atomic_table::{Join, Play, Split, TableRule};
 

@@ -11,9 +11,11 @@ use std::alloc::Global;
 
 /// Makes the steps in order on a new machine, and answers their replies.
 ///
-/// Tests the capacity first, then asks for all memory, then makes the steps up to the first that cannot be made.
+/// Tests the capacity first, then asks for all memory, then makes the steps up to the first that
+/// cannot be made.
 pub fn steps(alloc: Global, capacity: usize, steps: &[Step]) -> Result<Vec<StepReply>, StepFault>
-    ensures replies { IfOk result (λ v. Legal capacity (at_start capacity) steps.now × (v.items ≡ replies_of capacity (at_start capacity) steps.now)) }
+    ensures replies { IfOk result (λ v. Legal capacity (at_start capacity) steps.now
+        × (v.items ≡ replies_of capacity (at_start capacity) steps.now)) }
 
     // The slots come out in the order in which the wakers' tail swaps put them in.
     ensures order { IfOk result (λ v. AfterEach AnswersInOrder [] steps.now v.items) }

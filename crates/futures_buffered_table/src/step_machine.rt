@@ -1,4 +1,5 @@
-//! The machine of single steps: the list's words and the roles of 64 wake seats and one poll seat, as plain data.
+//! The machine of single steps: the list's words and the roles of 64 wake seats and one poll seat,
+//! as plain data.
 ghost use Rattle.std.specs.Prelude.{◌≡◌, ◌<◌, ◌++◌, ◌∷◌, [], ◌+◌, ◌^◌, length, replicate, MatchOption, IfOk, IfNone, IfSome};
 ghost use Rattle.futures_buffered_table.specs.Step.{CanStep, seat_of, slot_of};
 ghost use Rattle.futures_buffered_table.specs.declared.view.Role.TheVariants.{Idle, Polls};
@@ -26,9 +27,11 @@ impl Model for StepMachine {
 
     ghost Value = { Machine };
 
-    ghost view = { λ m. record { capacity = m.capacity; words = m.words.items; roles = m.roles.items } };
+    ghost view = { λ m.
+        record { capacity = m.capacity; words = m.words.items; roles = m.roles.items } };
 
-    ghost invariant = { λ m. KeepsMachine (record { capacity = m.capacity; words = m.words.items; roles = m.roles.items }) };
+    ghost invariant = { λ m. KeepsMachine
+        (record { capacity = m.capacity; words = m.words.items; roles = m.roles.items }) };
 }
 
 // The roles of idle wake seats and a poll seat whose head is the stub.
@@ -44,7 +47,8 @@ fn first_roles(alloc: Global, capacity: usize) -> Result<Vec<Role>, AllocError>
 // The seat and the slot of a step that can be made.
 fn seat_and_slot(capacity: usize, roles: &[Role], step: Step) -> Option<(usize, usize)>
     requires { length roles.now ≡ WAKE_SEATS + 1 }
-    ensures { MatchOption result (CanStep capacity roles.now step → ⊥) (λ s. CanStep capacity roles.now step × (s.0 ≡ seat_of step) × (s.1 ≡ slot_of step)) }
+    ensures { MatchOption result (CanStep capacity roles.now step → ⊥)
+        (λ s. CanStep capacity roles.now step × (s.0 ≡ seat_of step) × (s.1 ≡ slot_of step)) }
 {
     match step {
         Step::Mark { seat, slot } => {
@@ -93,7 +97,8 @@ impl StepMachine {
     /// Makes a step, in constant time and with no memory. None where the step cannot be made.
     pub fn step(&mut self, step: Step) -> Option<StepReply>
         ensures refused { IfNone result ((CanMake self.old step → ⊥) × (self.new ≡ self.old)) }
-        ensures made { IfSome result (λ reply. CanMake self.old step × MakesStep self.old step self.new reply) }
+        ensures made { IfSome result (λ reply. CanMake self.old step
+            × MakesStep self.old step self.new reply) }
         ensures leads { IfSome result (LeadsOn self.old step self.new) }
         ensures reached { ∥ IsLedTo self.new ∥₁ }
         ensures placed { PlacesSlots self.new }

@@ -20,9 +20,12 @@ impl ReadyList {
     // The link of the head, as a taking begins.
     fn read_first(&self, seat: &mut Seat<u8, View>, head: usize) -> usize
         requires list { seat.old.table_id ≡ self.now.list }
-        requires phase { IsInRole self.now.capacity (Polls head Start) seat.old × (head ≤ self.now.capacity) }
-        ensures low { (result ≤ self.now.capacity + 1) × (head ≡ self.now.capacity → result ≤ self.now.capacity) }
-        ensures phase { IsInRole self.now.capacity (next_role self.now.capacity 0 (Polls head Start) result) seat.new }
+        requires phase { IsInRole self.now.capacity (Polls head Start) seat.old
+            × (head ≤ self.now.capacity) }
+        ensures low { (result ≤ self.now.capacity + 1)
+            × (head ≡ self.now.capacity → result ≤ self.now.capacity) }
+        ensures phase { IsInRole self.now.capacity
+            (next_role self.now.capacity 0 (Polls head Start) result) seat.new }
         ensures came { Adds seat.old seat.new (LinkRead head result ∷ []) }
     {
         self.table
@@ -34,7 +37,8 @@ impl ReadyList {
     fn read_tail(&self, seat: &mut Seat<u8, View>, head: usize) -> usize
         requires list { seat.old.table_id ≡ self.now.list }
         requires phase { IsInRole self.now.capacity (Polls head NoNext) seat.old }
-        ensures phase { IsInRole self.now.capacity (next_role self.now.capacity 0 (Polls head NoNext) result) seat.new }
+        ensures phase { IsInRole self.now.capacity
+            (next_role self.now.capacity 0 (Polls head NoNext) result) seat.new }
         ensures came { Adds seat.old seat.new (TailRead result ∷ []) }
     {
         self.table
@@ -72,7 +76,8 @@ impl ReadyList {
     // The entry before the stub names it.
     fn link_stub(&self, seat: &mut Seat<u8, View>, head: usize, before: usize)
         requires list { seat.old.table_id ≡ self.now.list }
-        requires phase { IsInRole self.now.capacity (Polls head (StubPut before)) seat.old × (before ≤ self.now.capacity) }
+        requires phase { IsInRole self.now.capacity (Polls head (StubPut before)) seat.old
+            × (before ≤ self.now.capacity) }
         ensures phase { IsInRole self.now.capacity (Polls head StubLinked) seat.new }
         ensures came { Adds seat.old seat.new (LinkWrite before self.now.capacity ∷ []) }
     {
@@ -84,9 +89,11 @@ impl ReadyList {
     // The link of a slot to which the stub gave way.
     fn read_slot(&self, seat: &mut Seat<u8, View>, head: usize) -> usize
         requires list { seat.old.table_id ≡ self.now.list }
-        requires phase { IsInRole self.now.capacity (Polls head Moved) seat.old × (head ≤ self.now.capacity) }
+        requires phase { IsInRole self.now.capacity (Polls head Moved) seat.old
+            × (head ≤ self.now.capacity) }
         ensures low { result ≤ self.now.capacity + 1 }
-        ensures phase { IsInRole self.now.capacity (next_role self.now.capacity 0 (Polls head Moved) result) seat.new }
+        ensures phase { IsInRole self.now.capacity
+            (next_role self.now.capacity 0 (Polls head Moved) result) seat.new }
         ensures came { Adds seat.old seat.new (LinkRead head result ∷ []) }
     {
         self.table
@@ -97,9 +104,11 @@ impl ReadyList {
     // The link of the head, now that the stub stands behind it.
     fn read_again(&self, seat: &mut Seat<u8, View>, head: usize) -> usize
         requires list { seat.old.table_id ≡ self.now.list }
-        requires phase { IsInRole self.now.capacity (Polls head StubLinked) seat.old × (head ≤ self.now.capacity) }
+        requires phase { IsInRole self.now.capacity (Polls head StubLinked) seat.old
+            × (head ≤ self.now.capacity) }
         ensures low { result ≤ self.now.capacity + 1 }
-        ensures phase { IsInRole self.now.capacity (next_role self.now.capacity 0 (Polls head StubLinked) result) seat.new }
+        ensures phase { IsInRole self.now.capacity
+            (next_role self.now.capacity 0 (Polls head StubLinked) result) seat.new }
         ensures came { Adds seat.old seat.new (LinkRead head result ∷ []) }
     {
         self.table
@@ -122,7 +131,8 @@ impl ReadyList {
     // The slot's mark is clear.
     fn unmark(&self, seat: &mut Seat<u8, View>, head: usize, slot: usize)
         requires list { seat.old.table_id ≡ self.now.list }
-        requires phase { IsInRole self.now.capacity (Polls head (InHand slot)) seat.old × (slot ≤ self.now.capacity) }
+        requires phase { IsInRole self.now.capacity (Polls head (InHand slot)) seat.old
+            × (slot ≤ self.now.capacity) }
         ensures phase { IsInRole self.now.capacity (Polls head Start) seat.new }
         ensures came { Adds seat.old seat.new (Unmark slot ∷ []) }
     {
@@ -132,11 +142,14 @@ impl ReadyList {
     // The head is a slot whose link named none.
     fn take_last(&self, seat: &mut Seat<u8, View>, head: usize) -> (usize, Taken)
         requires list { seat.old.table_id ≡ self.now.list }
-        requires phase { IsInRole self.now.capacity (Polls head NoNext) seat.old × (head < self.now.capacity) }
-        ensures phase { IsInRole self.now.capacity (Polls result.0 Start) seat.new × (result.0 ≤ self.now.capacity) }
+        requires phase { IsInRole self.now.capacity (Polls head NoNext) seat.old
+            × (head < self.now.capacity) }
+        ensures phase { IsInRole self.now.capacity (Polls result.0 Start) seat.new
+            × (result.0 ≤ self.now.capacity) }
         ensures never { result.1 ≢ Empty }
         ensures named { (slot : ℕ) → result.1 ≡ Slot slot → slot < self.now.capacity }
-        ensures shape { (shape : List AtomicStep) × Adds seat.old seat.new shape × IsAtLast self.now.capacity head shape result.1 result.0 }
+        ensures shape { (shape : List AtomicStep) × Adds seat.old seat.new shape
+            × IsAtLast self.now.capacity head shape result.1 result.0 }
     {
         if self.read_tail(seat, head) != head {
             return (head, Taken::Pause);
@@ -155,11 +168,14 @@ impl ReadyList {
     // The head is a slot, to which the stub gave way.
     fn take_slot(&self, seat: &mut Seat<u8, View>, head: usize) -> (usize, Taken)
         requires list { seat.old.table_id ≡ self.now.list }
-        requires phase { IsInRole self.now.capacity (Polls head Moved) seat.old × (head < self.now.capacity) }
-        ensures phase { IsInRole self.now.capacity (Polls result.0 Start) seat.new × (result.0 ≤ self.now.capacity) }
+        requires phase { IsInRole self.now.capacity (Polls head Moved) seat.old
+            × (head < self.now.capacity) }
+        ensures phase { IsInRole self.now.capacity (Polls result.0 Start) seat.new
+            × (result.0 ≤ self.now.capacity) }
         ensures never { result.1 ≢ Empty }
         ensures named { (slot : ℕ) → result.1 ≡ Slot slot → slot < self.now.capacity }
-        ensures shape { (shape : List AtomicStep) × Adds seat.old seat.new shape × IsFromSlot self.now.capacity head shape result.1 result.0 }
+        ensures shape { (shape : List AtomicStep) × Adds seat.old seat.new shape
+            × IsFromSlot self.now.capacity head shape result.1 result.0 }
     {
         let found = self.read_slot(seat, head);
         if found == 0 {
@@ -172,10 +188,13 @@ impl ReadyList {
     // A taking, from this head: the head after it, and its answer.
     fn take_from(&self, seat: &mut Seat<u8, View>, head: usize) -> (usize, Taken)
         requires list { seat.old.table_id ≡ self.now.list }
-        requires phase { IsInRole self.now.capacity (Polls head Start) seat.old × (head ≤ self.now.capacity) }
-        ensures phase { IsInRole self.now.capacity (Polls result.0 Start) seat.new × (result.0 ≤ self.now.capacity) }
+        requires phase { IsInRole self.now.capacity (Polls head Start) seat.old
+            × (head ≤ self.now.capacity) }
+        ensures phase { IsInRole self.now.capacity (Polls result.0 Start) seat.new
+            × (result.0 ≤ self.now.capacity) }
         ensures named { (slot : ℕ) → result.1 ≡ Slot slot → slot < self.now.capacity }
-        ensures shape { (shape : List AtomicStep) × Adds seat.old seat.new shape × IsTaking self.now.capacity head shape result.1 result.0 }
+        ensures shape { (shape : List AtomicStep) × Adds seat.old seat.new shape
+            × IsTaking self.now.capacity head shape result.1 result.0 }
     {
         let found = self.read_first(seat, head);
         if head == self.capacity {
@@ -195,14 +214,17 @@ impl ReadyList {
         (found - 1, Taken::Slot(head))
     }
 
-    /// Takes the slot that stands first, in two to eight atomic steps, none of them tried again, with no lock and no memory.
+    /// Takes the slot that stands first, in two to eight atomic steps, none of them tried again,
+    /// with no lock and no memory.
     ///
-    /// Empty says that its tail read found the stub, where the row held no slot. Pause says that some waker may stand between its tail swap and its link write.
+    /// Empty says that its tail read found the stub, where the row held no slot. Pause says that
+    /// some waker may stand between its tail swap and its link write.
     pub fn take(&self, seat: &mut PollSeat) -> Taken
         requires { seat.old.list ≡ self.now.list }
         ensures list { seat.new.list ≡ seat.old.list }
         ensures named { (slot : ℕ) → result ≡ Slot slot → slot < self.now.capacity }
-        ensures shape { (shape : List AtomicStep) × (seat.new.steps ≡ seat.old.steps ++ shape) × IsTaking self.now.capacity seat.old.head shape result seat.new.head }
+        ensures shape { (shape : List AtomicStep) × (seat.new.steps ≡ seat.old.steps ++ shape)
+            × IsTaking self.now.capacity seat.old.head shape result seat.new.head }
     {
         let _ = &self.table;
         let (head, taken) = self.take_from(&mut seat.seat, seat.head);

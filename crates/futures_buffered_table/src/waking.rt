@@ -20,7 +20,8 @@ impl ReadyList {
         requires list { seat.old.table_id ≡ self.now.list }
         requires phase { IsInRole self.now.capacity Idle seat.old × (slot < self.now.capacity) }
         ensures low { result ≤ 1 }
-        ensures phase { IsInRole self.now.capacity (next_role self.now.capacity slot Idle result) seat.new }
+        ensures phase { IsInRole self.now.capacity (next_role self.now.capacity slot Idle result)
+            seat.new }
         ensures came { Adds seat.old seat.new (MarkSwap slot result ∷ []) }
     {
         self.table.shared.swap::<SeatStep>(seat, slot, 1)
@@ -29,7 +30,8 @@ impl ReadyList {
     // The slot's link names none.
     fn clear_link(&self, seat: &mut Seat<u8, View>, slot: usize)
         requires list { seat.old.table_id ≡ self.now.list }
-        requires phase { IsInRole self.now.capacity (Won slot) seat.old × (slot < self.now.capacity) }
+        requires phase { IsInRole self.now.capacity (Won slot) seat.old
+            × (slot < self.now.capacity) }
         ensures phase { IsInRole self.now.capacity (Cleared slot) seat.new }
         ensures came { Adds seat.old seat.new (LinkClear slot ∷ []) }
     {
@@ -41,7 +43,8 @@ impl ReadyList {
     // The slot becomes the tail: the entry that was.
     fn swap_tail(&self, seat: &mut Seat<u8, View>, slot: usize) -> usize
         requires list { seat.old.table_id ≡ self.now.list }
-        requires phase { IsInRole self.now.capacity (Cleared slot) seat.old × (slot < self.now.capacity) }
+        requires phase { IsInRole self.now.capacity (Cleared slot) seat.old
+            × (slot < self.now.capacity) }
         ensures low { result ≤ self.now.capacity }
         ensures phase { IsInRole self.now.capacity (Swapped slot result) seat.new }
         ensures came { Adds seat.old seat.new (TailSwap slot result ∷ []) }
@@ -54,7 +57,8 @@ impl ReadyList {
     // The entry before the slot names it.
     fn write_link(&self, seat: &mut Seat<u8, View>, slot: usize, before: usize)
         requires list { seat.old.table_id ≡ self.now.list }
-        requires phase { IsInRole self.now.capacity (Swapped slot before) seat.old × (slot < self.now.capacity) × (before ≤ self.now.capacity) }
+        requires phase { IsInRole self.now.capacity (Swapped slot before) seat.old
+            × (slot < self.now.capacity) × (before ≤ self.now.capacity) }
         ensures phase { IsInRole self.now.capacity Idle seat.new }
         ensures came { Adds seat.old seat.new (LinkWrite before slot ∷ []) }
     {
@@ -66,21 +70,25 @@ impl ReadyList {
     // The slot that was won stands last in the row.
     fn put_in(&self, seat: &mut Seat<u8, View>, slot: usize)
         requires list { seat.old.table_id ≡ self.now.list }
-        requires phase { IsInRole self.now.capacity (Won slot) seat.old × (slot < self.now.capacity) }
+        requires phase { IsInRole self.now.capacity (Won slot) seat.old
+            × (slot < self.now.capacity) }
         ensures phase { IsInRole self.now.capacity Idle seat.new }
-        ensures came { (p : ℕ) × Adds seat.old seat.new (LinkClear slot ∷ TailSwap slot p ∷ LinkWrite p slot ∷ []) }
+        ensures came { (p : ℕ) × Adds seat.old seat.new
+            (LinkClear slot ∷ TailSwap slot p ∷ LinkWrite p slot ∷ []) }
     {
         self.clear_link(seat, slot);
         let before = self.swap_tail(seat, slot);
         self.write_link(seat, slot, before);
     }
 
-    /// Marks the slot, and puts it in if it was not marked: one atomic step or four, none of them tried again, with no lock and no memory.
+    /// Marks the slot, and puts it in if it was not marked: one atomic step or four, none of them
+    /// tried again, with no lock and no memory.
     pub fn wake(&self, seat: &mut WakeSeat, slot: usize) -> Woke
         requires list { seat.old.list ≡ self.now.list }
         requires slot { slot < self.now.capacity }
         ensures list { seat.new.list ≡ seat.old.list }
-        ensures shape { (shape : List AtomicStep) × (seat.new.steps ≡ seat.old.steps ++ shape) × IsWake slot shape result }
+        ensures shape { (shape : List AtomicStep) × (seat.new.steps ≡ seat.old.steps ++ shape)
+            × IsWake slot shape result }
     {
         let _ = &self.table;
         if self.swap_mark(&mut seat.seat, slot) != 0 {

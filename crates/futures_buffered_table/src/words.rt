@@ -4,7 +4,8 @@ ghost use Rattle.futures_buffered_table.specs.Words.{empty_words};
 
 use std::alloc::{AllocError, Global};
 
-// The words of an empty list: no mark, no link, and the stub as the tail. It asks for as many as there are.
+// The words of an empty list: no mark, no link, and the stub as the tail. It asks for as many as
+// there are.
 pub fn first_words(alloc: Global, capacity: usize) -> Result<Vec<u64>, AllocError>
     requires { capacity < 2 ^ 62 }
     ensures { IfOk result (λ words. words.items ≡ empty_words capacity) }
