@@ -1,21 +1,18 @@
 -- Wake seats that go into the poll seat, one by one, and the end of a list.
-use Rattle.std.proofs.Common.{◌≡◌, ℕ, zero, suc, ◌+◌, ◌≤◌, List, [], ◌∷◌, ◌++◌, length, get_or, nat_eq, true, false, All, refl, sym, ap, ◌∙◌, subst, arith, append-nil, append_assoc, ◌≢◌, ◌<◌, set, ⊎_elim}
+use Rattle.std.proofs.Common.{◌≡◌, ℕ, zero, suc, ◌+◌, ◌≤◌, List, [], ◌∷◌, ◌++◌, get_or, nat_eq, true, sym, ap, ◌∙◌, subst, arith, append-nil, append_assoc, ◌<◌}
 use mathlib.Core.Bool.{not}
 use mathlib.Core.Option.{some, some-injective, some-ne-none}
 use lib.ListN.{get_elem?}
 use Rattle.futures_buffered_table.specs.declared.view.AtomicStep.{AtomicStep}
-use Rattle.futures_buffered_table.specs.declared.answer.Woke.{Woke}
-use Rattle.futures_buffered_table.specs.declared.answer.Woke.TheVariants.{Fresh, Already}
 use Rattle.std.proofs.lemmas.Bool.Decides.{nat_tests}
-use Rattle.atomic_table.proofs.Lists.{at_set, at_snoc, set_again}
-use Rattle.atomic_table.specs.Table.{Splits, Joins, Final, Seen}
+use Rattle.atomic_table.specs.Table.{Final, Seen}
 use Rattle.futures_buffered_table.specs.declared.view.Phase.{Phase}
-use Rattle.futures_buffered_table.specs.declared.view.Role.TheVariants.{Idle, Polls}
+use Rattle.futures_buffered_table.specs.declared.view.Role.TheVariants.{Polls}
 use Rattle.futures_buffered_table.specs.declared.view.View.{View}
 use Rattle.futures_buffered_table.specs.ReadyList.{Waker}
 use Rattle.futures_buffered_table.specs.Closing.{steps_of}
-use Rattle.futures_buffered_table.specs.Tally.{is_unmark, unmarks, wins}
-use Rattle.futures_buffered_table.proofs.TallyLemmas.{unmarks-append, wins-append}
+use Rattle.futures_buffered_table.specs.Tally.{unmarks, wins}
+use Rattle.futures_buffered_table.proofs.TallyLemmas.{wins-append}
 use Rattle.futures_buffered_table.specs.RowInvariant.{FitsRole}
 use Rattle.futures_buffered_table.specs.Rule.{HoldsRow}
 use Rattle.futures_buffered_table.specs.Words.{mark}

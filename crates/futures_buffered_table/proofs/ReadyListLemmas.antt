@@ -1,19 +1,12 @@
 -- A seat of a list, and the steps that it makes.
-use Rattle.std.proofs.Common.{◌≡◌, ◌≢◌, ℕ, ◌+◌, ◌<◌, List, [], ◌∷◌, ◌++◌, set, get_or, refl, sym, ap, ◌∙◌, subst, arith, zero, suc, ◌≤◌, append_assoc}
-use mathlib.Core.Option.{some, none, Option}
-use lib.ListN.{get_elem?}
-use Rattle.atomic_table.specs.Table.{State, Me, step, keeps, Allows}
+use Rattle.std.proofs.Common.{◌≡◌, ℕ, ◌+◌, ◌<◌, List, ◌++◌, sym, ap, ◌∙◌, subst, arith, append_assoc}
+use mathlib.Core.Option.{none}
+use Rattle.atomic_table.specs.Table.{Me, step, Allows}
 use Rattle.futures_buffered_table.specs.declared.view.AtomicStep.{AtomicStep}
-use Rattle.futures_buffered_table.specs.declared.view.AtomicStep.TheVariants.{MarkSwap, LinkClear, TailSwap, LinkWrite}
-use Rattle.futures_buffered_table.specs.declared.view.Phase.{Phase}
 use Rattle.futures_buffered_table.specs.declared.view.Role.{Role}
-use Rattle.futures_buffered_table.specs.declared.view.Role.TheVariants.{Idle, Won, Polls}
 use Rattle.futures_buffered_table.specs.declared.view.View.{View}
 use Rattle.atomic_table.specs.Seated.{TableId}
 use Rattle.atomic_table.specs.declared.shared.Seat.{Seat}
-use Rattle.futures_buffered_table.specs.declared.answer.Woke.{Woke}
-use Rattle.futures_buffered_table.specs.declared.answer.Woke.TheVariants.{Fresh}
-use Rattle.futures_buffered_table.specs.declared.view.Phase.TheVariants.{Start}
 use Rattle.futures_buffered_table.specs.ReadyListInvariant.{KeepsList, KeepsSeat}
 use Rattle.futures_buffered_table.specs.ReadyList.{Adds, IsInRole, ListIdentity}
 use Rattle.futures_buffered_table.specs.Rule.{HoldsRow, MayFind, PlaysRole}

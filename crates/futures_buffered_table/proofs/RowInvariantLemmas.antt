@@ -1,7 +1,6 @@
 -- Each kind of step keeps the row (`KeepsRow`).
-use Rattle.std.proofs.Common.{◌≡◌, ◌≢◌, ℕ, zero, suc, ◌+◌, ◌<◌, ◌≤◌, List, [], ◌∷◌, length, map, set, get_or, Bool, true, false, refl, sym, ap, ◌∙◌, ⊎_elim, arith, ◌⊎◌, ◌++◌, subst, inl, inr, length-set, get_or-set_other, get_or-set_same, length-append}
-use Rattle.std.specs.Prelude.{if◌then◌else◌, ◌==◌}
-use mathlib.Core.Option.{some, some-ne-none}
+use Rattle.std.proofs.Common.{◌≡◌, ◌≢◌, ℕ, suc, ◌+◌, ◌<◌, ◌≤◌, List, [], ◌∷◌, length, set, get_or, refl, sym, ap, ◌∙◌, ⊎_elim, arith, ◌⊎◌, ◌++◌, subst, inl, inr, length-set, get_or-set_other, get_or-set_same, length-append}
+use mathlib.Core.Option.{some}
 use lib.ListN.{get_elem?}
 use Rattle.atomic_table.proofs.Lists.{at_set}
 use Rattle.futures_buffered_table.specs.declared.view.Phase.{Phase}
@@ -9,10 +8,6 @@ use Rattle.futures_buffered_table.specs.declared.view.Phase.TheVariants.{Start, 
 use Rattle.futures_buffered_table.specs.declared.view.Role.{Role}
 use Rattle.futures_buffered_table.specs.declared.view.Role.TheVariants.{Idle, Won, Cleared, Swapped, Polls}
 use Rattle.futures_buffered_table.specs.declared.view.View.{View}
-use Rattle.std.proofs.Props.{props}
-use Rattle.std.proofs.lemmas.List.{get_or_default}
-use Rattle.futures_buffered_table.specs.declared.step.Step.{Step}
-use Rattle.futures_buffered_table.specs.declared.step.Step.TheVariants.{Mark, Go, Poll}
 use Rattle.futures_buffered_table.specs.declared.view.AtomicStep.{AtomicStep}
 use Rattle.futures_buffered_table.specs.RowInvariant.{FitsPhase, FitsRole, KeepsRow, outside, outside_by}
 use Rattle.futures_buffered_table.specs.Effect.{InRange}

@@ -1,27 +1,24 @@
 -- The rule of the table: it holds of an empty list, tells what a step finds, and is kept by steps, splits and joins.
-use Rattle.std.proofs.Common.{◌≡◌, ◌≢◌, ℕ, zero, suc, ◌+◌, ◌≤◌, List, [], ◌∷◌, ◌++◌, length, replicate, refl, sym, ap, ◌∙◌, subst, inl, ⊎_elim, arith, ◌<◌, get_or, set}
-use mathlib.Core.Option.{some, some-injective, some-ne-none, none, Option}
+use Rattle.std.proofs.Common.{◌≡◌, ◌≢◌, ℕ, suc, ◌+◌, ◌≤◌, List, [], ◌∷◌, ◌++◌, refl, sym, ap, ◌∙◌, subst, ⊎_elim, arith, ◌<◌, get_or, set}
+use mathlib.Core.Option.{some, none}
 use lib.ListN.{get_elem?}
 use Rattle.futures_buffered_table.specs.declared.view.View.{View}
 use Rattle.futures_buffered_table.specs.declared.view.Phase.{Phase}
 use Rattle.futures_buffered_table.specs.declared.view.Phase.TheVariants.{Start, AtStub, Moved, NoNext, Last, StubCleared, StubPut, StubLinked, InHand}
 use Rattle.futures_buffered_table.specs.declared.view.Role.{Role}
 use Rattle.futures_buffered_table.specs.declared.view.Role.TheVariants.{Idle, Won, Cleared, Swapped, Polls}
-use Rattle.atomic_table.specs.Table.{State, Me, step, keeps, Allows, Splits, Joins, Final, Seen}
+use Rattle.atomic_table.specs.Table.{State, Me, step, keeps, Allows, Splits, Joins}
 use Rattle.futures_buffered_table.specs.declared.view.AtomicStep.{AtomicStep}
-use Rattle.futures_buffered_table.specs.declared.view.AtomicStep.TheVariants.{MarkSwap}
 use Rattle.atomic_table.proofs.Lists.{at_set, at_snoc, set_again}
 use Rattle.futures_buffered_table.specs.RowInvariant.{FitsRole, KeepsRow, outside, outside_by}
 use Rattle.futures_buffered_table.specs.View.{first_poller, new_waker_beside, spent_view, with_steps_of}
 use Rattle.futures_buffered_table.specs.Row.{IsLinked, next, owed, owed_by, same, times, total}
-use Rattle.futures_buffered_table.proofs.RowLemmas.{last_in, next_first, same_cases, same_else, same_here, total-append, total_set}
+use Rattle.futures_buffered_table.proofs.RowLemmas.{next_first, same_cases, same_here, total-append, total_set}
 use Rattle.futures_buffered_table.specs.Tally.{is_unmark, is_win, unmarks, wins}
 use Rattle.futures_buffered_table.specs.Rule.{HoldsRow, MayFind, PlaysRole}
-use Rattle.futures_buffered_table.specs.Words.{link, tail, empty_words}
-use Rattle.futures_buffered_table.specs.Effect.{next_role, next_view, put_by_role, step_of_role, word_of_role}
+use Rattle.futures_buffered_table.specs.Words.{link, empty_words}
+use Rattle.futures_buffered_table.specs.Effect.{next_view, put_by_role, word_of_role}
 use Rattle.futures_buffered_table.proofs.EffectLemmas.{poll_keeps, wake_keeps}
-use Rattle.futures_buffered_table.proofs.ClosingLemmas.{ends}
-use Rattle.futures_buffered_table.proofs.WhereaboutsLemmas.{whereabouts}
 use Rattle.futures_buffered_table.proofs.RowInvariantLemmas.{keeps_first, tail_low}
 
 pub begins_at : (n : ℕ) (words : List ℕ) → words ≡ empty_words n → HoldsRow n record { words = words; homes = []; views = first_poller n ∷ [] }

@@ -1,5 +1,5 @@
 -- A legal schedule keeps the laws.
-use Rattle.std.proofs.Common.{◌≡◌, ◌≢◌, ◌⊎◌, ℕ, zero, suc, ◌+◌, ◌<◌, ◌≤◌, List, [], ◌∷◌, ◌++◌, length, map, set, get_or, Bool, true, false, refl, sym, ap, ◌∙◌, subst, inl, inr, ⊎_elim, arith, append-nil, append_assoc, get_or-set_other}
+use Rattle.std.proofs.Common.{◌≡◌, ◌≢◌, ◌⊎◌, ℕ, zero, suc, ◌+◌, ◌<◌, ◌≤◌, List, [], ◌∷◌, ◌++◌, length, map, set, get_or, Bool, true, false, refl, sym, ap, ◌∙◌, subst, inl, inr, ⊎_elim, arith, append-nil, append_assoc}
 use Rattle.std.proofs.lemmas.Bool.{eqb-true, eqb-false}
 use Rattle.std.proofs.lemmas.Bool.Decides.{nat_tests}
 use Rattle.std.specs.Prelude.{if◌then◌else◌, ◌==◌}
@@ -24,7 +24,7 @@ use Rattle.futures_buffered_table.specs.Words.{link, tail}
 use Rattle.futures_buffered_table.specs.Step.{CanStep, seat_of, slot_of}
 use Rattle.futures_buffered_table.proofs.EffectLemmas.{SomeWakerStands, row_ends_or_waker_stands}
 use Rattle.futures_buffered_table.specs.Effect.{next_role, next_view, put_by_role, reply_of_role, word_of_role}
-use Rattle.futures_buffered_table.proofs.RowLemmas.{alone, answered_by, in_hand, put_by, row_slots, same_here, slots_stub}
+use Rattle.futures_buffered_table.proofs.RowLemmas.{alone, answered_by, in_hand, put_by, row_slots, slots_stub}
 use Rattle.futures_buffered_table.specs.RowInvariant.{FitsRole, KeepsRow}
 use Rattle.futures_buffered_table.proofs.WordsLemmas.{tail_kept}
 use Rattle.futures_buffered_table.specs.View.{role_of, spent_view}

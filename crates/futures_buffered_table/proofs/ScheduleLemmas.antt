@@ -1,6 +1,6 @@
 -- Over a legal schedule the row keeps itself, and the slots come out in the order in which they were put in.
-use Rattle.std.proofs.Common.{◌≡◌, ◌≢◌, ℕ, zero, suc, ◌<◌, List, [], ◌∷◌, ◌++◌, length, map, set, get_or, refl, sym, ap, ◌∙◌, subst, arith, append-nil, append_assoc, length-set, ◌⊎◌, ◌+◌, ◌≤◌, replicate, inl, inr, ⊎_elim, take}
-use mathlib.Core.Option.{some, some-injective, some-ne-none}
+use Rattle.std.proofs.Common.{◌≡◌, ◌≢◌, ℕ, zero, suc, ◌<◌, List, [], ◌∷◌, ◌++◌, length, map, set, get_or, refl, sym, ap, ◌∙◌, subst, arith, append-nil, append_assoc, length-set, ◌+◌}
+use mathlib.Core.Option.{some, some-injective}
 use lib.ListN.{get_elem?}
 use Rattle.atomic_table.proofs.Lists.{set_else, set_here}
 use Rattle.futures_buffered_table.specs.declared.view.AtomicStep.{AtomicStep}
@@ -12,16 +12,14 @@ use Rattle.futures_buffered_table.specs.declared.view.View.{View}
 use Rattle.futures_buffered_table.specs.declared.step.Step.{Step}
 use Rattle.futures_buffered_table.specs.declared.step.Step.TheVariants.{Mark, Go, Poll}
 use Rattle.futures_buffered_table.specs.declared.step.StepReply.{StepReply}
-use Rattle.futures_buffered_table.specs.RowInvariant.{FitsRole, KeepsRow, outside, outside_by}
+use Rattle.futures_buffered_table.specs.RowInvariant.{FitsRole, KeepsRow}
 use Rattle.futures_buffered_table.specs.Schedule.{Legal, Moment, after_step, at_start, found_at, replies_of, run, view_at, word_of}
-use Rattle.futures_buffered_table.proofs.RowLemmas.{Flows, answered_by, in_hand, put_by, row_slots, same_cases, same_else, same_here, total_none}
+use Rattle.futures_buffered_table.proofs.RowLemmas.{Flows, answered_by, in_hand, put_by, row_slots}
 use Rattle.futures_buffered_table.specs.Effect.{next_role, next_view, put_by_role, reply_of_role, step_of_role, word_of_role}
 use Rattle.futures_buffered_table.proofs.ViewLemmas.{stubs_set, each_first}
 use Rattle.futures_buffered_table.specs.Step.{CanStep, seat_of, slot_of}
 use Rattle.futures_buffered_table.proofs.EffectLemmas.{poll_keeps, still_polls, wake_keeps}
 use Rattle.futures_buffered_table.specs.View.{first_poller, new_waker_beside, role_of, spent_view}
-use Rattle.futures_buffered_table.specs.Row.{owed, owed_by, same}
-use Rattle.futures_buffered_table.specs.Tally.{unmarks, wins}
 use Rattle.futures_buffered_table.proofs.ListLemmas.{elem_at, place_low, length_and_last, last_at}
 use Rattle.std.proofs.Math.ListN.{get_or-map}
 use Rattle.futures_buffered_table.specs.declared.step.TheConstants.{WAKE_SEATS}

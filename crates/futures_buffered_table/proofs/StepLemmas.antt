@@ -1,19 +1,8 @@
 -- A step that can be made names a seat and a slot that there are.
-use Rattle.std.proofs.Common.{◌≡◌, ℕ, zero, suc, ◌<◌, ◌≤◌, List, [], ◌∷◌, ◌++◌, length, map, set, get_or, take, refl, sym, ap, ◌∙◌, subst, arith, ◌≢◌, ◌+◌, Bool, true, false, ⊎_elim}
-use mathlib.Core.Option.{some, some-ne-none}
-use lib.ListN.{get_elem?}
+use Rattle.std.proofs.Common.{◌≡◌, ℕ, ◌<◌, ◌≤◌, List, length, arith, ◌+◌}
 use Rattle.futures_buffered_table.specs.declared.view.Role.{Role}
-use Rattle.futures_buffered_table.specs.declared.view.Role.TheVariants.{Idle, Won, Cleared, Swapped, Polls}
-use Rattle.futures_buffered_table.specs.declared.view.View.{View}
 use Rattle.futures_buffered_table.specs.declared.step.Step.{Step}
 use Rattle.futures_buffered_table.specs.declared.step.Step.TheVariants.{Mark, Go, Poll}
-use Rattle.futures_buffered_table.specs.declared.step.StepReply.{StepReply}
-use Rattle.std.specs.Prelude.{if◌then◌else◌, ◌==◌}
-use Rattle.atomic_table.proofs.Lists.{at_set}
-use Rattle.futures_buffered_table.specs.declared.view.Phase.{Phase}
-use Rattle.futures_buffered_table.specs.declared.view.Phase.TheVariants.{Start, AtStub, Moved, NoNext, Last, StubCleared, StubPut, StubLinked, InHand}
-use Rattle.std.proofs.Props.{props}
-use Rattle.std.proofs.lemmas.List.{get_or_default}
 use Rattle.futures_buffered_table.specs.Step.{CanStep, seat_of, slot_of}
 use Rattle.futures_buffered_table.specs.declared.step.TheConstants.{WAKE_SEATS}
 

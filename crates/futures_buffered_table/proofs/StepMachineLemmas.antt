@@ -1,22 +1,16 @@
 -- One step of the machine, by what its code reads and writes, and where it leads.
-use Rattle.std.proofs.Common.{◌≡◌, ℕ, zero, suc, ◌<◌, ◌≤◌, List, [], ◌∷◌, ◌++◌, length, map, set, get_or, take, refl, sym, ap, ◌∙◌, subst, arith, ◌≢◌, ◌+◌, Bool, true, false, ⊎_elim, ◌^◌, length-set}
-use mathlib.Core.Option.{some, some-ne-none}
+use Rattle.std.proofs.Common.{◌≡◌, ℕ, ◌<◌, ◌≤◌, List, [], ◌∷◌, ◌++◌, length, map, set, get_or, refl, sym, ap, ◌∙◌, subst, arith, ◌+◌, ◌^◌, length-set}
+use mathlib.Core.Option.{some}
 use lib.ListN.{get_elem?}
 use Rattle.futures_buffered_table.specs.declared.view.Role.{Role}
-use Rattle.futures_buffered_table.specs.declared.view.Role.TheVariants.{Idle, Won, Cleared, Swapped, Polls}
+use Rattle.futures_buffered_table.specs.declared.view.Role.TheVariants.{Idle}
 use Rattle.futures_buffered_table.specs.declared.view.View.{View}
 use Rattle.futures_buffered_table.specs.declared.step.Step.{Step}
-use Rattle.futures_buffered_table.specs.declared.step.Step.TheVariants.{Mark, Go, Poll}
 use Rattle.futures_buffered_table.specs.declared.step.StepReply.{StepReply}
-use Rattle.std.specs.Prelude.{if◌then◌else◌, ◌==◌}
-use Rattle.atomic_table.proofs.Lists.{at_set}
-use Rattle.futures_buffered_table.specs.declared.view.Phase.{Phase}
-use Rattle.futures_buffered_table.specs.declared.view.Phase.TheVariants.{Start, AtStub, Moved, NoNext, Last, StubCleared, StubPut, StubLinked, InHand}
-use Rattle.std.proofs.Props.{props}
 use Rattle.std.proofs.lemmas.List.{get_or_default, map-set}
 use Rattle.std.proofs.Math.Logic.{∥∥₁_elim, ∥∥₁_prop}
 use Rattle.std.proofs.lemmas.Grind.{get_or_default_zero}
-use Rattle.futures_buffered_table.specs.StepMachine.{AreThoseOf, CanMake, IsLedTo, IsNew, Leads, LeadsOn, Machine, MakesStep, replies_to, PlacesSlots}
+use Rattle.futures_buffered_table.specs.StepMachine.{AreThoseOf, CanMake, IsLedTo, Leads, LeadsOn, Machine, MakesStep, replies_to, PlacesSlots}
 use Rattle.futures_buffered_table.specs.Schedule.{Legal, Moment, after_step, at_start, found_at, replies_of, run, view_at}
 use Rattle.futures_buffered_table.specs.Step.{CanStep, role_at, seat_of, slot_of}
 use Rattle.futures_buffered_table.proofs.ScheduleLemmas.{legal_more, reachable_at, replies_more, run_more}

@@ -1,20 +1,10 @@
 -- Views of seats, by their places in a list.
-use Rattle.std.proofs.Common.{◌≡◌, ◌≢◌, ℕ, zero, suc, ◌+◌, ◌<◌, ◌≤◌, List, [], ◌∷◌, length, map, set, get_or, Bool, true, false, refl, sym, ap, ◌∙◌, ⊎_elim, arith, ◌++◌, subst, append-nil, append_assoc, length-set}
-use Rattle.std.specs.Prelude.{if◌then◌else◌, ◌==◌}
-use mathlib.Core.Option.{some, some-ne-none, some-injective}
+use Rattle.std.proofs.Common.{◌≡◌, ◌≢◌, ℕ, ◌<◌, List, set, sym, ap, ◌∙◌, ⊎_elim, subst}
+use mathlib.Core.Option.{some}
 use lib.ListN.{get_elem?}
-use Rattle.atomic_table.proofs.Lists.{at_set, set_else, set_here}
-use Rattle.futures_buffered_table.specs.declared.view.Phase.{Phase}
-use Rattle.futures_buffered_table.specs.declared.view.Phase.TheVariants.{Start, AtStub, Moved, NoNext, Last, StubCleared, StubPut, StubLinked, InHand}
-use Rattle.futures_buffered_table.specs.declared.view.Role.{Role}
-use Rattle.futures_buffered_table.specs.declared.view.Role.TheVariants.{Idle, Won, Cleared, Swapped, Polls}
+use Rattle.atomic_table.proofs.Lists.{at_set}
 use Rattle.futures_buffered_table.specs.declared.view.View.{View}
-use Rattle.std.proofs.Props.{props}
-use Rattle.std.proofs.lemmas.List.{get_or_default}
-use Rattle.futures_buffered_table.specs.declared.step.Step.{Step}
-use Rattle.futures_buffered_table.specs.declared.step.Step.TheVariants.{Mark, Go, Poll}
-use Rattle.futures_buffered_table.specs.declared.view.AtomicStep.{AtomicStep}
-use Rattle.futures_buffered_table.specs.View.{role_of, spent_view, new_waker_beside, first_poller, first_views}
+use Rattle.futures_buffered_table.specs.View.{new_waker_beside, first_poller, first_views}
 use Rattle.futures_buffered_table.proofs.ListLemmas.{earlier_or_last}
 
 pub stubs_set : (n : ℕ) (views : List View) (seat : ℕ) (w : View) → ((j : ℕ) (v : View) → get_elem? views j ≡ some v → v.stub ≡ n) → w.stub ≡ n → (j : ℕ) (v : View) → get_elem? (set views seat w) j ≡ some v → v.stub ≡ n

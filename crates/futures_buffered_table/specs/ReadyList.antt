@@ -1,5 +1,5 @@
 -- A list and its seats, as callers see them; and a seat of the table in the midst of a call.
-use Rattle.std.specs.Prelude.{ℕ, List, [], ◌∷◌, ◌++◌, ◌≡◌}
+use Rattle.std.specs.Prelude.{ℕ, List, [], ◌++◌, ◌≡◌}
 use Rattle.atomic_table.specs.Seated.{TableId}
 use Rattle.futures_buffered_table.specs.declared.view.AtomicStep.{AtomicStep}
 use Rattle.atomic_table.specs.declared.shared.Seat.{Seat}

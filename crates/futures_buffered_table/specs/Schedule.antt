@@ -1,12 +1,9 @@
 -- A schedule: which steps of the wake seats and one poll seat, the seat after them, are made in
 -- which order. It determines every word, every view and every reply.
-use Rattle.std.specs.Prelude.{◌≡◌, ◌≢◌, ℕ, ◌+◌, ◌<◌, List, [], ◌∷◌, ◌++◌, map, slice_index, slice_index_or, slice_set, take}
+use Rattle.std.specs.Prelude.{◌≡◌, ℕ, List, [], ◌∷◌, map, slice_index, slice_index_or, slice_set, take}
 use mathlib.Core.Option.{some}
 use lib.ListN.{get_elem?}
-use Rattle.futures_buffered_table.specs.declared.view.Role.{Role}
-use Rattle.futures_buffered_table.specs.declared.view.Role.TheVariants.{Idle}
 use Rattle.futures_buffered_table.specs.declared.step.Step.{Step}
-use Rattle.futures_buffered_table.specs.declared.step.Step.TheVariants.{Mark, Go, Poll}
 use Rattle.futures_buffered_table.specs.declared.step.StepReply.{StepReply}
 use Rattle.futures_buffered_table.specs.declared.view.View.{View}
 use Rattle.futures_buffered_table.specs.declared.step.TheConstants.{WAKE_SEATS}

@@ -48,7 +48,7 @@ impl PollSeat {
 }
 
 impl Closed {
-    /// Whether the slot was left marked.
+    /// Whether the slot was left marked, in constant time.
     pub fn marked(&self, slot: usize) -> bool
         requires { slot < self.now.capacity }
         ensures { IsTrue result ↔ (mark self.now.words slot ≡ 1) }
@@ -56,7 +56,7 @@ impl Closed {
         self.words.word(slot) != 0
     }
 
-    /// Gives the memory of the words back.
+    /// Gives the memory of the words back. A closed list that is not given back keeps it.
     pub fn free(self) {
         let Closed { words, capacity: _ } = self;
         words.free();
@@ -64,6 +64,7 @@ impl Closed {
 }
 
 impl ReadyList {
+    // Ends the list, by a poll seat that has the steps of the others.
     fn close_seat(self, poll: PollSeat) -> Closed
         requires { poll.list ≡ self.list }
         ensures capacity { result.capacity ≡ self.capacity }
@@ -80,8 +81,10 @@ impl ReadyList {
         }
     }
 
-    /// Ends the list: no thread has a `&` to it any more. The wake seats that are handed in are
-    /// counted with the poll seat; one that was dropped is not.
+    /// Ends the list: no thread has a `&` to it any more.
+    ///
+    /// The wake seats that are handed in are counted with the poll seat; one that was dropped is
+    /// not. Takes time in proportion to their number, with no atomic step and no memory.
     pub fn close(self, poll: PollSeat, seats: Vec<WakeSeat>) -> Closed
         requires poll { poll.list ≡ self.list }
         requires seats { All (λ s. s.list ≡ self.list) seats.items }

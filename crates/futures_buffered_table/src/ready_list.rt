@@ -9,7 +9,7 @@ use atomic_table::{Seat, Table};
 use std::alloc::Global;
 use std::marker::Model;
 
-/// The words of the list, which any number of threads may share by a `&`.
+/// The words of the list, which any number of threads may share by a `&`. No call blocks.
 #[derive(Drop)]
 pub struct ReadyList {
     pub(crate) table: Table<u8, View, usize, RowRule, Global>,
@@ -46,7 +46,8 @@ impl Model for WakeSeat {
 }
 
 impl WakeSeat {
-    /// Two seats of one list, the second for another thread, with no step made.
+    /// Two seats of one list, the second for another thread, with no atomic step, no lock and no
+    /// memory.
     pub fn split(mut self, list: &ReadyList) -> (WakeSeat, WakeSeat)
         requires { self.list ≡ list.now.list }
         ensures first { result.0 ≡ self }
@@ -80,7 +81,10 @@ impl ReadyList {
     ghost use Rattle.futures_buffered_table.specs.Answer.{RefusesTooLarge};
 
     /// A list for this many slots, none of them marked, with its poll seat and a first wake seat.
-    /// Tests the capacity before it asks for memory.
+    ///
+    /// Takes time and memory in proportion to the capacity: for a while twice the words that stay.
+    /// It is `TooLarge` before any memory is asked for, and `Memory` where a request is refused;
+    /// then nothing is kept.
     pub fn new(alloc: Global, capacity: usize) -> Result<(ReadyList, PollSeat, WakeSeat), NewFault>
         ensures list { IfOk result (λ r. r.0.capacity ≡ capacity) }
         ensures poller { IfOk result
@@ -113,7 +117,7 @@ impl ReadyList {
         ))
     }
 
-    /// The number of slots.
+    /// The number of slots, with no atomic step.
     pub fn capacity(&self) -> usize
         ensures { result ≡ self.now.capacity }
     {

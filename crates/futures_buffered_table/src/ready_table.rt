@@ -1,4 +1,4 @@
-//! The list of ready slots, under one name.
+//! The list of ready slots and the machine of its steps, under one name.
 pub use crate::closing::Closed;
 pub use crate::laws::{rule_empties_row, rule_loses_no_mark, rule_places_slots};
 pub use crate::ready_list::{PollSeat, ReadyList, WakeSeat};

@@ -1,5 +1,5 @@
-//! The rule of the table that the list's words lie in, what a step tells its seat, and the laws
-//! that the rule gives.
+//! The rule of the table that the list's words lie in, and what a step, a split and a join make of
+//! the views of their seats.
 use crate::view::View;
 use atomic_table::{Join, Play, Split, TableRule};
 

@@ -11,8 +11,9 @@ use std::alloc::Global;
 
 /// Makes the steps in order on a new machine, and answers their replies.
 ///
-/// Tests the capacity first, then asks for all memory, then makes the steps up to the first that
-/// cannot be made.
+/// Tests the capacity first (`TooLarge`), then asks for all memory (`Memory`), then makes the steps
+/// up to the first that cannot be made (`Step`). Takes time and memory in proportion to the capacity
+/// and the number of steps.
 pub fn steps(alloc: Global, capacity: usize, steps: &[Step]) -> Result<Vec<StepReply>, StepFault>
     ensures replies { IfOk result (λ v. Legal capacity (at_start capacity) steps.now
         × (v.items ≡ replies_of capacity (at_start capacity) steps.now)) }

@@ -1,5 +1,5 @@
-//! The machine of single steps: the list's words and the roles of 64 wake seats and one poll seat,
-//! as plain data.
+//! The machine of single steps: the list's words and the roles of the wake seats and of one poll
+//! seat, as plain data.
 ghost use Rattle.std.specs.Prelude.{◌≡◌, ◌<◌, ◌++◌, ◌∷◌, [], ◌+◌, ◌^◌, length, replicate, MatchOption, IfOk, IfNone, IfSome};
 ghost use Rattle.futures_buffered_table.specs.Step.{CanStep, seat_of, slot_of};
 ghost use Rattle.futures_buffered_table.specs.declared.view.Role.TheVariants.{Idle, Polls};
@@ -13,7 +13,7 @@ use crate::words::first_words;
 use std::alloc::{AllocError, Global};
 use std::marker::Model;
 
-/// All words and roles between two steps. `new` alone takes memory.
+/// All words and roles between two steps. [`StepMachine::new`] alone takes memory.
 #[derive(Drop)]
 pub struct StepMachine {
     capacity: usize,
@@ -73,7 +73,10 @@ impl StepMachine {
     ghost use Rattle.futures_buffered_table.specs.StepMachine.{CanMake, IsLedTo, IsNew, LeadsOn, MakesStep, PlacesSlots};
     ghost use Rattle.futures_buffered_table.specs.Answer.{RefusesTooLarge};
 
-    /// A machine for an empty list of so many slots. Tests the capacity before it asks for memory.
+    /// A machine for an empty list of so many slots.
+    ///
+    /// Takes time and memory in proportion to the capacity. It is `TooLarge` before any memory is
+    /// asked for, and `Memory` where a request is refused; then nothing is kept.
     pub fn new(alloc: Global, capacity: usize) -> Result<StepMachine, NewFault>
         ensures ok { IfOk result (IsNew capacity) }
         ensures refuses { RefusesTooLarge capacity result }
@@ -94,7 +97,9 @@ impl StepMachine {
         })
     }
 
-    /// Makes a step, in constant time and with no memory. None where the step cannot be made.
+    /// Makes a step, in constant time, with no lock and no memory.
+    ///
+    /// None where the step cannot be made: then the machine is as it was.
     pub fn step(&mut self, step: Step) -> Option<StepReply>
         ensures refused { IfNone result ((CanMake self.old step → ⊥) × (self.new ≡ self.old)) }
         ensures made { IfSome result (λ reply. CanMake self.old step

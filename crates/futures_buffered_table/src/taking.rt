@@ -17,7 +17,7 @@ use atomic_table::Seat;
 impl ReadyList {
     ghost use Rattle.futures_buffered_table.specs.ReadyList.{IsInRole, Adds};
 
-    // The link of the head, as a taking begins.
+    // Reads the link of the head, as a taking begins.
     fn read_first(&self, seat: &mut Seat<u8, View>, head: usize) -> usize
         requires list { seat.old.table_id ≡ self.now.list }
         requires phase { IsInRole self.now.capacity (Polls head Start) seat.old
@@ -33,7 +33,7 @@ impl ReadyList {
             .load::<SeatStep>(seat, self.capacity + head) as usize
     }
 
-    // The tail, where the head is a slot whose link named none.
+    // Reads the tail, where the head is a slot whose link named none.
     fn read_tail(&self, seat: &mut Seat<u8, View>, head: usize) -> usize
         requires list { seat.old.table_id ≡ self.now.list }
         requires phase { IsInRole self.now.capacity (Polls head NoNext) seat.old }
@@ -46,7 +46,7 @@ impl ReadyList {
             .load::<SeatStep>(seat, self.capacity + self.capacity + 1) as usize
     }
 
-    // The stub's link names none.
+    // Clears the stub's link.
     fn clear_stub(&self, seat: &mut Seat<u8, View>, head: usize)
         requires list { seat.old.table_id ≡ self.now.list }
         requires phase { IsInRole self.now.capacity (Polls head Last) seat.old }
@@ -58,7 +58,7 @@ impl ReadyList {
             .store::<SeatStep>(seat, self.capacity + self.capacity, 0);
     }
 
-    // The stub becomes the tail.
+    // Puts the stub into the tail word, and answers the entry that stood there.
     fn swap_stub(&self, seat: &mut Seat<u8, View>, head: usize) -> usize
         requires list { seat.old.table_id ≡ self.now.list }
         requires phase { IsInRole self.now.capacity (Polls head StubCleared) seat.old }
@@ -73,7 +73,7 @@ impl ReadyList {
         ) as usize
     }
 
-    // The entry before the stub names it.
+    // Lets the entry before the stub name it.
     fn link_stub(&self, seat: &mut Seat<u8, View>, head: usize, before: usize)
         requires list { seat.old.table_id ≡ self.now.list }
         requires phase { IsInRole self.now.capacity (Polls head (StubPut before)) seat.old
@@ -86,7 +86,7 @@ impl ReadyList {
             .store::<SeatStep>(seat, self.capacity + before, self.capacity as u64 + 1);
     }
 
-    // The link of a slot to which the stub gave way.
+    // Reads the link of a slot, to which the head moved from the stub.
     fn read_slot(&self, seat: &mut Seat<u8, View>, head: usize) -> usize
         requires list { seat.old.table_id ≡ self.now.list }
         requires phase { IsInRole self.now.capacity (Polls head Moved) seat.old
@@ -101,7 +101,7 @@ impl ReadyList {
             .load::<SeatStep>(seat, self.capacity + head) as usize
     }
 
-    // The link of the head, now that the stub stands behind it.
+    // Reads the link of the head again, now that the stub stands behind it.
     fn read_again(&self, seat: &mut Seat<u8, View>, head: usize) -> usize
         requires list { seat.old.table_id ≡ self.now.list }
         requires phase { IsInRole self.now.capacity (Polls head StubLinked) seat.old
@@ -116,7 +116,7 @@ impl ReadyList {
             .load::<SeatStep>(seat, self.capacity + head) as usize
     }
 
-    // The tail, where the head is the stub, whose link named none.
+    // Reads the tail, where the head is the stub, whose link named none.
     fn read_tail_first(&self, seat: &mut Seat<u8, View>, head: usize) -> usize
         requires list { seat.old.table_id ≡ self.now.list }
         requires phase { IsInRole self.now.capacity (Polls head AtStub) seat.old }
@@ -128,7 +128,7 @@ impl ReadyList {
             .load::<SeatStep>(seat, self.capacity + self.capacity + 1) as usize
     }
 
-    // The slot's mark is clear.
+    // Clears the slot's mark.
     fn unmark(&self, seat: &mut Seat<u8, View>, head: usize, slot: usize)
         requires list { seat.old.table_id ≡ self.now.list }
         requires phase { IsInRole self.now.capacity (Polls head (InHand slot)) seat.old
@@ -139,7 +139,7 @@ impl ReadyList {
         self.table.shared.store::<SeatStep>(seat, slot, 0);
     }
 
-    // The head is a slot whose link named none.
+    // Goes on with a taking whose head is a slot whose link named none.
     fn take_last(&self, seat: &mut Seat<u8, View>, head: usize) -> (usize, Taken)
         requires list { seat.old.table_id ≡ self.now.list }
         requires phase { IsInRole self.now.capacity (Polls head NoNext) seat.old
@@ -165,7 +165,7 @@ impl ReadyList {
         (found - 1, Taken::Slot(head))
     }
 
-    // The head is a slot, to which the stub gave way.
+    // Goes on with a taking whose head moved from the stub to this slot.
     fn take_slot(&self, seat: &mut Seat<u8, View>, head: usize) -> (usize, Taken)
         requires list { seat.old.table_id ≡ self.now.list }
         requires phase { IsInRole self.now.capacity (Polls head Moved) seat.old
@@ -185,7 +185,7 @@ impl ReadyList {
         (found - 1, Taken::Slot(head))
     }
 
-    // A taking, from this head: the head after it, and its answer.
+    // Makes a taking from this head, and answers the head after it and its answer.
     fn take_from(&self, seat: &mut Seat<u8, View>, head: usize) -> (usize, Taken)
         requires list { seat.old.table_id ≡ self.now.list }
         requires phase { IsInRole self.now.capacity (Polls head Start) seat.old

@@ -15,7 +15,7 @@ use atomic_table::Seat;
 impl ReadyList {
     ghost use Rattle.futures_buffered_table.specs.ReadyList.{IsInRole, Adds};
 
-    // The slot's mark is set: what it was.
+    // Sets the slot's mark, and answers what it was.
     fn swap_mark(&self, seat: &mut Seat<u8, View>, slot: usize) -> u64
         requires list { seat.old.table_id ≡ self.now.list }
         requires phase { IsInRole self.now.capacity Idle seat.old × (slot < self.now.capacity) }
@@ -27,7 +27,7 @@ impl ReadyList {
         self.table.shared.swap::<SeatStep>(seat, slot, 1)
     }
 
-    // The slot's link names none.
+    // Clears the slot's link.
     fn clear_link(&self, seat: &mut Seat<u8, View>, slot: usize)
         requires list { seat.old.table_id ≡ self.now.list }
         requires phase { IsInRole self.now.capacity (Won slot) seat.old
@@ -40,7 +40,7 @@ impl ReadyList {
             .store::<SeatStep>(seat, self.capacity + slot, 0);
     }
 
-    // The slot becomes the tail: the entry that was.
+    // Puts the slot into the tail word, and answers the entry that stood there.
     fn swap_tail(&self, seat: &mut Seat<u8, View>, slot: usize) -> usize
         requires list { seat.old.table_id ≡ self.now.list }
         requires phase { IsInRole self.now.capacity (Cleared slot) seat.old
@@ -54,7 +54,7 @@ impl ReadyList {
             .swap::<SeatStep>(seat, self.capacity + self.capacity + 1, slot as u64) as usize
     }
 
-    // The entry before the slot names it.
+    // Lets the entry before the slot name it.
     fn write_link(&self, seat: &mut Seat<u8, View>, slot: usize, before: usize)
         requires list { seat.old.table_id ≡ self.now.list }
         requires phase { IsInRole self.now.capacity (Swapped slot before) seat.old
@@ -67,7 +67,7 @@ impl ReadyList {
             .store::<SeatStep>(seat, self.capacity + before, slot as u64 + 1);
     }
 
-    // The slot that was won stands last in the row.
+    // Puts the slot, which this seat won, into the row as its last entry.
     fn put_in(&self, seat: &mut Seat<u8, View>, slot: usize)
         requires list { seat.old.table_id ≡ self.now.list }
         requires phase { IsInRole self.now.capacity (Won slot) seat.old

@@ -1,4 +1,4 @@
-use Rattle.std.proofs.Common.{ℕ, ◌+◌, ◌<◌, ◌≡◌, refl, arith}
+use Rattle.std.proofs.Common.{refl, arith}
 use Rattle.futures_buffered_table.specs.declared.view.Role.TheVariants.{Won}
 use Rattle.futures_buffered_table.proofs.ReadyListLemmas.{may_store}
 use Rattle.futures_buffered_table.proofs.ready_list.ReadyList.clear_link.Goals as goal

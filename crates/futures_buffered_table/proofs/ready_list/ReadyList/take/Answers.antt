@@ -1,5 +1,5 @@
-use Rattle.std.proofs.Common.{◌≡◌, sym, ap, ◌∙◌, arith}
-use Rattle.futures_buffered_table.specs.ReadyList.{ListIdentity, Poller}
+use Rattle.std.proofs.Common.{◌≡◌, ap, arith}
+use Rattle.futures_buffered_table.specs.ReadyList.{Poller}
 use Rattle.futures_buffered_table.proofs.ReadyListLemmas.{stub_is}
 use Rattle.futures_buffered_table.proofs.TakingLemmas.{taken}
 use Rattle.futures_buffered_table.proofs.ready_list.ReadyList.take.Goals as goal

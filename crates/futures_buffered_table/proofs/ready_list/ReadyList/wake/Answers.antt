@@ -1,8 +1,8 @@
-use Rattle.std.proofs.Common.{◌≡◌, ℕ, [], ◌∷◌, ◌++◌, refl, sym, ap, ◌∙◌, subst}
+use Rattle.std.proofs.Common.{◌≡◌, ℕ, [], ◌∷◌, ◌++◌, refl, ap, ◌∙◌, subst}
 use Rattle.futures_buffered_table.specs.declared.answer.Woke.TheVariants.{Fresh, Already}
 use Rattle.futures_buffered_table.specs.declared.view.AtomicStep.TheVariants.{MarkSwap}
 use Rattle.futures_buffered_table.specs.declared.view.Role.{Role}
-use Rattle.futures_buffered_table.specs.ReadyList.{ListIdentity, Waker}
+use Rattle.futures_buffered_table.specs.ReadyList.{Waker}
 use Rattle.futures_buffered_table.specs.ReadyList.{IsInRole, Adds}
 use Rattle.futures_buffered_table.proofs.ReadyListLemmas.{stub_is}
 use Rattle.futures_buffered_table.proofs.WakingLemmas.{came_fresh, woken, still_idle, one_found}
