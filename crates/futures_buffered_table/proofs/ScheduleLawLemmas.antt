@@ -133,9 +133,9 @@ slot_on n (Won e) found = refl
 slot_on n (Cleared e) found = refl
 slot_on n (Swapped e p) found = refl
 slot_on n (Polls h Start) found = refl
-slot_on n (Polls h AtStub) found = by_test (λ r. slot_named r ≡ []) (found == n) (Taken Empty) (Taken Pause) (λ _. refl) (λ _. refl)
+slot_on n (Polls h AtStub) found = by_test (λ r. slot_named r ≡ []) (found == n) _ _ (λ _. refl) (λ _. refl)
 slot_on n (Polls h Moved) found = refl
-slot_on n (Polls h NoNext) found = by_test (λ r. slot_named r ≡ []) (found == h) More (Taken Pause) (λ _. refl) (λ _. refl)
+slot_on n (Polls h NoNext) found = by_test (λ r. slot_named r ≡ []) (found == h) _ _ (λ _. refl) (λ _. refl)
 slot_on n (Polls h Last) found = refl
 slot_on n (Polls h StubCleared) found = refl
 slot_on n (Polls h (StubPut p)) found = refl
