@@ -1,10 +1,11 @@
--- The row of entries h ∷ rest, from the poller's head to the tail word: what follows an entry, by its link or by the view of a seat that is about to write that link.
-use Rattle.std.specs.Prelude.{◌≡◌, ◌⊎◌, ℕ, suc, ◌+◌, ◌<◌, ◌==◌, List, [], ◌∷◌, if◌then◌else◌, slice_index}
+-- The row of entries h ∷ rest, from the poller's head to the tail word: what follows an entry, by
+-- its link or by the view of a seat that is about to write that link.
+use Rattle.std.specs.Prelude.{◌≡◌, ◌⊎◌, ℕ, suc, ◌+◌, ◌<◌, ◌==◌, List, [], ◌∷◌, if◌then◌else◌}
 use Rattle.futures_buffered_table.specs.declared.view.Phase.TheVariants.{StubPut}
 use Rattle.futures_buffered_table.specs.declared.view.Role.{Role}
 use Rattle.futures_buffered_table.specs.declared.view.Role.TheVariants.{Swapped, Polls}
 use Rattle.futures_buffered_table.specs.declared.view.View.{View}
-use Rattle.futures_buffered_table.specs.OneStep.{tail_at}
+use Rattle.futures_buffered_table.specs.Words.{link}
 
 -- the sum of f over xs
 abbrev pub total : {X : Type 0} → (X → ℕ) → List X → ℕ
@@ -29,16 +30,6 @@ abbrev pub last_entry : ℕ → List ℕ → ℕ
 last_entry h [] = h
 last_entry h (x ∷ xs) = last_entry x xs
 
--- the mark of an entry, its link, and the tail
-abbrev pub mark : List ℕ → ℕ → ℕ
-mark words e = slice_index words e
-
-abbrev pub link : ℕ → List ℕ → ℕ → ℕ
-link n words e = slice_index words (n + e)
-
-abbrev pub tail : ℕ → List ℕ → ℕ
-tail n words = slice_index words (tail_at n)
-
 -- 1 where this role owes the link of p: it has swapped the tail and not yet written
 abbrev pub owed_by : ℕ → Role → ℕ
 owed_by p (Swapped i q) = same p q
@@ -50,5 +41,5 @@ abbrev pub owed : List View → ℕ → ℕ
 owed views p = total (λ v. owed_by p v.role) views
 
 -- the link of p names the next entry, or it names none and one seat owes it
-abbrev pub Linked : ℕ → ℕ → ℕ → Type 0
-Linked next link owed = ((link ≡ next) × (owed ≡ 0)) ⊎ ((link ≡ 0) × (owed ≡ 1) × (0 < next))
+abbrev pub IsLinked : ℕ → ℕ → ℕ → Type 0
+IsLinked next link owed = ((link ≡ next) × (owed ≡ 0)) ⊎ ((link ≡ 0) × (owed ≡ 1) × (0 < next))

@@ -1,27 +1,30 @@
--- The rule of the atomic table (`Held`), which holds between any two steps of any threads, and what a step tells the seat that makes it (`Stepped`).
+-- The rule of the atomic table (`HoldsRow`), which holds between any two steps of any threads, and what
+-- a step tells the seat that makes it (`PlaysRole`).
 use Rattle.std.specs.Prelude.{◌≡◌, ℕ, suc, ◌≤◌, List}
 use Rattle.atomic_table.specs.Table.{State, Me, Step}
 use Rattle.futures_buffered_table.specs.declared.view.Phase.TheVariants.{Start, Moved, StubCleared, StubLinked}
 use Rattle.futures_buffered_table.specs.declared.view.Role.{Role}
 use Rattle.futures_buffered_table.specs.declared.view.Role.TheVariants.{Idle, Cleared, Polls}
 use Rattle.futures_buffered_table.specs.declared.view.View.{View}
-use Rattle.futures_buffered_table.specs.OneStep.{view_after}
 use Rattle.futures_buffered_table.specs.RowInvariant.{KeepsRow}
+use Rattle.futures_buffered_table.specs.Effect.{next_view}
 
--- the words and all views, of a list for n slots, have a row that keeps itself, from the head of one poller to the tail
-abbrev pub Held : ℕ → State ℕ View → Type 0
-Held n s = (h : ℕ) × (rest : List ℕ) × (poller : ℕ) × KeepsRow n h rest poller s.words s.views
+-- the words and all views, of a list for n slots, have a row that keeps itself, from the head of
+-- one poller to the tail
+abbrev pub HoldsRow : ℕ → State ℕ View → Type 0
+HoldsRow n s = (h : ℕ) × (rest : List ℕ) × (poller : ℕ) × KeepsRow n h rest poller s.words s.views
 
 -- what the rule tells of a word that was found
-abbrev pub Tells : ℕ → Role → ℕ → Type 0
-Tells n Idle found = found ≤ 1
-Tells n (Cleared e) found = found ≤ n
-Tells n (Polls h Start) found = (found ≤ suc n) × (h ≡ n → found ≤ n)
-Tells n (Polls h Moved) found = found ≤ suc n
-Tells n (Polls h StubCleared) found = found ≤ n
-Tells n (Polls h StubLinked) found = found ≤ suc n
-Tells n _ found = Unit {0}
+abbrev pub MayFind : ℕ → Role → ℕ → Type 0
+MayFind n Idle found = found ≤ 1
+MayFind n (Cleared e) found = found ≤ n
+MayFind n (Polls h Start) found = (found ≤ suc n) × (h ≡ n → found ≤ n)
+MayFind n (Polls h Moved) found = found ≤ suc n
+MayFind n (Polls h StubCleared) found = found ≤ n
+MayFind n (Polls h StubLinked) found = found ≤ suc n
+MayFind n _ found = Unit {0}
 
 -- a seat's step is the one of its role, and is put at the end of its list
-abbrev pub Stepped : Step ℕ → Me ℕ View → ℕ → Me ℕ View → Type 0
-Stepped s before found after = (after.0 ≡ view_after s.word before.0 found) × (after.1 ≡ before.1) × Tells before.0.stub before.0.role found
+abbrev pub PlaysRole : Step ℕ → Me ℕ View → ℕ → Me ℕ View → Type 0
+PlaysRole s before found after = (after.0 ≡ next_view s.word before.0 found) × (after.1 ≡ before.1)
+    × MayFind before.0.stub before.0.role found

@@ -1,38 +1,16 @@
--- A schedule: which steps of the wake seats and one poll seat, the seat after them, are made in which order. It determines every word, every view and every reply.
-use Rattle.std.specs.Prelude.{◌≡◌, ◌≢◌, ℕ, ◌+◌, ◌<◌, List, [], ◌∷◌, ◌++◌, map, replicate, slice_index, slice_index_or, slice_set, take}
+-- A schedule: which steps of the wake seats and one poll seat, the seat after them, are made in
+-- which order. It determines every word, every view and every reply.
+use Rattle.std.specs.Prelude.{◌≡◌, ℕ, List, [], ◌∷◌, map, slice_index, slice_index_or, slice_set, take}
 use mathlib.Core.Option.{some}
 use lib.ListN.{get_elem?}
-use Rattle.futures_buffered_table.specs.declared.view.Role.{Role}
-use Rattle.futures_buffered_table.specs.declared.view.Role.TheVariants.{Idle}
 use Rattle.futures_buffered_table.specs.declared.step.Step.{Step}
-use Rattle.futures_buffered_table.specs.declared.step.Step.TheVariants.{Mark, Go, Poll}
 use Rattle.futures_buffered_table.specs.declared.step.StepReply.{StepReply}
 use Rattle.futures_buffered_table.specs.declared.view.View.{View}
-use Rattle.futures_buffered_table.specs.OneStep.{touches, puts, view_after, reply_of}
-use Rattle.futures_buffered_table.specs.Views.{role_of, polling, fresh_beside, spent_view}
 use Rattle.futures_buffered_table.specs.declared.step.TheConstants.{WAKE_SEATS}
-
--- the seat that makes the step
-abbrev pub seat_of : Step → ℕ
-seat_of (Mark seat slot) = seat
-seat_of (Go seat) = seat
-seat_of Poll = WAKE_SEATS
-
--- the slot that an idle seat is to wake
-abbrev pub slot_of : Step → ℕ
-slot_of (Mark seat slot) = slot
-slot_of (Go seat) = 0
-slot_of Poll = 0
-
--- the role of a seat
-abbrev pub role_at : List Role → ℕ → Role
-role_at roles seat = slice_index_or roles seat Idle
-
--- a wake of a slot below the capacity begins at an idle wake seat, and goes on at one that is not idle; the poller can always step
-abbrev pub CanStep : ℕ → List Role → Step → Type 0
-CanStep n roles (Mark seat slot) = (seat < WAKE_SEATS) × (slot < n) × (role_at roles seat ≡ Idle)
-CanStep n roles (Go seat) = (seat < WAKE_SEATS) × (role_at roles seat ≢ Idle)
-CanStep n roles Poll = Unit {0}
+use Rattle.futures_buffered_table.specs.View.{role_of, spent_view, first_views}
+use Rattle.futures_buffered_table.specs.Step.{CanStep, seat_of, slot_of}
+use Rattle.futures_buffered_table.specs.Effect.{next_view, put_by_role, reply_of_role, word_of_role}
+use Rattle.futures_buffered_table.specs.Words.{empty_words}
 
 -- all words and all views between two steps
 pub record Moment : Type 0 where
@@ -41,7 +19,7 @@ pub record Moment : Type 0 where
 
 -- no mark, no link, the stub as the tail; idle wake seats, and a poll seat whose head is the stub
 abbrev pub at_start : ℕ → Moment
-at_start n = record { words = replicate (n + n + 1) 0 ++ n ∷ []; views = replicate WAKE_SEATS (fresh_beside (polling n)) ++ polling n ∷ [] }
+at_start n = record { words = empty_words n; views = first_views WAKE_SEATS n }
 
 -- the view of the step's seat
 abbrev pub view_at : Moment → Step → View
@@ -49,34 +27,39 @@ view_at c step = slice_index_or c.views (seat_of step) spent_view
 
 -- the word that the step reads or writes
 abbrev pub word_of : ℕ → Moment → Step → ℕ
-word_of n c step = touches n (slot_of step) (view_at c step).role
+word_of n c step = word_of_role n (slot_of step) (view_at c step).role
 
 -- what the step finds there
 abbrev pub found_at : ℕ → Moment → Step → ℕ
 found_at n c step = slice_index c.words (word_of n c step)
 
 -- one step: one word and one view change
-abbrev pub goes : ℕ → Moment → Step → Moment
-goes n c step = record {
-  words = slice_set c.words (word_of n c step) (puts n (view_at c step).role (found_at n c step));
-  views = slice_set c.views (seat_of step) (view_after (slot_of step) (view_at c step) (found_at n c step));
+abbrev pub after_step : ℕ → Moment → Step → Moment
+after_step n c step = record {
+  words = slice_set c.words (word_of n c step)
+      (put_by_role n (view_at c step).role (found_at n c step));
+  views = slice_set c.views (seat_of step)
+      (next_view (slot_of step) (view_at c step) (found_at n c step));
 }
 
 -- all the steps, in order
 abbrev pub run : ℕ → Moment → List Step → Moment
 run n c [] = c
-run n c (s ∷ ss) = run n (goes n c s) ss
+run n c (s ∷ ss) = run n (after_step n c s) ss
 
 -- each step can be made when its turn comes
 abbrev pub Legal : ℕ → Moment → List Step → Type 0
 Legal n c [] = Unit {0}
-Legal n c (s ∷ ss) = CanStep n (map role_of c.views) s × Legal n (goes n c s) ss
+Legal n c (s ∷ ss) = CanStep n (map role_of c.views) s × Legal n (after_step n c s) ss
 
 -- what they are answered
 abbrev pub replies_of : ℕ → Moment → List Step → List StepReply
 replies_of n c [] = []
-replies_of n c (s ∷ ss) = reply_of n (view_at c s).role (found_at n c s) ∷ replies_of n (goes n c s) ss
+replies_of n c (s ∷ ss) =
+    reply_of_role n (view_at c s).role (found_at n c s) ∷ replies_of n (after_step n c s) ss
 
 -- the steps before the k-th can be made, and it cannot
 abbrev pub IsStuckAt : ℕ → List Step → ℕ → Type 0
-IsStuckAt n steps k = Legal n (at_start n) (take k steps) × ((s : Step) × (get_elem? steps k ≡ some s) × (CanStep n (map role_of (run n (at_start n) (take k steps)).views) s → ⊥))
+IsStuckAt n steps k = let before = take k steps in Legal n (at_start n) before
+    × ((s : Step) × (get_elem? steps k ≡ some s)
+    × (CanStep n (map role_of (run n (at_start n) before).views) s → ⊥))

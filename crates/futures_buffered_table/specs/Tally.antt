@@ -1,30 +1,34 @@
 -- How often a slot was won, and how often unmarked, by the lists of steps.
 use Rattle.std.specs.Prelude.{◌≡◌, ℕ, zero, ◌+◌, ◌<◌, List, slice_index_or, take}
-use Rattle.futures_buffered_table.specs.declared.view.Made.{Made}
-use Rattle.futures_buffered_table.specs.declared.view.Made.TheVariants.{MarkSwap, Unmark}
+use Rattle.futures_buffered_table.specs.declared.view.AtomicStep.{AtomicStep}
+use Rattle.futures_buffered_table.specs.declared.view.AtomicStep.TheVariants.{MarkSwap, Unmark}
 use Rattle.futures_buffered_table.specs.declared.view.View.{View}
-use Rattle.futures_buffered_table.specs.Row.{total, same, mark}
-use Rattle.futures_buffered_table.specs.Views.{spent_view}
 use Rattle.futures_buffered_table.specs.declared.step.TheConstants.{WAKE_SEATS}
+use Rattle.futures_buffered_table.specs.Row.{same, total}
+use Rattle.futures_buffered_table.specs.Words.{mark}
+use Rattle.futures_buffered_table.specs.View.{spent_view}
 
 -- 1 where this step is a mark swap that found e clear
-abbrev pub is_win : ℕ → Made → ℕ
+abbrev pub is_win : ℕ → AtomicStep → ℕ
 is_win e (MarkSwap i zero) = same e i
 is_win e _ = 0
 
 -- 1 where this step unmarked e
-abbrev pub is_unmark : ℕ → Made → ℕ
+abbrev pub is_unmark : ℕ → AtomicStep → ℕ
 is_unmark e (Unmark i) = same e i
 is_unmark e _ = 0
 
 -- the mark swaps of these steps that found e clear
-abbrev pub wins : ℕ → List Made → ℕ
+abbrev pub wins : ℕ → List AtomicStep → ℕ
 wins e steps = total (is_win e) steps
 
 -- the unmarks of e among these steps
-abbrev pub unmarks : ℕ → List Made → ℕ
+abbrev pub unmarks : ℕ → List AtomicStep → ℕ
 unmarks e steps = total (is_unmark e) steps
 
--- for each slot, the mark swaps of the wake seats that found it clear are the poll seat's unmarks of it, and one more where it is marked
-abbrev pub Tallied : ℕ → List ℕ → List View → Type 0
-Tallied n words views = (e : ℕ) → e < n → total (λ v. wins e v.steps) (take WAKE_SEATS views) ≡ unmarks e (slice_index_or views WAKE_SEATS spent_view).steps + mark words e
+-- for each slot, the mark swaps of the wake seats that found it clear are the poll seat's unmarks
+-- of it, and one more where it is marked
+abbrev pub LosesNoMark : ℕ → List ℕ → List View → Type 0
+LosesNoMark n words views = (e : ℕ) → e < n →
+    total (λ v. wins e v.steps) (take WAKE_SEATS views)
+    ≡ unmarks e (slice_index_or views WAKE_SEATS spent_view).steps + mark words e

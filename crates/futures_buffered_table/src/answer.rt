@@ -1,5 +1,6 @@
 //! What a list of ready slots answers, and how many slots it can have.
 use std::alloc::AllocError;
+use thiserror::Error;
 
 /// The most slots that a list, a core, a source or a set can have: 4611686018427387903.
 pub const MAX_CAPACITY: usize = usize::MAX / 4;
@@ -25,11 +26,13 @@ pub enum Woke {
 }
 
 /// Why nothing was made.
-#[derive(Clone, Copy, Debug, PartialEq, Eq)]
+#[derive(Clone, Copy, Debug, PartialEq, Eq, Error)]
 pub enum NewFault {
     /// A request for memory was refused.
+    #[error("out of memory")]
     Memory,
     /// The capacity is above `MAX_CAPACITY`. This is tested before any memory is asked for.
+    #[error("the capacity is too large")]
     TooLarge,
 }
 

@@ -1,13 +1,13 @@
-//! Seats that are split, and the end of a list.
+//! The end of a list.
 ghost use Rattle.std.specs.Prelude.{◌≡◌, ℕ, ◌+◌, ◌<◌, ◌≤◌, [], List, ◌++◌, ◌↔◌, All, IsTrue};
 ghost use Rattle.futures_buffered_table.specs.declared.view.View.{View};
-ghost use Rattle.futures_buffered_table.specs.Row.{mark};
-ghost use Rattle.futures_buffered_table.specs.Seats.{steps_of};
+ghost use Rattle.futures_buffered_table.specs.Words.{mark};
+ghost use Rattle.futures_buffered_table.specs.Closing.{steps_of};
 ghost use Rattle.futures_buffered_table.specs.Tally.{wins, unmarks};
 ghost use Rattle.futures_buffered_table.specs.Whereabouts.{Whereabouts};
 
 use crate::ready_list::{PollSeat, ReadyList, WakeSeat};
-use crate::rule::{IntoPoller, NewWaker};
+use crate::rule::IntoPoller;
 use atomic_table::Closed as Words;
 use std::alloc::Global;
 use std::marker::Model;
@@ -20,33 +20,23 @@ pub struct Closed {
 
 impl Model for Closed {
     ghost use Rattle.std.specs.Mem.Slots.{slots_items, slots_len, IsFull};
-    ghost use Rattle.futures_buffered_table.specs.Seats.{LeftWords};
-    ghost use Rattle.futures_buffered_table.specs.SeatsInvariant.{KeepsLeft};
+    ghost use Rattle.futures_buffered_table.specs.Closing.{ClosedWords};
+    ghost use Rattle.futures_buffered_table.specs.ClosingInvariant.{KeepsClosed};
 
-    ghost Value = { LeftWords };
+    ghost Value = { ClosedWords };
 
     ghost view = { λ c. record { capacity = c.capacity; words = slots_items c.words.words } };
 
-    ghost invariant = { λ c. IsFull c.words.words × KeepsLeft (slots_items c.words.words) (slots_len c.words.words) (slots_len c.words.slots) c.capacity };
-}
-
-impl WakeSeat {
-    /// Two seats of one list, the second for another thread, with no step made.
-    pub fn split(mut self, list: &ReadyList) -> (WakeSeat, WakeSeat)
-        requires { self.list ≡ list.now.list }
-        ensures first { result.0 ≡ self }
-        ensures second { (result.1.list ≡ self.list) × (result.1.steps ≡ []) }
-    {
-        let other = list.table.shared.split_seat::<NewWaker>(&mut self.seat);
-        (self, WakeSeat { seat: other })
-    }
+    ghost invariant = { λ c. let words = c.words.words in IsFull words
+        × KeepsClosed (slots_items words) (slots_len words) (slots_len c.words.slots) c.capacity };
 }
 
 impl PollSeat {
     // The poll seat with the list of a wake seat that went into it.
     fn join(mut self, list: &ReadyList, other: WakeSeat) -> PollSeat
         requires { (self.list ≡ list.now.list) × (other.list ≡ list.now.list) }
-        ensures joined { (result.list ≡ self.list) × (result.head ≡ self.head) × (result.steps ≡ self.steps ++ other.steps) }
+        ensures joined { (result.list ≡ self.list) × (result.head ≡ self.head)
+            × (result.steps ≡ self.steps ++ other.steps) }
         ensures unmarks { (e : ℕ) → unmarks e result.steps ≡ unmarks e self.steps }
     {
         let WakeSeat { seat } = other;
@@ -58,7 +48,7 @@ impl PollSeat {
 }
 
 impl Closed {
-    /// Whether the slot was left marked.
+    /// Whether the slot was left marked, in constant time.
     pub fn marked(&self, slot: usize) -> bool
         requires { slot < self.now.capacity }
         ensures { IsTrue result ↔ (mark self.now.words slot ≡ 1) }
@@ -66,7 +56,7 @@ impl Closed {
         self.words.word(slot) != 0
     }
 
-    /// Gives the memory of the words back.
+    /// Gives the memory of the words back. A closed list that is not given back keeps it.
     pub fn free(self) {
         let Closed { words, capacity: _ } = self;
         words.free();
@@ -74,11 +64,14 @@ impl Closed {
 }
 
 impl ReadyList {
+    // Ends the list, by a poll seat that has the steps of the others.
     fn close_seat(self, poll: PollSeat) -> Closed
         requires { poll.list ≡ self.list }
         ensures capacity { result.capacity ≡ self.capacity }
-        ensures placed { (views : List View) × (at : Whereabouts self.capacity result.words views) × (at.head ≡ poll.head) }
-        ensures none_lost { (e : ℕ) → e < self.capacity → wins e poll.steps ≤ unmarks e poll.steps + mark result.words e }
+        ensures placed { (views : List View) × (at : Whereabouts self.capacity result.words views)
+            × (at.head ≡ poll.head) }
+        ensures none_lost { (e : ℕ) → e < self.capacity →
+            wins e poll.steps ≤ unmarks e poll.steps + mark result.words e }
     {
         let ReadyList { table, capacity } = self;
         let PollSeat { seat, head: _ } = poll;
@@ -88,17 +81,22 @@ impl ReadyList {
         }
     }
 
-    /// Ends the list: no thread has a `&` to it any more. The wake seats that are handed in are counted with the poll seat; one that was dropped is not.
+    /// Ends the list: no thread has a `&` to it any more.
+    ///
+    /// The wake seats that are handed in are counted with the poll seat; one that was dropped is
+    /// not. Takes time in proportion to their number, with no atomic step and no memory.
     pub fn close(self, poll: PollSeat, seats: Vec<WakeSeat>) -> Closed
         requires poll { poll.list ≡ self.list }
         requires seats { All (λ s. s.list ≡ self.list) seats.items }
         ensures capacity { result.capacity ≡ self.capacity }
 
         // At the last, each slot is in its one place, in a row from the poller's head.
-        ensures placed { (views : List View) × (at : Whereabouts self.capacity result.words views) × (at.head ≡ poll.head) }
+        ensures placed { (views : List View) × (at : Whereabouts self.capacity result.words views)
+            × (at.head ≡ poll.head) }
 
         // The marks that these seats won were taken, but for one where the slot is still marked.
-        ensures none_lost { (e : ℕ) → e < self.capacity → wins e (steps_of seats.items) ≤ unmarks e poll.steps + mark result.words e }
+        ensures none_lost { (e : ℕ) → e < self.capacity →
+            wins e (steps_of seats.items) ≤ unmarks e poll.steps + mark result.words e }
     {
         let mut all = poll;
         for seat in seats {

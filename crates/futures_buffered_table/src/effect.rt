@@ -1,6 +1,6 @@
 //! What one step does, by the role of the seat that makes it.
 ghost use Rattle.std.specs.Prelude.{◌≡◌, ◌<◌, ◌≤◌, ◌^◌};
-ghost use Rattle.futures_buffered_table.specs.OneStep.{InRange, slot_read, touches as word_of_role, puts as put_by_role, role_after as next_role, reply_of};
+ghost use Rattle.futures_buffered_table.specs.Effect.{InRange, after_slot_read, word_of_role, put_by_role, next_role, reply_of_role};
 
 use crate::answer::{Taken, Woke};
 use crate::step::StepReply;
@@ -47,9 +47,10 @@ pub fn puts(n: usize, role: Role, found: u64) -> u64
     }
 }
 
-// The poller's role after a read of its head's link, which named `found`: the phase is `none` where it named none.
+// The poller's role after a read of its head's link, which named `found`: the phase is `none` where
+// it named none.
 fn after_link(head: usize, none: Phase, found: u64) -> Role
-    ensures { result ≡ slot_read head none found }
+    ensures { result ≡ after_slot_read head none found }
 {
     if found == 0 {
         Role::Polls(head, none)
@@ -85,7 +86,7 @@ pub fn role_after(n: usize, slot: usize, role: Role, found: u64) -> Role
 
 // What the step answers.
 pub fn reply(n: usize, role: Role, found: u64) -> StepReply
-    ensures { result ≡ reply_of n role found }
+    ensures { result ≡ reply_of_role n role found }
 {
     match role {
         Role::Idle if found != 0 => StepReply::Woke(Woke::Already),

@@ -1,21 +1,28 @@
-//! A list of ready slots that many wakers fill and one poller empties, by single steps on words.
+//! A list of ready slots that many wakers fill and one poller empties, by single atomic steps: once
+//! as plain data, in any order of steps that a caller gives, and once on an atomic table.
 //!
-//! The words are a mark for each slot, a link for each slot and for the stub, and the tail. The poller keeps the head, and
-//! the entries from there along the links to the tail are the row: the slots in the order in which they will be named.
+//! The words are a mark for each slot, a link for each slot and for the stub, and the tail. The
+//! poller keeps the head. The entries from there along the links to the tail are the row: the slots
+//! in the order in which they will be named.
 //!
-//! In the order in which to read the parts: `view`, what a seat knows; `effect`, what one step does; `step`, `step_machine`
-//! and `schedule`, the same steps one at a time, in any order that a caller gives; `rule`, the rule that the words and views
-//! keep on an atomic table; `ready_list`, `waking`, `taking` and `closing`, the list on that table; `laws`, what the rule
-//! says of every moment.
+//! In the order in which to read the parts:
+//!
+//! - `answer`: what a list answers, why none was made, and the greatest capacity.
+//! - `view`, `words`, `effect`: what a seat knows, the words as they begin, and what the atomic step
+//!   of each role does.
+//! - `step`, `step_machine`, `schedule`: the same steps one at a time, and a whole list of them.
+//! - `rule`, `laws`: the rule that words and views keep on an atomic table, and what it says of
+//!   every moment.
+//! - `ready_list`, `waking`, `taking`, `closing`: the list on that table.
+//! - `ready_table`: the public names of all but `answer`.
 #![tactic(auto)]
 
 pub mod answer;
-pub mod ready_table;
-
 mod closing;
 mod effect;
 mod laws;
 mod ready_list;
+pub mod ready_table;
 mod rule;
 mod schedule;
 mod step;
@@ -23,3 +30,4 @@ mod step_machine;
 mod taking;
 mod view;
 mod waking;
+mod words;

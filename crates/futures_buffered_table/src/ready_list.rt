@@ -1,15 +1,15 @@
 //! The list on atomic words, and its seats.
-ghost use Rattle.std.specs.Prelude.{◌≡◌, ◌<◌, [], ◌↔◌, IfOk, Err};
+ghost use Rattle.std.specs.Prelude.{◌≡◌, [], IfOk};
 
 use crate::answer::{MAX_CAPACITY, NewFault};
 use crate::rule::{NewWaker, RowRule};
-use crate::step_machine::first_words;
 use crate::view::View;
+use crate::words::first_words;
 use atomic_table::{Seat, Table};
 use std::alloc::Global;
 use std::marker::Model;
 
-/// The words of the list, which any number of threads may share by a `&`.
+/// The words of the list, which any number of threads may share by a `&`. No call blocks.
 #[derive(Drop)]
 pub struct ReadyList {
     pub(crate) table: Table<u8, View, usize, RowRule, Global>,
@@ -17,31 +17,45 @@ pub struct ReadyList {
 }
 
 impl Model for ReadyList {
-    ghost use Rattle.futures_buffered_table.specs.Seats.{SharedList};
-    ghost use Rattle.futures_buffered_table.specs.SeatsInvariant.{KeepsList};
+    ghost use Rattle.futures_buffered_table.specs.ReadyList.{ListIdentity};
+    ghost use Rattle.futures_buffered_table.specs.ReadyListInvariant.{KeepsList};
 
-    ghost Value = { SharedList };
+    ghost Value = { ListIdentity };
 
     ghost view = { λ l. record { list = l.table.shared.table_id; capacity = l.capacity } };
 
     ghost invariant = { λ l. KeepsList l.table.shared.table_id l.table.shared.key l.capacity };
 }
 
-/// A seat that wakes slots of its list. It takes no bytes, and a thread that has none gets one by [`WakeSeat::split`].
+/// A seat that wakes slots of its list. It takes no bytes, and a thread that has none gets one by
+/// [`WakeSeat::split`].
 #[derive(Drop)]
 pub struct WakeSeat {
     pub(crate) seat: Seat<u8, View>,
 }
 
 impl Model for WakeSeat {
-    ghost use Rattle.futures_buffered_table.specs.Seats.{Waker};
-    ghost use Rattle.futures_buffered_table.specs.SeatsInvariant.{KeepsWaker};
+    ghost use Rattle.futures_buffered_table.specs.ReadyList.{Waker};
+    ghost use Rattle.futures_buffered_table.specs.ReadyListInvariant.{KeepsWaker};
 
     ghost Value = { Waker };
 
     ghost view = { λ s. record { list = s.seat.table_id; steps = s.seat.me.0.steps } };
 
     ghost invariant = { λ s. KeepsWaker s.seat.table_id s.seat.me };
+}
+
+impl WakeSeat {
+    /// Two seats of one list, the second for another thread, with no atomic step, no lock and no
+    /// memory.
+    pub fn split(mut self, list: &ReadyList) -> (WakeSeat, WakeSeat)
+        requires { self.list ≡ list.now.list }
+        ensures first { result.0 ≡ self }
+        ensures second { (result.1.list ≡ self.list) × (result.1.steps ≡ []) }
+    {
+        let other = list.table.shared.split_seat::<NewWaker>(&mut self.seat);
+        (self, WakeSeat { seat: other })
+    }
 }
 
 /// The one seat that takes from its list. It takes the bytes of its head alone.
@@ -52,25 +66,31 @@ pub struct PollSeat {
 }
 
 impl Model for PollSeat {
-    ghost use Rattle.futures_buffered_table.specs.Seats.{Poller};
-    ghost use Rattle.futures_buffered_table.specs.SeatsInvariant.{KeepsPoller};
+    ghost use Rattle.futures_buffered_table.specs.ReadyList.{Poller};
+    ghost use Rattle.futures_buffered_table.specs.ReadyListInvariant.{KeepsPoller};
 
     ghost Value = { Poller };
 
-    ghost view = { λ s. record { list = s.seat.table_id; head = s.head; steps = s.seat.me.0.steps } };
+    ghost view = { λ s.
+        record { list = s.seat.table_id; head = s.head; steps = s.seat.me.0.steps } };
 
     ghost invariant = { λ s. KeepsPoller s.seat.table_id s.seat.me s.head };
 }
 
 impl ReadyList {
-    ghost use Rattle.futures_buffered_table.specs.declared.answer.NewFault.TheVariants.{TooLarge};
+    ghost use Rattle.futures_buffered_table.specs.Answer.{RefusesTooLarge};
 
-    /// A list for this many slots, none of them marked, with its poll seat and a first wake seat. Tests the capacity before it asks for memory.
+    /// A list for this many slots, none of them marked, with its poll seat and a first wake seat.
+    ///
+    /// Takes time and memory in proportion to the capacity: for a while twice the words that stay.
+    /// It is `TooLarge` before any memory is asked for, and `Memory` where a request is refused;
+    /// then nothing is kept.
     pub fn new(alloc: Global, capacity: usize) -> Result<(ReadyList, PollSeat, WakeSeat), NewFault>
         ensures list { IfOk result (λ r. r.0.capacity ≡ capacity) }
-        ensures poller { IfOk result (λ r. (r.1.list ≡ r.0.list) × (r.1.head ≡ capacity) × (r.1.steps ≡ [])) }
+        ensures poller { IfOk result
+            (λ r. (r.1.list ≡ r.0.list) × (r.1.head ≡ capacity) × (r.1.steps ≡ [])) }
         ensures waker { IfOk result (λ r. (r.2.list ≡ r.0.list) × (r.2.steps ≡ [])) }
-        ensures too_large { (result ≡ Err TooLarge) ↔ (MAX_CAPACITY < capacity) }
+        ensures refuses { RefusesTooLarge capacity result }
     {
         if capacity > MAX_CAPACITY {
             return Err(NewFault::TooLarge);
@@ -95,5 +115,12 @@ impl ReadyList {
             poll,
             WakeSeat { seat: other },
         ))
+    }
+
+    /// The number of slots, with no atomic step.
+    pub fn capacity(&self) -> usize
+        ensures { result ≡ self.now.capacity }
+    {
+        self.capacity
     }
 }

@@ -1,4 +1,4 @@
-//! The list of ready slots, under one name.
+//! The list of ready slots and the machine of its steps, under one name.
 pub use crate::closing::Closed;
 pub use crate::laws::{rule_empties_row, rule_loses_no_mark, rule_places_slots};
 pub use crate::ready_list::{PollSeat, ReadyList, WakeSeat};
@@ -6,4 +6,4 @@ pub use crate::rule::{IntoPoller, NewWaker, RowRule, SeatStep};
 pub use crate::schedule::steps;
 pub use crate::step::{Step, StepFault, StepReply, WAKE_SEATS};
 pub use crate::step_machine::StepMachine;
-pub use crate::view::{Made, Phase, Role, View};
+pub use crate::view::{AtomicStep, Phase, Role, View};

@@ -1,4 +1,5 @@
-//! The rule of the table that the list's words lie in, what a step tells its seat, and the laws that the rule gives.
+//! The rule of the table that the list's words lie in, and what a step, a split and a join make of
+//! the views of their seats.
 use crate::view::View;
 use atomic_table::{Join, Play, Split, TableRule};
 
@@ -6,39 +7,39 @@ use atomic_table::{Join, Play, Split, TableRule};
 pub struct RowRule;
 
 impl TableRule<u8, View, usize> for RowRule {
-    ghost use Rattle.futures_buffered_table.specs.Rule.{Held};
-    ghost use Rattle.futures_buffered_table.specs.Views.{polling};
+    ghost use Rattle.futures_buffered_table.specs.Rule.{HoldsRow};
+    ghost use Rattle.futures_buffered_table.specs.View.{first_poller};
 
-    ghost holds = { Held };
+    ghost holds = { HoldsRow };
 
-    ghost first = { polling };
+    ghost first = { first_poller };
 }
 
 /// The step of a seat, by its role.
 pub struct SeatStep;
 
 impl Play<u8, View> for SeatStep {
-    ghost use Rattle.futures_buffered_table.specs.Rule.{Stepped};
+    ghost use Rattle.futures_buffered_table.specs.Rule.{PlaysRole};
 
-    ghost then = { Stepped };
+    ghost then = { PlaysRole };
 }
 
 /// A new wake seat beside another seat.
 pub struct NewWaker;
 
 impl Split<View> for NewWaker {
-    ghost use Rattle.futures_buffered_table.specs.Views.{fresh_beside};
+    ghost use Rattle.futures_buffered_table.specs.View.{new_waker_beside};
 
     ghost left = { λ v. v };
 
-    ghost right = { fresh_beside };
+    ghost right = { new_waker_beside };
 }
 
 /// A wake seat goes into the poll seat, with its list.
 pub struct IntoPoller;
 
 impl Join<View> for IntoPoller {
-    ghost use Rattle.futures_buffered_table.specs.Views.{with_steps_of, spent_view};
+    ghost use Rattle.futures_buffered_table.specs.View.{with_steps_of, spent_view};
 
     ghost both = { with_steps_of };
 

@@ -1,6 +1,6 @@
 //! A whole schedule on a new machine.
 ghost use Rattle.std.specs.Prelude.{◌≡◌, ℕ, ◌<◌, [], ◌↔◌, IfOk, Err};
-ghost use Rattle.futures_buffered_table.specs.Law.{AfterEach, AnswersInOrder, EmptyIsTrue, PauseHasCause};
+ghost use Rattle.futures_buffered_table.specs.ScheduleLaw.{AfterEach, AnswersInOrder, EmptyIsTrue, PauseHasCause};
 ghost use Rattle.futures_buffered_table.specs.Schedule.{at_start, Legal, replies_of, IsStuckAt};
 ghost use Rattle.futures_buffered_table.specs.declared.step.StepFault.TheVariants.{TooLarge, Step as StuckAt};
 
@@ -11,9 +11,12 @@ use std::alloc::Global;
 
 /// Makes the steps in order on a new machine, and answers their replies.
 ///
-/// Tests the capacity first, then asks for all memory, then makes the steps up to the first that cannot be made.
+/// Tests the capacity first (`TooLarge`), then asks for all memory (`Memory`), then makes the steps
+/// up to the first that cannot be made (`Step`). Takes time and memory in proportion to the capacity
+/// and the number of steps.
 pub fn steps(alloc: Global, capacity: usize, steps: &[Step]) -> Result<Vec<StepReply>, StepFault>
-    ensures replies { IfOk result (λ v. Legal capacity (at_start capacity) steps.now × (v.items ≡ replies_of capacity (at_start capacity) steps.now)) }
+    ensures replies { IfOk result (λ v. Legal capacity (at_start capacity) steps.now
+        × (v.items ≡ replies_of capacity (at_start capacity) steps.now)) }
 
     // The slots come out in the order in which the wakers' tail swaps put them in.
     ensures order { IfOk result (λ v. AfterEach AnswersInOrder [] steps.now v.items) }

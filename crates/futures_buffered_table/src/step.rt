@@ -1,5 +1,6 @@
 //! A single step of a schedule, and what it answers.
 use crate::answer::{Taken, Woke};
+use thiserror::Error;
 
 /// How many wake seats a machine has: their numbers are below this.
 pub const WAKE_SEATS: usize = 64;
@@ -27,12 +28,15 @@ pub enum StepReply {
 }
 
 /// Why a schedule was refused.
-#[derive(Clone, Copy, Debug, PartialEq, Eq)]
+#[derive(Clone, Copy, Debug, PartialEq, Eq, Error)]
 pub enum StepFault {
     /// The capacity is above `MAX_CAPACITY`. This is tested first.
+    #[error("the capacity is too large")]
     TooLarge,
     /// A request for memory was refused. No step was made.
+    #[error("out of memory")]
     Memory,
     /// The place in the list of the first step that cannot be made.
+    #[error("step {0} cannot be made")]
     Step(usize),
 }

@@ -1,6 +1,7 @@
-//! The machine of single steps: the list's words and the roles of 64 wake seats and one poll seat, as plain data.
-ghost use Rattle.std.specs.Prelude.{◌≡◌, ◌<◌, ◌++◌, ◌∷◌, [], ◌+◌, ◌^◌, ◌↔◌, length, replicate, MatchOption, IfOk, IfNone, IfSome, Err};
-ghost use Rattle.futures_buffered_table.specs.Schedule.{CanStep, seat_of, slot_of};
+//! The machine of single steps: the list's words and the roles of the wake seats and of one poll
+//! seat, as plain data.
+ghost use Rattle.std.specs.Prelude.{◌≡◌, ◌<◌, ◌++◌, ◌∷◌, [], ◌+◌, ◌^◌, length, replicate, MatchOption, IfOk, IfNone, IfSome};
+ghost use Rattle.futures_buffered_table.specs.Step.{CanStep, seat_of, slot_of};
 ghost use Rattle.futures_buffered_table.specs.declared.view.Role.TheVariants.{Idle, Polls};
 ghost use Rattle.futures_buffered_table.specs.declared.view.Phase.TheVariants.{Start};
 
@@ -8,10 +9,11 @@ use crate::answer::{MAX_CAPACITY, NewFault};
 use crate::effect::{puts, reply, role_after, touches};
 use crate::step::{Step, StepReply, WAKE_SEATS};
 use crate::view::{Phase, Role};
+use crate::words::first_words;
 use std::alloc::{AllocError, Global};
 use std::marker::Model;
 
-/// All words and roles between two steps. `new` alone takes memory.
+/// All words and roles between two steps. [`StepMachine::new`] alone takes memory.
 #[derive(Drop)]
 pub struct StepMachine {
     capacity: usize,
@@ -20,25 +22,16 @@ pub struct StepMachine {
 }
 
 impl Model for StepMachine {
-    ghost use Rattle.futures_buffered_table.specs.Machine.{Machine};
-    ghost use Rattle.futures_buffered_table.specs.MachineInvariant.{KeepsMachine};
+    ghost use Rattle.futures_buffered_table.specs.StepMachine.{Machine};
+    ghost use Rattle.futures_buffered_table.specs.StepMachineInvariant.{KeepsMachine};
 
     ghost Value = { Machine };
 
-    ghost view = { λ m. record { capacity = m.capacity; words = m.words.items; roles = m.roles.items } };
+    ghost view = { λ m.
+        record { capacity = m.capacity; words = m.words.items; roles = m.roles.items } };
 
-    ghost invariant = { λ m. KeepsMachine (record { capacity = m.capacity; words = m.words.items; roles = m.roles.items }) };
-}
-
-// The words of an empty list: no mark, no link, and the stub as the tail.
-pub fn first_words(alloc: Global, capacity: usize) -> Result<Vec<u64>, AllocError>
-    requires { capacity < 2 ^ 62 }
-    ensures { IfOk result (λ v. v.items ≡ replicate (capacity + capacity + 1) 0 ++ capacity ∷ []) }
-{
-    let mut words = Vec::new(alloc);
-    words.resize(capacity + capacity + 1, 0)?;
-    words.push(capacity as u64)?;
-    Ok(words)
+    ghost invariant = { λ m. KeepsMachine
+        (record { capacity = m.capacity; words = m.words.items; roles = m.roles.items }) };
 }
 
 // The roles of idle wake seats and a poll seat whose head is the stub.
@@ -54,7 +47,8 @@ fn first_roles(alloc: Global, capacity: usize) -> Result<Vec<Role>, AllocError>
 // The seat and the slot of a step that can be made.
 fn seat_and_slot(capacity: usize, roles: &[Role], step: Step) -> Option<(usize, usize)>
     requires { length roles.now ≡ WAKE_SEATS + 1 }
-    ensures { MatchOption result (CanStep capacity roles.now step → ⊥) (λ s. CanStep capacity roles.now step × (s.0 ≡ seat_of step) × (s.1 ≡ slot_of step)) }
+    ensures { MatchOption result (CanStep capacity roles.now step → ⊥)
+        (λ s. CanStep capacity roles.now step × (s.0 ≡ seat_of step) × (s.1 ≡ slot_of step)) }
 {
     match step {
         Step::Mark { seat, slot } => {
@@ -76,13 +70,16 @@ fn seat_and_slot(capacity: usize, roles: &[Role], step: Step) -> Option<(usize, 
 }
 
 impl StepMachine {
-    ghost use Rattle.futures_buffered_table.specs.Machine.{IsNew, IsPlaced, LeadsOn, May, Steps};
-    ghost use Rattle.futures_buffered_table.specs.declared.answer.NewFault.TheVariants.{TooLarge};
+    ghost use Rattle.futures_buffered_table.specs.StepMachine.{CanMake, IsLedTo, IsNew, LeadsOn, MakesStep, PlacesSlots};
+    ghost use Rattle.futures_buffered_table.specs.Answer.{RefusesTooLarge};
 
-    /// A machine for an empty list of so many slots. Tests the capacity before it asks for memory.
+    /// A machine for an empty list of so many slots.
+    ///
+    /// Takes time and memory in proportion to the capacity. It is `TooLarge` before any memory is
+    /// asked for, and `Memory` where a request is refused; then nothing is kept.
     pub fn new(alloc: Global, capacity: usize) -> Result<StepMachine, NewFault>
         ensures ok { IfOk result (IsNew capacity) }
-        ensures too_large { (result ≡ Err TooLarge) ↔ (MAX_CAPACITY < capacity) }
+        ensures refuses { RefusesTooLarge capacity result }
     {
         if capacity > MAX_CAPACITY {
             return Err(NewFault::TooLarge);
@@ -100,12 +97,16 @@ impl StepMachine {
         })
     }
 
-    /// Makes a step, in constant time and with no memory. None where the step cannot be made.
+    /// Makes a step, in constant time, with no lock and no memory.
+    ///
+    /// None where the step cannot be made: then the machine is as it was.
     pub fn step(&mut self, step: Step) -> Option<StepReply>
-        ensures refused { IfNone result ((May self.old step → ⊥) × (self.new ≡ self.old)) }
-        ensures made { IfSome result (λ reply. May self.old step × Steps self.old step self.new reply) }
+        ensures refused { IfNone result ((CanMake self.old step → ⊥) × (self.new ≡ self.old)) }
+        ensures made { IfSome result (λ reply. CanMake self.old step
+            × MakesStep self.old step self.new reply) }
         ensures leads { IfSome result (LeadsOn self.old step self.new) }
-        ensures placed { ∥ IsPlaced self.new ∥₁ }
+        ensures reached { ∥ IsLedTo self.new ∥₁ }
+        ensures placed { PlacesSlots self.new }
     {
         let (seat, slot) = seat_and_slot(self.capacity, self.roles.as_slice(), step)?;
         let role = self.roles[seat];

@@ -1,12 +1,12 @@
 //! A taking: the steps of the poll seat, from its head.
 ghost use Rattle.std.specs.Prelude.{◌≡◌, ◌≢◌, ℕ, ◌+◌, ◌<◌, ◌≤◌, List, [], ◌∷◌, ◌++◌};
-ghost use Rattle.futures_buffered_table.specs.declared.answer.Taken.TheVariants.{Empty};
-ghost use Rattle.futures_buffered_table.specs.declared.view.Made.{Made};
-ghost use Rattle.futures_buffered_table.specs.declared.view.Made.TheVariants.{LinkClear, TailSwap, LinkWrite, LinkRead, TailRead, Unmark};
+ghost use Rattle.futures_buffered_table.specs.declared.answer.Taken.TheVariants.{Empty, Slot};
+ghost use Rattle.futures_buffered_table.specs.declared.view.AtomicStep.{AtomicStep};
+ghost use Rattle.futures_buffered_table.specs.declared.view.AtomicStep.TheVariants.{LinkClear, TailSwap, LinkWrite, LinkRead, TailRead, Unmark};
 ghost use Rattle.futures_buffered_table.specs.declared.view.Phase.TheVariants.{Start, AtStub, Moved, NoNext, Last, StubCleared, StubPut, StubLinked, InHand};
 ghost use Rattle.futures_buffered_table.specs.declared.view.Role.TheVariants.{Polls};
-ghost use Rattle.futures_buffered_table.specs.OneStep.{role_after};
-ghost use Rattle.futures_buffered_table.specs.Shapes.{IsAtLast, IsFromSlot, IsTaking};
+ghost use Rattle.futures_buffered_table.specs.Effect.{next_role};
+ghost use Rattle.futures_buffered_table.specs.Taking.{IsAtLast, IsFromSlot, IsTaking};
 
 use crate::answer::Taken;
 use crate::ready_list::{PollSeat, ReadyList};
@@ -15,52 +15,56 @@ use crate::view::View;
 use atomic_table::Seat;
 
 impl ReadyList {
-    ghost use Rattle.futures_buffered_table.specs.Takings.{Sits, Came};
+    ghost use Rattle.futures_buffered_table.specs.ReadyList.{IsInRole, Adds};
 
-    // The link of the head, as a taking begins.
+    // Reads the link of the head, as a taking begins.
     fn read_first(&self, seat: &mut Seat<u8, View>, head: usize) -> usize
         requires list { seat.old.table_id ≡ self.now.list }
-        requires phase { Sits self.now.capacity (Polls head Start) seat.old × (head ≤ self.now.capacity) }
-        ensures low { (result ≤ self.now.capacity + 1) × (head ≡ self.now.capacity → result ≤ self.now.capacity) }
-        ensures phase { Sits self.now.capacity (role_after self.now.capacity 0 (Polls head Start) result) seat.new }
-        ensures came { Came seat.old seat.new (LinkRead head result ∷ []) }
+        requires phase { IsInRole self.now.capacity (Polls head Start) seat.old
+            × (head ≤ self.now.capacity) }
+        ensures low { (result ≤ self.now.capacity + 1)
+            × (head ≡ self.now.capacity → result ≤ self.now.capacity) }
+        ensures phase { IsInRole self.now.capacity
+            (next_role self.now.capacity 0 (Polls head Start) result) seat.new }
+        ensures came { Adds seat.old seat.new (LinkRead head result ∷ []) }
     {
         self.table
             .shared
             .load::<SeatStep>(seat, self.capacity + head) as usize
     }
 
-    // The tail, where the head is a slot whose link named none.
+    // Reads the tail, where the head is a slot whose link named none.
     fn read_tail(&self, seat: &mut Seat<u8, View>, head: usize) -> usize
         requires list { seat.old.table_id ≡ self.now.list }
-        requires phase { Sits self.now.capacity (Polls head NoNext) seat.old }
-        ensures phase { Sits self.now.capacity (role_after self.now.capacity 0 (Polls head NoNext) result) seat.new }
-        ensures came { Came seat.old seat.new (TailRead result ∷ []) }
+        requires phase { IsInRole self.now.capacity (Polls head NoNext) seat.old }
+        ensures phase { IsInRole self.now.capacity
+            (next_role self.now.capacity 0 (Polls head NoNext) result) seat.new }
+        ensures came { Adds seat.old seat.new (TailRead result ∷ []) }
     {
         self.table
             .shared
             .load::<SeatStep>(seat, self.capacity + self.capacity + 1) as usize
     }
 
-    // The stub's link names none.
+    // Clears the stub's link.
     fn clear_stub(&self, seat: &mut Seat<u8, View>, head: usize)
         requires list { seat.old.table_id ≡ self.now.list }
-        requires phase { Sits self.now.capacity (Polls head Last) seat.old }
-        ensures phase { Sits self.now.capacity (Polls head StubCleared) seat.new }
-        ensures came { Came seat.old seat.new (LinkClear self.now.capacity ∷ []) }
+        requires phase { IsInRole self.now.capacity (Polls head Last) seat.old }
+        ensures phase { IsInRole self.now.capacity (Polls head StubCleared) seat.new }
+        ensures came { Adds seat.old seat.new (LinkClear self.now.capacity ∷ []) }
     {
         self.table
             .shared
             .store::<SeatStep>(seat, self.capacity + self.capacity, 0);
     }
 
-    // The stub becomes the tail.
+    // Puts the stub into the tail word, and answers the entry that stood there.
     fn swap_stub(&self, seat: &mut Seat<u8, View>, head: usize) -> usize
         requires list { seat.old.table_id ≡ self.now.list }
-        requires phase { Sits self.now.capacity (Polls head StubCleared) seat.old }
+        requires phase { IsInRole self.now.capacity (Polls head StubCleared) seat.old }
         ensures low { result ≤ self.now.capacity }
-        ensures phase { Sits self.now.capacity (Polls head (StubPut result)) seat.new }
-        ensures came { Came seat.old seat.new (TailSwap self.now.capacity result ∷ []) }
+        ensures phase { IsInRole self.now.capacity (Polls head (StubPut result)) seat.new }
+        ensures came { Adds seat.old seat.new (TailSwap self.now.capacity result ∷ []) }
     {
         self.table.shared.swap::<SeatStep>(
             seat,
@@ -69,73 +73,83 @@ impl ReadyList {
         ) as usize
     }
 
-    // The entry before the stub names it.
+    // Lets the entry before the stub name it.
     fn link_stub(&self, seat: &mut Seat<u8, View>, head: usize, before: usize)
         requires list { seat.old.table_id ≡ self.now.list }
-        requires phase { Sits self.now.capacity (Polls head (StubPut before)) seat.old × (before ≤ self.now.capacity) }
-        ensures phase { Sits self.now.capacity (Polls head StubLinked) seat.new }
-        ensures came { Came seat.old seat.new (LinkWrite before self.now.capacity ∷ []) }
+        requires phase { IsInRole self.now.capacity (Polls head (StubPut before)) seat.old
+            × (before ≤ self.now.capacity) }
+        ensures phase { IsInRole self.now.capacity (Polls head StubLinked) seat.new }
+        ensures came { Adds seat.old seat.new (LinkWrite before self.now.capacity ∷ []) }
     {
         self.table
             .shared
             .store::<SeatStep>(seat, self.capacity + before, self.capacity as u64 + 1);
     }
 
-    // The link of a slot to which the stub gave way.
+    // Reads the link of a slot, to which the head moved from the stub.
     fn read_slot(&self, seat: &mut Seat<u8, View>, head: usize) -> usize
         requires list { seat.old.table_id ≡ self.now.list }
-        requires phase { Sits self.now.capacity (Polls head Moved) seat.old × (head ≤ self.now.capacity) }
+        requires phase { IsInRole self.now.capacity (Polls head Moved) seat.old
+            × (head ≤ self.now.capacity) }
         ensures low { result ≤ self.now.capacity + 1 }
-        ensures phase { Sits self.now.capacity (role_after self.now.capacity 0 (Polls head Moved) result) seat.new }
-        ensures came { Came seat.old seat.new (LinkRead head result ∷ []) }
+        ensures phase { IsInRole self.now.capacity
+            (next_role self.now.capacity 0 (Polls head Moved) result) seat.new }
+        ensures came { Adds seat.old seat.new (LinkRead head result ∷ []) }
     {
         self.table
             .shared
             .load::<SeatStep>(seat, self.capacity + head) as usize
     }
 
-    // The link of the head, now that the stub stands behind it.
+    // Reads the link of the head again, now that the stub stands behind it.
     fn read_again(&self, seat: &mut Seat<u8, View>, head: usize) -> usize
         requires list { seat.old.table_id ≡ self.now.list }
-        requires phase { Sits self.now.capacity (Polls head StubLinked) seat.old × (head ≤ self.now.capacity) }
+        requires phase { IsInRole self.now.capacity (Polls head StubLinked) seat.old
+            × (head ≤ self.now.capacity) }
         ensures low { result ≤ self.now.capacity + 1 }
-        ensures phase { Sits self.now.capacity (role_after self.now.capacity 0 (Polls head StubLinked) result) seat.new }
-        ensures came { Came seat.old seat.new (LinkRead head result ∷ []) }
+        ensures phase { IsInRole self.now.capacity
+            (next_role self.now.capacity 0 (Polls head StubLinked) result) seat.new }
+        ensures came { Adds seat.old seat.new (LinkRead head result ∷ []) }
     {
         self.table
             .shared
             .load::<SeatStep>(seat, self.capacity + head) as usize
     }
 
-    // The tail, where the head is the stub, whose link named none.
+    // Reads the tail, where the head is the stub, whose link named none.
     fn read_tail_first(&self, seat: &mut Seat<u8, View>, head: usize) -> usize
         requires list { seat.old.table_id ≡ self.now.list }
-        requires phase { Sits self.now.capacity (Polls head AtStub) seat.old }
-        ensures phase { Sits self.now.capacity (Polls head Start) seat.new }
-        ensures came { Came seat.old seat.new (TailRead result ∷ []) }
+        requires phase { IsInRole self.now.capacity (Polls head AtStub) seat.old }
+        ensures phase { IsInRole self.now.capacity (Polls head Start) seat.new }
+        ensures came { Adds seat.old seat.new (TailRead result ∷ []) }
     {
         self.table
             .shared
             .load::<SeatStep>(seat, self.capacity + self.capacity + 1) as usize
     }
 
-    // The slot's mark is clear.
+    // Clears the slot's mark.
     fn unmark(&self, seat: &mut Seat<u8, View>, head: usize, slot: usize)
         requires list { seat.old.table_id ≡ self.now.list }
-        requires phase { Sits self.now.capacity (Polls head (InHand slot)) seat.old × (slot ≤ self.now.capacity) }
-        ensures phase { Sits self.now.capacity (Polls head Start) seat.new }
-        ensures came { Came seat.old seat.new (Unmark slot ∷ []) }
+        requires phase { IsInRole self.now.capacity (Polls head (InHand slot)) seat.old
+            × (slot ≤ self.now.capacity) }
+        ensures phase { IsInRole self.now.capacity (Polls head Start) seat.new }
+        ensures came { Adds seat.old seat.new (Unmark slot ∷ []) }
     {
         self.table.shared.store::<SeatStep>(seat, slot, 0);
     }
 
-    // The head is a slot whose link named none.
+    // Goes on with a taking whose head is a slot whose link named none.
     fn take_last(&self, seat: &mut Seat<u8, View>, head: usize) -> (usize, Taken)
         requires list { seat.old.table_id ≡ self.now.list }
-        requires phase { Sits self.now.capacity (Polls head NoNext) seat.old × (head < self.now.capacity) }
-        ensures phase { Sits self.now.capacity (Polls result.0 Start) seat.new × (result.0 ≤ self.now.capacity) }
+        requires phase { IsInRole self.now.capacity (Polls head NoNext) seat.old
+            × (head < self.now.capacity) }
+        ensures phase { IsInRole self.now.capacity (Polls result.0 Start) seat.new
+            × (result.0 ≤ self.now.capacity) }
         ensures never { result.1 ≢ Empty }
-        ensures shape { (shape : List Made) × Came seat.old seat.new shape × IsAtLast self.now.capacity head shape result.1 result.0 }
+        ensures named { (slot : ℕ) → result.1 ≡ Slot slot → slot < self.now.capacity }
+        ensures shape { (shape : List AtomicStep) × Adds seat.old seat.new shape
+            × IsAtLast self.now.capacity head shape result.1 result.0 }
     {
         if self.read_tail(seat, head) != head {
             return (head, Taken::Pause);
@@ -151,13 +165,17 @@ impl ReadyList {
         (found - 1, Taken::Slot(head))
     }
 
-    // The head is a slot, to which the stub gave way.
+    // Goes on with a taking whose head moved from the stub to this slot.
     fn take_slot(&self, seat: &mut Seat<u8, View>, head: usize) -> (usize, Taken)
         requires list { seat.old.table_id ≡ self.now.list }
-        requires phase { Sits self.now.capacity (Polls head Moved) seat.old × (head < self.now.capacity) }
-        ensures phase { Sits self.now.capacity (Polls result.0 Start) seat.new × (result.0 ≤ self.now.capacity) }
+        requires phase { IsInRole self.now.capacity (Polls head Moved) seat.old
+            × (head < self.now.capacity) }
+        ensures phase { IsInRole self.now.capacity (Polls result.0 Start) seat.new
+            × (result.0 ≤ self.now.capacity) }
         ensures never { result.1 ≢ Empty }
-        ensures shape { (shape : List Made) × Came seat.old seat.new shape × IsFromSlot self.now.capacity head shape result.1 result.0 }
+        ensures named { (slot : ℕ) → result.1 ≡ Slot slot → slot < self.now.capacity }
+        ensures shape { (shape : List AtomicStep) × Adds seat.old seat.new shape
+            × IsFromSlot self.now.capacity head shape result.1 result.0 }
     {
         let found = self.read_slot(seat, head);
         if found == 0 {
@@ -167,12 +185,16 @@ impl ReadyList {
         (found - 1, Taken::Slot(head))
     }
 
-    // A taking, from this head: the head after it, and its answer.
+    // Makes a taking from this head, and answers the head after it and its answer.
     fn take_from(&self, seat: &mut Seat<u8, View>, head: usize) -> (usize, Taken)
         requires list { seat.old.table_id ≡ self.now.list }
-        requires phase { Sits self.now.capacity (Polls head Start) seat.old × (head ≤ self.now.capacity) }
-        ensures phase { Sits self.now.capacity (Polls result.0 Start) seat.new × (result.0 ≤ self.now.capacity) }
-        ensures shape { (shape : List Made) × Came seat.old seat.new shape × IsTaking self.now.capacity head shape result.1 result.0 }
+        requires phase { IsInRole self.now.capacity (Polls head Start) seat.old
+            × (head ≤ self.now.capacity) }
+        ensures phase { IsInRole self.now.capacity (Polls result.0 Start) seat.new
+            × (result.0 ≤ self.now.capacity) }
+        ensures named { (slot : ℕ) → result.1 ≡ Slot slot → slot < self.now.capacity }
+        ensures shape { (shape : List AtomicStep) × Adds seat.old seat.new shape
+            × IsTaking self.now.capacity head shape result.1 result.0 }
     {
         let found = self.read_first(seat, head);
         if head == self.capacity {
@@ -192,13 +214,17 @@ impl ReadyList {
         (found - 1, Taken::Slot(head))
     }
 
-    /// Takes the slot that stands first, in two to eight atomic steps, none of them tried again, with no lock and no memory.
+    /// Takes the slot that stands first, in two to eight atomic steps, none of them tried again,
+    /// with no lock and no memory.
     ///
-    /// Empty says that its tail read found the stub, where the row held no slot. Pause says that some waker may stand between its tail swap and its link write.
+    /// Empty says that its tail read found the stub, where the row held no slot. Pause says that
+    /// some waker may stand between its tail swap and its link write.
     pub fn take(&self, seat: &mut PollSeat) -> Taken
         requires { seat.old.list ≡ self.now.list }
         ensures list { seat.new.list ≡ seat.old.list }
-        ensures shape { (shape : List Made) × (seat.new.steps ≡ seat.old.steps ++ shape) × IsTaking self.now.capacity seat.old.head shape result seat.new.head }
+        ensures named { (slot : ℕ) → result ≡ Slot slot → slot < self.now.capacity }
+        ensures shape { (shape : List AtomicStep) × (seat.new.steps ≡ seat.old.steps ++ shape)
+            × IsTaking self.now.capacity seat.old.head shape result seat.new.head }
     {
         let _ = &self.table;
         let (head, taken) = self.take_from(&mut seat.seat, seat.head);

@@ -1,22 +1,22 @@
 //! What a seat knows: where it is in its call, and which steps it made.
 use std::collections::LinkedList;
 
-/// A step that a seat made, with what it found.
+/// An atomic step that a seat made, with what it found.
 #[derive(Clone, Copy, Debug, PartialEq, Eq)]
-pub enum Made {
-    /// The slot, and what its mark was. The mark is set now.
+pub enum AtomicStep {
+    /// Sets a slot's mark: the slot, and what its mark was.
     MarkSwap(usize, u64),
-    /// The entry whose link names none now.
+    /// Clears an entry's link, which then names none: the entry.
     LinkClear(usize),
-    /// The entry that is the tail now, and the one that was.
+    /// Puts an entry into the tail word: the entry, and the one that stood there.
     TailSwap(usize, usize),
-    /// The first entry's link names the second now.
+    /// Lets the first entry's link name the second.
     LinkWrite(usize, usize),
-    /// The entry, and what its link was.
+    /// Reads an entry's link: the entry, and what the link holds, 0 or one more than an entry.
     LinkRead(usize, u64),
-    /// The entry that the tail named.
+    /// Reads the tail: the entry that it names.
     TailRead(usize),
-    /// The slot whose mark is clear now.
+    /// Clears a slot's mark: the slot.
     Unmark(usize),
 }
 
@@ -62,5 +62,5 @@ pub enum Role {
 pub struct View {
     pub stub: usize,
     pub role: Role,
-    pub steps: LinkedList<Made>,
+    pub steps: LinkedList<AtomicStep>,
 }

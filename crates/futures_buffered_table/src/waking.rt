@@ -1,10 +1,10 @@
 //! A wake: the steps of a wake seat.
 ghost use Rattle.std.specs.Prelude.{◌≡◌, ℕ, ◌<◌, ◌≤◌, List, [], ◌∷◌, ◌++◌};
-ghost use Rattle.futures_buffered_table.specs.declared.view.Made.{Made};
-ghost use Rattle.futures_buffered_table.specs.declared.view.Made.TheVariants.{MarkSwap, LinkClear, TailSwap, LinkWrite};
+ghost use Rattle.futures_buffered_table.specs.declared.view.AtomicStep.{AtomicStep};
+ghost use Rattle.futures_buffered_table.specs.declared.view.AtomicStep.TheVariants.{MarkSwap, LinkClear, TailSwap, LinkWrite};
 ghost use Rattle.futures_buffered_table.specs.declared.view.Role.TheVariants.{Idle, Won, Cleared, Swapped};
-ghost use Rattle.futures_buffered_table.specs.OneStep.{role_after};
-ghost use Rattle.futures_buffered_table.specs.Shapes.{IsWake};
+ghost use Rattle.futures_buffered_table.specs.Effect.{next_role};
+ghost use Rattle.futures_buffered_table.specs.Waking.{IsWake};
 
 use crate::answer::Woke;
 use crate::ready_list::{ReadyList, WakeSeat};
@@ -13,74 +13,82 @@ use crate::view::View;
 use atomic_table::Seat;
 
 impl ReadyList {
-    ghost use Rattle.futures_buffered_table.specs.Takings.{Sits, Came};
+    ghost use Rattle.futures_buffered_table.specs.ReadyList.{IsInRole, Adds};
 
-    // The slot's mark is set: what it was.
+    // Sets the slot's mark, and answers what it was.
     fn swap_mark(&self, seat: &mut Seat<u8, View>, slot: usize) -> u64
         requires list { seat.old.table_id ≡ self.now.list }
-        requires phase { Sits self.now.capacity Idle seat.old × (slot < self.now.capacity) }
+        requires phase { IsInRole self.now.capacity Idle seat.old × (slot < self.now.capacity) }
         ensures low { result ≤ 1 }
-        ensures phase { Sits self.now.capacity (role_after self.now.capacity slot Idle result) seat.new }
-        ensures came { Came seat.old seat.new (MarkSwap slot result ∷ []) }
+        ensures phase { IsInRole self.now.capacity (next_role self.now.capacity slot Idle result)
+            seat.new }
+        ensures came { Adds seat.old seat.new (MarkSwap slot result ∷ []) }
     {
         self.table.shared.swap::<SeatStep>(seat, slot, 1)
     }
 
-    // The slot's link names none.
+    // Clears the slot's link.
     fn clear_link(&self, seat: &mut Seat<u8, View>, slot: usize)
         requires list { seat.old.table_id ≡ self.now.list }
-        requires phase { Sits self.now.capacity (Won slot) seat.old × (slot < self.now.capacity) }
-        ensures phase { Sits self.now.capacity (Cleared slot) seat.new }
-        ensures came { Came seat.old seat.new (LinkClear slot ∷ []) }
+        requires phase { IsInRole self.now.capacity (Won slot) seat.old
+            × (slot < self.now.capacity) }
+        ensures phase { IsInRole self.now.capacity (Cleared slot) seat.new }
+        ensures came { Adds seat.old seat.new (LinkClear slot ∷ []) }
     {
         self.table
             .shared
             .store::<SeatStep>(seat, self.capacity + slot, 0);
     }
 
-    // The slot becomes the tail: the entry that was.
+    // Puts the slot into the tail word, and answers the entry that stood there.
     fn swap_tail(&self, seat: &mut Seat<u8, View>, slot: usize) -> usize
         requires list { seat.old.table_id ≡ self.now.list }
-        requires phase { Sits self.now.capacity (Cleared slot) seat.old × (slot < self.now.capacity) }
+        requires phase { IsInRole self.now.capacity (Cleared slot) seat.old
+            × (slot < self.now.capacity) }
         ensures low { result ≤ self.now.capacity }
-        ensures phase { Sits self.now.capacity (Swapped slot result) seat.new }
-        ensures came { Came seat.old seat.new (TailSwap slot result ∷ []) }
+        ensures phase { IsInRole self.now.capacity (Swapped slot result) seat.new }
+        ensures came { Adds seat.old seat.new (TailSwap slot result ∷ []) }
     {
         self.table
             .shared
             .swap::<SeatStep>(seat, self.capacity + self.capacity + 1, slot as u64) as usize
     }
 
-    // The entry before the slot names it.
+    // Lets the entry before the slot name it.
     fn write_link(&self, seat: &mut Seat<u8, View>, slot: usize, before: usize)
         requires list { seat.old.table_id ≡ self.now.list }
-        requires phase { Sits self.now.capacity (Swapped slot before) seat.old × (slot < self.now.capacity) × (before ≤ self.now.capacity) }
-        ensures phase { Sits self.now.capacity Idle seat.new }
-        ensures came { Came seat.old seat.new (LinkWrite before slot ∷ []) }
+        requires phase { IsInRole self.now.capacity (Swapped slot before) seat.old
+            × (slot < self.now.capacity) × (before ≤ self.now.capacity) }
+        ensures phase { IsInRole self.now.capacity Idle seat.new }
+        ensures came { Adds seat.old seat.new (LinkWrite before slot ∷ []) }
     {
         self.table
             .shared
             .store::<SeatStep>(seat, self.capacity + before, slot as u64 + 1);
     }
 
-    // The slot that was won stands last in the row.
+    // Puts the slot, which this seat won, into the row as its last entry.
     fn put_in(&self, seat: &mut Seat<u8, View>, slot: usize)
         requires list { seat.old.table_id ≡ self.now.list }
-        requires phase { Sits self.now.capacity (Won slot) seat.old × (slot < self.now.capacity) }
-        ensures phase { Sits self.now.capacity Idle seat.new }
-        ensures came { (p : ℕ) × Came seat.old seat.new (LinkClear slot ∷ TailSwap slot p ∷ LinkWrite p slot ∷ []) }
+        requires phase { IsInRole self.now.capacity (Won slot) seat.old
+            × (slot < self.now.capacity) }
+        ensures phase { IsInRole self.now.capacity Idle seat.new }
+        ensures came { (p : ℕ) × Adds seat.old seat.new
+            (LinkClear slot ∷ TailSwap slot p ∷ LinkWrite p slot ∷ []) }
     {
         self.clear_link(seat, slot);
         let before = self.swap_tail(seat, slot);
         self.write_link(seat, slot, before);
     }
 
-    /// Marks the slot, and puts it in if it was not marked: one atomic step or four, none of them tried again, with no lock and no memory.
+    /// Marks the slot, and puts it in if it was not marked: one atomic step or four, none of them
+    /// tried again, with no lock and no memory.
     pub fn wake(&self, seat: &mut WakeSeat, slot: usize) -> Woke
         requires list { seat.old.list ≡ self.now.list }
         requires slot { slot < self.now.capacity }
         ensures list { seat.new.list ≡ seat.old.list }
-        ensures shape { (shape : List Made) × (seat.new.steps ≡ seat.old.steps ++ shape) × IsWake slot shape result }
+        ensures shape { (shape : List AtomicStep) × (seat.new.steps ≡ seat.old.steps ++ shape)
+            × IsWake slot shape result }
     {
         let _ = &self.table;
         if self.swap_mark(&mut seat.seat, slot) != 0 {

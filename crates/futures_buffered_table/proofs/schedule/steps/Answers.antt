@@ -1,12 +1,13 @@
 use Rattle.std.proofs.Common.{rules, get_or, take, ◌≡◌, ◌++◌, [], ◌∷◌, sym, ap, ◌∙◌, subst}
-use Rattle.std.proofs.lemmas.List.{take_more}
+use Rattle.std.proofs.lemmas.List.{take_more, take_all}
 use Rattle.futures_buffered_table.specs.declared.step.Step.{Step}
 use Rattle.futures_buffered_table.specs.declared.step.Step.TheVariants.{Mark}
-use Rattle.futures_buffered_table.specs.Law.{AfterEach, AnswersInOrder, EmptyIsTrue, PauseHasCause}
+use Rattle.futures_buffered_table.specs.ScheduleLaw.{AfterEach, AnswersInOrder, EmptyIsTrue, PauseHasCause}
 use Rattle.futures_buffered_table.specs.Schedule.{at_start, Legal, IsStuckAt}
-use Rattle.futures_buffered_table.proofs.LawfulLemmas.{in_order, empties, pauses}
-use Rattle.futures_buffered_table.proofs.ReachesLemmas.{elem_at, stuck_here, take_all, whole}
+use Rattle.futures_buffered_table.proofs.ScheduleLawLemmas.{in_order, empties, pauses}
+use Rattle.futures_buffered_table.proofs.StepMachineLemmas.{stuck_here, whole}
 use Rattle.futures_buffered_table.proofs.schedule.steps.Goals as goal
+use Rattle.futures_buffered_table.proofs.ListLemmas.{elem_at}
 
 pub loop-k-preserved : goal.loop-k-preserved
 loop-k-preserved c =

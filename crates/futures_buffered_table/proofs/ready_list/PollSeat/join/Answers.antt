@@ -1,13 +1,13 @@
 use Rattle.std.proofs.Common.{sym, ap, ◌∙◌, arith}
-use Rattle.futures_buffered_table.specs.Seats.{SharedList, Poller, Waker}
+use Rattle.futures_buffered_table.specs.ReadyList.{ListIdentity, Poller, Waker}
 use Rattle.futures_buffered_table.specs.Tally.{unmarks}
-use Rattle.futures_buffered_table.proofs.JoinedLemmas.{joins}
-use Rattle.futures_buffered_table.proofs.ClosingLemmas.{unmarks-append}
+use Rattle.futures_buffered_table.proofs.RuleLemmas.{joins}
+use Rattle.futures_buffered_table.proofs.TallyLemmas.{unmarks-append}
 use Rattle.futures_buffered_table.proofs.ready_list.PollSeat.join.Goals as goal
 
 pub join_seat-requires : goal.join_seat-requires
 join_seat-requires c =
-    let s = c.self.inside.seat in let o = c.other.inside.seat in let list = sym (ap (λ (l : SharedList). l.list) c.list.view_is) in (
+    let s = c.self.inside.seat in let o = c.other.inside.seat in let list = sym (ap (λ (l : ListIdentity). l.list) c.list.view_is) in (
       ap (λ (v : Poller). v.list) c.self.view_is ∙ (c.requires.0 ∙ list),
       ap (λ (v : Waker). v.list) c.other.view_is ∙ (c.requires.1 ∙ list),
       c.other.invariant.seat.empty,

@@ -1,16 +1,9 @@
-use Rattle.std.proofs.Common.{◌≡◌, ◌∙◌, ℕ, ◌+◌, ◌<◌, arith, refl, sym, ap}
-use Rattle.futures_buffered_table.specs.Seats.{SharedList}
+use Rattle.std.proofs.Common.{refl, arith}
 use Rattle.futures_buffered_table.specs.declared.view.Role.TheVariants.{Won}
-use Rattle.futures_buffered_table.proofs.TableStepsLemmas.{seated, is_seated, stores}
+use Rattle.futures_buffered_table.proofs.ReadyListLemmas.{may_store}
 use Rattle.futures_buffered_table.proofs.ready_list.ReadyList.clear_link.Goals as goal
 
 pub store-requires : goal.store-requires
 store-requires c =
-    let f = c.self.inside in let K = c.self.invariant in let s = c.args.seat.now in let n : ℕ = f.capacity in
-    let cap : n ≡ c.args.self.now.capacity = ap (λ (l : SharedList). l.capacity) c.self.view_is in
-    let here = c.requires.list ∙ sym (ap (λ (l : SharedList). l.list) c.self.view_is) in
-    let i : ℕ = c.args.slot in let sits = c.requires.phase.0 in
-    let is : s.me ≡ seated n (Won c.args.slot) s.me.0.steps = is_seated n (Won c.args.slot) s.me (sits.0 ∙ sym cap) sits.1 sits.2 in
-    let low = c.requires.phase.1 in
-    let b : i < n = let e = low in let d = cap in omega arith in
-    (here, (let a = K.words in let d = cap in omega arith), stores n _ _ (n + i) (Won c.args.slot) s.me.0.steps (λ e. absurd cc) (λ _ _ e. cc) refl _ s.me (0) K.keyed is (λ _. refl) (λ _. refl) tt)
+    may_store c.self.inside.table.shared.table_id _ c.self.inside.capacity c.self.invariant _ c.self.view_is c.args.seat.now c.requires.list (Won c.args.slot) c.requires.phase.0
+    _ (λ cap. tt) refl (λ cap. let a = c.requires.phase.1 in omega arith) 0 (λ _. refl) (λ _. refl) tt

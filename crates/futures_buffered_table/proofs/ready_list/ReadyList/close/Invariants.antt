@@ -1,5 +1,5 @@
 use Rattle.std.proofs.Common.{◌≡◌, ◌++◌, ℕ, All}
-use Rattle.futures_buffered_table.specs.Seats.{steps_of}
+use Rattle.futures_buffered_table.specs.Closing.{steps_of}
 use Rattle.futures_buffered_table.specs.Tally.{unmarks}
 use Rattle.futures_buffered_table.proofs.ready_list.ReadyList.close.Given as goal
 

@@ -1,15 +1,10 @@
-use Rattle.std.proofs.Common.{◌≡◌, ◌∙◌, ℕ, ◌+◌, arith, refl, sym, ap}
-use Rattle.futures_buffered_table.specs.Seats.{SharedList}
+use Rattle.std.proofs.Common.{refl, arith}
 use Rattle.futures_buffered_table.specs.declared.view.Phase.TheVariants.{StubLinked}
 use Rattle.futures_buffered_table.specs.declared.view.Role.TheVariants.{Polls}
-use Rattle.futures_buffered_table.proofs.TableStepsLemmas.{seated, is_seated, poll_steps}
+use Rattle.futures_buffered_table.proofs.ReadyListLemmas.{may_step}
 use Rattle.futures_buffered_table.proofs.ready_list.ReadyList.read_again.Goals as goal
 
 pub load-requires : goal.load-requires
 load-requires c =
-    let f = c.self.inside in let K = c.self.invariant in let s = c.args.seat.now in let n : ℕ = f.capacity in
-    let cap : n ≡ c.args.self.now.capacity = ap (λ (l : SharedList). l.capacity) c.self.view_is in
-    let here = c.requires.list ∙ sym (ap (λ (l : SharedList). l.list) c.self.view_is) in
-    let h : ℕ = c.args.head in let sits = c.requires.phase.0 in
-    let is : s.me ≡ seated n (Polls h StubLinked) s.me.0.steps = is_seated n (Polls h StubLinked) s.me (sits.0 ∙ sym cap) sits.1 sits.2 in
-    (here, (let a = K.words in let b = c.requires.phase.1 in let d = cap in omega arith), poll_steps n _ _ (n + h) h StubLinked s.me.0.steps refl _ s.me 0 0 (λ x. x) K.keyed is (λ _. refl))
+    may_step c.self.inside.table.shared.table_id _ c.self.inside.capacity c.self.invariant _ c.self.view_is c.args.seat.now c.requires.list (Polls c.args.head StubLinked) c.requires.phase.0
+    _ (λ cap. tt) refl (λ cap. let a = c.requires.phase.1 in omega arith) 0 0 (λ found. found) (λ _. refl)

@@ -1,0 +1,31 @@
+-- A list and its seats, as callers see them; and a seat of the table in the midst of a call.
+use Rattle.std.specs.Prelude.{ℕ, List, [], ◌++◌, ◌≡◌}
+use Rattle.atomic_table.specs.Seated.{TableId}
+use Rattle.futures_buffered_table.specs.declared.view.AtomicStep.{AtomicStep}
+use Rattle.atomic_table.specs.declared.shared.Seat.{Seat}
+use Rattle.futures_buffered_table.specs.declared.view.Role.{Role}
+use Rattle.futures_buffered_table.specs.declared.view.View.{View}
+
+pub record ListIdentity : Type 0 where
+  pub list : TableId
+  pub capacity : ℕ
+
+-- a wake seat between two wakes: its list, and the steps that it made
+pub record Waker : Type 0 where
+  pub list : TableId
+  pub steps : List AtomicStep
+
+-- the poll seat between two takings: its list, its head, and the steps that it made
+pub record Poller : Type 0 where
+  pub list : TableId
+  pub head : ℕ
+  pub steps : List AtomicStep
+
+-- the seat is one for n slots, in this role
+abbrev pub IsInRole : ℕ → Role → Seat ℕ View → Type 0
+IsInRole n role seat = (seat.me.0.stub ≡ n) × (seat.me.0.role ≡ role) × (seat.me.1 ≡ [])
+
+-- the same seat, which has made these steps more
+abbrev pub Adds : Seat ℕ View → Seat ℕ View → List AtomicStep → Type 0
+Adds before now shape = (now.table_id ≡ before.table_id)
+    × (now.me.0.steps ≡ before.me.0.steps ++ shape)

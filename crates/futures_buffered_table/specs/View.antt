@@ -1,0 +1,29 @@
+-- The views of seats: as they begin, are split, and go into another.
+use Rattle.std.specs.Prelude.{ℕ, List, [], ◌∷◌, ◌++◌, replicate}
+use Rattle.futures_buffered_table.specs.declared.view.Phase.TheVariants.{Start}
+use Rattle.futures_buffered_table.specs.declared.view.Role.{Role}
+use Rattle.futures_buffered_table.specs.declared.view.Role.TheVariants.{Idle, Polls}
+use Rattle.futures_buffered_table.specs.declared.view.View.{View}
+
+abbrev pub role_of : View → Role
+role_of v = v.role
+
+-- the poll seat's at first: its head is the stub
+abbrev pub first_poller : ℕ → View
+first_poller n = record { stub = n; role = Polls n Start; steps = [] }
+
+-- a new wake seat's, beside another seat of its list
+abbrev pub new_waker_beside : View → View
+new_waker_beside v = record { stub = v.stub; role = Idle; steps = [] }
+
+-- so many idle wake seats, and the poll seat
+abbrev pub first_views : ℕ → ℕ → List View
+first_views count n = replicate count (new_waker_beside (first_poller n)) ++ first_poller n ∷ []
+
+-- the seat that another went into keeps both lists
+abbrev pub with_steps_of : View → View → View
+with_steps_of v w = record { stub = v.stub; role = v.role; steps = v.steps ++ w.steps }
+
+-- a seat that went into another is idle, with an empty list
+abbrev pub spent_view : View
+spent_view = record { stub = 0; role = Idle; steps = [] }
