@@ -62,7 +62,11 @@ abbrev pub EndsWaiting : ℕ → List ℕ → List Taken → Type 0
 EndsWaiting limit names ended = ((length names < limit) × ((ended ≡ Empty ∷ []) ⊎ (ended ≡ Pause ∷ [])))
     ⊎ ((length names ≡ limit) × (ended ≡ []))
 
-module _ {F A S : Type 0} (polled : F → Poll A → F → Type 0) (registers : S → S → Type 0) (takes : S → Taken → S → Type 0) where
+-- the last answer of a source with this content was Empty
+abbrev pub SaidEmpty : {S : Type 0} → (S → Taken → S → Type 0) → S → Type 0
+SaidEmpty {S} takes new = (before : S) × takes before Empty new
+
+module _ {F A S : Type 0} (polled : ℕ → F → Poll A → F → Type 0) (registers : S → S → Type 0) (takes : S → Taken → S → Type 0) where
   -- the task was registered first; the source then gave these names, in order, and after them what ended the asking; the slots named were gone through
   pub record Runs (old : Bounded F S) (names : List ℕ) (ended : List Taken) (out : Option (ℕ × A)) (new : Bounded F S) : Type 0 where
     pub registered : S

@@ -1,7 +1,7 @@
 //! A set of as many futures as it has slots, yielded as they finish.
 //!
 //! Each future stands in a slot. A push marks its slot, and a future's waker marks it again. A poll takes the names of marked slots from the set's source, at most `POLL_LIMIT` of them, and polls what these slots hold until one is ready. A slot that nobody marked costs nothing.
-ghost use Rattle.std.specs.Prelude.{◌≡◌, ◌<◌, ◌≤◌, ◌+◌, ◌==◌, ◌↔◌, [], ℕ, List, IfOk, IfErr, OnOk, OnSome, IfSome, is_some, IsSome, IsTrue};
+ghost use Rattle.std.specs.Prelude.{◌≡◌, ◌<◌, ◌≤◌, ◌+◌, ◌==◌, ◌↔◌, [], ℕ, List, IfOk, IfErr, OnOk, OnSome, IfSome, is_some, IsSome, IsTrue, true, ◌⊎◌};
 ghost use Rattle.futures.specs.Task.{Covers, Keeps};
 ghost use Rattle.futures.specs.Runs.{After, Within};
 ghost use Rattle.futures.specs.Poll.{IfReady, OnPending};
@@ -9,7 +9,7 @@ ghost use Rattle.std.specs.Iterator.{IsFiniteIterable};
 ghost use Rattle.futures_buffered_core.specs.Drawn.{Draws, DrawsMoreThan};
 ghost use Rattle.futures_buffered_core.specs.SlotMap.{held, held_count, slot_count, no_slots};
 ghost use Rattle.futures_buffered_bounded.specs.Held.{AllHeld, AllHeldBut, EndsWith, ComesFrom};
-ghost use Rattle.futures_buffered_bounded.specs.FuturesUnorderedBounded.{HoldsEach, Pushes, PushesAt, AsksUntil, PollGives, with_empty_slot};
+ghost use Rattle.futures_buffered_bounded.specs.FuturesUnorderedBounded.{HoldsEach, Pushes, PushesAt, AsksUntil, PollGives, SaidEmpty, with_empty_slot};
 
 use crate::fused::{FusedStream, SizeHint};
 use crate::poll_one::{PollFuture, PollOne};
@@ -192,11 +192,12 @@ impl<F: Drop, S: ReadySource> FuturesUnorderedBounded<F, S> {
         ensures polled { AsksUntil R.polled S.registers S.takes self.old result self.new }
         ensures pollable { OnPending result (AllHeld R.can_poll self.new.slots) }
         ensures others { IfReady result (λ (i, _). AllHeldBut i R.can_poll self.new.slots) }
-        ensures last { IfReady result (λ (i, x). EndsWith R.polled x (held self.new.slots i)) }
+        ensures last { IfReady result (λ (i, x). EndsWith (R.polled i) x (held self.new.slots i)) }
         ensures count { held_count self.new.slots ≡ held_count self.old.slots }
         ensures capacity { slot_count self.new.slots ≡ slot_count self.old.slots }
         ensures same_slots { (j : ℕ) → is_some (held self.new.slots j) ≡ is_some (held self.old.slots j) }
         ensures covered { OnPending result (Covers cx.new (S.needs self.new.source)) }
+        ensures woken { OnPending result ((cx.new.is_woken ≡ true) ⊎ SaidEmpty S.takes self.new.source) }
         ensures kept { Keeps cx.old cx.new }
     {
         self.source.register(cx);
@@ -239,6 +240,7 @@ impl<F: Drop, S: ReadySource> FuturesUnorderedBounded<F, S> {
         ensures fewer { IfReady result (λ o. OnSome o (held_count self.new.slots + 1 ≡ held_count self.old.slots)) }
         ensures same { OnPending result (held_count self.new.slots ≡ held_count self.old.slots) }
         ensures covered { OnPending result (Covers cx.new (S.needs self.new.source)) }
+        ensures woken { OnPending result ((cx.new.is_woken ≡ true) ⊎ SaidEmpty S.takes self.new.source) }
         ensures kept { Keeps cx.old cx.new }
     {
         if self.slots.is_empty() {
@@ -272,6 +274,7 @@ impl<F: SlotFuture<S::Waker>, S: ReadySource> Stream for FuturesUnorderedBounded
         ensures goes { IfReady result (λ o. OnSome o (AllHeld F.can_poll self.new.slots)) }
         ensures again { OnPending result (AllHeld F.can_poll self.new.slots) }
         ensures registered { OnPending result (Covers cx.new (S.needs self.new.source)) }
+        ensures woken { OnPending result ((cx.new.is_woken ≡ true) ⊎ SaidEmpty S.takes self.new.source) }
         ensures kept { Keeps cx.old cx.new }
     {
         self.poll_with(&PollFuture, cx)

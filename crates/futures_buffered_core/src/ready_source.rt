@@ -17,6 +17,9 @@ use std::vec;
 
 /// Wakes one slot, any number of times, also once the set that it came from is gone.
 pub trait SlotWaker {
+    // The slots of which it is a waker: the one that a wake marks. One that does nothing is a waker of each.
+    ghost wakes: { Self → ℕ → Type 0 };
+
     /// Marks the slot; where that mark was fresh, wakes the task that registered last.
     fn wake(&self);
 }
@@ -58,7 +61,8 @@ pub trait ReadySource: Drop {
 
     /// The waker of a slot, made when the source was. Takes no memory.
     fn waker(&self, i: usize) -> &Self::Waker
-        requires { i < slots self.now };
+        requires { i < slots self.now }
+        ensures { Self.Waker.wakes result.now i };
 
     /// Keeps the waker of the task that polls, in place of the one kept before.
     fn register(&mut self, cx: &mut Context<'_>)
@@ -106,6 +110,10 @@ pub trait NewSource: ReadySource {
 pub struct Silent;
 
 impl SlotWaker for Silent {
+    ghost use Rattle.std.specs.Prelude.{⊤};
+
+    ghost wakes = { λ _ _. ⊤ };
+
     fn wake(&self) {}
 }
 
