@@ -15,11 +15,14 @@ use std::alloc::Global;
 use std::marker::Model;
 use std::vec;
 
-/// Wakes one slot, any number of times, also once the set that it came from is gone.
-pub trait SlotWaker {
+/// A waker, by the slots that are its own. A set hands wakers on by this trait alone, and so cannot wake.
+pub trait WakesSlot {
     // The slots of which it is a waker: the one that a wake marks. One that does nothing is a waker of each.
     ghost wakes: { Self → ℕ → Type 0 };
+}
 
+/// Wakes one slot, any number of times, also once the set that it came from is gone.
+pub trait SlotWaker: WakesSlot {
     /// Marks the slot; where that mark was fresh, wakes the task that registered last.
     fn wake(&self);
 }
@@ -29,7 +32,7 @@ pub trait SlotWaker {
 /// Beside the calls a source states what they may do: relations between its content before, the answer, and its content after. Each named slot is below the capacity, and the capacity stays: these are laws below.
 pub trait ReadySource: Drop {
     /// What wakes one slot.
-    type Waker: SlotWaker;
+    type Waker: WakesSlot;
 
     // The capacity: how many slots it has.
     ghost slots: { Self → ℕ };
@@ -88,8 +91,8 @@ pub trait ReadySource: Drop {
 
 /// A source that a set can make for itself.
 pub trait NewSource: ReadySource {
-    /// What making one needs besides memory, as a handle for locks.
-    type Env;
+    /// What making one needs besides memory, as a handle for locks. A set that grows keeps it.
+    type Env: Drop;
 
     // What a new source of this capacity may be.
     ghost made: { ℕ → Self → Type 0 };
@@ -109,11 +112,13 @@ pub trait NewSource: ReadySource {
 #[derive(Drop)]
 pub struct Silent;
 
-impl SlotWaker for Silent {
+impl WakesSlot for Silent {
     ghost use Rattle.std.specs.Prelude.{⊤};
 
     ghost wakes = { λ _ _. ⊤ };
+}
 
+impl SlotWaker for Silent {
     fn wake(&self) {}
 }
 
