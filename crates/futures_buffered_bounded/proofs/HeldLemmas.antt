@@ -7,7 +7,7 @@ use Rattle.std.proofs.lemmas.List.Sums.{sum_by-set}
 use Rattle.std.proofs.lemmas.Bool.{cases_eq, cases_lt}
 use Rattle.futures.specs.declared.task.Poll.{Poll}
 use Rattle.futures.specs.declared.task.Poll.TheVariants.{Ready, Pending}
-use Rattle.futures_buffered_core.specs.SlotMap.{Slots, held, held_count, no_slots, with_value, without}
+use Rattle.futures_buffered_core.specs.SlotMap.{Slots, held, held_count, no_slots, with_value, without, Inserts}
 use Rattle.futures_buffered_table.specs.declared.answer.Taken.{Taken}
 use Rattle.futures_buffered_table.specs.declared.answer.Taken.TheVariants.{Slot, Empty, Pause}
 use Rattle.futures_buffered_bounded.specs.Held.{AllHeld, AllHeldBut, EndsWith, Passes, Yields}
@@ -104,6 +104,11 @@ module _ {F A S : Type 0} (can_poll : F → Type 0) (polled : ℕ → F → Poll
     record { registered = so.registered; registers_first = so.registers_first; answers = so.answers; passed = so.passed },
     same,
   )
+
+-- what holds of all values and of the one that a push puts in holds of all after it
+pub AllHeld-push : {F : Type 0} (P : F → Type 0) (old new : Slots F) (i : ℕ) (value : F) → AllHeld P old → P value → Inserts old i value new → AllHeld P new
+AllHeld-push {F} P old new i value all here pushed q =
+    rw pushed.now_held (AllHeld-with P old i value all here q)
 
 -- where one value is another, the others may still be polled
 pub AllHeldBut-with : {F : Type 0} (P : F → Type 0) (m : Slots F) (i : ℕ) (f : F) → AllHeld P m → AllHeldBut i P (with_value m i f)

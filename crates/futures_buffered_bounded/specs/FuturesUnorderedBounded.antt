@@ -2,6 +2,8 @@
 use Rattle.std.specs.Prelude.{◌≡◌, ℕ, ◌<◌, ◌≤◌, List, [], ◌∷◌, ◌++◌, map, length, Option, Some, None, ◌⊎◌, refl}
 use Rattle.std.specs.List.{FoldsTo, range_with_len}
 use Rattle.std.specs.Coded.{Coded, code_by, coded×, coded_ℕ}
+use Rattle.futures.specs.Task.{Hears}
+use Rattle.futures.specs.declared.task.context.Context.{Context}
 use Rattle.futures.specs.declared.task.Poll.{Poll}
 use Rattle.futures.specs.declared.task.Poll.TheVariants.{Ready, Pending}
 use Rattle.futures_buffered_core.specs.SlotMap.{Slots, slots_code, held_count, all_slots, without, Inserts}
@@ -67,9 +69,17 @@ abbrev pub names_then : List ℕ → Option Taken → List Taken
 names_then names (Some last) = map Slot names ++ last ∷ []
 names_then names None = map Slot names
 
+-- This poll asks to be made again: it hears whatever it may wait for.
+abbrev pub AsksAgain : Context → Type 0
+AsksAgain cx = (s : ℕ) → Hears cx s
+
 -- the last answer of a source with this content was Empty
 abbrev pub SaidEmpty : {S : Type 0} → (S → Taken → S → Type 0) → S → Type 0
 SaidEmpty {S} takes new = (before : S) × takes before Empty new
+
+-- A pending set waits where its source does. One that holds nothing is never pending, and waits nowhere.
+abbrev pub NeedsWhileHeld : {F S : Type 0} → (S → ℕ → Type 0) → Bounded F S → ℕ → Type 0
+NeedsWhileHeld needs set n = (0 < held_count set.slots) × needs set.source n
 
 module _ {F A S : Type 0} (polled : ℕ → F → Poll A → F → Type 0) (registers : S → S → Type 0) (takes : S → Taken → S → Type 0) where
   -- The task was registered. Then the source gave these names, in order, and the last answer; the names passed over took the slots to these.

@@ -1,15 +1,16 @@
 //! A set of as many futures as it has slots, yielded as they finish.
 //!
 //! Each future stands in a slot. A push marks its slot, and a future's waker marks it again. A poll takes the names of marked slots from the set's source, at most `POLL_LIMIT` of them, and polls what these slots hold until one is ready. A slot that nobody marked costs nothing.
-ghost use Rattle.std.specs.Prelude.{◌≡◌, ◌<◌, ◌≤◌, ◌+◌, ◌==◌, ◌↔◌, [], ℕ, List, IfOk, IfErr, OnOk, OnSome, IfSome, is_some, IsSome, IsTrue, true, ◌⊎◌};
+ghost use Rattle.std.specs.Prelude.{◌≡◌, ◌<◌, ◌≤◌, ◌+◌, ◌==◌, ◌↔◌, [], ℕ, List, IfOk, IfErr, OnOk, OnSome, IfSome, is_some, IsSome, IsTrue, None, ◌⊎◌};
 ghost use Rattle.futures.specs.Task.{Covers, Keeps};
 ghost use Rattle.futures.specs.Runs.{After, Within};
 ghost use Rattle.futures.specs.Poll.{IfReady, OnPending};
 ghost use Rattle.std.specs.Iterator.{IsFiniteIterable};
 ghost use Rattle.futures_buffered_core.specs.Drawn.{Draws, DrawsMoreThan};
+ghost use Rattle.futures_buffered_core.specs.ReadyShared.{IsMadeShared, MarksShared};
 ghost use Rattle.futures_buffered_core.specs.SlotMap.{held, held_count, slot_count, no_slots};
 ghost use Rattle.futures_buffered_bounded.specs.Held.{AllHeld, AllHeldBut, EndsWith, ComesFrom};
-ghost use Rattle.futures_buffered_bounded.specs.FuturesUnorderedBounded.{HoldsEach, Pushes, PushesAt, AsksUntil, PollGives, SaidEmpty, with_empty_slot};
+ghost use Rattle.futures_buffered_bounded.specs.FuturesUnorderedBounded.{HoldsEach, Pushes, PushesAt, AsksAgain, AsksUntil, NeedsWhileHeld, PollGives, SaidEmpty, with_empty_slot};
 
 use crate::fused::{FusedStream, SizeHint};
 use crate::poll_one::{PollFuture, PollOne};
@@ -71,6 +72,21 @@ impl<F: Drop, S: ReadySource> FuturesUnorderedBounded<F, S> {
         })
     }
 
+    // An empty set of `cap` slots, over a source made for it.
+    fn with_new_source(env: &S::Env, alloc: Global, cap: usize) -> Result<Self, NewFault>
+    where
+        S: NewSource,
+        ensures empty { IfOk result (λ set. set.slots ≡ no_slots cap) }
+        ensures source { IfOk result (λ set. S.made cap set.source) }
+        ensures limit { IfOk result (λ set. set.limit ≡ POLL_LIMIT) }
+        ensures fits { IfOk result (λ _. cap ≤ MAX_CAPACITY) }
+        ensures large { (result ≡ Err NewFault.TooLarge) ↔ (MAX_CAPACITY < cap) }
+        ensures memory { result ≡ Err NewFault.Memory → cap ≤ MAX_CAPACITY }
+    {
+        let source = S::make(env, alloc, cap)?;
+        FuturesUnorderedBounded::with_source(alloc, source)
+    }
+
     /// A set without a free slot, which holds item k in slot k, each marked, in this order. It has as many slots as there are items, and a source made for it.
     ///
     /// Takes time and memory in proportion to that number. Where it is refused, the items that came are dropped: `TooLarge` where one more than `MAX_CAPACITY` came, and `Memory` where a request for memory was refused.
@@ -121,12 +137,20 @@ impl<F: Drop, S: ReadySource> FuturesUnorderedBounded<F, S> {
         self.slots.capacity()
     }
 
+    /// How many names one poll takes from the source, at most. It never changes.
+    pub fn limit(&self) -> usize
+        ensures { result ≡ self.now.limit }
+    {
+        self.limit
+    }
+
     /// Puts the value into the first free slot and marks that slot, so that a later poll polls it. A full set hands the value back.
     ///
     /// Takes the same time at any capacity. Polls nothing, and wakes nobody: a task that waits for this set polls it again by itself.
     pub fn try_push(&mut self, value: F) -> Result<(), F>
         ensures ok { OnOk result (Pushes S.marks self.old value self.new) }
         ensures count { OnOk result (held_count self.new.slots ≡ held_count self.old.slots + 1) }
+        ensures capacity { slot_count self.new.slots ≡ slot_count self.old.slots }
         ensures full { IfErr result (λ back. (back ≡ value) × (self.new ≡ self.old)
             × (self.old.slots.free ≡ []) × (held_count self.old.slots ≡ slot_count self.old.slots)) }
     {
@@ -138,6 +162,7 @@ impl<F: Drop, S: ReadySource> FuturesUnorderedBounded<F, S> {
     pub fn try_push_at(&mut self, value: F) -> Result<usize, F>
         ensures ok { IfOk result (λ i. PushesAt S.marks self.old i value self.new) }
         ensures count { OnOk result (held_count self.new.slots ≡ held_count self.old.slots + 1) }
+        ensures capacity { slot_count self.new.slots ≡ slot_count self.old.slots }
         ensures full { IfErr result (λ back. (back ≡ value) × (self.new ≡ self.old)
             × (self.old.slots.free ≡ []) × (held_count self.old.slots ≡ slot_count self.old.slots)) }
     {
@@ -151,6 +176,7 @@ impl<F: Drop, S: ReadySource> FuturesUnorderedBounded<F, S> {
         requires { held_count self.old.slots < slot_count self.old.slots }
         ensures pushed { Pushes S.marks self.old value self.new }
         ensures count { held_count self.new.slots ≡ held_count self.old.slots + 1 }
+        ensures capacity { slot_count self.new.slots ≡ slot_count self.old.slots }
     {
         match self.try_push(value) {
             Ok(()) => {}
@@ -163,6 +189,7 @@ impl<F: Drop, S: ReadySource> FuturesUnorderedBounded<F, S> {
         requires { held_count self.old.slots < slot_count self.old.slots }
         ensures pushed { PushesAt S.marks self.old result value self.new }
         ensures count { held_count self.new.slots ≡ held_count self.old.slots + 1 }
+        ensures capacity { slot_count self.new.slots ≡ slot_count self.old.slots }
     {
         match self.try_push_at(value) {
             Ok(i) => i,
@@ -192,12 +219,14 @@ impl<F: Drop, S: ReadySource> FuturesUnorderedBounded<F, S> {
         ensures polled { AsksUntil R.polled S.registers S.takes self.old result self.new }
         ensures pollable { OnPending result (AllHeld R.can_poll self.new.slots) }
         ensures others { IfReady result (λ (i, _). AllHeldBut i R.can_poll self.new.slots) }
+        ensures goes { IfReady result (λ (_, x). R.goes_on x → AllHeld R.can_poll self.new.slots) }
         ensures last { IfReady result (λ (i, x). EndsWith (R.polled i) x (held self.new.slots i)) }
         ensures count { held_count self.new.slots ≡ held_count self.old.slots }
         ensures capacity { slot_count self.new.slots ≡ slot_count self.old.slots }
+        ensures limit { self.new.limit ≡ self.old.limit }
         ensures same_slots { (j : ℕ) → is_some (held self.new.slots j) ≡ is_some (held self.old.slots j) }
         ensures covered { OnPending result (Covers cx.new (S.needs self.new.source)) }
-        ensures woken { OnPending result ((cx.new.is_woken ≡ true) ⊎ SaidEmpty S.takes self.new.source) }
+        ensures woken { OnPending result (AsksAgain cx.new ⊎ SaidEmpty S.takes self.new.source) }
         ensures kept { Keeps cx.old cx.new }
     {
         self.source.register(cx);
@@ -222,6 +251,7 @@ impl<F: Drop, S: ReadySource> FuturesUnorderedBounded<F, S> {
         requires { IsSome (held self.old.slots i) }
         ensures emptied { self.new ≡ with_empty_slot self.old i }
         ensures count { held_count self.new.slots + 1 ≡ held_count self.old.slots }
+        ensures capacity { slot_count self.new.slots ≡ slot_count self.old.slots }
     {
         self.slots.remove(i);
     }
@@ -239,8 +269,11 @@ impl<F: Drop, S: ReadySource> FuturesUnorderedBounded<F, S> {
         ensures pollable { AllHeld R.can_poll self.new.slots }
         ensures fewer { IfReady result (λ o. OnSome o (held_count self.new.slots + 1 ≡ held_count self.old.slots)) }
         ensures same { OnPending result (held_count self.new.slots ≡ held_count self.old.slots) }
+        ensures capacity { slot_count self.new.slots ≡ slot_count self.old.slots }
+        ensures limit { self.new.limit ≡ self.old.limit }
+        ensures untouched { result ≡ Poll.Ready None → cx.new ≡ cx.old }
         ensures covered { OnPending result (Covers cx.new (S.needs self.new.source)) }
-        ensures woken { OnPending result ((cx.new.is_woken ≡ true) ⊎ SaidEmpty S.takes self.new.source) }
+        ensures woken { OnPending result (AsksAgain cx.new ⊎ SaidEmpty S.takes self.new.source) }
         ensures kept { Keeps cx.old cx.new }
     {
         if self.slots.is_empty() {
@@ -261,7 +294,7 @@ impl<F: SlotFuture<S::Waker>, S: ReadySource> Stream for FuturesUnorderedBounded
 
     ghost can_poll = { λ set. AllHeld F.can_poll set.slots };
 
-    ghost needs = { λ set. S.needs set.source };
+    ghost needs = { NeedsWhileHeld S.needs };
 
     ghost yields = { λ set. ComesFrom F.polled set.slots };
 
@@ -273,31 +306,35 @@ impl<F: SlotFuture<S::Waker>, S: ReadySource> Stream for FuturesUnorderedBounded
         ensures same { OnPending result (Within (ComesFrom F.polled self.old.slots) (ComesFrom F.polled self.new.slots)) }
         ensures goes { IfReady result (λ o. OnSome o (AllHeld F.can_poll self.new.slots)) }
         ensures again { OnPending result (AllHeld F.can_poll self.new.slots) }
+        ensures fewer { IfReady result (λ o. OnSome o (held_count self.new.slots + 1 ≡ held_count self.old.slots)) }
+        ensures same_count { OnPending result (held_count self.new.slots ≡ held_count self.old.slots) }
+        ensures capacity { slot_count self.new.slots ≡ slot_count self.old.slots }
+        ensures limit { self.new.limit ≡ self.old.limit }
+        ensures untouched { result ≡ Poll.Ready None → cx.new ≡ cx.old }
         ensures registered { OnPending result (Covers cx.new (S.needs self.new.source)) }
-        ensures woken { OnPending result ((cx.new.is_woken ≡ true) ⊎ SaidEmpty S.takes self.new.source) }
+        ensures woken { OnPending result (AsksAgain cx.new ⊎ SaidEmpty S.takes self.new.source) }
         ensures kept { Keeps cx.old cx.new }
     {
         self.poll_with(&PollFuture, cx)
     }
 }
 
-impl<R: Wait + Clone + Drop, F: Drop> FuturesUnorderedBounded<F, SharedReady<R>> {
+impl<R: Wait + Clone + Drop + Send + Sync, F: Drop> FuturesUnorderedBounded<F, SharedReady<R>> {
+    ghost use Rattle.std.specs.Prelude.{List};
+
     /// A set whose values are woken from any thread. It keeps a copy of the handle.
+    ///
+    /// Takes time and memory in proportion to `cap`.
     pub fn new(env: &R, alloc: Global, cap: usize) -> Result<Self, NewFault>
         ensures empty { IfOk result (λ set. set.slots ≡ no_slots cap) }
-        ensures source { IfOk result (λ set. set.source.capacity ≡ cap) }
+        ensures source { IfOk result (λ set. IsMadeShared cap set.source) }
         ensures limit { IfOk result (λ set. set.limit ≡ POLL_LIMIT) }
         ensures fits { IfOk result (λ _. cap ≤ MAX_CAPACITY) }
         ensures large { (result ≡ Err NewFault.TooLarge) ↔ (MAX_CAPACITY < cap) }
         ensures memory { result ≡ Err NewFault.Memory → cap ≤ MAX_CAPACITY }
     {
-        let source = SharedReady::new(env, alloc, cap)?;
-        FuturesUnorderedBounded::with_source(alloc, source)
+        Self::with_new_source(env, alloc, cap)
     }
-}
-
-impl<R: Wait + Clone + Drop + Send + Sync, F: Drop> FuturesUnorderedBounded<F, SharedReady<R>> {
-    ghost use Rattle.std.specs.Prelude.{List};
 
     /// A set without a free slot, which holds item k in slot k, each marked, in this order, and whose values are woken from any thread. It is `over` with a shared source, and refuses as `over` does.
     pub fn from_iter<I: IntoIterator<Item = F>>(
@@ -308,7 +345,7 @@ impl<R: Wait + Clone + Drop + Send + Sync, F: Drop> FuturesUnorderedBounded<F, S
     where
         requires { IsFiniteIterable I.into_iter_gives I.IntoIter.can_next I.IntoIter.remaining iter }
         ensures holds { IfOk result (λ set. (items : List F) × Draws I.into_iter_gives I.IntoIter.next_gives iter items
-            × HoldsEach (λ cap source. source.capacity ≡ cap) (λ old _ _ new. new ≡ old) POLL_LIMIT items set) }
+            × HoldsEach IsMadeShared MarksShared POLL_LIMIT items set) }
         ensures fits { IfOk result (λ set. slot_count set.slots ≤ MAX_CAPACITY) }
         ensures large { result ≡ Err NewFault.TooLarge → DrawsMoreThan I.into_iter_gives I.IntoIter.next_gives iter MAX_CAPACITY }
     {
