@@ -7,7 +7,7 @@ ghost use Rattle.futures.specs.Runs.{After, Within};
 ghost use Rattle.futures.specs.Poll.{IfReady, OnPending};
 ghost use Rattle.std.specs.Iterator.{IsFiniteIterable};
 ghost use Rattle.futures_buffered_core.specs.Drawn.{Draws, DrawsMoreThan};
-ghost use Rattle.futures_buffered_core.specs.ReadyShared.{IsMadeShared, MarksShared};
+ghost use Rattle.futures_buffered_core.specs.ReadyShared.{IsNewShared, MarksShared};
 ghost use Rattle.futures_buffered_core.specs.SlotMap.{held, held_count, slot_count, no_slots};
 ghost use Rattle.futures_buffered_bounded.specs.Held.{AllHeld, AllHeldBut, EndsWith, ComesFrom};
 ghost use Rattle.futures_buffered_bounded.specs.FuturesUnorderedBounded.{HoldsEach, Pushes, PushesAt, AsksAgain, AsksUntil, NeedsWhileHeld, PollGives, SaidEmpty, with_empty_slot};
@@ -327,7 +327,7 @@ impl<R: Wait + Clone + Drop + Send + Sync, F: Drop> FuturesUnorderedBounded<F, S
     /// Takes time and memory in proportion to `cap`.
     pub fn new(env: &R, alloc: Global, cap: usize) -> Result<Self, NewFault>
         ensures empty { IfOk result (λ set. set.slots ≡ no_slots cap) }
-        ensures source { IfOk result (λ set. IsMadeShared cap set.source) }
+        ensures source { IfOk result (λ set. IsNewShared cap set.source) }
         ensures limit { IfOk result (λ set. set.limit ≡ POLL_LIMIT) }
         ensures fits { IfOk result (λ _. cap ≤ MAX_CAPACITY) }
         ensures large { (result ≡ Err NewFault.TooLarge) ↔ (MAX_CAPACITY < cap) }
@@ -345,7 +345,7 @@ impl<R: Wait + Clone + Drop + Send + Sync, F: Drop> FuturesUnorderedBounded<F, S
     where
         requires { IsFiniteIterable I.into_iter_gives I.IntoIter.can_next I.IntoIter.remaining iter }
         ensures holds { IfOk result (λ set. (items : List F) × Draws I.into_iter_gives I.IntoIter.next_gives iter items
-            × HoldsEach IsMadeShared MarksShared POLL_LIMIT items set) }
+            × HoldsEach IsNewShared MarksShared POLL_LIMIT items set) }
         ensures fits { IfOk result (λ set. slot_count set.slots ≤ MAX_CAPACITY) }
         ensures large { result ≡ Err NewFault.TooLarge → DrawsMoreThan I.into_iter_gives I.IntoIter.next_gives iter MAX_CAPACITY }
     {
