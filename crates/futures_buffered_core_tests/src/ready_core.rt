@@ -1,5 +1,7 @@
 //! A row of events and their replies, one by one and as a list.
-use super::*;
+use futures_buffered_core::ready_core::{
+    Event, MAX_CAPACITY, NewFault, ReadyCore, Reply, RunFault, Taken, Woke, run,
+};
 use std::test::Fail;
 
 const ROW: [(Event, Reply); 8] = [
