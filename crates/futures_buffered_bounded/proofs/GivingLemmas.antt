@@ -8,11 +8,11 @@ use Rattle.futures.specs.declared.task.Poll.TheVariants.{Ready, Pending}
 use Rattle.futures.specs.Poll.{IfReady, OnPending}
 use Rattle.futures.specs.Runs.{After, Within}
 use Rattle.futures.specs.Queued.{Gathers}
-use Rattle.futures_buffered_core.specs.SlotMap.{Slots, held, held_count, with_value, without}
+use Rattle.futures_buffered_core.specs.SlotMap.{Slots, value_in, held_count, with_value, with_slot_freed}
 use Rattle.futures_buffered_table.specs.declared.answer.Taken.{Taken}
 use Rattle.futures_buffered_bounded.specs.Held.{NamesRun, MayGive, AnyMayGive, ComesFrom}
 use Rattle.futures_buffered_bounded.specs.FuturesUnorderedBounded.{Bounded, PollGives}
-use Rattle.futures_buffered_bounded.proofs.HeldLemmas.{held-with}
+use Rattle.futures_buffered_bounded.proofs.HeldLemmas.{value_in-with_value}
 
 module _ {A : Type 0} {P Q : A → Type 0} (weaker : (x : A) → Q x → P x) where
   pub Gathers-Within : (m n : ℕ) → n ≡ m → Within (Gathers P m) (Gathers Q n)
@@ -24,25 +24,25 @@ module _ {A : Type 0} {P Q : A → Type 0} (weaker : (x : A) → Q x → P x) wh
   Gathers-After m n x fewer p xs (Some y) h =
       record { each = (p, AllByRecursion_weaker Q P xs weaker h.each); ends = (weaker y h.ends.0, let k = h.ends.1 in omega arith) }
 
-pub held-without : {F : Type 0} (m : Slots F) (i : ℕ) → held (without m i) i ≡ None
-held-without {F} m i =
+pub value_in-with_slot_freed : {F : Type 0} (m : Slots F) (i : ℕ) → value_in (with_slot_freed m i) i ≡ None
+value_in-with_slot_freed {F} m i =
     elim (cases_lt i (length m.places)) [
       | inl within ↦ get_or-set_same {A = Option F} m.places i None None within
       | inr past ↦ get_or_past {X = Option F} (set m.places i None) i None (omega (arith, length-set {A = Option F} m.places i None))
     ]
 
-pub held-without_other : {F : Type 0} (m : Slots F) (i j : ℕ) → j ≢ i → held (without m i) j ≡ held m j
-held-without_other {F} m i j other = get_or-set_other {A = Option F} m.places i j None None other
+pub value_in-with_slot_freed_other : {F : Type 0} (m : Slots F) (i j : ℕ) → j ≢ i → value_in (with_slot_freed m i) j ≡ value_in m j
+value_in-with_slot_freed_other {F} m i j other = get_or-set_other {A = Option F} m.places i j None None other
 
 pub None-Some : {F : Type 0} {f : F} → None ≡ Some f → ⊥
 None-Some e = cc
 
 module _ {F A : Type 0} (polled : F → Poll A → F → Type 0) where
   -- a pending poll adds nothing to what may be given
-  pub any-pending : (m : Slots F) (i : ℕ) (f f2 : F) (y : A) → held m i ≡ Some f → polled f Pending f2 → AnyMayGive polled (with_value m i f2) y → AnyMayGive polled m y
+  pub any-pending : (m : Slots F) (i : ℕ) (f f2 : F) (y : A) → value_in m i ≡ Some f → polled f Pending f2 → AnyMayGive polled (with_value m i f2) y → AnyMayGive polled m y
   any-pending m i f f2 y e h any =
       elim (cases_eq any.0 i) [
-        | inl same ↦ (i, f, e, from_next (Some-same (sym any.2 ∙ rw same (held-with m i f f2 (sym e)))) any.3)
+        | inl same ↦ (i, f, e, from_next (Some-same (sym any.2 ∙ rw same (value_in-with_value m i f f2 (sym e)))) any.3)
         | inr other ↦ (any.0, any.1, sym (get_or-set_other m.places i any.0 (Some f2) None other) ∙ any.2, any.3)
       ]
     where
@@ -54,9 +54,9 @@ module _ {F A : Type 0} (polled : F → Poll A → F → Type 0) where
 
   pub gives_ran : (names : List ℕ) (m left : Slots F) (y : A) → NamesRun polled m names None left → AnyMayGive polled left y → AnyMayGive polled m y
   gives_ran [] m left y ran any = subst (λ w. AnyMayGive polled w y) ran.1 any
-  gives_ran (j ∷ names) m left y ran any = by_held (held m j) (λ (w : Slots F) (r : NamesRun polled w names None left). gives_ran names w left y r any) refl ran
+  gives_ran (j ∷ names) m left y ran any = by_held (value_in m j) (λ (w : Slots F) (r : NamesRun polled w names None left). gives_ran names w left y r any) refl ran
     where
-      by_held : (o : Option F) → ((w : Slots F) → NamesRun polled w names None left → AnyMayGive polled w y) → held m j ≡ o
+      by_held : (o : Option F) → ((w : Slots F) → NamesRun polled w names None left → AnyMayGive polled w y) → value_in m j ≡ o
           → MatchOption o (NamesRun polled m names None left) (λ f. ((f2 : F) × polled f Pending f2 × NamesRun polled (with_value m j f2) names None left) ⊎ ((x : A) × (f2 : F) × polled f (Ready x) f2 × (names ≡ []) × (◌≡◌ {A = Option (ℕ × A)} None (Some (j, x))) × (left ≡ with_value m j f2)))
           → AnyMayGive polled m y
       by_held None again e ran = again m ran
@@ -64,13 +64,13 @@ module _ {F A : Type 0} (polled : F → Poll A → F → Type 0) where
       by_held (Some f) again e (inr h) = let e = h.4 in cc
 
   -- the output was one that might be given, and so is what the others may give once its slot is empty
-  pub gives_out : (names : List ℕ) (m left : Slots F) (i : ℕ) (x : A) → NamesRun polled m names (Some (i, x)) left → AnyMayGive polled m x × ((y : A) → AnyMayGive polled (without left i) y → AnyMayGive polled m y)
+  pub gives_out : (names : List ℕ) (m left : Slots F) (i : ℕ) (x : A) → NamesRun polled m names (Some (i, x)) left → AnyMayGive polled m x × ((y : A) → AnyMayGive polled (with_slot_freed left i) y → AnyMayGive polled m y)
   gives_out [] m left i x ran = let e = ran.0 in cc
-  gives_out (j ∷ names) m left i x ran = by_held (held m j) (λ (w : Slots F) (r : NamesRun polled w names (Some (i, x)) left). gives_out names w left i x r) refl ran
+  gives_out (j ∷ names) m left i x ran = by_held (value_in m j) (λ (w : Slots F) (r : NamesRun polled w names (Some (i, x)) left). gives_out names w left i x r) refl ran
     where
-      by_held : (o : Option F) → ((w : Slots F) → NamesRun polled w names (Some (i, x)) left → AnyMayGive polled w x × ((y : A) → AnyMayGive polled (without left i) y → AnyMayGive polled w y)) → held m j ≡ o
+      by_held : (o : Option F) → ((w : Slots F) → NamesRun polled w names (Some (i, x)) left → AnyMayGive polled w x × ((y : A) → AnyMayGive polled (with_slot_freed left i) y → AnyMayGive polled w y)) → value_in m j ≡ o
           → MatchOption o (NamesRun polled m names (Some (i, x)) left) (λ f. ((f2 : F) × polled f Pending f2 × NamesRun polled (with_value m j f2) names (Some (i, x)) left) ⊎ ((z : A) × (f2 : F) × polled f (Ready z) f2 × (names ≡ []) × (◌≡◌ {A = Option (ℕ × A)} (Some (i, x)) (Some (j, z))) × (left ≡ with_value m j f2)))
-          → AnyMayGive polled m x × ((y : A) → AnyMayGive polled (without left i) y → AnyMayGive polled m y)
+          → AnyMayGive polled m x × ((y : A) → AnyMayGive polled (with_slot_freed left i) y → AnyMayGive polled m y)
       by_held None again e ran = again m ran
       by_held (Some f) again e (inl h) =
           let more = again (with_value m j h.0) h.2 in
@@ -81,14 +81,14 @@ module _ {F A : Type 0} (polled : F → Poll A → F → Type 0) where
           let at : i ≡ j = ap (λ (p : ℕ × A). p.0) pair in
           let is : x ≡ h.0 = ap (λ (p : ℕ × A). p.1) pair in (
             (j, f, e, ([], f, h.1, refl, subst (λ z. polled f (Ready z) h.1) (sym is) h.2)),
-            λ y any. emptied y (subst (λ w. AnyMayGive polled (without w j) y) h.5 (subst (λ k. AnyMayGive polled (without left k) y) at any)),
+            λ y any. emptied y (subst (λ w. AnyMayGive polled (with_slot_freed w j) y) h.5 (subst (λ k. AnyMayGive polled (with_slot_freed left k) y) at any)),
           )
         where
-          emptied : (y : A) → AnyMayGive polled (without (with_value m j h.1) j) y → AnyMayGive polled m y
+          emptied : (y : A) → AnyMayGive polled (with_slot_freed (with_value m j h.1) j) y → AnyMayGive polled m y
           emptied y any =
               elim (cases_eq any.0 j) [
-                | inl same ↦ absurd (None-Some (sym (held-without (with_value m j h.1) j) ∙ rw same at any.2))
-                | inr other ↦ (any.0, any.1, sym (get_or-set_other m.places j any.0 (Some h.1) None other) ∙ (sym (held-without_other (with_value m j h.1) j any.0 other) ∙ any.2), any.3)
+                | inl same ↦ absurd (None-Some (sym (value_in-with_slot_freed (with_value m j h.1) j) ∙ rw same at any.2))
+                | inr other ↦ (any.0, any.1, sym (get_or-set_other m.places j any.0 (Some h.1) None other) ∙ (sym (value_in-with_slot_freed_other (with_value m j h.1) j any.0 other) ∙ any.2), any.3)
               ]
 
 module _ {F A S : Type 0} (polled : F → Poll A → F → Type 0) where

@@ -7,7 +7,7 @@ use Rattle.std.proofs.lemmas.List.Sums.{sum_by-set}
 use Rattle.std.proofs.lemmas.Bool.{cases_eq, cases_lt}
 use Rattle.futures.specs.declared.task.Poll.{Poll}
 use Rattle.futures.specs.declared.task.Poll.TheVariants.{Ready, Pending}
-use Rattle.futures_buffered_core.specs.SlotMap.{Slots, held, held_count, no_slots, with_value, without}
+use Rattle.futures_buffered_core.specs.SlotMap.{Slots, value_in, held_count, no_slots, with_value, with_slot_freed}
 use Rattle.futures_buffered_table.specs.declared.answer.Taken.{Taken}
 use Rattle.futures_buffered_table.specs.declared.answer.Taken.TheVariants.{Slot, Empty, Pause}
 use Rattle.futures_buffered_bounded.specs.Held.{AllHeld, AllHeldBut, EndsWith, NamesRun}
@@ -17,7 +17,7 @@ module _ {F A : Type 0} (polled : F → Poll A → F → Type 0) where
   -- one more name
   pub NamesRun-push : (names : List ℕ) (m now left : Slots F) (i : ℕ) (out : Option (ℕ × A)) → NamesRun polled m names None now → NamesRun polled now (i ∷ []) out left → NamesRun polled m (names ++ i ∷ []) out left
   NamesRun-push [] m now left i out ran more = subst (λ w. NamesRun polled w (i ∷ []) out left) ran.1 more
-  NamesRun-push (j ∷ names) m now left i out ran more = by_held (held m j) (λ (w : Slots F) (h : NamesRun polled w names None now). NamesRun-push names w now left i out h more) ran
+  NamesRun-push (j ∷ names) m now left i out ran more = by_held (value_in m j) (λ (w : Slots F) (h : NamesRun polled w names None now). NamesRun-push names w now left i out h more) ran
     where
       by_held : (o : Option F) → ((w : Slots F) → NamesRun polled w names None now → NamesRun polled w (names ++ i ∷ []) out left)
           → MatchOption o (NamesRun polled m names None now) (λ f. ((f2 : F) × polled f Pending f2 × NamesRun polled (with_value m j f2) names None now) ⊎ ((x : A) × (f2 : F) × polled f (Ready x) f2 × (names ≡ []) × (◌≡◌ {A = Option (ℕ × A)} None (Some (j, x))) × ((now ≡ with_value m j f2))))
@@ -26,13 +26,13 @@ module _ {F A : Type 0} (polled : F → Poll A → F → Type 0) where
       by_held (Some f) again (inl h) = inl (h.0, h.1, again (with_value m j h.0) h.2)
       by_held (Some f) again (inr h) = let e = h.4 in cc
 
-  pub one_skipped : (m : Slots F) (i : ℕ) → held m i ≡ None → NamesRun polled m (i ∷ []) None m
+  pub one_skipped : (m : Slots F) (i : ℕ) → value_in m i ≡ None → NamesRun polled m (i ∷ []) None m
   one_skipped m i e = rw e (refl, refl)
 
-  pub one_pending : (m : Slots F) (i : ℕ) (f f2 : F) → held m i ≡ Some f → polled f Pending f2 → NamesRun polled m (i ∷ []) None (with_value m i f2)
+  pub one_pending : (m : Slots F) (i : ℕ) (f f2 : F) → value_in m i ≡ Some f → polled f Pending f2 → NamesRun polled m (i ∷ []) None (with_value m i f2)
   one_pending m i f f2 e h = rw e (inl (f2, h, (refl, refl)))
 
-  pub one_ready : (m : Slots F) (i : ℕ) (f f2 : F) (x : A) → held m i ≡ Some f → polled f (Ready x) f2 → NamesRun polled m (i ∷ []) (Some (i, x)) (with_value m i f2)
+  pub one_ready : (m : Slots F) (i : ℕ) (f f2 : F) (x : A) → value_in m i ≡ Some f → polled f (Ready x) f2 → NamesRun polled m (i ∷ []) (Some (i, x)) (with_value m i f2)
   one_ready m i f f2 x e h = rw e (inr (x, f2, h, refl, refl, refl))
 
 -- no value is held where all slots are free
@@ -67,7 +67,7 @@ module _ {F A S : Type 0} (can_poll : F → Type 0) (polled : F → Poll A → F
   SoFar-none old source first all =
       record { names = []; registered = source; registers_first = first; counted = refl; answers = refl; polls = (refl, refl); pollable = all }
 
-  pub SoFar-skip : (old : Bounded F S) (count i : ℕ) (slots : Slots F) (source left : S) → SoFar old count slots source → takes source (Slot i) left → held slots i ≡ None → SoFar old (count + 1) slots left
+  pub SoFar-skip : (old : Bounded F S) (count i : ℕ) (slots : Slots F) (source left : S) → SoFar old count slots source → takes source (Slot i) left → value_in slots i ≡ None → SoFar old (count + 1) slots left
   SoFar-skip old count i slots source left so taken e =
       record {
         names = so.names ++ i ∷ [];
@@ -79,7 +79,7 @@ module _ {F A S : Type 0} (can_poll : F → Type 0) (polled : F → Poll A → F
         pollable = so.pollable;
       }
 
-  pub SoFar-pending : (old : Bounded F S) (count i : ℕ) (slots : Slots F) (source left : S) (f f2 : F) → SoFar old count slots source → takes source (Slot i) left → held slots i ≡ Some f → polled f Pending f2 → can_poll f2 → SoFar old (count + 1) (with_value slots i f2) left
+  pub SoFar-pending : (old : Bounded F S) (count i : ℕ) (slots : Slots F) (source left : S) (f f2 : F) → SoFar old count slots source → takes source (Slot i) left → value_in slots i ≡ Some f → polled f Pending f2 → can_poll f2 → SoFar old (count + 1) (with_value slots i f2) left
   SoFar-pending old count i slots source left f f2 so taken e h again =
       record {
         names = so.names ++ i ∷ [];
@@ -91,7 +91,7 @@ module _ {F A S : Type 0} (can_poll : F → Type 0) (polled : F → Poll A → F
         pollable = AllHeld-with can_poll slots i f2 so.pollable again;
       }
 
-  pub ready_after : (old : Bounded F S) (count limit i : ℕ) (slots : Slots F) (source left : S) (f f2 : F) (x : A) → SoFar old count slots source → limit ≡ old.limit → count < old.limit → takes source (Slot i) left → held slots i ≡ Some f → polled f (Ready x) f2
+  pub ready_after : (old : Bounded F S) (count limit i : ℕ) (slots : Slots F) (source left : S) (f f2 : F) (x : A) → SoFar old count slots source → limit ≡ old.limit → count < old.limit → takes source (Slot i) left → value_in slots i ≡ Some f → polled f (Ready x) f2
       → AsksUntil polled registers takes old (Ready (i, x)) (record { slots = with_value slots i f2; source = left; limit = limit })
   ready_after old count limit i slots source left f f2 x so same below taken e h = (
     so.names ++ i ∷ [],
@@ -143,8 +143,8 @@ module _ {F A S : Type 0} (can_poll : F → Type 0) (polled : F → Poll A → F
 pub AllHeldBut-with : {F : Type 0} (P : F → Type 0) (m : Slots F) (i : ℕ) (f : F) → AllHeld P m → AllHeldBut i P (with_value m i f)
 AllHeldBut-with {F} P m i f all j other = rw (get_or-set_other m.places i j (Some f) None other) (all j)
 
-pub AllHeld-without : {F : Type 0} (P : F → Type 0) (m : Slots F) (i : ℕ) → AllHeldBut i P m → AllHeld P (without m i)
-AllHeld-without {F} P m i all q =
+pub AllHeld-with_slot_freed : {F : Type 0} (P : F → Type 0) (m : Slots F) (i : ℕ) → AllHeldBut i P m → AllHeld P (with_slot_freed m i)
+AllHeld-with_slot_freed {F} P m i all q =
     elim (cases_eq q i) [
       | inl same ↦ elim (cases_lt i (length m.places)) [
         | inl within ↦ rw (same, get_or-set_same {A = Option F} m.places i None None within) tt
@@ -154,17 +154,17 @@ AllHeld-without {F} P m i all q =
     ]
 
 -- a slot that held a value holds the one put there
-pub held-with : {F : Type 0} (m : Slots F) (i : ℕ) (f g : F) → Some f ≡ held m i → held (with_value m i g) i ≡ Some g
-held-with {F} m i f g found = get_or-set_same m.places i (Some g) None (elim (cases_lt i (length m.places)) [
+pub value_in-with_value : {F : Type 0} (m : Slots F) (i : ℕ) (f g : F) → Some f ≡ value_in m i → value_in (with_value m i g) i ≡ Some g
+value_in-with_value {F} m i f g found = get_or-set_same m.places i (Some g) None (elim (cases_lt i (length m.places)) [
   | inl below ↦ below
-  | inr past ↦ let none : held m i ≡ None = get_or_past m.places i None past in cc
+  | inr past ↦ let none : value_in m i ≡ None = get_or_past m.places i None past in cc
 ])
 
 -- what a removal leaves where the slot held a value
-pub removed_is : {F : Type 0} (slots removed : Slots F) (i : ℕ) → IsSome (held slots i) → MatchOption (held slots i) (removed ≡ slots) (λ _. removed ≡ without slots i) → removed ≡ without slots i
-removed_is {F} slots removed i some left = by_held (held slots i) some left
+pub removed_is : {F : Type 0} (slots removed : Slots F) (i : ℕ) → IsSome (value_in slots i) → MatchOption (value_in slots i) (removed ≡ slots) (λ _. removed ≡ with_slot_freed slots i) → removed ≡ with_slot_freed slots i
+removed_is {F} slots removed i some left = by_held (value_in slots i) some left
   where
-    by_held : (o : Option F) → IsSome o → MatchOption o (removed ≡ slots) (λ _. removed ≡ without slots i) → removed ≡ without slots i
+    by_held : (o : Option F) → IsSome o → MatchOption o (removed ≡ slots) (λ _. removed ≡ with_slot_freed slots i) → removed ≡ with_slot_freed slots i
     by_held None h e = absurd (true≢false (sym h))
     by_held (Some f) h e = e
 
@@ -173,18 +173,18 @@ some_from_end polled x None h = absurd h
 some_from_end polled x (Some f) h = refl
 
 -- as many values as before
-pub count-with : {F : Type 0} (m : Slots F) (i : ℕ) (f g : F) → Some f ≡ held m i → held_count (with_value m i g) ≡ held_count m
+pub count-with : {F : Type 0} (m : Slots F) (i : ℕ) (f g : F) → Some f ≡ value_in m i → held_count (with_value m i g) ≡ held_count m
 count-with {F} m i f g found =
     let within : i < length m.places = elim (cases_lt i (length m.places)) [
       | inl below ↦ below
-      | inr past ↦ let none : held m i ≡ None = get_or_past m.places i None past in cc
+      | inr past ↦ let none : value_in m i ≡ None = get_or_past m.places i None past in cc
     ] in
     omega (arith, rw (← found) at (sum_by-set (λ (o : Option F). cond (is_some o) 1 0) m.places i (Some g) None within))
 
 -- a slot that held a value, or none, still does
-pub same-with : {F : Type 0} (m : Slots F) (i j : ℕ) (f g : F) → Some f ≡ held m i → is_some (held (with_value m i g) j) ≡ is_some (held m j)
+pub same-with : {F : Type 0} (m : Slots F) (i j : ℕ) (f g : F) → Some f ≡ value_in m i → is_some (value_in (with_value m i g) j) ≡ is_some (value_in m j)
 same-with {F} m i j f g found =
     elim (cases_eq j i) [
-      | inl same ↦ rw (same, held-with m i f g found, ← found) refl
+      | inl same ↦ rw (same, value_in-with_value m i f g found, ← found) refl
       | inr other ↦ rw (get_or-set_other m.places i j (Some g) None other) refl
     ]

@@ -4,7 +4,7 @@ use Rattle.std.specs.List.{FoldsTo, range_with_len}
 use Rattle.std.specs.Coded.{Coded, code_by, coded×, coded_ℕ}
 use Rattle.futures.specs.declared.task.Poll.{Poll}
 use Rattle.futures.specs.declared.task.Poll.TheVariants.{Ready, Pending}
-use Rattle.futures_buffered_core.specs.SlotMap.{Slots, slots_code, held_count, all_slots, without, Inserts}
+use Rattle.futures_buffered_core.specs.SlotMap.{Slots, slots_code, held_count, all_slots, with_slot_freed, Inserts}
 use Rattle.futures_buffered_table.specs.declared.answer.Taken.{Taken}
 use Rattle.futures_buffered_table.specs.declared.answer.Taken.TheVariants.{Slot, Empty, Pause}
 use Rattle.futures_buffered_table.specs.declared.answer.Woke.{Woke}
@@ -28,7 +28,7 @@ bounded_code {F} {S} code source_code =
 
 -- the slot is emptied, and is the first free one; the source and the limit stay
 abbrev pub with_empty_slot : {F S : Type 0} → Bounded F S → ℕ → Bounded F S
-with_empty_slot b i = record b { slots = without b.slots i }
+with_empty_slot b i = record b { slots = with_slot_freed b.slots i }
 
 -- one mark of a slot, whatever it answered
 abbrev pub MarksSlot : {S : Type 0} → (S → ℕ → Woke → S → Type 0) → S → ℕ → S → Type 0

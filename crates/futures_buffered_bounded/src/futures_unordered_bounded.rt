@@ -7,7 +7,7 @@ ghost use Rattle.futures.specs.Runs.{After, Within};
 ghost use Rattle.futures.specs.Poll.{IfReady, OnPending};
 ghost use Rattle.std.specs.Iterator.{IsFiniteIterable};
 ghost use Rattle.futures_buffered_core.specs.Drawn.{Draws, DrawsMoreThan};
-ghost use Rattle.futures_buffered_core.specs.SlotMap.{held, held_count, slot_count, no_slots};
+ghost use Rattle.futures_buffered_core.specs.SlotMap.{value_in, held_count, slot_count, no_slots};
 ghost use Rattle.futures_buffered_bounded.specs.Held.{AllHeld, AllHeldBut, EndsWith, ComesFrom};
 ghost use Rattle.futures_buffered_bounded.specs.FuturesUnorderedBounded.{HoldsEach, Pushes, PushesAt, AsksUntil, PollGives, with_empty_slot};
 
@@ -192,10 +192,10 @@ impl<F: Drop, S: ReadySource> FuturesUnorderedBounded<F, S> {
         ensures polled { AsksUntil R.polled S.registers S.takes self.old result self.new }
         ensures pollable { OnPending result (AllHeld R.can_poll self.new.slots) }
         ensures others { IfReady result (λ (i, _). AllHeldBut i R.can_poll self.new.slots) }
-        ensures last { IfReady result (λ (i, x). EndsWith R.polled x (held self.new.slots i)) }
+        ensures last { IfReady result (λ (i, x). EndsWith R.polled x (value_in self.new.slots i)) }
         ensures count { held_count self.new.slots ≡ held_count self.old.slots }
         ensures capacity { slot_count self.new.slots ≡ slot_count self.old.slots }
-        ensures same_slots { (j : ℕ) → is_some (held self.new.slots j) ≡ is_some (held self.old.slots j) }
+        ensures same_slots { (j : ℕ) → is_some (value_in self.new.slots j) ≡ is_some (value_in self.old.slots j) }
         ensures covered { OnPending result (Covers cx.new (S.needs self.new.source)) }
         ensures kept { Keeps cx.old cx.new }
     {
@@ -218,7 +218,7 @@ impl<F: Drop, S: ReadySource> FuturesUnorderedBounded<F, S> {
 
     /// Drops the value of a slot, which is then the first free one.
     pub fn empty_slot(&mut self, i: usize)
-        requires { IsSome (held self.old.slots i) }
+        requires { IsSome (value_in self.old.slots i) }
         ensures emptied { self.new ≡ with_empty_slot self.old i }
         ensures count { held_count self.new.slots + 1 ≡ held_count self.old.slots }
     {

@@ -15,7 +15,7 @@ use Rattle.futures_buffered_table.specs.declared.answer.Taken.{Taken}
 use Rattle.futures_buffered_table.specs.declared.answer.Taken.TheVariants.{Slot, Empty, Pause}
 use Rattle.futures_buffered_core.specs.ReadyCore.{is_marked, MarkGives, TakeGives}
 use Rattle.futures_buffered_core.specs.History.{IsUnserved, IsRight, IsOldest, StandInOrder, IsStanding, marks_before, replies_before, EachIsRight, Answers}
-use Rattle.futures_buffered_core.proofs.ReadyCoreLemmas.{listed_push}
+use Rattle.futures_buffered_core.proofs.KeepsOnceLemmas.{listed_push}
 
 module _ {X : Type 0} where
   -- what a longer list has before its end, and at its end

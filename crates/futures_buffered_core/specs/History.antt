@@ -58,11 +58,3 @@ pub record Answers (standing : List ℕ) (events : List Event) (replies : List R
   pub each : EachIsRight standing events replies
   pub count : length replies ≡ length events
   pub stands : IsStanding (marks_before standing ++ events) (replies_before standing ++ replies) new
-
--- each slot that the first n events mark is below the capacity
-abbrev pub NamesAllBelow : ℕ → List Event → ℕ → Type 0
-NamesAllBelow cap events n = (p i : ℕ) → p < n → slice_get events p ≡ Some (event.Mark i) → i < cap
-
--- the event at p marks no slot that is there
-abbrev pub IsWrongAt : ℕ → List Event → ℕ → Type 0
-IsWrongAt cap events p = (i : ℕ) × (slice_get events p ≡ Some (event.Mark i)) × (cap ≤ i)

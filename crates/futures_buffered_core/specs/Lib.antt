@@ -1,8 +1,9 @@
 pub mod ReadyCore
-pub mod ReadyCoreInvariant
-pub mod ReadyShared
+pub mod KeepsOnce
 pub mod History
+pub mod WrongName
 pub mod ScriptSource
+pub mod ReadyShared
 pub mod SlotMap
 pub mod SlotMapInvariant
 pub mod SlotMapLends

@@ -5,10 +5,13 @@ ghost use Rattle.std.specs.Prelude.{◌≡◌, ◌<◌, ◌≤◌, ◌↔◌, []
 ghost use Rattle.std.specs.List.{IsDistinct};
 ghost use Rattle.futures_buffered_core.specs.ReadyCore.{MarkGives, TakeGives, IsNameBelow};
 ghost use Rattle.futures_buffered_core.specs.declared.ready_core.Reply.{Reply};
-ghost use Rattle.futures_buffered_core.specs.History.{EachIsRight, IsStanding, marks_before, replies_before, NamesAllBelow, IsWrongAt, Answers};
+ghost use Rattle.futures_buffered_core.specs.History.{Answers};
+ghost use Rattle.futures_buffered_core.specs.WrongName.{NamesAllBelow, IsFirstWrong};
+ghost use Rattle.futures_buffered_table.specs.Answer.{RefusesTooLarge};
 
 pub use futures_buffered_table::answer::{MAX_CAPACITY, NewFault, Taken, Woke};
 
+use crate::wrong_name::first_wrong;
 use std::alloc::Global;
 use std::collections::VecDeque;
 use std::marker::Model;
@@ -47,7 +50,7 @@ impl Model for ReadyCore {
 
     ghost use Rattle.std.specs.Prelude.{vec_len};
     ghost use Rattle.std.specs.VecDeque.{deque_capacity};
-    ghost use Rattle.futures_buffered_core.specs.ReadyCoreInvariant.{KeepsOnce};
+    ghost use Rattle.futures_buffered_core.specs.KeepsOnce.{KeepsOnce};
 
     ghost view = { λ core. record { capacity = vec_len core.marks; marked = core.queue.items } };
 
@@ -60,9 +63,7 @@ impl ReadyCore {
     /// Takes time and memory in proportion to `cap`: room for every slot to be marked, so that no later call takes any.
     pub fn new(alloc: Global, cap: usize) -> Result<Self, NewFault>
         ensures empty { IfOk result (λ core. core ≡ record { capacity = cap; marked = [] }) }
-        ensures fits { IfOk result (λ _. cap ≤ MAX_CAPACITY) }
-        ensures large { (result ≡ Err NewFault.TooLarge) ↔ (MAX_CAPACITY < cap) }
-        ensures memory { result ≡ Err NewFault.Memory → cap ≤ MAX_CAPACITY }
+        ensures refuses { RefusesTooLarge cap result }
     {
         if cap > MAX_CAPACITY {
             return Err(NewFault::TooLarge);
@@ -121,22 +122,6 @@ pub enum RunFault {
     Event(usize),
 }
 
-// The position of the first event that marks no slot below `cap`.
-fn first_wrong(events: &[Event], cap: usize) -> Option<usize>
-    ensures none { IfNone result (NamesAllBelow cap events.now (length events.now)) }
-    ensures wrong { IfSome result (IsWrongAt cap events.now) }
-    ensures least { IfSome result (NamesAllBelow cap events.now) }
-{
-    for (p, event) in events.iter().enumerate() {
-        if let Event::Mark(i) = event {
-            if *i >= cap {
-                return Some(p);
-            }
-        }
-    }
-    None
-}
-
 /// Does the events in order, and appends a reply for each to `out`.
 ///
 /// All slots are tested first, and room for all replies is made next: only then is the first event done, so a fault changes nothing. Each event takes the same time at any capacity; the memory is that of the replies.
@@ -147,9 +132,11 @@ pub fn run(core: &mut ReadyCore, events: &[Event], out: &mut Vec<Reply>) -> Resu
     ensures capacity { core.new.capacity ≡ core.old.capacity }
     ensures err { OnErr result ((core.new ≡ core.old) × (out.new.items ≡ out.old.items)) }
     ensures wrong { (p : ℕ) → result ≡ Err (RunFault.Event p)
-        → IsWrongAt core.old.capacity events.now p × NamesAllBelow core.old.capacity events.now p }
-    ensures named { OnOk result (NamesAllBelow core.old.capacity events.now (length events.now)) }
-    ensures below { result ≡ Err RunFault.Memory → NamesAllBelow core.old.capacity events.now (length events.now) }
+        → IsFirstWrong Event.Mark core.old.capacity events.now p }
+    ensures named { OnOk result
+        (NamesAllBelow Event.Mark core.old.capacity events.now (length events.now)) }
+    ensures below { result ≡ Err RunFault.Memory
+        → NamesAllBelow Event.Mark core.old.capacity events.now (length events.now) }
 {
     if let Some(p) = first_wrong(events, core.capacity()) {
         return Err(RunFault::Event(p));

@@ -8,8 +8,9 @@ ghost use Rattle.std.specs.Option.{option_copied_mut};
 ghost use Rattle.std.specs.Option.Follows.{option_follows_value};
 ghost use Rattle.std.specs.Borrow.{sem};
 ghost use Rattle.std.specs.Iterator.{IsFiniteIterable};
+ghost use Rattle.futures_buffered_table.specs.Answer.{RefusesTooLarge};
 ghost use Rattle.futures_buffered_core.specs.Drawn.{Draws, DrawsMoreThan};
-ghost use Rattle.futures_buffered_core.specs.SlotMap.{held, held_count, slot_count, no_slots, all_slots, without, Inserts, IsFirstHeld, NoneHeldFrom};
+ghost use Rattle.futures_buffered_core.specs.SlotMap.{value_in, held_count, slot_count, no_slots, all_slots, with_slot_freed, Inserts, IsFirstHeld, NoneHeldFrom};
 
 use crate::ready_core::{MAX_CAPACITY, NewFault};
 use std::alloc::{AllocError, Global};
@@ -82,9 +83,7 @@ impl<F: Drop> PinSlotMap<F> {
     /// Takes time and memory in proportion to `capacity`.
     pub fn new(alloc: Global, capacity: usize) -> Result<Self, NewFault>
         ensures empty { IfOk result (λ m. m ≡ no_slots capacity) }
-        ensures fits { IfOk result (λ _. capacity ≤ MAX_CAPACITY) }
-        ensures large { (result ≡ Err NewFault.TooLarge) ↔ (MAX_CAPACITY < capacity) }
-        ensures memory { result ≡ Err NewFault.Memory → capacity ≤ MAX_CAPACITY }
+        ensures refuses { RefusesTooLarge capacity result }
     {
         if capacity > MAX_CAPACITY {
             return Err(NewFault::TooLarge);
@@ -159,8 +158,8 @@ impl<F: Drop> PinSlotMap<F> {
     ///
     /// Takes the same time at any capacity, besides the drop of the value.
     pub fn remove(&mut self, key: usize)
-        ensures slots { MatchOption (held self.old key) (self.new ≡ self.old) (λ _. self.new ≡ without self.old key) }
-        ensures count { IsSome (held self.old key) → held_count self.new + 1 ≡ held_count self.old }
+        ensures slots { MatchOption (value_in self.old key) (self.new ≡ self.old) (λ _. self.new ≡ with_slot_freed self.old key) }
+        ensures count { IsSome (value_in self.old key) → held_count self.new + 1 ≡ held_count self.old }
     {
         if self.holds(key) {
             self.places[key] = None;
@@ -171,7 +170,7 @@ impl<F: Drop> PinSlotMap<F> {
     /// The value of a slot, for writing. `None` where the slot is free or not there.
     pub fn get(&mut self, key: usize) -> Option<&mut F>
         ensures* writes_back { sem 𝓛 (lends_slot F.row self.entry key result) }
-        ensures value { option_copied_mut result ≡ held self.old key }
+        ensures value { option_copied_mut result ≡ value_in self.old key }
     {
         if self.holds(key) {
             Some(self.value_mut(key))
@@ -206,15 +205,15 @@ impl<F: Drop> PinSlotMap<F> {
     }
 
     fn holds(&self, key: usize) -> bool
-        ensures { result ≡ is_some (held self.now key) }
+        ensures { result ≡ is_some (value_in self.now key) }
     {
         key < self.places.len() && self.places[key].is_some()
     }
 
     fn value_mut(&mut self, key: usize) -> &mut F
-        requires { IsSome (held self.old key) }
+        requires { IsSome (value_in self.old key) }
         ensures* writes_back { sem 𝓛 (lends_value F.row self.entry key result) }
-        ensures value { held self.old key ≡ Some result.now }
+        ensures value { value_in self.old key ≡ Some result.now }
     {
         value_of(&mut self.places[key])
     }
@@ -237,7 +236,7 @@ impl<'a, F: Drop> SlotMapIterMut<'a, F> {
     pub fn next(&mut self) -> Option<&mut F>
         ensures* writes_back { sem 𝓛 (lends_next F.row self.entry result) }
         ensures value { IfSome result (λ f. (i : ℕ) × IsFirstHeld (iter_slots self.old) (iter_from self.old) i
-            × (held (iter_slots self.old) i ≡ Some f.now)) }
+            × (value_in (iter_slots self.old) i ≡ Some f.now)) }
         ensures end { IfNone result (NoneHeldFrom (iter_slots self.old) (iter_from self.old)) }
     {
         let i = self.map.first_held(self.from)?;

@@ -8,7 +8,7 @@ use Rattle.std.proofs.lemmas.Bool.Decides.{eqb_tells, nat_tests}
 use Rattle.std.proofs.lemmas.Map.Keys.{IsDistinct-push, IsDistinct-cons, IsDistinct-head, IsDistinct-tail}
 use Rattle.std.proofs.lemmas.Map.Steps.{length-le_from_distinct_below}
 use Rattle.std.specs.Cmp.{nat_eq_equiv}
-use Rattle.futures_buffered_core.specs.ReadyCoreInvariant.{KeepsOnce}
+use Rattle.futures_buffered_core.specs.KeepsOnce.{KeepsOnce}
 
 -- what is in the queue is below the capacity
 pub KeepsOnce-below : (marks : List Bool) (queue : List ℕ) (n i : ℕ) → KeepsOnce marks queue n → list_any (eqb i) queue ≡ true → i < length marks
