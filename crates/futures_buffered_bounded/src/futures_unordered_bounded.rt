@@ -6,6 +6,7 @@ ghost use Rattle.futures.specs.Task.{Covers, Keeps};
 ghost use Rattle.futures.specs.Runs.{After, Within};
 ghost use Rattle.futures.specs.Poll.{IfReady, OnPending};
 ghost use Rattle.std.specs.Iterator.{IsFiniteIterable};
+ghost use Rattle.futures_buffered_table.specs.Answer.{RefusesTooLarge};
 ghost use Rattle.futures_buffered_core.specs.Drawn.{Draws, DrawsMoreThan};
 ghost use Rattle.futures_buffered_core.specs.SlotMap.{value_in, held_count, slot_count, no_slots};
 ghost use Rattle.futures_buffered_bounded.specs.Held.{AllHeld, AllHeldBut, EndsWith, ComesFrom};
@@ -59,9 +60,7 @@ impl<F: Drop, S: ReadySource> FuturesUnorderedBounded<F, S> {
     /// Takes time and memory in proportion to that number. The source is dropped where the set is refused.
     pub fn with_source(alloc: Global, source: S) -> Result<Self, NewFault>
         ensures empty { IfOk result (λ s. s ≡ record { slots = no_slots (S.slots source); source = source; limit = POLL_LIMIT }) }
-        ensures fits { IfOk result (λ _. S.slots source ≤ MAX_CAPACITY) }
-        ensures large { (result ≡ Err NewFault.TooLarge) ↔ (MAX_CAPACITY < S.slots source) }
-        ensures memory { result ≡ Err NewFault.Memory → S.slots source ≤ MAX_CAPACITY }
+        ensures refuses { RefusesTooLarge (S.slots source) result }
     {
         let slots = PinSlotMap::new(alloc, source.capacity())?;
         Ok(FuturesUnorderedBounded {
@@ -284,9 +283,7 @@ impl<R: Wait + Clone + Drop, F: Drop> FuturesUnorderedBounded<F, SharedReady<R>>
         ensures empty { IfOk result (λ set. set.slots ≡ no_slots cap) }
         ensures source { IfOk result (λ set. set.source.capacity ≡ cap) }
         ensures limit { IfOk result (λ set. set.limit ≡ POLL_LIMIT) }
-        ensures fits { IfOk result (λ _. cap ≤ MAX_CAPACITY) }
-        ensures large { (result ≡ Err NewFault.TooLarge) ↔ (MAX_CAPACITY < cap) }
-        ensures memory { result ≡ Err NewFault.Memory → cap ≤ MAX_CAPACITY }
+        ensures refuses { RefusesTooLarge cap result }
     {
         let source = SharedReady::new(env, alloc, cap)?;
         FuturesUnorderedBounded::with_source(alloc, source)
