@@ -1,5 +1,5 @@
 -- What a poll has done so far, and what one more name makes of it.
-use Rattle.std.proofs.Common.{◌≡◌, ◌⊎◌, ℕ, zero, suc, ◌+◌, ◌<◌, List, [], ◌∷◌, ◌++◌, map, length, set, Option, Some, None, MatchOption, IsSome, is_some, cond, true≢false, refl, sym, ap, subst, inl, inr, arith, length-set, append-nil, ◌∙◌}
+use Rattle.std.proofs.Common.{◌≡◌, ◌⊎◌, ℕ, zero, suc, ◌+◌, ◌<◌, List, [], ◌∷◌, ◌++◌, map, length, set, Option, Some, None, MatchOption, IsSome, is_some, cond, refl, ap, subst, inl, inr, arith, length-set, append-nil}
 use Rattle.std.specs.List.{FoldsTo}
 use Rattle.std.proofs.lemmas.Fn.{FoldsTo-push}
 use Rattle.std.proofs.lemmas.List.{map_push, length_push, get_or-set_same, get_or-set_other, get_or_past}
@@ -7,10 +7,10 @@ use Rattle.std.proofs.lemmas.List.Sums.{sum_by-set}
 use Rattle.std.proofs.lemmas.Bool.{cases_eq, cases_lt}
 use Rattle.futures.specs.declared.task.Poll.{Poll}
 use Rattle.futures.specs.declared.task.Poll.TheVariants.{Ready, Pending}
-use Rattle.futures_buffered_core.specs.SlotMap.{Slots, value_in, held_count, no_slots, with_value, with_slot_freed}
+use Rattle.futures_buffered_core.specs.SlotMap.{Slots, value_in, held_count, no_slots, with_value}
 use Rattle.futures_buffered_table.specs.declared.answer.Taken.{Taken}
 use Rattle.futures_buffered_table.specs.declared.answer.Taken.TheVariants.{Slot, Empty, Pause}
-use Rattle.futures_buffered_bounded.specs.Held.{AllHeld, AllHeldBut, EndsWith, NamesRun}
+use Rattle.futures_buffered_bounded.specs.Held.{AllHeld, EndsWith, NamesRun}
 use Rattle.futures_buffered_bounded.specs.FuturesUnorderedBounded.{Bounded, Runs, EndsWaiting, AsksUntil}
 
 module _ {F A : Type 0} (polled : F → Poll A → F → Type 0) where
@@ -124,49 +124,12 @@ module _ {F A S : Type 0} (can_poll : F → Type 0) (polled : F → Poll A → F
       ending (inl e) = inl (ap (λ (t : Taken). t ∷ []) e)
       ending (inr e) = inr (ap (λ (t : Taken). t ∷ []) e)
 
-  pub full_after : (old : Bounded F S) (count limit : ℕ) (slots : Slots F) (source : S) → SoFar old count slots source → limit ≡ old.limit → count ≡ old.limit
-      → (names : List ℕ) × (ended : List Taken) × EndsWaiting old.limit names ended × Runs polled registers takes old names ended None (record { slots = slots; source = source; limit = limit })
-  full_after old count limit slots source so same all = (
-    so.names,
-    [],
-    inr (so.counted ∙ all, refl),
-    record {
-      registered = so.registered;
-      registers_first = so.registers_first;
-      answers = rw (append-nil (map Slot so.names)) so.answers;
-      polls = so.polls;
-      same_limit = same;
-    },
-  )
-
--- where one value is another, the others may still be polled
-pub AllHeldBut-with : {F : Type 0} (P : F → Type 0) (m : Slots F) (i : ℕ) (f : F) → AllHeld P m → AllHeldBut i P (with_value m i f)
-AllHeldBut-with {F} P m i f all j other = rw (get_or-set_other m.places i j (Some f) None other) (all j)
-
-pub AllHeld-with_slot_freed : {F : Type 0} (P : F → Type 0) (m : Slots F) (i : ℕ) → AllHeldBut i P m → AllHeld P (with_slot_freed m i)
-AllHeld-with_slot_freed {F} P m i all q =
-    elim (cases_eq q i) [
-      | inl same ↦ elim (cases_lt i (length m.places)) [
-        | inl within ↦ rw (same, get_or-set_same {A = Option F} m.places i None None within) tt
-        | inr past ↦ rw (get_or_past {X = Option F} (set m.places i None) q None (omega (arith, length-set {A = Option F} m.places i None))) tt
-      ]
-      | inr other ↦ rw (get_or-set_other {A = Option F} m.places i q None None other) (all q other)
-    ]
-
 -- a slot that held a value holds the one put there
 pub value_in-with_value : {F : Type 0} (m : Slots F) (i : ℕ) (f g : F) → Some f ≡ value_in m i → value_in (with_value m i g) i ≡ Some g
 value_in-with_value {F} m i f g found = get_or-set_same m.places i (Some g) None (elim (cases_lt i (length m.places)) [
   | inl below ↦ below
   | inr past ↦ let none : value_in m i ≡ None = get_or_past m.places i None past in cc
 ])
-
--- what a removal leaves where the slot held a value
-pub removed_is : {F : Type 0} (slots removed : Slots F) (i : ℕ) → IsSome (value_in slots i) → MatchOption (value_in slots i) (removed ≡ slots) (λ _. removed ≡ with_slot_freed slots i) → removed ≡ with_slot_freed slots i
-removed_is {F} slots removed i some left = by_held (value_in slots i) some left
-  where
-    by_held : (o : Option F) → IsSome o → MatchOption o (removed ≡ slots) (λ _. removed ≡ with_slot_freed slots i) → removed ≡ with_slot_freed slots i
-    by_held None h e = absurd (true≢false (sym h))
-    by_held (Some f) h e = e
 
 pub some_from_end : {F A : Type 0} (polled : F → Poll A → F → Type 0) (x : A) (o : Option F) → EndsWith polled x o → IsSome o
 some_from_end polled x None h = absurd h

@@ -39,7 +39,14 @@ abbrev pub MarksEach : {S : Type 0} → (S → ℕ → Woke → S → Type 0) �
 MarksEach marks = FoldsTo (MarksSlot marks)
 
 -- item k is held in slot k, no slot is free, and each slot was marked, in order, in a source made for this number of slots
-pub record HoldsEach {F S : Type 0} (made : ℕ → S → Type 0) (marks : S → ℕ → Woke → S → Type 0) (names : ℕ) (items : List F) (set : Bounded F S) : Type 0 where
+pub record HoldsEach
+    {F S : Type 0}
+    (made : ℕ → S → Type 0)
+    (marks : S → ℕ → Woke → S → Type 0)
+    (names : ℕ)
+    (items : List F)
+    (set : Bounded F S)
+  : Type 0 where
   pub slots_hold : set.slots ≡ all_slots items
   pub new_source : S
   pub was_made : made (length items) new_source
@@ -47,24 +54,44 @@ pub record HoldsEach {F S : Type 0} (made : ℕ → S → Type 0) (marks : S →
   pub takes_at_most : set.limit ≡ names
 
 -- a value went into the first free slot, i, which was then marked
-pub record PushesAt {F S : Type 0} (marks : S → ℕ → Woke → S → Type 0) (old : Bounded F S) (i : ℕ) (value : F) (new : Bounded F S) : Type 0 where
+pub record PushesAt
+    {F S : Type 0}
+    (marks : S → ℕ → Woke → S → Type 0)
+    (old : Bounded F S)
+    (i : ℕ)
+    (value : F)
+    (new : Bounded F S)
+  : Type 0 where
   pub inserted : Inserts old.slots i value new.slots
   pub woke : Woke
   pub marked : marks old.source i woke new.source
   pub same_limit : new.limit ≡ old.limit
 
 -- the same, where it does not matter which slot that was
-abbrev pub Pushes : {F S : Type 0} → (S → ℕ → Woke → S → Type 0) → Bounded F S → F → Bounded F S → Type 0
+abbrev pub Pushes : {F S : Type 0}
+    → (S → ℕ → Woke → S → Type 0) → Bounded F S → F → Bounded F S → Type 0
 Pushes marks old value new = (i : ℕ) × PushesAt marks old i value new
 
 -- fewer names than the limit came, and then Empty or Pause; or as many as the limit, and nothing more was asked
 abbrev pub EndsWaiting : ℕ → List ℕ → List Taken → Type 0
-EndsWaiting limit names ended = ((length names < limit) × ((ended ≡ Empty ∷ []) ⊎ (ended ≡ Pause ∷ [])))
+EndsWaiting limit names ended =
+    ((length names < limit) × ((ended ≡ Empty ∷ []) ⊎ (ended ≡ Pause ∷ [])))
     ⊎ ((length names ≡ limit) × (ended ≡ []))
 
-module _ {F A S : Type 0} (polled : F → Poll A → F → Type 0) (registers : S → S → Type 0) (takes : S → Taken → S → Type 0) where
+module _
+    {F A S : Type 0}
+    (polled : F → Poll A → F → Type 0)
+    (registers : S → S → Type 0)
+    (takes : S → Taken → S → Type 0)
+  where
   -- the task was registered first; the source then gave these names, in order, and after them what ended the asking; the slots named were gone through
-  pub record Runs (old : Bounded F S) (names : List ℕ) (ended : List Taken) (out : Option (ℕ × A)) (new : Bounded F S) : Type 0 where
+  pub record Runs
+      (old : Bounded F S)
+      (names : List ℕ)
+      (ended : List Taken)
+      (out : Option (ℕ × A))
+      (new : Bounded F S)
+    : Type 0 where
     pub registered : S
     pub registers_first : registers old.source registered
     pub answers : FoldsTo takes registered (map Slot names ++ ended) new.source
@@ -73,12 +100,18 @@ module _ {F A S : Type 0} (polled : F → Poll A → F → Type 0) (registers : 
 
   -- one count of names: until an output came, which is given with its slot, or until the asking ended without one
   abbrev pub AsksUntil : Bounded F S → Poll (ℕ × A) → Bounded F S → Type 0
-  AsksUntil old (Ready out) new = (names : List ℕ) × (length names ≤ old.limit) × Runs old names [] (Some out) new
-  AsksUntil old Pending new = (names : List ℕ) × (ended : List Taken) × EndsWaiting old.limit names ended × Runs old names ended None new
+  AsksUntil old (Ready out) new = (names : List ℕ)
+      × (length names ≤ old.limit)
+      × Runs old names [] (Some out) new
+  AsksUntil old Pending new = (names : List ℕ)
+      × (ended : List Taken)
+      × EndsWaiting old.limit names ended
+      × Runs old names ended None new
 
   -- one poll: the end exactly where nothing is held, and then nothing changes; the output of the last name, whose slot is emptied; or Pending, where the asking ended without an output
   abbrev pub PollGives : Bounded F S → Poll (Option A) → Bounded F S → Type 0
   PollGives old (Ready None) new = (held_count old.slots ≡ 0) × (new ≡ old)
   PollGives old (Ready (Some x)) new = (0 < held_count old.slots)
-      × ((i : ℕ) × (left : Bounded F S) × AsksUntil old (Ready (i, x)) left × (new ≡ with_empty_slot left i))
+      × ((i : ℕ) × (left : Bounded F S)
+      × AsksUntil old (Ready (i, x)) left × (new ≡ with_empty_slot left i))
   PollGives old Pending new = (0 < held_count old.slots) × AsksUntil old Pending new

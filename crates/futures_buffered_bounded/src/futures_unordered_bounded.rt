@@ -8,7 +8,8 @@ ghost use Rattle.futures.specs.Poll.{IfReady, OnPending};
 ghost use Rattle.std.specs.Iterator.{IsFiniteIterable};
 ghost use Rattle.futures_buffered_table.specs.Answer.{RefusesTooLarge};
 ghost use Rattle.futures_buffered_core.specs.Drawn.{Draws, DrawsMoreThan};
-ghost use Rattle.futures_buffered_core.specs.SlotMap.{value_in, held_count, slot_count, no_slots};
+ghost use Rattle.futures_buffered_core.specs.SlotMap.{value_in, held_count, slot_count, no_slots, IsFull};
+ghost use Rattle.futures_buffered_core.specs.ReadyShared.{MadeShared, MarksShared};
 ghost use Rattle.futures_buffered_bounded.specs.Held.{AllHeld, AllHeldBut, EndsWith, ComesFrom};
 ghost use Rattle.futures_buffered_bounded.specs.FuturesUnorderedBounded.{HoldsEach, Pushes, PushesAt, AsksUntil, PollGives, with_empty_slot};
 
@@ -59,7 +60,8 @@ impl<F: Drop, S: ReadySource> FuturesUnorderedBounded<F, S> {
     ///
     /// Takes time and memory in proportion to that number. The source is dropped where the set is refused.
     pub fn with_source(alloc: Global, source: S) -> Result<Self, NewFault>
-        ensures empty { IfOk result (λ s. s ≡ record { slots = no_slots (S.slots source); source = source; limit = POLL_LIMIT }) }
+        ensures empty { IfOk result (λ set. set
+            ≡ record { slots = no_slots (S.slots source); source = source; limit = POLL_LIMIT }) }
         ensures refuses { RefusesTooLarge (S.slots source) result }
     {
         let slots = PinSlotMap::new(alloc, source.capacity())?;
@@ -80,11 +82,14 @@ impl<F: Drop, S: ReadySource> FuturesUnorderedBounded<F, S> {
     ) -> Result<Self, NewFault>
     where
         S: NewSource,
-        requires { IsFiniteIterable I.into_iter_gives I.IntoIter.can_next I.IntoIter.remaining iter }
-        ensures holds { IfOk result (λ set. (items : List F) × Draws I.into_iter_gives I.IntoIter.next_gives iter items
+        requires {
+            IsFiniteIterable I.into_iter_gives I.IntoIter.can_next I.IntoIter.remaining iter }
+        ensures holds { IfOk result (λ set. (items : List F)
+            × Draws I.into_iter_gives I.IntoIter.next_gives iter items
             × HoldsEach S.made S.marks POLL_LIMIT items set) }
         ensures fits { IfOk result (λ set. slot_count set.slots ≤ MAX_CAPACITY) }
-        ensures large { result ≡ Err NewFault.TooLarge → DrawsMoreThan I.into_iter_gives I.IntoIter.next_gives iter MAX_CAPACITY }
+        ensures large { result ≡ Err NewFault.TooLarge
+            → DrawsMoreThan I.into_iter_gives I.IntoIter.next_gives iter MAX_CAPACITY }
     {
         let slots = PinSlotMap::from_iter(alloc, iter)?;
         let mut source = S::make(env, alloc, slots.capacity())?;
@@ -127,7 +132,7 @@ impl<F: Drop, S: ReadySource> FuturesUnorderedBounded<F, S> {
         ensures ok { OnOk result (Pushes S.marks self.old value self.new) }
         ensures count { OnOk result (held_count self.new.slots ≡ held_count self.old.slots + 1) }
         ensures full { IfErr result (λ back. (back ≡ value) × (self.new ≡ self.old)
-            × (self.old.slots.free ≡ []) × (held_count self.old.slots ≡ slot_count self.old.slots)) }
+            × IsFull self.old.slots) }
     {
         let _i = self.try_push_at(value)?;
         Ok(())
@@ -138,7 +143,7 @@ impl<F: Drop, S: ReadySource> FuturesUnorderedBounded<F, S> {
         ensures ok { IfOk result (λ i. PushesAt S.marks self.old i value self.new) }
         ensures count { OnOk result (held_count self.new.slots ≡ held_count self.old.slots + 1) }
         ensures full { IfErr result (λ back. (back ≡ value) × (self.new ≡ self.old)
-            × (self.old.slots.free ≡ []) × (held_count self.old.slots ≡ slot_count self.old.slots)) }
+            × IsFull self.old.slots) }
     {
         let i = self.slots.insert_with(value, |value| value)?;
         let _woke = self.source.mark(i);
@@ -194,7 +199,8 @@ impl<F: Drop, S: ReadySource> FuturesUnorderedBounded<F, S> {
         ensures last { IfReady result (λ (i, x). EndsWith R.polled x (value_in self.new.slots i)) }
         ensures count { held_count self.new.slots ≡ held_count self.old.slots }
         ensures capacity { slot_count self.new.slots ≡ slot_count self.old.slots }
-        ensures same_slots { (j : ℕ) → is_some (value_in self.new.slots j) ≡ is_some (value_in self.old.slots j) }
+        ensures same_slots { (j : ℕ)
+            → is_some (value_in self.new.slots j) ≡ is_some (value_in self.old.slots j) }
         ensures covered { OnPending result (Covers cx.new (S.needs self.new.source)) }
         ensures kept { Keeps cx.old cx.new }
     {
@@ -235,7 +241,8 @@ impl<F: Drop, S: ReadySource> FuturesUnorderedBounded<F, S> {
         requires { AllHeld R.can_poll self.old.slots }
         ensures polled { PollGives R.polled S.registers S.takes self.old result self.new }
         ensures pollable { AllHeld R.can_poll self.new.slots }
-        ensures fewer { IfReady result (λ o. OnSome o (held_count self.new.slots + 1 ≡ held_count self.old.slots)) }
+        ensures fewer { IfReady result (λ o. OnSome o
+            (held_count self.new.slots + 1 ≡ held_count self.old.slots)) }
         ensures same { OnPending result (held_count self.new.slots ≡ held_count self.old.slots) }
         ensures covered { OnPending result (Covers cx.new (S.needs self.new.source)) }
         ensures kept { Keeps cx.old cx.new }
@@ -266,8 +273,10 @@ impl<F: SlotFuture<S::Waker>, S: ReadySource> Stream for FuturesUnorderedBounded
         requires { AllHeld F.can_poll self.old.slots }
         ensures polled { PollGives F.polled S.registers S.takes self.old result self.new }
         ensures value { IfReady result (ComesFrom F.polled self.old.slots []) }
-        ensures rest { IfReady result (λ o. IfSome o (λ x. After (ComesFrom F.polled self.old.slots) x (ComesFrom F.polled self.new.slots))) }
-        ensures same { OnPending result (Within (ComesFrom F.polled self.old.slots) (ComesFrom F.polled self.new.slots)) }
+        ensures rest { IfReady result (λ o. IfSome o (λ x.
+            After (ComesFrom F.polled self.old.slots) x (ComesFrom F.polled self.new.slots))) }
+        ensures same { OnPending result
+            (Within (ComesFrom F.polled self.old.slots) (ComesFrom F.polled self.new.slots)) }
         ensures goes { IfReady result (λ o. OnSome o (AllHeld F.can_poll self.new.slots)) }
         ensures again { OnPending result (AllHeld F.can_poll self.new.slots) }
         ensures registered { OnPending result (Covers cx.new (S.needs self.new.source)) }
@@ -281,7 +290,7 @@ impl<R: Wait + Clone + Drop, F: Drop> FuturesUnorderedBounded<F, SharedReady<R>>
     /// A set whose values are woken from any thread. It keeps a copy of the handle.
     pub fn new(env: &R, alloc: Global, cap: usize) -> Result<Self, NewFault>
         ensures empty { IfOk result (λ set. set.slots ≡ no_slots cap) }
-        ensures source { IfOk result (λ set. set.source.capacity ≡ cap) }
+        ensures source { IfOk result (λ set. MadeShared cap set.source) }
         ensures limit { IfOk result (λ set. set.limit ≡ POLL_LIMIT) }
         ensures refuses { RefusesTooLarge cap result }
     {
@@ -300,11 +309,14 @@ impl<R: Wait + Clone + Drop + Send + Sync, F: Drop> FuturesUnorderedBounded<F, S
         iter: I,
     ) -> Result<Self, NewFault>
     where
-        requires { IsFiniteIterable I.into_iter_gives I.IntoIter.can_next I.IntoIter.remaining iter }
-        ensures holds { IfOk result (λ set. (items : List F) × Draws I.into_iter_gives I.IntoIter.next_gives iter items
-            × HoldsEach (λ cap source. source.capacity ≡ cap) (λ old _ _ new. new ≡ old) POLL_LIMIT items set) }
+        requires {
+            IsFiniteIterable I.into_iter_gives I.IntoIter.can_next I.IntoIter.remaining iter }
+        ensures holds { IfOk result (λ set. (items : List F)
+            × Draws I.into_iter_gives I.IntoIter.next_gives iter items
+            × HoldsEach MadeShared MarksShared POLL_LIMIT items set) }
         ensures fits { IfOk result (λ set. slot_count set.slots ≤ MAX_CAPACITY) }
-        ensures large { result ≡ Err NewFault.TooLarge → DrawsMoreThan I.into_iter_gives I.IntoIter.next_gives iter MAX_CAPACITY }
+        ensures large { result ≡ Err NewFault.TooLarge
+            → DrawsMoreThan I.into_iter_gives I.IntoIter.next_gives iter MAX_CAPACITY }
     {
         Self::over(env, alloc, iter)
     }

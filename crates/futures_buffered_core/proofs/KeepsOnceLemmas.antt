@@ -74,7 +74,8 @@ KeepsOnce-mark marks queue n i kept within clear =
         there true b e = refl
         there false b e = sym e
 
-absent_rest : (i : ℕ) (rest : List ℕ) → AllByRecursion (λ y. eqb i y ≡ false) rest → list_any (eqb i) rest ≡ false
+-- what differs from each of the rest is not among them
+pub absent_rest : (i : ℕ) (rest : List ℕ) → AllByRecursion (λ y. eqb i y ≡ false) rest → list_any (eqb i) rest ≡ false
 absent_rest i [] h = refl
 absent_rest i (y ∷ rest) h = rw (h.0) (absent_rest i rest h.1)
 

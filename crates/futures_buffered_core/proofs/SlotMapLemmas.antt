@@ -86,10 +86,6 @@ module _ {F : Type 0} where
   pub count-insert : (places : List (Option F)) (i : ℕ) (value : F) → i < length places → get_or places i None ≡ None → count_by is_some (set places i (Some value)) ≡ count_by is_some places + 1
   count-insert places i value within none = omega (arith, rw none at (count-set places i (Some value) within))
 
-  -- one value fewer
-  pub count-with_slot_freed : (places : List (Option F)) (i : ℕ) → IsSome (get_or places i None) → count_by is_some (set places i None) + 1 ≡ count_by is_some places
-  count-with_slot_freed places i some = omega (arith, rw some at (count-set places i None (value_within places i some)))
-
   pub KeepsPlaces-room : (places : List (Option F)) (free : List ℕ) (room i : ℕ) → KeepsPlaces places free room → IsSome (get_or places i None) → length free < room
   KeepsPlaces-room places free room i kept some =
       let within = value_within places i some in

@@ -2,7 +2,12 @@
 use Rattle.std.specs.Prelude.{◌≡◌, ℕ, List, Option, Some, length}
 use Rattle.std.specs.Iterator.{Drains, YieldsThen}
 
-module _ {U I F : Type 0} (becomes : U → I → Type 0) (steps : I → Option F → I → Type 0) (source : U) where
+module _
+    {U I F : Type 0}
+    (becomes : U → I → Type 0)
+    (steps : I → Option F → I → Type 0)
+    (source : U)
+  where
   -- these items came, in order, and then the end
   abbrev pub Draws : List F → Type 0
   Draws items = (it : I) × becomes source it × Drains steps it items

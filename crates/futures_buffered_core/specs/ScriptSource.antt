@@ -18,7 +18,9 @@ AnswersNext (first ∷ others) given rest = (given ≡ first) × (rest ≡ other
 
 -- one taking
 abbrev pub TakesNext : Script → Taken → Script → Type 0
-TakesNext old given new = AnswersNext old.left given new.left × IsNameBelow old.capacity given × (new.capacity ≡ old.capacity)
+TakesNext old given new = AnswersNext old.left given new.left
+    × IsNameBelow old.capacity given
+    × (new.capacity ≡ old.capacity)
 
 -- one mark, of any slot: it is fresh, and changes nothing
 abbrev pub MarksNothing : Script → ℕ → Woke → Script → Type 0

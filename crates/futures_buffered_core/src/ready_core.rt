@@ -15,6 +15,7 @@ use crate::wrong_name::first_wrong;
 use std::alloc::Global;
 use std::collections::VecDeque;
 use std::marker::Model;
+use thiserror::Error;
 
 /// What is done to a ready core.
 #[derive(Clone, Copy, Debug, PartialEq, Eq)]
@@ -54,7 +55,8 @@ impl Model for ReadyCore {
 
     ghost view = { λ core. record { capacity = vec_len core.marks; marked = core.queue.items } };
 
-    ghost invariant = { λ core. KeepsOnce core.marks.items core.queue.items (deque_capacity core.queue) };
+    ghost invariant = { λ core.
+        KeepsOnce core.marks.items core.queue.items (deque_capacity core.queue) };
 }
 
 impl ReadyCore {
@@ -73,7 +75,7 @@ impl ReadyCore {
         Ok(ReadyCore { marks, queue })
     }
 
-    /// The number of slots.
+    /// The number of slots. Takes the same time at any capacity.
     pub fn capacity(&self) -> usize
         ensures value { result ≡ self.now.capacity }
         ensures once { IsDistinct nat_eq self.now.marked }
@@ -114,11 +116,13 @@ impl ReadyCore {
 }
 
 /// Why a list was refused.
-#[derive(Clone, Copy, Debug, PartialEq, Eq)]
+#[derive(Clone, Copy, Debug, PartialEq, Eq, Error)]
 pub enum RunFault {
     /// A request for memory was refused.
+    #[error("out of memory")]
     Memory,
     /// The position of the first entry that names a slot not below the capacity. This is tested before any memory is asked for.
+    #[error("the entry at {0} names a slot that is not there")]
     Event(usize),
 }
 

@@ -67,19 +67,24 @@ pub trait ReadySource: Drop {
         ensures kept { Keeps cx.old cx.new };
 
     // A slot that is named is below the capacity.
-    ghost names_below: { (old : Self) (i : ℕ) (new : Self) → takes old (Slot i) new → i < slots old };
+    ghost names_below: { (old : Self) (i : ℕ) (new : Self) →
+        takes old (Slot i) new → i < slots old };
 
     // The capacity stays.
-    ghost mark_keeps: { (old : Self) (i : ℕ) (woke : Woke) (new : Self) → marks old i woke new → slots new ≡ slots old };
+    ghost mark_keeps: { (old : Self) (i : ℕ) (woke : Woke) (new : Self) →
+        marks old i woke new → slots new ≡ slots old };
 
-    ghost take_keeps: { (old : Self) (taken : Taken) (new : Self) → takes old taken new → slots new ≡ slots old };
+    ghost take_keeps: { (old : Self) (taken : Taken) (new : Self) →
+        takes old taken new → slots new ≡ slots old };
 
     ghost register_keeps: { (old new : Self) → registers old new → slots new ≡ slots old };
 
     // A registration waits no longer at more places than before.
-    ghost take_needs: { (old : Self) (taken : Taken) (new : Self) → takes old taken new → (n : ℕ) → needs new n → needs old n };
+    ghost take_needs: { (old : Self) (taken : Taken) (new : Self) →
+        takes old taken new → (n : ℕ) → needs new n → needs old n };
 
-    ghost register_needs: { (old new : Self) → registers old new → (n : ℕ) → needs new n → needs old n };
+    ghost register_needs: { (old new : Self) →
+        registers old new → (n : ℕ) → needs new n → needs old n };
 }
 
 /// A source that a set can make for itself.

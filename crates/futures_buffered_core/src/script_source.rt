@@ -35,7 +35,8 @@ impl Model for ScriptSource {
 
     ghost view = { λ s. record { capacity = s.capacity; left = into_iter_items s.answers } };
 
-    ghost invariant = { λ s. NamesAllBelow Slot s.capacity (into_iter_items s.answers) (length (into_iter_items s.answers)) };
+    ghost invariant = { λ s. let left = into_iter_items s.answers in
+        NamesAllBelow Slot s.capacity left (length left) };
 }
 
 impl ScriptSource {
@@ -44,7 +45,8 @@ impl ScriptSource {
     /// `RunFault::Event` has the position of the first answer that names a slot not below `cap`. No memory is asked for, so `RunFault::Memory` never comes.
     pub fn new(_alloc: Global, cap: usize, answers: Vec<Taken>) -> Result<Self, RunFault>
         ensures ok { IfOk result (λ s. s ≡ record { capacity = cap; left = answers.items }) }
-        ensures named { OnOk result (NamesAllBelow Taken.Slot cap answers.items (length answers.items)) }
+        ensures named { OnOk result
+            (NamesAllBelow Taken.Slot cap answers.items (length answers.items)) }
         ensures wrong { (p : ℕ) → result ≡ Err (RunFault.Event p)
             → IsFirstWrong Taken.Slot cap answers.items p }
         ensures never_memory { result ≢ Err RunFault.Memory }

@@ -10,7 +10,7 @@ ghost use Rattle.std.specs.Borrow.{sem};
 ghost use Rattle.std.specs.Iterator.{IsFiniteIterable};
 ghost use Rattle.futures_buffered_table.specs.Answer.{RefusesTooLarge};
 ghost use Rattle.futures_buffered_core.specs.Drawn.{Draws, DrawsMoreThan};
-ghost use Rattle.futures_buffered_core.specs.SlotMap.{value_in, held_count, slot_count, no_slots, all_slots, with_slot_freed, Inserts, IsFirstHeld, NoneHeldFrom};
+ghost use Rattle.futures_buffered_core.specs.SlotMap.{value_in, held_count, slot_count, no_slots, all_slots, with_slot_freed, IsFull, Inserts, IsFirstHeld, NoneHeldFrom};
 
 use crate::ready_core::{MAX_CAPACITY, NewFault};
 use std::alloc::{AllocError, Global};
@@ -97,10 +97,13 @@ impl<F: Drop> PinSlotMap<F> {
     ///
     /// Takes time and memory in proportion to that number. Where it is refused, the items that came are dropped: `TooLarge` where one more than `MAX_CAPACITY` came, and `Memory` where there was no room for the next.
     pub fn from_iter<I: IntoIterator<Item = F>>(alloc: Global, iter: I) -> Result<Self, NewFault>
-        requires { IsFiniteIterable I.into_iter_gives I.IntoIter.can_next I.IntoIter.remaining iter }
-        ensures full { IfOk result (λ m. (items : List F) × Draws I.into_iter_gives I.IntoIter.next_gives iter items × (m ≡ all_slots items)) }
+        requires {
+            IsFiniteIterable I.into_iter_gives I.IntoIter.can_next I.IntoIter.remaining iter }
+        ensures full { IfOk result (λ m. (items : List F)
+            × Draws I.into_iter_gives I.IntoIter.next_gives iter items × (m ≡ all_slots items)) }
         ensures fits { IfOk result (λ m. slot_count m ≤ MAX_CAPACITY) }
-        ensures large { result ≡ Err NewFault.TooLarge → DrawsMoreThan I.into_iter_gives I.IntoIter.next_gives iter MAX_CAPACITY }
+        ensures large { result ≡ Err NewFault.TooLarge
+            → DrawsMoreThan I.into_iter_gives I.IntoIter.next_gives iter MAX_CAPACITY }
     {
         let mut places = Vec::new(alloc);
         for item in iter {
@@ -143,9 +146,11 @@ impl<F: Drop> PinSlotMap<F> {
     where
         G: Drop,
         requires { self.old.free ≢ [] → G.pre f arg }
-        ensures ok { IfOk result (λ i. (value : _) × G.post f arg value × Inserts self.old i value self.new) }
+        ensures ok { IfOk result (λ i. (value : _)
+            × G.post f arg value × Inserts self.old i value self.new) }
         ensures count { OnOk result (held_count self.new ≡ held_count self.old + 1) }
-        ensures full { IfErr result (λ back. (back ≡ arg) × (self.new ≡ self.old) × (self.old.free ≡ []) × (held_count self.old ≡ slot_count self.old)) }
+        ensures full { IfErr result (λ back.
+            (back ≡ arg) × (self.new ≡ self.old) × IsFull self.old) }
     {
         let Some(i) = self.free.pop_front() else {
             return Err(arg);
@@ -158,8 +163,10 @@ impl<F: Drop> PinSlotMap<F> {
     ///
     /// Takes the same time at any capacity, besides the drop of the value.
     pub fn remove(&mut self, key: usize)
-        ensures slots { MatchOption (value_in self.old key) (self.new ≡ self.old) (λ _. self.new ≡ with_slot_freed self.old key) }
-        ensures count { IsSome (value_in self.old key) → held_count self.new + 1 ≡ held_count self.old }
+        ensures slots { MatchOption (value_in self.old key) (self.new ≡ self.old)
+            (λ _. self.new ≡ with_slot_freed self.old key) }
+        ensures count { IsSome (value_in self.old key)
+            → held_count self.new + 1 ≡ held_count self.old }
     {
         if self.holds(key) {
             self.places[key] = None;
@@ -235,7 +242,8 @@ impl<'a, F: Drop> SlotMapIterMut<'a, F> {
     /// The value of the first slot, of those not passed yet, that holds one. `None` once there is no such slot, and from then on.
     pub fn next(&mut self) -> Option<&mut F>
         ensures* writes_back { sem 𝓛 (lends_next F.row self.entry result) }
-        ensures value { IfSome result (λ f. (i : ℕ) × IsFirstHeld (iter_slots self.old) (iter_from self.old) i
+        ensures value { IfSome result (λ f. (i : ℕ)
+            × IsFirstHeld (iter_slots self.old) (iter_from self.old) i
             × (value_in (iter_slots self.old) i ≡ Some f.now)) }
         ensures end { IfNone result (NoneHeldFrom (iter_slots self.old) (iter_from self.old)) }
     {
