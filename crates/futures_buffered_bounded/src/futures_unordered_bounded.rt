@@ -6,7 +6,7 @@ ghost use Rattle.futures.specs.Task.{Covers, Keeps};
 ghost use Rattle.futures.specs.Runs.{After, Within};
 ghost use Rattle.futures.specs.Poll.{IfReady, OnPending};
 ghost use Rattle.std.specs.Iterator.{IsFiniteIterable};
-ghost use Rattle.futures_buffered_table.specs.Answer.{RefusesTooLarge};
+ghost use Rattle.futures_buffered_core.specs.Answer.{RefusesTooLarge};
 ghost use Rattle.futures_buffered_core.specs.Drawn.{Draws, DrawsMoreThan};
 ghost use Rattle.futures_buffered_core.specs.SlotMap.{value_in, held_count, slot_count, no_slots, IsFull};
 ghost use Rattle.futures_buffered_core.specs.ReadyShared.{MadeShared, MarksShared};
@@ -58,7 +58,7 @@ impl<F: Drop, S: ReadySource> Model for FuturesUnorderedBounded<F, S> {
 impl<F: Drop, S: ReadySource> FuturesUnorderedBounded<F, S> {
     /// An empty set over this source, with as many slots as the source has.
     ///
-    /// Takes time and memory in proportion to that number. The source is dropped where the set is refused.
+    /// Takes time and memory in proportion to that number. `Memory` where a request for it was refused. The source is dropped where the set is refused.
     pub fn with_source(alloc: Global, source: S) -> Result<Self, NewFault>
         ensures empty { IfOk result (λ set. set
             ≡ record { slots = no_slots (S.slots source); source = source; limit = POLL_LIMIT }) }
@@ -103,21 +103,21 @@ impl<F: Drop, S: ReadySource> FuturesUnorderedBounded<F, S> {
         })
     }
 
-    /// The number of futures held.
+    /// The number of futures held. Takes the same time at any capacity.
     pub fn len(&self) -> usize
         ensures { result ≡ held_count self.now.slots }
     {
         self.slots.len()
     }
 
-    /// Whether no future is held.
+    /// Whether no future is held. Takes the same time at any capacity.
     pub fn is_empty(&self) -> bool
         ensures { IsTrue result ↔ (held_count self.now.slots ≡ 0) }
     {
         self.slots.is_empty()
     }
 
-    /// The number of slots, which never changes.
+    /// The number of slots, which never changes. Takes the same time at any capacity.
     pub fn capacity(&self) -> usize
         ensures value { result ≡ slot_count self.now.slots }
         ensures source { result ≡ S.slots self.now.source }
@@ -174,7 +174,7 @@ impl<F: Drop, S: ReadySource> FuturesUnorderedBounded<F, S> {
         }
     }
 
-    /// Marks a slot by hand, whether it holds a future or not. Wakes nobody.
+    /// Marks a slot by hand, whether it holds a future or not. Wakes nobody, and takes as long as a mark of the source.
     pub fn mark_slot(&mut self, i: usize) -> Woke
         requires { i < slot_count self.old.slots }
         ensures marked { S.marks self.old.source i result self.new.source }
@@ -221,7 +221,7 @@ impl<F: Drop, S: ReadySource> FuturesUnorderedBounded<F, S> {
         cx.yield_now()
     }
 
-    /// Drops the value of a slot, which is then the first free one.
+    /// Drops the value of a slot, which is then the first free one. Takes the same time at any capacity, besides the drop.
     pub fn empty_slot(&mut self, i: usize)
         requires { IsSome (value_in self.old.slots i) }
         ensures emptied { self.new ≡ with_empty_slot self.old i }
@@ -269,6 +269,9 @@ impl<F: SlotFuture<S::Waker>, S: ReadySource> Stream for FuturesUnorderedBounded
 
     ghost yields = { λ set. ComesFrom F.polled set.slots };
 
+    /// One poll, as `poll_with` by the rule that polls the future itself.
+    ///
+    /// Takes no memory. Names at most `POLL_LIMIT` slots and polls only what these hold, so its time is that of these polls, at any capacity. Holds no lock of the source while it polls a future.
     fn poll_next(&mut self, cx: &mut Context<'_>) -> Poll<Option<F::Output>>
         requires { AllHeld F.can_poll self.old.slots }
         ensures polled { PollGives F.polled S.registers S.takes self.old result self.new }
@@ -288,6 +291,8 @@ impl<F: SlotFuture<S::Waker>, S: ReadySource> Stream for FuturesUnorderedBounded
 
 impl<R: Wait + Clone + Drop, F: Drop> FuturesUnorderedBounded<F, SharedReady<R>> {
     /// A set whose values are woken from any thread. It keeps a copy of the handle.
+    ///
+    /// Takes time and memory in proportion to `cap`, all that the set ever needs. `Memory` where a request for memory was refused, or the handle could not be copied.
     pub fn new(env: &R, alloc: Global, cap: usize) -> Result<Self, NewFault>
         ensures empty { IfOk result (λ set. set.slots ≡ no_slots cap) }
         ensures source { IfOk result (λ set. MadeShared cap set.source) }

@@ -1,3 +1,4 @@
+pub use Rattle.futures_buffered_table.specs.Answer
 pub mod ReadyCore
 pub mod KeepsOnce
 pub mod History

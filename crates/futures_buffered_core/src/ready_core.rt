@@ -62,7 +62,7 @@ impl Model for ReadyCore {
 impl ReadyCore {
     /// A core of `cap` slots, none of which is marked.
     ///
-    /// Takes time and memory in proportion to `cap`: room for every slot to be marked, so that no later call takes any.
+    /// Takes time and memory in proportion to `cap`: room for every slot to be marked, so that no later call takes any. `Memory` where a request for that room was refused.
     pub fn new(alloc: Global, cap: usize) -> Result<Self, NewFault>
         ensures empty { IfOk result (λ core. core ≡ record { capacity = cap; marked = [] }) }
         ensures refuses { RefusesTooLarge cap result }

@@ -43,7 +43,7 @@ pub trait ReadySource: Drop {
     // The places of a task's wakes at which a registration waits, by their names.
     ghost needs: { Self → ℕ → Type 0 };
 
-    /// The number of slots.
+    /// The number of slots. Takes the same time at any capacity.
     fn capacity(&self) -> usize
         ensures { result ≡ slots self.now };
 
@@ -95,7 +95,7 @@ pub trait NewSource: ReadySource {
     // What a new source of this capacity may be.
     ghost made: { ℕ → Self → Type 0 };
 
-    /// A source of `cap` slots. Takes memory in proportion to `cap`, so that no later call takes any.
+    /// A source of `cap` slots. Takes time and memory in proportion to `cap`, so that no later call takes any.
     fn make(env: &Self::Env, alloc: Global, cap: usize) -> Result<Self, NewFault>
         ensures made { IfOk result (made cap) }
         ensures refuses { RefusesTooLarge cap result };

@@ -40,7 +40,7 @@ impl Model for ScriptSource {
 }
 
 impl ScriptSource {
-    /// A source of `cap` slots with these answers to give. `cap` can be any number.
+    /// A source of `cap` slots with these answers to give. `cap` can be any number. Takes time in proportion to the answers.
     ///
     /// `RunFault::Event` has the position of the first answer that names a slot not below `cap`. No memory is asked for, so `RunFault::Memory` never comes.
     pub fn new(_alloc: Global, cap: usize, answers: Vec<Taken>) -> Result<Self, RunFault>

@@ -80,7 +80,7 @@ impl<F: Drop> PinSlotMap<F> {
 
     /// A map of `capacity` free slots.
     ///
-    /// Takes time and memory in proportion to `capacity`.
+    /// Takes time and memory in proportion to `capacity`. `Memory` where a request for memory was refused.
     pub fn new(alloc: Global, capacity: usize) -> Result<Self, NewFault>
         ensures empty { IfOk result (λ m. m ≡ no_slots capacity) }
         ensures refuses { RefusesTooLarge capacity result }
@@ -118,7 +118,7 @@ impl<F: Drop> PinSlotMap<F> {
         Ok(PinSlotMap { places, free })
     }
 
-    /// The number of slots, free or not.
+    /// The number of slots, free or not. Takes the same time at any capacity.
     pub fn capacity(&self) -> usize
         ensures { result ≡ slot_count self.now }
     {
@@ -132,7 +132,7 @@ impl<F: Drop> PinSlotMap<F> {
         self.capacity() - self.free.len()
     }
 
-    /// Whether no value is held.
+    /// Whether no value is held. Takes the same time at any capacity.
     pub fn is_empty(&self) -> bool
         ensures { IsTrue result ↔ (held_count self.now ≡ 0) }
     {
@@ -174,7 +174,7 @@ impl<F: Drop> PinSlotMap<F> {
         }
     }
 
-    /// The value of a slot, for writing. `None` where the slot is free or not there.
+    /// The value of a slot, for writing. `None` where the slot is free or not there. Takes the same time at any capacity.
     pub fn get(&mut self, key: usize) -> Option<&mut F>
         ensures* writes_back { sem 𝓛 (lends_slot F.row self.entry key result) }
         ensures value { option_copied_mut result ≡ value_in self.old key }
@@ -240,6 +240,8 @@ impl<'a, F: Drop> SlotMapIterMut<'a, F> {
     ghost use Rattle.futures_buffered_core.specs.SlotMapIterMut.{iter_slots, iter_from, lends_next};
 
     /// The value of the first slot, of those not passed yet, that holds one. `None` once there is no such slot, and from then on.
+    ///
+    /// Takes no memory, and time in proportion to the slots that it passes.
     pub fn next(&mut self) -> Option<&mut F>
         ensures* writes_back { sem 𝓛 (lends_next F.row self.entry result) }
         ensures value { IfSome result (λ f. (i : ℕ)
