@@ -46,7 +46,7 @@ pub record HoldsEach
     (names : ℕ)
     (items : List F)
     (set : Bounded F S)
-  : Type 0 where
+    : Type 0 where
   pub slots_hold : set.slots ≡ all_slots items
   pub new_source : S
   pub was_made : made (length items) new_source
@@ -61,7 +61,7 @@ pub record PushesAt
     (i : ℕ)
     (value : F)
     (new : Bounded F S)
-  : Type 0 where
+    : Type 0 where
   pub inserted : Inserts old.slots i value new.slots
   pub woke : Woke
   pub marked : marks old.source i woke new.source
@@ -84,34 +84,34 @@ module _
     (registers : S → S → Type 0)
     (takes : S → Taken → S → Type 0)
   where
-  -- the task was registered first; the source then gave these names, in order, and after them what ended the asking; the slots named were gone through
-  pub record Runs
-      (old : Bounded F S)
-      (names : List ℕ)
-      (ended : List Taken)
-      (out : Option (ℕ × A))
-      (new : Bounded F S)
-    : Type 0 where
-    pub registered : S
-    pub registers_first : registers old.source registered
-    pub answers : FoldsTo takes registered (map Slot names ++ ended) new.source
-    pub polls : NamesRun polled old.slots names out new.slots
-    pub same_limit : new.limit ≡ old.limit
+    -- the task was registered first; the source then gave these names, in order, and after them what ended the asking; the slots named were gone through
+    pub record Runs
+        (old : Bounded F S)
+        (names : List ℕ)
+        (ended : List Taken)
+        (out : Option (ℕ × A))
+        (new : Bounded F S)
+        : Type 0 where
+      pub registered : S
+      pub registers_first : registers old.source registered
+      pub answers : FoldsTo takes registered (map Slot names ++ ended) new.source
+      pub polls : NamesRun polled old.slots names out new.slots
+      pub same_limit : new.limit ≡ old.limit
 
-  -- one count of names: until an output came, which is given with its slot, or until the asking ended without one
-  abbrev pub AsksUntil : Bounded F S → Poll (ℕ × A) → Bounded F S → Type 0
-  AsksUntil old (Ready out) new = (names : List ℕ)
-      × (length names ≤ old.limit)
-      × Runs old names [] (Some out) new
-  AsksUntil old Pending new = (names : List ℕ)
-      × (ended : List Taken)
-      × EndsWaiting old.limit names ended
-      × Runs old names ended None new
+    -- one count of names: until an output came, which is given with its slot, or until the asking ended without one
+    abbrev pub AsksUntil : Bounded F S → Poll (ℕ × A) → Bounded F S → Type 0
+    AsksUntil old (Ready out) new = (names : List ℕ)
+        × (length names ≤ old.limit)
+        × Runs old names [] (Some out) new
+    AsksUntil old Pending new = (names : List ℕ)
+        × (ended : List Taken)
+        × EndsWaiting old.limit names ended
+        × Runs old names ended None new
 
-  -- one poll: the end exactly where nothing is held, and then nothing changes; the output of the last name, whose slot is emptied; or Pending, where the asking ended without an output
-  abbrev pub PollGives : Bounded F S → Poll (Option A) → Bounded F S → Type 0
-  PollGives old (Ready None) new = (held_count old.slots ≡ 0) × (new ≡ old)
-  PollGives old (Ready (Some x)) new = (0 < held_count old.slots)
-      × ((i : ℕ) × (left : Bounded F S)
-      × AsksUntil old (Ready (i, x)) left × (new ≡ with_empty_slot left i))
-  PollGives old Pending new = (0 < held_count old.slots) × AsksUntil old Pending new
+    -- one poll: the end exactly where nothing is held, and then nothing changes; the output of the last name, whose slot is emptied; or Pending, where the asking ended without an output
+    abbrev pub PollGives : Bounded F S → Poll (Option A) → Bounded F S → Type 0
+    PollGives old (Ready None) new = (held_count old.slots ≡ 0) × (new ≡ old)
+    PollGives old (Ready (Some x)) new = (0 < held_count old.slots)
+        × ((i : ℕ) × (left : Bounded F S)
+        × AsksUntil old (Ready (i, x)) left × (new ≡ with_empty_slot left i))
+    PollGives old Pending new = (0 < held_count old.slots) × AsksUntil old Pending new

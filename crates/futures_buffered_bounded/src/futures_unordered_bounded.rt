@@ -82,8 +82,8 @@ impl<F: Drop, S: ReadySource> FuturesUnorderedBounded<F, S> {
     ) -> Result<Self, NewFault>
     where
         S: NewSource,
-        requires {
-            IsFiniteIterable I.into_iter_gives I.IntoIter.can_next I.IntoIter.remaining iter }
+        requires { IsFiniteIterable I.into_iter_gives I.IntoIter.can_next
+            I.IntoIter.remaining iter }
         ensures holds { IfOk result (λ set. (items : List F)
             × Draws I.into_iter_gives I.IntoIter.next_gives iter items
             × HoldsEach S.made S.marks POLL_LIMIT items set) }
@@ -314,8 +314,8 @@ impl<R: Wait + Clone + Drop + Send + Sync, F: Drop> FuturesUnorderedBounded<F, S
         iter: I,
     ) -> Result<Self, NewFault>
     where
-        requires {
-            IsFiniteIterable I.into_iter_gives I.IntoIter.can_next I.IntoIter.remaining iter }
+        requires { IsFiniteIterable I.into_iter_gives I.IntoIter.can_next
+            I.IntoIter.remaining iter }
         ensures holds { IfOk result (λ set. (items : List F)
             × Draws I.into_iter_gives I.IntoIter.next_gives iter items
             × HoldsEach MadeShared MarksShared POLL_LIMIT items set) }

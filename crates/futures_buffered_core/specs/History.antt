@@ -62,7 +62,7 @@ abbrev pub EachIsRight : List ℕ → List Event → List Reply → Type 0
 EachIsRight standing events replies = (p : ℕ) (e : Event) (r : Reply)
     → slice_get events p ≡ Some e → slice_get replies p ≡ Some r
     → IsRight (marks_before standing ++ take p events)
-        (replies_before standing ++ take p replies) e r
+    (replies_before standing ++ take p replies) e r
 
 -- the replies are right, one for each event, and the new standing is that of all events
 pub record Answers
@@ -70,7 +70,7 @@ pub record Answers
     (events : List Event)
     (replies : List Reply)
     (new : List ℕ)
-  : Type 0 where
+    : Type 0 where
   pub each : EachIsRight standing events replies
   pub count : length replies ≡ length events
   pub stands : IsStanding (marks_before standing ++ events) (replies_before standing ++ replies) new

@@ -8,6 +8,6 @@ pub record KeepsPlaces
     (places : List (Option F))
     (free : List ℕ)
     (room : ℕ)
-  : Type 0 where
+    : Type 0 where
   pub once : KeepsOnce (map is_none places) free room
   pub total : count_by is_some places + length free ≡ length places

@@ -30,5 +30,5 @@ module _ (F : RattleType) (it : MutBor (SlotMapIterMut F.Denot)) where
   lends_next r =
       LendsSo (the_row (record { mir = named 0; lft = [] }) F) F it r
       (λ after value. OnSome r ((i : ℕ) → IsFirstHeld (iter_slots it.now) (iter_from it.now) i
-          → after ≡ past_slot it.now i value))
+      → after ≡ past_slot it.now i value))
       (λ after. IfNone r (after ≡ it.now))

@@ -9,9 +9,8 @@ ghost use Rattle.futures_buffered_core.specs.History.{Answers};
 ghost use Rattle.futures_buffered_core.specs.WrongName.{NamesAllBelow, IsFirstWrong};
 ghost use Rattle.futures_buffered_table.specs.Answer.{RefusesTooLarge};
 
-pub use futures_buffered_table::answer::{MAX_CAPACITY, NewFault, Taken, Woke};
-
 use crate::wrong_name::first_wrong;
+pub use futures_buffered_table::answer::{MAX_CAPACITY, NewFault, Taken, Woke};
 use std::alloc::Global;
 use std::collections::VecDeque;
 use std::marker::Model;

@@ -9,9 +9,8 @@ ghost use Rattle.futures_buffered_table.specs.declared.answer.Taken.TheVariants.
 ghost use Rattle.futures_buffered_table.specs.Answer.{RefusesTooLarge};
 
 pub use crate::core_source::{CoreSource, Silent};
-pub use crate::script_source::ScriptSource;
-
 use crate::ready_core::{NewFault, Taken, Woke};
+pub use crate::script_source::ScriptSource;
 use futures::task::Context;
 use std::alloc::Global;
 

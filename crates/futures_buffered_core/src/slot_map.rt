@@ -97,8 +97,8 @@ impl<F: Drop> PinSlotMap<F> {
     ///
     /// Takes time and memory in proportion to that number. Where it is refused, the items that came are dropped: `TooLarge` where one more than `MAX_CAPACITY` came, and `Memory` where there was no room for the next.
     pub fn from_iter<I: IntoIterator<Item = F>>(alloc: Global, iter: I) -> Result<Self, NewFault>
-        requires {
-            IsFiniteIterable I.into_iter_gives I.IntoIter.can_next I.IntoIter.remaining iter }
+        requires { IsFiniteIterable I.into_iter_gives I.IntoIter.can_next
+            I.IntoIter.remaining iter }
         ensures full { IfOk result (λ m. (items : List F)
             × Draws I.into_iter_gives I.IntoIter.next_gives iter items × (m ≡ all_slots items)) }
         ensures fits { IfOk result (λ m. slot_count m ≤ MAX_CAPACITY) }
