@@ -9,11 +9,11 @@ use Rattle.futures.specs.declared.task.Poll.TheVariants.{Ready, Pending}
 use Rattle.futures.specs.Poll.{IfReady, OnPending}
 use Rattle.futures.specs.Runs.{After, Within}
 use Rattle.futures.specs.Queued.{Gathers}
-use Rattle.futures_buffered_core.specs.SlotMap.{Slots, held, held_count, with_value, without}
+use Rattle.futures_buffered_core.specs.SlotMap.{Slots, value_in, held_count, with_value, with_slot_freed}
 use Rattle.futures_buffered_table.specs.declared.answer.Taken.{Taken}
 use Rattle.futures_buffered_bounded.specs.Held.{Passes, Yields, MayGive, AnyMayGive, ComesFrom}
 use Rattle.futures_buffered_bounded.specs.FuturesUnorderedBounded.{Bounded, PollGives}
-use Rattle.futures_buffered_bounded.proofs.HeldLemmas.{held-with}
+use Rattle.futures_buffered_bounded.proofs.HeldLemmas.{value_in-with_value}
 
 module _ {A : Type 0} {P Q : A → Type 0} (weaker : (x : A) → Q x → P x) where
   pub Gathers-Within : (m n : ℕ) → n ≡ m → Within (Gathers P m) (Gathers Q n)
@@ -25,25 +25,25 @@ module _ {A : Type 0} {P Q : A → Type 0} (weaker : (x : A) → Q x → P x) wh
   Gathers-After m n x fewer p xs (Some y) h =
       record { each = (p, AllByRecursion_weaker Q P xs weaker h.each); ends = (weaker y h.ends.0, let k = h.ends.1 in omega arith) }
 
-pub held-without : {F : Type 0} (m : Slots F) (i : ℕ) → held (without m i) i ≡ None
-held-without {F} m i =
+pub value_in-with_slot_freed : {F : Type 0} (m : Slots F) (i : ℕ) → value_in (with_slot_freed m i) i ≡ None
+value_in-with_slot_freed {F} m i =
     elim (cases_lt i (length m.places)) [
       | inl within ↦ get_or-set_same {A = Option F} m.places i None None within
       | inr past ↦ get_or_past {X = Option F} (set m.places i None) i None (omega (arith, length-set {A = Option F} m.places i None))
     ]
 
-pub held-without_other : {F : Type 0} (m : Slots F) (i j : ℕ) → j ≢ i → held (without m i) j ≡ held m j
-held-without_other {F} m i j other = get_or-set_other {A = Option F} m.places i j None None other
+pub value_in-with_slot_freed_other : {F : Type 0} (m : Slots F) (i j : ℕ) → j ≢ i → value_in (with_slot_freed m i) j ≡ value_in m j
+value_in-with_slot_freed_other {F} m i j other = get_or-set_other {A = Option F} m.places i j None None other
 
 pub None-Some : {F : Type 0} {f : F} → None ≡ Some f → ⊥
 None-Some e = cc
 
 module _ {F A : Type 0} (polled : ℕ → F → Poll A → F → Type 0) where
   -- a pending poll adds nothing to what may be given
-  pub any-pending : (m : Slots F) (i : ℕ) (f f2 : F) (y : A) → held m i ≡ Some f → polled i f Pending f2 → AnyMayGive polled (with_value m i f2) y → AnyMayGive polled m y
+  pub any-pending : (m : Slots F) (i : ℕ) (f f2 : F) (y : A) → value_in m i ≡ Some f → polled i f Pending f2 → AnyMayGive polled (with_value m i f2) y → AnyMayGive polled m y
   any-pending m i f f2 y e h any =
       elim (cases_eq any.0 i) [
-        | inl same ↦ (i, f, e, from_next (Some-same (sym any.2 ∙ rw same (held-with m i f f2 (sym e)))) (rw same at any.3))
+        | inl same ↦ (i, f, e, from_next (Some-same (sym any.2 ∙ rw same (value_in-with_value m i f f2 (sym e)))) (rw same at any.3))
         | inr other ↦ (any.0, any.1, sym (get_or-set_other m.places i any.0 (Some f2) None other) ∙ any.2, any.3)
       ]
     where
@@ -55,9 +55,9 @@ module _ {F A : Type 0} (polled : ℕ → F → Poll A → F → Type 0) where
 
   -- nor does a name that is passed over
   pub gives_passed : (old new : Slots F) (i : ℕ) (y : A) → Passes polled old i new → AnyMayGive polled new y → AnyMayGive polled old y
-  gives_passed old new i y passed any = by_held (held old i) refl passed
+  gives_passed old new i y passed any = by_held (value_in old i) refl passed
     where
-      by_held : (o : Option F) → held old i ≡ o → MatchOption o (new ≡ old) (λ f. (left : F) × polled i f Pending left × (new ≡ with_value old i left)) → AnyMayGive polled old y
+      by_held : (o : Option F) → value_in old i ≡ o → MatchOption o (new ≡ old) (λ f. (left : F) × polled i f Pending left × (new ≡ with_value old i left)) → AnyMayGive polled old y
       by_held None e same = subst (λ w. AnyMayGive polled w y) same any
       by_held (Some f) e h = any-pending old i f h.0 y e h.1 (subst (λ w. AnyMayGive polled w y) h.2 any)
 
@@ -70,14 +70,14 @@ module _ {F A : Type 0} (polled : ℕ → F → Poll A → F → Type 0) where
   gives_out old new i x out = (i, out.value, out.was_held, ([], out.value, out.left, refl, out.was_ready))
 
   -- what the others may give once its slot is empty might be given before
-  pub gives_others : (old new : Slots F) (i : ℕ) (x y : A) → Yields polled old i x new → AnyMayGive polled (without new i) y → AnyMayGive polled old y
-  gives_others old new i x y out any = others (subst (λ w. AnyMayGive polled (without w i) y) out.replaced any)
+  pub gives_others : (old new : Slots F) (i : ℕ) (x y : A) → Yields polled old i x new → AnyMayGive polled (with_slot_freed new i) y → AnyMayGive polled old y
+  gives_others old new i x y out any = others (subst (λ w. AnyMayGive polled (with_slot_freed w i) y) out.replaced any)
     where
-      others : AnyMayGive polled (without (with_value old i out.left) i) y → AnyMayGive polled old y
+      others : AnyMayGive polled (with_slot_freed (with_value old i out.left) i) y → AnyMayGive polled old y
       others any =
           elim (cases_eq any.0 i) [
-            | inl same ↦ absurd (None-Some (sym (held-without (with_value old i out.left) i) ∙ rw same at any.2))
-            | inr other ↦ (any.0, any.1, sym (get_or-set_other old.places i any.0 (Some out.left) None other) ∙ (sym (held-without_other (with_value old i out.left) i any.0 other) ∙ any.2), any.3)
+            | inl same ↦ absurd (None-Some (sym (value_in-with_slot_freed (with_value old i out.left) i) ∙ rw same at any.2))
+            | inr other ↦ (any.0, any.1, sym (get_or-set_other old.places i any.0 (Some out.left) None other) ∙ (sym (value_in-with_slot_freed_other (with_value old i out.left) i any.0 other) ∙ any.2), any.3)
           ]
 
 module _ {F A S : Type 0} (polled : ℕ → F → Poll A → F → Type 0) where

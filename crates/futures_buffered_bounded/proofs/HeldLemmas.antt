@@ -7,17 +7,17 @@ use Rattle.std.proofs.lemmas.List.Sums.{sum_by-set}
 use Rattle.std.proofs.lemmas.Bool.{cases_eq, cases_lt}
 use Rattle.futures.specs.declared.task.Poll.{Poll}
 use Rattle.futures.specs.declared.task.Poll.TheVariants.{Ready, Pending}
-use Rattle.futures_buffered_core.specs.SlotMap.{Slots, held, held_count, no_slots, with_value, without, Inserts}
+use Rattle.futures_buffered_core.specs.SlotMap.{Slots, value_in, held_count, no_slots, with_value, with_slot_freed, Inserts}
 use Rattle.futures_buffered_table.specs.declared.answer.Taken.{Taken}
 use Rattle.futures_buffered_table.specs.declared.answer.Taken.TheVariants.{Slot, Empty, Pause}
 use Rattle.futures_buffered_bounded.specs.Held.{AllHeld, AllHeldBut, EndsWith, Passes, Yields}
 use Rattle.futures_buffered_bounded.specs.FuturesUnorderedBounded.{Bounded, Asks, AsksUntil}
 
 module _ {F A : Type 0} (polled : ℕ → F → Poll A → F → Type 0) where
-  pub passes_free : (m : Slots F) (i : ℕ) → held m i ≡ None → Passes polled m i m
+  pub passes_free : (m : Slots F) (i : ℕ) → value_in m i ≡ None → Passes polled m i m
   passes_free m i e = rw e refl
 
-  pub passes_pending : (m : Slots F) (i : ℕ) (f left : F) → held m i ≡ Some f → polled i f Pending left → Passes polled m i (with_value m i left)
+  pub passes_pending : (m : Slots F) (i : ℕ) (f left : F) → value_in m i ≡ Some f → polled i f Pending left → Passes polled m i (with_value m i left)
   passes_pending m i f left e h = rw e (left, h, refl)
 
 -- no value is held where all slots are free
@@ -65,10 +65,10 @@ module _ {F A S : Type 0} (can_poll : F → Type 0) (polled : ℕ → F → Poll
         pollable = pollable;
       }
 
-  pub SoFar-skip : (old : Bounded F S) (count i : ℕ) (slots : Slots F) (source left : S) → SoFar old count slots source → takes source (Slot i) left → held slots i ≡ None → SoFar old (count + 1) slots left
+  pub SoFar-skip : (old : Bounded F S) (count i : ℕ) (slots : Slots F) (source left : S) → SoFar old count slots source → takes source (Slot i) left → value_in slots i ≡ None → SoFar old (count + 1) slots left
   SoFar-skip old count i slots source left so taken e = SoFar-pass old count i slots slots source left so taken (passes_free polled slots i e) so.pollable
 
-  pub SoFar-pending : (old : Bounded F S) (count i : ℕ) (slots : Slots F) (source left : S) (f f2 : F) → SoFar old count slots source → takes source (Slot i) left → held slots i ≡ Some f → polled i f Pending f2 → can_poll f2 → SoFar old (count + 1) (with_value slots i f2) left
+  pub SoFar-pending : (old : Bounded F S) (count i : ℕ) (slots : Slots F) (source left : S) (f f2 : F) → SoFar old count slots source → takes source (Slot i) left → value_in slots i ≡ Some f → polled i f Pending f2 → can_poll f2 → SoFar old (count + 1) (with_value slots i f2) left
   SoFar-pending old count i slots source left f f2 so taken e h again =
       SoFar-pass old count i slots (with_value slots i f2) source left so taken (passes_pending polled slots i f f2 e h) (AllHeld-with can_poll slots i f2 so.pollable again)
 
@@ -82,7 +82,7 @@ module _ {F A S : Type 0} (can_poll : F → Type 0) (polled : ℕ → F → Poll
         passed = so.passed;
       }
 
-  pub ready_after : (old : Bounded F S) (count limit i : ℕ) (slots : Slots F) (source left : S) (f f2 : F) (x : A) → SoFar old count slots source → limit ≡ old.limit → count < old.limit → takes source (Slot i) left → held slots i ≡ Some f → polled i f (Ready x) f2
+  pub ready_after : (old : Bounded F S) (count limit i : ℕ) (slots : Slots F) (source left : S) (f f2 : F) (x : A) → SoFar old count slots source → limit ≡ old.limit → count < old.limit → takes source (Slot i) left → value_in slots i ≡ Some f → polled i f (Ready x) f2
       → AsksUntil polled registers takes old (Ready (i, x)) (record { slots = with_value slots i f2; source = left; limit = limit })
   ready_after old count limit i slots source left f f2 x so same below taken e h = (
     so.names,
@@ -95,67 +95,35 @@ module _ {F A S : Type 0} (can_poll : F → Type 0) (polled : ℕ → F → Poll
   ended_after old count limit slots source left last so same below taken which =
       (so.names, Some last, (omega (arith, so.counted), which), asks_last old count slots source left last so taken, same)
 
-  pub full_after : (old : Bounded F S) (count limit : ℕ) (slots : Slots F) (source : S) → SoFar old count slots source → limit ≡ old.limit → count ≡ old.limit
-      → AsksUntil polled registers takes old Pending (record { slots = slots; source = source; limit = limit })
-  full_after old count limit slots source so same all = (
-    so.names,
-    None,
-    so.counted ∙ all,
-    record { registered = so.registered; registers_first = so.registers_first; answers = so.answers; passed = so.passed },
-    same,
-  )
-
 -- what holds of all values and of the one that a push puts in holds of all after it
 pub AllHeld-push : {F : Type 0} (P : F → Type 0) (old new : Slots F) (i : ℕ) (value : F) → AllHeld P old → P value → Inserts old i value new → AllHeld P new
 AllHeld-push {F} P old new i value all here pushed q =
     rw pushed.now_held (AllHeld-with P old i value all here q)
 
--- where one value is another, the others may still be polled
-pub AllHeldBut-with : {F : Type 0} (P : F → Type 0) (m : Slots F) (i : ℕ) (f : F) → AllHeld P m → AllHeldBut i P (with_value m i f)
-AllHeldBut-with {F} P m i f all j other = rw (get_or-set_other m.places i j (Some f) None other) (all j)
-
-pub AllHeld-without : {F : Type 0} (P : F → Type 0) (m : Slots F) (i : ℕ) → AllHeldBut i P m → AllHeld P (without m i)
-AllHeld-without {F} P m i all q =
-    elim (cases_eq q i) [
-      | inl same ↦ elim (cases_lt i (length m.places)) [
-        | inl within ↦ rw (same, get_or-set_same {A = Option F} m.places i None None within) tt
-        | inr past ↦ rw (get_or_past {X = Option F} (set m.places i None) q None (omega (arith, length-set {A = Option F} m.places i None))) tt
-      ]
-      | inr other ↦ rw (get_or-set_other {A = Option F} m.places i q None None other) (all q other)
-    ]
-
 -- a slot that held a value holds the one put there
-pub held-with : {F : Type 0} (m : Slots F) (i : ℕ) (f g : F) → Some f ≡ held m i → held (with_value m i g) i ≡ Some g
-held-with {F} m i f g found = get_or-set_same m.places i (Some g) None (elim (cases_lt i (length m.places)) [
+pub value_in-with_value : {F : Type 0} (m : Slots F) (i : ℕ) (f g : F) → Some f ≡ value_in m i → value_in (with_value m i g) i ≡ Some g
+value_in-with_value {F} m i f g found = get_or-set_same m.places i (Some g) None (elim (cases_lt i (length m.places)) [
   | inl below ↦ below
-  | inr past ↦ let none : held m i ≡ None = get_or_past m.places i None past in cc
+  | inr past ↦ let none : value_in m i ≡ None = get_or_past m.places i None past in cc
 ])
-
--- what a removal leaves where the slot held a value
-pub removed_is : {F : Type 0} (slots removed : Slots F) (i : ℕ) → IsSome (held slots i) → MatchOption (held slots i) (removed ≡ slots) (λ _. removed ≡ without slots i) → removed ≡ without slots i
-removed_is {F} slots removed i some left = by_held (held slots i) some left
-  where
-    by_held : (o : Option F) → IsSome o → MatchOption o (removed ≡ slots) (λ _. removed ≡ without slots i) → removed ≡ without slots i
-    by_held None h e = absurd (true≢false (sym h))
-    by_held (Some f) h e = e
 
 pub some_from_end : {F A : Type 0} (polled : F → Poll A → F → Type 0) (x : A) (o : Option F) → EndsWith polled x o → IsSome o
 some_from_end polled x None h = absurd h
 some_from_end polled x (Some f) h = refl
 
 -- as many values as before
-pub count-with : {F : Type 0} (m : Slots F) (i : ℕ) (f g : F) → Some f ≡ held m i → held_count (with_value m i g) ≡ held_count m
+pub count-with : {F : Type 0} (m : Slots F) (i : ℕ) (f g : F) → Some f ≡ value_in m i → held_count (with_value m i g) ≡ held_count m
 count-with {F} m i f g found =
     let within : i < length m.places = elim (cases_lt i (length m.places)) [
       | inl below ↦ below
-      | inr past ↦ let none : held m i ≡ None = get_or_past m.places i None past in cc
+      | inr past ↦ let none : value_in m i ≡ None = get_or_past m.places i None past in cc
     ] in
     omega (arith, rw (← found) at (sum_by-set (λ (o : Option F). cond (is_some o) 1 0) m.places i (Some g) None within))
 
 -- a slot that held a value, or none, still does
-pub same-with : {F : Type 0} (m : Slots F) (i j : ℕ) (f g : F) → Some f ≡ held m i → is_some (held (with_value m i g) j) ≡ is_some (held m j)
+pub same-with : {F : Type 0} (m : Slots F) (i j : ℕ) (f g : F) → Some f ≡ value_in m i → is_some (value_in (with_value m i g) j) ≡ is_some (value_in m j)
 same-with {F} m i j f g found =
     elim (cases_eq j i) [
-      | inl same ↦ rw (same, held-with m i f g found, ← found) refl
+      | inl same ↦ rw (same, value_in-with_value m i f g found, ← found) refl
       | inr other ↦ rw (get_or-set_other m.places i j (Some g) None other) refl
     ]

@@ -6,9 +6,10 @@ ghost use Rattle.futures.specs.Task.{Covers, Keeps};
 ghost use Rattle.futures.specs.Runs.{After, Within};
 ghost use Rattle.futures.specs.Poll.{IfReady, OnPending};
 ghost use Rattle.std.specs.Iterator.{IsFiniteIterable};
+ghost use Rattle.futures_buffered_core.specs.Answer.{RefusesTooLarge};
 ghost use Rattle.futures_buffered_core.specs.Drawn.{Draws, DrawsMoreThan};
 ghost use Rattle.futures_buffered_core.specs.ReadyShared.{IsNewShared, MarksShared};
-ghost use Rattle.futures_buffered_core.specs.SlotMap.{held, held_count, slot_count, no_slots};
+ghost use Rattle.futures_buffered_core.specs.SlotMap.{value_in, held_count, slot_count, no_slots, IsFull};
 ghost use Rattle.futures_buffered_bounded.specs.Held.{AllHeld, AllHeldBut, EndsWith, ComesFrom};
 ghost use Rattle.futures_buffered_bounded.specs.FuturesUnorderedBounded.{HoldsEach, Pushes, PushesAt, AsksAgain, AsksUntil, NeedsWhileHeld, PollGives, SaidEmpty, with_empty_slot};
 
@@ -57,12 +58,11 @@ impl<F: Drop, S: ReadySource> Model for FuturesUnorderedBounded<F, S> {
 impl<F: Drop, S: ReadySource> FuturesUnorderedBounded<F, S> {
     /// An empty set over this source, with as many slots as the source has.
     ///
-    /// Takes time and memory in proportion to that number. The source is dropped where the set is refused.
+    /// Takes time and memory in proportion to that number. `Memory` where a request for it was refused. The source is dropped where the set is refused.
     pub fn with_source(alloc: Global, source: S) -> Result<Self, NewFault>
-        ensures empty { IfOk result (λ s. s ≡ record { slots = no_slots (S.slots source); source = source; limit = POLL_LIMIT }) }
-        ensures fits { IfOk result (λ _. S.slots source ≤ MAX_CAPACITY) }
-        ensures large { (result ≡ Err NewFault.TooLarge) ↔ (MAX_CAPACITY < S.slots source) }
-        ensures memory { result ≡ Err NewFault.Memory → S.slots source ≤ MAX_CAPACITY }
+        ensures empty { IfOk result (λ set. set
+            ≡ record { slots = no_slots (S.slots source); source = source; limit = POLL_LIMIT }) }
+        ensures refuses { RefusesTooLarge (S.slots source) result }
     {
         let slots = PinSlotMap::new(alloc, source.capacity())?;
         Ok(FuturesUnorderedBounded {
@@ -97,11 +97,14 @@ impl<F: Drop, S: ReadySource> FuturesUnorderedBounded<F, S> {
     ) -> Result<Self, NewFault>
     where
         S: NewSource,
-        requires { IsFiniteIterable I.into_iter_gives I.IntoIter.can_next I.IntoIter.remaining iter }
-        ensures holds { IfOk result (λ set. (items : List F) × Draws I.into_iter_gives I.IntoIter.next_gives iter items
+        requires { IsFiniteIterable I.into_iter_gives I.IntoIter.can_next
+            I.IntoIter.remaining iter }
+        ensures holds { IfOk result (λ set. (items : List F)
+            × Draws I.into_iter_gives I.IntoIter.next_gives iter items
             × HoldsEach S.made S.marks POLL_LIMIT items set) }
         ensures fits { IfOk result (λ set. slot_count set.slots ≤ MAX_CAPACITY) }
-        ensures large { result ≡ Err NewFault.TooLarge → DrawsMoreThan I.into_iter_gives I.IntoIter.next_gives iter MAX_CAPACITY }
+        ensures large { result ≡ Err NewFault.TooLarge
+            → DrawsMoreThan I.into_iter_gives I.IntoIter.next_gives iter MAX_CAPACITY }
     {
         let slots = PinSlotMap::from_iter(alloc, iter)?;
         let mut source = S::make(env, alloc, slots.capacity())?;
@@ -115,21 +118,21 @@ impl<F: Drop, S: ReadySource> FuturesUnorderedBounded<F, S> {
         })
     }
 
-    /// The number of futures held.
+    /// The number of futures held. Takes the same time at any capacity.
     pub fn len(&self) -> usize
         ensures { result ≡ held_count self.now.slots }
     {
         self.slots.len()
     }
 
-    /// Whether no future is held.
+    /// Whether no future is held. Takes the same time at any capacity.
     pub fn is_empty(&self) -> bool
         ensures { IsTrue result ↔ (held_count self.now.slots ≡ 0) }
     {
         self.slots.is_empty()
     }
 
-    /// The number of slots, which never changes.
+    /// The number of slots, which never changes. Takes the same time at any capacity.
     pub fn capacity(&self) -> usize
         ensures value { result ≡ slot_count self.now.slots }
         ensures source { result ≡ S.slots self.now.source }
@@ -152,7 +155,7 @@ impl<F: Drop, S: ReadySource> FuturesUnorderedBounded<F, S> {
         ensures count { OnOk result (held_count self.new.slots ≡ held_count self.old.slots + 1) }
         ensures capacity { slot_count self.new.slots ≡ slot_count self.old.slots }
         ensures full { IfErr result (λ back. (back ≡ value) × (self.new ≡ self.old)
-            × (self.old.slots.free ≡ []) × (held_count self.old.slots ≡ slot_count self.old.slots)) }
+            × IsFull self.old.slots) }
     {
         let _i = self.try_push_at(value)?;
         Ok(())
@@ -164,7 +167,7 @@ impl<F: Drop, S: ReadySource> FuturesUnorderedBounded<F, S> {
         ensures count { OnOk result (held_count self.new.slots ≡ held_count self.old.slots + 1) }
         ensures capacity { slot_count self.new.slots ≡ slot_count self.old.slots }
         ensures full { IfErr result (λ back. (back ≡ value) × (self.new ≡ self.old)
-            × (self.old.slots.free ≡ []) × (held_count self.old.slots ≡ slot_count self.old.slots)) }
+            × IsFull self.old.slots) }
     {
         let i = self.slots.insert_with(value, |value| value)?;
         let _woke = self.source.mark(i);
@@ -197,7 +200,7 @@ impl<F: Drop, S: ReadySource> FuturesUnorderedBounded<F, S> {
         }
     }
 
-    /// Marks a slot by hand, whether it holds a future or not. Wakes nobody.
+    /// Marks a slot by hand, whether it holds a future or not. Wakes nobody, and takes as long as a mark of the source.
     pub fn mark_slot(&mut self, i: usize) -> Woke
         requires { i < slot_count self.old.slots }
         ensures marked { S.marks self.old.source i result self.new.source }
@@ -220,11 +223,12 @@ impl<F: Drop, S: ReadySource> FuturesUnorderedBounded<F, S> {
         ensures pollable { OnPending result (AllHeld R.can_poll self.new.slots) }
         ensures others { IfReady result (λ (i, _). AllHeldBut i R.can_poll self.new.slots) }
         ensures goes { IfReady result (λ (_, x). R.goes_on x → AllHeld R.can_poll self.new.slots) }
-        ensures last { IfReady result (λ (i, x). EndsWith (R.polled i) x (held self.new.slots i)) }
+        ensures last { IfReady result (λ (i, x). EndsWith (R.polled i) x (value_in self.new.slots i)) }
         ensures count { held_count self.new.slots ≡ held_count self.old.slots }
         ensures capacity { slot_count self.new.slots ≡ slot_count self.old.slots }
         ensures limit { self.new.limit ≡ self.old.limit }
-        ensures same_slots { (j : ℕ) → is_some (held self.new.slots j) ≡ is_some (held self.old.slots j) }
+        ensures same_slots { (j : ℕ)
+            → is_some (value_in self.new.slots j) ≡ is_some (value_in self.old.slots j) }
         ensures covered { OnPending result (Covers cx.new (S.needs self.new.source)) }
         ensures woken { OnPending result (AsksAgain cx.new ⊎ SaidEmpty S.takes self.new.source) }
         ensures kept { Keeps cx.old cx.new }
@@ -246,9 +250,9 @@ impl<F: Drop, S: ReadySource> FuturesUnorderedBounded<F, S> {
         cx.yield_now()
     }
 
-    /// Drops the value of a slot, which is then the first free one.
+    /// Drops the value of a slot, which is then the first free one. Takes the same time at any capacity, besides the drop.
     pub fn empty_slot(&mut self, i: usize)
-        requires { IsSome (held self.old.slots i) }
+        requires { IsSome (value_in self.old.slots i) }
         ensures emptied { self.new ≡ with_empty_slot self.old i }
         ensures count { held_count self.new.slots + 1 ≡ held_count self.old.slots }
         ensures capacity { slot_count self.new.slots ≡ slot_count self.old.slots }
@@ -267,7 +271,8 @@ impl<F: Drop, S: ReadySource> FuturesUnorderedBounded<F, S> {
         requires { AllHeld R.can_poll self.old.slots }
         ensures polled { PollGives R.polled S.registers S.takes self.old result self.new }
         ensures pollable { AllHeld R.can_poll self.new.slots }
-        ensures fewer { IfReady result (λ o. OnSome o (held_count self.new.slots + 1 ≡ held_count self.old.slots)) }
+        ensures fewer { IfReady result (λ o. OnSome o
+            (held_count self.new.slots + 1 ≡ held_count self.old.slots)) }
         ensures same { OnPending result (held_count self.new.slots ≡ held_count self.old.slots) }
         ensures capacity { slot_count self.new.slots ≡ slot_count self.old.slots }
         ensures limit { self.new.limit ≡ self.old.limit }
@@ -298,12 +303,17 @@ impl<F: SlotFuture<S::Waker>, S: ReadySource> Stream for FuturesUnorderedBounded
 
     ghost yields = { λ set. ComesFrom F.polled set.slots };
 
+    /// One poll, as `poll_with` by the rule that polls the future itself.
+    ///
+    /// Takes no memory. Names at most `POLL_LIMIT` slots and polls only what these hold, so its time is that of these polls, at any capacity. Holds no lock of the source while it polls a future.
     fn poll_next(&mut self, cx: &mut Context<'_>) -> Poll<Option<F::Output>>
         requires { AllHeld F.can_poll self.old.slots }
         ensures polled { PollGives F.polled S.registers S.takes self.old result self.new }
         ensures value { IfReady result (ComesFrom F.polled self.old.slots []) }
-        ensures rest { IfReady result (λ o. IfSome o (λ x. After (ComesFrom F.polled self.old.slots) x (ComesFrom F.polled self.new.slots))) }
-        ensures same { OnPending result (Within (ComesFrom F.polled self.old.slots) (ComesFrom F.polled self.new.slots)) }
+        ensures rest { IfReady result (λ o. IfSome o (λ x.
+            After (ComesFrom F.polled self.old.slots) x (ComesFrom F.polled self.new.slots))) }
+        ensures same { OnPending result
+            (Within (ComesFrom F.polled self.old.slots) (ComesFrom F.polled self.new.slots)) }
         ensures goes { IfReady result (λ o. OnSome o (AllHeld F.can_poll self.new.slots)) }
         ensures again { OnPending result (AllHeld F.can_poll self.new.slots) }
         ensures fewer { IfReady result (λ o. OnSome o (held_count self.new.slots + 1 ≡ held_count self.old.slots)) }
@@ -324,14 +334,12 @@ impl<R: Wait + Clone + Drop + Send + Sync, F: Drop> FuturesUnorderedBounded<F, S
 
     /// A set whose values are woken from any thread. It keeps a copy of the handle.
     ///
-    /// Takes time and memory in proportion to `cap`.
+    /// Takes time and memory in proportion to `cap`, all that the set ever needs. `Memory` where a request for memory was refused, or the handle could not be copied.
     pub fn new(env: &R, alloc: Global, cap: usize) -> Result<Self, NewFault>
         ensures empty { IfOk result (λ set. set.slots ≡ no_slots cap) }
         ensures source { IfOk result (λ set. IsNewShared cap set.source) }
         ensures limit { IfOk result (λ set. set.limit ≡ POLL_LIMIT) }
-        ensures fits { IfOk result (λ _. cap ≤ MAX_CAPACITY) }
-        ensures large { (result ≡ Err NewFault.TooLarge) ↔ (MAX_CAPACITY < cap) }
-        ensures memory { result ≡ Err NewFault.Memory → cap ≤ MAX_CAPACITY }
+        ensures refuses { RefusesTooLarge cap result }
     {
         Self::with_new_source(env, alloc, cap)
     }
@@ -343,11 +351,14 @@ impl<R: Wait + Clone + Drop + Send + Sync, F: Drop> FuturesUnorderedBounded<F, S
         iter: I,
     ) -> Result<Self, NewFault>
     where
-        requires { IsFiniteIterable I.into_iter_gives I.IntoIter.can_next I.IntoIter.remaining iter }
-        ensures holds { IfOk result (λ set. (items : List F) × Draws I.into_iter_gives I.IntoIter.next_gives iter items
+        requires { IsFiniteIterable I.into_iter_gives I.IntoIter.can_next
+            I.IntoIter.remaining iter }
+        ensures holds { IfOk result (λ set. (items : List F)
+            × Draws I.into_iter_gives I.IntoIter.next_gives iter items
             × HoldsEach IsNewShared MarksShared POLL_LIMIT items set) }
         ensures fits { IfOk result (λ set. slot_count set.slots ≤ MAX_CAPACITY) }
-        ensures large { result ≡ Err NewFault.TooLarge → DrawsMoreThan I.into_iter_gives I.IntoIter.next_gives iter MAX_CAPACITY }
+        ensures large { result ≡ Err NewFault.TooLarge
+            → DrawsMoreThan I.into_iter_gives I.IntoIter.next_gives iter MAX_CAPACITY }
     {
         Self::over(env, alloc, iter)
     }

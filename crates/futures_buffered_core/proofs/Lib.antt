@@ -1,4 +1,4 @@
-pub mod ReadyCoreLemmas
+pub mod KeepsOnceLemmas
 pub mod SlotMapLemmas
 pub mod HistoryLemmas
 pub mod ScriptSourceLemmas

@@ -1,3 +1,4 @@
+pub mod Answer
 pub mod OneStep
 pub mod Row
 pub mod Views

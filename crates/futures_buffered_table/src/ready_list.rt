@@ -1,5 +1,5 @@
 //! The list on atomic words, and its seats.
-ghost use Rattle.std.specs.Prelude.{◌≡◌, ◌<◌, [], ◌↔◌, IfOk, Err};
+ghost use Rattle.std.specs.Prelude.{◌≡◌, [], IfOk};
 
 use crate::answer::{MAX_CAPACITY, NewFault};
 use crate::rule::{NewWaker, RowRule};
@@ -63,14 +63,14 @@ impl Model for PollSeat {
 }
 
 impl ReadyList {
-    ghost use Rattle.futures_buffered_table.specs.declared.answer.NewFault.TheVariants.{TooLarge};
+    ghost use Rattle.futures_buffered_table.specs.Answer.{RefusesTooLarge};
 
     /// A list for this many slots, none of them marked, with its poll seat and a first wake seat. Tests the capacity before it asks for memory.
     pub fn new(alloc: Global, capacity: usize) -> Result<(ReadyList, PollSeat, WakeSeat), NewFault>
         ensures list { IfOk result (λ r. r.0.capacity ≡ capacity) }
         ensures poller { IfOk result (λ r. (r.1.list ≡ r.0.list) × (r.1.head ≡ capacity) × (r.1.steps ≡ [])) }
         ensures waker { IfOk result (λ r. (r.2.list ≡ r.0.list) × (r.2.steps ≡ [])) }
-        ensures too_large { (result ≡ Err TooLarge) ↔ (MAX_CAPACITY < capacity) }
+        ensures refuses { RefusesTooLarge capacity result }
     {
         if capacity > MAX_CAPACITY {
             return Err(NewFault::TooLarge);

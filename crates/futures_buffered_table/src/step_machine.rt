@@ -1,5 +1,5 @@
 //! The machine of single steps: the list's words and the roles of 64 wake seats and one poll seat, as plain data.
-ghost use Rattle.std.specs.Prelude.{◌≡◌, ◌<◌, ◌++◌, ◌∷◌, [], ◌+◌, ◌^◌, ◌↔◌, length, replicate, MatchOption, IfOk, IfNone, IfSome, Err};
+ghost use Rattle.std.specs.Prelude.{◌≡◌, ◌<◌, ◌++◌, ◌∷◌, [], ◌+◌, ◌^◌, length, replicate, MatchOption, IfOk, IfNone, IfSome};
 ghost use Rattle.futures_buffered_table.specs.Schedule.{CanStep, seat_of, slot_of};
 ghost use Rattle.futures_buffered_table.specs.declared.view.Role.TheVariants.{Idle, Polls};
 ghost use Rattle.futures_buffered_table.specs.declared.view.Phase.TheVariants.{Start};
@@ -77,12 +77,12 @@ fn seat_and_slot(capacity: usize, roles: &[Role], step: Step) -> Option<(usize, 
 
 impl StepMachine {
     ghost use Rattle.futures_buffered_table.specs.Machine.{IsNew, IsPlaced, LeadsOn, May, Steps};
-    ghost use Rattle.futures_buffered_table.specs.declared.answer.NewFault.TheVariants.{TooLarge};
+    ghost use Rattle.futures_buffered_table.specs.Answer.{RefusesTooLarge};
 
     /// A machine for an empty list of so many slots. Tests the capacity before it asks for memory.
     pub fn new(alloc: Global, capacity: usize) -> Result<StepMachine, NewFault>
         ensures ok { IfOk result (IsNew capacity) }
-        ensures too_large { (result ≡ Err TooLarge) ↔ (MAX_CAPACITY < capacity) }
+        ensures refuses { RefusesTooLarge capacity result }
     {
         if capacity > MAX_CAPACITY {
             return Err(NewFault::TooLarge);

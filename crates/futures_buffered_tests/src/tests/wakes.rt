@@ -1,7 +1,7 @@
 // Who is woken, and how often.
 use crate::counted::Counted;
 use crate::kept::{Kept, WakerPlace, empty_place, taken_from};
-use crate::polling::poll_set;
+use crate::polling::{poll_nothing, poll_set};
 use futures::test::MockTask;
 use futures_buffered_core::ready_shared::SharedReady;
 use futures_buffered_core::ready_source::SlotWaker;
@@ -78,7 +78,7 @@ fn a_waker_outlives_its_set(rt: HostRuntime) -> Result<(), Fail> {
     assert!(rt; !task.is_woken());
     waker.wake();
     assert!(rt; task.is_woken());
-    task.enter(|_cx| ());
+    poll_nothing(&task);
     waker.wake();
     assert!(rt; !task.is_woken());
     Ok(())
@@ -109,12 +109,12 @@ fn another_task_that_polls_wakes_the_one_before(rt: HostRuntime) -> Result<(), F
     let place = empty_place(rt.alloc())?;
     assert!(rt; set.try_push(counted_kept(rt, &place, &polls)?).is_ok());
     assert!(rt; poll_set(&first, &mut set).is_pending());
-    second.enter(|_cx| ());
+    poll_nothing(&second);
     assert!(rt; !first.is_woken());
     assert!(rt; poll_set(&second, &mut set).is_pending());
     assert!(rt; first.is_woken());
     assert!(rt; !second.is_woken());
-    first.enter(|_cx| ());
+    poll_nothing(&first);
     let waker = taken_from(&rt, &place).ok_or("kept")?;
     waker.wake();
     assert!(rt; second.is_woken());
