@@ -37,27 +37,27 @@ value_in-with_slot_freed_other {F} m i j other = get_or-set_other {A = Option F}
 pub None-Some : {F : Type 0} {f : F} → None ≡ Some f → ⊥
 None-Some e = cc
 
-module _ {F A : Type 0} (polled : F → Poll A → F → Type 0) where
+module _ {F A : Type 0} (polled : ℕ → F → Poll A → F → Type 0) where
   -- a pending poll adds nothing to what may be given
-  pub any-pending : (m : Slots F) (i : ℕ) (f f2 : F) (y : A) → value_in m i ≡ Some f → polled f Pending f2 → AnyMayGive polled (with_value m i f2) y → AnyMayGive polled m y
+  pub any-pending : (m : Slots F) (i : ℕ) (f f2 : F) (y : A) → value_in m i ≡ Some f → polled i f Pending f2 → AnyMayGive polled (with_value m i f2) y → AnyMayGive polled m y
   any-pending m i f f2 y e h any =
       elim (cases_eq any.0 i) [
-        | inl same ↦ (i, f, e, from_next (Some-same (sym any.2 ∙ rw same (value_in-with_value m i f f2 (sym e)))) any.3)
+        | inl same ↦ (i, f, e, from_next (Some-same (sym any.2 ∙ rw same (value_in-with_value m i f f2 (sym e)))) (rw same at any.3))
         | inr other ↦ (any.0, any.1, sym (get_or-set_other m.places i any.0 (Some f2) None other) ∙ any.2, any.3)
       ]
     where
       Some-same : {g k : F} → Some g ≡ Some k → g ≡ k
       Some-same eq = cc
 
-      from_next : {g : F} → g ≡ f2 → MayGive polled g y → MayGive polled f y
-      from_next {g} eq may = (g ∷ may.0, may.1, may.2, (g, (subst (λ k. polled f Pending k) (sym eq) h, refl), may.3), may.4)
+      from_next : {g : F} → g ≡ f2 → MayGive (polled i) g y → MayGive (polled i) f y
+      from_next {g} eq may = (g ∷ may.0, may.1, may.2, (g, (subst (λ k. polled i f Pending k) (sym eq) h, refl), may.3), may.4)
 
   pub gives_ran : (names : List ℕ) (m left : Slots F) (y : A) → NamesRun polled m names None left → AnyMayGive polled left y → AnyMayGive polled m y
   gives_ran [] m left y ran any = subst (λ w. AnyMayGive polled w y) ran.1 any
   gives_ran (j ∷ names) m left y ran any = by_held (value_in m j) (λ (w : Slots F) (r : NamesRun polled w names None left). gives_ran names w left y r any) refl ran
     where
       by_held : (o : Option F) → ((w : Slots F) → NamesRun polled w names None left → AnyMayGive polled w y) → value_in m j ≡ o
-          → MatchOption o (NamesRun polled m names None left) (λ f. ((f2 : F) × polled f Pending f2 × NamesRun polled (with_value m j f2) names None left) ⊎ ((x : A) × (f2 : F) × polled f (Ready x) f2 × (names ≡ []) × (◌≡◌ {A = Option (ℕ × A)} None (Some (j, x))) × (left ≡ with_value m j f2)))
+          → MatchOption o (NamesRun polled m names None left) (λ f. ((f2 : F) × polled j f Pending f2 × NamesRun polled (with_value m j f2) names None left) ⊎ ((x : A) × (f2 : F) × polled j f (Ready x) f2 × (names ≡ []) × (◌≡◌ {A = Option (ℕ × A)} None (Some (j, x))) × (left ≡ with_value m j f2)))
           → AnyMayGive polled m y
       by_held None again e ran = again m ran
       by_held (Some f) again e (inl h) = any-pending m j f h.0 y e h.1 (again (with_value m j h.0) h.2)
@@ -69,7 +69,7 @@ module _ {F A : Type 0} (polled : F → Poll A → F → Type 0) where
   gives_out (j ∷ names) m left i x ran = by_held (value_in m j) (λ (w : Slots F) (r : NamesRun polled w names (Some (i, x)) left). gives_out names w left i x r) refl ran
     where
       by_held : (o : Option F) → ((w : Slots F) → NamesRun polled w names (Some (i, x)) left → AnyMayGive polled w x × ((y : A) → AnyMayGive polled (with_slot_freed left i) y → AnyMayGive polled w y)) → value_in m j ≡ o
-          → MatchOption o (NamesRun polled m names (Some (i, x)) left) (λ f. ((f2 : F) × polled f Pending f2 × NamesRun polled (with_value m j f2) names (Some (i, x)) left) ⊎ ((z : A) × (f2 : F) × polled f (Ready z) f2 × (names ≡ []) × (◌≡◌ {A = Option (ℕ × A)} (Some (i, x)) (Some (j, z))) × (left ≡ with_value m j f2)))
+          → MatchOption o (NamesRun polled m names (Some (i, x)) left) (λ f. ((f2 : F) × polled j f Pending f2 × NamesRun polled (with_value m j f2) names (Some (i, x)) left) ⊎ ((z : A) × (f2 : F) × polled j f (Ready z) f2 × (names ≡ []) × (◌≡◌ {A = Option (ℕ × A)} (Some (i, x)) (Some (j, z))) × (left ≡ with_value m j f2)))
           → AnyMayGive polled m x × ((y : A) → AnyMayGive polled (with_slot_freed left i) y → AnyMayGive polled m y)
       by_held None again e ran = again m ran
       by_held (Some f) again e (inl h) =
@@ -80,7 +80,7 @@ module _ {F A : Type 0} (polled : F → Poll A → F → Type 0) where
           let pair : ◌≡◌ {A = ℕ × A} (i, x) (j, h.0) = cc in
           let at : i ≡ j = ap (λ (p : ℕ × A). p.0) pair in
           let is : x ≡ h.0 = ap (λ (p : ℕ × A). p.1) pair in (
-            (j, f, e, ([], f, h.1, refl, subst (λ z. polled f (Ready z) h.1) (sym is) h.2)),
+            (j, f, e, ([], f, h.1, refl, subst (λ z. polled j f (Ready z) h.1) (sym is) h.2)),
             λ y any. emptied y (subst (λ w. AnyMayGive polled (with_slot_freed w j) y) h.5 (subst (λ k. AnyMayGive polled (with_slot_freed left k) y) at any)),
           )
         where
@@ -91,7 +91,7 @@ module _ {F A : Type 0} (polled : F → Poll A → F → Type 0) where
                 | inr other ↦ (any.0, any.1, sym (get_or-set_other m.places j any.0 (Some h.1) None other) ∙ (sym (value_in-with_slot_freed_other (with_value m j h.1) j any.0 other) ∙ any.2), any.3)
               ]
 
-module _ {F A S : Type 0} (polled : F → Poll A → F → Type 0) where
+module _ {F A S : Type 0} (polled : ℕ → F → Poll A → F → Type 0) where
   -- one poll
   pub value_of : (registers : S → S → Type 0) (takes : S → Taken → S → Type 0) (old new : Bounded F S) (answer : Poll (Option A)) → PollGives polled registers takes old answer new → IfReady answer (ComesFrom polled old.slots [])
   value_of registers takes old new (Ready None) h = record { each = tt; ends = sym h.0 }

@@ -13,15 +13,15 @@ use Rattle.futures_buffered_table.specs.declared.answer.Taken.TheVariants.{Slot,
 use Rattle.futures_buffered_bounded.specs.Held.{AllHeld, EndsWith, NamesRun}
 use Rattle.futures_buffered_bounded.specs.FuturesUnorderedBounded.{Bounded, Runs, EndsWaiting, AsksUntil}
 
-module _ {F A : Type 0} (polled : F → Poll A → F → Type 0) where
+module _ {F A : Type 0} (polled : ℕ → F → Poll A → F → Type 0) where
   -- one more name
   pub NamesRun-push : (names : List ℕ) (m now left : Slots F) (i : ℕ) (out : Option (ℕ × A)) → NamesRun polled m names None now → NamesRun polled now (i ∷ []) out left → NamesRun polled m (names ++ i ∷ []) out left
   NamesRun-push [] m now left i out ran more = subst (λ w. NamesRun polled w (i ∷ []) out left) ran.1 more
   NamesRun-push (j ∷ names) m now left i out ran more = by_held (value_in m j) (λ (w : Slots F) (h : NamesRun polled w names None now). NamesRun-push names w now left i out h more) ran
     where
       by_held : (o : Option F) → ((w : Slots F) → NamesRun polled w names None now → NamesRun polled w (names ++ i ∷ []) out left)
-          → MatchOption o (NamesRun polled m names None now) (λ f. ((f2 : F) × polled f Pending f2 × NamesRun polled (with_value m j f2) names None now) ⊎ ((x : A) × (f2 : F) × polled f (Ready x) f2 × (names ≡ []) × (◌≡◌ {A = Option (ℕ × A)} None (Some (j, x))) × ((now ≡ with_value m j f2))))
-          → MatchOption o (NamesRun polled m (names ++ i ∷ []) out left) (λ f. ((f2 : F) × polled f Pending f2 × NamesRun polled (with_value m j f2) (names ++ i ∷ []) out left) ⊎ ((x : A) × (f2 : F) × polled f (Ready x) f2 × ((names ++ i ∷ []) ≡ []) × (out ≡ Some (j, x)) × (left ≡ with_value m j f2)))
+          → MatchOption o (NamesRun polled m names None now) (λ f. ((f2 : F) × polled j f Pending f2 × NamesRun polled (with_value m j f2) names None now) ⊎ ((x : A) × (f2 : F) × polled j f (Ready x) f2 × (names ≡ []) × (◌≡◌ {A = Option (ℕ × A)} None (Some (j, x))) × ((now ≡ with_value m j f2))))
+          → MatchOption o (NamesRun polled m (names ++ i ∷ []) out left) (λ f. ((f2 : F) × polled j f Pending f2 × NamesRun polled (with_value m j f2) (names ++ i ∷ []) out left) ⊎ ((x : A) × (f2 : F) × polled j f (Ready x) f2 × ((names ++ i ∷ []) ≡ []) × (out ≡ Some (j, x)) × (left ≡ with_value m j f2)))
       by_held None again ran = again m ran
       by_held (Some f) again (inl h) = inl (h.0, h.1, again (with_value m j h.0) h.2)
       by_held (Some f) again (inr h) = let e = h.4 in cc
@@ -29,10 +29,10 @@ module _ {F A : Type 0} (polled : F → Poll A → F → Type 0) where
   pub one_skipped : (m : Slots F) (i : ℕ) → value_in m i ≡ None → NamesRun polled m (i ∷ []) None m
   one_skipped m i e = rw e (refl, refl)
 
-  pub one_pending : (m : Slots F) (i : ℕ) (f f2 : F) → value_in m i ≡ Some f → polled f Pending f2 → NamesRun polled m (i ∷ []) None (with_value m i f2)
+  pub one_pending : (m : Slots F) (i : ℕ) (f f2 : F) → value_in m i ≡ Some f → polled i f Pending f2 → NamesRun polled m (i ∷ []) None (with_value m i f2)
   one_pending m i f f2 e h = rw e (inl (f2, h, (refl, refl)))
 
-  pub one_ready : (m : Slots F) (i : ℕ) (f f2 : F) (x : A) → value_in m i ≡ Some f → polled f (Ready x) f2 → NamesRun polled m (i ∷ []) (Some (i, x)) (with_value m i f2)
+  pub one_ready : (m : Slots F) (i : ℕ) (f f2 : F) (x : A) → value_in m i ≡ Some f → polled i f (Ready x) f2 → NamesRun polled m (i ∷ []) (Some (i, x)) (with_value m i f2)
   one_ready m i f f2 x e h = rw e (inr (x, f2, h, refl, refl, refl))
 
 -- no value is held where all slots are free
@@ -52,7 +52,7 @@ AllHeld-with {F} P m i f all here q =
       | inr other ↦ rw (get_or-set_other m.places i q (Some f) None other) (all q)
     ]
 
-module _ {F A S : Type 0} (can_poll : F → Type 0) (polled : F → Poll A → F → Type 0) (registers : S → S → Type 0) (takes : S → Taken → S → Type 0) where
+module _ {F A S : Type 0} (can_poll : F → Type 0) (polled : ℕ → F → Poll A → F → Type 0) (registers : S → S → Type 0) (takes : S → Taken → S → Type 0) where
   -- so many names came, and each value that was polled is pending
   pub record SoFar (old : Bounded F S) (count : ℕ) (slots : Slots F) (source : S) : Type 0 where
     pub names : List ℕ
@@ -79,7 +79,7 @@ module _ {F A S : Type 0} (can_poll : F → Type 0) (polled : F → Poll A → F
         pollable = so.pollable;
       }
 
-  pub SoFar-pending : (old : Bounded F S) (count i : ℕ) (slots : Slots F) (source left : S) (f f2 : F) → SoFar old count slots source → takes source (Slot i) left → value_in slots i ≡ Some f → polled f Pending f2 → can_poll f2 → SoFar old (count + 1) (with_value slots i f2) left
+  pub SoFar-pending : (old : Bounded F S) (count i : ℕ) (slots : Slots F) (source left : S) (f f2 : F) → SoFar old count slots source → takes source (Slot i) left → value_in slots i ≡ Some f → polled i f Pending f2 → can_poll f2 → SoFar old (count + 1) (with_value slots i f2) left
   SoFar-pending old count i slots source left f f2 so taken e h again =
       record {
         names = so.names ++ i ∷ [];
@@ -91,7 +91,7 @@ module _ {F A S : Type 0} (can_poll : F → Type 0) (polled : F → Poll A → F
         pollable = AllHeld-with can_poll slots i f2 so.pollable again;
       }
 
-  pub ready_after : (old : Bounded F S) (count limit i : ℕ) (slots : Slots F) (source left : S) (f f2 : F) (x : A) → SoFar old count slots source → limit ≡ old.limit → count < old.limit → takes source (Slot i) left → value_in slots i ≡ Some f → polled f (Ready x) f2
+  pub ready_after : (old : Bounded F S) (count limit i : ℕ) (slots : Slots F) (source left : S) (f f2 : F) (x : A) → SoFar old count slots source → limit ≡ old.limit → count < old.limit → takes source (Slot i) left → value_in slots i ≡ Some f → polled i f (Ready x) f2
       → AsksUntil polled registers takes old (Ready (i, x)) (record { slots = with_value slots i f2; source = left; limit = limit })
   ready_after old count limit i slots source left f f2 x so same below taken e h = (
     so.names ++ i ∷ [],

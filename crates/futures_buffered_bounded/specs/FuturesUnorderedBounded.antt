@@ -2,6 +2,8 @@
 use Rattle.std.specs.Prelude.{◌≡◌, ℕ, ◌<◌, ◌≤◌, List, [], ◌∷◌, ◌++◌, map, length, Option, Some, None, ◌⊎◌, refl}
 use Rattle.std.specs.List.{FoldsTo, range_with_len}
 use Rattle.std.specs.Coded.{Coded, code_by, coded×, coded_ℕ}
+use Rattle.futures.specs.Task.{Hears}
+use Rattle.futures.specs.declared.task.context.Context.{Context}
 use Rattle.futures.specs.declared.task.Poll.{Poll}
 use Rattle.futures.specs.declared.task.Poll.TheVariants.{Ready, Pending}
 use Rattle.futures_buffered_core.specs.SlotMap.{Slots, slots_code, held_count, all_slots, with_slot_freed, Inserts}
@@ -78,9 +80,17 @@ EndsWaiting limit names ended =
     ((length names < limit) × ((ended ≡ Empty ∷ []) ⊎ (ended ≡ Pause ∷ [])))
     ⊎ ((length names ≡ limit) × (ended ≡ []))
 
+-- the last answer of a source with this content was Empty
+abbrev pub SaidEmpty : {S : Type 0} → (S → Taken → S → Type 0) → S → Type 0
+SaidEmpty {S} takes new = (before : S) × takes before Empty new
+
+-- the task was asked to poll again
+abbrev pub IsWoken : Context → Type 0
+IsWoken cx = (s : ℕ) → Hears cx s
+
 module _
     {F A S : Type 0}
-    (polled : F → Poll A → F → Type 0)
+    (polled : ℕ → F → Poll A → F → Type 0)
     (registers : S → S → Type 0)
     (takes : S → Taken → S → Type 0)
   where

@@ -3,7 +3,7 @@ ghost use Rattle.std.specs.Prelude.{◌≡◌};
 ghost use Rattle.futures_buffered_core.specs.ReadyCore.{Marks, Takes};
 
 use crate::ready_core::{NewFault, ReadyCore, Taken, Woke};
-use crate::ready_source::{NewSource, ReadySource, SlotWaker};
+use crate::ready_source::{NewSource, ReadySource, SlotWaker, WakesSlot};
 use futures::task::{Context, Poll, Source, Waker};
 use std::alloc::Global;
 use std::marker::Model;
@@ -11,6 +11,12 @@ use std::marker::Model;
 /// A waker that does nothing.
 #[derive(Drop)]
 pub struct Silent;
+
+impl WakesSlot for Silent {
+    ghost use Rattle.std.specs.Prelude.{⊤};
+
+    ghost wakes = { λ _ _. ⊤ };
+}
 
 impl SlotWaker for Silent {
     fn wake(&self) {}

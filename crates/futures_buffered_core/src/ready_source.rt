@@ -14,8 +14,14 @@ pub use crate::script_source::ScriptSource;
 use futures::task::Context;
 use std::alloc::Global;
 
+/// What a set sees of a slot's waker: which slot it wakes, and no call that wakes it. So a set can hand a waker on, and cannot use it.
+pub trait WakesSlot {
+    // The slots of which it is a waker: the one that a wake marks. A waker that does nothing is one of each slot.
+    ghost wakes: { Self → ℕ → Type 0 };
+}
+
 /// Wakes one slot, any number of times, also once the set that it came from is gone.
-pub trait SlotWaker {
+pub trait SlotWaker: WakesSlot {
     /// Marks the slot; where that mark was fresh, wakes the task that registered last.
     fn wake(&self);
 }
@@ -25,7 +31,7 @@ pub trait SlotWaker {
 /// Beside the calls a source states what they may do: relations between its content before, the answer, and its content after. Each named slot is below the capacity, and the capacity stays: these are laws below.
 pub trait ReadySource: Drop {
     /// What wakes one slot.
-    type Waker: SlotWaker;
+    type Waker: WakesSlot;
 
     // The capacity: how many slots it has.
     ghost slots: { Self → ℕ };
@@ -57,7 +63,8 @@ pub trait ReadySource: Drop {
 
     /// The waker of a slot, made when the source was. Takes no memory.
     fn waker(&self, i: usize) -> &Self::Waker
-        requires { i < slots self.now };
+        requires { i < slots self.now }
+        ensures { Self.Waker.wakes result.now i };
 
     /// Keeps the waker of the task that polls, in place of the one kept before.
     fn register(&mut self, cx: &mut Context<'_>)

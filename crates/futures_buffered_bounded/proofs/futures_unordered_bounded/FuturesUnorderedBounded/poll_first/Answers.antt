@@ -22,7 +22,7 @@ returns-in-Ready-clause-polled g c =
     let source = g.S.ReadySource in
     let rule = g.R.PollOne in
     let slots = c.names.self-inside.slots in
-    ready_after rule.can_poll rule.polled source.registers source.takes c.args.self.now _ _ c.in-Slot.i slots _ _ _ c.poll_one.new.held c.in-Ready.output c.names.invariant.so_far c.names.invariant.same_limit (omega (arith, ap (λ (v : Bounded g.row.F.Denot g.row.S.Denot). v.limit) c.self.view_is)) c.in-Slot.ensures (sym c.in-Some.ensures.value) c.in-Ready.ensures.polled
+    ready_after rule.can_poll rule.polled source.registers source.takes c.args.self.now _ _ c.in-Slot.i slots _ _ _ c.poll_one.new.held c.in-Ready.output c.names.invariant.so_far c.names.invariant.same_limit (omega (arith, ap (λ (v : Bounded g.row.F.Denot g.row.S.Denot). v.limit) c.self.view_is)) c.in-Slot.ensures (sym c.in-Some.ensures.value) (c.in-Ready.ensures.polled c.in-Slot.i c.waker-waker.ensures)
 
 pub names-preserved : goal.names-preserved
 names-preserved g c =
@@ -32,7 +32,7 @@ names-preserved g c =
     let keeps = g.met.S.ReadySource.take_keeps _ _ _ c.in-Slot.ensures ∙ c.names.invariant.same_size in
     elim c.match-get.branch [
       | in-Some+in_default-poll_one w ↦ rw w.self-inside-is (record {
-        so_far = SoFar-pending rule.can_poll rule.polled source.registers source.takes c.args.self.now _ c.in-Slot.i slots _ _ _ w.poll_one.new.held c.names.invariant.so_far c.in-Slot.ensures (sym w.in-Some.ensures.value) w.in_default-poll_one.ensures.polled w.in_default-poll_one.ensures.again;
+        so_far = SoFar-pending rule.can_poll rule.polled source.registers source.takes c.args.self.now _ c.in-Slot.i slots _ _ _ w.poll_one.new.held c.names.invariant.so_far c.in-Slot.ensures (sym w.in-Some.ensures.value) (w.in_default-poll_one.ensures.polled c.in-Slot.i c.waker-waker.ensures) w.in_default-poll_one.ensures.again;
         same_size = keeps ∙ sym (length-set slots.places c.in-Slot.i (Some w.poll_one.new.held));
         capacity = length-set slots.places c.in-Slot.i (Some w.poll_one.new.held) ∙ c.names.invariant.capacity;
         count = count-with slots c.in-Slot.i _ w.poll_one.new.held w.in-Some.ensures.value ∙ c.names.invariant.count;
