@@ -7,7 +7,7 @@ use Rattle.std.proofs.lemmas.List.Sums.{sum_by-set}
 use Rattle.std.proofs.lemmas.Bool.{cases_eq, cases_lt}
 use Rattle.futures.specs.declared.task.Poll.{Poll}
 use Rattle.futures.specs.declared.task.Poll.TheVariants.{Ready, Pending}
-use Rattle.futures_buffered_core.specs.SlotMap.{Slots, value_in, held_count, no_slots, with_value}
+use Rattle.futures_buffered_core.specs.SlotMap.{Slots, Inserts, value_in, held_count, no_slots, with_value}
 use Rattle.futures_buffered_table.specs.declared.answer.Taken.{Taken}
 use Rattle.futures_buffered_table.specs.declared.answer.Taken.TheVariants.{Slot, Empty, Pause}
 use Rattle.futures_buffered_bounded.specs.Held.{AllHeld, EndsWith, NamesRun}
@@ -51,6 +51,10 @@ AllHeld-with {F} P m i f all here q =
       ]
       | inr other ↦ rw (get_or-set_other m.places i q (Some f) None other) (all q)
     ]
+
+-- what holds of each value, and of the one that was put in, holds of each value after
+pub AllHeld-push : {F : Type 0} (P : F → Type 0) (old : Slots F) (i : ℕ) (value : F) (new : Slots F) → Inserts old i value new → AllHeld P old → P value → AllHeld P new
+AllHeld-push {F} P old i value new inserts all here q = rw inserts.now_held (AllHeld-with P old i value all here q)
 
 module _ {F A S : Type 0} (can_poll : F → Type 0) (polled : ℕ → F → Poll A → F → Type 0) (registers : S → S → Type 0) (takes : S → Taken → S → Type 0) where
   -- so many names came, and each value that was polled is pending

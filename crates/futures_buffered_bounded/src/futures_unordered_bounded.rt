@@ -9,7 +9,6 @@ ghost use Rattle.std.specs.Iterator.{IsFiniteIterable};
 ghost use Rattle.futures_buffered_core.specs.Answer.{RefusesTooLarge};
 ghost use Rattle.futures_buffered_core.specs.Drawn.{Draws, DrawsMoreThan};
 ghost use Rattle.futures_buffered_core.specs.SlotMap.{value_in, held_count, slot_count, no_slots, IsFull};
-ghost use Rattle.futures_buffered_core.specs.ReadyShared.{MadeShared, MarksShared};
 ghost use Rattle.futures_buffered_bounded.specs.Held.{AllHeld, AllHeldBut, EndsWith, ComesFrom};
 ghost use Rattle.futures_buffered_bounded.specs.FuturesUnorderedBounded.{HoldsEach, Pushes, PushesAt, AsksUntil, PollGives, SaidEmpty, IsWoken, with_empty_slot};
 
@@ -19,13 +18,11 @@ use crate::slot_future::SlotFuture;
 use futures::Stream;
 use futures::task::{Context, Poll};
 use futures_buffered_core::ready_core::{MAX_CAPACITY, NewFault, Taken, Woke};
-use futures_buffered_core::ready_shared::SharedReady;
 use futures_buffered_core::ready_source::{NewSource, ReadySource};
 use futures_buffered_core::slot_map::PinSlotMap;
 use std::alloc::Global;
 use std::fmt;
 use std::marker::Model;
-use std::sync::Wait;
 
 /// How many names one poll takes from the source, at most.
 pub const POLL_LIMIT: usize = 61;
@@ -125,6 +122,13 @@ impl<F: Drop, S: ReadySource> FuturesUnorderedBounded<F, S> {
         self.slots.capacity()
     }
 
+    /// How many names one poll takes from the source, at most. It never changes.
+    pub fn limit(&self) -> usize
+        ensures { result ≡ self.now.limit }
+    {
+        self.limit
+    }
+
     /// Puts the value into the first free slot and marks that slot, so that a later poll polls it. A full set hands the value back.
     ///
     /// Takes the same time at any capacity. Polls nothing, and wakes nobody: a task that waits for this set polls it again by itself.
@@ -133,6 +137,7 @@ impl<F: Drop, S: ReadySource> FuturesUnorderedBounded<F, S> {
         ensures count { OnOk result (held_count self.new.slots ≡ held_count self.old.slots + 1) }
         ensures full { IfErr result (λ back. (back ≡ value) × (self.new ≡ self.old)
             × IsFull self.old.slots) }
+        ensures capacity { slot_count self.new.slots ≡ slot_count self.old.slots }
     {
         let _i = self.try_push_at(value)?;
         Ok(())
@@ -144,6 +149,7 @@ impl<F: Drop, S: ReadySource> FuturesUnorderedBounded<F, S> {
         ensures count { OnOk result (held_count self.new.slots ≡ held_count self.old.slots + 1) }
         ensures full { IfErr result (λ back. (back ≡ value) × (self.new ≡ self.old)
             × IsFull self.old.slots) }
+        ensures capacity { slot_count self.new.slots ≡ slot_count self.old.slots }
     {
         let i = self.slots.insert_with(value, |value| value)?;
         let _woke = self.source.mark(i);
@@ -155,6 +161,7 @@ impl<F: Drop, S: ReadySource> FuturesUnorderedBounded<F, S> {
         requires { held_count self.old.slots < slot_count self.old.slots }
         ensures pushed { Pushes S.marks self.old value self.new }
         ensures count { held_count self.new.slots ≡ held_count self.old.slots + 1 }
+        ensures capacity { slot_count self.new.slots ≡ slot_count self.old.slots }
     {
         match self.try_push(value) {
             Ok(()) => {}
@@ -167,6 +174,7 @@ impl<F: Drop, S: ReadySource> FuturesUnorderedBounded<F, S> {
         requires { held_count self.old.slots < slot_count self.old.slots }
         ensures pushed { PushesAt S.marks self.old result value self.new }
         ensures count { held_count self.new.slots ≡ held_count self.old.slots + 1 }
+        ensures capacity { slot_count self.new.slots ≡ slot_count self.old.slots }
     {
         match self.try_push_at(value) {
             Ok(i) => i,
@@ -196,9 +204,12 @@ impl<F: Drop, S: ReadySource> FuturesUnorderedBounded<F, S> {
         ensures polled { AsksUntil R.polled S.registers S.takes self.old result self.new }
         ensures pollable { OnPending result (AllHeld R.can_poll self.new.slots) }
         ensures others { IfReady result (λ (i, _). AllHeldBut i R.can_poll self.new.slots) }
+        ensures goes_on { IfReady result (λ (_, x).
+            R.goes_on x → AllHeld R.can_poll self.new.slots) }
         ensures last { IfReady result (λ (i, x). EndsWith (R.polled i) x (value_in self.new.slots i)) }
         ensures count { held_count self.new.slots ≡ held_count self.old.slots }
         ensures capacity { slot_count self.new.slots ≡ slot_count self.old.slots }
+        ensures limit { self.new.limit ≡ self.old.limit }
         ensures same_slots { (j : ℕ)
             → is_some (value_in self.new.slots j) ≡ is_some (value_in self.old.slots j) }
         ensures covered { OnPending result (Covers cx.new (S.needs self.new.source)) }
@@ -227,6 +238,7 @@ impl<F: Drop, S: ReadySource> FuturesUnorderedBounded<F, S> {
         requires { IsSome (value_in self.old.slots i) }
         ensures emptied { self.new ≡ with_empty_slot self.old i }
         ensures count { held_count self.new.slots + 1 ≡ held_count self.old.slots }
+        ensures capacity { slot_count self.new.slots ≡ slot_count self.old.slots }
     {
         self.slots.remove(i);
     }
@@ -245,6 +257,8 @@ impl<F: Drop, S: ReadySource> FuturesUnorderedBounded<F, S> {
         ensures fewer { IfReady result (λ o. OnSome o
             (held_count self.new.slots + 1 ≡ held_count self.old.slots)) }
         ensures same { OnPending result (held_count self.new.slots ≡ held_count self.old.slots) }
+        ensures capacity { slot_count self.new.slots ≡ slot_count self.old.slots }
+        ensures limit { self.new.limit ≡ self.old.limit }
         ensures covered { OnPending result (Covers cx.new (S.needs self.new.source)) }
         ensures woken { OnPending result (IsWoken cx.new ⊎ SaidEmpty S.takes self.new.source) }
         ensures untouched { IfReady result (λ o. IfNone o (cx.new ≡ cx.old)) }
@@ -285,6 +299,11 @@ impl<F: SlotFuture<S::Waker>, S: ReadySource> Stream for FuturesUnorderedBounded
             (Within (ComesFrom F.polled self.old.slots) (ComesFrom F.polled self.new.slots)) }
         ensures goes { IfReady result (λ o. OnSome o (AllHeld F.can_poll self.new.slots)) }
         ensures again { OnPending result (AllHeld F.can_poll self.new.slots) }
+        ensures fewer { IfReady result (λ o. OnSome o
+            (held_count self.new.slots + 1 ≡ held_count self.old.slots)) }
+        ensures count { OnPending result (held_count self.new.slots ≡ held_count self.old.slots) }
+        ensures capacity { slot_count self.new.slots ≡ slot_count self.old.slots }
+        ensures limit { self.new.limit ≡ self.old.limit }
         ensures registered { OnPending result (Covers cx.new (S.needs self.new.source)) }
         ensures woken { OnPending result (IsWoken cx.new ⊎ SaidEmpty S.takes self.new.source) }
         ensures untouched { IfReady result (λ o. IfNone o (cx.new ≡ cx.old)) }
@@ -294,27 +313,23 @@ impl<F: SlotFuture<S::Waker>, S: ReadySource> Stream for FuturesUnorderedBounded
     }
 }
 
-impl<R: Wait + Clone + Drop, F: Drop> FuturesUnorderedBounded<F, SharedReady<R>> {
-    /// A set whose values are woken from any thread. It keeps a copy of the handle.
+impl<F: Drop, S: NewSource> FuturesUnorderedBounded<F, S> {
+    /// An empty set over a source that it makes. Over a `SharedReady` its values are woken from any thread, and it keeps a copy of the handle.
     ///
     /// Takes time and memory in proportion to `cap`, all that the set ever needs. `Memory` where a request for memory was refused, or the handle could not be copied.
-    pub fn new(env: &R, alloc: Global, cap: usize) -> Result<Self, NewFault>
+    pub fn new(env: &S::Env, alloc: Global, cap: usize) -> Result<Self, NewFault>
         ensures empty { IfOk result (λ set. set.slots ≡ no_slots cap) }
-        ensures source { IfOk result (λ set. MadeShared cap set.source) }
+        ensures source { IfOk result (λ set. S.made cap set.source) }
         ensures limit { IfOk result (λ set. set.limit ≡ POLL_LIMIT) }
         ensures refuses { RefusesTooLarge cap result }
     {
-        let source = SharedReady::new(env, alloc, cap)?;
+        let source = S::make(env, alloc, cap)?;
         FuturesUnorderedBounded::with_source(alloc, source)
     }
-}
 
-impl<R: Wait + Clone + Drop + Send + Sync, F: Drop> FuturesUnorderedBounded<F, SharedReady<R>> {
-    ghost use Rattle.std.specs.Prelude.{List};
-
-    /// A set without a free slot, which holds item k in slot k, each marked, in this order, and whose values are woken from any thread. It is `over` with a shared source, and refuses as `over` does.
+    /// A set without a free slot, which holds item k in slot k, each marked, in this order. It is `over`, and refuses as `over` does.
     pub fn from_iter<I: IntoIterator<Item = F>>(
-        env: &R,
+        env: &S::Env,
         alloc: Global,
         iter: I,
     ) -> Result<Self, NewFault>
@@ -323,7 +338,7 @@ impl<R: Wait + Clone + Drop + Send + Sync, F: Drop> FuturesUnorderedBounded<F, S
             I.IntoIter.remaining iter }
         ensures holds { IfOk result (λ set. (items : List F)
             × Draws I.into_iter_gives I.IntoIter.next_gives iter items
-            × HoldsEach MadeShared MarksShared POLL_LIMIT items set) }
+            × HoldsEach S.made S.marks POLL_LIMIT items set) }
         ensures fits { IfOk result (λ set. slot_count set.slots ≤ MAX_CAPACITY) }
         ensures large { result ≡ Err NewFault.TooLarge
             → DrawsMoreThan I.into_iter_gives I.IntoIter.next_gives iter MAX_CAPACITY }

@@ -96,7 +96,7 @@ pub trait ReadySource: Drop {
 /// A source that a set can make for itself.
 pub trait NewSource: ReadySource {
     /// What making one needs besides memory, as a handle for locks.
-    type Env;
+    type Env: Drop;
 
     // What a new source of this capacity may be.
     ghost made: { ℕ → Self → Type 0 };
