@@ -282,7 +282,7 @@ impl<F: SlotFuture<S::Waker>, S: ReadySource> Stream for FuturesUnorderedBounded
 
     ghost can_poll = { λ set. AllHeld F.can_poll set.slots };
 
-    ghost needs = { λ set. S.needs set.source };
+    ghost needs = { λ set n. (0 < held_count set.slots) × S.needs set.source n };
 
     ghost yields = { λ set. ComesFrom F.polled set.slots };
 
