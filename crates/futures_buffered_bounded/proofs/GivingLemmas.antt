@@ -1,5 +1,5 @@
 -- What the polls of a set may still give.
-use Rattle.std.proofs.Common.{◌≡◌, ◌⊎◌, ℕ, ◌+◌, List, [], ◌∷◌, length, Option, Some, None, MatchOption, IfSome, refl, sym, subst, ap, inl, inr, arith, ◌∙◌, ◌≢◌, OnSome, set, length-set}
+use Rattle.std.proofs.Common.{◌≡◌, ℕ, ◌+◌, List, [], ◌∷◌, length, Option, Some, None, MatchOption, IfSome, refl, sym, subst, inl, inr, arith, ◌∙◌, ◌≢◌, OnSome, set, length-set}
 use Rattle.std.proofs.lemmas.List.{get_or-set_same, get_or-set_other, get_or_past}
 use Rattle.std.specs.List.{FoldsTo}
 use Rattle.std.proofs.lemmas.Bool.{cases_eq, cases_lt}

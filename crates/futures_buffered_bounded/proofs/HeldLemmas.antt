@@ -1,5 +1,5 @@
 -- What a poll has done so far, and what one more name makes of it.
-use Rattle.std.proofs.Common.{◌≡◌, ◌⊎◌, ℕ, zero, suc, ◌+◌, ◌<◌, List, [], ◌∷◌, ◌++◌, map, length, set, Option, Some, None, MatchOption, IsSome, is_some, cond, true≢false, refl, sym, ap, subst, inl, inr, arith, length-set, append-nil, ◌∙◌}
+use Rattle.std.proofs.Common.{◌≡◌, ◌⊎◌, ℕ, zero, suc, ◌+◌, ◌<◌, List, [], ◌∷◌, ◌++◌, map, length, set, Option, Some, None, IsSome, is_some, cond, refl, inl, inr, arith, length-set}
 use Rattle.std.specs.List.{FoldsTo}
 use Rattle.std.proofs.lemmas.Fn.{FoldsTo-push}
 use Rattle.std.proofs.lemmas.List.{map_push, length_push, get_or-set_same, get_or-set_other, get_or_past}
@@ -7,10 +7,10 @@ use Rattle.std.proofs.lemmas.List.Sums.{sum_by-set}
 use Rattle.std.proofs.lemmas.Bool.{cases_eq, cases_lt}
 use Rattle.futures.specs.declared.task.Poll.{Poll}
 use Rattle.futures.specs.declared.task.Poll.TheVariants.{Ready, Pending}
-use Rattle.futures_buffered_core.specs.SlotMap.{Slots, value_in, held_count, no_slots, with_value, with_slot_freed, Inserts}
+use Rattle.futures_buffered_core.specs.SlotMap.{Slots, value_in, held_count, no_slots, with_value, Inserts}
 use Rattle.futures_buffered_table.specs.declared.answer.Taken.{Taken}
 use Rattle.futures_buffered_table.specs.declared.answer.Taken.TheVariants.{Slot, Empty, Pause}
-use Rattle.futures_buffered_bounded.specs.Held.{AllHeld, AllHeldBut, EndsWith, Passes, Yields}
+use Rattle.futures_buffered_bounded.specs.Held.{AllHeld, EndsWith, Passes}
 use Rattle.futures_buffered_bounded.specs.FuturesUnorderedBounded.{Bounded, Asks, AsksUntil}
 
 module _ {F A : Type 0} (polled : ℕ → F → Poll A → F → Type 0) where

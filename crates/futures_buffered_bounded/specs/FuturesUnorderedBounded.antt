@@ -1,5 +1,5 @@
 -- What a contract sees of a bounded set, and what its calls make of it.
-use Rattle.std.specs.Prelude.{◌≡◌, ℕ, ◌<◌, ◌≤◌, List, [], ◌∷◌, ◌++◌, map, length, Option, Some, None, ◌⊎◌, refl}
+use Rattle.std.specs.Prelude.{◌≡◌, ℕ, ◌<◌, List, [], ◌∷◌, ◌++◌, map, length, Option, Some, None, ◌⊎◌, refl}
 use Rattle.std.specs.List.{FoldsTo, range_with_len}
 use Rattle.std.specs.Coded.{Coded, code_by, coded×, coded_ℕ}
 use Rattle.futures.specs.Task.{Hears}
@@ -85,17 +85,13 @@ abbrev pub names_then : List ℕ → Option Taken → List Taken
 names_then names (Some last) = map Slot names ++ last ∷ []
 names_then names None = map Slot names
 
--- this poll asks to be made again: it hears whatever it may wait for
-abbrev pub AsksAgain : Context → Type 0
-AsksAgain cx = (s : ℕ) → Hears cx s
-
 -- the last answer of a source with this content was Empty
 abbrev pub SaidEmpty : {S : Type 0} → (S → Taken → S → Type 0) → S → Type 0
 SaidEmpty {S} takes new = (before : S) × takes before Empty new
 
--- A pending set waits where its source does. One that holds nothing is never pending, and waits nowhere.
-abbrev pub NeedsWhileHeld : {F S : Type 0} → (S → ℕ → Type 0) → Bounded F S → ℕ → Type 0
-NeedsWhileHeld needs set n = (0 < held_count set.slots) × needs set.source n
+-- the task was asked to poll again
+abbrev pub IsWoken : Context → Type 0
+IsWoken cx = (s : ℕ) → Hears cx s
 
 module _
     {F A S : Type 0}

@@ -1,7 +1,7 @@
 //! A set of as many futures as it has slots, yielded as they finish.
 //!
 //! Each future stands in a slot. A push marks its slot, and a future's waker marks it again. A poll takes the names of marked slots from the set's source, at most `POLL_LIMIT` of them, and polls what these slots hold until one is ready. A slot that nobody marked costs nothing.
-ghost use Rattle.std.specs.Prelude.{◌≡◌, ◌<◌, ◌≤◌, ◌+◌, ◌==◌, ◌↔◌, [], ℕ, List, IfOk, IfErr, OnOk, OnSome, IfSome, is_some, IsSome, IsTrue, None, ◌⊎◌};
+ghost use Rattle.std.specs.Prelude.{◌≡◌, ◌<◌, ◌≤◌, ◌+◌, ◌==◌, ◌↔◌, [], ℕ, List, IfOk, IfErr, OnOk, OnSome, IfSome, is_some, IsSome, IsTrue, IfNone, ◌⊎◌};
 ghost use Rattle.futures.specs.Task.{Covers, Keeps};
 ghost use Rattle.futures.specs.Runs.{After, Within};
 ghost use Rattle.futures.specs.Poll.{IfReady, OnPending};
@@ -11,7 +11,7 @@ ghost use Rattle.futures_buffered_core.specs.Drawn.{Draws, DrawsMoreThan};
 ghost use Rattle.futures_buffered_core.specs.ReadyShared.{IsNewShared, MarksShared};
 ghost use Rattle.futures_buffered_core.specs.SlotMap.{value_in, held_count, slot_count, no_slots, IsFull};
 ghost use Rattle.futures_buffered_bounded.specs.Held.{AllHeld, AllHeldBut, EndsWith, ComesFrom};
-ghost use Rattle.futures_buffered_bounded.specs.FuturesUnorderedBounded.{HoldsEach, Pushes, PushesAt, AsksAgain, AsksUntil, NeedsWhileHeld, PollGives, SaidEmpty, with_empty_slot};
+ghost use Rattle.futures_buffered_bounded.specs.FuturesUnorderedBounded.{HoldsEach, Pushes, PushesAt, AsksUntil, PollGives, SaidEmpty, IsWoken, with_empty_slot};
 
 use crate::fused::{FusedStream, SizeHint};
 use crate::poll_one::{PollFuture, PollOne};
@@ -72,16 +72,14 @@ impl<F: Drop, S: ReadySource> FuturesUnorderedBounded<F, S> {
         })
     }
 
-    // An empty set of `cap` slots, over a source made for it.
+    // An empty set of `cap` slots, over a source made for it. It knows no source, so it can neither mark nor take in secret.
     fn with_new_source(env: &S::Env, alloc: Global, cap: usize) -> Result<Self, NewFault>
     where
         S: NewSource,
         ensures empty { IfOk result (λ set. set.slots ≡ no_slots cap) }
         ensures source { IfOk result (λ set. S.made cap set.source) }
         ensures limit { IfOk result (λ set. set.limit ≡ POLL_LIMIT) }
-        ensures fits { IfOk result (λ _. cap ≤ MAX_CAPACITY) }
-        ensures large { (result ≡ Err NewFault.TooLarge) ↔ (MAX_CAPACITY < cap) }
-        ensures memory { result ≡ Err NewFault.Memory → cap ≤ MAX_CAPACITY }
+        ensures refuses { RefusesTooLarge cap result }
     {
         let source = S::make(env, alloc, cap)?;
         FuturesUnorderedBounded::with_source(alloc, source)
@@ -153,9 +151,9 @@ impl<F: Drop, S: ReadySource> FuturesUnorderedBounded<F, S> {
     pub fn try_push(&mut self, value: F) -> Result<(), F>
         ensures ok { OnOk result (Pushes S.marks self.old value self.new) }
         ensures count { OnOk result (held_count self.new.slots ≡ held_count self.old.slots + 1) }
-        ensures capacity { slot_count self.new.slots ≡ slot_count self.old.slots }
         ensures full { IfErr result (λ back. (back ≡ value) × (self.new ≡ self.old)
             × IsFull self.old.slots) }
+        ensures capacity { slot_count self.new.slots ≡ slot_count self.old.slots }
     {
         let _i = self.try_push_at(value)?;
         Ok(())
@@ -165,9 +163,9 @@ impl<F: Drop, S: ReadySource> FuturesUnorderedBounded<F, S> {
     pub fn try_push_at(&mut self, value: F) -> Result<usize, F>
         ensures ok { IfOk result (λ i. PushesAt S.marks self.old i value self.new) }
         ensures count { OnOk result (held_count self.new.slots ≡ held_count self.old.slots + 1) }
-        ensures capacity { slot_count self.new.slots ≡ slot_count self.old.slots }
         ensures full { IfErr result (λ back. (back ≡ value) × (self.new ≡ self.old)
             × IsFull self.old.slots) }
+        ensures capacity { slot_count self.new.slots ≡ slot_count self.old.slots }
     {
         let i = self.slots.insert_with(value, |value| value)?;
         let _woke = self.source.mark(i);
@@ -222,7 +220,8 @@ impl<F: Drop, S: ReadySource> FuturesUnorderedBounded<F, S> {
         ensures polled { AsksUntil R.polled S.registers S.takes self.old result self.new }
         ensures pollable { OnPending result (AllHeld R.can_poll self.new.slots) }
         ensures others { IfReady result (λ (i, _). AllHeldBut i R.can_poll self.new.slots) }
-        ensures goes { IfReady result (λ (_, x). R.goes_on x → AllHeld R.can_poll self.new.slots) }
+        ensures goes_on { IfReady result (λ (_, x).
+            R.goes_on x → AllHeld R.can_poll self.new.slots) }
         ensures last { IfReady result (λ (i, x). EndsWith (R.polled i) x (value_in self.new.slots i)) }
         ensures count { held_count self.new.slots ≡ held_count self.old.slots }
         ensures capacity { slot_count self.new.slots ≡ slot_count self.old.slots }
@@ -230,7 +229,7 @@ impl<F: Drop, S: ReadySource> FuturesUnorderedBounded<F, S> {
         ensures same_slots { (j : ℕ)
             → is_some (value_in self.new.slots j) ≡ is_some (value_in self.old.slots j) }
         ensures covered { OnPending result (Covers cx.new (S.needs self.new.source)) }
-        ensures woken { OnPending result (AsksAgain cx.new ⊎ SaidEmpty S.takes self.new.source) }
+        ensures woken { OnPending result (IsWoken cx.new ⊎ SaidEmpty S.takes self.new.source) }
         ensures kept { Keeps cx.old cx.new }
     {
         self.source.register(cx);
@@ -276,9 +275,9 @@ impl<F: Drop, S: ReadySource> FuturesUnorderedBounded<F, S> {
         ensures same { OnPending result (held_count self.new.slots ≡ held_count self.old.slots) }
         ensures capacity { slot_count self.new.slots ≡ slot_count self.old.slots }
         ensures limit { self.new.limit ≡ self.old.limit }
-        ensures untouched { result ≡ Poll.Ready None → cx.new ≡ cx.old }
         ensures covered { OnPending result (Covers cx.new (S.needs self.new.source)) }
-        ensures woken { OnPending result (AsksAgain cx.new ⊎ SaidEmpty S.takes self.new.source) }
+        ensures woken { OnPending result (IsWoken cx.new ⊎ SaidEmpty S.takes self.new.source) }
+        ensures untouched { IfReady result (λ o. IfNone o (cx.new ≡ cx.old)) }
         ensures kept { Keeps cx.old cx.new }
     {
         if self.slots.is_empty() {
@@ -299,7 +298,7 @@ impl<F: SlotFuture<S::Waker>, S: ReadySource> Stream for FuturesUnorderedBounded
 
     ghost can_poll = { λ set. AllHeld F.can_poll set.slots };
 
-    ghost needs = { NeedsWhileHeld S.needs };
+    ghost needs = { λ set n. (0 < held_count set.slots) × S.needs set.source n };
 
     ghost yields = { λ set. ComesFrom F.polled set.slots };
 
@@ -316,13 +315,14 @@ impl<F: SlotFuture<S::Waker>, S: ReadySource> Stream for FuturesUnorderedBounded
             (Within (ComesFrom F.polled self.old.slots) (ComesFrom F.polled self.new.slots)) }
         ensures goes { IfReady result (λ o. OnSome o (AllHeld F.can_poll self.new.slots)) }
         ensures again { OnPending result (AllHeld F.can_poll self.new.slots) }
-        ensures fewer { IfReady result (λ o. OnSome o (held_count self.new.slots + 1 ≡ held_count self.old.slots)) }
-        ensures same_count { OnPending result (held_count self.new.slots ≡ held_count self.old.slots) }
+        ensures fewer { IfReady result (λ o. OnSome o
+            (held_count self.new.slots + 1 ≡ held_count self.old.slots)) }
+        ensures count { OnPending result (held_count self.new.slots ≡ held_count self.old.slots) }
         ensures capacity { slot_count self.new.slots ≡ slot_count self.old.slots }
         ensures limit { self.new.limit ≡ self.old.limit }
-        ensures untouched { result ≡ Poll.Ready None → cx.new ≡ cx.old }
         ensures registered { OnPending result (Covers cx.new (S.needs self.new.source)) }
-        ensures woken { OnPending result (AsksAgain cx.new ⊎ SaidEmpty S.takes self.new.source) }
+        ensures woken { OnPending result (IsWoken cx.new ⊎ SaidEmpty S.takes self.new.source) }
+        ensures untouched { IfReady result (λ o. IfNone o (cx.new ≡ cx.old)) }
         ensures kept { Keeps cx.old cx.new }
     {
         self.poll_with(&PollFuture, cx)
@@ -332,7 +332,7 @@ impl<F: SlotFuture<S::Waker>, S: ReadySource> Stream for FuturesUnorderedBounded
 impl<R: Wait + Clone + Drop + Send + Sync, F: Drop> FuturesUnorderedBounded<F, SharedReady<R>> {
     ghost use Rattle.std.specs.Prelude.{List};
 
-    /// A set whose values are woken from any thread. It keeps a copy of the handle.
+    /// An empty set whose values are woken from any thread. It keeps a copy of the handle.
     ///
     /// Takes time and memory in proportion to `cap`, all that the set ever needs. `Memory` where a request for memory was refused, or the handle could not be copied.
     pub fn new(env: &R, alloc: Global, cap: usize) -> Result<Self, NewFault>

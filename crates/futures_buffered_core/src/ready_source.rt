@@ -14,9 +14,9 @@ pub use crate::script_source::ScriptSource;
 use futures::task::Context;
 use std::alloc::Global;
 
-/// A waker, by the slots that are its own. A set hands wakers on by this trait alone, and so cannot wake.
+/// What a set sees of a slot's waker: which slot it wakes, and no call that wakes it. So a set can hand a waker on, and cannot use it.
 pub trait WakesSlot {
-    // The slots of which it is a waker: the one that a wake marks. One that does nothing is a waker of each.
+    // The slots of which it is a waker: the one that a wake marks. A waker that does nothing is one of each slot.
     ghost wakes: { Self → ℕ → Type 0 };
 }
 
@@ -95,7 +95,7 @@ pub trait ReadySource: Drop {
 
 /// A source that a set can make for itself.
 pub trait NewSource: ReadySource {
-    /// What making one needs besides memory, as a handle for locks. A set that grows keeps it.
+    /// What making one needs besides memory, as a handle for locks.
     type Env: Drop;
 
     // What a new source of this capacity may be.

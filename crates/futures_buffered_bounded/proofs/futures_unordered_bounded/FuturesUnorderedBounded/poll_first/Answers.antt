@@ -1,6 +1,6 @@
 use Rattle.futures_buffered_bounded.specs.FuturesUnorderedBounded.{Bounded}
 use Rattle.std.proofs.Common.{Some, refl, sym, inl, inr, arith, ◌∙◌, length-set, ap}
-use Rattle.futures_buffered_bounded.proofs.HeldLemmas.{SoFar-skip, SoFar-pending, ready_after, ended_after, count-with, same-with}
+use Rattle.futures_buffered_bounded.proofs.HeldLemmas.{AllHeld-with, SoFar-skip, SoFar-pending, ready_after, ended_after, count-with, same-with}
 use Rattle.futures_buffered_bounded.proofs.futures_unordered_bounded.FuturesUnorderedBounded.poll_first.Goals.{in-Some+in_default-poll_one, in_default}
 use Rattle.futures_buffered_bounded.proofs.futures_unordered_bounded.FuturesUnorderedBounded.poll_first.Goals as goal
 
@@ -58,3 +58,6 @@ returns-in-Ready-clause-count g c = count-with c.names.self-inside.slots c.in-Sl
 
 pub returns-in-Ready-clause-capacity : goal.returns-in-Ready-clause-capacity
 returns-in-Ready-clause-capacity g c = length-set c.names.self-inside.slots.places c.in-Slot.i (Some c.poll_one.new.held) ∙ c.names.invariant.capacity
+
+pub returns-in-Ready-clause-goes_on : goal.returns-in-Ready-clause-goes_on
+returns-in-Ready-clause-goes_on g c = λ goes. AllHeld-with g.R.PollOne.can_poll c.names.self-inside.slots c.in-Slot.i c.poll_one.new.held c.names.invariant.so_far.pollable (c.in-Ready.ensures.goes_on goes)
