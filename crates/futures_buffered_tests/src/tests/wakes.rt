@@ -48,6 +48,32 @@ fn two_wakes_of_a_slot_are_one(rt: HostRuntime) -> Result<(), Fail> {
     Ok(())
 }
 
+// The first fresh wake after a poll wakes the task; until the next poll no other does.
+#[test]
+fn a_task_is_woken_once(rt: HostRuntime) -> Result<(), Fail> {
+    let task = MockTask::new(&rt)?;
+    let mut set: Set<_> = FuturesUnorderedBounded::new(&rt, rt.alloc(), 2)?;
+    let polls = Arc::new(rt.alloc(), AtomicU64::new(0))?;
+    let places = (empty_place(rt.alloc())?, empty_place(rt.alloc())?);
+    assert!(rt; set.try_push(counted_kept(rt, &places.0, &polls)?).is_ok());
+    assert!(rt; set.try_push(counted_kept(rt, &places.1, &polls)?).is_ok());
+    assert!(rt; poll_set(&task, &mut set).is_pending());
+    let first = taken_from(&rt, &places.0).ok_or("kept")?;
+    let second = taken_from(&rt, &places.1).ok_or("kept")?;
+    first.wake();
+    assert!(rt; task.is_woken());
+    task.enter(|_cx| ());
+    first.wake();
+    assert!(rt; !task.is_woken());
+    second.wake();
+    assert!(rt; !task.is_woken());
+    assert!(rt; poll_set(&task, &mut set).is_pending());
+    assert_eq!(rt; polls.load(SeqCst), 4);
+    second.wake();
+    assert!(rt; task.is_woken());
+    Ok(())
+}
+
 #[test]
 fn a_push_wakes_nobody(rt: HostRuntime) -> Result<(), Fail> {
     let task = MockTask::new(&rt)?;
