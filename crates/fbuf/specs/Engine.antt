@@ -35,7 +35,7 @@ new_bounded capacity = record { slots = no_slots capacity; source = record { cap
 
 -- one poll; registering leaves the standing as it is
 abbrev pub Polls : TimedBounded → PollAnswer (Option ℕ) → TimedBounded → Type 0
-Polls old answer new = PollGives TimedPolled (λ before after. after ≡ before) Takes old answer new
+Polls old answer new = PollGives (λ _. TimedPolled) (λ before after. after ≡ before) Takes old answer new
 
 -- one mark of a slot that is there
 abbrev pub MarksSlot : TimedBounded → ℕ → Woke → TimedBounded → Type 0

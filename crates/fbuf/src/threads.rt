@@ -103,7 +103,7 @@ impl<R: Wait + Drop> SlotFuture<SlotWake<R>> for AllWakes<R> {
 
     type Output = usize;
 
-    ghost polled = { λ old answer new. IfReady answer (λ number. number ≡ old.number) };
+    ghost polled = { λ _ old answer new. IfReady answer (λ number. number ≡ old.number) };
 
     fn poll(&mut self, waker: &SlotWake<R>) -> Poll<usize> {
         if self.seat.wakes.load(SeqCst) >= self.goal {

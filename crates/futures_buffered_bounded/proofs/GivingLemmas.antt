@@ -1,6 +1,7 @@
 -- What the polls of a set may still give.
-use Rattle.std.proofs.Common.{◌≡◌, ◌⊎◌, ℕ, ◌+◌, List, [], ◌∷◌, length, Option, Some, None, MatchOption, IfSome, refl, sym, subst, ap, inl, inr, arith, ◌∙◌, ◌≢◌, OnSome, set, length-set}
+use Rattle.std.proofs.Common.{◌≡◌, ℕ, ◌+◌, List, [], ◌∷◌, length, Option, Some, None, MatchOption, IfSome, refl, sym, subst, inl, inr, arith, ◌∙◌, ◌≢◌, OnSome, set, length-set}
 use Rattle.std.proofs.lemmas.List.{get_or-set_same, get_or-set_other, get_or_past}
+use Rattle.std.specs.List.{FoldsTo}
 use Rattle.std.proofs.lemmas.Bool.{cases_eq, cases_lt}
 use Rattle.futures.proofs.SentLemmas.{AllByRecursion_weaker}
 use Rattle.futures.specs.declared.task.Poll.{Poll}
@@ -8,11 +9,11 @@ use Rattle.futures.specs.declared.task.Poll.TheVariants.{Ready, Pending}
 use Rattle.futures.specs.Poll.{IfReady, OnPending}
 use Rattle.futures.specs.Runs.{After, Within}
 use Rattle.futures.specs.Queued.{Gathers}
-use Rattle.futures_buffered_core.specs.SlotMap.{Slots, held, held_count, with_value, without}
+use Rattle.futures_buffered_core.specs.SlotMap.{Slots, value_in, held_count, with_value, with_slot_freed}
 use Rattle.futures_buffered_table.specs.declared.answer.Taken.{Taken}
-use Rattle.futures_buffered_bounded.specs.Held.{NamesRun, MayGive, AnyMayGive, ComesFrom}
+use Rattle.futures_buffered_bounded.specs.Held.{Passes, Yields, MayGive, AnyMayGive, ComesFrom}
 use Rattle.futures_buffered_bounded.specs.FuturesUnorderedBounded.{Bounded, PollGives}
-use Rattle.futures_buffered_bounded.proofs.HeldLemmas.{held-with}
+use Rattle.futures_buffered_bounded.proofs.HeldLemmas.{value_in-with_value}
 
 module _ {A : Type 0} {P Q : A → Type 0} (weaker : (x : A) → Q x → P x) where
   pub Gathers-Within : (m n : ℕ) → n ≡ m → Within (Gathers P m) (Gathers Q n)
@@ -24,80 +25,68 @@ module _ {A : Type 0} {P Q : A → Type 0} (weaker : (x : A) → Q x → P x) wh
   Gathers-After m n x fewer p xs (Some y) h =
       record { each = (p, AllByRecursion_weaker Q P xs weaker h.each); ends = (weaker y h.ends.0, let k = h.ends.1 in omega arith) }
 
-pub held-without : {F : Type 0} (m : Slots F) (i : ℕ) → held (without m i) i ≡ None
-held-without {F} m i =
+pub value_in-with_slot_freed : {F : Type 0} (m : Slots F) (i : ℕ) → value_in (with_slot_freed m i) i ≡ None
+value_in-with_slot_freed {F} m i =
     elim (cases_lt i (length m.places)) [
       | inl within ↦ get_or-set_same {A = Option F} m.places i None None within
       | inr past ↦ get_or_past {X = Option F} (set m.places i None) i None (omega (arith, length-set {A = Option F} m.places i None))
     ]
 
-pub held-without_other : {F : Type 0} (m : Slots F) (i j : ℕ) → j ≢ i → held (without m i) j ≡ held m j
-held-without_other {F} m i j other = get_or-set_other {A = Option F} m.places i j None None other
+pub value_in-with_slot_freed_other : {F : Type 0} (m : Slots F) (i j : ℕ) → j ≢ i → value_in (with_slot_freed m i) j ≡ value_in m j
+value_in-with_slot_freed_other {F} m i j other = get_or-set_other {A = Option F} m.places i j None None other
 
 pub None-Some : {F : Type 0} {f : F} → None ≡ Some f → ⊥
 None-Some e = cc
 
-module _ {F A : Type 0} (polled : F → Poll A → F → Type 0) where
+module _ {F A : Type 0} (polled : ℕ → F → Poll A → F → Type 0) where
   -- a pending poll adds nothing to what may be given
-  pub any-pending : (m : Slots F) (i : ℕ) (f f2 : F) (y : A) → held m i ≡ Some f → polled f Pending f2 → AnyMayGive polled (with_value m i f2) y → AnyMayGive polled m y
+  pub any-pending : (m : Slots F) (i : ℕ) (f f2 : F) (y : A) → value_in m i ≡ Some f → polled i f Pending f2 → AnyMayGive polled (with_value m i f2) y → AnyMayGive polled m y
   any-pending m i f f2 y e h any =
       elim (cases_eq any.0 i) [
-        | inl same ↦ (i, f, e, from_next (Some-same (sym any.2 ∙ rw same (held-with m i f f2 (sym e)))) any.3)
+        | inl same ↦ (i, f, e, from_next (Some-same (sym any.2 ∙ rw same (value_in-with_value m i f f2 (sym e)))) (rw same at any.3))
         | inr other ↦ (any.0, any.1, sym (get_or-set_other m.places i any.0 (Some f2) None other) ∙ any.2, any.3)
       ]
     where
       Some-same : {g k : F} → Some g ≡ Some k → g ≡ k
       Some-same eq = cc
 
-      from_next : {g : F} → g ≡ f2 → MayGive polled g y → MayGive polled f y
-      from_next {g} eq may = (g ∷ may.0, may.1, may.2, (g, (subst (λ k. polled f Pending k) (sym eq) h, refl), may.3), may.4)
+      from_next : {g : F} → g ≡ f2 → MayGive (polled i) g y → MayGive (polled i) f y
+      from_next {g} eq may = (g ∷ may.0, may.1, may.2, (g, (subst (λ k. polled i f Pending k) (sym eq) h, refl), may.3), may.4)
 
-  pub gives_ran : (names : List ℕ) (m left : Slots F) (y : A) → NamesRun polled m names None left → AnyMayGive polled left y → AnyMayGive polled m y
-  gives_ran [] m left y ran any = subst (λ w. AnyMayGive polled w y) ran.1 any
-  gives_ran (j ∷ names) m left y ran any = by_held (held m j) (λ (w : Slots F) (r : NamesRun polled w names None left). gives_ran names w left y r any) refl ran
+  -- nor does a name that is passed over
+  pub gives_passed : (old new : Slots F) (i : ℕ) (y : A) → Passes polled old i new → AnyMayGive polled new y → AnyMayGive polled old y
+  gives_passed old new i y passed any = by_held (value_in old i) refl passed
     where
-      by_held : (o : Option F) → ((w : Slots F) → NamesRun polled w names None left → AnyMayGive polled w y) → held m j ≡ o
-          → MatchOption o (NamesRun polled m names None left) (λ f. ((f2 : F) × polled f Pending f2 × NamesRun polled (with_value m j f2) names None left) ⊎ ((x : A) × (f2 : F) × polled f (Ready x) f2 × (names ≡ []) × (◌≡◌ {A = Option (ℕ × A)} None (Some (j, x))) × (left ≡ with_value m j f2)))
-          → AnyMayGive polled m y
-      by_held None again e ran = again m ran
-      by_held (Some f) again e (inl h) = any-pending m j f h.0 y e h.1 (again (with_value m j h.0) h.2)
-      by_held (Some f) again e (inr h) = let e = h.4 in cc
+      by_held : (o : Option F) → value_in old i ≡ o → MatchOption o (new ≡ old) (λ f. (left : F) × polled i f Pending left × (new ≡ with_value old i left)) → AnyMayGive polled old y
+      by_held None e same = subst (λ w. AnyMayGive polled w y) same any
+      by_held (Some f) e h = any-pending old i f h.0 y e h.1 (subst (λ w. AnyMayGive polled w y) h.2 any)
 
-  -- the output was one that might be given, and so is what the others may give once its slot is empty
-  pub gives_out : (names : List ℕ) (m left : Slots F) (i : ℕ) (x : A) → NamesRun polled m names (Some (i, x)) left → AnyMayGive polled m x × ((y : A) → AnyMayGive polled (without left i) y → AnyMayGive polled m y)
-  gives_out [] m left i x ran = let e = ran.0 in cc
-  gives_out (j ∷ names) m left i x ran = by_held (held m j) (λ (w : Slots F) (r : NamesRun polled w names (Some (i, x)) left). gives_out names w left i x r) refl ran
+  pub gives_ran : (names : List ℕ) (old new : Slots F) (y : A) → FoldsTo (Passes polled) old names new → AnyMayGive polled new y → AnyMayGive polled old y
+  gives_ran [] old new y same any = subst (λ w. AnyMayGive polled w y) (sym same) any
+  gives_ran (i ∷ names) old new y ran any = gives_passed old ran.0 i y ran.1 (gives_ran names ran.0 new y ran.2 any)
+
+  -- the output was one that might be given
+  pub gives_out : (old new : Slots F) (i : ℕ) (x : A) → Yields polled old i x new → AnyMayGive polled old x
+  gives_out old new i x out = (i, out.value, out.was_held, ([], out.value, out.left, refl, out.was_ready))
+
+  -- what the others may give once its slot is empty might be given before
+  pub gives_others : (old new : Slots F) (i : ℕ) (x y : A) → Yields polled old i x new → AnyMayGive polled (with_slot_freed new i) y → AnyMayGive polled old y
+  gives_others old new i x y out any = others (subst (λ w. AnyMayGive polled (with_slot_freed w i) y) out.replaced any)
     where
-      by_held : (o : Option F) → ((w : Slots F) → NamesRun polled w names (Some (i, x)) left → AnyMayGive polled w x × ((y : A) → AnyMayGive polled (without left i) y → AnyMayGive polled w y)) → held m j ≡ o
-          → MatchOption o (NamesRun polled m names (Some (i, x)) left) (λ f. ((f2 : F) × polled f Pending f2 × NamesRun polled (with_value m j f2) names (Some (i, x)) left) ⊎ ((z : A) × (f2 : F) × polled f (Ready z) f2 × (names ≡ []) × (◌≡◌ {A = Option (ℕ × A)} (Some (i, x)) (Some (j, z))) × (left ≡ with_value m j f2)))
-          → AnyMayGive polled m x × ((y : A) → AnyMayGive polled (without left i) y → AnyMayGive polled m y)
-      by_held None again e ran = again m ran
-      by_held (Some f) again e (inl h) =
-          let more = again (with_value m j h.0) h.2 in
-          (any-pending m j f h.0 x e h.1 more.0, λ y any. any-pending m j f h.0 y e h.1 (more.1 y any))
-      by_held (Some f) again e (inr h) =
-          let same_out = h.4 in
-          let pair : ◌≡◌ {A = ℕ × A} (i, x) (j, h.0) = cc in
-          let at : i ≡ j = ap (λ (p : ℕ × A). p.0) pair in
-          let is : x ≡ h.0 = ap (λ (p : ℕ × A). p.1) pair in (
-            (j, f, e, ([], f, h.1, refl, subst (λ z. polled f (Ready z) h.1) (sym is) h.2)),
-            λ y any. emptied y (subst (λ w. AnyMayGive polled (without w j) y) h.5 (subst (λ k. AnyMayGive polled (without left k) y) at any)),
-          )
-        where
-          emptied : (y : A) → AnyMayGive polled (without (with_value m j h.1) j) y → AnyMayGive polled m y
-          emptied y any =
-              elim (cases_eq any.0 j) [
-                | inl same ↦ absurd (None-Some (sym (held-without (with_value m j h.1) j) ∙ rw same at any.2))
-                | inr other ↦ (any.0, any.1, sym (get_or-set_other m.places j any.0 (Some h.1) None other) ∙ (sym (held-without_other (with_value m j h.1) j any.0 other) ∙ any.2), any.3)
-              ]
+      others : AnyMayGive polled (with_slot_freed (with_value old i out.left) i) y → AnyMayGive polled old y
+      others any =
+          elim (cases_eq any.0 i) [
+            | inl same ↦ absurd (None-Some (sym (value_in-with_slot_freed (with_value old i out.left) i) ∙ rw same at any.2))
+            | inr other ↦ (any.0, any.1, sym (get_or-set_other old.places i any.0 (Some out.left) None other) ∙ (sym (value_in-with_slot_freed_other (with_value old i out.left) i any.0 other) ∙ any.2), any.3)
+          ]
 
-module _ {F A S : Type 0} (polled : F → Poll A → F → Type 0) where
+module _ {F A S : Type 0} (polled : ℕ → F → Poll A → F → Type 0) where
   -- one poll
   pub value_of : (registers : S → S → Type 0) (takes : S → Taken → S → Type 0) (old new : Bounded F S) (answer : Poll (Option A)) → PollGives polled registers takes old answer new → IfReady answer (ComesFrom polled old.slots [])
   value_of registers takes old new (Ready None) h = record { each = tt; ends = sym h.0 }
   value_of registers takes old new (Ready (Some x)) h =
       let asks = h.1.2 in
-      record { each = tt; ends = ((gives_out polled _ _ _ _ _ asks.2.polls).0, h.0) }
+      record { each = tt; ends = (gives_ran polled asks.0 _ _ x asks.2.1.passed (gives_out polled _ _ _ x asks.2.2), h.0) }
   value_of registers takes old new Pending h = tt
 
   pub rest_of : (registers : S → S → Type 0) (takes : S → Taken → S → Type 0) (old new : Bounded F S) (answer : Poll (Option A)) → PollGives polled registers takes old answer new
@@ -105,8 +94,9 @@ module _ {F A S : Type 0} (polled : F → Poll A → F → Type 0) where
   rest_of registers takes old new (Ready None) h fewer = tt
   rest_of registers takes old new (Ready (Some x)) h fewer =
       let asks = h.1.2 in
-      let gives = gives_out polled _ _ _ _ _ asks.2.polls in
-      Gathers-After {A = A} {P = AnyMayGive polled old.slots} {Q = AnyMayGive polled new.slots} (λ (y : A) (any : AnyMayGive polled new.slots y). gives.1 y (subst (λ (b : Bounded F S). AnyMayGive polled b.slots y) h.1.3 any)) _ _ x fewer gives.0
+      Gathers-After {A = A} {P = AnyMayGive polled old.slots} {Q = AnyMayGive polled new.slots}
+      (λ (y : A) (any : AnyMayGive polled new.slots y). gives_ran polled asks.0 _ _ y asks.2.1.passed (gives_others polled _ _ _ x y asks.2.2 (subst (λ (b : Bounded F S). AnyMayGive polled b.slots y) h.1.3 any)))
+      _ _ x fewer (gives_ran polled asks.0 _ _ x asks.2.1.passed (gives_out polled _ _ _ x asks.2.2))
   rest_of registers takes old new Pending h fewer = tt
 
   pub same_of : (registers : S → S → Type 0) (takes : S → Taken → S → Type 0) (old new : Bounded F S) (answer : Poll (Option A)) → PollGives polled registers takes old answer new
@@ -114,4 +104,4 @@ module _ {F A S : Type 0} (polled : F → Poll A → F → Type 0) where
   same_of registers takes old new (Ready o) h same = tt
   same_of registers takes old new Pending h same =
       let asks = h.1 in
-      Gathers-Within {A = A} {P = AnyMayGive polled old.slots} {Q = AnyMayGive polled new.slots} (λ (y : A) (any : AnyMayGive polled new.slots y). gives_ran polled _ _ _ y asks.3.polls any) _ _ same
+      Gathers-Within {A = A} {P = AnyMayGive polled old.slots} {Q = AnyMayGive polled new.slots} (λ (y : A) (any : AnyMayGive polled new.slots y). gives_ran polled asks.0 _ _ y asks.3.passed any) _ _ same

@@ -1,5 +1,5 @@
 -- What a poll has done so far, and what one more name makes of it.
-use Rattle.std.proofs.Common.{◌≡◌, ◌⊎◌, ℕ, zero, suc, ◌+◌, ◌<◌, List, [], ◌∷◌, ◌++◌, map, length, set, Option, Some, None, MatchOption, IsSome, is_some, cond, true≢false, refl, sym, ap, subst, inl, inr, arith, length-set, append-nil, ◌∙◌}
+use Rattle.std.proofs.Common.{◌≡◌, ◌⊎◌, ℕ, zero, suc, ◌+◌, ◌<◌, List, [], ◌∷◌, ◌++◌, map, length, set, Option, Some, None, IsSome, is_some, cond, refl, inl, inr, arith, length-set}
 use Rattle.std.specs.List.{FoldsTo}
 use Rattle.std.proofs.lemmas.Fn.{FoldsTo-push}
 use Rattle.std.proofs.lemmas.List.{map_push, length_push, get_or-set_same, get_or-set_other, get_or_past}
@@ -7,33 +7,18 @@ use Rattle.std.proofs.lemmas.List.Sums.{sum_by-set}
 use Rattle.std.proofs.lemmas.Bool.{cases_eq, cases_lt}
 use Rattle.futures.specs.declared.task.Poll.{Poll}
 use Rattle.futures.specs.declared.task.Poll.TheVariants.{Ready, Pending}
-use Rattle.futures_buffered_core.specs.SlotMap.{Slots, held, held_count, no_slots, with_value, without}
+use Rattle.futures_buffered_core.specs.SlotMap.{Slots, value_in, held_count, no_slots, with_value, Inserts}
 use Rattle.futures_buffered_table.specs.declared.answer.Taken.{Taken}
 use Rattle.futures_buffered_table.specs.declared.answer.Taken.TheVariants.{Slot, Empty, Pause}
-use Rattle.futures_buffered_bounded.specs.Held.{AllHeld, AllHeldBut, EndsWith, NamesRun}
-use Rattle.futures_buffered_bounded.specs.FuturesUnorderedBounded.{Bounded, Runs, EndsWaiting, AsksUntil}
+use Rattle.futures_buffered_bounded.specs.Held.{AllHeld, EndsWith, Passes}
+use Rattle.futures_buffered_bounded.specs.FuturesUnorderedBounded.{Bounded, Asks, AsksUntil}
 
-module _ {F A : Type 0} (polled : F → Poll A → F → Type 0) where
-  -- one more name
-  pub NamesRun-push : (names : List ℕ) (m now left : Slots F) (i : ℕ) (out : Option (ℕ × A)) → NamesRun polled m names None now → NamesRun polled now (i ∷ []) out left → NamesRun polled m (names ++ i ∷ []) out left
-  NamesRun-push [] m now left i out ran more = subst (λ w. NamesRun polled w (i ∷ []) out left) ran.1 more
-  NamesRun-push (j ∷ names) m now left i out ran more = by_held (held m j) (λ (w : Slots F) (h : NamesRun polled w names None now). NamesRun-push names w now left i out h more) ran
-    where
-      by_held : (o : Option F) → ((w : Slots F) → NamesRun polled w names None now → NamesRun polled w (names ++ i ∷ []) out left)
-          → MatchOption o (NamesRun polled m names None now) (λ f. ((f2 : F) × polled f Pending f2 × NamesRun polled (with_value m j f2) names None now) ⊎ ((x : A) × (f2 : F) × polled f (Ready x) f2 × (names ≡ []) × (◌≡◌ {A = Option (ℕ × A)} None (Some (j, x))) × ((now ≡ with_value m j f2))))
-          → MatchOption o (NamesRun polled m (names ++ i ∷ []) out left) (λ f. ((f2 : F) × polled f Pending f2 × NamesRun polled (with_value m j f2) (names ++ i ∷ []) out left) ⊎ ((x : A) × (f2 : F) × polled f (Ready x) f2 × ((names ++ i ∷ []) ≡ []) × (out ≡ Some (j, x)) × (left ≡ with_value m j f2)))
-      by_held None again ran = again m ran
-      by_held (Some f) again (inl h) = inl (h.0, h.1, again (with_value m j h.0) h.2)
-      by_held (Some f) again (inr h) = let e = h.4 in cc
+module _ {F A : Type 0} (polled : ℕ → F → Poll A → F → Type 0) where
+  pub passes_free : (m : Slots F) (i : ℕ) → value_in m i ≡ None → Passes polled m i m
+  passes_free m i e = rw e refl
 
-  pub one_skipped : (m : Slots F) (i : ℕ) → held m i ≡ None → NamesRun polled m (i ∷ []) None m
-  one_skipped m i e = rw e (refl, refl)
-
-  pub one_pending : (m : Slots F) (i : ℕ) (f f2 : F) → held m i ≡ Some f → polled f Pending f2 → NamesRun polled m (i ∷ []) None (with_value m i f2)
-  one_pending m i f f2 e h = rw e (inl (f2, h, (refl, refl)))
-
-  pub one_ready : (m : Slots F) (i : ℕ) (f f2 : F) (x : A) → held m i ≡ Some f → polled f (Ready x) f2 → NamesRun polled m (i ∷ []) (Some (i, x)) (with_value m i f2)
-  one_ready m i f f2 x e h = rw e (inr (x, f2, h, refl, refl, refl))
+  pub passes_pending : (m : Slots F) (i : ℕ) (f left : F) → value_in m i ≡ Some f → polled i f Pending left → Passes polled m i (with_value m i left)
+  passes_pending m i f left e h = rw e (left, h, refl)
 
 -- no value is held where all slots are free
 pub AllHeld-none : {F : Type 0} (P : F → Type 0) (n : ℕ) → AllHeld P (no_slots n)
@@ -52,7 +37,7 @@ AllHeld-with {F} P m i f all here q =
       | inr other ↦ rw (get_or-set_other m.places i q (Some f) None other) (all q)
     ]
 
-module _ {F A S : Type 0} (can_poll : F → Type 0) (polled : F → Poll A → F → Type 0) (registers : S → S → Type 0) (takes : S → Taken → S → Type 0) where
+module _ {F A S : Type 0} (can_poll : F → Type 0) (polled : ℕ → F → Poll A → F → Type 0) (registers : S → S → Type 0) (takes : S → Taken → S → Type 0) where
   -- so many names came, and each value that was polled is pending
   pub record SoFar (old : Bounded F S) (count : ℕ) (slots : Slots F) (source : S) : Type 0 where
     pub names : List ℕ
@@ -60,131 +45,85 @@ module _ {F A S : Type 0} (can_poll : F → Type 0) (polled : F → Poll A → F
     pub registers_first : registers old.source registered
     pub counted : length names ≡ count
     pub answers : FoldsTo takes registered (map Slot names) source
-    pub polls : NamesRun polled old.slots names None slots
+    pub passed : FoldsTo (Passes polled) old.slots names slots
     pub pollable : AllHeld can_poll slots
 
   pub SoFar-none : (old : Bounded F S) (source : S) → registers old.source source → AllHeld can_poll old.slots → SoFar old 0 old.slots source
   SoFar-none old source first all =
-      record { names = []; registered = source; registers_first = first; counted = refl; answers = refl; polls = (refl, refl); pollable = all }
+      record { names = []; registered = source; registers_first = first; counted = refl; answers = refl; passed = refl; pollable = all }
 
-  pub SoFar-skip : (old : Bounded F S) (count i : ℕ) (slots : Slots F) (source left : S) → SoFar old count slots source → takes source (Slot i) left → held slots i ≡ None → SoFar old (count + 1) slots left
-  SoFar-skip old count i slots source left so taken e =
+  -- one more name that is passed over
+  pub SoFar-pass : (old : Bounded F S) (count i : ℕ) (slots now : Slots F) (source left : S) → SoFar old count slots source → takes source (Slot i) left → Passes polled slots i now → AllHeld can_poll now → SoFar old (count + 1) now left
+  SoFar-pass old count i slots now source left so taken passes pollable =
       record {
         names = so.names ++ i ∷ [];
         registered = so.registered;
         registers_first = so.registers_first;
         counted = omega (arith, length_push so.names i, so.counted);
         answers = rw (map_push Slot so.names i) (FoldsTo-push takes so.registered (map Slot so.names) source (Slot i) left so.answers taken);
-        polls = NamesRun-push polled so.names old.slots slots slots i None so.polls (one_skipped polled slots i e);
-        pollable = so.pollable;
+        passed = FoldsTo-push (Passes polled) old.slots so.names slots i now so.passed passes;
+        pollable = pollable;
       }
 
-  pub SoFar-pending : (old : Bounded F S) (count i : ℕ) (slots : Slots F) (source left : S) (f f2 : F) → SoFar old count slots source → takes source (Slot i) left → held slots i ≡ Some f → polled f Pending f2 → can_poll f2 → SoFar old (count + 1) (with_value slots i f2) left
+  pub SoFar-skip : (old : Bounded F S) (count i : ℕ) (slots : Slots F) (source left : S) → SoFar old count slots source → takes source (Slot i) left → value_in slots i ≡ None → SoFar old (count + 1) slots left
+  SoFar-skip old count i slots source left so taken e = SoFar-pass old count i slots slots source left so taken (passes_free polled slots i e) so.pollable
+
+  pub SoFar-pending : (old : Bounded F S) (count i : ℕ) (slots : Slots F) (source left : S) (f f2 : F) → SoFar old count slots source → takes source (Slot i) left → value_in slots i ≡ Some f → polled i f Pending f2 → can_poll f2 → SoFar old (count + 1) (with_value slots i f2) left
   SoFar-pending old count i slots source left f f2 so taken e h again =
+      SoFar-pass old count i slots (with_value slots i f2) source left so taken (passes_pending polled slots i f f2 e h) (AllHeld-with can_poll slots i f2 so.pollable again)
+
+  -- what was asked so far, and one answer more
+  pub asks_last : (old : Bounded F S) (count : ℕ) (slots : Slots F) (source left : S) (last : Taken) (so : SoFar old count slots source) → takes source last left → Asks polled registers takes old so.names (Some last) slots left
+  asks_last old count slots source left last so taken =
       record {
-        names = so.names ++ i ∷ [];
         registered = so.registered;
         registers_first = so.registers_first;
-        counted = omega (arith, length_push so.names i, so.counted);
-        answers = rw (map_push Slot so.names i) (FoldsTo-push takes so.registered (map Slot so.names) source (Slot i) left so.answers taken);
-        polls = NamesRun-push polled so.names old.slots slots (with_value slots i f2) i None so.polls (one_pending polled slots i f f2 e h);
-        pollable = AllHeld-with can_poll slots i f2 so.pollable again;
+        answers = FoldsTo-push takes so.registered (map Slot so.names) source last left so.answers taken;
+        passed = so.passed;
       }
 
-  pub ready_after : (old : Bounded F S) (count limit i : ℕ) (slots : Slots F) (source left : S) (f f2 : F) (x : A) → SoFar old count slots source → limit ≡ old.limit → count < old.limit → takes source (Slot i) left → held slots i ≡ Some f → polled f (Ready x) f2
+  pub ready_after : (old : Bounded F S) (count limit i : ℕ) (slots : Slots F) (source left : S) (f f2 : F) (x : A) → SoFar old count slots source → limit ≡ old.limit → count < old.limit → takes source (Slot i) left → value_in slots i ≡ Some f → polled i f (Ready x) f2
       → AsksUntil polled registers takes old (Ready (i, x)) (record { slots = with_value slots i f2; source = left; limit = limit })
   ready_after old count limit i slots source left f f2 x so same below taken e h = (
-    so.names ++ i ∷ [],
-    omega (arith, length_push so.names i, so.counted),
-    record {
-      registered = so.registered;
-      registers_first = so.registers_first;
-      answers = rw (append-nil (map Slot (so.names ++ i ∷ [])), map_push Slot so.names i) (FoldsTo-push takes so.registered (map Slot so.names) source (Slot i) left so.answers taken);
-      polls = NamesRun-push polled so.names old.slots slots (with_value slots i f2) i (Some (i, x)) so.polls (one_ready polled slots i f f2 x e h);
-      same_limit = same;
-    },
+    so.names,
+    omega (arith, so.counted),
+    (slots, asks_last old count slots source left (Slot i) so taken, record { value = f; left = f2; was_held = e; was_ready = h; replaced = refl }, same),
   )
 
   pub ended_after : (old : Bounded F S) (count limit : ℕ) (slots : Slots F) (source left : S) (last : Taken) → SoFar old count slots source → limit ≡ old.limit → count < old.limit → takes source last left → (last ≡ Empty) ⊎ (last ≡ Pause)
-      → (names : List ℕ) × (ended : List Taken) × EndsWaiting old.limit names ended × Runs polled registers takes old names ended None (record { slots = slots; source = left; limit = limit })
-  ended_after old count limit slots source left last so same below taken which = (
-    so.names,
-    last ∷ [],
-    inl (omega (arith, so.counted), ending which),
-    record {
-      registered = so.registered;
-      registers_first = so.registers_first;
-      answers = FoldsTo-push takes so.registered (map Slot so.names) source last left so.answers taken;
-      polls = so.polls;
-      same_limit = same;
-    },
-  )
-    where
-      ending : (last ≡ Empty) ⊎ (last ≡ Pause) → ((last ∷ []) ≡ (Empty ∷ [])) ⊎ ((last ∷ []) ≡ (Pause ∷ []))
-      ending (inl e) = inl (ap (λ (t : Taken). t ∷ []) e)
-      ending (inr e) = inr (ap (λ (t : Taken). t ∷ []) e)
+      → AsksUntil polled registers takes old Pending (record { slots = slots; source = left; limit = limit })
+  ended_after old count limit slots source left last so same below taken which =
+      (so.names, Some last, (omega (arith, so.counted), which), asks_last old count slots source left last so taken, same)
 
-  pub full_after : (old : Bounded F S) (count limit : ℕ) (slots : Slots F) (source : S) → SoFar old count slots source → limit ≡ old.limit → count ≡ old.limit
-      → (names : List ℕ) × (ended : List Taken) × EndsWaiting old.limit names ended × Runs polled registers takes old names ended None (record { slots = slots; source = source; limit = limit })
-  full_after old count limit slots source so same all = (
-    so.names,
-    [],
-    inr (so.counted ∙ all, refl),
-    record {
-      registered = so.registered;
-      registers_first = so.registers_first;
-      answers = rw (append-nil (map Slot so.names)) so.answers;
-      polls = so.polls;
-      same_limit = same;
-    },
-  )
-
--- where one value is another, the others may still be polled
-pub AllHeldBut-with : {F : Type 0} (P : F → Type 0) (m : Slots F) (i : ℕ) (f : F) → AllHeld P m → AllHeldBut i P (with_value m i f)
-AllHeldBut-with {F} P m i f all j other = rw (get_or-set_other m.places i j (Some f) None other) (all j)
-
-pub AllHeld-without : {F : Type 0} (P : F → Type 0) (m : Slots F) (i : ℕ) → AllHeldBut i P m → AllHeld P (without m i)
-AllHeld-without {F} P m i all q =
-    elim (cases_eq q i) [
-      | inl same ↦ elim (cases_lt i (length m.places)) [
-        | inl within ↦ rw (same, get_or-set_same {A = Option F} m.places i None None within) tt
-        | inr past ↦ rw (get_or_past {X = Option F} (set m.places i None) q None (omega (arith, length-set {A = Option F} m.places i None))) tt
-      ]
-      | inr other ↦ rw (get_or-set_other {A = Option F} m.places i q None None other) (all q other)
-    ]
+-- what holds of all values and of the one that a push puts in holds of all after it
+pub AllHeld-push : {F : Type 0} (P : F → Type 0) (old new : Slots F) (i : ℕ) (value : F) → AllHeld P old → P value → Inserts old i value new → AllHeld P new
+AllHeld-push {F} P old new i value all here pushed q =
+    rw pushed.now_held (AllHeld-with P old i value all here q)
 
 -- a slot that held a value holds the one put there
-pub held-with : {F : Type 0} (m : Slots F) (i : ℕ) (f g : F) → Some f ≡ held m i → held (with_value m i g) i ≡ Some g
-held-with {F} m i f g found = get_or-set_same m.places i (Some g) None (elim (cases_lt i (length m.places)) [
+pub value_in-with_value : {F : Type 0} (m : Slots F) (i : ℕ) (f g : F) → Some f ≡ value_in m i → value_in (with_value m i g) i ≡ Some g
+value_in-with_value {F} m i f g found = get_or-set_same m.places i (Some g) None (elim (cases_lt i (length m.places)) [
   | inl below ↦ below
-  | inr past ↦ let none : held m i ≡ None = get_or_past m.places i None past in cc
+  | inr past ↦ let none : value_in m i ≡ None = get_or_past m.places i None past in cc
 ])
-
--- what a removal leaves where the slot held a value
-pub removed_is : {F : Type 0} (slots removed : Slots F) (i : ℕ) → IsSome (held slots i) → MatchOption (held slots i) (removed ≡ slots) (λ _. removed ≡ without slots i) → removed ≡ without slots i
-removed_is {F} slots removed i some left = by_held (held slots i) some left
-  where
-    by_held : (o : Option F) → IsSome o → MatchOption o (removed ≡ slots) (λ _. removed ≡ without slots i) → removed ≡ without slots i
-    by_held None h e = absurd (true≢false (sym h))
-    by_held (Some f) h e = e
 
 pub some_from_end : {F A : Type 0} (polled : F → Poll A → F → Type 0) (x : A) (o : Option F) → EndsWith polled x o → IsSome o
 some_from_end polled x None h = absurd h
 some_from_end polled x (Some f) h = refl
 
 -- as many values as before
-pub count-with : {F : Type 0} (m : Slots F) (i : ℕ) (f g : F) → Some f ≡ held m i → held_count (with_value m i g) ≡ held_count m
+pub count-with : {F : Type 0} (m : Slots F) (i : ℕ) (f g : F) → Some f ≡ value_in m i → held_count (with_value m i g) ≡ held_count m
 count-with {F} m i f g found =
     let within : i < length m.places = elim (cases_lt i (length m.places)) [
       | inl below ↦ below
-      | inr past ↦ let none : held m i ≡ None = get_or_past m.places i None past in cc
+      | inr past ↦ let none : value_in m i ≡ None = get_or_past m.places i None past in cc
     ] in
     omega (arith, rw (← found) at (sum_by-set (λ (o : Option F). cond (is_some o) 1 0) m.places i (Some g) None within))
 
 -- a slot that held a value, or none, still does
-pub same-with : {F : Type 0} (m : Slots F) (i j : ℕ) (f g : F) → Some f ≡ held m i → is_some (held (with_value m i g) j) ≡ is_some (held m j)
+pub same-with : {F : Type 0} (m : Slots F) (i j : ℕ) (f g : F) → Some f ≡ value_in m i → is_some (value_in (with_value m i g) j) ≡ is_some (value_in m j)
 same-with {F} m i j f g found =
     elim (cases_eq j i) [
-      | inl same ↦ rw (same, held-with m i f g found, ← found) refl
+      | inl same ↦ rw (same, value_in-with_value m i f g found, ← found) refl
       | inr other ↦ rw (get_or-set_other m.places i j (Some g) None other) refl
     ]

@@ -1,14 +1,16 @@
 -- What a contract sees of a bounded set, and what its calls make of it.
-use Rattle.std.specs.Prelude.{◌≡◌, ℕ, ◌<◌, ◌≤◌, List, [], ◌∷◌, ◌++◌, map, length, Option, Some, None, ◌⊎◌, refl}
+use Rattle.std.specs.Prelude.{◌≡◌, ℕ, ◌<◌, List, [], ◌∷◌, ◌++◌, map, length, Option, Some, None, ◌⊎◌, refl}
 use Rattle.std.specs.List.{FoldsTo, range_with_len}
 use Rattle.std.specs.Coded.{Coded, code_by, coded×, coded_ℕ}
+use Rattle.futures.specs.Task.{Hears}
+use Rattle.futures.specs.declared.task.context.Context.{Context}
 use Rattle.futures.specs.declared.task.Poll.{Poll}
 use Rattle.futures.specs.declared.task.Poll.TheVariants.{Ready, Pending}
-use Rattle.futures_buffered_core.specs.SlotMap.{Slots, slots_code, held_count, all_slots, without, Inserts}
+use Rattle.futures_buffered_core.specs.SlotMap.{Slots, slots_code, held_count, all_slots, with_slot_freed, Inserts}
 use Rattle.futures_buffered_table.specs.declared.answer.Taken.{Taken}
 use Rattle.futures_buffered_table.specs.declared.answer.Taken.TheVariants.{Slot, Empty, Pause}
 use Rattle.futures_buffered_table.specs.declared.answer.Woke.{Woke}
-use Rattle.futures_buffered_bounded.specs.Held.{NamesRun}
+use Rattle.futures_buffered_bounded.specs.Held.{Passes, Yields}
 
 -- what each slot holds, the content of the source, and how many names one poll takes at most
 pub record Bounded (F S : Type 0) : Type 0 where
@@ -28,7 +30,7 @@ bounded_code {F} {S} code source_code =
 
 -- the slot is emptied, and is the first free one; the source and the limit stay
 abbrev pub with_empty_slot : {F S : Type 0} → Bounded F S → ℕ → Bounded F S
-with_empty_slot b i = record b { slots = without b.slots i }
+with_empty_slot b i = record b { slots = with_slot_freed b.slots i }
 
 -- one mark of a slot, whatever it answered
 abbrev pub MarksSlot : {S : Type 0} → (S → ℕ → Woke → S → Type 0) → S → ℕ → S → Type 0
@@ -39,7 +41,14 @@ abbrev pub MarksEach : {S : Type 0} → (S → ℕ → Woke → S → Type 0) �
 MarksEach marks = FoldsTo (MarksSlot marks)
 
 -- item k is held in slot k, no slot is free, and each slot was marked, in order, in a source made for this number of slots
-pub record HoldsEach {F S : Type 0} (made : ℕ → S → Type 0) (marks : S → ℕ → Woke → S → Type 0) (names : ℕ) (items : List F) (set : Bounded F S) : Type 0 where
+pub record HoldsEach
+    {F S : Type 0}
+    (made : ℕ → S → Type 0)
+    (marks : S → ℕ → Woke → S → Type 0)
+    (names : ℕ)
+    (items : List F)
+    (set : Bounded F S)
+    : Type 0 where
   pub slots_hold : set.slots ≡ all_slots items
   pub new_source : S
   pub was_made : made (length items) new_source
@@ -47,38 +56,82 @@ pub record HoldsEach {F S : Type 0} (made : ℕ → S → Type 0) (marks : S →
   pub takes_at_most : set.limit ≡ names
 
 -- a value went into the first free slot, i, which was then marked
-pub record PushesAt {F S : Type 0} (marks : S → ℕ → Woke → S → Type 0) (old : Bounded F S) (i : ℕ) (value : F) (new : Bounded F S) : Type 0 where
+pub record PushesAt
+    {F S : Type 0}
+    (marks : S → ℕ → Woke → S → Type 0)
+    (old : Bounded F S)
+    (i : ℕ)
+    (value : F)
+    (new : Bounded F S)
+    : Type 0 where
   pub inserted : Inserts old.slots i value new.slots
   pub woke : Woke
   pub marked : marks old.source i woke new.source
   pub same_limit : new.limit ≡ old.limit
 
 -- the same, where it does not matter which slot that was
-abbrev pub Pushes : {F S : Type 0} → (S → ℕ → Woke → S → Type 0) → Bounded F S → F → Bounded F S → Type 0
+abbrev pub Pushes : {F S : Type 0}
+    → (S → ℕ → Woke → S → Type 0) → Bounded F S → F → Bounded F S → Type 0
 Pushes marks old value new = (i : ℕ) × PushesAt marks old i value new
 
--- fewer names than the limit came, and then Empty or Pause; or as many as the limit, and nothing more was asked
-abbrev pub EndsWaiting : ℕ → List ℕ → List Taken → Type 0
-EndsWaiting limit names ended = ((length names < limit) × ((ended ≡ Empty ∷ []) ⊎ (ended ≡ Pause ∷ [])))
-    ⊎ ((length names ≡ limit) × (ended ≡ []))
+-- A poll may end waiting for two reasons. Fewer names came than the limit, and then Empty or Pause;
+-- or as many came, and nothing more was asked.
+abbrev pub EndsWaiting : ℕ → List ℕ → Option Taken → Type 0
+EndsWaiting limit names (Some last) = (length names < limit) × ((last ≡ Empty) ⊎ (last ≡ Pause))
+EndsWaiting limit names None = length names ≡ limit
 
-module _ {F A S : Type 0} (polled : F → Poll A → F → Type 0) (registers : S → S → Type 0) (takes : S → Taken → S → Type 0) where
-  -- the task was registered first; the source then gave these names, in order, and after them what ended the asking; the slots named were gone through
-  pub record Runs (old : Bounded F S) (names : List ℕ) (ended : List Taken) (out : Option (ℕ × A)) (new : Bounded F S) : Type 0 where
-    pub registered : S
-    pub registers_first : registers old.source registered
-    pub answers : FoldsTo takes registered (map Slot names ++ ended) new.source
-    pub polls : NamesRun polled old.slots names out new.slots
-    pub same_limit : new.limit ≡ old.limit
+-- these names, and then the last answer, where there is one
+abbrev pub names_then : List ℕ → Option Taken → List Taken
+names_then names (Some last) = map Slot names ++ last ∷ []
+names_then names None = map Slot names
 
-  -- one count of names: until an output came, which is given with its slot, or until the asking ended without one
-  abbrev pub AsksUntil : Bounded F S → Poll (ℕ × A) → Bounded F S → Type 0
-  AsksUntil old (Ready out) new = (names : List ℕ) × (length names ≤ old.limit) × Runs old names [] (Some out) new
-  AsksUntil old Pending new = (names : List ℕ) × (ended : List Taken) × EndsWaiting old.limit names ended × Runs old names ended None new
+-- the last answer of a source with this content was Empty
+abbrev pub SaidEmpty : {S : Type 0} → (S → Taken → S → Type 0) → S → Type 0
+SaidEmpty {S} takes new = (before : S) × takes before Empty new
 
-  -- one poll: the end exactly where nothing is held, and then nothing changes; the output of the last name, whose slot is emptied; or Pending, where the asking ended without an output
-  abbrev pub PollGives : Bounded F S → Poll (Option A) → Bounded F S → Type 0
-  PollGives old (Ready None) new = (held_count old.slots ≡ 0) × (new ≡ old)
-  PollGives old (Ready (Some x)) new = (0 < held_count old.slots)
-      × ((i : ℕ) × (left : Bounded F S) × AsksUntil old (Ready (i, x)) left × (new ≡ with_empty_slot left i))
-  PollGives old Pending new = (0 < held_count old.slots) × AsksUntil old Pending new
+-- the task was asked to poll again
+abbrev pub IsWoken : Context → Type 0
+IsWoken cx = (s : ℕ) → Hears cx s
+
+module _
+    {F A S : Type 0}
+    (polled : ℕ → F → Poll A → F → Type 0)
+    (registers : S → S → Type 0)
+    (takes : S → Taken → S → Type 0)
+  where
+    -- The task was registered. Then the source gave these names, in order, and the last answer;
+    -- the names passed over took the slots to these.
+    pub record Asks
+        (old : Bounded F S)
+        (names : List ℕ)
+        (last : Option Taken)
+        (slots : Slots F)
+        (source : S)
+        : Type 0 where
+      pub registered : S
+      pub registers_first : registers old.source registered
+      pub answers : FoldsTo takes registered (names_then names last) source
+      pub passed : FoldsTo (Passes polled) old.slots names slots
+
+    -- One count of names. It goes on until an output comes, which is given with its slot,
+    -- or until the asking ends without one. The limit stays.
+    abbrev pub AsksUntil : Bounded F S → Poll (ℕ × A) → Bounded F S → Type 0
+    AsksUntil old (Ready (i, x)) new = (names : List ℕ)
+        × (length names < old.limit)
+        × ((passed : Slots F) × Asks old names (Some (Slot i)) passed new.source
+        × Yields polled passed i x new.slots × (new.limit ≡ old.limit))
+    AsksUntil old Pending new = (names : List ℕ)
+        × (last : Option Taken)
+        × EndsWaiting old.limit names last
+        × Asks old names last new.slots new.source
+        × (new.limit ≡ old.limit)
+
+    -- One poll. It gives the end exactly where nothing is held, and then nothing changes;
+    -- or the output of the last name, whose slot is emptied;
+    -- or Pending, where the asking ended without an output.
+    abbrev pub PollGives : Bounded F S → Poll (Option A) → Bounded F S → Type 0
+    PollGives old (Ready None) new = (held_count old.slots ≡ 0) × (new ≡ old)
+    PollGives old (Ready (Some x)) new = (0 < held_count old.slots)
+        × ((i : ℕ) × (left : Bounded F S)
+        × AsksUntil old (Ready (i, x)) left × (new ≡ with_empty_slot left i))
+    PollGives old Pending new = (0 < held_count old.slots) × AsksUntil old Pending new

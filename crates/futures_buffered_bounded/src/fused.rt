@@ -1,5 +1,5 @@
 //! What `futures` leaves out: whether a stream or a future has ended, and how many items are left.
-ghost use Rattle.std.specs.Prelude.{◌≡◌, ◌↔◌, ℕ, IsTrue, Option};
+ghost use Rattle.std.specs.Prelude.{◌≡◌, ◌↔◌, ℕ, IsTrue, Option, None};
 
 use futures::{Future, Stream};
 
@@ -25,8 +25,8 @@ pub trait FusedFuture: Future {
 
 /// What bounds the number of items that are left, as `size_hint` of an iterator does.
 pub trait SizeHint {
-    // The least and the greatest number of items that are left. `None` says that no greatest is known.
-    ghost items_left: { Self → ℕ × Option ℕ };
+    // The least and the greatest number of items that are left. `None` says that no greatest is known. By default nothing is known.
+    ghost items_left: { Self → ℕ × Option ℕ } = { λ _. (0, None) };
 
     /// The least and the greatest number of items that are left.
     fn size_hint(&self) -> (usize, Option<usize>)

@@ -1,15 +1,17 @@
 //! A set of as many futures as it has slots, yielded as they finish.
 //!
 //! Each future stands in a slot. A push marks its slot, and a future's waker marks it again. A poll takes the names of marked slots from the set's source, at most `POLL_LIMIT` of them, and polls what these slots hold until one is ready. A slot that nobody marked costs nothing.
-ghost use Rattle.std.specs.Prelude.{◌≡◌, ◌<◌, ◌≤◌, ◌+◌, ◌==◌, ◌↔◌, [], ℕ, List, IfOk, IfErr, OnOk, OnSome, IfSome, is_some, IsSome, IsTrue};
+ghost use Rattle.std.specs.Prelude.{◌≡◌, ◌<◌, ◌≤◌, ◌+◌, ◌==◌, ◌↔◌, [], ℕ, List, IfOk, IfErr, OnOk, OnSome, IfSome, is_some, IsSome, IsTrue, IfNone, ◌⊎◌};
 ghost use Rattle.futures.specs.Task.{Covers, Keeps};
 ghost use Rattle.futures.specs.Runs.{After, Within};
 ghost use Rattle.futures.specs.Poll.{IfReady, OnPending};
 ghost use Rattle.std.specs.Iterator.{IsFiniteIterable};
+ghost use Rattle.futures_buffered_core.specs.Answer.{RefusesTooLarge};
 ghost use Rattle.futures_buffered_core.specs.Drawn.{Draws, DrawsMoreThan};
-ghost use Rattle.futures_buffered_core.specs.SlotMap.{held, held_count, slot_count, no_slots};
+ghost use Rattle.futures_buffered_core.specs.ReadyShared.{IsNewShared, MarksShared};
+ghost use Rattle.futures_buffered_core.specs.SlotMap.{value_in, held_count, slot_count, no_slots, IsFull};
 ghost use Rattle.futures_buffered_bounded.specs.Held.{AllHeld, AllHeldBut, EndsWith, ComesFrom};
-ghost use Rattle.futures_buffered_bounded.specs.FuturesUnorderedBounded.{HoldsEach, Pushes, PushesAt, AsksUntil, PollGives, with_empty_slot};
+ghost use Rattle.futures_buffered_bounded.specs.FuturesUnorderedBounded.{HoldsEach, Pushes, PushesAt, AsksUntil, PollGives, SaidEmpty, IsWoken, with_empty_slot};
 
 use crate::fused::{FusedStream, SizeHint};
 use crate::poll_one::{PollFuture, PollOne};
@@ -56,12 +58,11 @@ impl<F: Drop, S: ReadySource> Model for FuturesUnorderedBounded<F, S> {
 impl<F: Drop, S: ReadySource> FuturesUnorderedBounded<F, S> {
     /// An empty set over this source, with as many slots as the source has.
     ///
-    /// Takes time and memory in proportion to that number. The source is dropped where the set is refused.
+    /// Takes time and memory in proportion to that number. `Memory` where a request for it was refused. The source is dropped where the set is refused.
     pub fn with_source(alloc: Global, source: S) -> Result<Self, NewFault>
-        ensures empty { IfOk result (λ s. s ≡ record { slots = no_slots (S.slots source); source = source; limit = POLL_LIMIT }) }
-        ensures fits { IfOk result (λ _. S.slots source ≤ MAX_CAPACITY) }
-        ensures large { (result ≡ Err NewFault.TooLarge) ↔ (MAX_CAPACITY < S.slots source) }
-        ensures memory { result ≡ Err NewFault.Memory → S.slots source ≤ MAX_CAPACITY }
+        ensures empty { IfOk result (λ set. set
+            ≡ record { slots = no_slots (S.slots source); source = source; limit = POLL_LIMIT }) }
+        ensures refuses { RefusesTooLarge (S.slots source) result }
     {
         let slots = PinSlotMap::new(alloc, source.capacity())?;
         Ok(FuturesUnorderedBounded {
@@ -69,6 +70,19 @@ impl<F: Drop, S: ReadySource> FuturesUnorderedBounded<F, S> {
             source,
             limit: POLL_LIMIT,
         })
+    }
+
+    // An empty set of `cap` slots, over a source made for it. It knows no source, so it can neither mark nor take in secret.
+    fn with_new_source(env: &S::Env, alloc: Global, cap: usize) -> Result<Self, NewFault>
+    where
+        S: NewSource,
+        ensures empty { IfOk result (λ set. set.slots ≡ no_slots cap) }
+        ensures source { IfOk result (λ set. S.made cap set.source) }
+        ensures limit { IfOk result (λ set. set.limit ≡ POLL_LIMIT) }
+        ensures refuses { RefusesTooLarge cap result }
+    {
+        let source = S::make(env, alloc, cap)?;
+        FuturesUnorderedBounded::with_source(alloc, source)
     }
 
     /// A set without a free slot, which holds item k in slot k, each marked, in this order. It has as many slots as there are items, and a source made for it.
@@ -81,11 +95,14 @@ impl<F: Drop, S: ReadySource> FuturesUnorderedBounded<F, S> {
     ) -> Result<Self, NewFault>
     where
         S: NewSource,
-        requires { IsFiniteIterable I.into_iter_gives I.IntoIter.can_next I.IntoIter.remaining iter }
-        ensures holds { IfOk result (λ set. (items : List F) × Draws I.into_iter_gives I.IntoIter.next_gives iter items
+        requires { IsFiniteIterable I.into_iter_gives I.IntoIter.can_next
+            I.IntoIter.remaining iter }
+        ensures holds { IfOk result (λ set. (items : List F)
+            × Draws I.into_iter_gives I.IntoIter.next_gives iter items
             × HoldsEach S.made S.marks POLL_LIMIT items set) }
         ensures fits { IfOk result (λ set. slot_count set.slots ≤ MAX_CAPACITY) }
-        ensures large { result ≡ Err NewFault.TooLarge → DrawsMoreThan I.into_iter_gives I.IntoIter.next_gives iter MAX_CAPACITY }
+        ensures large { result ≡ Err NewFault.TooLarge
+            → DrawsMoreThan I.into_iter_gives I.IntoIter.next_gives iter MAX_CAPACITY }
     {
         let slots = PinSlotMap::from_iter(alloc, iter)?;
         let mut source = S::make(env, alloc, slots.capacity())?;
@@ -99,26 +116,33 @@ impl<F: Drop, S: ReadySource> FuturesUnorderedBounded<F, S> {
         })
     }
 
-    /// The number of futures held.
+    /// The number of futures held. Takes the same time at any capacity.
     pub fn len(&self) -> usize
         ensures { result ≡ held_count self.now.slots }
     {
         self.slots.len()
     }
 
-    /// Whether no future is held.
+    /// Whether no future is held. Takes the same time at any capacity.
     pub fn is_empty(&self) -> bool
         ensures { IsTrue result ↔ (held_count self.now.slots ≡ 0) }
     {
         self.slots.is_empty()
     }
 
-    /// The number of slots, which never changes.
+    /// The number of slots, which never changes. Takes the same time at any capacity.
     pub fn capacity(&self) -> usize
         ensures value { result ≡ slot_count self.now.slots }
         ensures source { result ≡ S.slots self.now.source }
     {
         self.slots.capacity()
+    }
+
+    /// How many names one poll takes from the source, at most. It never changes.
+    pub fn limit(&self) -> usize
+        ensures { result ≡ self.now.limit }
+    {
+        self.limit
     }
 
     /// Puts the value into the first free slot and marks that slot, so that a later poll polls it. A full set hands the value back.
@@ -128,7 +152,8 @@ impl<F: Drop, S: ReadySource> FuturesUnorderedBounded<F, S> {
         ensures ok { OnOk result (Pushes S.marks self.old value self.new) }
         ensures count { OnOk result (held_count self.new.slots ≡ held_count self.old.slots + 1) }
         ensures full { IfErr result (λ back. (back ≡ value) × (self.new ≡ self.old)
-            × (self.old.slots.free ≡ []) × (held_count self.old.slots ≡ slot_count self.old.slots)) }
+            × IsFull self.old.slots) }
+        ensures capacity { slot_count self.new.slots ≡ slot_count self.old.slots }
     {
         let _i = self.try_push_at(value)?;
         Ok(())
@@ -139,7 +164,8 @@ impl<F: Drop, S: ReadySource> FuturesUnorderedBounded<F, S> {
         ensures ok { IfOk result (λ i. PushesAt S.marks self.old i value self.new) }
         ensures count { OnOk result (held_count self.new.slots ≡ held_count self.old.slots + 1) }
         ensures full { IfErr result (λ back. (back ≡ value) × (self.new ≡ self.old)
-            × (self.old.slots.free ≡ []) × (held_count self.old.slots ≡ slot_count self.old.slots)) }
+            × IsFull self.old.slots) }
+        ensures capacity { slot_count self.new.slots ≡ slot_count self.old.slots }
     {
         let i = self.slots.insert_with(value, |value| value)?;
         let _woke = self.source.mark(i);
@@ -151,6 +177,7 @@ impl<F: Drop, S: ReadySource> FuturesUnorderedBounded<F, S> {
         requires { held_count self.old.slots < slot_count self.old.slots }
         ensures pushed { Pushes S.marks self.old value self.new }
         ensures count { held_count self.new.slots ≡ held_count self.old.slots + 1 }
+        ensures capacity { slot_count self.new.slots ≡ slot_count self.old.slots }
     {
         match self.try_push(value) {
             Ok(()) => {}
@@ -163,6 +190,7 @@ impl<F: Drop, S: ReadySource> FuturesUnorderedBounded<F, S> {
         requires { held_count self.old.slots < slot_count self.old.slots }
         ensures pushed { PushesAt S.marks self.old result value self.new }
         ensures count { held_count self.new.slots ≡ held_count self.old.slots + 1 }
+        ensures capacity { slot_count self.new.slots ≡ slot_count self.old.slots }
     {
         match self.try_push_at(value) {
             Ok(i) => i,
@@ -170,7 +198,7 @@ impl<F: Drop, S: ReadySource> FuturesUnorderedBounded<F, S> {
         }
     }
 
-    /// Marks a slot by hand, whether it holds a future or not. Wakes nobody.
+    /// Marks a slot by hand, whether it holds a future or not. Wakes nobody, and takes as long as a mark of the source.
     pub fn mark_slot(&mut self, i: usize) -> Woke
         requires { i < slot_count self.old.slots }
         ensures marked { S.marks self.old.source i result self.new.source }
@@ -192,11 +220,16 @@ impl<F: Drop, S: ReadySource> FuturesUnorderedBounded<F, S> {
         ensures polled { AsksUntil R.polled S.registers S.takes self.old result self.new }
         ensures pollable { OnPending result (AllHeld R.can_poll self.new.slots) }
         ensures others { IfReady result (λ (i, _). AllHeldBut i R.can_poll self.new.slots) }
-        ensures last { IfReady result (λ (i, x). EndsWith R.polled x (held self.new.slots i)) }
+        ensures goes_on { IfReady result (λ (_, x).
+            R.goes_on x → AllHeld R.can_poll self.new.slots) }
+        ensures last { IfReady result (λ (i, x). EndsWith (R.polled i) x (value_in self.new.slots i)) }
         ensures count { held_count self.new.slots ≡ held_count self.old.slots }
         ensures capacity { slot_count self.new.slots ≡ slot_count self.old.slots }
-        ensures same_slots { (j : ℕ) → is_some (held self.new.slots j) ≡ is_some (held self.old.slots j) }
+        ensures limit { self.new.limit ≡ self.old.limit }
+        ensures same_slots { (j : ℕ)
+            → is_some (value_in self.new.slots j) ≡ is_some (value_in self.old.slots j) }
         ensures covered { OnPending result (Covers cx.new (S.needs self.new.source)) }
+        ensures woken { OnPending result (IsWoken cx.new ⊎ SaidEmpty S.takes self.new.source) }
         ensures kept { Keeps cx.old cx.new }
     {
         self.source.register(cx);
@@ -216,11 +249,12 @@ impl<F: Drop, S: ReadySource> FuturesUnorderedBounded<F, S> {
         cx.yield_now()
     }
 
-    /// Drops the value of a slot, which is then the first free one.
+    /// Drops the value of a slot, which is then the first free one. Takes the same time at any capacity, besides the drop.
     pub fn empty_slot(&mut self, i: usize)
-        requires { IsSome (held self.old.slots i) }
+        requires { IsSome (value_in self.old.slots i) }
         ensures emptied { self.new ≡ with_empty_slot self.old i }
         ensures count { held_count self.new.slots + 1 ≡ held_count self.old.slots }
+        ensures capacity { slot_count self.new.slots ≡ slot_count self.old.slots }
     {
         self.slots.remove(i);
     }
@@ -236,9 +270,14 @@ impl<F: Drop, S: ReadySource> FuturesUnorderedBounded<F, S> {
         requires { AllHeld R.can_poll self.old.slots }
         ensures polled { PollGives R.polled S.registers S.takes self.old result self.new }
         ensures pollable { AllHeld R.can_poll self.new.slots }
-        ensures fewer { IfReady result (λ o. OnSome o (held_count self.new.slots + 1 ≡ held_count self.old.slots)) }
+        ensures fewer { IfReady result (λ o. OnSome o
+            (held_count self.new.slots + 1 ≡ held_count self.old.slots)) }
         ensures same { OnPending result (held_count self.new.slots ≡ held_count self.old.slots) }
+        ensures capacity { slot_count self.new.slots ≡ slot_count self.old.slots }
+        ensures limit { self.new.limit ≡ self.old.limit }
         ensures covered { OnPending result (Covers cx.new (S.needs self.new.source)) }
+        ensures woken { OnPending result (IsWoken cx.new ⊎ SaidEmpty S.takes self.new.source) }
+        ensures untouched { IfReady result (λ o. IfNone o (cx.new ≡ cx.old)) }
         ensures kept { Keeps cx.old cx.new }
     {
         if self.slots.is_empty() {
@@ -259,42 +298,51 @@ impl<F: SlotFuture<S::Waker>, S: ReadySource> Stream for FuturesUnorderedBounded
 
     ghost can_poll = { λ set. AllHeld F.can_poll set.slots };
 
-    ghost needs = { λ set. S.needs set.source };
+    ghost needs = { λ set n. (0 < held_count set.slots) × S.needs set.source n };
 
     ghost yields = { λ set. ComesFrom F.polled set.slots };
 
+    /// One poll, as `poll_with` by the rule that polls the future itself.
+    ///
+    /// Takes no memory. Names at most `POLL_LIMIT` slots and polls only what these hold, so its time is that of these polls, at any capacity. Holds no lock of the source while it polls a future.
     fn poll_next(&mut self, cx: &mut Context<'_>) -> Poll<Option<F::Output>>
         requires { AllHeld F.can_poll self.old.slots }
         ensures polled { PollGives F.polled S.registers S.takes self.old result self.new }
         ensures value { IfReady result (ComesFrom F.polled self.old.slots []) }
-        ensures rest { IfReady result (λ o. IfSome o (λ x. After (ComesFrom F.polled self.old.slots) x (ComesFrom F.polled self.new.slots))) }
-        ensures same { OnPending result (Within (ComesFrom F.polled self.old.slots) (ComesFrom F.polled self.new.slots)) }
+        ensures rest { IfReady result (λ o. IfSome o (λ x.
+            After (ComesFrom F.polled self.old.slots) x (ComesFrom F.polled self.new.slots))) }
+        ensures same { OnPending result
+            (Within (ComesFrom F.polled self.old.slots) (ComesFrom F.polled self.new.slots)) }
         ensures goes { IfReady result (λ o. OnSome o (AllHeld F.can_poll self.new.slots)) }
         ensures again { OnPending result (AllHeld F.can_poll self.new.slots) }
+        ensures fewer { IfReady result (λ o. OnSome o
+            (held_count self.new.slots + 1 ≡ held_count self.old.slots)) }
+        ensures count { OnPending result (held_count self.new.slots ≡ held_count self.old.slots) }
+        ensures capacity { slot_count self.new.slots ≡ slot_count self.old.slots }
+        ensures limit { self.new.limit ≡ self.old.limit }
         ensures registered { OnPending result (Covers cx.new (S.needs self.new.source)) }
+        ensures woken { OnPending result (IsWoken cx.new ⊎ SaidEmpty S.takes self.new.source) }
+        ensures untouched { IfReady result (λ o. IfNone o (cx.new ≡ cx.old)) }
         ensures kept { Keeps cx.old cx.new }
     {
         self.poll_with(&PollFuture, cx)
     }
 }
 
-impl<R: Wait + Clone + Drop, F: Drop> FuturesUnorderedBounded<F, SharedReady<R>> {
-    /// A set whose values are woken from any thread. It keeps a copy of the handle.
-    pub fn new(env: &R, alloc: Global, cap: usize) -> Result<Self, NewFault>
-        ensures empty { IfOk result (λ set. set.slots ≡ no_slots cap) }
-        ensures source { IfOk result (λ set. set.source.capacity ≡ cap) }
-        ensures limit { IfOk result (λ set. set.limit ≡ POLL_LIMIT) }
-        ensures fits { IfOk result (λ _. cap ≤ MAX_CAPACITY) }
-        ensures large { (result ≡ Err NewFault.TooLarge) ↔ (MAX_CAPACITY < cap) }
-        ensures memory { result ≡ Err NewFault.Memory → cap ≤ MAX_CAPACITY }
-    {
-        let source = SharedReady::new(env, alloc, cap)?;
-        FuturesUnorderedBounded::with_source(alloc, source)
-    }
-}
-
 impl<R: Wait + Clone + Drop + Send + Sync, F: Drop> FuturesUnorderedBounded<F, SharedReady<R>> {
     ghost use Rattle.std.specs.Prelude.{List};
+
+    /// An empty set whose values are woken from any thread. It keeps a copy of the handle.
+    ///
+    /// Takes time and memory in proportion to `cap`, all that the set ever needs. `Memory` where a request for memory was refused, or the handle could not be copied.
+    pub fn new(env: &R, alloc: Global, cap: usize) -> Result<Self, NewFault>
+        ensures empty { IfOk result (λ set. set.slots ≡ no_slots cap) }
+        ensures source { IfOk result (λ set. IsNewShared cap set.source) }
+        ensures limit { IfOk result (λ set. set.limit ≡ POLL_LIMIT) }
+        ensures refuses { RefusesTooLarge cap result }
+    {
+        Self::with_new_source(env, alloc, cap)
+    }
 
     /// A set without a free slot, which holds item k in slot k, each marked, in this order, and whose values are woken from any thread. It is `over` with a shared source, and refuses as `over` does.
     pub fn from_iter<I: IntoIterator<Item = F>>(
@@ -303,11 +351,14 @@ impl<R: Wait + Clone + Drop + Send + Sync, F: Drop> FuturesUnorderedBounded<F, S
         iter: I,
     ) -> Result<Self, NewFault>
     where
-        requires { IsFiniteIterable I.into_iter_gives I.IntoIter.can_next I.IntoIter.remaining iter }
-        ensures holds { IfOk result (λ set. (items : List F) × Draws I.into_iter_gives I.IntoIter.next_gives iter items
-            × HoldsEach (λ cap source. source.capacity ≡ cap) (λ old _ _ new. new ≡ old) POLL_LIMIT items set) }
+        requires { IsFiniteIterable I.into_iter_gives I.IntoIter.can_next
+            I.IntoIter.remaining iter }
+        ensures holds { IfOk result (λ set. (items : List F)
+            × Draws I.into_iter_gives I.IntoIter.next_gives iter items
+            × HoldsEach IsNewShared MarksShared POLL_LIMIT items set) }
         ensures fits { IfOk result (λ set. slot_count set.slots ≤ MAX_CAPACITY) }
-        ensures large { result ≡ Err NewFault.TooLarge → DrawsMoreThan I.into_iter_gives I.IntoIter.next_gives iter MAX_CAPACITY }
+        ensures large { result ≡ Err NewFault.TooLarge
+            → DrawsMoreThan I.into_iter_gives I.IntoIter.next_gives iter MAX_CAPACITY }
     {
         Self::over(env, alloc, iter)
     }

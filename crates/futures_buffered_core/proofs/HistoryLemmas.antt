@@ -1,8 +1,9 @@
 -- One event more keeps what the standing says of the events so far.
-use Rattle.std.proofs.Common.{◌≡◌, ◌⊎◌, ℕ, zero, suc, ◌+◌, ◌<◌, ◌≤◌, true, false, ◌||◌, eqb, List, [], ◌∷◌, ◌++◌, length, take, Some, slice_get, refl, sym, ap, subst, ◌∙◌, inl, inr, arith, length-append, append-nil, append_assoc, true≢false}
-use Rattle.std.specs.List.{IsDistinct, AllByRecursion}
+use Rattle.std.proofs.Common.{◌≡◌, ◌⊎◌, ℕ, zero, suc, ◌+◌, ◌<◌, ◌≤◌, true, false, ◌||◌, eqb, List, [], ◌∷◌, ◌++◌, length, Some, slice_get, refl, sym, ap, subst, ◌∙◌, inl, inr, arith, length-append, append-nil, append_assoc, true≢false}
+use Rattle.std.specs.List.{IsDistinct}
 use Rattle.std.proofs.lemmas.Map.Keys.{IsDistinct-head, IsDistinct-tail}
 use Rattle.std.proofs.lemmas.List.{length-map, map_push, length_push, take-append-le}
+use Rattle.std.proofs.Math.Seq.{take-append_seam}
 use Rattle.std.proofs.lemmas.Option.{slice_get_within}
 use Rattle.std.proofs.lemmas.Bool.{eqb-true, eq-eqb, or_cases, or_left, or_right, or_from, ne_eqb}
 use Rattle.futures_buffered_core.specs.declared.ready_core.Event.{Event}
@@ -15,7 +16,7 @@ use Rattle.futures_buffered_table.specs.declared.answer.Taken.{Taken}
 use Rattle.futures_buffered_table.specs.declared.answer.Taken.TheVariants.{Slot, Empty, Pause}
 use Rattle.futures_buffered_core.specs.ReadyCore.{is_marked, MarkGives, TakeGives}
 use Rattle.futures_buffered_core.specs.History.{IsUnserved, IsRight, IsOldest, StandInOrder, IsStanding, marks_before, replies_before, EachIsRight, Answers}
-use Rattle.futures_buffered_core.proofs.ReadyCoreLemmas.{listed_push}
+use Rattle.futures_buffered_core.proofs.KeepsOnceLemmas.{listed_push, absent_rest}
 
 module _ {X : Type 0} where
   -- what a longer list has before its end, and at its end
@@ -174,11 +175,6 @@ take_is_right events replies (Slot i) old new gives h =
 take_is_right events replies Empty old new gives h = λ j p u. true≢false (sym ((subst (IsStanding events replies) gives.0 h).all j p u))
 take_is_right events replies Pause old new gives h = absurd gives
 
-take_own : {X : Type 0} (xs ys : List X) → take (length xs) (xs ++ ys) ≡ xs
-take_own [] [] = refl
-take_own [] (y ∷ ys) = refl
-take_own {X} (x ∷ xs) ys = ap (λ (zs : List X). x ∷ zs) (take_own xs ys)
-
 same_length : (standing : List ℕ) (events : List Event) (replies : List Reply) → length replies ≡ length events → length (marks_before standing ++ events) ≡ length (replies_before standing ++ replies)
 same_length standing events replies count =
     omega (arith, length-append (marks_before standing) events, length-append (replies_before standing) replies, length-map standing (λ (k : ℕ). event.Mark k), length-map standing (λ (k : ℕ). reply.Woke Fresh))
@@ -196,7 +192,7 @@ EachIsRight-push standing events replies event r count each right p e x read ans
           let found : slice_get (events ++ event ∷ []) (length events) ≡ Some e = rw (here.0, count) at read in
           let last = read_end events event in
           let same : event ≡ e = cc in
-          rw (here.0, take_own replies (r ∷ []), count, take_own events (event ∷ []), ← here.1, ← same) right
+          rw (here.0, take-append_seam replies (r ∷ []), count, take-append_seam events (event ∷ []), ← here.1, ← same) right
     ]
 
 pub Answers-mark : (standing : List ℕ) (events : List Event) (replies : List Reply) (old new : List ℕ) (i : ℕ) (woke : Woke) → Answers standing events replies old → MarkGives old i woke new → Answers standing (events ++ event.Mark i ∷ []) (replies ++ reply.Woke woke ∷ []) new
@@ -217,10 +213,6 @@ Answers-take standing events replies old new taken h gives =
           (standing_after_take (marks_before standing ++ events) (replies_before standing ++ replies) (same_length standing events replies h.count) taken old new gives h.stands);
     }
 
-apart_rest : (i : ℕ) (rest : List ℕ) → AllByRecursion (λ y. eqb i y ≡ false) rest → is_marked rest i ≡ false
-apart_rest i [] h = refl
-apart_rest i (y ∷ rest) h = rw (h.0) (apart_rest i rest h.1)
-
 -- marks of these slots, and then of those
 marks_more : (front rest : List ℕ) → ((i : ℕ) → is_marked rest i ≡ true → is_marked front i ≡ false) → IsDistinct eqb rest → IsStanding (marks_before front) (replies_before front) front → IsStanding (marks_before (front ++ rest)) (replies_before (front ++ rest)) (front ++ rest)
 marks_more front [] apart distinct h = rw (append-nil front) h
@@ -231,7 +223,7 @@ marks_more front (i ∷ rest) apart distinct h =
     let pushed : IsStanding (marks_before (front ++ i ∷ [])) (replies_before (front ++ i ∷ [])) (front ++ i ∷ []) = rw (map_push (λ (k : ℕ). event.Mark k) front i, map_push (λ (k : ℕ). reply.Woke Fresh) front i) more in
     let others = IsDistinct-head eqb i rest distinct in
     let left = marks_more (front ++ i ∷ []) rest
-    (λ j listed. listed_push front i j ∙ or_from (is_marked front j) (eqb j i) (apart j (or_right (eqb j i) (is_marked rest j) listed)) (ne_eqb j i (λ e. true≢false (sym listed ∙ ap (is_marked rest) e ∙ apart_rest i rest others))))
+    (λ j listed. listed_push front i j ∙ or_from (is_marked front j) (eqb j i) (apart j (or_right (eqb j i) (is_marked rest j) listed)) (ne_eqb j i (λ e. true≢false (sym listed ∙ ap (is_marked rest) e ∙ absent_rest i rest others))))
     (IsDistinct-tail eqb i rest distinct) pushed in
     rw (append_assoc front (i ∷ []) rest) at left
 

@@ -1,4 +1,5 @@
-pub mod ReadyCoreLemmas
+pub mod KeepsOnceLemmas
 pub mod SlotMapLemmas
 pub mod HistoryLemmas
 pub mod ScriptSourceLemmas
+pub mod ReadySharedLemmas

@@ -2,10 +2,11 @@
 use Rattle.std.proofs.Common.{◌≡◌, ℕ, suc, List, ◌++◌, length, Option, Some, None, ap, arith}
 use Rattle.std.specs.Option.{option_to_list}
 use Rattle.futures_buffered_table.specs.declared.answer.Taken.{Taken}
-use Rattle.futures_buffered_core.specs.ScriptSource.{AnswersAllBelow}
+use Rattle.futures_buffered_table.specs.declared.answer.Taken.TheVariants.{Slot}
+use Rattle.futures_buffered_core.specs.WrongName.{NamesAllBelow}
 
 -- the answers after the first name slots below the capacity, as all did
-pub AnswersAllBelow-rest : (cap : ℕ) (answers rest : List Taken) (given : Option Taken) → AnswersAllBelow cap answers (length answers)
-    → answers ≡ option_to_list given ++ rest → AnswersAllBelow cap rest (length rest)
-AnswersAllBelow-rest cap answers rest None all e p i below named = all p i (omega (arith, ap length e)) (rw e named)
-AnswersAllBelow-rest cap answers rest (Some first) all e p i below named = all (suc p) i (omega (arith, ap length e)) (rw e named)
+pub NamesAllBelow-rest : (cap : ℕ) (answers rest : List Taken) (given : Option Taken) → NamesAllBelow Slot cap answers (length answers)
+    → answers ≡ option_to_list given ++ rest → NamesAllBelow Slot cap rest (length rest)
+NamesAllBelow-rest cap answers rest None all e p i below named = all p i (omega (arith, ap length e)) (rw e named)
+NamesAllBelow-rest cap answers rest (Some first) all e p i below named = all (suc p) i (omega (arith, ap length e)) (rw e named)

@@ -9,9 +9,9 @@ use Rattle.std.proofs.lemmas.List.Folds.{sum_by-replicate}
 use Rattle.std.proofs.lemmas.List.Sums.{sum_by-set, sum_by-cons}
 use Rattle.std.proofs.lemmas.Bool.{cases_lt, ne_eqb, or_right, or_left, or_from}
 use Rattle.std.proofs.lemmas.Bool.Decides.{eqb_tells}
-use Rattle.futures_buffered_core.specs.SlotMap.{Slots, held, IsFirstHeld}
+use Rattle.futures_buffered_core.specs.SlotMap.{Slots, value_in, IsFirstHeld}
 use Rattle.futures_buffered_core.specs.SlotMapInvariant.{KeepsPlaces}
-use Rattle.futures_buffered_core.proofs.ReadyCoreLemmas.{KeepsOnce-first, KeepsOnce-take, KeepsOnce-marked, KeepsOnce-return, KeepsOnce-none}
+use Rattle.futures_buffered_core.proofs.KeepsOnceLemmas.{KeepsOnce-first, KeepsOnce-take, KeepsOnce-marked, KeepsOnce-return, KeepsOnce-none}
 
 in_range : (a n q : ℕ) → a ≤ q → q < a + n → list_any (eqb q) (range_with_len a n) ≡ true
 in_range a zero q low high = absurd (omega arith)
@@ -36,8 +36,8 @@ range_distinct a (suc n) = (apart_below a (a + 1) n (omega arith), range_distinc
 
 module _ {F : Type 0} where
   -- a slot that holds something is there
-  pub held_within : (places : List (Option F)) (i : ℕ) → IsSome (get_or places i None) → i < length places
-  held_within places i some = grind (arith, get_or_past)
+  pub value_within : (places : List (Option F)) (i : ℕ) → IsSome (get_or places i None) → i < length places
+  value_within places i some = grind (arith, get_or_past)
 
   count-set : (places : List (Option F)) (i : ℕ) (new : Option F) → i < length places → count_by is_some (set places i new) + cond (is_some (get_or places i None)) 1 0 ≡ count_by is_some places + cond (is_some new) 1 0
   count-set places i new within = sum_by-set (λ o. cond (is_some o) 1 0) places i new None within
@@ -67,7 +67,7 @@ module _ {F : Type 0} where
 
   pub KeepsPlaces-write : (places : List (Option F)) (free : List ℕ) (room i : ℕ) (value : F) → KeepsPlaces places free room → IsSome (get_or places i None) → KeepsPlaces (set places i (Some value)) free room
   KeepsPlaces-write places free room i value kept some =
-      let within = held_within places i some in
+      let within = value_within places i some in
       record {
         once = rw (map-set_same is_none places i (Some value) None (sym (not_none (get_or places i None) some))) kept.once;
         total = omega (arith, kept.total, length-set places i (Some value), rw some at (count-set places i (Some value) within));
@@ -75,7 +75,7 @@ module _ {F : Type 0} where
 
   pub KeepsPlaces-remove : (places : List (Option F)) (free : List ℕ) (room i : ℕ) → KeepsPlaces places free room → IsSome (get_or places i None) → KeepsPlaces (set places i None) (i ∷ free) room
   KeepsPlaces-remove places free room i kept some =
-      let within = held_within places i some in
+      let within = value_within places i some in
       let clear = get_or-map is_none places i None false within ∙ not_none (get_or places i None) some in
       record {
         once = rw (map-set is_none places i None) (KeepsOnce-return (map is_none places) free room i kept.once (omega (arith, length-map places is_none)) clear);
@@ -86,13 +86,9 @@ module _ {F : Type 0} where
   pub count-insert : (places : List (Option F)) (i : ℕ) (value : F) → i < length places → get_or places i None ≡ None → count_by is_some (set places i (Some value)) ≡ count_by is_some places + 1
   count-insert places i value within none = omega (arith, rw none at (count-set places i (Some value) within))
 
-  -- one value fewer
-  pub count-without : (places : List (Option F)) (i : ℕ) → IsSome (get_or places i None) → count_by is_some (set places i None) + 1 ≡ count_by is_some places
-  count-without places i some = omega (arith, rw some at (count-set places i None (held_within places i some)))
-
   pub KeepsPlaces-room : (places : List (Option F)) (free : List ℕ) (room i : ℕ) → KeepsPlaces places free room → IsSome (get_or places i None) → length free < room
   KeepsPlaces-room places free room i kept some =
-      let within = held_within places i some in
+      let within = value_within places i some in
       omega (arith, kept.total, kept.once.fits, length-map places is_none, rw some at (count-set places i None within))
 
   pub KeepsPlaces-new : (n room : ℕ) → n ≤ room → KeepsPlaces {F = F} (replicate n None) (range_with_len 0 n) room
@@ -118,9 +114,9 @@ module _ {F : Type 0} where
 pub first_held_once : {F : Type 0} (m : Slots F) (start i j : ℕ) → IsFirstHeld m start i → IsFirstHeld m start j → i ≡ j
 first_held_once {F} m start i j first other =
     elim (cases_lt i j) [
-      | inl below ↦ absurd (none_and_some (held m i) (other.none_before i first.from_start below) first.holds)
+      | inl below ↦ absurd (none_and_some (value_in m i) (other.none_before i first.from_start below) first.holds)
       | inr above ↦ elim (cases_lt j i) [
-        | inl below ↦ absurd (none_and_some (held m j) (first.none_before j other.from_start below) other.holds)
+        | inl below ↦ absurd (none_and_some (value_in m j) (first.none_before j other.from_start below) other.holds)
         | inr equal ↦ omega arith
       ]
     ]

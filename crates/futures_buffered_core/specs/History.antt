@@ -14,27 +14,36 @@ IsNamedAt replies r i = slice_get replies r ≡ Some (reply.Taken (Slot i))
 
 -- after these events and replies, the mark of slot i at position q is unserved: no later taking was answered with i
 abbrev pub IsUnserved : List Event → List Reply → ℕ → ℕ → Type 0
-IsUnserved events replies q i = (slice_get events q ≡ Some (event.Mark i)) × ((r : ℕ) → q < r → IsNamedAt replies r i → ⊥)
+IsUnserved events replies q i = (slice_get events q ≡ Some (event.Mark i))
+    × ((r : ℕ) → q < r → IsNamedAt replies r i → ⊥)
 
 -- what the next event may be answered, after these events and replies
 abbrev pub IsRight : List Event → List Reply → Event → Reply → Type 0
 -- the mark of i at q is the oldest of all unserved marks
-IsRight events replies event.Take (reply.Taken (Slot i)) = (q : ℕ) × IsUnserved events replies q i × ((j p : ℕ) → IsUnserved events replies p j → q ≤ p)
-IsRight events replies event.Take (reply.Taken Empty) = (j p : ℕ) → IsUnserved events replies p j → ⊥
+IsRight events replies event.Take (reply.Taken (Slot i)) = (q : ℕ)
+    × IsUnserved events replies q i
+    × ((j p : ℕ) → IsUnserved events replies p j → q ≤ p)
+IsRight events replies event.Take (reply.Taken Empty) =
+    (j p : ℕ) → IsUnserved events replies p j → ⊥
 IsRight events replies event.Take (reply.Taken Pause) = ⊥
 IsRight events replies event.Take (reply.Woke _) = ⊥
-IsRight events replies (event.Mark i) (reply.Woke Fresh) = (p : ℕ) → IsUnserved events replies p i → ⊥
+IsRight events replies (event.Mark i) (reply.Woke Fresh) =
+    (p : ℕ) → IsUnserved events replies p i → ⊥
 IsRight events replies (event.Mark i) (reply.Woke Already) = (p : ℕ) × IsUnserved events replies p i
 IsRight events replies (event.Mark i) (reply.Taken _) = ⊥
 
 -- the mark of i at q is unserved, and its oldest
 abbrev pub IsOldest : List Event → List Reply → ℕ → ℕ → Type 0
-IsOldest events replies q i = IsUnserved events replies q i × ((p : ℕ) → IsUnserved events replies p i → q ≤ p)
+IsOldest events replies q i = IsUnserved events replies q i
+    × ((p : ℕ) → IsUnserved events replies p i → q ≤ p)
 
 -- each of these slots is marked, and they stand by their oldest unserved marks, at positions from low on
 abbrev pub StandInOrder : List Event → List Reply → ℕ → List ℕ → Type 0
 StandInOrder events replies low [] = Unit {0}
-StandInOrder events replies low (i ∷ slots) = (q : ℕ) × (low ≤ q) × IsOldest events replies q i × StandInOrder events replies (q + 1) slots
+StandInOrder events replies low (i ∷ slots) = (q : ℕ)
+    × (low ≤ q)
+    × IsOldest events replies q i
+    × StandInOrder events replies (q + 1) slots
 
 -- the slots that are marked after these events and replies, by their oldest unserved mark
 pub record IsStanding (events : List Event) (replies : List Reply) (slots : List ℕ) : Type 0 where
@@ -50,19 +59,18 @@ replies_before standing = map (λ _. reply.Woke Fresh) standing
 
 -- each reply is right after the events and replies before it
 abbrev pub EachIsRight : List ℕ → List Event → List Reply → Type 0
-EachIsRight standing events replies = (p : ℕ) (e : Event) (r : Reply) → slice_get events p ≡ Some e → slice_get replies p ≡ Some r
-    → IsRight (marks_before standing ++ take p events) (replies_before standing ++ take p replies) e r
+EachIsRight standing events replies = (p : ℕ) (e : Event) (r : Reply)
+    → slice_get events p ≡ Some e → slice_get replies p ≡ Some r
+    → IsRight (marks_before standing ++ take p events)
+    (replies_before standing ++ take p replies) e r
 
 -- the replies are right, one for each event, and the new standing is that of all events
-pub record Answers (standing : List ℕ) (events : List Event) (replies : List Reply) (new : List ℕ) : Type 0 where
+pub record Answers
+    (standing : List ℕ)
+    (events : List Event)
+    (replies : List Reply)
+    (new : List ℕ)
+    : Type 0 where
   pub each : EachIsRight standing events replies
   pub count : length replies ≡ length events
   pub stands : IsStanding (marks_before standing ++ events) (replies_before standing ++ replies) new
-
--- each slot that the first n events mark is below the capacity
-abbrev pub NamesAllBelow : ℕ → List Event → ℕ → Type 0
-NamesAllBelow cap events n = (p i : ℕ) → p < n → slice_get events p ≡ Some (event.Mark i) → i < cap
-
--- the event at p marks no slot that is there
-abbrev pub IsWrongAt : ℕ → List Event → ℕ → Type 0
-IsWrongAt cap events p = (i : ℕ) × (slice_get events p ≡ Some (event.Mark i)) × (cap ≤ i)

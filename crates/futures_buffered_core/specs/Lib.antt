@@ -1,8 +1,10 @@
+pub use Rattle.futures_buffered_table.specs.Answer
 pub mod ReadyCore
-pub mod ReadyCoreInvariant
-pub mod ReadyShared
+pub mod KeepsOnce
 pub mod History
+pub mod WrongName
 pub mod ScriptSource
+pub mod ReadyShared
 pub mod SlotMap
 pub mod SlotMapInvariant
 pub mod SlotMapLends

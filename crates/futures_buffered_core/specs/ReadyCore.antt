@@ -38,4 +38,6 @@ Marks old i woke new = MarkGives old.marked i woke new.marked × (new.capacity �
 
 -- one taking, of a whole core
 abbrev pub Takes : Standing → Taken → Standing → Type 0
-Takes old taken new = TakeGives old.marked taken new.marked × IsNameBelow old.capacity taken × (new.capacity ≡ old.capacity)
+Takes old taken new = TakeGives old.marked taken new.marked
+    × IsNameBelow old.capacity taken
+    × (new.capacity ≡ old.capacity)

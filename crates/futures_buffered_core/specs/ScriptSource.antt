@@ -1,10 +1,10 @@
 -- A source that gives the answers of a list.
-use Rattle.std.specs.Prelude.{◌≡◌, ℕ, ◌<◌, ◌≤◌, List, [], ◌∷◌, Some, slice_get}
+use Rattle.std.specs.Prelude.{◌≡◌, ℕ, List, [], ◌∷◌}
 use Rattle.futures_buffered_core.specs.ReadyCore.{IsNameBelow}
 use Rattle.futures_buffered_table.specs.declared.answer.Woke.{Woke}
 use Rattle.futures_buffered_table.specs.declared.answer.Woke.TheVariants.{Fresh}
 use Rattle.futures_buffered_table.specs.declared.answer.Taken.{Taken}
-use Rattle.futures_buffered_table.specs.declared.answer.Taken.TheVariants.{Slot, Empty}
+use Rattle.futures_buffered_table.specs.declared.answer.Taken.TheVariants.{Empty}
 
 -- the capacity, and the answers that are left
 pub record Script : Type 0 where
@@ -18,16 +18,10 @@ AnswersNext (first ∷ others) given rest = (given ≡ first) × (rest ≡ other
 
 -- one taking
 abbrev pub TakesNext : Script → Taken → Script → Type 0
-TakesNext old given new = AnswersNext old.left given new.left × IsNameBelow old.capacity given × (new.capacity ≡ old.capacity)
+TakesNext old given new = AnswersNext old.left given new.left
+    × IsNameBelow old.capacity given
+    × (new.capacity ≡ old.capacity)
 
 -- one mark, of any slot: it is fresh, and changes nothing
 abbrev pub MarksNothing : Script → ℕ → Woke → Script → Type 0
 MarksNothing old i woke new = (woke ≡ Fresh) × (new ≡ old)
-
--- each slot that the first n answers name is below the capacity
-abbrev pub AnswersAllBelow : ℕ → List Taken → ℕ → Type 0
-AnswersAllBelow cap answers n = (p i : ℕ) → p < n → slice_get answers p ≡ Some (Slot i) → i < cap
-
--- the answer at p names no slot that is there
-abbrev pub IsWrongAnswerAt : ℕ → List Taken → ℕ → Type 0
-IsWrongAnswerAt cap answers p = (i : ℕ) × (slice_get answers p ≡ Some (Slot i)) × (cap ≤ i)

@@ -21,12 +21,14 @@ module _ {F : Type 0} where
 
   -- it went on past slot i, where this value was left
   abbrev pub past_slot : SlotMapIterMut F → ℕ → F → SlotMapIterMut F
-  past_slot it i value = record it { map = record it.map { now = with_value it.map.now i value }; from = i + 1 }
+  past_slot it i value =
+      record it { map = record it.map { now = with_value it.map.now i value }; from = i + 1 }
 
 module _ (F : RattleType) (it : MutBor (SlotMapIterMut F.Denot)) where
   -- once the borrow ends, the first slot that held a value has the last one written through it, and was passed; at `None` nothing changes
   abbrev pub lends_next : Option (MutBor F.Denot) → Fml
   lends_next r =
       LendsSo (the_row (record { mir = named 0; lft = [] }) F) F it r
-      (λ after value. OnSome r ((i : ℕ) → IsFirstHeld (iter_slots it.now) (iter_from it.now) i → after ≡ past_slot it.now i value))
+      (λ after value. OnSome r ((i : ℕ) → IsFirstHeld (iter_slots it.now) (iter_from it.now) i
+      → after ≡ past_slot it.now i value))
       (λ after. IfNone r (after ≡ it.now))

@@ -3,16 +3,19 @@
 //! In the order in which to read them:
 //!
 //! - `ready_core`: marks and takings as plain data. `ReadyCore` names the slot whose unserved mark is oldest; `run` does a whole list of events.
-//! - `ready_source`: the trait by which a set asks for names, and two sources for one caller, `CoreSource` over a core and `ScriptSource` over a list of answers.
+//! - `ready_source`: the traits by which a set asks for names.
+//! - `core_source` and `script_source`: two sources for one caller, `CoreSource` over a core and `ScriptSource` over a list of answers.
 //! - `ready_shared`: `SharedReady`, a source whose wakers are woken from any thread, over locks.
 //! - `ready_table`: the same list by single atomic steps, under every schedule of wakers and one poller. `StepMachine` makes the steps one at a time.
 //! - `slot_map`: `PinSlotMap`, a fixed number of slots, each of which holds a value or is free.
 #![tactic(auto)]
 
+pub mod core_source;
 pub mod ready_core;
 pub mod ready_shared;
 pub mod ready_source;
-
+pub mod script_source;
 pub mod slot_map;
+mod wrong_name;
 
 pub use futures_buffered_table::ready_table;

@@ -5,13 +5,16 @@ ghost use Rattle.std.specs.Prelude.{◌≡◌, ◌<◌, ◌≤◌, ◌↔◌, []
 ghost use Rattle.std.specs.List.{IsDistinct};
 ghost use Rattle.futures_buffered_core.specs.ReadyCore.{MarkGives, TakeGives, IsNameBelow};
 ghost use Rattle.futures_buffered_core.specs.declared.ready_core.Reply.{Reply};
-ghost use Rattle.futures_buffered_core.specs.History.{EachIsRight, IsStanding, marks_before, replies_before, NamesAllBelow, IsWrongAt, Answers};
+ghost use Rattle.futures_buffered_core.specs.History.{Answers};
+ghost use Rattle.futures_buffered_core.specs.WrongName.{NamesAllBelow, IsFirstWrong};
+ghost use Rattle.futures_buffered_table.specs.Answer.{RefusesTooLarge};
 
+use crate::wrong_name::first_wrong;
 pub use futures_buffered_table::answer::{MAX_CAPACITY, NewFault, Taken, Woke};
-
 use std::alloc::Global;
 use std::collections::VecDeque;
 use std::marker::Model;
+use thiserror::Error;
 
 /// What is done to a ready core.
 #[derive(Clone, Copy, Debug, PartialEq, Eq)]
@@ -47,22 +50,21 @@ impl Model for ReadyCore {
 
     ghost use Rattle.std.specs.Prelude.{vec_len};
     ghost use Rattle.std.specs.VecDeque.{deque_capacity};
-    ghost use Rattle.futures_buffered_core.specs.ReadyCoreInvariant.{KeepsOnce};
+    ghost use Rattle.futures_buffered_core.specs.KeepsOnce.{KeepsOnce};
 
     ghost view = { λ core. record { capacity = vec_len core.marks; marked = core.queue.items } };
 
-    ghost invariant = { λ core. KeepsOnce core.marks.items core.queue.items (deque_capacity core.queue) };
+    ghost invariant = { λ core.
+        KeepsOnce core.marks.items core.queue.items (deque_capacity core.queue) };
 }
 
 impl ReadyCore {
     /// A core of `cap` slots, none of which is marked.
     ///
-    /// Takes time and memory in proportion to `cap`: room for every slot to be marked, so that no later call takes any.
+    /// Takes time and memory in proportion to `cap`: room for every slot to be marked, so that no later call takes any. `Memory` where a request for that room was refused.
     pub fn new(alloc: Global, cap: usize) -> Result<Self, NewFault>
         ensures empty { IfOk result (λ core. core ≡ record { capacity = cap; marked = [] }) }
-        ensures fits { IfOk result (λ _. cap ≤ MAX_CAPACITY) }
-        ensures large { (result ≡ Err NewFault.TooLarge) ↔ (MAX_CAPACITY < cap) }
-        ensures memory { result ≡ Err NewFault.Memory → cap ≤ MAX_CAPACITY }
+        ensures refuses { RefusesTooLarge cap result }
     {
         if cap > MAX_CAPACITY {
             return Err(NewFault::TooLarge);
@@ -72,7 +74,7 @@ impl ReadyCore {
         Ok(ReadyCore { marks, queue })
     }
 
-    /// The number of slots.
+    /// The number of slots. Takes the same time at any capacity.
     pub fn capacity(&self) -> usize
         ensures value { result ≡ self.now.capacity }
         ensures once { IsDistinct nat_eq self.now.marked }
@@ -113,28 +115,14 @@ impl ReadyCore {
 }
 
 /// Why a list was refused.
-#[derive(Clone, Copy, Debug, PartialEq, Eq)]
+#[derive(Clone, Copy, Debug, PartialEq, Eq, Error)]
 pub enum RunFault {
     /// A request for memory was refused.
+    #[error("out of memory")]
     Memory,
     /// The position of the first entry that names a slot not below the capacity. This is tested before any memory is asked for.
+    #[error("the entry at {0} names a slot that is not there")]
     Event(usize),
-}
-
-// The position of the first event that marks no slot below `cap`.
-fn first_wrong(events: &[Event], cap: usize) -> Option<usize>
-    ensures none { IfNone result (NamesAllBelow cap events.now (length events.now)) }
-    ensures wrong { IfSome result (IsWrongAt cap events.now) }
-    ensures least { IfSome result (NamesAllBelow cap events.now) }
-{
-    for (p, event) in events.iter().enumerate() {
-        if let Event::Mark(i) = event {
-            if *i >= cap {
-                return Some(p);
-            }
-        }
-    }
-    None
 }
 
 /// Does the events in order, and appends a reply for each to `out`.
@@ -147,9 +135,11 @@ pub fn run(core: &mut ReadyCore, events: &[Event], out: &mut Vec<Reply>) -> Resu
     ensures capacity { core.new.capacity ≡ core.old.capacity }
     ensures err { OnErr result ((core.new ≡ core.old) × (out.new.items ≡ out.old.items)) }
     ensures wrong { (p : ℕ) → result ≡ Err (RunFault.Event p)
-        → IsWrongAt core.old.capacity events.now p × NamesAllBelow core.old.capacity events.now p }
-    ensures named { OnOk result (NamesAllBelow core.old.capacity events.now (length events.now)) }
-    ensures below { result ≡ Err RunFault.Memory → NamesAllBelow core.old.capacity events.now (length events.now) }
+        → IsFirstWrong Event.Mark core.old.capacity events.now p }
+    ensures named { OnOk result
+        (NamesAllBelow Event.Mark core.old.capacity events.now (length events.now)) }
+    ensures below { result ≡ Err RunFault.Memory
+        → NamesAllBelow Event.Mark core.old.capacity events.now (length events.now) }
 {
     if let Some(p) = first_wrong(events, core.capacity()) {
         return Err(RunFault::Event(p));

@@ -8,8 +8,9 @@ ghost use Rattle.std.specs.Option.{option_copied_mut};
 ghost use Rattle.std.specs.Option.Follows.{option_follows_value};
 ghost use Rattle.std.specs.Borrow.{sem};
 ghost use Rattle.std.specs.Iterator.{IsFiniteIterable};
+ghost use Rattle.futures_buffered_table.specs.Answer.{RefusesTooLarge};
 ghost use Rattle.futures_buffered_core.specs.Drawn.{Draws, DrawsMoreThan};
-ghost use Rattle.futures_buffered_core.specs.SlotMap.{held, held_count, slot_count, no_slots, all_slots, without, Inserts, IsFirstHeld, NoneHeldFrom};
+ghost use Rattle.futures_buffered_core.specs.SlotMap.{value_in, held_count, slot_count, no_slots, all_slots, with_slot_freed, IsFull, Inserts, IsFirstHeld, NoneHeldFrom};
 
 use crate::ready_core::{MAX_CAPACITY, NewFault};
 use std::alloc::{AllocError, Global};
@@ -79,12 +80,10 @@ impl<F: Drop> PinSlotMap<F> {
 
     /// A map of `capacity` free slots.
     ///
-    /// Takes time and memory in proportion to `capacity`.
+    /// Takes time and memory in proportion to `capacity`. `Memory` where a request for memory was refused.
     pub fn new(alloc: Global, capacity: usize) -> Result<Self, NewFault>
         ensures empty { IfOk result (λ m. m ≡ no_slots capacity) }
-        ensures fits { IfOk result (λ _. capacity ≤ MAX_CAPACITY) }
-        ensures large { (result ≡ Err NewFault.TooLarge) ↔ (MAX_CAPACITY < capacity) }
-        ensures memory { result ≡ Err NewFault.Memory → capacity ≤ MAX_CAPACITY }
+        ensures refuses { RefusesTooLarge capacity result }
     {
         if capacity > MAX_CAPACITY {
             return Err(NewFault::TooLarge);
@@ -98,10 +97,13 @@ impl<F: Drop> PinSlotMap<F> {
     ///
     /// Takes time and memory in proportion to that number. Where it is refused, the items that came are dropped: `TooLarge` where one more than `MAX_CAPACITY` came, and `Memory` where there was no room for the next.
     pub fn from_iter<I: IntoIterator<Item = F>>(alloc: Global, iter: I) -> Result<Self, NewFault>
-        requires { IsFiniteIterable I.into_iter_gives I.IntoIter.can_next I.IntoIter.remaining iter }
-        ensures full { IfOk result (λ m. (items : List F) × Draws I.into_iter_gives I.IntoIter.next_gives iter items × (m ≡ all_slots items)) }
+        requires { IsFiniteIterable I.into_iter_gives I.IntoIter.can_next
+            I.IntoIter.remaining iter }
+        ensures full { IfOk result (λ m. (items : List F)
+            × Draws I.into_iter_gives I.IntoIter.next_gives iter items × (m ≡ all_slots items)) }
         ensures fits { IfOk result (λ m. slot_count m ≤ MAX_CAPACITY) }
-        ensures large { result ≡ Err NewFault.TooLarge → DrawsMoreThan I.into_iter_gives I.IntoIter.next_gives iter MAX_CAPACITY }
+        ensures large { result ≡ Err NewFault.TooLarge
+            → DrawsMoreThan I.into_iter_gives I.IntoIter.next_gives iter MAX_CAPACITY }
     {
         let mut places = Vec::new(alloc);
         for item in iter {
@@ -116,7 +118,7 @@ impl<F: Drop> PinSlotMap<F> {
         Ok(PinSlotMap { places, free })
     }
 
-    /// The number of slots, free or not.
+    /// The number of slots, free or not. Takes the same time at any capacity.
     pub fn capacity(&self) -> usize
         ensures { result ≡ slot_count self.now }
     {
@@ -130,7 +132,7 @@ impl<F: Drop> PinSlotMap<F> {
         self.capacity() - self.free.len()
     }
 
-    /// Whether no value is held.
+    /// Whether no value is held. Takes the same time at any capacity.
     pub fn is_empty(&self) -> bool
         ensures { IsTrue result ↔ (held_count self.now ≡ 0) }
     {
@@ -144,9 +146,11 @@ impl<F: Drop> PinSlotMap<F> {
     where
         G: Drop,
         requires { self.old.free ≢ [] → G.pre f arg }
-        ensures ok { IfOk result (λ i. (value : _) × G.post f arg value × Inserts self.old i value self.new) }
+        ensures ok { IfOk result (λ i. (value : _)
+            × G.post f arg value × Inserts self.old i value self.new) }
         ensures count { OnOk result (held_count self.new ≡ held_count self.old + 1) }
-        ensures full { IfErr result (λ back. (back ≡ arg) × (self.new ≡ self.old) × (self.old.free ≡ []) × (held_count self.old ≡ slot_count self.old)) }
+        ensures full { IfErr result (λ back.
+            (back ≡ arg) × (self.new ≡ self.old) × IsFull self.old) }
     {
         let Some(i) = self.free.pop_front() else {
             return Err(arg);
@@ -159,8 +163,10 @@ impl<F: Drop> PinSlotMap<F> {
     ///
     /// Takes the same time at any capacity, besides the drop of the value.
     pub fn remove(&mut self, key: usize)
-        ensures slots { MatchOption (held self.old key) (self.new ≡ self.old) (λ _. self.new ≡ without self.old key) }
-        ensures count { IsSome (held self.old key) → held_count self.new + 1 ≡ held_count self.old }
+        ensures slots { MatchOption (value_in self.old key) (self.new ≡ self.old)
+            (λ _. self.new ≡ with_slot_freed self.old key) }
+        ensures count { IsSome (value_in self.old key)
+            → held_count self.new + 1 ≡ held_count self.old }
     {
         if self.holds(key) {
             self.places[key] = None;
@@ -168,10 +174,10 @@ impl<F: Drop> PinSlotMap<F> {
         }
     }
 
-    /// The value of a slot, for writing. `None` where the slot is free or not there.
+    /// The value of a slot, for writing. `None` where the slot is free or not there. Takes the same time at any capacity.
     pub fn get(&mut self, key: usize) -> Option<&mut F>
         ensures* writes_back { sem 𝓛 (lends_slot F.row self.entry key result) }
-        ensures value { option_copied_mut result ≡ held self.old key }
+        ensures value { option_copied_mut result ≡ value_in self.old key }
     {
         if self.holds(key) {
             Some(self.value_mut(key))
@@ -206,15 +212,15 @@ impl<F: Drop> PinSlotMap<F> {
     }
 
     fn holds(&self, key: usize) -> bool
-        ensures { result ≡ is_some (held self.now key) }
+        ensures { result ≡ is_some (value_in self.now key) }
     {
         key < self.places.len() && self.places[key].is_some()
     }
 
     fn value_mut(&mut self, key: usize) -> &mut F
-        requires { IsSome (held self.old key) }
+        requires { IsSome (value_in self.old key) }
         ensures* writes_back { sem 𝓛 (lends_value F.row self.entry key result) }
-        ensures value { held self.old key ≡ Some result.now }
+        ensures value { value_in self.old key ≡ Some result.now }
     {
         value_of(&mut self.places[key])
     }
@@ -234,73 +240,17 @@ impl<'a, F: Drop> SlotMapIterMut<'a, F> {
     ghost use Rattle.futures_buffered_core.specs.SlotMapIterMut.{iter_slots, iter_from, lends_next};
 
     /// The value of the first slot, of those not passed yet, that holds one. `None` once there is no such slot, and from then on.
+    ///
+    /// Takes no memory, and time in proportion to the slots that it passes.
     pub fn next(&mut self) -> Option<&mut F>
         ensures* writes_back { sem 𝓛 (lends_next F.row self.entry result) }
-        ensures value { IfSome result (λ f. (i : ℕ) × IsFirstHeld (iter_slots self.old) (iter_from self.old) i
-            × (held (iter_slots self.old) i ≡ Some f.now)) }
+        ensures value { IfSome result (λ f. (i : ℕ)
+            × IsFirstHeld (iter_slots self.old) (iter_from self.old) i
+            × (value_in (iter_slots self.old) i ≡ Some f.now)) }
         ensures end { IfNone result (NoneHeldFrom (iter_slots self.old) (iter_from self.old)) }
     {
         let i = self.map.first_held(self.from)?;
         self.from = i + 1;
         Some(self.map.value_mut(i))
-    }
-}
-
-#[cfg(test)]
-mod tests {
-    use super::*;
-    use std::test::Fail;
-
-    #[test]
-    fn uses_the_freed_slot_first(rt: HostRuntime) -> Result<(), Fail> {
-        let mut map = PinSlotMap::new(rt.alloc(), 3)?;
-        assert_eq!(rt; (map.len(), map.capacity(), map.is_empty()), (0, 3, true));
-        for (value, slot) in [(10_u64, 0), (11, 1), (12, 2)] {
-            assert_eq!(rt; map.insert_with(value, |value| value), Ok(slot));
-        }
-        assert_eq!(rt; map.insert_with(13, |value| value), Err(13));
-        map.remove(0);
-        map.remove(2);
-        map.remove(2);
-        map.remove(3);
-        assert_eq!(rt;
-            (map.len(), map.get(0).is_some(), map.get(3).is_some()),
-            (1, false, false)
-        );
-        assert_eq!(rt; map.insert_with(14, |value| value), Ok(2));
-        assert_eq!(rt; map.insert_with(15, |value| value), Ok(0));
-        if let Some(value) = map.get(1) {
-            *value = 16;
-        }
-        let mut held = map.iter_mut();
-        for want in [Some(15), Some(16), Some(14), None, None] {
-            let next = held.next();
-            assert_eq!(rt; next.as_deref().copied(), want);
-            if let Some(value) = next {
-                *value = 17;
-            }
-        }
-        assert_eq!(rt; map.get(1).copied(), Some(17));
-        Ok(())
-    }
-
-    #[test]
-    fn refuses_a_capacity(rt: HostRuntime) {
-        let large = PinSlotMap::<u64>::new(rt.alloc(), MAX_CAPACITY + 1);
-        assert_eq!(rt; large.err(), Some(NewFault::TooLarge));
-    }
-
-    #[test]
-    fn holds_each_item(rt: HostRuntime) -> Result<(), Fail> {
-        let mut map = PinSlotMap::from_iter(rt.alloc(), 0..3_u64)?;
-        assert_eq!(rt; (map.len(), map.capacity()), (3, 3));
-        assert_eq!(rt;
-            (map.get(0).copied(), map.get(2).copied()),
-            (Some(0), Some(2))
-        );
-        assert_eq!(rt; map.insert_with(3, |value| value), Err(3));
-        map.remove(1);
-        assert_eq!(rt; map.insert_with(4, |value| value), Ok(1));
-        Ok(())
     }
 }

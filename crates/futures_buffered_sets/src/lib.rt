@@ -10,11 +10,8 @@
 //! - `futures_unordered_bounded`: `FuturesUnorderedBounded`, as many futures as it has slots, yielded as they finish.
 #![tactic(auto)]
 
-pub use futures_buffered_bounded::fused;
 pub use futures_buffered_bounded::fused::{FusedFuture, FusedStream, SizeHint};
-pub use futures_buffered_bounded::futures_unordered_bounded;
 pub use futures_buffered_bounded::futures_unordered_bounded::FuturesUnorderedBounded;
-pub use futures_buffered_bounded::poll_one;
 pub use futures_buffered_bounded::poll_one::{PollFuture, PollOne};
-pub use futures_buffered_bounded::slot_future;
 pub use futures_buffered_bounded::slot_future::SlotFuture;
+pub use futures_buffered_bounded::{fused, futures_unordered_bounded, poll_one, slot_future};

@@ -15,3 +15,8 @@ pub fn poll_set<F: SlotFuture<S::Waker>, S: ReadySource>(
 {
     task.enter(|cx| set.poll_next(cx))
 }
+
+/// One poll in a task that polls nothing: the task is not woken right after it.
+pub fn poll_nothing(task: &MockTask) {
+    task.enter(|_cx| ());
+}

@@ -32,8 +32,20 @@ fn receivers<R: Wait + Clone + Drop>(
 #[test]
 fn a_set_is_polled_on_another_thread(rt: HostRuntime) -> Result<(), Fail> {
     let mut set: Shared<Timed, _> = FuturesUnorderedBounded::new(&rt, rt.alloc(), 2)?;
-    assert!(rt; set.try_push(Timed { v: 1, k: 0 }).is_ok());
-    assert!(rt; set.try_push(Timed { v: 2, k: 0 }).is_ok());
+    assert!(rt;
+        set.try_push(Timed {
+            value: 1,
+            polls_left: 0
+        })
+        .is_ok()
+    );
+    assert!(rt;
+        set.try_push(Timed {
+            value: 2,
+            polls_left: 0
+        })
+        .is_ok()
+    );
     let child = thread::spawn(&rt, move || block_on(&rt, set.collect(rt.alloc())))?;
     let outputs = child.join(&rt)??;
     assert_eq!(rt; outputs.as_slice(), [1, 2].as_slice());

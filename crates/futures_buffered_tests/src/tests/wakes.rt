@@ -1,7 +1,7 @@
 // Who is woken, and how often.
 use crate::counted::Counted;
 use crate::kept::{Kept, WakerPlace, empty_place, taken_from};
-use crate::polling::poll_set;
+use crate::polling::{poll_nothing, poll_set};
 use futures::test::MockTask;
 use futures_buffered_core::ready_shared::SharedReady;
 use futures_buffered_core::ready_source::SlotWaker;
@@ -48,6 +48,32 @@ fn two_wakes_of_a_slot_are_one(rt: HostRuntime) -> Result<(), Fail> {
     Ok(())
 }
 
+// The first fresh wake after a poll wakes the task; until the next poll no other does.
+#[test]
+fn a_task_is_woken_once(rt: HostRuntime) -> Result<(), Fail> {
+    let task = MockTask::new(&rt)?;
+    let mut set: Set<_> = FuturesUnorderedBounded::new(&rt, rt.alloc(), 2)?;
+    let polls = Arc::new(rt.alloc(), AtomicU64::new(0))?;
+    let places = (empty_place(rt.alloc())?, empty_place(rt.alloc())?);
+    assert!(rt; set.try_push(counted_kept(rt, &places.0, &polls)?).is_ok());
+    assert!(rt; set.try_push(counted_kept(rt, &places.1, &polls)?).is_ok());
+    assert!(rt; poll_set(&task, &mut set).is_pending());
+    let first = taken_from(&rt, &places.0).ok_or("kept")?;
+    let second = taken_from(&rt, &places.1).ok_or("kept")?;
+    first.wake();
+    assert!(rt; task.is_woken());
+    task.enter(|_cx| ());
+    first.wake();
+    assert!(rt; !task.is_woken());
+    second.wake();
+    assert!(rt; !task.is_woken());
+    assert!(rt; poll_set(&task, &mut set).is_pending());
+    assert_eq!(rt; polls.load(SeqCst), 4);
+    second.wake();
+    assert!(rt; task.is_woken());
+    Ok(())
+}
+
 #[test]
 fn a_push_wakes_nobody(rt: HostRuntime) -> Result<(), Fail> {
     let task = MockTask::new(&rt)?;
@@ -78,7 +104,7 @@ fn a_waker_outlives_its_set(rt: HostRuntime) -> Result<(), Fail> {
     assert!(rt; !task.is_woken());
     waker.wake();
     assert!(rt; task.is_woken());
-    task.enter(|_cx| ());
+    poll_nothing(&task);
     waker.wake();
     assert!(rt; !task.is_woken());
     Ok(())
@@ -109,12 +135,12 @@ fn another_task_that_polls_wakes_the_one_before(rt: HostRuntime) -> Result<(), F
     let place = empty_place(rt.alloc())?;
     assert!(rt; set.try_push(counted_kept(rt, &place, &polls)?).is_ok());
     assert!(rt; poll_set(&first, &mut set).is_pending());
-    second.enter(|_cx| ());
+    poll_nothing(&second);
     assert!(rt; !first.is_woken());
     assert!(rt; poll_set(&second, &mut set).is_pending());
     assert!(rt; first.is_woken());
     assert!(rt; !second.is_woken());
-    first.enter(|_cx| ());
+    poll_nothing(&first);
     let waker = taken_from(&rt, &place).ok_or("kept")?;
     waker.wake();
     assert!(rt; second.is_woken());

@@ -1,6 +1,8 @@
 use Rattle.std.proofs.Common.{◌≡◌, ◌+◌, ◌≤◌, ◌++◌, List, length, take, vec_len, vec_capacity}
 use Rattle.futures_buffered_core.specs.declared.ready_core.Reply.{Reply}
-use Rattle.futures_buffered_core.specs.History.{Answers, NamesAllBelow}
+use Rattle.futures_buffered_core.specs.History.{Answers}
+use Rattle.futures_buffered_core.specs.WrongName.{NamesAllBelow}
+use Rattle.futures_buffered_core.specs.declared.ready_core.Event.TheVariants.{Mark}
 use Rattle.futures_buffered_core.proofs.ready_core.run.Given as goal
 
 abbrev pub invariant-loop-event : goal.invariant-loop-event
@@ -8,6 +10,6 @@ invariant-loop-event l =
     record {
       answered : (replies : List Reply) × (l.out.items ≡ l.fn.out.items ++ replies) × Answers l.fn.core.marked (take l.event-index l.events) replies l.core.marked;
       capacity : l.core.capacity ≡ l.fn.core.capacity;
-      below : NamesAllBelow l.fn.core.capacity l.events (length l.events);
+      below : NamesAllBelow Mark l.fn.core.capacity l.events (length l.events);
       room : vec_len l.out + length l.events ≤ vec_capacity l.out + l.event-index;
     }

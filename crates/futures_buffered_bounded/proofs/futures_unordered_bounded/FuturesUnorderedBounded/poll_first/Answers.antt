@@ -1,6 +1,6 @@
 use Rattle.futures_buffered_bounded.specs.FuturesUnorderedBounded.{Bounded}
 use Rattle.std.proofs.Common.{Some, refl, sym, inl, inr, arith, ◌∙◌, length-set, ap}
-use Rattle.futures_buffered_bounded.proofs.HeldLemmas.{SoFar-skip, SoFar-pending, ready_after, ended_after, count-with, same-with}
+use Rattle.futures_buffered_bounded.proofs.HeldLemmas.{AllHeld-with, SoFar-skip, SoFar-pending, ready_after, ended_after, count-with, same-with}
 use Rattle.futures_buffered_bounded.proofs.futures_unordered_bounded.FuturesUnorderedBounded.poll_first.Goals.{in-Some+in_default-poll_one, in_default}
 use Rattle.futures_buffered_bounded.proofs.futures_unordered_bounded.FuturesUnorderedBounded.poll_first.Goals as goal
 
@@ -22,7 +22,7 @@ returns-in-Ready-clause-polled g c =
     let source = g.S.ReadySource in
     let rule = g.R.PollOne in
     let slots = c.names.self-inside.slots in
-    ready_after rule.can_poll rule.polled source.registers source.takes c.args.self.now _ _ c.in-Slot.i slots _ _ _ c.poll_one.new.held c.in-Ready.output c.names.invariant.so_far c.names.invariant.same_limit (omega (arith, ap (λ (v : Bounded g.row.F.Denot g.row.S.Denot). v.limit) c.self.view_is)) c.in-Slot.ensures (sym c.in-Some.ensures.value) c.in-Ready.ensures.polled
+    ready_after rule.can_poll rule.polled source.registers source.takes c.args.self.now _ _ c.in-Slot.i slots _ _ _ c.poll_one.new.held c.in-Ready.output c.names.invariant.so_far c.names.invariant.same_limit (omega (arith, ap (λ (v : Bounded g.row.F.Denot g.row.S.Denot). v.limit) c.self.view_is)) c.in-Slot.ensures (sym c.in-Some.ensures.value) (c.in-Ready.ensures.polled c.in-Slot.i c.waker-waker.ensures)
 
 pub names-preserved : goal.names-preserved
 names-preserved g c =
@@ -32,7 +32,7 @@ names-preserved g c =
     let keeps = g.met.S.ReadySource.take_keeps _ _ _ c.in-Slot.ensures ∙ c.names.invariant.same_size in
     elim c.match-get.branch [
       | in-Some+in_default-poll_one w ↦ rw w.self-inside-is (record {
-        so_far = SoFar-pending rule.can_poll rule.polled source.registers source.takes c.args.self.now _ c.in-Slot.i slots _ _ _ w.poll_one.new.held c.names.invariant.so_far c.in-Slot.ensures (sym w.in-Some.ensures.value) w.in_default-poll_one.ensures.polled w.in_default-poll_one.ensures.again;
+        so_far = SoFar-pending rule.can_poll rule.polled source.registers source.takes c.args.self.now _ c.in-Slot.i slots _ _ _ w.poll_one.new.held c.names.invariant.so_far c.in-Slot.ensures (sym w.in-Some.ensures.value) (w.in_default-poll_one.ensures.polled c.in-Slot.i c.waker-waker.ensures) w.in_default-poll_one.ensures.again;
         same_size = keeps ∙ sym (length-set slots.places c.in-Slot.i (Some w.poll_one.new.held));
         capacity = length-set slots.places c.in-Slot.i (Some w.poll_one.new.held) ∙ c.names.invariant.capacity;
         count = count-with slots c.in-Slot.i _ w.poll_one.new.held w.in-Some.ensures.value ∙ c.names.invariant.count;
@@ -58,3 +58,6 @@ returns-in-Ready-clause-count g c = count-with c.names.self-inside.slots c.in-Sl
 
 pub returns-in-Ready-clause-capacity : goal.returns-in-Ready-clause-capacity
 returns-in-Ready-clause-capacity g c = length-set c.names.self-inside.slots.places c.in-Slot.i (Some c.poll_one.new.held) ∙ c.names.invariant.capacity
+
+pub returns-in-Ready-clause-goes_on : goal.returns-in-Ready-clause-goes_on
+returns-in-Ready-clause-goes_on g c = λ goes. AllHeld-with g.R.PollOne.can_poll c.names.self-inside.slots c.in-Slot.i c.poll_one.new.held c.names.invariant.so_far.pollable (c.in-Ready.ensures.goes_on goes)

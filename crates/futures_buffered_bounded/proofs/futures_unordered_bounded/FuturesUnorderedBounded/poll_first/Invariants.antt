@@ -1,6 +1,6 @@
 use Rattle.std.proofs.Common.{◌≡◌, ℕ, is_some}
 use Rattle.futures.specs.Task.{Covers, Keeps}
-use Rattle.futures_buffered_core.specs.SlotMap.{held, held_count, slot_count}
+use Rattle.futures_buffered_core.specs.SlotMap.{value_in, held_count, slot_count}
 use Rattle.futures_buffered_bounded.proofs.HeldLemmas.{SoFar}
 use Rattle.futures_buffered_bounded.proofs.futures_unordered_bounded.FuturesUnorderedBounded.poll_first.Given as goal
 
@@ -14,7 +14,7 @@ invariant-names g l =
       same_limit : l.self-inside.limit ≡ l.fn.self.limit;
       capacity : slot_count l.self-inside.slots ≡ slot_count l.fn.self.slots;
       count : held_count l.self-inside.slots ≡ held_count l.fn.self.slots;
-      same_slots : (j : ℕ) → is_some (held l.self-inside.slots j) ≡ is_some (held l.fn.self.slots j);
+      same_slots : (j : ℕ) → is_some (value_in l.self-inside.slots j) ≡ is_some (value_in l.fn.self.slots j);
       covers : Covers l.cx (source.needs l.self-inside.source);
       kept : Keeps l.fn.cx l.cx;
     }

@@ -5,7 +5,7 @@ use Rattle.futures_buffered_bounded.proofs.HeldLemmas.{some_from_end}
 use Rattle.futures_buffered_bounded.proofs.futures_unordered_bounded.FuturesUnorderedBounded.poll_with.Goals as goal
 
 pub empty_slot-requires : goal.empty_slot-requires
-empty_slot-requires g c = some_from_end g.R.PollOne.polled _ _ c.in-Ready.ensures.last
+empty_slot-requires g c = some_from_end (g.R.PollOne.polled c.in-Ready.i) _ _ c.in-Ready.ensures.last
 
 pub returns-in-Ready-clause-polled : goal.returns-in-Ready-clause-polled
 returns-in-Ready-clause-polled g c =

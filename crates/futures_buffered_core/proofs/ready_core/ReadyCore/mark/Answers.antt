@@ -1,5 +1,5 @@
 use Rattle.std.proofs.Common.{arith}
-use Rattle.futures_buffered_core.proofs.ReadyCoreLemmas.{KeepsOnce-room, KeepsOnce-mark, clear_from_read}
+use Rattle.futures_buffered_core.proofs.KeepsOnceLemmas.{KeepsOnce-room, KeepsOnce-mark, clear_from_read}
 use Rattle.futures_buffered_core.proofs.ready_core.ReadyCore.mark.Goals as goal
 
 pub push_back_reserved-requires : goal.push_back_reserved-requires

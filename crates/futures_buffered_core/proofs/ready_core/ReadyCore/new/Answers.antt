@@ -1,5 +1,5 @@
 use Rattle.std.proofs.Common.{arith}
-use Rattle.futures_buffered_core.proofs.ReadyCoreLemmas.{KeepsOnce-none}
+use Rattle.futures_buffered_core.proofs.KeepsOnceLemmas.{KeepsOnce-none}
 use Rattle.futures_buffered_core.proofs.ready_core.ReadyCore.new.Goals as goal
 
 pub invariant_of-result : goal.invariant_of-result

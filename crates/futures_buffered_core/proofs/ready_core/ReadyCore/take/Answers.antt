@@ -1,5 +1,5 @@
 use Rattle.std.proofs.Common.{arith}
-use Rattle.futures_buffered_core.proofs.ReadyCoreLemmas.{KeepsOnce-first, KeepsOnce-take}
+use Rattle.futures_buffered_core.proofs.KeepsOnceLemmas.{KeepsOnce-first, KeepsOnce-take}
 use Rattle.futures_buffered_core.proofs.ready_core.ReadyCore.take.Goals as goal
 
 pub index_mut-requires : goal.index_mut-requires

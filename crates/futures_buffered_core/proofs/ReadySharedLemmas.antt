@@ -1,0 +1,14 @@
+-- What a list of wakers, one for each slot, says of their number and of each of them.
+use Rattle.std.proofs.Common.{◌≡◌, ℕ, ◌<◌, List, length, get_or, map, ap, ◌∙◌, zero-add}
+use Rattle.std.specs.List.{range_with_len}
+use Rattle.std.proofs.lemmas.List.{length-map}
+use Rattle.std.proofs.lemmas.List.FromFn.{length-range_with_len, get_or-map-range_with_len}
+use Rattle.futures_buffered_core.specs.ReadyShared.{SharedWaker, waker_at}
+
+-- as many wakers as slots
+pub wakers_count : (wakers : List SharedWaker) (awaited count cap : ℕ) → count ≡ length wakers → wakers ≡ map (waker_at awaited) (range_with_len 0 cap) → count ≡ cap
+wakers_count wakers awaited count cap counted all = counted ∙ (ap length all ∙ (length-map (range_with_len 0 cap) (waker_at awaited) ∙ length-range_with_len 0 cap))
+
+-- the waker at place i of those of the slots from 0 on
+pub waker_at_place : (wakers : List SharedWaker) (awaited n i : ℕ) (waker : SharedWaker) → wakers ≡ map (waker_at awaited) (range_with_len 0 n) → i < n → waker ≡ get_or wakers i waker → waker ≡ waker_at awaited i
+waker_at_place wakers awaited n i waker all below is = is ∙ (ap (λ (l : List SharedWaker). get_or l i waker) all ∙ get_or-map-range_with_len (waker_at awaited) 0 n i i waker below (zero-add i))

@@ -1,0 +1,108 @@
+//! The source of one caller: a ready core, whose wakers do nothing.
+ghost use Rattle.std.specs.Prelude.{◌≡◌};
+ghost use Rattle.futures_buffered_core.specs.ReadyCore.{Marks, Takes};
+
+use crate::ready_core::{NewFault, ReadyCore, Taken, Woke};
+use crate::ready_source::{NewSource, ReadySource, SlotWaker, WakesSlot};
+use futures::task::{Context, Poll, Source, Waker};
+use std::alloc::Global;
+use std::marker::Model;
+
+/// A waker that does nothing.
+#[derive(Drop)]
+pub struct Silent;
+
+impl WakesSlot for Silent {
+    ghost use Rattle.std.specs.Prelude.{⊤};
+
+    ghost wakes = { λ _ _. ⊤ };
+}
+
+impl SlotWaker for Silent {
+    fn wake(&self) {}
+}
+
+/// A ready core under one caller. Its wakers do nothing, so a slot is marked by its set alone, and it never wakes the task that it keeps.
+///
+/// A contract sees what it sees of the core: the capacity, and the marked slots by their oldest unserved marks. Marks and takings are those of the core, and a registration changes nothing of it.
+#[derive(Drop)]
+pub struct CoreSource {
+    core: ReadyCore,
+    silent: Silent,
+    source: Source,
+    task: Option<Waker>,
+}
+
+impl Model for CoreSource {
+    ghost use Rattle.futures_buffered_core.specs.ReadyCore.{Standing};
+
+    ghost Value = { Standing };
+
+    ghost view = { λ s. s.core };
+}
+
+impl ReadySource for CoreSource {
+    type Waker = Silent;
+
+    ghost slots = { λ s. s.capacity };
+
+    ghost marks = { Marks };
+
+    ghost takes = { Takes };
+
+    ghost registers = { λ old new. new ≡ old };
+
+    ghost needs = { λ _ _. ⊥ };
+
+    ghost names_below = { λ old i new h. h.1 };
+
+    ghost mark_keeps = { λ old i woke new h. h.1 };
+
+    ghost take_keeps = { λ old taken new h. h.2 };
+
+    ghost register_keeps = { λ old new h. Prim.cc (h) };
+
+    ghost take_needs = { λ old taken new h n k. k };
+
+    ghost register_needs = { λ old new h n k. k };
+
+    fn capacity(&self) -> usize {
+        self.core.capacity()
+    }
+
+    fn mark(&mut self, i: usize) -> Woke {
+        self.core.mark(i)
+    }
+
+    fn take(&mut self) -> Taken {
+        self.core.take()
+    }
+
+    fn waker(&self, _i: usize) -> &Silent {
+        &self.silent
+    }
+
+    fn register(&mut self, cx: &mut Context<'_>) {
+        let _: Poll<()> = cx.register(&self.source, &mut self.task);
+    }
+}
+
+impl NewSource for CoreSource {
+    ghost use Rattle.std.specs.Prelude.{◌≡◌, []};
+
+    type Env = ();
+
+    ghost made = { λ cap new. new ≡ record { capacity = cap; marked = [] } };
+
+    ghost made_slots = { λ cap new h. Prim.cc (h) };
+
+    fn make(_env: &(), alloc: Global, cap: usize) -> Result<CoreSource, NewFault> {
+        let core = ReadyCore::new(alloc, cap)?;
+        Ok(CoreSource {
+            core,
+            silent: Silent,
+            source: Source::new(),
+            task: None,
+        })
+    }
+}

@@ -1,0 +1,114 @@
+//! The source of a test: it names what a list says.
+ghost use Rattle.std.specs.Prelude.{◌≡◌, ◌≢◌, ℕ, IfOk, OnOk, length};
+ghost use Rattle.futures_buffered_core.specs.WrongName.{NamesAllBelow, IsFirstWrong};
+
+use crate::core_source::Silent;
+use crate::ready_core::{RunFault, Taken, Woke};
+use crate::ready_source::ReadySource;
+use crate::wrong_name::first_wrong;
+use futures::task::{Context, Poll, Source, Waker};
+use std::alloc::Global;
+use std::marker::Model;
+use std::vec;
+
+/// Gives the answers of a list in order, and then `Empty` for good: for a test of what a set does with the names that it gets. Its wakers do nothing, and it never wakes the task that it keeps.
+///
+/// A contract sees the capacity and the answers that are left.
+#[derive(Drop)]
+pub struct ScriptSource {
+    capacity: usize,
+    answers: vec::IntoIter<Taken>,
+    silent: Silent,
+    source: Source,
+    task: Option<Waker>,
+}
+
+impl Model for ScriptSource {
+    ghost use Rattle.futures_buffered_core.specs.ScriptSource.{Script};
+    ghost use Rattle.futures_buffered_core.specs.WrongName.{NamesAllBelow};
+    ghost use Rattle.futures_buffered_table.specs.declared.answer.Taken.TheVariants.{Slot};
+
+    ghost Value = { Script };
+
+    ghost use Rattle.std.specs.Prelude.{length};
+    ghost use Rattle.std.specs.Vec.Iter.{into_iter_items};
+
+    ghost view = { λ s. record { capacity = s.capacity; left = into_iter_items s.answers } };
+
+    ghost invariant = { λ s. let left = into_iter_items s.answers in
+        NamesAllBelow Slot s.capacity left (length left) };
+}
+
+impl ScriptSource {
+    /// A source of `cap` slots with these answers to give. `cap` can be any number. Takes time in proportion to the answers.
+    ///
+    /// `RunFault::Event` has the position of the first answer that names a slot not below `cap`. No memory is asked for, so `RunFault::Memory` never comes.
+    pub fn new(_alloc: Global, cap: usize, answers: Vec<Taken>) -> Result<Self, RunFault>
+        ensures ok { IfOk result (λ s. s ≡ record { capacity = cap; left = answers.items }) }
+        ensures named { OnOk result
+            (NamesAllBelow Taken.Slot cap answers.items (length answers.items)) }
+        ensures wrong { (p : ℕ) → result ≡ Err (RunFault.Event p)
+            → IsFirstWrong Taken.Slot cap answers.items p }
+        ensures never_memory { result ≢ Err RunFault.Memory }
+    {
+        if let Some(p) = first_wrong(&answers, cap) {
+            return Err(RunFault::Event(p));
+        }
+        Ok(ScriptSource {
+            capacity: cap,
+            answers: answers.into_iter(),
+            silent: Silent,
+            source: Source::new(),
+            task: None,
+        })
+    }
+}
+
+impl ReadySource for ScriptSource {
+    ghost use Rattle.futures_buffered_core.specs.ScriptSource.{TakesNext, MarksNothing};
+
+    type Waker = Silent;
+
+    ghost slots = { λ s. s.capacity };
+
+    ghost marks = { MarksNothing };
+
+    ghost takes = { TakesNext };
+
+    ghost registers = { λ old new. new ≡ old };
+
+    ghost needs = { λ _ _. ⊥ };
+
+    ghost names_below = { λ old i new h. h.1 };
+
+    ghost mark_keeps = { λ old i woke new h. Prim.cc (h.1) };
+
+    ghost take_keeps = { λ old taken new h. h.2 };
+
+    ghost register_keeps = { λ old new h. Prim.cc (h) };
+
+    ghost take_needs = { λ old taken new h n k. k };
+
+    ghost register_needs = { λ old new h n k. k };
+
+    fn capacity(&self) -> usize {
+        self.capacity
+    }
+
+    /// Changes nothing: the answers are those of the list.
+    fn mark(&mut self, _i: usize) -> Woke {
+        Woke::Fresh
+    }
+
+    fn take(&mut self) -> Taken {
+        self.answers.next().unwrap_or(Taken::Empty)
+    }
+
+    fn waker(&self, _i: usize) -> &Silent {
+        &self.silent
+    }
+
+    fn register(&mut self, cx: &mut Context<'_>) {
+        let _pending: Poll<()> = cx.register(&self.source, &mut self.task);
+    }
+}

@@ -1,0 +1,56 @@
+//! A row of events and their replies, one by one and as a list.
+use futures_buffered_core::ready_core::{
+    Event, MAX_CAPACITY, NewFault, ReadyCore, Reply, RunFault, Taken, Woke, run,
+};
+use std::test::Fail;
+
+const ROW: [(Event, Reply); 8] = [
+    (Event::Mark(2), Reply::Woke(Woke::Fresh)),
+    (Event::Mark(0), Reply::Woke(Woke::Fresh)),
+    (Event::Mark(2), Reply::Woke(Woke::Already)),
+    (Event::Take, Reply::Taken(Taken::Slot(2))),
+    (Event::Mark(2), Reply::Woke(Woke::Fresh)),
+    (Event::Take, Reply::Taken(Taken::Slot(0))),
+    (Event::Take, Reply::Taken(Taken::Slot(2))),
+    (Event::Take, Reply::Taken(Taken::Empty)),
+];
+
+#[test]
+fn names_the_oldest_unserved_mark(rt: HostRuntime) -> Result<(), Fail> {
+    let mut core = ReadyCore::new(rt.alloc(), 3)?;
+    assert_eq!(rt; core.capacity(), 3);
+    for (event, want) in ROW {
+        let got = match event {
+            Event::Mark(i) if i < core.capacity() => Reply::Woke(core.mark(i)),
+            _ => Reply::Taken(core.take()),
+        };
+        assert_eq!(rt; got, want, "at {event:?}");
+    }
+    Ok(())
+}
+
+#[test]
+fn runs_a_list(rt: HostRuntime) -> Result<(), Fail> {
+    let mut core = ReadyCore::new(rt.alloc(), 3)?;
+    let mut out = Vec::new(rt.alloc());
+    assert_eq!(rt; run(&mut core, &ROW.map(|row| row.0), &mut out), Ok(()));
+    assert_eq!(rt; out.as_slice(), ROW.map(|row| row.1).as_slice());
+    Ok(())
+}
+
+#[test]
+fn refuses_a_list_that_marks_no_slot(rt: HostRuntime) -> Result<(), Fail> {
+    let mut core = ReadyCore::new(rt.alloc(), 3)?;
+    let mut out = Vec::new(rt.alloc());
+    let wrong = [Event::Mark(0), Event::Mark(3), Event::Mark(4)];
+    assert_eq!(rt; run(&mut core, &wrong, &mut out), Err(RunFault::Event(1)));
+    assert_eq!(rt; out.len(), 0);
+    assert_eq!(rt; core.take(), Taken::Empty);
+    Ok(())
+}
+
+#[test]
+fn refuses_a_capacity(rt: HostRuntime) {
+    let large = ReadyCore::new(rt.alloc(), MAX_CAPACITY + 1);
+    assert_eq!(rt; large.err(), Some(NewFault::TooLarge));
+}

@@ -1,0 +1,45 @@
+// The two sources for one caller.
+use futures_buffered_core::ready_core::{RunFault, Taken, Woke};
+use futures_buffered_core::ready_source::{
+    CoreSource, NewSource, ReadySource, ScriptSource, SlotWaker,
+};
+use std::test::Fail;
+
+#[test]
+fn gives_the_answers_and_then_empty(rt: HostRuntime) -> Result<(), Fail> {
+    let answers = vec![in rt.alloc(); Taken::Slot(1), Taken::Pause]?;
+    let mut source = ScriptSource::new(rt.alloc(), 2, answers)?;
+    assert_eq!(rt; source.capacity(), 2);
+    if source.capacity() > 1 {
+        assert_eq!(rt;
+            (source.mark(0), source.mark(0)),
+            (Woke::Fresh, Woke::Fresh)
+        );
+    }
+    for want in [Taken::Slot(1), Taken::Pause, Taken::Empty, Taken::Empty] {
+        assert_eq!(rt; source.take(), want);
+    }
+    Ok(())
+}
+
+#[test]
+fn refuses_an_answer_that_names_no_slot(rt: HostRuntime) -> Result<(), Fail> {
+    let answers = vec![in rt.alloc(); Taken::Slot(1), Taken::Slot(2), Taken::Slot(3)]?;
+    let refused = ScriptSource::new(rt.alloc(), 2, answers);
+    assert_eq!(rt; refused.err(), Some(RunFault::Event(1)));
+    Ok(())
+}
+
+#[test]
+fn makes_a_core(rt: HostRuntime) -> Result<(), Fail> {
+    let mut source = CoreSource::make(&(), rt.alloc(), 2)?;
+    if source.capacity() > 1 {
+        assert_eq!(rt; source.mark(1), Woke::Fresh);
+        source.waker(1).wake();
+    }
+    assert_eq!(rt;
+        (source.take(), source.take()),
+        (Taken::Slot(1), Taken::Empty)
+    );
+    Ok(())
+}
