@@ -1,5 +1,6 @@
 -- What the polls of a set may still give.
-use Rattle.std.proofs.Common.{◌≡◌, ◌⊎◌, ℕ, ◌+◌, List, [], ◌∷◌, length, Option, Some, None, MatchOption, IfSome, refl, sym, subst, ap, inl, inr, arith, ◌∙◌, ◌≢◌, OnSome, set, length-set}
+use Rattle.std.proofs.Common.{◌≡◌, ℕ, ◌+◌, List, [], ◌∷◌, length, Option, Some, None, MatchOption, IfSome, refl, sym, subst, inl, inr, arith, ◌∙◌, ◌≢◌, OnSome, set, length-set}
+use Rattle.std.specs.List.{FoldsTo}
 use Rattle.std.proofs.lemmas.List.{get_or-set_same, get_or-set_other, get_or_past}
 use Rattle.std.proofs.lemmas.Bool.{cases_eq, cases_lt}
 use Rattle.futures.proofs.SentLemmas.{AllByRecursion_weaker}
@@ -10,7 +11,7 @@ use Rattle.futures.specs.Runs.{After, Within}
 use Rattle.futures.specs.Queued.{Gathers}
 use Rattle.futures_buffered_core.specs.SlotMap.{Slots, value_in, held_count, with_value, with_slot_freed}
 use Rattle.futures_buffered_table.specs.declared.answer.Taken.{Taken}
-use Rattle.futures_buffered_bounded.specs.Held.{NamesRun, MayGive, AnyMayGive, ComesFrom}
+use Rattle.futures_buffered_bounded.specs.Held.{Passes, Yields, MayGive, AnyMayGive, ComesFrom}
 use Rattle.futures_buffered_bounded.specs.FuturesUnorderedBounded.{Bounded, PollGives}
 use Rattle.futures_buffered_bounded.proofs.HeldLemmas.{value_in-with_value}
 
@@ -52,44 +53,30 @@ module _ {F A : Type 0} (polled : ℕ → F → Poll A → F → Type 0) where
       from_next : {g : F} → g ≡ f2 → MayGive (polled i) g y → MayGive (polled i) f y
       from_next {g} eq may = (g ∷ may.0, may.1, may.2, (g, (subst (λ k. polled i f Pending k) (sym eq) h, refl), may.3), may.4)
 
-  pub gives_ran : (names : List ℕ) (m left : Slots F) (y : A) → NamesRun polled m names None left → AnyMayGive polled left y → AnyMayGive polled m y
-  gives_ran [] m left y ran any = subst (λ w. AnyMayGive polled w y) ran.1 any
-  gives_ran (j ∷ names) m left y ran any = by_held (value_in m j) (λ (w : Slots F) (r : NamesRun polled w names None left). gives_ran names w left y r any) refl ran
+  -- nor does a name that is passed
+  any-passed : (m new : Slots F) (i : ℕ) (y : A) → Passes polled m i new → AnyMayGive polled new y → AnyMayGive polled m y
+  any-passed m new i y = by_value (value_in m i) refl
     where
-      by_held : (o : Option F) → ((w : Slots F) → NamesRun polled w names None left → AnyMayGive polled w y) → value_in m j ≡ o
-          → MatchOption o (NamesRun polled m names None left) (λ f. ((f2 : F) × polled j f Pending f2 × NamesRun polled (with_value m j f2) names None left) ⊎ ((x : A) × (f2 : F) × polled j f (Ready x) f2 × (names ≡ []) × (◌≡◌ {A = Option (ℕ × A)} None (Some (j, x))) × (left ≡ with_value m j f2)))
-          → AnyMayGive polled m y
-      by_held None again e ran = again m ran
-      by_held (Some f) again e (inl h) = any-pending m j f h.0 y e h.1 (again (with_value m j h.0) h.2)
-      by_held (Some f) again e (inr h) = let e = h.4 in cc
+      by_value : (o : Option F) → value_in m i ≡ o → MatchOption o (new ≡ m) (λ f. (left : F) × polled i f Pending left × (new ≡ with_value m i left)) → AnyMayGive polled new y → AnyMayGive polled m y
+      by_value None e h any = subst (λ w. AnyMayGive polled w y) h any
+      by_value (Some f) e h any = any-pending m i f h.0 y e h.1 (subst (λ w. AnyMayGive polled w y) h.2 any)
 
-  -- the output was one that might be given, and so is what the others may give once its slot is empty
-  pub gives_out : (names : List ℕ) (m left : Slots F) (i : ℕ) (x : A) → NamesRun polled m names (Some (i, x)) left → AnyMayGive polled m x × ((y : A) → AnyMayGive polled (with_slot_freed left i) y → AnyMayGive polled m y)
-  gives_out [] m left i x ran = let e = ran.0 in cc
-  gives_out (j ∷ names) m left i x ran = by_held (value_in m j) (λ (w : Slots F) (r : NamesRun polled w names (Some (i, x)) left). gives_out names w left i x r) refl ran
-    where
-      by_held : (o : Option F) → ((w : Slots F) → NamesRun polled w names (Some (i, x)) left → AnyMayGive polled w x × ((y : A) → AnyMayGive polled (with_slot_freed left i) y → AnyMayGive polled w y)) → value_in m j ≡ o
-          → MatchOption o (NamesRun polled m names (Some (i, x)) left) (λ f. ((f2 : F) × polled j f Pending f2 × NamesRun polled (with_value m j f2) names (Some (i, x)) left) ⊎ ((z : A) × (f2 : F) × polled j f (Ready z) f2 × (names ≡ []) × (◌≡◌ {A = Option (ℕ × A)} (Some (i, x)) (Some (j, z))) × (left ≡ with_value m j f2)))
-          → AnyMayGive polled m x × ((y : A) → AnyMayGive polled (with_slot_freed left i) y → AnyMayGive polled m y)
-      by_held None again e ran = again m ran
-      by_held (Some f) again e (inl h) =
-          let more = again (with_value m j h.0) h.2 in
-          (any-pending m j f h.0 x e h.1 more.0, λ y any. any-pending m j f h.0 y e h.1 (more.1 y any))
-      by_held (Some f) again e (inr h) =
-          let same_out = h.4 in
-          let pair : ◌≡◌ {A = ℕ × A} (i, x) (j, h.0) = cc in
-          let at : i ≡ j = ap (λ (p : ℕ × A). p.0) pair in
-          let is : x ≡ h.0 = ap (λ (p : ℕ × A). p.1) pair in (
-            (j, f, e, ([], f, h.1, refl, subst (λ z. polled j f (Ready z) h.1) (sym is) h.2)),
-            λ y any. emptied y (subst (λ w. AnyMayGive polled (with_slot_freed w j) y) h.5 (subst (λ k. AnyMayGive polled (with_slot_freed left k) y) at any)),
-          )
-        where
-          emptied : (y : A) → AnyMayGive polled (with_slot_freed (with_value m j h.1) j) y → AnyMayGive polled m y
-          emptied y any =
-              elim (cases_eq any.0 j) [
-                | inl same ↦ absurd (None-Some (sym (value_in-with_slot_freed (with_value m j h.1) j) ∙ rw same at any.2))
-                | inr other ↦ (any.0, any.1, sym (get_or-set_other m.places j any.0 (Some h.1) None other) ∙ (sym (value_in-with_slot_freed_other (with_value m j h.1) j any.0 other) ∙ any.2), any.3)
-              ]
+  pub gives_passed : (names : List ℕ) (m left : Slots F) (y : A) → FoldsTo (Passes polled) m names left → AnyMayGive polled left y → AnyMayGive polled m y
+  gives_passed [] m left y passes any = subst (λ w. AnyMayGive polled w y) (sym passes) any
+  gives_passed (i ∷ names) m left y passes any = any-passed m passes.0 i y passes.1 (gives_passed names passes.0 left y passes.2 any)
+
+  -- an output was one that might be given
+  pub gives_output : (m new : Slots F) (i : ℕ) (x : A) → Yields polled m i x new → AnyMayGive polled m x
+  gives_output m new i x h = (i, h.value, h.held, ([], h.value, h.left, refl, h.gave))
+
+  -- and so is what the others may give once its slot is empty
+  pub gives_others : (m new : Slots F) (i : ℕ) (x y : A) → Yields polled m i x new → AnyMayGive polled (with_slot_freed new i) y → AnyMayGive polled m y
+  gives_others m new i x y h any =
+      let freed = subst (λ w. AnyMayGive polled (with_slot_freed w i) y) h.now_holds any in
+      elim (cases_eq freed.0 i) [
+        | inl same ↦ absurd (None-Some (sym (value_in-with_slot_freed (with_value m i h.left) i) ∙ rw same at freed.2))
+        | inr other ↦ (freed.0, freed.1, sym (get_or-set_other m.places i freed.0 (Some h.left) None other) ∙ (sym (value_in-with_slot_freed_other (with_value m i h.left) i freed.0 other) ∙ freed.2), freed.3)
+      ]
 
 module _ {F A S : Type 0} (polled : ℕ → F → Poll A → F → Type 0) where
   -- one poll
@@ -97,7 +84,7 @@ module _ {F A S : Type 0} (polled : ℕ → F → Poll A → F → Type 0) where
   value_of registers takes old new (Ready None) h = record { each = tt; ends = sym h.0 }
   value_of registers takes old new (Ready (Some x)) h =
       let asks = h.1.2 in
-      record { each = tt; ends = ((gives_out polled _ _ _ _ _ asks.2.polls).0, h.0) }
+      record { each = tt; ends = (gives_passed polled asks.0 _ _ x asks.3.passes (gives_output polled _ _ _ x asks.4), h.0) }
   value_of registers takes old new Pending h = tt
 
   pub rest_of : (registers : S → S → Type 0) (takes : S → Taken → S → Type 0) (old new : Bounded F S) (answer : Poll (Option A)) → PollGives polled registers takes old answer new
@@ -105,8 +92,8 @@ module _ {F A S : Type 0} (polled : ℕ → F → Poll A → F → Type 0) where
   rest_of registers takes old new (Ready None) h fewer = tt
   rest_of registers takes old new (Ready (Some x)) h fewer =
       let asks = h.1.2 in
-      let gives = gives_out polled _ _ _ _ _ asks.2.polls in
-      Gathers-After {A = A} {P = AnyMayGive polled old.slots} {Q = AnyMayGive polled new.slots} (λ (y : A) (any : AnyMayGive polled new.slots y). gives.1 y (subst (λ (b : Bounded F S). AnyMayGive polled b.slots y) h.1.3 any)) _ _ x fewer gives.0
+      let passed = λ (y : A). gives_passed polled asks.0 old.slots asks.2 y asks.3.passes in
+      Gathers-After {A = A} {P = AnyMayGive polled old.slots} {Q = AnyMayGive polled new.slots} (λ (y : A) (any : AnyMayGive polled new.slots y). passed y (gives_others polled _ _ _ x y asks.4 (subst (λ (b : Bounded F S). AnyMayGive polled b.slots y) h.1.3 any))) _ _ x fewer (passed x (gives_output polled _ _ _ x asks.4))
   rest_of registers takes old new Pending h fewer = tt
 
   pub same_of : (registers : S → S → Type 0) (takes : S → Taken → S → Type 0) (old new : Bounded F S) (answer : Poll (Option A)) → PollGives polled registers takes old answer new
@@ -114,4 +101,4 @@ module _ {F A S : Type 0} (polled : ℕ → F → Poll A → F → Type 0) where
   same_of registers takes old new (Ready o) h same = tt
   same_of registers takes old new Pending h same =
       let asks = h.1 in
-      Gathers-Within {A = A} {P = AnyMayGive polled old.slots} {Q = AnyMayGive polled new.slots} (λ (y : A) (any : AnyMayGive polled new.slots y). gives_ran polled _ _ _ y asks.3.polls any) _ _ same
+      Gathers-Within {A = A} {P = AnyMayGive polled old.slots} {Q = AnyMayGive polled new.slots} (λ (y : A) (any : AnyMayGive polled new.slots y). gives_passed polled asks.0 _ _ y asks.3.passes any) _ _ same

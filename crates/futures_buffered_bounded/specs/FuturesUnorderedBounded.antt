@@ -1,6 +1,7 @@
 -- What a contract sees of a bounded set, and what its calls make of it.
-use Rattle.std.specs.Prelude.{◌≡◌, ℕ, ◌<◌, ◌≤◌, List, [], ◌∷◌, ◌++◌, map, length, Option, Some, None, ◌⊎◌, refl}
+use Rattle.std.specs.Prelude.{◌≡◌, ℕ, ◌<◌, List, ◌++◌, map, length, Option, Some, None, refl}
 use Rattle.std.specs.List.{FoldsTo, range_with_len}
+use Rattle.std.specs.Option.{option_to_list}
 use Rattle.std.specs.Coded.{Coded, code_by, coded×, coded_ℕ}
 use Rattle.futures.specs.Task.{Hears}
 use Rattle.futures.specs.declared.task.context.Context.{Context}
@@ -10,7 +11,7 @@ use Rattle.futures_buffered_core.specs.SlotMap.{Slots, slots_code, held_count, a
 use Rattle.futures_buffered_table.specs.declared.answer.Taken.{Taken}
 use Rattle.futures_buffered_table.specs.declared.answer.Taken.TheVariants.{Slot, Empty, Pause}
 use Rattle.futures_buffered_table.specs.declared.answer.Woke.{Woke}
-use Rattle.futures_buffered_bounded.specs.Held.{NamesRun}
+use Rattle.futures_buffered_bounded.specs.Held.{Passes, Yields}
 
 -- what each slot holds, the content of the source, and how many names one poll takes at most
 pub record Bounded (F S : Type 0) : Type 0 where
@@ -75,10 +76,11 @@ abbrev pub Pushes : {F S : Type 0}
 Pushes marks old value new = (i : ℕ) × PushesAt marks old i value new
 
 -- fewer names than the limit came, and then Empty or Pause; or as many as the limit, and nothing more was asked
-abbrev pub EndsWaiting : ℕ → List ℕ → List Taken → Type 0
-EndsWaiting limit names ended =
-    ((length names < limit) × ((ended ≡ Empty ∷ []) ⊎ (ended ≡ Pause ∷ [])))
-    ⊎ ((length names ≡ limit) × (ended ≡ []))
+abbrev pub EndsWaiting : ℕ → List ℕ → Option Taken → Type 0
+EndsWaiting limit names (Some Empty) = length names < limit
+EndsWaiting limit names (Some Pause) = length names < limit
+EndsWaiting limit names (Some (Slot i)) = ⊥
+EndsWaiting limit names None = length names ≡ limit
 
 -- the last answer of a source with this content was Empty
 abbrev pub SaidEmpty : {S : Type 0} → (S → Taken → S → Type 0) → S → Type 0
@@ -94,29 +96,32 @@ module _
     (registers : S → S → Type 0)
     (takes : S → Taken → S → Type 0)
   where
-    -- the task was registered first; the source then gave these names, in order, and after them what ended the asking; the slots named were gone through
-    pub record Runs
+    -- The task was registered first. The source then gave these names, in order, and one last answer where there was one. The slots named were passed, in order, which took what the slots hold to this.
+    pub record Asks
         (old : Bounded F S)
         (names : List ℕ)
-        (ended : List Taken)
-        (out : Option (ℕ × A))
-        (new : Bounded F S)
+        (last : Option Taken)
+        (slots : Slots F)
+        (source : S)
         : Type 0 where
       pub registered : S
       pub registers_first : registers old.source registered
-      pub answers : FoldsTo takes registered (map Slot names ++ ended) new.source
-      pub polls : NamesRun polled old.slots names out new.slots
-      pub same_limit : new.limit ≡ old.limit
+      pub answers : FoldsTo takes registered (map Slot names ++ option_to_list last) source
+      pub passes : FoldsTo (Passes polled) old.slots names slots
 
-    -- one count of names: until an output came, which is given with its slot, or until the asking ended without one
+    -- one count of names: until one more name gave an output, which is given with its slot, or until the asking ended without one
     abbrev pub AsksUntil : Bounded F S → Poll (ℕ × A) → Bounded F S → Type 0
-    AsksUntil old (Ready out) new = (names : List ℕ)
-        × (length names ≤ old.limit)
-        × Runs old names [] (Some out) new
+    AsksUntil old (Ready (i, x)) new = (names : List ℕ)
+        × (length names < old.limit)
+        × (slots : Slots F)
+        × Asks old names (Some (Slot i)) slots new.source
+        × Yields polled slots i x new.slots
+        × (new.limit ≡ old.limit)
     AsksUntil old Pending new = (names : List ℕ)
-        × (ended : List Taken)
-        × EndsWaiting old.limit names ended
-        × Runs old names ended None new
+        × (last : Option Taken)
+        × EndsWaiting old.limit names last
+        × Asks old names last new.slots new.source
+        × (new.limit ≡ old.limit)
 
     -- one poll: the end exactly where nothing is held, and then nothing changes; the output of the last name, whose slot is emptied; or Pending, where the asking ended without an output
     abbrev pub PollGives : Bounded F S → Poll (Option A) → Bounded F S → Type 0
