@@ -1,7 +1,7 @@
 -- What the polls of a set may still give.
 use Rattle.std.proofs.Common.{◌≡◌, ℕ, ◌+◌, List, [], ◌∷◌, length, Option, Some, None, MatchOption, IfSome, refl, sym, subst, inl, inr, arith, ◌∙◌, ◌≢◌, OnSome, set, length-set}
-use Rattle.std.proofs.lemmas.List.{get_or-set_same, get_or-set_other, get_or_past}
 use Rattle.std.specs.List.{FoldsTo}
+use Rattle.std.proofs.lemmas.List.{get_or-set_same, get_or-set_other, get_or_past}
 use Rattle.std.proofs.lemmas.Bool.{cases_eq, cases_lt}
 use Rattle.futures.proofs.SentLemmas.{AllByRecursion_weaker}
 use Rattle.futures.specs.declared.task.Poll.{Poll}
@@ -53,32 +53,30 @@ module _ {F A : Type 0} (polled : ℕ → F → Poll A → F → Type 0) where
       from_next : {g : F} → g ≡ f2 → MayGive (polled i) g y → MayGive (polled i) f y
       from_next {g} eq may = (g ∷ may.0, may.1, may.2, (g, (subst (λ k. polled i f Pending k) (sym eq) h, refl), may.3), may.4)
 
-  -- nor does a name that is passed over
-  pub gives_passed : (old new : Slots F) (i : ℕ) (y : A) → Passes polled old i new → AnyMayGive polled new y → AnyMayGive polled old y
-  gives_passed old new i y passed any = by_held (value_in old i) refl passed
+  -- nor does a name that is passed
+  any-passed : (m new : Slots F) (i : ℕ) (y : A) → Passes polled m i new → AnyMayGive polled new y → AnyMayGive polled m y
+  any-passed m new i y = by_value (value_in m i) refl
     where
-      by_held : (o : Option F) → value_in old i ≡ o → MatchOption o (new ≡ old) (λ f. (left : F) × polled i f Pending left × (new ≡ with_value old i left)) → AnyMayGive polled old y
-      by_held None e same = subst (λ w. AnyMayGive polled w y) same any
-      by_held (Some f) e h = any-pending old i f h.0 y e h.1 (subst (λ w. AnyMayGive polled w y) h.2 any)
+      by_value : (o : Option F) → value_in m i ≡ o → MatchOption o (new ≡ m) (λ f. (left : F) × polled i f Pending left × (new ≡ with_value m i left)) → AnyMayGive polled new y → AnyMayGive polled m y
+      by_value None e h any = subst (λ w. AnyMayGive polled w y) h any
+      by_value (Some f) e h any = any-pending m i f h.0 y e h.1 (subst (λ w. AnyMayGive polled w y) h.2 any)
 
-  pub gives_ran : (names : List ℕ) (old new : Slots F) (y : A) → FoldsTo (Passes polled) old names new → AnyMayGive polled new y → AnyMayGive polled old y
-  gives_ran [] old new y same any = subst (λ w. AnyMayGive polled w y) (sym same) any
-  gives_ran (i ∷ names) old new y ran any = gives_passed old ran.0 i y ran.1 (gives_ran names ran.0 new y ran.2 any)
+  pub gives_passed : (names : List ℕ) (m left : Slots F) (y : A) → FoldsTo (Passes polled) m names left → AnyMayGive polled left y → AnyMayGive polled m y
+  gives_passed [] m left y passes any = subst (λ w. AnyMayGive polled w y) (sym passes) any
+  gives_passed (i ∷ names) m left y passes any = any-passed m passes.0 i y passes.1 (gives_passed names passes.0 left y passes.2 any)
 
-  -- the output was one that might be given
-  pub gives_out : (old new : Slots F) (i : ℕ) (x : A) → Yields polled old i x new → AnyMayGive polled old x
-  gives_out old new i x out = (i, out.value, out.was_held, ([], out.value, out.left, refl, out.was_ready))
+  -- an output was one that might be given
+  pub gives_output : (m new : Slots F) (i : ℕ) (x : A) → Yields polled m i x new → AnyMayGive polled m x
+  gives_output m new i x h = (i, h.value, h.held, ([], h.value, h.left, refl, h.gave))
 
-  -- what the others may give once its slot is empty might be given before
-  pub gives_others : (old new : Slots F) (i : ℕ) (x y : A) → Yields polled old i x new → AnyMayGive polled (with_slot_freed new i) y → AnyMayGive polled old y
-  gives_others old new i x y out any = others (subst (λ w. AnyMayGive polled (with_slot_freed w i) y) out.replaced any)
-    where
-      others : AnyMayGive polled (with_slot_freed (with_value old i out.left) i) y → AnyMayGive polled old y
-      others any =
-          elim (cases_eq any.0 i) [
-            | inl same ↦ absurd (None-Some (sym (value_in-with_slot_freed (with_value old i out.left) i) ∙ rw same at any.2))
-            | inr other ↦ (any.0, any.1, sym (get_or-set_other old.places i any.0 (Some out.left) None other) ∙ (sym (value_in-with_slot_freed_other (with_value old i out.left) i any.0 other) ∙ any.2), any.3)
-          ]
+  -- and so is what the others may give once its slot is empty
+  pub gives_others : (m new : Slots F) (i : ℕ) (x y : A) → Yields polled m i x new → AnyMayGive polled (with_slot_freed new i) y → AnyMayGive polled m y
+  gives_others m new i x y h any =
+      let freed = subst (λ w. AnyMayGive polled (with_slot_freed w i) y) h.now_holds any in
+      elim (cases_eq freed.0 i) [
+        | inl same ↦ absurd (None-Some (sym (value_in-with_slot_freed (with_value m i h.left) i) ∙ rw same at freed.2))
+        | inr other ↦ (freed.0, freed.1, sym (get_or-set_other m.places i freed.0 (Some h.left) None other) ∙ (sym (value_in-with_slot_freed_other (with_value m i h.left) i freed.0 other) ∙ freed.2), freed.3)
+      ]
 
 module _ {F A S : Type 0} (polled : ℕ → F → Poll A → F → Type 0) where
   -- one poll
@@ -86,7 +84,7 @@ module _ {F A S : Type 0} (polled : ℕ → F → Poll A → F → Type 0) where
   value_of registers takes old new (Ready None) h = record { each = tt; ends = sym h.0 }
   value_of registers takes old new (Ready (Some x)) h =
       let asks = h.1.2 in
-      record { each = tt; ends = (gives_ran polled asks.0 _ _ x asks.2.1.passed (gives_out polled _ _ _ x asks.2.2), h.0) }
+      record { each = tt; ends = (gives_passed polled asks.0 _ _ x asks.3.passes (gives_output polled _ _ _ x asks.4), h.0) }
   value_of registers takes old new Pending h = tt
 
   pub rest_of : (registers : S → S → Type 0) (takes : S → Taken → S → Type 0) (old new : Bounded F S) (answer : Poll (Option A)) → PollGives polled registers takes old answer new
@@ -94,9 +92,8 @@ module _ {F A S : Type 0} (polled : ℕ → F → Poll A → F → Type 0) where
   rest_of registers takes old new (Ready None) h fewer = tt
   rest_of registers takes old new (Ready (Some x)) h fewer =
       let asks = h.1.2 in
-      Gathers-After {A = A} {P = AnyMayGive polled old.slots} {Q = AnyMayGive polled new.slots}
-      (λ (y : A) (any : AnyMayGive polled new.slots y). gives_ran polled asks.0 _ _ y asks.2.1.passed (gives_others polled _ _ _ x y asks.2.2 (subst (λ (b : Bounded F S). AnyMayGive polled b.slots y) h.1.3 any)))
-      _ _ x fewer (gives_ran polled asks.0 _ _ x asks.2.1.passed (gives_out polled _ _ _ x asks.2.2))
+      let passed = λ (y : A). gives_passed polled asks.0 old.slots asks.2 y asks.3.passes in
+      Gathers-After {A = A} {P = AnyMayGive polled old.slots} {Q = AnyMayGive polled new.slots} (λ (y : A) (any : AnyMayGive polled new.slots y). passed y (gives_others polled _ _ _ x y asks.4 (subst (λ (b : Bounded F S). AnyMayGive polled b.slots y) h.1.3 any))) _ _ x fewer (passed x (gives_output polled _ _ _ x asks.4))
   rest_of registers takes old new Pending h fewer = tt
 
   pub same_of : (registers : S → S → Type 0) (takes : S → Taken → S → Type 0) (old new : Bounded F S) (answer : Poll (Option A)) → PollGives polled registers takes old answer new
@@ -104,4 +101,4 @@ module _ {F A S : Type 0} (polled : ℕ → F → Poll A → F → Type 0) where
   same_of registers takes old new (Ready o) h same = tt
   same_of registers takes old new Pending h same =
       let asks = h.1 in
-      Gathers-Within {A = A} {P = AnyMayGive polled old.slots} {Q = AnyMayGive polled new.slots} (λ (y : A) (any : AnyMayGive polled new.slots y). gives_ran polled asks.0 _ _ y asks.3.passed any) _ _ same
+      Gathers-Within {A = A} {P = AnyMayGive polled old.slots} {Q = AnyMayGive polled new.slots} (λ (y : A) (any : AnyMayGive polled new.slots y). gives_passed polled asks.0 _ _ y asks.3.passes any) _ _ same

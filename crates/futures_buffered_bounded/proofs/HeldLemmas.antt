@@ -7,11 +7,11 @@ use Rattle.std.proofs.lemmas.List.Sums.{sum_by-set}
 use Rattle.std.proofs.lemmas.Bool.{cases_eq, cases_lt}
 use Rattle.futures.specs.declared.task.Poll.{Poll}
 use Rattle.futures.specs.declared.task.Poll.TheVariants.{Ready, Pending}
-use Rattle.futures_buffered_core.specs.SlotMap.{Slots, value_in, held_count, no_slots, with_value, Inserts}
+use Rattle.futures_buffered_core.specs.SlotMap.{Slots, Inserts, value_in, held_count, no_slots, with_value}
 use Rattle.futures_buffered_table.specs.declared.answer.Taken.{Taken}
 use Rattle.futures_buffered_table.specs.declared.answer.Taken.TheVariants.{Slot, Empty, Pause}
 use Rattle.futures_buffered_bounded.specs.Held.{AllHeld, EndsWith, Passes}
-use Rattle.futures_buffered_bounded.specs.FuturesUnorderedBounded.{Bounded, Asks, AsksUntil}
+use Rattle.futures_buffered_bounded.specs.FuturesUnorderedBounded.{Bounded, Asks, EndsWaiting, AsksUntil}
 
 module _ {F A : Type 0} (polled : ℕ → F → Poll A → F → Type 0) where
   pub passes_free : (m : Slots F) (i : ℕ) → value_in m i ≡ None → Passes polled m i m
@@ -37,6 +37,10 @@ AllHeld-with {F} P m i f all here q =
       | inr other ↦ rw (get_or-set_other m.places i q (Some f) None other) (all q)
     ]
 
+-- what holds of each value, and of the one that was put in, holds of each value after
+pub AllHeld-push : {F : Type 0} (P : F → Type 0) (old : Slots F) (i : ℕ) (value : F) (new : Slots F) → Inserts old i value new → AllHeld P old → P value → AllHeld P new
+AllHeld-push {F} P old i value new inserts all here q = rw inserts.now_held (AllHeld-with P old i value all here q)
+
 module _ {F A S : Type 0} (can_poll : F → Type 0) (polled : ℕ → F → Poll A → F → Type 0) (registers : S → S → Type 0) (takes : S → Taken → S → Type 0) where
   -- so many names came, and each value that was polled is pending
   pub record SoFar (old : Bounded F S) (count : ℕ) (slots : Slots F) (source : S) : Type 0 where
@@ -45,41 +49,45 @@ module _ {F A S : Type 0} (can_poll : F → Type 0) (polled : ℕ → F → Poll
     pub registers_first : registers old.source registered
     pub counted : length names ≡ count
     pub answers : FoldsTo takes registered (map Slot names) source
-    pub passed : FoldsTo (Passes polled) old.slots names slots
+    pub passes : FoldsTo (Passes polled) old.slots names slots
     pub pollable : AllHeld can_poll slots
 
   pub SoFar-none : (old : Bounded F S) (source : S) → registers old.source source → AllHeld can_poll old.slots → SoFar old 0 old.slots source
   SoFar-none old source first all =
-      record { names = []; registered = source; registers_first = first; counted = refl; answers = refl; passed = refl; pollable = all }
+      record { names = []; registered = source; registers_first = first; counted = refl; answers = refl; passes = refl; pollable = all }
 
-  -- one more name that is passed over
-  pub SoFar-pass : (old : Bounded F S) (count i : ℕ) (slots now : Slots F) (source left : S) → SoFar old count slots source → takes source (Slot i) left → Passes polled slots i now → AllHeld can_poll now → SoFar old (count + 1) now left
-  SoFar-pass old count i slots now source left so taken passes pollable =
+  pub SoFar-skip : (old : Bounded F S) (count i : ℕ) (slots : Slots F) (source left : S) → SoFar old count slots source → takes source (Slot i) left → value_in slots i ≡ None → SoFar old (count + 1) slots left
+  SoFar-skip old count i slots source left so taken e =
       record {
         names = so.names ++ i ∷ [];
         registered = so.registered;
         registers_first = so.registers_first;
         counted = omega (arith, length_push so.names i, so.counted);
         answers = rw (map_push Slot so.names i) (FoldsTo-push takes so.registered (map Slot so.names) source (Slot i) left so.answers taken);
-        passed = FoldsTo-push (Passes polled) old.slots so.names slots i now so.passed passes;
-        pollable = pollable;
+        passes = FoldsTo-push (Passes polled) old.slots so.names slots i slots so.passes (passes_free polled slots i e);
+        pollable = so.pollable;
       }
-
-  pub SoFar-skip : (old : Bounded F S) (count i : ℕ) (slots : Slots F) (source left : S) → SoFar old count slots source → takes source (Slot i) left → value_in slots i ≡ None → SoFar old (count + 1) slots left
-  SoFar-skip old count i slots source left so taken e = SoFar-pass old count i slots slots source left so taken (passes_free polled slots i e) so.pollable
 
   pub SoFar-pending : (old : Bounded F S) (count i : ℕ) (slots : Slots F) (source left : S) (f f2 : F) → SoFar old count slots source → takes source (Slot i) left → value_in slots i ≡ Some f → polled i f Pending f2 → can_poll f2 → SoFar old (count + 1) (with_value slots i f2) left
   SoFar-pending old count i slots source left f f2 so taken e h again =
-      SoFar-pass old count i slots (with_value slots i f2) source left so taken (passes_pending polled slots i f f2 e h) (AllHeld-with can_poll slots i f2 so.pollable again)
+      record {
+        names = so.names ++ i ∷ [];
+        registered = so.registered;
+        registers_first = so.registers_first;
+        counted = omega (arith, length_push so.names i, so.counted);
+        answers = rw (map_push Slot so.names i) (FoldsTo-push takes so.registered (map Slot so.names) source (Slot i) left so.answers taken);
+        passes = FoldsTo-push (Passes polled) old.slots so.names slots i (with_value slots i f2) so.passes (passes_pending polled slots i f f2 e h);
+        pollable = AllHeld-with can_poll slots i f2 so.pollable again;
+      }
 
-  -- what was asked so far, and one answer more
-  pub asks_last : (old : Bounded F S) (count : ℕ) (slots : Slots F) (source left : S) (last : Taken) (so : SoFar old count slots source) → takes source last left → Asks polled registers takes old so.names (Some last) slots left
-  asks_last old count slots source left last so taken =
+  -- one more answer
+  asked : (old : Bounded F S) (count : ℕ) (last : Taken) (slots : Slots F) (source left : S) (so : SoFar old count slots source) → takes source last left → Asks polled registers takes old so.names (Some last) slots left
+  asked old count last slots source left so taken =
       record {
         registered = so.registered;
         registers_first = so.registers_first;
         answers = FoldsTo-push takes so.registered (map Slot so.names) source last left so.answers taken;
-        passed = so.passed;
+        passes = so.passes;
       }
 
   pub ready_after : (old : Bounded F S) (count limit i : ℕ) (slots : Slots F) (source left : S) (f f2 : F) (x : A) → SoFar old count slots source → limit ≡ old.limit → count < old.limit → takes source (Slot i) left → value_in slots i ≡ Some f → polled i f (Ready x) f2
@@ -87,18 +95,20 @@ module _ {F A S : Type 0} (can_poll : F → Type 0) (polled : ℕ → F → Poll
   ready_after old count limit i slots source left f f2 x so same below taken e h = (
     so.names,
     omega (arith, so.counted),
-    (slots, asks_last old count slots source left (Slot i) so taken, record { value = f; left = f2; was_held = e; was_ready = h; replaced = refl }, same),
+    slots,
+    asked old count (Slot i) slots source left so taken,
+    record { value = f; held = e; left = f2; gave = h; now_holds = refl },
+    same,
   )
 
   pub ended_after : (old : Bounded F S) (count limit : ℕ) (slots : Slots F) (source left : S) (last : Taken) → SoFar old count slots source → limit ≡ old.limit → count < old.limit → takes source last left → (last ≡ Empty) ⊎ (last ≡ Pause)
       → AsksUntil polled registers takes old Pending (record { slots = slots; source = left; limit = limit })
   ended_after old count limit slots source left last so same below taken which =
-      (so.names, Some last, (omega (arith, so.counted), which), asks_last old count slots source left last so taken, same)
-
--- what holds of all values and of the one that a push puts in holds of all after it
-pub AllHeld-push : {F : Type 0} (P : F → Type 0) (old new : Slots F) (i : ℕ) (value : F) → AllHeld P old → P value → Inserts old i value new → AllHeld P new
-AllHeld-push {F} P old new i value all here pushed q =
-    rw pushed.now_held (AllHeld-with P old i value all here q)
+      (so.names, Some last, ending which, asked old count last slots source left so taken, same)
+    where
+      ending : (last ≡ Empty) ⊎ (last ≡ Pause) → EndsWaiting old.limit so.names (Some last)
+      ending (inl e) = rw e (omega (arith, so.counted))
+      ending (inr e) = rw e (omega (arith, so.counted))
 
 -- a slot that held a value holds the one put there
 pub value_in-with_value : {F : Type 0} (m : Slots F) (i : ℕ) (f g : F) → Some f ≡ value_in m i → value_in (with_value m i g) i ≡ Some g

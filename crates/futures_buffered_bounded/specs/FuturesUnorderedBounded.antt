@@ -1,6 +1,7 @@
 -- What a contract sees of a bounded set, and what its calls make of it.
-use Rattle.std.specs.Prelude.{◌≡◌, ℕ, ◌<◌, List, [], ◌∷◌, ◌++◌, map, length, Option, Some, None, ◌⊎◌, refl}
+use Rattle.std.specs.Prelude.{◌≡◌, ℕ, ◌<◌, List, ◌++◌, map, length, Option, Some, None, refl}
 use Rattle.std.specs.List.{FoldsTo, range_with_len}
+use Rattle.std.specs.Option.{option_to_list}
 use Rattle.std.specs.Coded.{Coded, code_by, coded×, coded_ℕ}
 use Rattle.futures.specs.Task.{Hears}
 use Rattle.futures.specs.declared.task.context.Context.{Context}
@@ -74,16 +75,12 @@ abbrev pub Pushes : {F S : Type 0}
     → (S → ℕ → Woke → S → Type 0) → Bounded F S → F → Bounded F S → Type 0
 Pushes marks old value new = (i : ℕ) × PushesAt marks old i value new
 
--- A poll may end waiting for two reasons. Fewer names came than the limit, and then Empty or Pause;
--- or as many came, and nothing more was asked.
+-- fewer names than the limit came, and then Empty or Pause; or as many as the limit, and nothing more was asked
 abbrev pub EndsWaiting : ℕ → List ℕ → Option Taken → Type 0
-EndsWaiting limit names (Some last) = (length names < limit) × ((last ≡ Empty) ⊎ (last ≡ Pause))
+EndsWaiting limit names (Some Empty) = length names < limit
+EndsWaiting limit names (Some Pause) = length names < limit
+EndsWaiting limit names (Some (Slot i)) = ⊥
 EndsWaiting limit names None = length names ≡ limit
-
--- these names, and then the last answer, where there is one
-abbrev pub names_then : List ℕ → Option Taken → List Taken
-names_then names (Some last) = map Slot names ++ last ∷ []
-names_then names None = map Slot names
 
 -- the last answer of a source with this content was Empty
 abbrev pub SaidEmpty : {S : Type 0} → (S → Taken → S → Type 0) → S → Type 0
@@ -99,8 +96,7 @@ module _
     (registers : S → S → Type 0)
     (takes : S → Taken → S → Type 0)
   where
-    -- The task was registered. Then the source gave these names, in order, and the last answer;
-    -- the names passed over took the slots to these.
+    -- The task was registered first. The source then gave these names, in order, and one last answer where there was one. The slots named were passed, in order, which took what the slots hold to this.
     pub record Asks
         (old : Bounded F S)
         (names : List ℕ)
@@ -110,25 +106,24 @@ module _
         : Type 0 where
       pub registered : S
       pub registers_first : registers old.source registered
-      pub answers : FoldsTo takes registered (names_then names last) source
-      pub passed : FoldsTo (Passes polled) old.slots names slots
+      pub answers : FoldsTo takes registered (map Slot names ++ option_to_list last) source
+      pub passes : FoldsTo (Passes polled) old.slots names slots
 
-    -- One count of names. It goes on until an output comes, which is given with its slot,
-    -- or until the asking ends without one. The limit stays.
+    -- one count of names: until one more name gave an output, which is given with its slot, or until the asking ended without one
     abbrev pub AsksUntil : Bounded F S → Poll (ℕ × A) → Bounded F S → Type 0
     AsksUntil old (Ready (i, x)) new = (names : List ℕ)
         × (length names < old.limit)
-        × ((passed : Slots F) × Asks old names (Some (Slot i)) passed new.source
-        × Yields polled passed i x new.slots × (new.limit ≡ old.limit))
+        × (slots : Slots F)
+        × Asks old names (Some (Slot i)) slots new.source
+        × Yields polled slots i x new.slots
+        × (new.limit ≡ old.limit)
     AsksUntil old Pending new = (names : List ℕ)
         × (last : Option Taken)
         × EndsWaiting old.limit names last
         × Asks old names last new.slots new.source
         × (new.limit ≡ old.limit)
 
-    -- One poll. It gives the end exactly where nothing is held, and then nothing changes;
-    -- or the output of the last name, whose slot is emptied;
-    -- or Pending, where the asking ended without an output.
+    -- one poll: the end exactly where nothing is held, and then nothing changes; the output of the last name, whose slot is emptied; or Pending, where the asking ended without an output
     abbrev pub PollGives : Bounded F S → Poll (Option A) → Bounded F S → Type 0
     PollGives old (Ready None) new = (held_count old.slots ≡ 0) × (new ≡ old)
     PollGives old (Ready (Some x)) new = (0 < held_count old.slots)

@@ -2,6 +2,8 @@
 #![tactic(auto)]
 
 #[cfg(test)]
+mod core_source;
+#[cfg(test)]
 mod outer;
 #[cfg(test)]
 mod ready_core;
