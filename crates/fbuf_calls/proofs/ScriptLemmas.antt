@@ -76,8 +76,8 @@ module _ (bytes rest : List ℕ) (object : Object) (first now : Option (List ℕ
     Appends-trans first now later so.sent text so.appended appends,
   )
 
-  pub replies_in_part : (count : ℕ) (later : Option (List ℕ)) → Appends now later (take count text) → WritesBeginning bytes first later
-  replies_in_part count later appends =
+  pub replies_in_part : (count : ℕ) (later : Option (List ℕ)) (written : List ℕ) → written ≡ text → Appends now later (take count written) → WritesBeginning bytes first later
+  replies_in_part count later written is appends =
       record {
         before = so.done;
         after = lines_of rest;
@@ -85,7 +85,7 @@ module _ (bytes rest : List ℕ) (object : Object) (first now : Option (List ℕ
         text = so.sent ++ text;
         replied = replied;
         count = length so.sent + count;
-        appended = rw (take-append-add so.sent text count) (Appends-trans first now later so.sent (take count text) so.appended appends);
+        appended = rw (take-append-add so.sent text count) (Appends-trans first now later so.sent (take count text) so.appended (rw is at appends));
       }
 
 -- one more write of the rest of a text

@@ -13,15 +13,19 @@ use fbuf_lines::object::Object;
 use futures::task::Context;
 use std::alloc::{AllocError, Global};
 use std::io::{Read, Write};
+use thiserror::Error;
 
 /// Why a script was not answered to its end.
-#[derive(Clone, Copy, Debug, PartialEq, Eq)]
+#[derive(Clone, Copy, Debug, PartialEq, Eq, Error)]
 pub enum ScriptFault {
     /// A read failed: nothing was written.
+    #[error("read failed")]
     Read,
     /// A write failed or took nothing: a beginning of the replies was written.
+    #[error("write failed")]
     Write,
     /// Memory was refused: the replies to the lines before were written, or nothing if the reading lacked it.
+    #[error("out of memory")]
     Memory,
 }
 

@@ -22,6 +22,7 @@ use std::sync::atomic::Ordering::SeqCst;
 use std::sync::{Arc, Mutex, Wait};
 use std::thread::{JoinHandle, Threads};
 use std::{io, thread};
+use thiserror::Error;
 
 /// How many threads a run has at most.
 pub const MAX_THREADS: usize = 32;
@@ -30,11 +31,16 @@ pub const MAX_THREADS: usize = 32;
 pub const MAX_WAKES: usize = 1000000;
 
 /// Why a run printed nothing, or not all of its line.
-#[derive(Clone, Copy, Debug, PartialEq, Eq)]
+#[derive(Clone, Copy, Debug, PartialEq, Eq, Error)]
 pub enum ThreadsFault {
+    /// Memory was refused: nothing was written.
+    #[error("out of memory")]
     Memory,
-    /// A thread, or the run itself, could not be started.
+    /// A thread, or the run itself, could not be started: nothing was written.
+    #[error("thread failed")]
     Thread,
+    /// A write failed: a beginning of the line was written.
+    #[error("write failed")]
     Write,
 }
 

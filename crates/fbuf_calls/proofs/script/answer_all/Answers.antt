@@ -10,7 +10,7 @@ pub returns-in_err-write_all-clause-write : goal.returns-in_err-write_all-clause
 returns-in_err-write_all-clause-write g c = λ is.
     let fault = c.in_err-write_all.ensures.fault in
     let text = c.deref.ensures.value ∙ c.in_default-append_reply.ensures.err in
-    (fault.1, replies_in_part c.args.bytes.now _ _ _ _ _ c.loop-line.invariant.so_far fault.2.0 _ (rw text at fault.2.1))
+    (fault.1, replies_in_part c.args.bytes.now _ _ _ _ _ c.loop-line.invariant.so_far fault.2.0 _ _ text fault.2.1)
 
 pub returns-in_default-append_reply-clause-memory : goal.returns-in_default-append_reply-clause-memory
 returns-in_default-append_reply-clause-memory g c = λ is.
@@ -22,7 +22,7 @@ returns-in_err-write_all-2-clause-write g c = λ is.
     let fault = c.in_err-write_all-2.ensures.fault in
     let given = c.in-Ok.ensures.ok in
     let so = RepliesSoFar-line c.args.bytes.now _ _ _ _ _ c.loop-line.invariant.so_far c.in-Some.line.now c.in-Some.after.now given.0 _ _ c.in-Some.ensures.first given.1 given.2 in
-    (fault.1, replies_in_part c.args.bytes.now _ _ _ _ _ so fault.2.0 _ (rw c.deref-then-len-ge-WRITE_SIZE.ensures.value at fault.2.1))
+    (fault.1, replies_in_part c.args.bytes.now _ _ _ _ _ so fault.2.0 _ _ c.deref-then-len-ge-WRITE_SIZE.ensures.value fault.2.1)
 
 pub loop-line-preserved-in_ok-write_all-2 : goal.loop-line-preserved-in_ok-write_all-2
 loop-line-preserved-in_ok-write_all-2 g c =
@@ -48,4 +48,4 @@ returns-clause-ok g c =
 pub returns-clause-write : goal.returns-clause-write
 returns-clause-write g c = λ is.
     let fault = IfErr-at_err _ is c.write_all-2.ensures.fault in
-    (fault.1, replies_in_part c.args.bytes.now _ _ _ _ _ c.loop-line.invariant.so_far fault.2.0 _ (rw c.deref-2.ensures.value at fault.2.1))
+    (fault.1, replies_in_part c.args.bytes.now _ _ _ _ _ c.loop-line.invariant.so_far fault.2.0 _ _ c.deref-2.ensures.value fault.2.1)
