@@ -1,4 +1,4 @@
--- The replies to a script, line by line.
+-- The replies to a script, line by line, and how much of them a writer was given.
 use Rattle.std.specs.Prelude.{◌≡◌, ℕ, List, [], ◌∷◌, ◌++◌, Option, take}
 use Rattle.std.specs.List.{flat_map}
 use Rattle.std.specs.Io.KnownBytes.{Appends}
@@ -12,7 +12,8 @@ use Rattle.fbuf_lines.specs.declared.object.Object.TheVariants.{Nothing}
 -- one reply for each line, each to what the lines before it left
 abbrev pub LinesGive : Object → List (List ℕ) → List Reply → Object → Type 0
 LinesGive old [] [] new = new ≡ old
-LinesGive old (line ∷ lines) (reply ∷ replies) new = (between : Object) × LineGives old line reply between × LinesGive between lines replies new
+LinesGive old (line ∷ lines) (reply ∷ replies) new =
+    (between : Object) × LineGives old line reply between × LinesGive between lines replies new
 LinesGive old [] (reply ∷ replies) new = ⊥
 LinesGive old (line ∷ lines) [] new = ⊥
 
@@ -23,20 +24,24 @@ pub record IsReplyTo (lines : List (List ℕ)) (text : List ℕ) : Type 0 where
   pub given : LinesGive Nothing lines replies last
   pub written : text ≡ flat_map reply_line replies
 
--- the reply text of a script
-abbrev pub IsReplyText : List ℕ → List ℕ → Type 0
-IsReplyText bytes text = IsReplyTo (lines_of bytes) text
+-- the replies to all lines of a script were appended
+pub record AppendsReplies (bytes : List ℕ) (old new : Option (List ℕ)) : Type 0 where
+  pub text : List ℕ
+  pub replied : IsReplyTo (lines_of bytes) text
+  pub appended : Appends old new text
 
--- the replies to some lines from the first on, but not to all
-pub record IsCutShort (bytes text : List ℕ) : Type 0 where
+-- the replies to some lines from the first on were appended, but not to all
+pub record AppendsFirstReplies (bytes : List ℕ) (old new : Option (List ℕ)) : Type 0 where
   pub before : List (List ℕ)
   pub line : List ℕ
   pub after : List (List ℕ)
   pub lines : lines_of bytes ≡ before ++ line ∷ after
+  pub text : List ℕ
   pub replied : IsReplyTo before text
+  pub appended : Appends old new text
 
--- some bytes of the replies, from the first on, were written
-pub record WritesBeginning (bytes : List ℕ) (old new : Option (List ℕ)) : Type 0 where
+-- some bytes of the replies to some lines were appended, each from the first on
+pub record AppendsPartOfReplies (bytes : List ℕ) (old new : Option (List ℕ)) : Type 0 where
   pub before : List (List ℕ)
   pub after : List (List ℕ)
   pub lines : lines_of bytes ≡ before ++ after

@@ -1,8 +1,9 @@
 //! A whole script: its bytes are read to the end, and a line is written for each of its lines.
-ghost use Rattle.std.specs.Prelude.{◌≡◌, ◌≢◌, ◌++◌, ◌⊎◌, ℕ, List, true, take, IfOk, IfErr, OnOk, OnErr, IfSome};
+ghost use Rattle.std.specs.Prelude.{◌≡◌, ◌≢◌, ◌++◌, ◌⊎◌, ℕ, true, take};
+ghost use Rattle.std.specs.Prelude.{IfOk, IfErr, OnOk, OnErr, IfSome};
 ghost use Rattle.std.specs.Io.KnownBytes.{Appends};
 ghost use Rattle.futures.specs.Task.{Keeps};
-ghost use Rattle.fbuf_calls.specs.Script.{IsReplyText, IsCutShort, WritesBeginning};
+ghost use Rattle.fbuf_calls.specs.Script.{AppendsReplies, AppendsFirstReplies, AppendsPartOfReplies};
 ghost use Rattle.fbuf_lines.specs.Object.{LineGives};
 ghost use Rattle.fbuf_lines.specs.Reply.{reply_line};
 ghost use Rattle.fbuf_lines.specs.declared.reply.Reply.{Reply};
@@ -24,7 +25,8 @@ pub enum ScriptFault {
     /// A write failed or took nothing: a beginning of the replies was written.
     #[error("write failed")]
     Write,
-    /// Memory was refused: the replies to the lines before were written, or nothing if the reading lacked it.
+    /// Memory was refused: the replies to the lines before were written, or nothing if the reading
+    /// lacked it.
     #[error("out of memory")]
     Memory,
 }
@@ -37,24 +39,29 @@ const WRITE_SIZE: usize = 8192;
 
 /// Answers a script: reads it to the end, and writes one line for each of its lines.
 ///
-/// `cx` is the poll of a task in which the futures are polled; they leave no waker there. The error of a read or a
-/// write ends the script, of whatever kind it is. Takes time and memory in the size of the input, and what the
-/// objects that it begins hold.
+/// `cx` is the poll of a task in which the futures are polled; they leave no waker there. The error
+/// of a read or a write ends the script, of whatever kind it is, and no call is made again.
+///
+/// It keeps the whole input in memory, replies until they are 8192 bytes, and what the object begun
+/// last holds. The time is that of the input's bytes and of the objects' calls. It does not flush.
 pub fn script<R: Read + Drop, W: Write + Drop>(
     alloc: Global,
     cx: &mut Context<'_>,
     input: &mut Watched<R>,
     output: &mut Watched<W>,
 ) -> Result<(), ScriptFault>
-    ensures ok { OnOk result (IfSome (R.remaining input.old.inner)
-        (λ bytes. (text : List ℕ) × IsReplyText bytes text
-        × Appends (W.contents output.old.inner) (W.contents output.new.inner) text)) }
-    ensures read { result ≡ Err ScriptFault.Read → (output.new ≡ output.old) × (input.new.failed ≡ true) }
-    ensures write { result ≡ Err ScriptFault.Write → (output.new.failed ≡ true) × IfSome (R.remaining input.old.inner)
-        (λ bytes. WritesBeginning bytes (W.contents output.old.inner) (W.contents output.new.inner)) }
-    ensures memory { result ≡ Err ScriptFault.Memory → (output.new ≡ output.old) ⊎ IfSome (R.remaining input.old.inner)
-        (λ bytes. (text : List ℕ) × IsCutShort bytes text
-        × Appends (W.contents output.old.inner) (W.contents output.new.inner) text) }
+    ensures ok { OnOk result (IfSome (R.remaining input.old.inner) (λ bytes.
+        AppendsReplies bytes (W.contents output.old.inner) (W.contents output.new.inner))) }
+    ensures unfailed { OnOk result ((input.new.failed ≡ input.old.failed)
+        × (output.new.failed ≡ output.old.failed)) }
+    ensures read { result ≡ Err ScriptFault.Read →
+        (output.new ≡ output.old) × (input.new.failed ≡ true) }
+    ensures write { result ≡ Err ScriptFault.Write → (output.new.failed ≡ true)
+        × IfSome (R.remaining input.old.inner) (λ bytes.
+        AppendsPartOfReplies bytes (W.contents output.old.inner) (W.contents output.new.inner)) }
+    ensures memory { result ≡ Err ScriptFault.Memory → (output.new ≡ output.old)
+        ⊎ IfSome (R.remaining input.old.inner) (λ bytes.
+        AppendsFirstReplies bytes (W.contents output.old.inner) (W.contents output.new.inner)) }
     ensures kept { Keeps cx.old cx.new }
 {
     let bytes = read_to_end(alloc, input)?;
@@ -65,8 +72,11 @@ fn read_to_end<R: Read + Drop>(
     alloc: Global,
     input: &mut Watched<R>,
 ) -> Result<Vec<u8>, ScriptFault>
-    ensures ok { IfOk result (λ bytes. IfSome (R.remaining input.old.inner) (λ known. bytes.items ≡ known)) }
-    ensures fault { IfErr result (λ fault. ((fault ≡ ScriptFault.Read) × (input.new.failed ≡ true)) ⊎ (fault ≡ ScriptFault.Memory)) }
+    ensures ok { IfOk result (λ bytes.
+        IfSome (R.remaining input.old.inner) (λ known. bytes.items ≡ known)) }
+    ensures unfailed { OnOk result (input.new.failed ≡ input.old.failed) }
+    ensures fault { IfErr result (λ fault.
+        ((fault ≡ ScriptFault.Read) × (input.new.failed ≡ true)) ⊎ (fault ≡ ScriptFault.Memory)) }
 {
     let mut bytes = Vec::new(alloc);
     let mut chunk = [0; READ_SIZE];
@@ -90,12 +100,13 @@ fn answer_all<W: Write + Drop>(
     bytes: &[u8],
     output: &mut Watched<W>,
 ) -> Result<(), ScriptFault>
-    ensures ok { OnOk result ((text : List ℕ) × IsReplyText bytes.now text
-        × Appends (W.contents output.old.inner) (W.contents output.new.inner) text) }
+    ensures ok { OnOk result
+        (AppendsReplies bytes.now (W.contents output.old.inner) (W.contents output.new.inner)) }
+    ensures unfailed { OnOk result (output.new.failed ≡ output.old.failed) }
     ensures write { result ≡ Err ScriptFault.Write → (output.new.failed ≡ true)
-        × WritesBeginning bytes.now (W.contents output.old.inner) (W.contents output.new.inner) }
-    ensures memory { result ≡ Err ScriptFault.Memory → (text : List ℕ) × IsCutShort bytes.now text
-        × Appends (W.contents output.old.inner) (W.contents output.new.inner) text }
+        × AppendsPartOfReplies bytes.now (W.contents output.old.inner) (W.contents output.new.inner) }
+    ensures memory { result ≡ Err ScriptFault.Memory →
+        AppendsFirstReplies bytes.now (W.contents output.old.inner) (W.contents output.new.inner) }
     ensures read { result ≢ Err ScriptFault.Read }
     ensures kept { Keeps cx.old cx.new }
 {
@@ -134,16 +145,23 @@ fn append_reply(
 }
 
 fn write_all<W: Write + Drop>(output: &mut Watched<W>, text: &[u8]) -> Result<(), ScriptFault>
-    ensures ok { OnOk result (Appends (W.contents output.old.inner) (W.contents output.new.inner) text.now) }
-    ensures fault { IfErr result (λ fault. (fault ≡ ScriptFault.Write) × (output.new.failed ≡ true) × ((count : ℕ)
-        × Appends (W.contents output.old.inner) (W.contents output.new.inner) (take count text.now))) }
+    ensures ok { OnOk result
+        (Appends (W.contents output.old.inner) (W.contents output.new.inner) text.now) }
+    ensures unfailed { OnOk result (output.new.failed ≡ output.old.failed) }
+    ensures fault { IfErr result (λ fault. (fault ≡ ScriptFault.Write)
+        × (output.new.failed ≡ true)
+        × ((count : ℕ) × Appends (W.contents output.old.inner) (W.contents output.new.inner)
+        (take count text.now))) }
 {
     let mut rest = text;
     while !rest.is_empty() {
-        match output.write(rest) {
-            Ok(0) | Err(_) => return Err(ScriptFault::Write),
-            Ok(count) => rest = &rest[count..],
+        let Ok(count) = output.write(rest) else {
+            return Err(ScriptFault::Write);
+        };
+        if count == 0 {
+            return Err(ScriptFault::Write);
         }
+        rest = &rest[count..];
     }
     Ok(())
 }

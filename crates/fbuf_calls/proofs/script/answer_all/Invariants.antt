@@ -1,4 +1,4 @@
-use Rattle.std.proofs.Common.{length}
+use Rattle.std.proofs.Common.{◌≡◌, length}
 use Rattle.futures.specs.Task.{Keeps}
 use Rattle.fbuf_calls.proofs.ScriptLemmas.{RepliesSoFar}
 use Rattle.fbuf_calls.proofs.script.answer_all.Given as goal
@@ -6,7 +6,9 @@ use Rattle.fbuf_calls.proofs.script.answer_all.Given as goal
 abbrev pub invariant-loop-line : goal.invariant-loop-line
 invariant-loop-line g l =
     record {
-      so_far : RepliesSoFar l.bytes l.rest l.object (g.W.Write.contents l.fn.output.inner) (g.W.Write.contents l.output.inner) l.replies.items;
+      so_far : RepliesSoFar l.bytes l.rest l.object (g.W.Write.contents l.fn.output.inner)
+          (g.W.Write.contents l.output.inner) l.replies.items;
+      unfailed : l.output.failed ≡ l.fn.output.failed;
       kept : Keeps l.fn.cx l.cx;
     }
 
