@@ -1,5 +1,5 @@
 -- A word, and what stands behind it, come from their text in one way; and the numbers of a command.
-use Rattle.std.proofs.Common.{◌≡◌, ◌≢◌, ℕ, zero, suc, ◌^◌, ◌<◌, ◌≤◌, true, false, Bool, ◌||◌, eqb, List, [], ◌∷◌, ◌++◌, length, take, get_or, Option, Some, None, IfSome, IfNone, is_some, codes, Result, Ok, Err, MatchResult, rules, refl, sym, ap, arith, inl, inr, true≢false, ◌∙◌}
+use Rattle.std.proofs.Common.{◌≡◌, ◌≢◌, ℕ, zero, suc, ◌^◌, ◌<◌, ◌≤◌, true, false, Bool, eqb, List, [], ◌∷◌, ◌++◌, length, take, get_or, Option, Some, None, IfSome, IfNone, is_some, codes, Result, Ok, Err, MatchResult, rules, refl, sym, ap, arith, inl, inr, true≢false, ◌∙◌}
 use lib.Pointwise.{pointwise}
 use Rattle.std.specs.Borrow.{Bor}
 use Rattle.std.specs.Result.{result_ok}

@@ -1,5 +1,5 @@
 -- What a line of a script is answered, and what it leaves of the object that was begun last.
-use Rattle.std.specs.Prelude.{◌≡◌, ℕ, ◌<◌, ◌≤◌, List, [], Option, Some, None, MatchOption, ◌⊎◌}
+use Rattle.std.specs.Prelude.{◌≡◌, ℕ, ◌<◌, ◌≤◌, List, [], Option, MatchOption, ◌⊎◌}
 use Rattle.futures.specs.declared.task.Poll.{Poll as PollAnswer}
 use Rattle.futures_buffered_table.specs.declared.answer.Woke.{Woke}
 use Rattle.futures_buffered_table.specs.declared.answer.TheConstants.{MAX_CAPACITY}
@@ -10,15 +10,19 @@ use Rattle.futures_buffered_table.specs.Machine.{Machine, IsNew, May, Steps as M
 use Rattle.futures_buffered_core.specs.ReadyCore.{Standing, Marks, Takes}
 use Rattle.futures_buffered_core.specs.SlotMap.{no_slots, slot_count, held_count}
 use Rattle.futures_buffered_bounded.specs.FuturesUnorderedBounded.{Bounded, Pushes, PollGives}
-use Rattle.futures_buffered_bounded.specs.declared.futures_unordered_bounded.TheConstants.{POLL_LIMIT}
+use Rattle.futures_buffered_bounded.specs.declared.futures_unordered_bounded.TheConstants.{
+  POLL_LIMIT,
+}
 use Rattle.fbuf_lines.specs.Timed.{PollsTimed}
 use Rattle.fbuf_lines.specs.Command.{LineAsksFor}
 use Rattle.fbuf_lines.specs.Reply.{woke_reply, poll_reply, step_reply}
 use Rattle.fbuf_lines.specs.declared.timed.Timed.{Timed}
 use Rattle.fbuf_lines.specs.declared.command.Command.{Command}
-use Rattle.fbuf_lines.specs.declared.command.Command.TheVariants.{Unordered, Steps, Push, Wake, Poll, Len, Mark, Go, Step}
+use Rattle.fbuf_lines.specs.declared.command.Command.TheVariants.{Unordered, Steps, Push, Wake}
+use Rattle.fbuf_lines.specs.declared.command.Command.TheVariants.{Poll, Len, Mark, Go, Step}
 use Rattle.fbuf_lines.specs.declared.reply.Reply.{Reply}
-use Rattle.fbuf_lines.specs.declared.reply.Reply.TheVariants.{Done, Full, TooLarge, Count, Stuck, Bad}
+use Rattle.fbuf_lines.specs.declared.reply.Reply.TheVariants.{Done, Full, TooLarge, Count}
+use Rattle.fbuf_lines.specs.declared.reply.Reply.TheVariants.{Stuck, Bad}
 use Rattle.fbuf_lines.specs.declared.object.Object.{Object}
 use Rattle.fbuf_lines.specs.declared.object.Object.TheVariants as object
 
@@ -40,7 +44,8 @@ abbrev pub PollsSet : TimedBounded → PollAnswer (Option ℕ) → TimedBounded 
 PollsSet old answer new = PollGives PollsTimed (λ before after. after ≡ before) Takes old answer new
 
 -- one mark of a slot that is there
-pub record MarksSlot (old : TimedBounded) (slot : ℕ) (woke : Woke) (new : TimedBounded) : Type 0 where
+pub record MarksSlot (old : TimedBounded) (slot : ℕ) (woke : Woke) (new : TimedBounded)
+    : Type 0 where
   pub there : slot < slot_count old.slots
   pub marked : Marks old.source slot woke new.source
   pub slots : new.slots ≡ old.slots
@@ -89,7 +94,8 @@ BeginsSet old capacity reply new =
 
 -- an object that is a machine with no step made
 abbrev pub IsNewMachine : ℕ → Object → Type 0
-IsNewMachine capacity new = (machine : Machine) × IsNew capacity machine × (new ≡ object.Steps machine)
+IsNewMachine capacity new =
+    (machine : Machine) × IsNew capacity machine × (new ≡ object.Steps machine)
 
 -- a line that begins a machine
 abbrev pub BeginsMachine : Object → ℕ → Reply → Object → Type 0
@@ -116,4 +122,5 @@ abbrev pub LineGives : Object → List ℕ → Reply → Object → Type 0
 LineGives old line reply new =
     (asked : Option Command)
     × LineAsksFor line asked
-    × MatchOption asked ((reply ≡ Bad) × (new ≡ old)) (λ command. CommandGives old command reply new)
+    × MatchOption asked ((reply ≡ Bad) × (new ≡ old))
+    (λ command. CommandGives old command reply new)

@@ -1,7 +1,8 @@
 //! What a line of a script asks for.
 ghost use Rattle.std.specs.Prelude.{◌≡◌, ◌≢◌, ℕ, ◌^◌, ◌<◌, ◌++◌, ◌↔◌, IsTrue, IfSome, IfNone};
 ghost use Rattle.std.specs.Fmt.{decimal};
-ghost use Rattle.fbuf_lines.specs.Command.{LineAsksFor, HasNoSpace, StartsAsNumber, rest_text, spaced_number};
+ghost use Rattle.fbuf_lines.specs.Command.{LineAsksFor, HasNoSpace, StartsAsNumber};
+ghost use Rattle.fbuf_lines.specs.Command.{rest_text, spaced_number};
 
 use crate::timed::Timed;
 use memchr::memchr;
@@ -51,7 +52,8 @@ fn starts_as_number(text: &[u8]) -> bool
     }
 }
 
-/// The number that the text writes: decimal digits with no leading zero, below 2^64.
+/// The number that the text writes: decimal digits with no leading zero, below 2^64. `None` at any
+/// other text. The time is that of the text's bytes; no memory is taken.
 pub fn number(text: &[u8]) -> Option<u64>
     ensures some { IfSome result (λ n. text.now ≡ decimal n) }
     ensures none { IfNone result ((n : ℕ) → n < 2 ^ 64 → text.now ≢ decimal n) }
@@ -70,14 +72,17 @@ fn one(rest: Option<&[u8]>) -> Option<u64>
 }
 
 fn two(rest: Option<&[u8]>) -> Option<(u64, u64)>
-    ensures some { IfSome result (λ (m, n). rest_text rest.entry ≡ spaced_number m ++ spaced_number n) }
-    ensures none { IfNone result ((m n : ℕ) → m < 2 ^ 64 → n < 2 ^ 64 → rest_text rest.entry ≢ spaced_number m ++ spaced_number n) }
+    ensures some { IfSome result (λ (m, n).
+        rest_text rest.entry ≡ spaced_number m ++ spaced_number n) }
+    ensures none { IfNone result ((m n : ℕ) → m < 2 ^ 64 → n < 2 ^ 64 →
+        rest_text rest.entry ≢ spaced_number m ++ spaced_number n) }
 {
     let (first, second) = cut(rest?);
     Some((number(first)?, number(second?)?))
 }
 
-/// The command that the line writes, in its one spelling; `None` if there is none.
+/// The command that the line writes, in its one spelling; `None` if there is none. The time is that
+/// of the line's bytes; no memory is taken.
 pub fn parse(line: &[u8]) -> Option<Command>
     ensures { LineAsksFor line.now result }
 {

@@ -1,5 +1,6 @@
-//! The lines of a script for `fbuf`: how a text is cut into lines, what a line asks for, what it does to the object that was
-//! begun last, and how the reply is written. It reads nothing, writes nothing, and needs no thread.
+//! The lines of a script for `fbuf`: how a text is cut into lines, what a line asks for, what it
+//! does to the object that was begun last, and how the reply is written. It reads nothing, writes
+//! nothing, and needs no thread.
 //!
 //! In the order in which to read them:
 //!

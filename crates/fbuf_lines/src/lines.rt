@@ -6,7 +6,8 @@ use memchr::memchr;
 
 /// The first line, without its line feed, and the text behind it. `None` at the end of the text.
 ///
-/// A carriage return is a byte like any other. Takes time in the length of the line.
+/// A carriage return is a byte like any other. The time is that of the line's bytes; no memory is
+/// taken.
 pub fn first_line(text: &[u8]) -> Option<(&[u8], &[u8])>
     ensures end { IfNone result (text.now ≡ []) }
     ensures first { IfSome result (λ r. lines_of text.now ≡ r.0.now ∷ lines_of r.1.now) }

@@ -1,8 +1,8 @@
 //! What a script has begun, and what each line does to it.
-ghost use Rattle.std.specs.Prelude.{◌≡◌, ◌<◌, ◌≤◌, IfOk};
+ghost use Rattle.std.specs.Prelude.{◌≡◌, ◌<◌, ◌≤◌, IfOk, OnErr};
 ghost use Rattle.futures.specs.Task.{Keeps};
-ghost use Rattle.fbuf_lines.specs.Object.{LineGives, ObjectGives, SetGives, MachineGives, StepGives};
-ghost use Rattle.fbuf_lines.specs.Object.{BeginsSet, BeginsMachine, new_bounded};
+ghost use Rattle.fbuf_lines.specs.Object.{LineGives, ObjectGives, SetGives, MachineGives};
+ghost use Rattle.fbuf_lines.specs.Object.{StepGives, BeginsSet, BeginsMachine, new_bounded};
 
 use crate::command::{Command, parse};
 use crate::reply::Reply;
@@ -29,7 +29,11 @@ pub enum Object {
 }
 
 impl Object {
-    /// Answers one line. Where there is no memory, the script ends.
+    /// Answers one line.
+    ///
+    /// The time is that of the line's bytes and of the one call that it asks for: a line that begins
+    /// an object, and the drop of the one before it, take time and memory in its capacity; the
+    /// other lines take no memory. `Err` says that the memory of a new object was refused.
     pub fn answer(
         &mut self,
         alloc: Global,
@@ -37,6 +41,7 @@ impl Object {
         cx: &mut Context<'_>,
     ) -> Result<Reply, AllocError>
         ensures reply { IfOk result (λ reply. LineGives self.old line.now reply self.new) }
+        ensures memory { OnErr result (self.new ≡ self.old) }
         ensures kept { Keeps cx.old cx.new }
     {
         match parse(line) {
@@ -49,7 +54,8 @@ impl Object {
 
     // What was there before is dropped, unless the capacity is too large.
     fn begin_unordered(&mut self, alloc: Global, capacity: usize) -> Result<Reply, AllocError>
-        ensures { IfOk result (λ reply. BeginsSet self.old capacity reply self.new) }
+        ensures reply { IfOk result (λ reply. BeginsSet self.old capacity reply self.new) }
+        ensures memory { OnErr result (self.new ≡ self.old) }
     {
         match new_set(alloc, capacity) {
             Ok(set) => {
@@ -63,7 +69,8 @@ impl Object {
 
     // The same, of a machine.
     fn begin_steps(&mut self, alloc: Global, capacity: usize) -> Result<Reply, AllocError>
-        ensures { IfOk result (λ reply. BeginsMachine self.old capacity reply self.new) }
+        ensures reply { IfOk result (λ reply. BeginsMachine self.old capacity reply self.new) }
+        ensures memory { OnErr result (self.new ≡ self.old) }
     {
         match StepMachine::new(alloc, capacity) {
             Ok(machine) => {

@@ -1,5 +1,6 @@
 //! What a line of a script is answered.
-ghost use Rattle.std.specs.Prelude.{◌≡◌, ◌++◌, ◌+◌, ◌≤◌, length, vec_len, vec_capacity, OnOk, OnErr};
+ghost use Rattle.std.specs.Prelude.{◌≡◌, ◌++◌, ◌+◌, ◌≤◌, length, vec_len, vec_capacity};
+ghost use Rattle.std.specs.Prelude.{OnOk, OnErr};
 ghost use Rattle.std.specs.Fmt.{decimal};
 ghost use Rattle.fbuf_lines.specs.Reply.{reply_line, line_feed};
 
@@ -38,7 +39,8 @@ pub enum Reply {
     Empty,
     /// `pause`: a taking that ended, since a waker is about to write a link.
     Pause,
-    /// `stuck`: a step that its seat cannot make now, or a seat or slot that is not there; nothing changed.
+    /// `stuck`: a step that its seat cannot make now, or a seat or slot that is not there; nothing
+    /// changed.
     Stuck,
     /// `bad`: no line of the grammar, or one that does not stand now; nothing changed.
     Bad,
@@ -47,10 +49,12 @@ pub enum Reply {
 // The longest reply is `some`, a number of 20 digits, and a line feed.
 const LONGEST: usize = 48;
 
-// Appends the word before the number, the number and a line feed, or nothing where there is no memory.
+// Appends the word before the number, the number and a line feed, or nothing where there is no
+// memory.
 fn append_number(text: &mut Vec<u8>, before: &[u8], number: u64) -> Result<(), AllocError>
     requires { length before.now ≤ 8 }
-    ensures ok { OnOk result (text.new.items ≡ text.old.items ++ before.now ++ decimal number ++ line_feed) }
+    ensures ok { OnOk result
+        (text.new.items ≡ text.old.items ++ before.now ++ decimal number ++ line_feed) }
     ensures err { OnErr result (text.new.items ≡ text.old.items) }
 {
     text.reserve(LONGEST)?;
@@ -75,7 +79,7 @@ fn append_reserved(text: &mut Vec<u8>, piece: &[u8])
 impl Reply {
     ghost use Rattle.fbuf_lines.specs.Reply.{woke_reply, poll_reply, step_reply};
 
-    /// What a mark is answered.
+    /// What a mark is answered. Takes no memory.
     pub fn of_woke(woke: Woke) -> Reply
         ensures { result ≡ woke_reply woke }
     {
@@ -85,7 +89,7 @@ impl Reply {
         }
     }
 
-    /// What a poll is answered.
+    /// What a poll is answered. Takes no memory.
     pub fn of_poll(polled: Poll<Option<u64>>) -> Reply
         ensures { result ≡ poll_reply polled }
     {
@@ -96,7 +100,7 @@ impl Reply {
         }
     }
 
-    /// What a step is answered.
+    /// What a step is answered. Takes no memory.
     pub fn of_step(reply: StepReply) -> Reply
         ensures { result ≡ step_reply reply }
     {
@@ -109,7 +113,8 @@ impl Reply {
         }
     }
 
-    /// Appends the reply's line to the text. A refusal of memory leaves the text as it was.
+    /// Appends the reply's line to the text, of at most 26 bytes. It takes memory where the text has
+    /// no room left, and `Err` says that this was refused.
     pub fn append_to(self, text: &mut Vec<u8>) -> Result<(), AllocError>
         ensures ok { OnOk result (text.new.items ≡ text.old.items ++ reply_line self) }
         ensures err { OnErr result (text.new.items ≡ text.old.items) }

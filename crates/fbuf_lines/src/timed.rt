@@ -11,7 +11,8 @@ pub struct Timed {
     pub pending: u64,
 }
 
-/// Polls a `Timed`, and does nothing with the waker.
+/// Polls a `Timed`, and does nothing with the waker. A poll takes no memory, and the same time
+/// whatever the two numbers are.
 #[derive(Clone, Copy, Debug)]
 pub struct PollTimed;
 
