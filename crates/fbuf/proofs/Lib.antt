@@ -1,4 +1,0 @@
-pub mod LinesLemmas
-pub mod CommandLemmas
-pub mod ScriptLemmas
-pub mod WordsLemmas

@@ -1,7 +1,0 @@
-use Rattle.fbuf.proofs.ScriptLemmas.{advance}
-use Rattle.fbuf.proofs.script.write_all.Goals as goal
-
-pub loop-rest-preserved : goal.loop-rest-preserved
-loop-rest-preserved g c =
-    let so_far = c.loop-rest.invariant in
-    advance c.args.text.now c.loop-rest.rest.now so_far.0 c.in-Ok.count _ _ _ so_far.1 so_far.2 c.in-Ok.ensures.bytes

@@ -1,0 +1,51 @@
+-- The replies to a script, line by line, and how much of them a writer was given.
+use Rattle.std.specs.Prelude.{◌≡◌, ℕ, List, [], ◌∷◌, ◌++◌, Option, take}
+use Rattle.std.specs.List.{flat_map}
+use Rattle.std.specs.Io.KnownBytes.{Appends}
+use Rattle.fbuf_lines.specs.Lines.{lines_of}
+use Rattle.fbuf_lines.specs.Reply.{reply_line}
+use Rattle.fbuf_lines.specs.Object.{LineGives}
+use Rattle.fbuf_lines.specs.declared.reply.Reply.{Reply}
+use Rattle.fbuf_lines.specs.declared.object.Object.{Object}
+use Rattle.fbuf_lines.specs.declared.object.Object.TheVariants.{Nothing}
+
+-- one reply for each line, each to what the lines before it left
+abbrev pub LinesGive : Object → List (List ℕ) → List Reply → Object → Type 0
+LinesGive old [] [] new = new ≡ old
+LinesGive old (line ∷ lines) (reply ∷ replies) new =
+    (between : Object) × LineGives old line reply between × LinesGive between lines replies new
+LinesGive old [] (reply ∷ replies) new = ⊥
+LinesGive old (line ∷ lines) [] new = ⊥
+
+-- a text is the lines of the replies to these lines, where nothing was begun before
+pub record IsReplyTo (lines : List (List ℕ)) (text : List ℕ) : Type 0 where
+  pub replies : List Reply
+  pub last : Object
+  pub given : LinesGive Nothing lines replies last
+  pub written : text ≡ flat_map reply_line replies
+
+-- the replies to all lines of a script were appended
+pub record AppendsReplies (bytes : List ℕ) (old new : Option (List ℕ)) : Type 0 where
+  pub text : List ℕ
+  pub replied : IsReplyTo (lines_of bytes) text
+  pub appended : Appends old new text
+
+-- the replies to some lines from the first on were appended, but not to all
+pub record AppendsFirstReplies (bytes : List ℕ) (old new : Option (List ℕ)) : Type 0 where
+  pub before : List (List ℕ)
+  pub line : List ℕ
+  pub after : List (List ℕ)
+  pub lines : lines_of bytes ≡ before ++ line ∷ after
+  pub text : List ℕ
+  pub replied : IsReplyTo before text
+  pub appended : Appends old new text
+
+-- some bytes of the replies to some lines were appended, each from the first on
+pub record AppendsPartOfReplies (bytes : List ℕ) (old new : Option (List ℕ)) : Type 0 where
+  pub before : List (List ℕ)
+  pub after : List (List ℕ)
+  pub lines : lines_of bytes ≡ before ++ after
+  pub text : List ℕ
+  pub replied : IsReplyTo before text
+  pub count : ℕ
+  pub appended : Appends old new (take count text)

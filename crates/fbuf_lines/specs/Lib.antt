@@ -1,0 +1,5 @@
+pub mod Lines
+pub mod Timed
+pub mod Command
+pub mod Reply
+pub mod Object

@@ -1,0 +1,127 @@
+-- What a line of a script is answered, and what it leaves of the object that was begun last.
+use Rattle.std.specs.Prelude.{◌≡◌, ℕ, ◌<◌, ◌≤◌, List, [], Option, MatchOption, ◌⊎◌}
+use Rattle.futures.specs.declared.task.Poll.{Poll as PollAnswer}
+use Rattle.futures_buffered_table.specs.declared.answer.Woke.{Woke}
+use Rattle.futures_buffered_table.specs.declared.answer.TheConstants.{MAX_CAPACITY}
+use Rattle.futures_buffered_table.specs.declared.step.Step.{Step as StepOf}
+use Rattle.futures_buffered_table.specs.declared.step.Step.TheVariants as step
+use Rattle.futures_buffered_table.specs.declared.step.StepReply.{StepReply}
+use Rattle.futures_buffered_table.specs.StepMachine.{Machine, IsNew, CanMake, MakesStep as StepsTo}
+use Rattle.futures_buffered_core.specs.ReadyCore.{Standing, Marks, Takes}
+use Rattle.futures_buffered_core.specs.SlotMap.{no_slots, slot_count, held_count}
+use Rattle.futures_buffered_bounded.specs.FuturesUnorderedBounded.{Bounded, Pushes, PollGives}
+use Rattle.futures_buffered_bounded.specs.declared.futures_unordered_bounded.TheConstants.{
+  POLL_LIMIT,
+}
+use Rattle.fbuf_lines.specs.Timed.{PollsTimed}
+use Rattle.fbuf_lines.specs.Command.{LineAsksFor}
+use Rattle.fbuf_lines.specs.Reply.{woke_reply, poll_reply, step_reply}
+use Rattle.fbuf_lines.specs.declared.timed.Timed.{Timed}
+use Rattle.fbuf_lines.specs.declared.command.Command.{Command}
+use Rattle.fbuf_lines.specs.declared.command.Command.TheVariants.{Unordered, Steps, Push, Wake}
+use Rattle.fbuf_lines.specs.declared.command.Command.TheVariants.{Poll, Len, Mark, Go, Step}
+use Rattle.fbuf_lines.specs.declared.reply.Reply.{Reply}
+use Rattle.fbuf_lines.specs.declared.reply.Reply.TheVariants.{Done, Full, TooLarge, Count}
+use Rattle.fbuf_lines.specs.declared.reply.Reply.TheVariants.{Stuck, Bad}
+use Rattle.fbuf_lines.specs.declared.object.Object.{Object}
+use Rattle.fbuf_lines.specs.declared.object.Object.TheVariants as object
+
+-- the bounded set of a script: the futures held, and the standing of a ready core
+abbrev pub TimedBounded : Type 0
+TimedBounded = Bounded Timed Standing
+
+-- no slot is marked
+abbrev pub new_standing : ℕ → Standing
+new_standing capacity = record { capacity = capacity; marked = [] }
+
+-- no future, every place free, no slot marked
+abbrev pub new_bounded : ℕ → TimedBounded
+new_bounded capacity =
+    record { slots = no_slots capacity; source = new_standing capacity; limit = POLL_LIMIT }
+
+-- one poll of the set; registering leaves the standing as it is
+abbrev pub PollsSet : TimedBounded → PollAnswer (Option ℕ) → TimedBounded → Type 0
+PollsSet old answer new =
+    PollGives (λ _. PollsTimed) (λ before after. after ≡ before) Takes old answer new
+
+-- one mark of a slot that is there
+pub record MarksSlot (old : TimedBounded) (slot : ℕ) (woke : Woke) (new : TimedBounded)
+    : Type 0 where
+  pub there : slot < slot_count old.slots
+  pub marked : Marks old.source slot woke new.source
+  pub slots : new.slots ≡ old.slots
+  pub limit : new.limit ≡ old.limit
+
+-- the last line says that no other command stands
+abbrev pub SetGives : TimedBounded → Command → Reply → TimedBounded → Type 0
+SetGives old (Push future) reply new =
+    ((reply ≡ Done) × Pushes Marks old future new)
+    ⊎ ((reply ≡ Full) × (old.slots.free ≡ []) × (new ≡ old))
+SetGives old (Wake slot) reply new =
+    ((woke : Woke) × (reply ≡ woke_reply woke) × MarksSlot old slot woke new)
+    ⊎ ((reply ≡ Bad) × (slot_count old.slots ≤ slot) × (new ≡ old))
+SetGives old Poll reply new =
+    (answer : PollAnswer (Option ℕ)) × (reply ≡ poll_reply answer) × PollsSet old answer new
+SetGives old Len reply new = (reply ≡ Count (held_count old.slots)) × (new ≡ old)
+SetGives old command reply new = (reply ≡ Bad) × (new ≡ old)
+
+-- one step that the machine can make
+abbrev pub MakesStep : Machine → StepOf → Reply → Machine → Type 0
+MakesStep old step reply new =
+    (answer : StepReply) × (reply ≡ step_reply answer) × StepsTo old step new answer
+
+-- the step was made, or it cannot be made and nothing changed
+abbrev pub StepGives : Machine → StepOf → Reply → Machine → Type 0
+StepGives old step reply new =
+    (CanMake old step × MakesStep old step reply new)
+    ⊎ ((CanMake old step → ⊥) × (reply ≡ Stuck) × (new ≡ old))
+
+-- the last line says that no other command stands
+abbrev pub MachineGives : Machine → Command → Reply → Machine → Type 0
+MachineGives old (Mark seat slot) reply new = StepGives old (step.Mark seat slot) reply new
+MachineGives old (Go seat) reply new = StepGives old (step.Go seat) reply new
+MachineGives old Step reply new = StepGives old step.Poll reply new
+MachineGives old command reply new = (reply ≡ Bad) × (new ≡ old)
+
+-- a capacity that is too large begins nothing
+abbrev pub RefusesLarge : Object → ℕ → Reply → Object → Type 0
+RefusesLarge old capacity reply new = (reply ≡ TooLarge) × (MAX_CAPACITY < capacity) × (new ≡ old)
+
+-- a line that begins a bounded set
+abbrev pub BeginsSet : Object → ℕ → Reply → Object → Type 0
+BeginsSet old capacity reply new =
+    ((reply ≡ Done) × (capacity ≤ MAX_CAPACITY) × (new ≡ object.Unordered (new_bounded capacity)))
+    ⊎ RefusesLarge old capacity reply new
+
+-- an object that is a machine with no step made
+abbrev pub IsNewMachine : ℕ → Object → Type 0
+IsNewMachine capacity new =
+    (machine : Machine) × IsNew capacity machine × (new ≡ object.Steps machine)
+
+-- a line that begins a machine
+abbrev pub BeginsMachine : Object → ℕ → Reply → Object → Type 0
+BeginsMachine old capacity reply new =
+    ((reply ≡ Done) × (capacity ≤ MAX_CAPACITY) × IsNewMachine capacity new)
+    ⊎ RefusesLarge old capacity reply new
+
+-- a command to what was begun last; before anything is begun none stands
+abbrev pub ObjectGives : Object → Command → Reply → Object → Type 0
+ObjectGives object.Nothing command reply new = (reply ≡ Bad) × (new ≡ object.Nothing)
+ObjectGives (object.Unordered old) command reply new =
+    (set : TimedBounded) × SetGives old command reply set × (new ≡ object.Unordered set)
+ObjectGives (object.Steps old) command reply new =
+    (machine : Machine) × MachineGives old command reply machine × (new ≡ object.Steps machine)
+
+-- a command that begins something stands always
+abbrev pub CommandGives : Object → Command → Reply → Object → Type 0
+CommandGives old (Unordered capacity) reply new = BeginsSet old capacity reply new
+CommandGives old (Steps capacity) reply new = BeginsMachine old capacity reply new
+CommandGives old command reply new = ObjectGives old command reply new
+
+-- one line: what it asks for, or `bad`
+abbrev pub LineGives : Object → List ℕ → Reply → Object → Type 0
+LineGives old line reply new =
+    (asked : Option Command)
+    × LineAsksFor line asked
+    × MatchOption asked ((reply ≡ Bad) × (new ≡ old))
+    (λ command. CommandGives old command reply new)

@@ -1,0 +1,128 @@
+//! What a line of a script asks for.
+ghost use Rattle.std.specs.Prelude.{◌≡◌, ◌≢◌, ℕ, ◌^◌, ◌<◌, ◌++◌, ◌↔◌, IsTrue, IfSome, IfNone};
+ghost use Rattle.std.specs.Fmt.{decimal};
+ghost use Rattle.fbuf_lines.specs.Command.{LineAsksFor, HasNoSpace, StartsAsNumber};
+ghost use Rattle.fbuf_lines.specs.Command.{rest_text, spaced_number};
+
+use crate::timed::Timed;
+use memchr::memchr;
+
+/// A line that can be carried out.
+#[derive(Clone, Copy, Debug, PartialEq, Eq)]
+pub enum Command {
+    /// `unordered C`: begins a bounded set of this capacity.
+    Unordered(usize),
+    /// `steps C`: begins a machine of single steps of this capacity.
+    Steps(usize),
+    /// `push V K`: pushes the future that is pending K times and then V.
+    Push(Timed),
+    /// `wake I`: marks a slot.
+    Wake(usize),
+    /// `poll`: one poll.
+    Poll,
+    /// `len`: how many are held.
+    Len,
+    /// `mark S I`: a wake seat begins to wake a slot.
+    Mark { seat: usize, slot: usize },
+    /// `go S`: a wake seat makes the next step of its wake.
+    Go { seat: usize },
+    /// `step`: the poll seat makes its next step.
+    Step,
+}
+
+// The text up to the first space, and the text behind it.
+fn cut(text: &[u8]) -> (&[u8], Option<&[u8]>)
+    ensures whole { text.now ≡ result.0.now ++ rest_text result.1 }
+    ensures word { HasNoSpace result.0.now }
+{
+    match memchr(b' ', text) {
+        Some(end) => (&text[..end], Some(&text[end + 1..])),
+        None => (text, None),
+    }
+}
+
+// Whether a digit stands first, and a zero only alone.
+fn starts_as_number(text: &[u8]) -> bool
+    ensures { IsTrue result ↔ StartsAsNumber text.now }
+{
+    match text.first() {
+        Some(b'0') => text.len() == 1,
+        Some(first) => first.is_ascii_digit(),
+        None => false,
+    }
+}
+
+/// The number that the text writes: decimal digits with no leading zero, below 2^64. `None` at any
+/// other text. The time is that of the text's bytes; no memory is taken.
+pub fn number(text: &[u8]) -> Option<u64>
+    ensures some { IfSome result (λ n. text.now ≡ decimal n) }
+    ensures none { IfNone result ((n : ℕ) → n < 2 ^ 64 → text.now ≢ decimal n) }
+{
+    if !starts_as_number(text) {
+        return None;
+    }
+    str::from_utf8(text).ok()?.parse().ok()
+}
+
+fn one(rest: Option<&[u8]>) -> Option<u64>
+    ensures some { IfSome result (λ n. rest_text rest.entry ≡ spaced_number n) }
+    ensures none { IfNone result ((n : ℕ) → n < 2 ^ 64 → rest_text rest.entry ≢ spaced_number n) }
+{
+    number(rest?)
+}
+
+fn two(rest: Option<&[u8]>) -> Option<(u64, u64)>
+    ensures some { IfSome result (λ (m, n).
+        rest_text rest.entry ≡ spaced_number m ++ spaced_number n) }
+    ensures none { IfNone result ((m n : ℕ) → m < 2 ^ 64 → n < 2 ^ 64 →
+        rest_text rest.entry ≢ spaced_number m ++ spaced_number n) }
+{
+    let (first, second) = cut(rest?);
+    Some((number(first)?, number(second?)?))
+}
+
+/// The command that the line writes, in its one spelling; `None` if there is none. The time is that
+/// of the line's bytes; no memory is taken.
+pub fn parse(line: &[u8]) -> Option<Command>
+    ensures { LineAsksFor line.now result }
+{
+    let (word, rest) = cut(line);
+    if word == b"unordered".as_slice() {
+        return Some(Command::Unordered(one(rest)? as usize));
+    }
+    if word == b"steps".as_slice() {
+        return Some(Command::Steps(one(rest)? as usize));
+    }
+    if word == b"push".as_slice() {
+        let (value, pending) = two(rest)?;
+        return Some(Command::Push(Timed { value, pending }));
+    }
+    if word == b"wake".as_slice() {
+        return Some(Command::Wake(one(rest)? as usize));
+    }
+    if word == b"mark".as_slice() {
+        let (seat, slot) = two(rest)?;
+        return Some(Command::Mark {
+            seat: seat as usize,
+            slot: slot as usize,
+        });
+    }
+    if word == b"go".as_slice() {
+        return Some(Command::Go {
+            seat: one(rest)? as usize,
+        });
+    }
+    if rest.is_some() {
+        return None;
+    }
+    if word == b"poll".as_slice() {
+        return Some(Command::Poll);
+    }
+    if word == b"len".as_slice() {
+        return Some(Command::Len);
+    }
+    if word == b"step".as_slice() {
+        return Some(Command::Step);
+    }
+    None
+}

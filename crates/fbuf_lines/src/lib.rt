@@ -1,0 +1,18 @@
+//! The lines of a script for `fbuf`: how a text is cut into lines, what a line asks for, what it
+//! does to the object that was begun last, and how the reply is written. It reads nothing, writes
+//! nothing, and needs no thread.
+//!
+//! In the order in which to read them:
+//!
+//! - `lines`: `first_line`, which cuts the first line off a text.
+//! - `timed`: `Timed`, the future of a script, pending a number of times and then a number.
+//! - `command`: `Command`, what a line asks for, and `parse`, which reads it.
+//! - `reply`: `Reply`, what a line is answered, and how it is written.
+//! - `object`: `Object`, what a script has begun, and `answer`, what one line does to it.
+#![tactic(auto)]
+
+pub mod command;
+pub mod lines;
+pub mod object;
+pub mod reply;
+pub mod timed;

@@ -1,0 +1,141 @@
+//! What a script has begun, and what each line does to it.
+ghost use Rattle.std.specs.Prelude.{◌≡◌, ◌<◌, ◌≤◌, IfOk, OnErr};
+ghost use Rattle.futures.specs.Task.{Keeps};
+ghost use Rattle.fbuf_lines.specs.Object.{LineGives, ObjectGives, SetGives, MachineGives};
+ghost use Rattle.fbuf_lines.specs.Object.{StepGives, BeginsSet, BeginsMachine, new_bounded};
+
+use crate::command::{Command, parse};
+use crate::reply::Reply;
+use crate::timed::{PollTimed, Timed};
+use futures::task::Context;
+use futures_buffered_core::ready_core::{MAX_CAPACITY, NewFault};
+use futures_buffered_core::ready_source::{CoreSource, NewSource};
+use futures_buffered_core::ready_table::{Step, StepMachine};
+use futures_buffered_sets::futures_unordered_bounded::FuturesUnorderedBounded;
+use std::alloc::{AllocError, Global};
+
+/// A bounded set of the script's futures, over a ready core.
+pub type TimedSet = FuturesUnorderedBounded<Timed, CoreSource>;
+
+/// What was begun last.
+#[derive(Drop)]
+pub enum Object {
+    /// No line began anything yet.
+    Nothing,
+    /// `unordered C` did.
+    Unordered(TimedSet),
+    /// `steps C` did.
+    Steps(StepMachine),
+}
+
+impl Object {
+    /// Answers one line.
+    ///
+    /// The time is that of the line's bytes and of the one call that it asks for: a line that begins
+    /// an object, and the drop of the one before it, take time and memory in its capacity; the
+    /// other lines take no memory. `Err` says that the memory of a new object was refused.
+    pub fn answer(
+        &mut self,
+        alloc: Global,
+        line: &[u8],
+        cx: &mut Context<'_>,
+    ) -> Result<Reply, AllocError>
+        ensures reply { IfOk result (λ reply. LineGives self.old line.now reply self.new) }
+        ensures memory { OnErr result (self.new ≡ self.old) }
+        ensures kept { Keeps cx.old cx.new }
+    {
+        match parse(line) {
+            Some(Command::Unordered(capacity)) => self.begin_unordered(alloc, capacity),
+            Some(Command::Steps(capacity)) => self.begin_steps(alloc, capacity),
+            Some(command) => Ok(self.carry_out(command, cx)),
+            None => Ok(Reply::Bad),
+        }
+    }
+
+    // What was there before is dropped, unless the capacity is too large.
+    fn begin_unordered(&mut self, alloc: Global, capacity: usize) -> Result<Reply, AllocError>
+        ensures reply { IfOk result (λ reply. BeginsSet self.old capacity reply self.new) }
+        ensures memory { OnErr result (self.new ≡ self.old) }
+    {
+        match new_set(alloc, capacity) {
+            Ok(set) => {
+                *self = Object::Unordered(set);
+                Ok(Reply::Done)
+            }
+            Err(NewFault::TooLarge) => Ok(Reply::TooLarge),
+            Err(NewFault::Memory) => Err(AllocError),
+        }
+    }
+
+    // The same, of a machine.
+    fn begin_steps(&mut self, alloc: Global, capacity: usize) -> Result<Reply, AllocError>
+        ensures reply { IfOk result (λ reply. BeginsMachine self.old capacity reply self.new) }
+        ensures memory { OnErr result (self.new ≡ self.old) }
+    {
+        match StepMachine::new(alloc, capacity) {
+            Ok(machine) => {
+                *self = Object::Steps(machine);
+                Ok(Reply::Done)
+            }
+            Err(NewFault::TooLarge) => Ok(Reply::TooLarge),
+            Err(NewFault::Memory) => Err(AllocError),
+        }
+    }
+
+    fn carry_out(&mut self, command: Command, cx: &mut Context<'_>) -> Reply
+        ensures reply { ObjectGives self.old command result self.new }
+        ensures kept { Keeps cx.old cx.new }
+    {
+        match self {
+            Object::Nothing => Reply::Bad,
+            Object::Unordered(set) => set_reply(set, command, cx),
+            Object::Steps(machine) => machine_reply(machine, command),
+        }
+    }
+}
+
+fn new_set(alloc: Global, capacity: usize) -> Result<TimedSet, NewFault>
+    ensures ok { IfOk result (λ set. (set ≡ new_bounded capacity) × (capacity ≤ MAX_CAPACITY)) }
+    ensures large { result ≡ Err NewFault.TooLarge → MAX_CAPACITY < capacity }
+{
+    let source = CoreSource::make(&(), alloc, capacity)?;
+    FuturesUnorderedBounded::with_source(alloc, source)
+}
+
+// A command to a bounded set.
+fn set_reply(set: &mut TimedSet, command: Command, cx: &mut Context<'_>) -> Reply
+    ensures reply { SetGives set.old command result set.new }
+    ensures kept { Keeps cx.old cx.new }
+{
+    match command {
+        Command::Push(future) => match set.try_push(future) {
+            Ok(()) => Reply::Done,
+            Err(_) => Reply::Full,
+        },
+        Command::Wake(slot) if slot < set.capacity() => Reply::of_woke(set.mark_slot(slot)),
+        Command::Poll => Reply::of_poll(set.poll_with(&PollTimed, cx)),
+        Command::Len => Reply::Count(set.len()),
+        _ => Reply::Bad,
+    }
+}
+
+// A command to a machine of single steps.
+fn machine_reply(machine: &mut StepMachine, command: Command) -> Reply
+    ensures { MachineGives machine.old command result machine.new }
+{
+    match command {
+        Command::Mark { seat, slot } => step_reply(machine, Step::Mark { seat, slot }),
+        Command::Go { seat } => step_reply(machine, Step::Go { seat }),
+        Command::Step => step_reply(machine, Step::Poll),
+        _ => Reply::Bad,
+    }
+}
+
+fn step_reply(machine: &mut StepMachine, step: Step) -> Reply
+    ensures { StepGives machine.old step result machine.new }
+{
+    match machine.step(step) {
+        Some(reply) => Reply::of_step(reply),
+        None => Reply::Stuck,
+    }
+}

@@ -1,0 +1,9 @@
+//! Tests of what `fbuf` does, by public calls alone.
+#![tactic(auto)]
+
+#[cfg(test)]
+mod program_words;
+#[cfg(test)]
+mod script;
+#[cfg(test)]
+mod threads;

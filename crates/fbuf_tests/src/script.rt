@@ -1,0 +1,356 @@
+//! Scripts and their replies, and readers and writers that fail.
+use fbuf_calls::script::{ScriptFault, script};
+use fbuf_calls::watched::Watched;
+use futures::test::MockTask;
+use std::alloc::{AllocError, AllocGlobal, Global};
+use std::io;
+use std::io::{ErrorKind, Read, Write};
+use std::process::Abort;
+use std::random::RandomSource;
+use std::test::Fail;
+
+// Gives the bytes a few at a time, and fails at the read that finds none left of `reads`.
+#[derive(Drop)]
+struct Source<'a> {
+    bytes: &'a [u8],
+    at_most: usize,
+    reads: usize,
+}
+
+impl<'a> Read for Source<'a> {
+    fn read(&mut self, buf: &mut [u8]) -> io::Result<usize> {
+        if self.reads == 0 {
+            return Err(io::Error::from(ErrorKind::Interrupted));
+        }
+        self.reads -= 1;
+        let count = self.at_most.min(self.bytes.len()).min(buf.len());
+        buf[..count].copy_from_slice(&self.bytes[..count]);
+        self.bytes = &self.bytes[count..];
+        Ok(count)
+    }
+}
+
+// Takes a few bytes at a time, and fails at the write that finds none left of `writes`.
+#[derive(Drop)]
+struct Sink {
+    bytes: Vec<u8>,
+    at_most: usize,
+    writes: usize,
+}
+
+impl Write for Sink {
+    fn write(&mut self, buf: &[u8]) -> io::Result<usize> {
+        if self.writes == 0 {
+            return Err(io::Error::from(ErrorKind::Interrupted));
+        }
+        self.writes -= 1;
+        let count = self.at_most.min(buf.len());
+        self.bytes.extend_from_slice(&buf[..count])?;
+        Ok(count)
+    }
+
+    fn flush(&mut self) -> io::Result<()> {
+        Ok(())
+    }
+}
+
+// What was written, how it ended, and whether each side had failed.
+#[derive(Drop)]
+struct Outcome {
+    written: Vec<u8>,
+    answer: Result<(), ScriptFault>,
+    failed: (bool, bool),
+}
+
+fn run_over<H: RandomSource + AllocGlobal>(
+    rt: &H,
+    source: Source<'_>,
+    sink: Sink,
+) -> Result<Outcome, Fail> {
+    let task = MockTask::new(rt)?;
+    let mut input = Watched::new(source);
+    let mut output = Watched::new(sink);
+    let answer = task.enter(|cx| script(rt.alloc(), cx, &mut input, &mut output));
+    let failed = (input.failed(), output.failed());
+    let Sink { bytes, .. } = output.into_inner();
+    Ok(Outcome {
+        written: bytes,
+        answer,
+        failed,
+    })
+}
+
+fn whole(bytes: &[u8]) -> Source<'_> {
+    Source {
+        bytes,
+        at_most: usize::MAX,
+        reads: usize::MAX,
+    }
+}
+
+fn roomy(alloc: Global) -> Sink {
+    Sink {
+        bytes: Vec::new(alloc),
+        at_most: usize::MAX,
+        writes: usize::MAX,
+    }
+}
+
+fn assert_replies<H>(rt: &H, text: &[u8], want: &[u8]) -> Result<(), Fail>
+where
+    H: Abort + RandomSource + AllocGlobal,
+{
+    let outcome = run_over(rt, whole(text), roomy(rt.alloc()))?;
+    assert_eq!(rt; outcome.answer, Ok(()));
+    assert_eq!(rt; outcome.failed, (false, false));
+    assert_eq!(rt; outcome.written.as_slice(), want);
+    Ok(())
+}
+
+#[test]
+fn answers_scripts_over_a_bounded_set(rt: HostRuntime) -> Result<(), Fail> {
+    let rows = [
+        // A full set hands back; a wake names its slot.
+        (
+            "unordered 2\npush 7 0\npush 8 1\npush 9 0\npoll\npoll\nwake 1\npoll\npoll\n",
+            "ok\nok\nok\nfull\nsome 7\npending\nfresh\nsome 8\nnone\n",
+        ),
+        // No slot at all.
+        ("unordered 0\npush 1 0\npoll\n", "ok\nfull\nnone\n"),
+        // A stale mark outlives a poll of the empty set.
+        (
+            "unordered 1\npush 7 0\npoll\nwake 0\npoll\npush 8 0\npoll\n",
+            "ok\nok\nsome 7\nfresh\nnone\nok\nsome 8\n",
+        ),
+        // A mark older than the push decides.
+        (
+            "unordered 2\npush 1 0\npoll\nwake 1\npush 2 0\npush 3 0\npoll\npoll\n",
+            "ok\nok\nsome 1\nfresh\nok\nok\nsome 3\nsome 2\n",
+        ),
+        // A slot without a future is passed over.
+        (
+            "unordered 2\npush 1 0\npoll\npush 2 1\nwake 1\nwake 1\npoll\nwake 1\nwake 0\npoll\n",
+            "ok\nok\nsome 1\nok\nfresh\nalready\npending\nfresh\nfresh\nsome 2\n",
+        ),
+        // A capacity past the greatest begins nothing; before anything is begun no command stands.
+        (
+            "unordered 4611686018427387904\npoll\nunordered 1\npoll\n",
+            "large\nbad\nok\nnone\n",
+        ),
+        // A capacity past the greatest leaves what was there.
+        (
+            "unordered 1\npush 5 0\nunordered 4611686018427387904\nlen\npoll\nlen\n",
+            "ok\nok\nlarge\n1\nsome 5\n0\n",
+        ),
+        // The last line counts without a line feed.
+        (
+            "unordered 1\npush 01 0\npush 1\nwake 1\npoll",
+            "ok\nbad\nbad\nbad\nnone\n",
+        ),
+        ("", ""),
+        // What was begun before is dropped.
+        (
+            "unordered 1\npush 1 0\nunordered 2\nlen\npoll\n",
+            "ok\nok\nok\n0\nnone\n",
+        ),
+        (
+            "unordered 1\npush 18446744073709551615 0\npoll\n",
+            "ok\nok\nsome 18446744073709551615\n",
+        ),
+    ];
+    for (text, want) in rows {
+        assert_replies(&rt, text.as_bytes(), want.as_bytes())?;
+    }
+    Ok(())
+}
+
+#[test]
+fn polls_at_most_61_names(rt: HostRuntime) -> Result<(), Fail> {
+    let mut text = Vec::from_slice(rt.alloc(), b"unordered 62\n")?;
+    let mut want = Vec::from_slice(rt.alloc(), b"ok\n")?;
+    for _ in 0..61 {
+        text.extend_from_slice(b"push 0 1\n")?;
+        want.extend_from_slice(b"ok\n")?;
+    }
+    text.extend_from_slice(b"push 99 0\npoll\npoll\n")?;
+    want.extend_from_slice(b"ok\npending\nsome 99\n")?;
+    assert_replies(&rt, &text, &want)
+}
+
+#[test]
+fn answers_bad_to_what_is_no_line(rt: HostRuntime) -> Result<(), Fail> {
+    let lines: [&[u8]; 30] = [
+        b"",
+        b" ",
+        b"len ",
+        b" len",
+        b"len\r",
+        b"lens",
+        b"le",
+        b"Len",
+        b"len 1",
+        b"poll 0",
+        b"push",
+        b"push 5",
+        b"push 5 ",
+        b"push  5 0",
+        b"push 5  0",
+        b"push 5 0 ",
+        b"push 5 0 0",
+        b"push 05 0",
+        b"push 5 00",
+        b"push +5 0",
+        b"push -5 0",
+        b"push 5 18446744073709551616",
+        b"push 5 0x0",
+        b"push\t5 0",
+        b"wake",
+        b"wake 1",
+        b"wake 00",
+        b"unordered",
+        b"\x00",
+        b"\xff\xfe",
+    ];
+    for line in lines {
+        let mut text = Vec::from_slice(rt.alloc(), b"unordered 1\npush 3 0\n")?;
+        text.extend_from_slice(line)?;
+        text.extend_from_slice(b"\nlen\npoll\n")?;
+        assert_replies(&rt, &text, b"ok\nok\nbad\n1\nsome 3\n")?;
+    }
+    Ok(())
+}
+
+#[test]
+fn answers_bad_to_what_is_not_built(rt: HostRuntime) -> Result<(), Fail> {
+    let text = b"ordered 1\ngrowing 1\nback 1 0\nfront 1 0\nunordered 1\nback 1 0\nlen\n";
+    assert_replies(&rt, text, b"bad\nbad\nbad\nbad\nok\nbad\n0\n")
+}
+
+#[test]
+fn reads_a_long_line(rt: HostRuntime) -> Result<(), Fail> {
+    let mut text = Vec::from_slice(rt.alloc(), b"unordered 1\n")?;
+    for _ in 0..1000000 {
+        text.push(b'7')?;
+    }
+    text.extend_from_slice(b"\nlen\n")?;
+    assert_replies(&rt, &text, b"ok\nbad\n0\n")
+}
+
+#[test]
+fn answers_scripts_over_a_machine(rt: HostRuntime) -> Result<(), Fail> {
+    let rows = [
+        // The gap at the stub, and a taking of eight steps.
+        (
+            "steps 2\nmark 0 0\ngo 0\ngo 0\nstep\nstep\ngo 0\nstep\nstep\nstep\nstep\nstep\nstep\nstep\nstep\nstep\nstep\n",
+            "ok\nmore\nmore\nmore\nmore\npause\nfresh\nmore\nmore\nmore\nmore\nmore\nmore\nmore\nslot 0\nmore\nempty\n",
+        ),
+        (
+            "steps 1\nmark 0 0\nmark 0 0\nmark 1 0\ngo 1\nmark 1 1\n",
+            "ok\nmore\nstuck\nalready\nstuck\nstuck\n",
+        ),
+        // The later waker ends first, and the order is still that of the tail swaps.
+        (
+            "steps 2\nmark 0 0\ngo 0\ngo 0\nmark 1 1\ngo 1\ngo 1\ngo 1\nstep\nstep\ngo 0\nstep\nstep\nstep\nstep\nstep\nstep\nstep\nstep\nstep\nstep\nstep\nstep\n",
+            "ok\nmore\nmore\nmore\nmore\nmore\nmore\nfresh\nmore\npause\nfresh\nmore\nmore\nslot 0\nmore\nmore\nmore\nmore\nmore\nmore\nslot 1\nmore\nempty\n",
+        ),
+        // A waker swaps while the poller puts the stub in.
+        (
+            "steps 2\nmark 0 0\ngo 0\ngo 0\ngo 0\nstep\nstep\nstep\nmark 1 1\ngo 1\ngo 1\nstep\nstep\nstep\nstep\ngo 1\nstep\nstep\nstep\nstep\nstep\nstep\n",
+            "ok\nmore\nmore\nmore\nfresh\nmore\nmore\nmore\nmore\nmore\nmore\nmore\nmore\nmore\npause\nfresh\nmore\nslot 0\nmore\nslot 1\nmore\nempty\n",
+        ),
+        (
+            "steps 1\nmark 64 0\ngo 63\nmark 63 0\ngo 63\n",
+            "ok\nstuck\nstuck\nmore\nmore\n",
+        ),
+        // Over a machine no command to a set stands, and the other way round.
+        (
+            "step\nsteps 1\npush 1 0\npoll\nlen\nwake 0\nstep\nunordered 1\nstep\ngo 0\nmark 0 0\nlen\n",
+            "bad\nok\nbad\nbad\nbad\nbad\nmore\nok\nbad\nbad\nbad\n0\n",
+        ),
+        (
+            "steps 4611686018427387904\nsteps 0\nstep\nstep\nmark 0 0\n",
+            "large\nok\nmore\nempty\nstuck\n",
+        ),
+    ];
+    for (text, want) in rows {
+        assert_replies(&rt, text.as_bytes(), want.as_bytes())?;
+    }
+    Ok(())
+}
+
+const TEXT: &[u8] = b"unordered 2\npush 7 0\npoll\nlen\n";
+
+const REPLIES: &[u8] = b"ok\nok\nsome 7\n0\n";
+
+#[test]
+fn reads_and_writes_a_byte_at_a_time(rt: HostRuntime) -> Result<(), Fail> {
+    let source = Source {
+        bytes: TEXT,
+        at_most: 1,
+        reads: usize::MAX,
+    };
+    let sink = Sink {
+        bytes: Vec::new(rt.alloc()),
+        at_most: 1,
+        writes: usize::MAX,
+    };
+    let outcome = run_over(&rt, source, sink)?;
+    assert_eq!(rt; outcome.answer, Ok(()));
+    assert_eq!(rt; outcome.written.as_slice(), REPLIES);
+    Ok(())
+}
+
+#[test]
+fn writes_nothing_where_a_read_fails(rt: HostRuntime) -> Result<(), Fail> {
+    for reads in 0..=TEXT.len() {
+        let source = Source {
+            bytes: TEXT,
+            at_most: 1,
+            reads,
+        };
+        let outcome = run_over(&rt, source, roomy(rt.alloc()))?;
+        assert_eq!(rt; outcome.answer, Err(ScriptFault::Read));
+        assert_eq!(rt; outcome.failed, (true, false));
+        assert_eq!(rt; outcome.written.len(), 0);
+    }
+    Ok(())
+}
+
+#[test]
+fn writes_a_beginning_where_a_write_fails(rt: HostRuntime) -> Result<(), Fail> {
+    for writes in 0..REPLIES.len() {
+        let sink = Sink {
+            bytes: Vec::new(rt.alloc()),
+            at_most: 1,
+            writes,
+        };
+        let outcome = run_over(&rt, whole(TEXT), sink)?;
+        assert_eq!(rt; outcome.answer, Err(ScriptFault::Write));
+        assert_eq!(rt; outcome.failed, (false, true));
+        assert_eq!(rt; Some(outcome.written.as_slice()), REPLIES.get(..writes));
+    }
+    Ok(())
+}
+
+#[test]
+fn a_write_that_takes_nothing_fails(rt: HostRuntime) -> Result<(), Fail> {
+    let sink = Sink {
+        bytes: Vec::new(rt.alloc()),
+        at_most: 0,
+        writes: usize::MAX,
+    };
+    let outcome = run_over(&rt, whole(TEXT), sink)?;
+    assert_eq!(rt; outcome.answer, Err(ScriptFault::Write));
+    assert_eq!(rt; outcome.failed, (false, true));
+    Ok(())
+}
+
+#[test]
+fn answers_the_lines_before_memory_was_refused(rt: HostRuntime) -> Result<(), Fail> {
+    let text = b"unordered 1\nlen\nunordered 4611686018427387903\nlen\n";
+    let outcome = run_over(&rt, whole(text), roomy(rt.alloc()))?;
+    assert_eq!(rt; outcome.answer, Err(ScriptFault::Memory));
+    assert_eq!(rt; outcome.failed, (false, false));
+    assert_eq!(rt; outcome.written.as_slice(), b"ok\n0\n".as_slice());
+    Ok(())
+}

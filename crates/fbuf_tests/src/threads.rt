@@ -1,0 +1,89 @@
+ghost use Rattle.std.specs.Prelude.{◌<◌};
+
+use fbuf_calls::threads::{Gate, OpenGate, threads_run};
+use std::sync::Arc;
+use std::sync::atomic::AtomicU64;
+use std::sync::atomic::Ordering::SeqCst;
+use std::test::Fail;
+use std::thread::yield_now;
+
+const TURNS: u64 = 1000000000;
+
+const ALL_PASSED: u64 = 255;
+
+const TOO_LATE: u64 = 256;
+
+// Holds each of two threads before its first wake until the other has come there too, and notes each passage by a bit of its own.
+#[derive(Drop)]
+struct Meeting {
+    arrived: Arc<AtomicU64>,
+    passed: Arc<AtomicU64>,
+}
+
+impl Gate for Meeting {
+    ghost opens = { λ _ thread wake. (thread < 2) × (wake < 2) };
+
+    fn before(&self, thread: usize, wake: usize) {
+        self.passed.fetch_add(1 << (4 * thread + 2 * wake), SeqCst);
+        if wake != 0 {
+            return;
+        }
+        self.arrived.fetch_add(1, SeqCst);
+        for _ in 0..TURNS {
+            if self.arrived.load(SeqCst) == 2 {
+                return;
+            }
+            yield_now();
+        }
+        self.passed.fetch_add(TOO_LATE, SeqCst);
+    }
+
+    fn after(&self, thread: usize, wake: usize) {
+        self.passed.fetch_add(2 << (4 * thread + 2 * wake), SeqCst);
+    }
+}
+
+#[test]
+fn two_wakers_at_once(rt: HostRuntime) -> Result<(), Fail> {
+    let arrived = Arc::new(rt.alloc(), AtomicU64::new(0))?;
+    let passed = Arc::new(rt.alloc(), AtomicU64::new(0))?;
+    let gate = Meeting {
+        arrived: Arc::try_clone(&arrived)?,
+        passed: Arc::try_clone(&passed)?,
+    };
+    let mut output = Vec::new(rt.alloc());
+    assert_eq!(rt;
+        threads_run(rt, rt.alloc(), 2, 2, gate, &mut output),
+        Ok(())
+    );
+    assert_eq!(rt; arrived.load(SeqCst), 2);
+    assert_eq!(rt; passed.load(SeqCst), ALL_PASSED);
+    assert_eq!(rt;
+        output.as_slice(),
+        b"threads 2 wakes 4 outputs 0 1\n".as_slice()
+    );
+    Ok(())
+}
+
+#[test]
+fn prints_one_line(rt: HostRuntime) -> Result<(), Fail> {
+    let mut output = Vec::new(rt.alloc());
+    assert_eq!(rt;
+        threads_run(rt, rt.alloc(), 1, 1, OpenGate, &mut output),
+        Ok(())
+    );
+    assert_eq!(rt;
+        output.as_slice(),
+        b"threads 1 wakes 1 outputs 0\n".as_slice()
+    );
+    output.clear();
+    assert_eq!(rt;
+        threads_run(rt, rt.alloc(), 4, 1000, OpenGate, &mut output),
+        Ok(())
+    );
+    assert_eq!(rt;
+        output.as_slice(),
+        b"threads 4 wakes 4000 outputs 0 1 2 3\n".as_slice()
+    );
+    Ok(())
+}
