@@ -1,2 +1,3 @@
 pub mod ScriptLemmas
+pub mod ThreadsLemmas
 pub mod ProgramWordsLemmas

@@ -60,8 +60,8 @@ module _ (bytes rest : List ℕ) (object : Object) (first now : Option (List ℕ
       → more ≡ text ++ reply_line reply → RepliesSoFar bytes after later first now more
   RepliesSoFar-line line after reply later more is gives appends =
       let joined : so.sent ++ more ≡ (so.sent ++ text) ++ reply_line reply =
-          ap (λ (rest : List ℕ). so.sent ++ rest) appends
-          ∙ sym (append_assoc so.sent text (reply_line reply)) in
+      ap (λ (rest : List ℕ). so.sent ++ rest) appends
+      ∙ sym (append_assoc so.sent text (reply_line reply)) in
       record {
         done = so.done ++ line ∷ [];
         replies = so.replies ++ reply ∷ [];
@@ -134,7 +134,7 @@ pub write_advances : (text rest : List ℕ) (count more : ℕ) (first now later 
     → rest ≡ drop count text → Appends first now (take count text)
     → Appends now later (take more rest)
     → (next : ℕ) × (take (length rest - more) (drop more rest) ≡ drop next text)
-      × Appends first later (take next text)
+    × Appends first later (take next text)
 write_advances text rest count more first now later is before after =
     let both = Appends-trans first now later (take count text) (take more (drop count text)) in (
       count + more,

@@ -5,4 +5,5 @@ pub use Rattle.fbuf_lines.specs.Reply
 pub use Rattle.fbuf_lines.specs.Object
 pub mod Watched
 pub mod Script
+pub mod Threads
 pub mod ProgramWords

@@ -1,11 +1,14 @@
 //! The program as a function of its words: what it reads, what it writes, and its exit status.
-ghost use Rattle.std.specs.Prelude.{◌≡◌, ◌≢◌, ◌≤◌, ◌↔◌, ◌⊎◌, ℕ, map, IfSome, IfNone, IfOk, None, Err};
+ghost use Rattle.std.specs.Prelude.{◌≡◌, ◌≢◌, ◌≤◌, ◌↔◌, ◌⊎◌, ℕ, map, Some, None, Err};
+ghost use Rattle.std.specs.Prelude.{IfSome, IfNone, IfOk, IfErr, OnOk};
 ghost use Rattle.std.specs.IoError.{error_kind};
 ghost use Rattle.std.specs.declared.io.ErrorKind.TheVariants.{OutOfMemory};
 ghost use Rattle.std.specs.Vec.Iter.{into_iter_items};
 ghost use Rattle.std.specs.String.{string_bytes};
 ghost use Rattle.std.specs.Fmt.{decimal};
-ghost use Rattle.fbuf_calls.specs.ProgramWords.{AsksFor};
+ghost use Rattle.fbuf_calls.specs.ProgramWords.{WordsAskFor, CallEnds, EndsScript};
+ghost use Rattle.fbuf_calls.specs.ProgramWords.{status_of, ended_status};
+ghost use Rattle.fbuf_calls.specs.Threads.{AppendsThreadsLine};
 
 use crate::script::{ScriptFault, script};
 use crate::threads::{MAX_THREADS, MAX_WAKES, OpenGate, ThreadsFault, threads_run};
@@ -92,9 +95,10 @@ enum Call {
     Threads { threads: usize, wakes: usize },
 }
 
-// What the words ask for, the program's name first; `None` where they ask for nothing that there is.
+// What the words ask for, the program's name first; `None` where they ask for nothing that there
+// is.
 fn call_of(mut words: Args) -> Option<Call>
-    ensures { AsksFor (map string_bytes (into_iter_items words)) result }
+    ensures { WordsAskFor (map string_bytes (into_iter_items words)) result }
 {
     let Some(_name) = words.next() else {
         return Some(Call::Script);
@@ -124,16 +128,19 @@ fn up_to(word: &[u8], most: usize) -> Option<usize>
 
 /// Does what the words of a call ask for, and answers the exit status.
 ///
-/// `words` are those of the program's call, its name first, as `std::env::args` gives them; an error other than the
-/// want of memory says that a word was no text. With no word after the name, the script on `input` is answered on
-/// `output`; `threads N M` runs N threads, each of which wakes a slot M times, and writes a line. Status 0, or 1 with a
-/// line on `errors` where memory, a thread, a read or a write failed. Any other words: the usage text on `errors`, status
-/// 2, and nothing is read. A fault in writing to `errors` changes nothing.
+/// `words` are those of the program's call, its name first, as `std::env::args` gives them; an error
+/// other than the want of memory says that a word was no text. With no word after the name, the
+/// script on `input` is answered on `output`; `threads N M` runs N threads, each of which wakes a
+/// slot M times, and writes a line. Status 0, or 1 with a line on `errors` where memory, a thread, a
+/// read or a write failed. Any other words: the usage text on `errors`, and status 2. A fault in
+/// writing to `errors` changes nothing.
+///
+/// Time and memory are those of the script or of the run of threads.
 pub fn run_words<T, R, W, E>(
     rt: &T,
     words: io::Result<Args>,
-    input: R,
-    output: W,
+    input: &mut Watched<R>,
+    output: &mut Watched<W>,
     errors: &mut E,
 ) -> u8
 where
@@ -142,9 +149,22 @@ where
     W: Write + Drop,
     E: Write,
     ensures low { result ≤ 2 }
-    ensures usage { IfOk words (λ given. (result ≡ 2) ↔ AsksFor (map string_bytes (into_iter_items given)) None) }
+    ensures usage { IfOk words (λ given.
+        (result ≡ 2) ↔ WordsAskFor (map string_bytes (into_iter_items given)) None) }
+    ensures untouched { result ≡ 2 → (input.new ≡ input.old) × (output.new ≡ output.old) }
+    ensures ends { IfOk words (λ given. (call : Call) →
+        WordsAskFor (map string_bytes (into_iter_items given)) (Some call) →
+        CallEnds call result (R.remaining input.old.inner) (W.contents output.old.inner)
+        (W.contents output.new.inner)) }
+    ensures words { IfErr words (λ _. (1 ≤ result) × (input.new ≡ input.old)
+        × (output.new ≡ output.old)) }
+    ensures quiet { result ≡ 0 → errors.new ≡ errors.old }
 {
-    match run(rt, words, input, output) {
+    let ended = match words {
+        Ok(given) => do_call(rt, given, input, output),
+        Err(error) => Err(start_fault(&error, Fault::Usage)),
+    };
+    match ended {
         Ok(()) => 0,
         Err(fault) => {
             let text = fault.message();
@@ -154,40 +174,76 @@ where
     }
 }
 
-fn run<T, R, W>(rt: &T, words: io::Result<Args>, input: R, mut output: W) -> Result<(), Fault>
+// Does what the words ask for.
+fn do_call<T, R, W>(
+    rt: &T,
+    words: Args,
+    input: &mut Watched<R>,
+    output: &mut Watched<W>,
+) -> Result<(), Fault>
 where
     T: Threads + Wait + RandomSource + AllocGlobal + Copy + Send + Sync + 'static,
     R: Read + Drop,
     W: Write + Drop,
-    ensures { IfOk words (λ given. (result ≡ Err Fault.Usage) ↔ AsksFor (map string_bytes (into_iter_items given)) None) }
+    ensures usage { (result ≡ Err Fault.Usage)
+        ↔ WordsAskFor (map string_bytes (into_iter_items words)) None }
+    ensures untouched { result ≡ Err Fault.Usage →
+        (input.new ≡ input.old) × (output.new ≡ output.old) }
+    ensures ends { (call : Call) →
+        WordsAskFor (map string_bytes (into_iter_items words)) (Some call) →
+        CallEnds call (ended_status result) (R.remaining input.old.inner)
+        (W.contents output.old.inner) (W.contents output.new.inner) }
 {
-    let words = words.map_err(|error| start_fault(&error, Fault::Usage))?;
     match call_of(words) {
         None => Err(Fault::Usage),
         Some(Call::Script) => answer_script(rt, input, output),
-        Some(Call::Threads { threads, wakes }) => {
-            threads_run(*rt, rt.alloc(), threads, wakes, OpenGate, &mut output)?;
-            Ok(())
-        }
+        Some(Call::Threads { threads, wakes }) => run_threads(rt, threads, wakes, output),
     }
 }
 
+fn run_threads<T, W>(
+    rt: &T,
+    threads: usize,
+    wakes: usize,
+    output: &mut Watched<W>,
+) -> Result<(), Fault>
+where
+    T: Threads + Wait + RandomSource + AllocGlobal + Copy + Send + Sync + 'static,
+    W: Write + Drop,
+    requires threads { threads ≤ MAX_THREADS }
+    requires wakes { wakes ≤ MAX_WAKES }
+    ensures ok { OnOk result (AppendsThreadsLine threads wakes (W.contents output.old.inner)
+        (W.contents output.new.inner)) }
+    ensures fault { IfErr result (λ fault. status_of fault ≡ 1) }
+{
+    Ok(threads_run(*rt, rt.alloc(), threads, wakes, OpenGate, output)?)
+}
+
 // Answers the script in one poll of a task of its own, which nothing wakes.
-fn answer_script<T, R, W>(rt: &T, input: R, output: W) -> Result<(), Fault>
+fn answer_script<T, R, W>(
+    rt: &T,
+    input: &mut Watched<R>,
+    output: &mut Watched<W>,
+) -> Result<(), Fault>
 where
     T: RandomSource + AllocGlobal,
     R: Read + Drop,
     W: Write + Drop,
-    ensures { result ≢ Err Fault.Usage }
+    ensures ends { IfSome (R.remaining input.old.inner) (λ bytes. EndsScript (ended_status result)
+        bytes (W.contents output.old.inner) (W.contents output.new.inner)) }
+    ensures fault { IfErr result (λ fault. status_of fault ≡ 1) }
 {
-    let solo = Solo::new(rt, Doorbell::spinning());
-    let solo = solo.map_err(|error| start_fault(&error, Fault::Start))?;
+    let solo = match Solo::new(rt, Doorbell::spinning()) {
+        Ok(solo) => solo,
+        Err(error) => return Err(start_fault(&error, Fault::Start)),
+    };
     let mut cx = solo.begin();
-    let mut input = Watched::new(input);
-    let mut output = Watched::new(output);
-    let answered = script(rt.alloc(), &mut cx, &mut input, &mut output);
+    let answered = script(rt.alloc(), &mut cx, input, output);
     cx.cancel();
-    Ok(answered?)
+    match answered {
+        Ok(()) => Ok(()),
+        Err(fault) => Err(Fault::from(fault)),
+    }
 }
 
 // Why something was not begun: memory, or another fault.

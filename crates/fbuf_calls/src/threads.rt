@@ -1,19 +1,22 @@
 //! A run in which threads wake the slots of one set.
-ghost use Rattle.std.specs.Prelude.{◌≡◌, ◌≢◌, ℕ, ◌+◌, ◌<◌, ◌≤◌, ⊤, IfOk, IfErr, OnOk, length, vec_len, vec_capacity};
+ghost use Rattle.std.specs.Prelude.{◌≡◌, ◌≢◌, ℕ, ◌+◌, ◌<◌, ◌≤◌, ⊤};
+ghost use Rattle.std.specs.Prelude.{IfOk, IfErr, OnOk, length, vec_len, vec_capacity};
 ghost use Rattle.std.specs.Arc.{arc_value};
 ghost use Rattle.std.specs.IoError.{error_kind};
 ghost use Rattle.std.specs.declared.io.ErrorKind.TheVariants.{OutOfMemory};
-ghost use Rattle.futures_buffered_core.specs.SlotMap.{no_slots};
+ghost use Rattle.std.specs.Io.KnownBytes.{Appends};
+ghost use Rattle.futures_buffered_core.specs.SlotMap.{no_slots, held_count};
 ghost use Rattle.futures_buffered_bounded.specs.Held.{AllHeld};
+ghost use Rattle.fbuf_calls.specs.Threads.{AppendsThreadsLine, threads_line, output_count};
 
 use futures::StreamExt;
 use futures::executor::block_on;
-use futures::future::poll_immediate;
-use futures::task::Poll;
+use futures::task::{Doorbell, Poll, Solo};
 use futures_buffered_core::ready_core::NewFault;
 use futures_buffered_core::ready_shared::{SharedReady, SlotWake};
 use futures_buffered_core::ready_source::SlotWaker;
 use futures_buffered_sets::futures_unordered_bounded::FuturesUnorderedBounded;
+use futures_buffered_sets::poll_one::PollFuture;
 use futures_buffered_sets::slot_future::SlotFuture;
 use std::alloc::{AllocError, AllocFailed, AllocGlobal, Global};
 use std::random::RandomSource;
@@ -143,7 +146,7 @@ fn wake_slot<R: Wait, G: Gate>(
     }
 }
 
-// A seat for each future, in order.
+// A seat for each future, in order. The set then holds them all.
 fn seated<R: Wait + Clone + Drop>(
     rt: &R,
     alloc: Global,
@@ -153,6 +156,7 @@ fn seated<R: Wait + Clone + Drop>(
 ) -> Result<Vec<Arc<Seat<R>>>, ThreadsFault>
     requires { set.old.slots ≡ no_slots n }
     ensures seats { IfOk result (λ seats. vec_len seats ≡ n) }
+    ensures held { OnOk result (held_count set.new.slots ≡ n) }
     ensures goals { OnOk result (AllHeld (λ future. future.goal ≡ m) set.new.slots) }
     ensures fault { IfErr result (λ fault. fault ≡ ThreadsFault.Memory) }
 {
@@ -190,7 +194,9 @@ where
     R: Threads + Wait + Copy + Send + Sync + 'static,
     G: Gate + Drop + Send + Sync + 'static,
     requires room { vec_len started.old + length seats.now ≤ vec_capacity started.old }
-    requires opens { (thread wake : ℕ) → thread < length seats.now → wake < m → G.opens (arc_value gate.now) thread wake }
+    requires opens { (thread wake : ℕ) → thread < length seats.now → wake < m →
+        G.opens (arc_value gate.now) thread wake }
+    ensures fault { IfErr result (λ fault. fault ≢ ThreadsFault.Write) }
 {
     for (thread, seat) in seats.iter().enumerate() {
         let Some(waker) = seat.waker.lock(&rt).take() else {
@@ -221,7 +227,7 @@ fn new_set<R: Wait + Clone + Drop>(rt: &R, alloc: Global, n: usize) -> Result<Se
     }
 }
 
-// Why `block_on` did not run.
+// Why a task of the run could not be begun.
 fn fault_of(error: io::Error) -> ThreadsFault
     ensures memory { error_kind error ≡ OutOfMemory → result ≡ ThreadsFault.Memory }
     ensures other { error_kind error ≢ OutOfMemory → result ≡ ThreadsFault.Thread }
@@ -232,33 +238,131 @@ fn fault_of(error: io::Error) -> ThreadsFault
     }
 }
 
+// One poll names each future, and each keeps its waker. It may answer what one of them gave.
+fn poll_once<R: Wait + RandomSource + AllocGlobal + Drop>(
+    rt: &R,
+    set: &mut Set<R>,
+) -> Result<Option<usize>, ThreadsFault>
+    ensures count { IfOk result (λ first.
+        held_count set.new.slots + output_count first ≡ held_count set.old.slots) }
+    ensures fault { IfErr result (λ fault. fault ≢ ThreadsFault.Write) }
+{
+    let solo = match Solo::new(rt, Doorbell::spinning()) {
+        Ok(solo) => solo,
+        Err(error) => return Err(fault_of(error)),
+    };
+    let mut cx = solo.begin();
+    let polled = set.poll_with(&PollFuture, &mut cx);
+    cx.cancel();
+    match polled {
+        Poll::Ready(first) => Ok(first),
+        Poll::Pending => Ok(None),
+    }
+}
+
 // What the futures answer until the set holds none.
 fn outputs_of<R: Wait + RandomSource + AllocGlobal + Drop>(
     rt: &R,
     alloc: Global,
     set: Set<R>,
-) -> Result<Vec<usize>, ThreadsFault> {
-    let outputs = block_on(rt, set.collect(alloc)).map_err(fault_of)?;
-    Ok(outputs?)
+) -> Result<Vec<usize>, ThreadsFault>
+    ensures count { IfOk result (λ outputs. vec_len outputs ≡ held_count set.slots) }
+    ensures fault { IfErr result (λ fault. fault ≢ ThreadsFault.Write) }
+{
+    match block_on(rt, set.collect(alloc)) {
+        Ok(Ok(outputs)) => Ok(outputs),
+        Ok(Err(_)) => Err(ThreadsFault::Memory),
+        Err(error) => Err(fault_of(error)),
+    }
+}
+
+// Starts the threads, and answers what the futures give until the set holds none.
+fn run_started<R, G>(
+    rt: R,
+    alloc: Global,
+    m: usize,
+    gate: &Arc<G>,
+    seats: &[Arc<Seat<R>>],
+    set: Set<R>,
+    started: &mut Vec<JoinHandle<()>>,
+) -> Result<Vec<usize>, ThreadsFault>
+where
+    R: Threads + Wait + RandomSource + AllocGlobal + Copy + Send + Sync + 'static,
+    G: Gate + Drop + Send + Sync + 'static,
+    requires room { vec_len started.old + length seats.now ≤ vec_capacity started.old }
+    requires opens { (thread wake : ℕ) → thread < length seats.now → wake < m →
+        G.opens (arc_value gate.now) thread wake }
+    ensures count { IfOk result (λ outputs. vec_len outputs ≡ held_count set.slots) }
+    ensures fault { IfErr result (λ fault. fault ≢ ThreadsFault.Write) }
+{
+    start(rt, m, gate, seats, started)?;
+    outputs_of(&rt, alloc, set)
+}
+
+// All outputs in rising order: those of the threads, and that of the first poll if there was one.
+fn in_rising_order(outputs: Vec<usize>, first: Option<usize>) -> Result<Vec<usize>, ThreadsFault>
+    ensures count { IfOk result (λ all. vec_len all ≡ vec_len outputs + output_count first) }
+    ensures fault { IfErr result (λ fault. fault ≡ ThreadsFault.Memory) }
+{
+    let mut all = outputs;
+    if let Some(number) = first {
+        all.push(number)?;
+    }
+    all.sort_unstable();
+    Ok(all)
+}
+
+// Runs the threads to their end, and answers what the futures gave.
+fn outputs_after_all<R, G>(
+    rt: R,
+    alloc: Global,
+    n: usize,
+    m: usize,
+    gate: G,
+) -> Result<Vec<usize>, ThreadsFault>
+where
+    R: Threads + Wait + RandomSource + AllocGlobal + Copy + Send + Sync + 'static,
+    G: Gate + Drop + Send + Sync + 'static,
+    requires threads { n ≤ MAX_THREADS }
+    requires opens { (thread wake : ℕ) → thread < n → wake < m → G.opens gate thread wake }
+    ensures count { IfOk result (λ outputs. vec_len outputs ≡ n) }
+    ensures fault { IfErr result (λ fault. fault ≢ ThreadsFault.Write) }
+{
+    let mut set = new_set(&rt, alloc, n)?;
+    let seats = seated(&rt, alloc, n, m, &mut set)?;
+    let gate = Arc::new(alloc, gate)?;
+    let mut started = Vec::with_capacity(alloc, n)?;
+    let first = poll_once(&rt, &mut set)?;
+    let outputs = run_started(rt, alloc, m, &gate, &seats, set, &mut started);
+    for handle in started {
+        handle.join(&rt);
+    }
+    in_rising_order(outputs?, first)
 }
 
 fn write_line<W: io::Write>(output: &mut W, n: usize, m: usize, outputs: &[usize]) -> io::Result<()>
     requires threads { n ≤ MAX_THREADS }
     requires wakes { m ≤ MAX_WAKES }
+    ensures { OnOk result (Appends (W.contents output.old) (W.contents output.new)
+        (threads_line n m outputs.now)) }
 {
     write!(output, "threads {n} wakes {} outputs", n * m)?;
     for number in outputs {
         write!(output, " {number}")?;
     }
     writeln!(output)?;
-    output.flush()
+    output.flush()?;
+    Ok(())
 }
 
-/// Holds `n` futures in a set, and starts as many threads. Thread i adds one to the counter of future i and wakes its slot, `m` times,
-/// and passes the gate before and after each of these wakes. Future i answers i once its counter is `m`.
-/// The line that is written has the numbers that were answered, in rising order.
+/// Holds `n` futures in a set, and starts as many threads. Thread i adds one to the counter of
+/// future i and wakes its slot, `m` times, and passes the gate before and after each of these wakes.
+/// Future i answers i once its counter is `m`. The line that is written has the numbers that were
+/// answered, in rising order, and is flushed.
 ///
-/// Each thread that was started has ended when this returns, also at a fault. At a fault before `Write` nothing was written.
+/// Each thread that was started has ended when this returns, also at a fault. The memory is that of
+/// `n` threads, slots and counters; a wake takes a lock of the set's source and none of another
+/// future.
 pub fn threads_run<R, G, W>(
     rt: R,
     alloc: Global,
@@ -274,24 +378,14 @@ where
     requires threads { n ≤ MAX_THREADS }
     requires wakes { m ≤ MAX_WAKES }
     requires opens { (thread wake : ℕ) → thread < n → wake < m → G.opens gate thread wake }
+    ensures ok { OnOk result
+        (AppendsThreadsLine n m (W.contents output.old) (W.contents output.new)) }
+    ensures unwritten { IfErr result (λ fault.
+        fault ≢ ThreadsFault.Write → output.new ≡ output.old) }
 {
-    let mut set = new_set(&rt, alloc, n)?;
-    let seats = seated(&rt, alloc, n, m, &mut set)?;
-    let gate = Arc::new(alloc, gate)?;
-    let mut started = Vec::with_capacity(alloc, n)?;
-    // One poll names each future, and each keeps its waker.
-    let first = block_on(&rt, poll_immediate(set.next())).map_err(fault_of)?;
-    let outputs = match start(rt, m, &gate, &seats, &mut started) {
-        Ok(()) => outputs_of(&rt, alloc, set),
-        Err(fault) => Err(fault),
-    };
-    for handle in started {
-        handle.join(&rt);
+    let outputs = outputs_after_all(rt, alloc, n, m, gate)?;
+    match write_line(output, n, m, &outputs) {
+        Ok(()) => Ok(()),
+        Err(_) => Err(ThreadsFault::Write),
     }
-    let mut outputs = outputs?;
-    if let Some(Some(number)) = first {
-        outputs.push(number)?;
-    }
-    outputs.sort_unstable();
-    write_line(output, n, m, &outputs).map_err(|_| ThreadsFault::Write)
 }

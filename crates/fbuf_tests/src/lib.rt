@@ -2,6 +2,8 @@
 #![tactic(auto)]
 
 #[cfg(test)]
+mod fakes;
+#[cfg(test)]
 mod program_words;
 #[cfg(test)]
 mod script;

@@ -1,28 +1,16 @@
-//! Calls of the program by their words, and what each ends with.
+//! Calls of the program by their words, and what each reads, writes and ends with.
+use crate::fakes::{Sink, Source};
 use fbuf_calls::program_words::run_words;
+use fbuf_calls::watched::Watched;
 use std::alloc::{AllocError, AllocGlobal, Global};
 use std::env::Args;
 use std::io;
-use std::io::{ErrorKind, Write};
+use std::io::ErrorKind;
 use std::process::Abort;
 use std::random::RandomSource;
 use std::sync::Wait;
 use std::test::Fail;
 use std::thread::Threads;
-
-// Refuses every write.
-#[derive(Drop)]
-struct Closed;
-
-impl Write for Closed {
-    fn write(&mut self, _buf: &[u8]) -> io::Result<usize> {
-        Err(io::Error::from(ErrorKind::BrokenPipe))
-    }
-
-    fn flush(&mut self) -> io::Result<()> {
-        Ok(())
-    }
-}
 
 fn args(alloc: Global, words: &[&str]) -> Result<Args, AllocError> {
     let mut all = Vec::new(alloc);
@@ -33,24 +21,50 @@ fn args(alloc: Global, words: &[&str]) -> Result<Args, AllocError> {
     Ok(all.into_iter())
 }
 
-fn assert_ends<H>(
-    rt: &H,
-    words: io::Result<Args>,
-    input: &[u8],
+// What a call has written, and what of its reader and writer is left.
+#[derive(Drop)]
+struct Ended<'a> {
     status: u8,
-    errors: &[u8],
-) -> Result<(), Fail>
+    input: Source<'a>,
+    output: Sink,
+    errors: Vec<u8>,
+}
+
+fn end_of<'a, H>(rt: &H, words: io::Result<Args>, input: Source<'a>, output: Sink) -> Ended<'a>
 where
-    H: Abort + Threads + Wait + RandomSource + AllocGlobal + Copy + Send + Sync + 'static,
+    H: Threads + Wait + RandomSource + AllocGlobal + Copy + Send + Sync + 'static,
 {
-    let output = Vec::new(rt.alloc());
-    let mut written = Vec::new(rt.alloc());
-    assert_eq!(rt; run_words(rt, words, input, output, &mut written), status);
-    assert_eq!(rt; written.as_slice(), errors);
-    Ok(())
+    let mut input = Watched::new(input);
+    let mut output = Watched::new(output);
+    let mut errors = Vec::new(rt.alloc());
+    let status = run_words(rt, words, &mut input, &mut output, &mut errors);
+    Ended {
+        status,
+        input: input.into_inner(),
+        output: output.into_inner(),
+        errors,
+    }
 }
 
 const USAGE: &[u8] = b"fbuf: usage: fbuf, or fbuf threads N M\n";
+
+fn assert_usage<H>(rt: &H, words: io::Result<Args>) -> Result<(), Fail>
+where
+    H: Abort + Threads + Wait + RandomSource + AllocGlobal + Copy + Send + Sync + 'static,
+{
+    // A reader that fails at its first read: it is not read.
+    let input = Source {
+        bytes: b"len\n",
+        at_most: 1,
+        reads: 0,
+    };
+    let ended = end_of(rt, words, input, Sink::roomy(rt.alloc()));
+    assert_eq!(rt; ended.status, 2);
+    assert_eq!(rt; ended.errors.as_slice(), USAGE);
+    assert_eq!(rt; ended.output.bytes.len(), 0);
+    assert_eq!(rt; ended.input.bytes.len(), 4);
+    Ok(())
+}
 
 #[test]
 fn tells_the_usage(rt: HostRuntime) -> Result<(), Fail> {
@@ -72,78 +86,107 @@ fn tells_the_usage(rt: HostRuntime) -> Result<(), Fail> {
         &["thread", "1", "1"],
     ];
     for words in rows {
-        assert_ends(&rt, Ok(args(rt.alloc(), words)?), b"", 2, USAGE)?;
+        assert_usage(&rt, Ok(args(rt.alloc(), words)?))?;
     }
-    let no_text = io::Error::from(ErrorKind::InvalidData);
-    assert_ends(&rt, Err(no_text), b"", 2, USAGE)
+    assert_usage(&rt, Err(io::Error::from(ErrorKind::InvalidData)))
 }
 
 #[test]
-fn says_what_failed(rt: HostRuntime) -> Result<(), Fail> {
-    assert_ends(
-        &rt,
-        Ok(args(rt.alloc(), &[])?),
-        b"unordered 1\nlen\n",
-        0,
-        b"",
-    )?;
-    let greatest = b"unordered 1\nunordered 4611686018427387903\n";
-    assert_ends(
-        &rt,
-        Ok(args(rt.alloc(), &[])?),
-        greatest,
-        1,
-        b"fbuf: out of memory\n",
-    )?;
+fn says_that_there_was_no_memory(rt: HostRuntime) -> Result<(), Fail> {
+    let greatest = Source::whole(b"unordered 1\nunordered 4611686018427387903\n");
+    let words = args(rt.alloc(), &[])?;
+    let ended = end_of(&rt, Ok(words), greatest, Sink::roomy(rt.alloc()));
+    assert_eq!(rt; ended.status, 1);
+    assert_eq!(rt; ended.errors.as_slice(), b"fbuf: out of memory\n".as_slice());
+    assert_eq!(rt; ended.output.bytes.as_slice(), b"ok\n".as_slice());
     let no_memory = io::Error::from(AllocError);
-    assert_ends(&rt, Err(no_memory), b"", 1, b"fbuf: out of memory\n")
+    let ended = end_of(&rt, Err(no_memory), Source::whole(b""), Sink::roomy(rt.alloc()));
+    assert_eq!(rt; ended.status, 1);
+    assert_eq!(rt; ended.errors.as_slice(), b"fbuf: out of memory\n".as_slice());
+    Ok(())
+}
+
+#[test]
+fn says_that_a_read_failed(rt: HostRuntime) -> Result<(), Fail> {
+    for reads in 0..5 {
+        let input = Source {
+            bytes: b"len\n",
+            at_most: 1,
+            reads,
+        };
+        let words = args(rt.alloc(), &[])?;
+        let ended = end_of(&rt, Ok(words), input, Sink::roomy(rt.alloc()));
+        assert_eq!(rt; ended.status, 1);
+        assert_eq!(rt; ended.errors.as_slice(), b"fbuf: read failed\n".as_slice());
+        assert_eq!(rt; ended.output.bytes.len(), 0);
+    }
+    Ok(())
 }
 
 #[test]
 fn says_that_a_write_failed(rt: HostRuntime) -> Result<(), Fail> {
-    let mut errors = Vec::new(rt.alloc());
+    let rows: [&[&str]; 2] = [&[], &["threads", "1", "1"]];
+    for row in rows {
+        let words = args(rt.alloc(), row)?;
+        let closed = Sink::new(rt.alloc(), 1, 0);
+        let ended = end_of(&rt, Ok(words), Source::whole(b"len\n"), closed);
+        assert_eq!(rt; ended.status, 1);
+        assert_eq!(rt; ended.errors.as_slice(), b"fbuf: write failed\n".as_slice());
+    }
+    Ok(())
+}
+
+#[test]
+fn ends_with_1_where_errors_are_closed_too(rt: HostRuntime) -> Result<(), Fail> {
     let words = args(rt.alloc(), &[])?;
+    let mut input = Watched::new(Source::whole(b"len\n"));
+    let mut output = Watched::new(Sink::new(rt.alloc(), 1, 0));
+    let mut errors = Sink::new(rt.alloc(), 1, 0);
     assert_eq!(rt;
-        run_words(&rt, Ok(words), b"len\n".as_slice(), Closed, &mut errors),
-        1
-    );
-    assert_eq!(rt; errors.as_slice(), b"fbuf: write failed\n".as_slice());
-    // Standard error may be closed too.
-    let words = args(rt.alloc(), &[])?;
-    assert_eq!(rt;
-        run_words(&rt, Ok(words), b"len\n".as_slice(), Closed, &mut Closed),
+        run_words(&rt, Ok(words), &mut input, &mut output, &mut errors),
         1
     );
     Ok(())
 }
 
+fn assert_done<H>(rt: &H, words: &[&str], input: &[u8], want: &[u8]) -> Result<u8, Fail>
+where
+    H: Abort + Threads + Wait + RandomSource + AllocGlobal + Copy + Send + Sync + 'static,
+{
+    let words = args(rt.alloc(), words)?;
+    let ended = end_of(rt, Ok(words), Source::whole(input), Sink::roomy(rt.alloc()));
+    assert_eq!(rt; ended.status, 0);
+    assert_eq!(rt; ended.output.bytes.as_slice(), want);
+    assert_eq!(rt; ended.errors.len(), 0);
+    Ok(ended.output.flushes)
+}
+
+#[test]
+fn answers_a_script(rt: HostRuntime) -> Result<(), Fail> {
+    assert_done(&rt, &[], b"unordered 1\nlen\n", b"ok\n0\n")?;
+    Ok(())
+}
+
 #[test]
 fn runs_threads(rt: HostRuntime) -> Result<(), Fail> {
-    let rows: [(&[&str], &[u8]); 2] = [
+    let rows: [(&[&str], &[u8]); 4] = [
         (&["threads", "1", "1"], b"threads 1 wakes 1 outputs 0\n"),
         (
             &["threads", "4", "1000"],
             b"threads 4 wakes 4000 outputs 0 1 2 3\n",
         ),
+        (
+            &["threads", "32", "1"],
+            b"threads 32 wakes 32 outputs 0 1 2 3 4 5 6 7 8 9 10 11 12 13 14 15 16 17 18 19 20 21 22 23 24 25 26 27 28 29 30 31\n",
+        ),
+        (
+            &["threads", "1", "1000000"],
+            b"threads 1 wakes 1000000 outputs 0\n",
+        ),
     ];
     for (words, line) in rows {
-        let mut output = Vec::new(rt.alloc());
-        let mut errors = Vec::new(rt.alloc());
-        let words = args(rt.alloc(), words)?;
-        let input = b"len\n".as_slice();
-        assert_eq!(rt;
-            run_words(&rt, Ok(words), input, &mut output, &mut errors),
-            0
-        );
-        assert_eq!(rt; output.as_slice(), line);
-        assert_eq!(rt; errors.len(), 0);
+        let flushes = assert_done(&rt, words, b"len\n", line)?;
+        assert_eq!(rt; flushes, 1);
     }
-    let words = args(rt.alloc(), &["threads", "1", "1"])?;
-    let mut errors = Vec::new(rt.alloc());
-    assert_eq!(rt;
-        run_words(&rt, Ok(words), b"".as_slice(), Closed, &mut errors),
-        1
-    );
-    assert_eq!(rt; errors.as_slice(), b"fbuf: write failed\n".as_slice());
     Ok(())
 }

@@ -1,58 +1,12 @@
 //! Scripts and their replies, and readers and writers that fail.
+use crate::fakes::{Sink, Source};
 use fbuf_calls::script::{ScriptFault, script};
 use fbuf_calls::watched::Watched;
 use futures::test::MockTask;
-use std::alloc::{AllocError, AllocGlobal, Global};
-use std::io;
-use std::io::{ErrorKind, Read, Write};
+use std::alloc::AllocGlobal;
 use std::process::Abort;
 use std::random::RandomSource;
 use std::test::Fail;
-
-// Gives the bytes a few at a time, and fails at the read that finds none left of `reads`.
-#[derive(Drop)]
-struct Source<'a> {
-    bytes: &'a [u8],
-    at_most: usize,
-    reads: usize,
-}
-
-impl<'a> Read for Source<'a> {
-    fn read(&mut self, buf: &mut [u8]) -> io::Result<usize> {
-        if self.reads == 0 {
-            return Err(io::Error::from(ErrorKind::Interrupted));
-        }
-        self.reads -= 1;
-        let count = self.at_most.min(self.bytes.len()).min(buf.len());
-        buf[..count].copy_from_slice(&self.bytes[..count]);
-        self.bytes = &self.bytes[count..];
-        Ok(count)
-    }
-}
-
-// Takes a few bytes at a time, and fails at the write that finds none left of `writes`.
-#[derive(Drop)]
-struct Sink {
-    bytes: Vec<u8>,
-    at_most: usize,
-    writes: usize,
-}
-
-impl Write for Sink {
-    fn write(&mut self, buf: &[u8]) -> io::Result<usize> {
-        if self.writes == 0 {
-            return Err(io::Error::from(ErrorKind::Interrupted));
-        }
-        self.writes -= 1;
-        let count = self.at_most.min(buf.len());
-        self.bytes.extend_from_slice(&buf[..count])?;
-        Ok(count)
-    }
-
-    fn flush(&mut self) -> io::Result<()> {
-        Ok(())
-    }
-}
 
 // What was written, how it ended, and whether each side had failed.
 #[derive(Drop)]
@@ -80,27 +34,11 @@ fn run_over<H: RandomSource + AllocGlobal>(
     })
 }
 
-fn whole(bytes: &[u8]) -> Source<'_> {
-    Source {
-        bytes,
-        at_most: usize::MAX,
-        reads: usize::MAX,
-    }
-}
-
-fn roomy(alloc: Global) -> Sink {
-    Sink {
-        bytes: Vec::new(alloc),
-        at_most: usize::MAX,
-        writes: usize::MAX,
-    }
-}
-
 fn assert_replies<H>(rt: &H, text: &[u8], want: &[u8]) -> Result<(), Fail>
 where
     H: Abort + RandomSource + AllocGlobal,
 {
-    let outcome = run_over(rt, whole(text), roomy(rt.alloc()))?;
+    let outcome = run_over(rt, Source::whole(text), Sink::roomy(rt.alloc()))?;
     assert_eq!(rt; outcome.answer, Ok(()));
     assert_eq!(rt; outcome.failed, (false, false));
     assert_eq!(rt; outcome.written.as_slice(), want);
@@ -289,11 +227,7 @@ fn reads_and_writes_a_byte_at_a_time(rt: HostRuntime) -> Result<(), Fail> {
         at_most: 1,
         reads: usize::MAX,
     };
-    let sink = Sink {
-        bytes: Vec::new(rt.alloc()),
-        at_most: 1,
-        writes: usize::MAX,
-    };
+    let sink = Sink::new(rt.alloc(), 1, usize::MAX);
     let outcome = run_over(&rt, source, sink)?;
     assert_eq!(rt; outcome.answer, Ok(()));
     assert_eq!(rt; outcome.written.as_slice(), REPLIES);
@@ -308,7 +242,7 @@ fn writes_nothing_where_a_read_fails(rt: HostRuntime) -> Result<(), Fail> {
             at_most: 1,
             reads,
         };
-        let outcome = run_over(&rt, source, roomy(rt.alloc()))?;
+        let outcome = run_over(&rt, source, Sink::roomy(rt.alloc()))?;
         assert_eq!(rt; outcome.answer, Err(ScriptFault::Read));
         assert_eq!(rt; outcome.failed, (true, false));
         assert_eq!(rt; outcome.written.len(), 0);
@@ -319,12 +253,8 @@ fn writes_nothing_where_a_read_fails(rt: HostRuntime) -> Result<(), Fail> {
 #[test]
 fn writes_a_beginning_where_a_write_fails(rt: HostRuntime) -> Result<(), Fail> {
     for writes in 0..REPLIES.len() {
-        let sink = Sink {
-            bytes: Vec::new(rt.alloc()),
-            at_most: 1,
-            writes,
-        };
-        let outcome = run_over(&rt, whole(TEXT), sink)?;
+        let sink = Sink::new(rt.alloc(), 1, writes);
+        let outcome = run_over(&rt, Source::whole(TEXT), sink)?;
         assert_eq!(rt; outcome.answer, Err(ScriptFault::Write));
         assert_eq!(rt; outcome.failed, (false, true));
         assert_eq!(rt; Some(outcome.written.as_slice()), REPLIES.get(..writes));
@@ -334,12 +264,8 @@ fn writes_a_beginning_where_a_write_fails(rt: HostRuntime) -> Result<(), Fail> {
 
 #[test]
 fn a_write_that_takes_nothing_fails(rt: HostRuntime) -> Result<(), Fail> {
-    let sink = Sink {
-        bytes: Vec::new(rt.alloc()),
-        at_most: 0,
-        writes: usize::MAX,
-    };
-    let outcome = run_over(&rt, whole(TEXT), sink)?;
+    let sink = Sink::new(rt.alloc(), 0, usize::MAX);
+    let outcome = run_over(&rt, Source::whole(TEXT), sink)?;
     assert_eq!(rt; outcome.answer, Err(ScriptFault::Write));
     assert_eq!(rt; outcome.failed, (false, true));
     Ok(())
@@ -348,7 +274,7 @@ fn a_write_that_takes_nothing_fails(rt: HostRuntime) -> Result<(), Fail> {
 #[test]
 fn answers_the_lines_before_memory_was_refused(rt: HostRuntime) -> Result<(), Fail> {
     let text = b"unordered 1\nlen\nunordered 4611686018427387903\nlen\n";
-    let outcome = run_over(&rt, whole(text), roomy(rt.alloc()))?;
+    let outcome = run_over(&rt, Source::whole(text), Sink::roomy(rt.alloc()))?;
     assert_eq!(rt; outcome.answer, Err(ScriptFault::Memory));
     assert_eq!(rt; outcome.failed, (false, false));
     assert_eq!(rt; outcome.written.as_slice(), b"ok\n0\n".as_slice());

@@ -1,3 +1,4 @@
+//! Runs of threads over one set, past gates that see each wake.
 ghost use Rattle.std.specs.Prelude.{◌<◌};
 
 use fbuf_calls::threads::{Gate, OpenGate, threads_run};
@@ -9,11 +10,15 @@ use std::thread::yield_now;
 
 const TURNS: u64 = 1000000000;
 
+// How long a thread that is late stays behind its last wake.
+const LATE_TURNS: u64 = 100000;
+
 const ALL_PASSED: u64 = 255;
 
 const TOO_LATE: u64 = 256;
 
-// Holds each of two threads before its first wake until the other has come there too, and notes each passage by a bit of its own.
+// Holds each of two threads before its first wake until the other has come there too, and notes
+// each passage by a bit of its own.
 #[derive(Drop)]
 struct Meeting {
     arrived: Arc<AtomicU64>,
@@ -85,5 +90,39 @@ fn prints_one_line(rt: HostRuntime) -> Result<(), Fail> {
         output.as_slice(),
         b"threads 4 wakes 4000 outputs 0 1 2 3\n".as_slice()
     );
+    Ok(())
+}
+
+// Holds the first thread behind its last wake for some turns, and notes that it has passed.
+#[derive(Drop)]
+struct LateEnd {
+    passed: Arc<AtomicU64>,
+}
+
+impl Gate for LateEnd {
+    fn before(&self, _thread: usize, _wake: usize) {}
+
+    fn after(&self, thread: usize, wake: usize) {
+        if thread == 0 && wake == 2 {
+            for _ in 0..LATE_TURNS {
+                yield_now();
+            }
+            self.passed.store(1, SeqCst);
+        }
+    }
+}
+
+#[test]
+fn joins_each_thread(rt: HostRuntime) -> Result<(), Fail> {
+    let passed = Arc::new(rt.alloc(), AtomicU64::new(0))?;
+    let gate = LateEnd {
+        passed: Arc::try_clone(&passed)?,
+    };
+    let mut output = Vec::new(rt.alloc());
+    assert_eq!(rt;
+        threads_run(rt, rt.alloc(), 2, 3, gate, &mut output),
+        Ok(())
+    );
+    assert_eq!(rt; passed.load(SeqCst), 1);
     Ok(())
 }

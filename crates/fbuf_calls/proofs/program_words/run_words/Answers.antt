@@ -1,8 +1,12 @@
-use Rattle.fbuf_calls.proofs.ProgramWordsLemmas.{status_low, usage_status}
+use Rattle.std.proofs.Common.{sym, ◌∙◌}
+use Rattle.fbuf_calls.proofs.ProgramWordsLemmas.{usage_status}
 use Rattle.fbuf_calls.proofs.program_words.run_words.Goals as goal
+use Rattle.fbuf_calls.proofs.program_words.run_words.Goals.{in-Ok, in-Err}
 
-pub returns-in-Err-clause-low : goal.returns-in-Err-clause-low
-returns-in-Err-clause-low g c = rw c.status.ensures (status_low c.in-Err.fault)
-
-pub returns-in-Err-clause-usage : goal.returns-in-Err-clause-usage
-returns-in-Err-clause-usage g c = usage_status c.args.words _ c.run.result c.in-Err.fault c.status.result c.in-Err.is c.status.ensures c.run.ensures
+pub returns-in-Err-ended-clause-usage : goal.returns-in-Err-ended-clause-usage
+returns-in-Err-ended-clause-usage g c =
+    elim c.match-words.branch [
+      | in-Ok w ↦ usage_status c.args.words w.in-Ok.given _ _ c.in-Err-ended.fault _ w.in-Ok.is
+          (sym w.ended-is ∙ c.in-Err-ended.is) c.status.ensures w.do_call-ended.ensures.usage
+      | in-Err w ↦ rw w.in-Err.is tt
+    ]

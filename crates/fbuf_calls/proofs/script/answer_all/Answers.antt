@@ -43,7 +43,7 @@ loop-line-preserved-in_ok-write_all-2 g c =
     let so = RepliesSoFar-line c.args.bytes.now _ _ _ _ _ c.loop-line.invariant.so_far
     c.in-Some.line.now c.in-Some.after.now given.0 _ _ c.in-Some.ensures.first given.1 given.2 in
     let appends =
-        rw c.deref-then-len-ge-WRITE_SIZE.ensures.value at c.in_ok-write_all-2.ensures.ok in
+    rw c.deref-then-len-ge-WRITE_SIZE.ensures.value at c.in_ok-write_all-2.ensures.ok in
     record {
       so_far = rw c.clear.ensures.items (RepliesSoFar-sent c.args.bytes.now _ _ _ _ _ so _ appends);
       unfailed = c.in_ok-write_all-2.ensures.unfailed ∙ c.loop-line.invariant.unfailed;
@@ -67,7 +67,7 @@ returns-clause-ok g c =
     let text = c.deref-2.ensures.value in
     on_ok_weaker c.write_all-2.result
     (λ appends. replies_whole c.args.bytes.now _ _ _ _ _ so c.in_default.ensures.end _
-      (rw text at appends))
+    (rw text at appends))
     c.write_all-2.ensures.ok
 
 pub returns-clause-write : goal.returns-clause-write
