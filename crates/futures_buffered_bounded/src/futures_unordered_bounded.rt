@@ -329,7 +329,7 @@ impl<F: SlotFuture<S::Waker>, S: ReadySource> Stream for FuturesUnorderedBounded
     }
 }
 
-impl<R: Wait + Clone + Drop + Send + Sync, F: Drop> FuturesUnorderedBounded<F, SharedReady<R>> {
+impl<R: Wait + Clone + Drop, F: Drop> FuturesUnorderedBounded<F, SharedReady<R>> {
     ghost use Rattle.std.specs.Prelude.{List};
 
     /// An empty set whose values are woken from any thread. It keeps a copy of the handle.
