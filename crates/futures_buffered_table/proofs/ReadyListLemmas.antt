@@ -1,7 +1,7 @@
 -- A seat of a list, and the steps that it makes.
 use Rattle.std.proofs.Common.{◌≡◌, ℕ, ◌+◌, ◌<◌, List, ◌++◌, sym, ap, ◌∙◌, subst, arith, append_assoc}
 use mathlib.Core.Option.{none}
-use Rattle.atomic_table.specs.Table.{Me, step, Allows}
+use Rattle.atomic_table.specs.Table.{Me, step as table_step, Allows}
 use Rattle.futures_buffered_table.specs.declared.view.AtomicStep.{AtomicStep}
 use Rattle.futures_buffered_table.specs.declared.view.Role.{Role}
 use Rattle.futures_buffered_table.specs.declared.view.View.{View}
@@ -37,12 +37,12 @@ module _ (table : TableId) (key n : ℕ) (L : KeepsList table key n) (seen : Lis
   is_me = is_seated n role seat.me (sits.0 ∙ sym cap) sits.1 sits.2
 
   pub may_step : (a b : ℕ) (f : ℕ → ℕ) → ((found : ℕ) → put_by_role n role found ≡ f found)
-      → (seat.table_id ≡ table) × (i < table.words) × Allows (HoldsRow key) table.slots seat.id seat.me i f (PlaysRole (step table.slots i a b none) seat.me)
+      → (seat.table_id ≡ table) × (i < table.words) × Allows (HoldsRow key) table.slots seat.id seat.me i f (PlaysRole (table_step table.slots i a b none) seat.me)
   may_step a b f put = (here, in_words, allows_step n seat.id i seat.me.0.steps role (lt cap) there table.slots key L.keyed seat.me is_me a b f put)
 
   pub may_store : (new : ℕ) → ((found : ℕ) → put_by_role n role found ≡ new)
       → ((found : ℕ) → next_view i (seated n role seat.me.0.steps).0 found ≡ next_view i (seated n role seat.me.0.steps).0 new) → MayFind n role new
-      → (seat.table_id ≡ table) × (i < table.words) × Allows (HoldsRow key) table.slots seat.id seat.me i (λ _. new) (λ _. PlaysRole (step table.slots i new 0 none) seat.me new)
+      → (seat.table_id ≡ table) × (i < table.words) × Allows (HoldsRow key) table.slots seat.id seat.me i (λ _. new) (λ _. PlaysRole (table_step table.slots i new 0 none) seat.me new)
   may_store new put blind told = (here, in_words, allows_store n seat.id i seat.me.0.steps role (lt cap) there table.slots key L.keyed seat.me is_me new put blind told)
 
 pub came_more : (a b c : Seat ℕ View) (s t : List AtomicStep) → Adds a b s → Adds b c t → Adds a c (s ++ t)

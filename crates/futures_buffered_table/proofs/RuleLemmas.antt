@@ -7,7 +7,7 @@ use Rattle.futures_buffered_table.specs.declared.view.Phase.{Phase}
 use Rattle.futures_buffered_table.specs.declared.view.Phase.TheVariants.{Start, AtStub, Moved, NoNext, Last, StubCleared, StubPut, StubLinked, InHand}
 use Rattle.futures_buffered_table.specs.declared.view.Role.{Role}
 use Rattle.futures_buffered_table.specs.declared.view.Role.TheVariants.{Idle, Won, Cleared, Swapped, Polls}
-use Rattle.atomic_table.specs.Table.{State, Me, step, keeps, Allows, Splits, Joins}
+use Rattle.atomic_table.specs.Table.{State, Me, step as table_step, keeps, Allows, Splits, Joins}
 use Rattle.futures_buffered_table.specs.declared.view.AtomicStep.{AtomicStep}
 use Rattle.atomic_table.proofs.Lists.{at_set, at_snoc, set_again}
 use Rattle.futures_buffered_table.specs.RowInvariant.{FitsRole, KeepsRow, outside, outside_by}
@@ -116,8 +116,8 @@ module _ (n id i : ℕ) (steps : List AtomicStep) where
   -- so the table lets the seat make it, by a step that puts what the role puts there
   module _ (role : Role) (lt : WakesSlot role) (there : i ≡ word_of_role n i role) (slots key : ℕ) (is_key : key ≡ n) (me : Me ℕ View) (is_me : me ≡ seated n role steps) where
     pub allows_step : (a b : ℕ) (f : ℕ → ℕ) → ((found : ℕ) → put_by_role n role found ≡ f found)
-        → Allows (HoldsRow key) slots id me i f (PlaysRole (step slots i a b none) me)
-    allows_step a b f put = subst (λ (x : ℕ × Me ℕ View). Allows (HoldsRow x.0) slots id x.1 i f (PlaysRole (step slots i a b none) x.1)) (λ k. (sym is_key k, sym is_me k))
+        → Allows (HoldsRow key) slots id me i f (PlaysRole (table_step slots i a b none) me)
+    allows_step a b f put = subst (λ (x : ℕ × Me ℕ View). Allows (HoldsRow x.0) slots id x.1 i f (PlaysRole (table_step slots i a b none) x.1)) (λ k. (sym is_key k, sym is_me k))
         (λ s held len at fits.
         let kept = keeps_rule role lt there s held at in
         let w = next_view i (seated n role steps).0 (Found s) in
@@ -127,8 +127,8 @@ module _ (n id i : ℕ) (steps : List AtomicStep) where
     -- a store tells nothing of what it finds
     pub allows_store : (new : ℕ) → ((found : ℕ) → put_by_role n role found ≡ new)
         → ((found : ℕ) → next_view i (seated n role steps).0 found ≡ next_view i (seated n role steps).0 new) → MayFind n role new
-        → Allows (HoldsRow key) slots id me i (λ _. new) (λ _. PlaysRole (step slots i new 0 none) me new)
-    allows_store new put blind told = subst (λ (x : ℕ × Me ℕ View). Allows (HoldsRow x.0) slots id x.1 i (λ _. new) (λ _. PlaysRole (step slots i new 0 none) x.1 new)) (λ k. (sym is_key k, sym is_me k))
+        → Allows (HoldsRow key) slots id me i (λ _. new) (λ _. PlaysRole (table_step slots i new 0 none) me new)
+    allows_store new put blind told = subst (λ (x : ℕ × Me ℕ View). Allows (HoldsRow x.0) slots id x.1 i (λ _. new) (λ _. PlaysRole (table_step slots i new 0 none) x.1 new)) (λ k. (sym is_key k, sym is_me k))
         (λ s held len at fits.
         let kept = keeps_rule role lt there s held at in
         let w = next_view i (seated n role steps).0 new in

@@ -6,6 +6,7 @@ use Rattle.atomic_table.specs.declared.shared.Seat.{Seat}
 use Rattle.futures_buffered_table.specs.declared.view.Role.{Role}
 use Rattle.futures_buffered_table.specs.declared.view.View.{View}
 
+-- which list it is, and how many slots it has
 pub record ListIdentity : Type 0 where
   pub list : TableId
   pub capacity : ℕ
