@@ -156,27 +156,36 @@ right_wake n (Cleared e) found past wakes = tt
 right_wake n (Swapped e p) found past wakes = tt
 right_wake n (Polls h phase) found past wakes = absurd (wakes tt)
 
--- the taking under way goes on while a wake makes a step that leaves the tail, or after which its waker stands so
+-- a step of a wake leaves a taking under way
+stays_under_way : (s : Step) (r : StepReply) (past : List Turn) → seat_of s < WAKE_SEATS → IsUnderWay past → IsUnderWay (record { step = s; reply = r } ∷ past)
+stays_under_way (Mark seat slot) r past low is = is
+stays_under_way (Go seat) r past low is = is
+stays_under_way Poll r past low is = absurd (omega arith)
+
+stood_by_then : (s : Step) (r : StepReply) (past : List Turn) → seat_of s < WAKE_SEATS → (IsUnderWay past × WakerStands (record { step = s; reply = r } ∷ past)) ⊎ WakerStood past → WakerStood (record { step = s; reply = r } ∷ past)
+stood_by_then (Mark seat slot) r past low is = is
+stood_by_then (Go seat) r past low is = is
+stood_by_then Poll r past low is = absurd (omega arith)
+
+-- and leaves the tail, or its waker stands so after it
+stood_or_last : (s : Step) (r : StepReply) (past : List Turn) (t now h : ℕ) → seat_of s < WAKE_SEATS → (now ≡ t) ⊎ WakerStands (record { step = s; reply = r } ∷ past)
+    → IsUnderWay past × (WakerStood past ⊎ (t ≡ h)) → IsUnderWay (record { step = s; reply = r } ∷ past) × (WakerStood (record { step = s; reply = r } ∷ past) ⊎ (now ≡ h))
+stood_or_last s r past t now h low or takes = (
+  stays_under_way s r past low takes.0,
+  ⊎_elim (λ (e : now ≡ t). ⊎_elim (λ (z : WakerStood past). inl (stood_by_then s r past low (inr z))) (λ (z : t ≡ h). inr (e ∙ z)) takes.1)
+      (λ (z : WakerStands (record { step = s; reply = r } ∷ past)). inl (stood_by_then s r past low (inl (takes.0, z)))) or,
+)
+
 takes_on : (s : Step) (r : StepReply) (past : List Turn) (t now h : ℕ) (phase : Phase) → seat_of s < WAKE_SEATS → (now ≡ t) ⊎ WakerStands (record { step = s; reply = r } ∷ past) → TellsPhase past t h phase → TellsPhase (record { step = s; reply = r } ∷ past) now h phase
-takes_on (Mark seat slot) r past t now h Start low or takes = tt
-takes_on (Mark seat slot) r past t now h AtStub low or takes = (takes.0, ⊎_elim (λ (e : now ≡ t). ⊎_elim (λ (z : WakerStood past). inl (inr z)) (λ (z : t ≡ h). inr (e ∙ z)) takes.1) (λ (z : WakerStands (record { step = Mark seat slot; reply = r } ∷ past)). inl (inl (takes.0, z))) or)
-takes_on (Mark seat slot) r past t now h NoNext low or takes = (takes.0, ⊎_elim (λ (e : now ≡ t). ⊎_elim (λ (z : WakerStood past). inl (inr z)) (λ (z : t ≡ h). inr (e ∙ z)) takes.1) (λ (z : WakerStands (record { step = Mark seat slot; reply = r } ∷ past)). inl (inl (takes.0, z))) or)
-takes_on (Mark seat slot) r past t now h Moved low or takes = takes
-takes_on (Mark seat slot) r past t now h Last low or takes = takes
-takes_on (Mark seat slot) r past t now h StubCleared low or takes = takes
-takes_on (Mark seat slot) r past t now h (StubPut p) low or takes = takes
-takes_on (Mark seat slot) r past t now h StubLinked low or takes = takes
-takes_on (Mark seat slot) r past t now h (InHand i) low or takes = takes
-takes_on (Go seat) r past t now h Start low or takes = tt
-takes_on (Go seat) r past t now h AtStub low or takes = (takes.0, ⊎_elim (λ (e : now ≡ t). ⊎_elim (λ (z : WakerStood past). inl (inr z)) (λ (z : t ≡ h). inr (e ∙ z)) takes.1) (λ (z : WakerStands (record { step = Go seat; reply = r } ∷ past)). inl (inl (takes.0, z))) or)
-takes_on (Go seat) r past t now h NoNext low or takes = (takes.0, ⊎_elim (λ (e : now ≡ t). ⊎_elim (λ (z : WakerStood past). inl (inr z)) (λ (z : t ≡ h). inr (e ∙ z)) takes.1) (λ (z : WakerStands (record { step = Go seat; reply = r } ∷ past)). inl (inl (takes.0, z))) or)
-takes_on (Go seat) r past t now h Moved low or takes = takes
-takes_on (Go seat) r past t now h Last low or takes = takes
-takes_on (Go seat) r past t now h StubCleared low or takes = takes
-takes_on (Go seat) r past t now h (StubPut p) low or takes = takes
-takes_on (Go seat) r past t now h StubLinked low or takes = takes
-takes_on (Go seat) r past t now h (InHand i) low or takes = takes
-takes_on Poll r past t now h phase low or takes = absurd (omega arith)
+takes_on s r past t now h Start low or takes = tt
+takes_on s r past t now h AtStub low or takes = stood_or_last s r past t now h low or takes
+takes_on s r past t now h NoNext low or takes = stood_or_last s r past t now h low or takes
+takes_on s r past t now h Moved low or takes = stays_under_way s r past low takes
+takes_on s r past t now h Last low or takes = stays_under_way s r past low takes
+takes_on s r past t now h StubCleared low or takes = stays_under_way s r past low takes
+takes_on s r past t now h (StubPut p) low or takes = stays_under_way s r past low takes
+takes_on s r past t now h StubLinked low or takes = stays_under_way s r past low takes
+takes_on s r past t now h (InHand i) low or takes = stays_under_way s r past low takes
 
 takes_as : (s : Step) (r : StepReply) (past : List Turn) (t now : ℕ) (role : Role) → seat_of s < WAKE_SEATS → (now ≡ t) ⊎ WakerStands (record { step = s; reply = r } ∷ past) → TellsRole past t role → TellsRole (record { step = s; reply = r } ∷ past) now role
 takes_as s r past t now Idle low or takes = tt
