@@ -17,9 +17,9 @@ impl ReadyList {
 
     // Sets the slot's mark, and answers what it was.
     fn swap_mark(&self, seat: &mut Seat<u8, View>, slot: usize) -> u64
-        requires phase { IsInRole self.now Idle seat.old × (slot < self.now.capacity) }
+        requires role { IsInRole self.now Idle seat.old × (slot < self.now.capacity) }
         ensures low { result ≤ 1 }
-        ensures phase { IsInRole self.now (next_role self.now.capacity slot Idle result) seat.new }
+        ensures role { IsInRole self.now (next_role self.now.capacity slot Idle result) seat.new }
         ensures adds { Adds seat.old seat.new (MarkSwap slot result ∷ []) }
     {
         self.table.shared.swap::<SeatStep>(seat, slot, 1)
@@ -27,8 +27,8 @@ impl ReadyList {
 
     // Clears the slot's link.
     fn clear_link(&self, seat: &mut Seat<u8, View>, slot: usize)
-        requires phase { IsInRole self.now (Won slot) seat.old × (slot < self.now.capacity) }
-        ensures phase { IsInRole self.now (Cleared slot) seat.new }
+        requires role { IsInRole self.now (Won slot) seat.old × (slot < self.now.capacity) }
+        ensures role { IsInRole self.now (Cleared slot) seat.new }
         ensures adds { Adds seat.old seat.new (LinkClear slot ∷ []) }
     {
         self.table
@@ -38,9 +38,9 @@ impl ReadyList {
 
     // Puts the slot into the tail word, and answers the entry that stood there.
     fn swap_tail(&self, seat: &mut Seat<u8, View>, slot: usize) -> usize
-        requires phase { IsInRole self.now (Cleared slot) seat.old × (slot < self.now.capacity) }
+        requires role { IsInRole self.now (Cleared slot) seat.old × (slot < self.now.capacity) }
         ensures low { result ≤ self.now.capacity }
-        ensures phase { IsInRole self.now (Swapped slot result) seat.new }
+        ensures role { IsInRole self.now (Swapped slot result) seat.new }
         ensures adds { Adds seat.old seat.new (TailSwap slot result ∷ []) }
     {
         self.table
@@ -50,9 +50,9 @@ impl ReadyList {
 
     // Lets the entry before the slot name it.
     fn write_link(&self, seat: &mut Seat<u8, View>, slot: usize, before: usize)
-        requires phase { IsInRole self.now (Swapped slot before) seat.old
+        requires role { IsInRole self.now (Swapped slot before) seat.old
             × (slot < self.now.capacity) × (before ≤ self.now.capacity) }
-        ensures phase { IsInRole self.now Idle seat.new }
+        ensures role { IsInRole self.now Idle seat.new }
         ensures adds { Adds seat.old seat.new (LinkWrite before slot ∷ []) }
     {
         self.table
@@ -62,8 +62,8 @@ impl ReadyList {
 
     // Puts the slot, which this seat won, into the row as its last entry.
     fn put_in(&self, seat: &mut Seat<u8, View>, slot: usize)
-        requires phase { IsInRole self.now (Won slot) seat.old × (slot < self.now.capacity) }
-        ensures phase { IsInRole self.now Idle seat.new }
+        requires role { IsInRole self.now (Won slot) seat.old × (slot < self.now.capacity) }
+        ensures role { IsInRole self.now Idle seat.new }
         ensures adds { (p : ℕ) × Adds seat.old seat.new
             (LinkClear slot ∷ TailSwap slot p ∷ LinkWrite p slot ∷ []) }
     {
@@ -81,6 +81,7 @@ impl ReadyList {
         ensures shape { (shape : List AtomicStep) × (seat.new.steps ≡ seat.old.steps ++ shape)
             × IsWake slot shape result }
     {
+        // What the list keeps of itself is known from here on.
         let _ = &self.table;
         if self.swap_mark(&mut seat.seat, slot) != 0 {
             return Woke::Already;

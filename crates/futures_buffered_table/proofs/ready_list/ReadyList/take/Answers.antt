@@ -7,9 +7,9 @@ use Rattle.futures_buffered_table.proofs.ready_list.ReadyList.take.Goals as goal
 pub take_from-head-requires : goal.take_from-head-requires
 take_from-head-requires c =
     let sits = in_role _ _ _ c.self.invariant _ c.self.view_is c.seat.inside.seat _ _ c.seat.invariant.seat (ap (λ (v : Poller). v.list) c.seat.view_is) c.requires in
-    record { phase = (sits, (let a = c.seat.invariant.low in let b = sits.1 in omega arith)) }
+    record { role = (sits, (let a = c.seat.invariant.low in let b = sits.1 in omega arith)) }
 
 pub invariant_of-seat : goal.invariant_of-seat
 invariant_of-seat c =
     let did = c.take_from-head.ensures in let now = c.take_from-head.new.seat in
-    taken _ now _ did.phase.0 (seat_kept _ _ _ c.self.invariant _ c.self.view_is now _ did.phase.0) did.phase.1
+    taken _ now _ did.role.0 (seat_kept _ _ _ c.self.invariant _ c.self.view_is now _ did.role.0) did.role.1
