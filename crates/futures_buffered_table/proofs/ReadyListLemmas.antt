@@ -13,7 +13,8 @@ use Rattle.futures_buffered_table.specs.Rule.{HoldsRow, MayFind, PlaysRole}
 use Rattle.futures_buffered_table.specs.Effect.{next_view, put_by_role, word_of_role}
 use Rattle.futures_buffered_table.proofs.RuleLemmas.{WakesSlot, seated, is_seated, allows_step, allows_store}
 
-module _ (table : TableId) (key n : ℕ) (L : KeepsList table key n) (seen : ListIdentity) (view_is : record { list = table; capacity = n } ≡ seen) where
+module _ (table : TableId) (key n : ℕ) (L : KeepsList table key n) (seen : ListIdentity)
+    (view_is : record { list = table; capacity = n } ≡ seen) where
   cap : n ≡ seen.capacity
   cap = ap (λ (l : ListIdentity). l.capacity) view_is
 
@@ -21,7 +22,8 @@ module _ (table : TableId) (key n : ℕ) (L : KeepsList table key n) (seen : Lis
   this_table = sym (ap (λ (l : ListIdentity). l.list) view_is)
 
   -- a seat that callers see as one of this list is in its role
-  pub in_role : (seat : Seat ℕ View) (role : Role) (list : TableId) → KeepsSeat seat.table_id seat.me role → seat.table_id ≡ list → list ≡ seen.list → IsInRole seen role seat
+  pub in_role : (seat : Seat ℕ View) (role : Role) (list : TableId) → KeepsSeat seat.table_id seat.me role → seat.table_id ≡ list →
+      list ≡ seen.list → IsInRole seen role seat
   in_role seat role list S own same =
       let words : seat.table_id.words ≡ table.words = ap (λ (t : TableId). t.words) (own ∙ (same ∙ this_table)) in
       (own ∙ same, (let a = S.sized in let b = L.words in let d = cap in omega arith), S.rests, S.empty)
@@ -31,12 +33,14 @@ module _ (table : TableId) (key n : ℕ) (L : KeepsList table key n) (seen : Lis
   seat_kept seat role sits = record {
     rests = sits.2;
     empty = sits.3;
-    sized = let a = sits.1 in let b = L.words in let d = cap in let words : seat.table_id.words ≡ table.words = ap (λ (t : TableId). t.words) (sits.0 ∙ this_table) in omega arith;
+    sized = let a = sits.1 in let b = L.words in let d = cap in
+        let words : seat.table_id.words ≡ table.words = ap (λ (t : TableId). t.words) (sits.0 ∙ this_table) in omega arith;
   }
 
   -- its step is at the word i
   module _ (seat : Seat ℕ View) (role : Role) (sits : IsInRole seen role seat)
-      (i : ℕ) (lt : n ≡ seen.capacity → WakesSlot n seat.id i seat.me.0.steps role) (there : i ≡ word_of_role n i role) (low : n ≡ seen.capacity → i < n + n + 2) where
+      (i : ℕ) (lt : n ≡ seen.capacity →
+      WakesSlot n seat.id i seat.me.0.steps role) (there : i ≡ word_of_role n i role) (low : n ≡ seen.capacity → i < n + n + 2) where
     in_words : i < table.words
     in_words = let a = L.words in let b = low cap in omega arith
 
@@ -44,13 +48,27 @@ module _ (table : TableId) (key n : ℕ) (L : KeepsList table key n) (seen : Lis
     is_me = is_seated n role seat.me (sits.1 ∙ sym cap) sits.2 sits.3
 
     pub may_step : (a b : ℕ) (f : ℕ → ℕ) → ((found : ℕ) → put_by_role n role found ≡ f found)
-        → (seat.table_id ≡ table) × (i < table.words) × Allows (HoldsRow key) table.slots seat.id seat.me i f (PlaysRole (table_step table.slots i a b none) seat.me)
-    may_step a b f put = (sits.0 ∙ this_table, in_words, allows_step n seat.id i seat.me.0.steps role (lt cap) there table.slots key L.keyed seat.me is_me a b f put)
+        → (seat.table_id ≡ table) × (i < table.words)
+        × Allows (HoldsRow key) table.slots seat.id seat.me i f (PlaysRole (table_step table.slots i a b none) seat.me)
+    may_step a b f put = (
+      sits.0 ∙ this_table,
+      in_words,
+      allows_step n seat.id i seat.me.0.steps role (lt cap) there table.slots key L.keyed seat.me is_me a
+          b f put,
+    )
 
     pub may_store : (new : ℕ) → ((found : ℕ) → put_by_role n role found ≡ new)
-        → ((found : ℕ) → next_view i (seated n role seat.me.0.steps).0 found ≡ next_view i (seated n role seat.me.0.steps).0 new) → MayFind n role new
-        → (seat.table_id ≡ table) × (i < table.words) × Allows (HoldsRow key) table.slots seat.id seat.me i (λ _. new) (λ _. PlaysRole (table_step table.slots i new 0 none) seat.me new)
-    may_store new put blind told = (sits.0 ∙ this_table, in_words, allows_store n seat.id i seat.me.0.steps role (lt cap) there table.slots key L.keyed seat.me is_me new put blind told)
+        → ((found : ℕ) → next_view i (seated n role seat.me.0.steps).0 found ≡ next_view i (seated n role seat.me.0.steps).0 new) →
+        MayFind n role new
+        → (seat.table_id ≡ table) × (i < table.words)
+        × Allows (HoldsRow key) table.slots seat.id seat.me i (λ _. new)
+        (λ _. PlaysRole (table_step table.slots i new 0 none) seat.me new)
+    may_store new put blind told = (
+      sits.0 ∙ this_table,
+      in_words,
+      allows_store n seat.id i seat.me.0.steps role (lt cap) there table.slots key L.keyed seat.me is_me
+          new put blind told,
+    )
 
 pub adds_more : (a b c : Seat ℕ View) (s t : List AtomicStep) → Adds a b s → Adds b c t → Adds a c (s ++ t)
 adds_more a b c s t one two = two ∙ (ap (λ (l : List AtomicStep). l ++ t) one ∙ append_assoc a.me.0.steps s t)

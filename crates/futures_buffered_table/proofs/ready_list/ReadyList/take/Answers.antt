@@ -6,7 +6,8 @@ use Rattle.futures_buffered_table.proofs.ready_list.ReadyList.take.Goals as goal
 
 pub take_from-head-requires : goal.take_from-head-requires
 take_from-head-requires c =
-    let sits = in_role _ _ _ c.self.invariant _ c.self.view_is c.seat.inside.seat _ _ c.seat.invariant.seat (ap (λ (v : Poller). v.list) c.seat.view_is) c.requires in
+    let sits = in_role _ _ _ c.self.invariant _ c.self.view_is c.seat.inside.seat _ _ c.seat.invariant.seat
+    (ap (λ (v : Poller). v.list) c.seat.view_is) c.requires in
     record { role = (sits, (let a = c.seat.invariant.low in let b = sits.1 in omega arith)) }
 
 pub invariant_of-seat : goal.invariant_of-seat
