@@ -15,7 +15,8 @@ empties_row = λ n s held j v h at polls is_stub.
     let ok = subst (FitsRole n s.words head rest held.2 j) polls (R.seats j v at).0 in
     let at_stub : head ≡ n = ok.2 in
     let is_last : head ≡ last_entry head rest = at_stub ∙ (sym is_stub ∙ sym R.ends) in
-    let once : times head (head ∷ rest) ≤ 1 = subst (λ (k : ℕ). times k (head ∷ rest) ≤ 1) (sym at_stub) (let d = R.stub_once in omega arith) in
+    let once : times head (head ∷ rest) ≤ 1 = subst (λ (k : ℕ). times k (head ∷ rest) ≤ 1) (sym at_stub) (let d = R.stub_once in
+    omega arith) in
     (whereabouts n head rest held.2 s.words s.views R, at_stub, alone head rest is_last once)
 
 pub loses_no_mark : RuleLosesNoMark

@@ -21,11 +21,13 @@ length_and_last k a b = let one = length-append (replicate k a) (b ∷ []) in le
 pub last_at : {X : Type 0} (k : ℕ) (a b : X) → get_elem? (replicate k a ++ b ∷ []) k ≡ some b
 last_at k a b = at_last (replicate k a) b k (length-replicate k a)
 
-pub earlier_or_last : {X : Type 0} (k : ℕ) (a b : X) (j : ℕ) (x : X) → get_elem? (replicate k a ++ b ∷ []) j ≡ some x → ((j < k) × (a ≡ x)) ⊎ ((j ≡ k) × (b ≡ x))
+pub earlier_or_last : {X : Type 0} (k : ℕ) (a b : X) (j : ℕ) (x : X) → get_elem? (replicate k a ++ b ∷ []) j ≡ some x → ((j < k) × (a ≡ x))
+    ⊎ ((j ≡ k) × (b ≡ x))
 earlier_or_last zero a b zero x e = inr (refl, some-injective b x e)
 earlier_or_last zero a b (suc j) x e = absurd (some-ne-none x (sym e))
 earlier_or_last (suc k) a b zero x e = inl (omega arith, some-injective a x e)
-earlier_or_last (suc k) a b (suc j) x e = ⊎_elim (λ (t : (j < k) × (a ≡ x)). inl (omega (arith, t.0), t.1)) (λ (t : (j ≡ k) × (b ≡ x)). inr (ap suc t.0, t.1)) (earlier_or_last k a b j x e)
+earlier_or_last (suc k) a b (suc j) x e = ⊎_elim (λ (t : (j < k) × (a ≡ x)). inl (omega (arith, t.0), t.1)) (λ (t : (j ≡ k)
+    × (b ≡ x)). inr (ap suc t.0, t.1)) (earlier_or_last k a b j x e)
 
 pub if_yes : {X : Type 0} (b : Bool) (x y : X) → b ≡ true → (if b then x else y) ≡ x
 if_yes true x y e = refl

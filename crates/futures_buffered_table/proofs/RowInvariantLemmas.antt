@@ -10,7 +10,6 @@ use Rattle.futures_buffered_table.specs.declared.view.Role.TheVariants.{Idle, Wo
 use Rattle.futures_buffered_table.specs.declared.view.View.{View}
 use Rattle.futures_buffered_table.specs.declared.view.AtomicStep.{AtomicStep}
 use Rattle.futures_buffered_table.specs.RowInvariant.{FitsPhase, FitsRole, KeepsRow, outside, outside_by}
-use Rattle.futures_buffered_table.specs.Effect.{InRange}
 use Rattle.futures_buffered_table.proofs.RowLemmas.{last_in, last_snoc, next_absent, next_kept, next_last, next_later, next_put, next_stays, same_cases, same_else, same_here, times_snoc, total-append, total_at, total_set, total_none}
 use Rattle.futures_buffered_table.specs.Row.{IsLinked, last_entry, next, owed, owed_by, same, times, total}
 use Rattle.futures_buffered_table.specs.Words.{link, mark, tail, tail_at, empty_words}
@@ -18,21 +17,6 @@ use Rattle.futures_buffered_table.specs.Tally.{is_unmark, is_win, unmarks, wins}
 use Rattle.futures_buffered_table.proofs.ViewLemmas.{each_first}
 use Rattle.futures_buffered_table.proofs.WordsLemmas.{empty_word, empty_tail, empty_wide}
 use Rattle.futures_buffered_table.specs.View.{first_views, first_poller, new_waker_beside}
-
-pub role_range : (n : ℕ) (words : List ℕ) (h : ℕ) (rest : List ℕ) (poller j : ℕ) (role : Role) → h ≤ n → FitsRole n words h rest poller j role → InRange n role
-role_range n words h rest poller j Idle le ok = tt
-role_range n words h rest poller j (Won i) le ok = omega arith
-role_range n words h rest poller j (Cleared i) le ok = let a = ok.0 in omega arith
-role_range n words h rest poller j (Swapped i p) le ok = (let a = ok.0 in omega arith, ok.1)
-role_range n words h rest poller j (Polls head Start) le ok = let a = ok.1 in omega arith
-role_range n words h rest poller j (Polls head AtStub) le ok = let a = ok.1 in omega arith
-role_range n words h rest poller j (Polls head Moved) le ok = let a = ok.1 in omega arith
-role_range n words h rest poller j (Polls head NoNext) le ok = let a = ok.1 in omega arith
-role_range n words h rest poller j (Polls head Last) le ok = let a = ok.1 in omega arith
-role_range n words h rest poller j (Polls head StubCleared) le ok = let a = ok.1 in omega arith
-role_range n words h rest poller j (Polls head (StubPut p)) le ok = (let a = ok.1 in omega arith, ok.2.1)
-role_range n words h rest poller j (Polls head StubLinked) le ok = let a = ok.1 in omega arith
-role_range n words h rest poller j (Polls head (InHand i)) le ok = (let a = ok.1 in omega arith, let b = ok.2.1 in omega arith)
 
 pub head_low : (n h : ℕ) (rest : List ℕ) (poller : ℕ) (words : List ℕ) (views : List View) → KeepsRow n h rest poller words views → h ≤ n
 head_low n h rest poller words views R = (R.linked h (let a = same_here h in omega arith)).0
@@ -59,7 +43,8 @@ module _ (n : ℕ) (words now : List ℕ) (h : ℕ) (rest : List ℕ) (h' : ℕ)
   pub role_moves : (poller j : ℕ) (role : Role)
       → ((i : ℕ) → i ≤ n → 0 < outside_by n i role → link n words i ≡ 0 → link n now i ≡ 0)
       → ((p i : ℕ) → 0 < owed_by p role → next p h rest ≡ suc i → next p h' rest' ≡ suc i)
-      → (j ≡ poller → (h ≡ h') × (length rest ≤ length rest')) → FitsRole n words h rest poller j role → FitsRole n now h' rest' poller j role
+      → (j ≡ poller → (h ≡ h') × (length rest ≤ length rest')) → FitsRole n words h rest poller j role →
+      FitsRole n now h' rest' poller j role
   role_moves poller j Idle f g k ok = tt
   role_moves poller j (Won i) f g k ok = ok
   role_moves poller j (Cleared i) f g k ok = (ok.0, f i (let a = ok.0 in omega arith) (one i) ok.1)
@@ -68,7 +53,8 @@ module _ (n : ℕ) (words now : List ℕ) (h : ℕ) (rest : List ℕ) (h' : ℕ)
 
 -- the seat id, with the view v, makes the step m and then has the view w
 module _ (n h : ℕ) (rest : List ℕ) (poller : ℕ) (words : List ℕ) (views : List View) (R : KeepsRow n h rest poller words views)
-    (id : ℕ) (v w : View) (m : AtomicStep) (at : get_elem? views id ≡ some v) (ws : w.steps ≡ v.steps ++ m ∷ []) (by_poller : id ≢ poller → (e : ℕ) → is_unmark e m ≡ 0) where
+    (id : ℕ) (v w : View) (m : AtomicStep) (at : get_elem? views id ≡ some v) (ws : w.steps ≡ v.steps ++ m ∷ []) (by_poller : id ≢ poller →
+    (e : ℕ) → is_unmark e m ≡ 0) where
   abbrev seen : List View
   seen = set views id w
 
@@ -79,7 +65,8 @@ module _ (n h : ℕ) (rest : List ℕ) (poller : ℕ) (words : List ℕ) (views 
   out_now e = total_set (λ (u : View). outside_by n e u.role) views id v w at
 
   once : (e : ℕ) → e ≤ n → times e (h ∷ rest) + outside n views e ≤ 1
-  once e le = ⊎_elim (λ (lt : e < n). let a = R.whereabouts e lt in omega arith) (λ (is : e ≡ n). subst (λ (x : ℕ). times x (h ∷ rest) + outside n views x ≤ 1) (sym is) R.stub_once) (split e le)
+  once e le = ⊎_elim (λ (lt : e < n). let a = R.whereabouts e lt in
+      omega arith) (λ (is : e ≡ n). subst (λ (x : ℕ). times x (h ∷ rest) + outside n views x ≤ 1) (sym is) R.stub_once) (split e le)
     where
       split : (e : ℕ) → e ≤ n → (e < n) ⊎ (e ≡ n)
       split e le = grind arith
@@ -94,10 +81,15 @@ module _ (n h : ℕ) (rest : List ℕ) (poller : ℕ) (words : List ℕ) (views 
       → ((p i : ℕ) → 0 < owed views p → next p h rest ≡ suc i → next p h' rest' ≡ suc i)
       → (id ≢ poller → (h ≡ h') × (length rest ≤ length rest'))
       → FitsRole n now h' rest' poller id w.role
-      → (j : ℕ) (u : View) → get_elem? seen j ≡ some u → FitsRole n now h' rest' poller j u.role × (j ≢ poller → (e : ℕ) → unmarks e u.steps ≡ 0)
+      → (j : ℕ) (u : View) → get_elem? seen j ≡ some u → FitsRole n now h' rest' poller j u.role
+      × (j ≢ poller → (e : ℕ) → unmarks e u.steps ≡ 0)
   seats_now now h' rest' f g k mine j u e = ⊎_elim
-      (λ (t : (j ≡ id) × (w ≡ u)). subst (λ (y : ℕ × View). FitsRole n now h' rest' poller y.0 y.1.role × (y.0 ≢ poller → (x : ℕ) → unmarks x y.1.steps ≡ 0)) (λ i. (sym t.0 i, t.1 i))
-      (mine, λ ne x. ap (unmarks x) ws ∙ (let a = (R.seats id v at).1 ne x in let b = by_poller ne x in omega (arith, total-append (is_unmark x) v.steps (m ∷ [])))))
+      (λ (t : (j ≡ id) × (w ≡ u)). subst (λ (y : ℕ × View). FitsRole n now h' rest' poller y.0 y.1.role
+      × (y.0 ≢ poller → (x : ℕ) → unmarks x y.1.steps ≡ 0)) (λ i. (sym t.0 i, t.1 i)) (
+        mine,
+        λ ne x. ap (unmarks x) ws ∙ (let a = (R.seats id v at).1 ne x in let b = by_poller ne x in
+            omega (arith, total-append (is_unmark x) v.steps (m ∷ []))),
+      ))
       (λ (t : (j ≢ id) × (get_elem? views j ≡ some u)). let was = R.seats j u t.1 in (
         role_moves n words now h rest h' rest' poller j u.role
             (λ i le some_out. f i le (let a = total_at (λ (y : View). outside_by n i y.role) views j u t.1 in omega arith))
@@ -114,28 +106,34 @@ module _ (n h : ℕ) (rest : List ℕ) (poller : ℕ) (words : List ℕ) (views 
   quiet same_out same_owed no_win no_unmark mine = record {
     wide = R.wide;
     ends = R.ends;
-    linked = λ p some_p. subst (λ (o : ℕ). (p ≤ n) × IsLinked (next p h rest) (link n words p) o) (let a = owed_now p in let b = same_owed p in omega arith) (R.linked p some_p);
+    linked = λ p some_p. subst (λ (o : ℕ). (p ≤ n) × IsLinked (next p h rest) (link n words p) o) (let a = owed_now p in
+        let b = same_owed p in omega arith) (R.linked p some_p);
     unowed = λ p none. let a = owed_now p in let b = same_owed p in let c = R.unowed p none in omega arith;
     whereabouts = λ e lt. let a = out_now e in let b = same_out e in let c = R.whereabouts e lt in (omega arith, c.1);
     stub_once = let a = out_now n in let b = same_out n in let c = R.stub_once in omega arith;
     seats = seats_now words h rest (λ i _ _ z. z) (λ p i _ z. z) (λ _. (refl, omega arith)) mine;
-    tallied = λ e lt. let a = counted (is_win e) in let b = counted (is_unmark e) in let c = R.tallied e lt in let d = no_win e in let x = no_unmark e in omega arith;
+    tallied = λ e lt. let a = counted (is_win e) in let b = counted (is_unmark e) in let c = R.tallied e lt in let d = no_win e in
+        let x = no_unmark e in omega arith;
   }
 
   -- the poller found itself at the last entry, so the stub is out of the row, and the poller has it then
   pub takes_stub : times n (h ∷ rest) ≡ 0 → outside n views n ≡ 0
-      → ((e : ℕ) → outside_by n e v.role ≡ 0) → ((e : ℕ) → outside_by n e w.role ≡ same e n) → ((p : ℕ) → owed_by p w.role ≡ owed_by p v.role)
+      → ((e : ℕ) → outside_by n e v.role ≡ 0) → ((e : ℕ) → outside_by n e w.role ≡ same e n) →
+      ((p : ℕ) → owed_by p w.role ≡ owed_by p v.role)
       → ((e : ℕ) → is_win e m ≡ 0) → ((e : ℕ) → is_unmark e m ≡ 0) → FitsRole n words h rest poller id w.role
       → KeepsRow n h rest poller words seen
   takes_stub free alone old_out new_out same_owed no_win no_unmark mine = record {
     wide = R.wide;
     ends = R.ends;
-    linked = λ p some_p. subst (λ (o : ℕ). (p ≤ n) × IsLinked (next p h rest) (link n words p) o) (let a = owed_now p in let b = same_owed p in omega arith) (R.linked p some_p);
+    linked = λ p some_p. subst (λ (o : ℕ). (p ≤ n) × IsLinked (next p h rest) (link n words p) o) (let a = owed_now p in
+        let b = same_owed p in omega arith) (R.linked p some_p);
     unowed = λ p none. let a = owed_now p in let b = same_owed p in let c = R.unowed p none in omega arith;
-    whereabouts = λ e lt. let a = out_now e in let b = old_out e in let b' = new_out e in let c = R.whereabouts e lt in let d = same_else e n (λ z. omega arith) in (omega arith, c.1);
+    whereabouts = λ e lt. let a = out_now e in let b = old_out e in let b' = new_out e in let c = R.whereabouts e lt in
+        let d = same_else e n (λ z. omega arith) in (omega arith, c.1);
     stub_once = let a = out_now n in let b = old_out n in let b' = new_out n in let c = same_here n in omega arith;
     seats = seats_now words h rest (λ i _ _ z. z) (λ p i _ z. z) (λ _. (refl, omega arith)) mine;
-    tallied = λ e lt. let a = counted (is_win e) in let b = counted (is_unmark e) in let c = R.tallied e lt in let d = no_win e in let x = no_unmark e in omega arith;
+    tallied = λ e lt. let a = counted (is_win e) in let b = counted (is_unmark e) in let c = R.tallied e lt in let d = no_win e in
+        let x = no_unmark e in omega arith;
   }
 
   module _ (i x : ℕ) (room : i < n + n + 2) where
@@ -159,44 +157,68 @@ module _ (n h : ℕ) (rest : List ℕ) (poller : ℕ) (words : List ℕ) (views 
       record {
         wide = still_wide i 1 room;
         ends = R.ends ∙ sym (off_i i 1 room (tail_at n) (λ z. omega arith));
-        linked = λ p some_p. subst (λ (z : ℕ × ℕ). (p ≤ n) × IsLinked (next p h rest) z.0 z.1) (λ k. (sym (links p) k, (let q : owed views p ≡ owed seen p = let a = owed_now p in let b = same_owed p in omega arith in q) k)) (R.linked p some_p);
+        linked = λ p some_p. subst (λ (z : ℕ × ℕ). (p ≤ n)
+            × IsLinked (next p h rest) z.0 z.1) (λ k. (
+              sym (links p) k,
+              (let q : owed views p ≡ owed seen p = let a = owed_now p in
+                  let b = same_owed p in omega arith in q) k,
+            )) (R.linked p some_p);
         unowed = λ p none. let a = owed_now p in let b = same_owed p in let c = R.unowed p none in omega arith;
         whereabouts = λ e lt'. ⊎_elim
             (λ (t : (e ≡ i) × (same e i ≡ 1)). let a = out_now e in let b = new_out e in let c = R.whereabouts e lt' in
-            let d : mark (set words i 1) e ≡ 1 = ap (mark (set words i 1)) t.0 ∙ at_i i 1 room in let f : mark words e ≡ 0 = ap (mark words) t.0 ∙ clear in (omega arith, omega arith))
-            (λ (t : (e ≢ i) × (same e i ≡ 0)). let a = out_now e in let b = new_out e in let c = R.whereabouts e lt' in let d = off_i i 1 room e t.0 in (omega arith, omega arith))
+            let d : mark (set words i 1) e ≡ 1 = ap (mark (set words i 1)) t.0 ∙ at_i i 1 room in
+            let f : mark words e ≡ 0 = ap (mark words) t.0 ∙ clear in (omega arith, omega arith))
+            (λ (t : (e ≢ i) × (same e i ≡ 0)). let a = out_now e in let b = new_out e in let c = R.whereabouts e lt' in
+            let d = off_i i 1 room e t.0 in (omega arith, omega arith))
             (same_cases e i);
-        stub_once = let a = out_now n in let b = new_out n in let c = R.stub_once in let d = same_else n i (λ z. omega arith) in omega arith;
+        stub_once = let a = out_now n in let b = new_out n in let c = R.stub_once in let d = same_else n i (λ z. omega arith) in
+            omega arith;
         seats = seats_now (set words i 1) h rest (λ i' _ _ z. links i' ∙ z) (λ p i' _ z. z) (λ _. (refl, omega arith))
-            (role_moves n words (set words i 1) h rest h rest poller id w.role (λ i' _ _ z. links i' ∙ z) (λ p i' _ z. z) (λ _. (refl, omega arith)) mine);
-        tallied = λ e lt'. let a = counted (is_win e) in let b = counted (is_unmark e) in let c = R.tallied e lt' in let d = a_win e in let x = no_unmark e in ⊎_elim
-            (λ (t : (e ≡ i) × (same e i ≡ 1)). let d' : mark (set words i 1) e ≡ 1 = ap (mark (set words i 1)) t.0 ∙ at_i i 1 room in let f : mark words e ≡ 0 = ap (mark words) t.0 ∙ clear in omega arith)
+            (role_moves n words (set words i 1) h rest h rest poller id w.role (λ i' _ _ z. links i' ∙ z) (λ p i' _ z. z)
+            (λ _. (refl, omega arith)) mine);
+        tallied = λ e lt'. let a = counted (is_win e) in let b = counted (is_unmark e) in let c = R.tallied e lt' in let d = a_win e in
+            let x = no_unmark e in ⊎_elim
+            (λ (t : (e ≡ i) × (same e i ≡ 1)). let d' : mark (set words i 1) e ≡ 1 = ap (mark (set words i 1)) t.0 ∙ at_i i 1 room in
+            let f : mark words e ≡ 0 = ap (mark words) t.0 ∙ clear in omega arith)
             (λ (t : (e ≢ i) × (same e i ≡ 0)). let d' = off_i i 1 room e t.0 in omega arith)
             (same_cases e i);
       }
 
   -- a seat clears the link of an entry outside the row
   pub clears : (i : ℕ) → i ≤ n
-      → ((e : ℕ) → outside_by n e v.role ≡ same e i) → ((e : ℕ) → outside_by n e w.role ≡ same e i) → ((p : ℕ) → owed_by p w.role ≡ owed_by p v.role)
-      → ((e : ℕ) → is_win e m ≡ 0) → ((e : ℕ) → is_unmark e m ≡ 0) → (link n (set words (n + i) 0) i ≡ 0 → FitsRole n (set words (n + i) 0) h rest poller id w.role)
+      → ((e : ℕ) → outside_by n e v.role ≡ same e i) → ((e : ℕ) → outside_by n e w.role ≡ same e i) →
+      ((p : ℕ) → owed_by p w.role ≡ owed_by p v.role)
+      → ((e : ℕ) → is_win e m ≡ 0) → ((e : ℕ) → is_unmark e m ≡ 0) →
+      (link n (set words (n + i) 0) i ≡ 0 → FitsRole n (set words (n + i) 0) h rest poller id w.role)
       → KeepsRow n h rest poller (set words (n + i) 0) seen
   clears i le old_out new_out same_owed no_win no_unmark mine =
       let room : n + i < n + n + 2 = omega arith in
       let now : List ℕ = set words (n + i) 0 in
-      let absent : times i (h ∷ rest) ≡ 0 = let a = once i le in let b = total_at (λ (u : View). outside_by n i u.role) views id v at in let c = old_out i in let d = same_here i in omega arith in
+      let absent : times i (h ∷ rest) ≡ 0 = let a = once i le in let b = total_at (λ (u : View). outside_by n i u.role) views id v at in
+      let c = old_out i in let d = same_here i in omega arith in
       let links : (p : ℕ) → p ≢ i → link n now p ≡ link n words p = λ p ne. off_i (n + i) 0 room (n + p) (λ z. ne (omega arith)) in
       let marks : (e : ℕ) → e < n → mark now e ≡ mark words e = λ e lt. off_i (n + i) 0 room e (λ z. omega arith) in
-      let zeros : (p : ℕ) → link n words p ≡ 0 → link n now p ≡ 0 = λ p z. ⊎_elim (λ (t : (p ≡ i) × (same p i ≡ 1)). ap (link n now) t.0 ∙ at_i (n + i) 0 room) (λ (t : (p ≢ i) × (same p i ≡ 0)). links p t.0 ∙ z) (same_cases p i) in
+      let zeros : (p : ℕ) → link n words p ≡ 0 →
+      link n now p ≡ 0 = λ p z. ⊎_elim (λ (t : (p ≡ i) × (same p i ≡ 1)). ap (link n now) t.0 ∙ at_i (n + i) 0 room) (λ (t : (p ≢ i)
+      × (same p i ≡ 0)). links p t.0 ∙ z) (same_cases p i) in
       record {
         wide = still_wide (n + i) 0 room;
         ends = R.ends ∙ sym (off_i (n + i) 0 room (tail_at n) (λ z. omega arith));
-        linked = λ p some_p. let ne : p ≢ i = λ is. let a : times i (h ∷ rest) ≡ times p (h ∷ rest) = ap (λ (q : ℕ). times q (h ∷ rest)) (sym is) in omega arith in
-            subst (λ (z : ℕ × ℕ). (p ≤ n) × IsLinked (next p h rest) z.0 z.1) (λ k. (sym (links p ne) k, (let q : owed views p ≡ owed seen p = let a = owed_now p in let b = same_owed p in omega arith in q) k)) (R.linked p some_p);
+        linked = λ p some_p. let ne : p ≢ i = λ is. let a : times i (h ∷ rest) ≡ times p (h ∷ rest) = ap (λ (q : ℕ). times q (h ∷ rest))
+            (sym is) in omega arith in
+            subst (λ (z : ℕ × ℕ). (p ≤ n)
+            × IsLinked (next p h rest) z.0 z.1) (λ k. (
+              sym (links p ne) k,
+              (let q : owed views p ≡ owed seen p = let a = owed_now p in
+                  let b = same_owed p in omega arith in q) k,
+            )) (R.linked p some_p);
         unowed = λ p none. let a = owed_now p in let b = same_owed p in let c = R.unowed p none in omega arith;
-        whereabouts = λ e lt. let a = out_now e in let b = old_out e in let b' = new_out e in let c = R.whereabouts e lt in let d = marks e lt in (omega arith, omega arith);
+        whereabouts = λ e lt. let a = out_now e in let b = old_out e in let b' = new_out e in let c = R.whereabouts e lt in
+            let d = marks e lt in (omega arith, omega arith);
         stub_once = let a = out_now n in let b = old_out n in let b' = new_out n in let c = R.stub_once in omega arith;
         seats = seats_now now h rest (λ p _ _ z. zeros p z) (λ p i' _ z. z) (λ _. (refl, omega arith)) (mine (at_i (n + i) 0 room));
-        tallied = λ e lt. let a = counted (is_win e) in let b = counted (is_unmark e) in let c = R.tallied e lt in let d = no_win e in let x = no_unmark e in let y = marks e lt in omega arith;
+        tallied = λ e lt. let a = counted (is_win e) in let b = counted (is_unmark e) in let c = R.tallied e lt in let d = no_win e in
+            let x = no_unmark e in let y = marks e lt in omega arith;
       }
 
   -- a seat puts its entry in at the end of the row, by a swap of the tail
@@ -204,7 +226,8 @@ module _ (n h : ℕ) (rest : List ℕ) (poller : ℕ) (words : List ℕ) (views 
       → ((e : ℕ) → outside_by n e v.role ≡ same e i) → ((e : ℕ) → outside_by n e w.role ≡ 0)
       → ((p : ℕ) → owed_by p v.role ≡ 0) → ((p : ℕ) → owed_by p w.role ≡ same p (tail n words))
       → ((e : ℕ) → is_win e m ≡ 0) → ((e : ℕ) → is_unmark e m ≡ 0)
-      → (tail n words ≤ n → next (tail n words) h (rest ++ i ∷ []) ≡ suc i → FitsRole n (set words (tail_at n) i) h (rest ++ i ∷ []) poller id w.role)
+      → (tail n words ≤ n → next (tail n words) h (rest ++ i ∷ []) ≡ suc i →
+      FitsRole n (set words (tail_at n) i) h (rest ++ i ∷ []) poller id w.role)
       → KeepsRow n h (rest ++ i ∷ []) poller (set words (tail_at n) i) seen
   puts_in i le clear old_out new_out old_owed new_owed no_win no_unmark mine =
       let room : tail_at n < n + n + 2 = omega arith in
@@ -216,8 +239,10 @@ module _ (n h : ℕ) (rest : List ℕ) (poller : ℕ) (words : List ℕ) (views 
       let one_last : times l (h ∷ rest) ≤ 1 = let a = once l at_last.0 in omega arith in
       let behind : next l h (rest ++ i ∷ []) ≡ suc i = next_put l h rest i is_last one_last in
       let none_behind : next l h rest ≡ 0 = next_last l h rest is_last one_last in
-      let absent : times i (h ∷ rest) ≡ 0 = let a = once i le in let b = total_at (λ (u : View). outside_by n i u.role) views id v at in let c = old_out i in let d = same_here i in omega arith in
-      let apart : l ≢ i = λ is. let a : times i (h ∷ rest) ≡ times l (h ∷ rest) = ap (λ (q : ℕ). times q (h ∷ rest)) (sym is) in omega arith in
+      let absent : times i (h ∷ rest) ≡ 0 = let a = once i le in let b = total_at (λ (u : View). outside_by n i u.role) views id v at in
+      let c = old_out i in let d = same_here i in omega arith in
+      let apart : l ≢ i = λ is. let a : times i (h ∷ rest) ≡ times l (h ∷ rest) = ap (λ (q : ℕ). times q (h ∷ rest)) (sym is) in
+      omega arith in
       let links : (p : ℕ) → p ≤ n → link n now p ≡ link n words p = λ p lt. off_i (tail_at n) i room (n + p) (λ z. omega arith) in
       let marks : (e : ℕ) → e < n → mark now e ≡ mark words e = λ e lt. off_i (tail_at n) i room e (λ z. omega arith) in
       let times_now : (p : ℕ) → times p (h ∷ (rest ++ i ∷ [])) ≡ times p (h ∷ rest) + same p i = λ p. times_snoc p (h ∷ rest) i in
@@ -230,8 +255,14 @@ module _ (n h : ℕ) (rest : List ℕ) (poller : ℕ) (words : List ℕ) (views 
             let le' : p ≤ n = omega arith in
             let ne : p ≢ last_entry h rest = λ is. apart (is_last ∙ (sym is ∙ t.0)) in
             let none : next p h (rest ++ i ∷ []) ≡ 0 = next_kept p h rest i ne ∙ next_absent p h rest gone in
-            let zero_link : link n now p ≡ 0 = links p le' ∙ (ap (link n words) t.0 ∙ clear) in
-            (le', inl (zero_link ∙ sym none, let a = owed_now p in let b = old_owed p in let c = new_owed p in let d = R.unowed p gone in let f = same_else p l (λ z. apart (sym z ∙ t.0)) in omega arith)))
+            let zero_link : link n now p ≡ 0 = links p le' ∙ (ap (link n words) t.0 ∙ clear) in (
+              le',
+              inl (
+                zero_link ∙ sym none,
+                let a = owed_now p in let b = old_owed p in let c = new_owed p in let d = R.unowed p gone in
+                    let f = same_else p l (λ z. apart (sym z ∙ t.0)) in omega arith,
+              ),
+            ))
             (λ (t : (p ≢ i) × (same p i ≡ 0)).
             let there : 0 < times p (h ∷ rest) = let a = times_now p in omega arith in
             let was = R.linked p there in
@@ -242,25 +273,34 @@ module _ (n h : ℕ) (rest : List ℕ) (poller : ℕ) (words : List ℕ) (views 
             let some_now : next p h (rest ++ i ∷ []) ≡ suc i = ap (λ (q : ℕ). next q h (rest ++ i ∷ [])) s.0 ∙ behind in (
               was.0,
               ⊎_elim
-                  (λ (y : (link n words p ≡ next p h rest) × (owed views p ≡ 0)). inr (links p was.0 ∙ (y.0 ∙ none), (let d = y.1 in omega arith), omega arith))
+                  (λ (y : (link n words p ≡ next p h rest)
+                  × (owed views p ≡ 0)). inr (links p was.0 ∙ (y.0 ∙ none), (let d = y.1 in omega arith), omega arith))
                   (λ (y : (link n words p ≡ 0) × (owed views p ≡ 1) × (0 < next p h rest)). absurd (let d = y.2 in omega arith)) was.1,
             ))
             (λ (s : (p ≢ l) × (same p l ≡ 0)).
             let as_was : next p h (rest ++ i ∷ []) ≡ next p h rest = next_kept p h rest i (λ z. s.0 (z ∙ R.ends)) in (
               was.0,
               ⊎_elim
-                  (λ (y : (link n words p ≡ next p h rest) × (owed views p ≡ 0)). inl (links p was.0 ∙ (y.0 ∙ sym as_was), (let d = y.1 in omega arith)))
-                  (λ (y : (link n words p ≡ 0) × (owed views p ≡ 1) × (0 < next p h rest)). inr (links p was.0 ∙ y.0, (let d = y.1 in omega arith), (let d = y.2 in omega arith))) was.1,
+                  (λ (y : (link n words p ≡ next p h rest)
+                  × (owed views p ≡ 0)). inl (links p was.0 ∙ (y.0 ∙ sym as_was), (let d = y.1 in omega arith)))
+                  (λ (y : (link n words p ≡ 0) × (owed views p ≡ 1)
+                  × (0 < next p h rest)). inr (links p was.0 ∙ y.0, (let d = y.1 in omega arith), (let d = y.2 in omega arith))) was.1,
             ))
             (same_cases p l))
             (same_cases p i);
         unowed = λ p none. let gone : times p (h ∷ rest) ≡ 0 = let a = times_now p in omega arith in
-            let ne : p ≢ l = λ is. let a : times l (h ∷ rest) ≡ times p (h ∷ rest) = ap (λ (q : ℕ). times q (h ∷ rest)) (sym is) in omega arith in
-            let a = owed_now p in let b = old_owed p in let c = new_owed p in let d = R.unowed p gone in let f = same_else p l ne in omega arith;
-        whereabouts = λ e lt. let a = out_now e in let b = old_out e in let b' = new_out e in let c = R.whereabouts e lt in let d = marks e lt in let f = times_now e in (omega arith, omega arith);
-        stub_once = let a = out_now n in let b = old_out n in let b' = new_out n in let c = R.stub_once in let f = times_now n in omega arith;
-        seats = seats_now now h (rest ++ i ∷ []) (λ p le' _ z. links p le' ∙ z) (λ p q _ z. next_stays p h rest i q z) (λ _. (refl, omega (arith, length-append rest (i ∷ [])))) (mine at_last.0 behind);
-        tallied = λ e lt. let a = counted (is_win e) in let b = counted (is_unmark e) in let c = R.tallied e lt in let d = no_win e in let x = no_unmark e in let y = marks e lt in omega arith;
+            let ne : p ≢ l = λ is. let a : times l (h ∷ rest) ≡ times p (h ∷ rest) = ap (λ (q : ℕ). times q (h ∷ rest)) (sym is) in
+            omega arith in
+            let a = owed_now p in let b = old_owed p in let c = new_owed p in let d = R.unowed p gone in let f = same_else p l ne in
+            omega arith;
+        whereabouts = λ e lt. let a = out_now e in let b = old_out e in let b' = new_out e in let c = R.whereabouts e lt in
+            let d = marks e lt in let f = times_now e in (omega arith, omega arith);
+        stub_once = let a = out_now n in let b = old_out n in let b' = new_out n in let c = R.stub_once in let f = times_now n in
+            omega arith;
+        seats = seats_now now h (rest ++ i ∷ []) (λ p le' _ z. links p le' ∙ z) (λ p q _ z. next_stays p h rest i q z)
+            (λ _. (refl, omega (arith, length-append rest (i ∷ [])))) (mine at_last.0 behind);
+        tallied = λ e lt. let a = counted (is_win e) in let b = counted (is_unmark e) in let c = R.tallied e lt in let d = no_win e in
+            let x = no_unmark e in let y = marks e lt in omega arith;
       }
 
   -- a seat writes the link that it owes
@@ -273,7 +313,8 @@ module _ (n h : ℕ) (rest : List ℕ) (poller : ℕ) (words : List ℕ) (views 
   links_up i p le lep follows old_out new_out old_owed new_owed no_win no_unmark mine =
       let room : n + p < n + n + 2 = omega arith in
       let now : List ℕ = set words (n + p) (suc i) in
-      let owes : 0 < owed views p = let a = total_at (λ (u : View). owed_by p u.role) views id v at in let b = old_owed p in let c = same_here p in omega arith in
+      let owes : 0 < owed views p = let a = total_at (λ (u : View). owed_by p u.role) views id v at in let b = old_owed p in
+      let c = same_here p in omega arith in
       let there : 0 < times p (h ∷ rest) = in_row owes in
       let links : (q : ℕ) → q ≢ p → link n now q ≡ link n words q = λ q ne. off_i (n + p) (suc i) room (n + q) (λ z. ne (omega arith)) in
       let marks : (e : ℕ) → e < n → mark now e ≡ mark words e = λ e lt. off_i (n + p) (suc i) room e (λ z. omega arith) in
@@ -291,24 +332,38 @@ module _ (n h : ℕ) (rest : List ℕ) (poller : ℕ) (words : List ℕ) (views 
                     (λ (y : (link n words q ≡ 0) × (owed views q ≡ 1) × (0 < next q h rest)). let d = y.1 in omega arith) was.1,
               ),
             ))
-            (λ (t : (q ≢ p) × (same q p ≡ 0)). (was.0, subst (λ (z : ℕ × ℕ). IsLinked (next q h rest) z.0 z.1) (λ k. (sym (links q t.0) k, (let o : owed views q ≡ owed seen q = omega arith in o) k)) was.1))
+            (λ (t : (q ≢ p) × (same q p ≡ 0)). (
+              was.0,
+              subst (λ (z : ℕ
+                  × ℕ). IsLinked (next q h rest) z.0 z.1) (λ k. (
+                    sym (links q t.0) k,
+                    (let o : owed views q ≡ owed seen q = omega arith in
+                        o) k,
+                  )) was.1,
+            ))
             (same_cases q p);
         unowed = λ q none. let a = owed_now q in let b = old_owed q in let c = new_owed q in let d = R.unowed q none in omega arith;
-        whereabouts = λ e lt. let a = out_now e in let b = old_out e in let b' = new_out e in let c = R.whereabouts e lt in let d = marks e lt in (omega arith, omega arith);
+        whereabouts = λ e lt. let a = out_now e in let b = old_out e in let b' = new_out e in let c = R.whereabouts e lt in
+            let d = marks e lt in (omega arith, omega arith);
         stub_once = let a = out_now n in let b = old_out n in let b' = new_out n in let c = R.stub_once in omega arith;
-        seats = seats_now now h rest (λ q leq some_out z. links q (λ is. let a = once q leq in let b : times q (h ∷ rest) ≡ times p (h ∷ rest) = ap (λ (y : ℕ). times y (h ∷ rest)) is in omega arith) ∙ z) (λ q j _ z. z) (λ _. (refl, omega arith)) mine;
-        tallied = λ e lt. let a = counted (is_win e) in let b = counted (is_unmark e) in let c = R.tallied e lt in let d = no_win e in let x = no_unmark e in let y = marks e lt in omega arith;
+        seats = seats_now now h rest (λ q leq some_out z. links q (λ is. let a = once q leq in
+            let b : times q (h ∷ rest) ≡ times p (h ∷ rest) = ap (λ (y : ℕ). times y (h ∷ rest)) is in
+            omega arith) ∙ z) (λ q j _ z. z) (λ _. (refl, omega arith)) mine;
+        tallied = λ e lt. let a = counted (is_win e) in let b = counted (is_unmark e) in let c = R.tallied e lt in let d = no_win e in
+            let x = no_unmark e in let y = marks e lt in omega arith;
       }
     where
       in_row : 0 < owed views p → 0 < times p (h ∷ rest)
-      in_row owes = ⊎_elim (λ (t : times p (h ∷ rest) ≡ 0). let a = R.unowed p t in absurd (omega arith)) (λ (t : 0 < times p (h ∷ rest)). t) (zero_or (times p (h ∷ rest)))
+      in_row owes = ⊎_elim (λ (t : times p (h ∷ rest) ≡ 0). let a = R.unowed p t in
+          absurd (omega arith)) (λ (t : 0 < times p (h ∷ rest)). t) (zero_or (times p (h ∷ rest)))
         where
           zero_or : (k : ℕ) → (k ≡ 0) ⊎ (0 < k)
           zero_or k = grind arith
 
   -- the poller takes a slot out of its hand: the slot is idle again
   pub unmarks_slot : (i : ℕ) → i < n
-      → ((e : ℕ) → outside_by n e v.role ≡ same e i) → ((e : ℕ) → outside_by n e w.role ≡ 0) → ((p : ℕ) → owed_by p w.role ≡ owed_by p v.role)
+      → ((e : ℕ) → outside_by n e v.role ≡ same e i) → ((e : ℕ) → outside_by n e w.role ≡ 0) →
+      ((p : ℕ) → owed_by p w.role ≡ owed_by p v.role)
       → ((e : ℕ) → is_win e m ≡ 0) → ((e : ℕ) → is_unmark e m ≡ same e i) → FitsRole n words h rest poller id w.role
       → KeepsRow n h rest poller (set words i 0) seen
   unmarks_slot i lt old_out new_out same_owed no_win an_unmark mine =
@@ -317,17 +372,28 @@ module _ (n h : ℕ) (rest : List ℕ) (poller : ℕ) (words : List ℕ) (views 
       record {
         wide = still_wide i 0 room;
         ends = R.ends ∙ sym (off_i i 0 room (tail_at n) (λ z. omega arith));
-        linked = λ p some_p. subst (λ (z : ℕ × ℕ). (p ≤ n) × IsLinked (next p h rest) z.0 z.1) (λ k. (sym (links p) k, (let q : owed views p ≡ owed seen p = let a = owed_now p in let b = same_owed p in omega arith in q) k)) (R.linked p some_p);
+        linked = λ p some_p. subst (λ (z : ℕ × ℕ). (p ≤ n)
+            × IsLinked (next p h rest) z.0 z.1) (λ k. (
+              sym (links p) k,
+              (let q : owed views p ≡ owed seen p = let a = owed_now p in
+                  let b = same_owed p in omega arith in q) k,
+            )) (R.linked p some_p);
         unowed = λ p none. let a = owed_now p in let b = same_owed p in let c = R.unowed p none in omega arith;
         whereabouts = λ e lt'. let a = out_now e in let b = old_out e in let b' = new_out e in let c = R.whereabouts e lt' in ⊎_elim
-            (λ (t : (e ≡ i) × (same e i ≡ 1)). let d : mark (set words i 0) e ≡ 0 = ap (mark (set words i 0)) t.0 ∙ at_i i 0 room in (omega arith, omega arith))
+            (λ (t : (e ≡ i) × (same e i ≡ 1)). let d : mark (set words i 0) e ≡ 0 = ap (mark (set words i 0)) t.0 ∙ at_i i 0 room in
+            (omega arith, omega arith))
             (λ (t : (e ≢ i) × (same e i ≡ 0)). let d = off_i i 0 room e t.0 in (omega arith, omega arith))
             (same_cases e i);
-        stub_once = let a = out_now n in let b = old_out n in let b' = new_out n in let c = R.stub_once in let d = same_else n i (λ z. omega arith) in omega arith;
+        stub_once = let a = out_now n in let b = old_out n in let b' = new_out n in let c = R.stub_once in
+            let d = same_else n i (λ z. omega arith) in omega arith;
         seats = seats_now (set words i 0) h rest (λ i' _ _ z. links i' ∙ z) (λ p i' _ z. z) (λ _. (refl, omega arith))
-            (role_moves n words (set words i 0) h rest h rest poller id w.role (λ i' _ _ z. links i' ∙ z) (λ p i' _ z. z) (λ _. (refl, omega arith)) mine);
-        tallied = λ e lt'. let a = counted (is_win e) in let b = counted (is_unmark e) in let c = R.tallied e lt' in let d = no_win e in let x = an_unmark e in let o = R.whereabouts e lt' in let p = total_at (λ (u : View). outside_by n e u.role) views id v at in let q = old_out e in ⊎_elim
-            (λ (t : (e ≡ i) × (same e i ≡ 1)). let d' : mark (set words i 0) e ≡ 0 = ap (mark (set words i 0)) t.0 ∙ at_i i 0 room in omega arith)
+            (role_moves n words (set words i 0) h rest h rest poller id w.role (λ i' _ _ z. links i' ∙ z) (λ p i' _ z. z)
+            (λ _. (refl, omega arith)) mine);
+        tallied = λ e lt'. let a = counted (is_win e) in let b = counted (is_unmark e) in let c = R.tallied e lt' in let d = no_win e in
+            let x = an_unmark e in let o = R.whereabouts e lt' in let p = total_at (λ (u : View). outside_by n e u.role) views id v at in
+            let q = old_out e in ⊎_elim
+            (λ (t : (e ≡ i) × (same e i ≡ 1)). let d' : mark (set words i 0) e ≡ 0 = ap (mark (set words i 0)) t.0 ∙ at_i i 0 room in
+            omega arith)
             (λ (t : (e ≢ i) × (same e i ≡ 0)). let d' = off_i i 0 room e t.0 in omega arith)
             (same_cases e i);
       }
@@ -351,26 +417,41 @@ module _ (n h q : ℕ) (rest : List ℕ) (poller : ℕ) (words : List ℕ) (view
       let at_h = R.linked h here in
       let gone : times h (q ∷ rest) ≡ 0 = let a = same_here h in let b = head_once h at_h.0 in omega arith in
       let next_there : 0 < times q (h ∷ q ∷ rest) = let a = same_here q in omega arith in
-      let no_debt : owed views h ≡ 0 = ⊎_elim (λ (y : (link n words h ≡ next h h (q ∷ rest)) × (owed views h ≡ 0)). y.1) (λ (y : (link n words h ≡ 0) × (owed views h ≡ 1) × (0 < next h h (q ∷ rest))). absurd (named y.0)) at_h.1 in
-      let apart : (p : ℕ) → 0 < times p (q ∷ rest) → p ≢ h = λ p some_p is. let a : times p (q ∷ rest) ≡ times h (q ∷ rest) = ap (λ (y : ℕ). times y (q ∷ rest)) is in omega arith in
+      let no_debt : owed views h ≡ 0 = ⊎_elim (λ (y : (link n words h ≡ next h h (q ∷ rest))
+      × (owed views h ≡ 0)). y.1) (λ (y : (link n words h ≡ 0) × (owed views h ≡ 1)
+      × (0 < next h h (q ∷ rest))). absurd (named y.0)) at_h.1 in
+      let apart : (p : ℕ) → 0 < times p (q ∷ rest) →
+      p ≢ h = λ p some_p is. let a : times p (q ∷ rest) ≡ times h (q ∷ rest) = ap (λ (y : ℕ). times y (q ∷ rest)) is in omega arith in
       record {
         wide = R.wide;
         ends = R.ends;
-        linked = λ p some_p. let was = R.linked p (omega arith) in let a = owed_is p in let b = old_owed p in let c = new_owed p in
-            (was.0, subst (λ (z : ℕ × ℕ). IsLinked z.0 (link n words p) z.1) (λ k. (next_later p h q rest (apart p some_p) k, (let o : owed views p ≡ owed (set views poller w) p = omega arith in o) k)) was.1);
+        linked = λ p some_p. let was = R.linked p (omega arith) in let a = owed_is p in let b = old_owed p in let c = new_owed p in (
+          was.0,
+          subst (λ (z : ℕ
+              × ℕ). IsLinked z.0 (link n words p) z.1)
+              (λ k. (
+                next_later p h q rest (apart p some_p) k,
+                (let o : owed views p ≡ owed (set views poller w) p = omega arith in
+                    o) k,
+              )) was.1,
+        );
         unowed = λ p none. let a = owed_is p in let b = old_owed p in let c = new_owed p in ⊎_elim
             (λ (t : (p ≡ h) × (same p h ≡ 1)). let d : owed views p ≡ owed views h = ap (owed views) t.0 in omega arith)
             (λ (t : (p ≢ h) × (same p h ≡ 0)). let d = R.unowed p (omega arith) in omega arith)
             (same_cases p h);
-        whereabouts = λ e lt. let a = out_is e in let b = old_out e in let b' = new_out e lt in let c = R.whereabouts e lt in (omega arith, omega arith);
+        whereabouts = λ e lt. let a = out_is e in let b = old_out e in let b' = new_out e lt in let c = R.whereabouts e lt in
+            (omega arith, omega arith);
         stub_once = let a = out_is n in let b = old_out n in let b' = new_out_stub in let c = R.stub_once in omega arith;
         seats = seats_now n h (q ∷ rest) poller words views R poller v w m at ws by_poller words q rest (λ i _ _ z. z)
-            (λ p i some_owed z. let ne : p ≢ h = λ is. let d : owed views p ≡ owed views h = ap (owed views) is in omega arith in sym (next_later p h q rest ne) ∙ z)
+            (λ p i some_owed z. let ne : p ≢ h = λ is. let d : owed views p ≡ owed views h = ap (owed views) is in omega arith in
+            sym (next_later p h q rest ne) ∙ z)
             (λ ne. absurd (ne refl)) (mine (R.linked q next_there).0 (apart q (let a = same_here q in omega arith)) at_h.0);
-        tallied = λ e lt. let a = counts (is_win e) in let b = counts (is_unmark e) in let c = R.tallied e lt in let d = no_win e in let x = no_unmark e in omega arith;
+        tallied = λ e lt. let a = counts (is_win e) in let b = counts (is_unmark e) in let c = R.tallied e lt in let d = no_win e in
+            let x = no_unmark e in omega arith;
       }
 
-pub tail_low : (n h : ℕ) (rest : List ℕ) (poller : ℕ) (words : List ℕ) (views : List View) → KeepsRow n h rest poller words views → tail n words ≤ n
+pub tail_low : (n h : ℕ) (rest : List ℕ) (poller : ℕ) (words : List ℕ) (views : List View) → KeepsRow n h rest poller words views →
+    tail n words ≤ n
 tail_low n h rest poller words views R = (R.linked (tail n words) (subst (λ (q : ℕ). 0 < times q (h ∷ rest)) R.ends (last_in h rest))).0
 
 -- the row of an empty list, with so many wake seats
@@ -382,10 +463,14 @@ keeps_first count n = record {
       (λ (t : (p ≡ n) × (same p n ≡ 1)). (omega arith, inl (empty_word n (n + p) (omega arith), no_owed p)))
       (λ (t : (p ≢ n) × (same p n ≡ 0)). absurd (omega arith)) (same_cases p n);
   unowed = λ p none. no_owed p;
-  whereabouts = λ e lt. let a = empty_word n e (omega arith) in let b = same_else e n (λ z. omega arith) in let d = no_out e in (omega arith, omega arith);
+  whereabouts = λ e lt. let a = empty_word n e (omega arith) in let b = same_else e n (λ z. omega arith) in let d = no_out e in
+      (omega arith, omega arith);
   stub_once = let a = same_here n in let d = no_out n in omega arith;
-  seats = each_first count n (λ j v. FitsRole n (empty_words n) n [] count j v.role × (j ≢ count → (e : ℕ) → unmarks e v.steps ≡ 0)) (λ j lt. (tt, λ ne e. refl)) ((refl, refl, (let a : n ≤ n = omega arith in a)), λ ne e. refl);
-  tallied = λ e lt. let a = empty_word n e (omega arith) in let b = none_of (λ v. wins e v.steps) refl refl in let d = none_of (λ v. unmarks e v.steps) refl refl in omega arith;
+  seats = each_first count n (λ j v. FitsRole n (empty_words n) n [] count j v.role
+      × (j ≢ count → (e : ℕ) →
+      unmarks e v.steps ≡ 0)) (λ j lt. (tt, λ ne e. refl)) ((refl, refl, (let a : n ≤ n = omega arith in a)), λ ne e. refl);
+  tallied = λ e lt. let a = empty_word n e (omega arith) in let b = none_of (λ v. wins e v.steps) refl refl in
+      let d = none_of (λ v. unmarks e v.steps) refl refl in omega arith;
 }
   where
     none_of : (f : View → ℕ) → f (new_waker_beside (first_poller n)) ≡ 0 → f (first_poller n) ≡ 0 → total f (first_views count n) ≡ 0

@@ -14,7 +14,8 @@ pub total-append : {X : Type 0} (f : X → ℕ) (xs ys : List X) → total f (xs
 total-append f [] ys = omega arith
 total-append f (x ∷ xs) ys = omega (arith, total-append f xs ys)
 
-pub total_set : {X : Type 0} (f : X → ℕ) (xs : List X) (i : ℕ) (v w : X) → get_elem? xs i ≡ some v → total f (set xs i w) + f v ≡ total f xs + f w
+pub total_set : {X : Type 0} (f : X → ℕ) (xs : List X) (i : ℕ) (v w : X) → get_elem? xs i ≡ some v →
+    total f (set xs i w) + f v ≡ total f xs + f w
 total_set f [] i v w e = absurd (some-ne-none v (sym e))
 total_set f (x ∷ xs) zero v w e = let s : f x ≡ f v = ap f (some-injective x v e) in omega arith
 total_set f (x ∷ xs) (suc i) v w e = omega (arith, total_set f xs i v w e)
@@ -30,10 +31,13 @@ total_none f [] h = refl
 total_none f (x ∷ xs) h = let a = h 0 x refl in omega (arith, total_none f xs (λ i v e. h (suc i) v e))
 
 -- a sum in which one term alone may be other than 0
-pub total_one : {X : Type 0} (f : X → ℕ) (xs : List X) (k : ℕ) (x : X) → get_elem? xs k ≡ some x → ((i : ℕ) (v : X) → i ≢ k → get_elem? xs i ≡ some v → f v ≡ 0) → total f xs ≡ f x
+pub total_one : {X : Type 0} (f : X → ℕ) (xs : List X) (k : ℕ) (x : X) → get_elem? xs k ≡ some x →
+    ((i : ℕ) (v : X) → i ≢ k → get_elem? xs i ≡ some v → f v ≡ 0) → total f xs ≡ f x
 total_one f [] k x e h = absurd (some-ne-none x (sym e))
-total_one f (y ∷ ys) zero x e h = let s : f y ≡ f x = ap f (some-injective y x e) in omega (arith, total_none f ys (λ i v e'. h (suc i) v (λ z. omega arith) e'))
-total_one f (y ∷ ys) (suc k) x e h = let a = h 0 y (λ z. omega arith) refl in omega (arith, total_one f ys k x e (λ i v ne e'. h (suc i) v (λ z. ne (omega arith)) e'))
+total_one f (y ∷ ys) zero x e h = let s : f y ≡ f x = ap f (some-injective y x e) in
+    omega (arith, total_none f ys (λ i v e'. h (suc i) v (λ z. omega arith) e'))
+total_one f (y ∷ ys) (suc k) x e h = let a = h 0 y (λ z. omega arith) refl in
+    omega (arith, total_one f ys k x e (λ i v ne e'. h (suc i) v (λ z. ne (omega arith)) e'))
 
 pub same_here : (a : ℕ) → same a a ≡ 1
 same_here a = grind (arith, nat_tests)
@@ -49,7 +53,8 @@ times_snoc e xs x = omega (arith, total-append (same e) xs (x ∷ []))
 
 pub total_some : {X : Type 0} (f : X → ℕ) (xs : List X) → 0 < total f xs → (i : ℕ) × (v : X) × (get_elem? xs i ≡ some v) × (0 < f v)
 total_some f [] pos = absurd (omega arith)
-total_some f (x ∷ xs) pos = ⊎_elim (λ (t : 0 < f x). (0, x, refl, t)) (λ (t : f x ≡ 0). let more = total_some f xs (omega arith) in (suc more.0, more.1, more.2, more.3)) (pos_or (f x))
+total_some f (x ∷ xs) pos = ⊎_elim (λ (t : 0 < f x). (0, x, refl, t)) (λ (t : f x ≡ 0). let more = total_some f xs (omega arith) in
+    (suc more.0, more.1, more.2, more.3)) (pos_or (f x))
   where
     pos_or : (k : ℕ) → (0 < k) ⊎ (k ≡ 0)
     pos_or k = grind arith
@@ -62,7 +67,8 @@ next_later p h x xs ne = grind (arith, nat_tests)
 
 pub next_absent : (p h : ℕ) (rest : List ℕ) → times p (h ∷ rest) ≡ 0 → next p h rest ≡ 0
 next_absent p h [] none = refl
-next_absent p h (x ∷ xs) none = ⊎_elim (λ (t : (p ≡ h) × (same p h ≡ 1)). absurd (omega arith)) (λ (t : (p ≢ h) × (same p h ≡ 0)). next_later p h x xs t.0 ∙ next_absent p x xs (omega arith)) (same_cases p h)
+next_absent p h (x ∷ xs) none = ⊎_elim (λ (t : (p ≡ h) × (same p h ≡ 1)). absurd (omega arith)) (λ (t : (p ≢ h)
+    × (same p h ≡ 0)). next_later p h x xs t.0 ∙ next_absent p x xs (omega arith)) (same_cases p h)
 
 pub last_in : (h : ℕ) (rest : List ℕ) → 0 < times (last_entry h rest) (h ∷ rest)
 last_in h [] = omega (arith, same_here h)
@@ -77,27 +83,33 @@ pub next_last : (p h : ℕ) (rest : List ℕ) → p ≡ last_entry h rest → ti
 next_last p h [] is once = refl
 next_last p h (x ∷ xs) is once =
     let more : 0 < times p (x ∷ xs) = subst (λ (q : ℕ). 0 < times q (x ∷ xs)) (sym is) (last_in x xs) in
-    ⊎_elim (λ (t : (p ≡ h) × (same p h ≡ 1)). absurd (omega arith)) (λ (t : (p ≢ h) × (same p h ≡ 0)). next_later p h x xs t.0 ∙ next_last p x xs is (omega arith)) (same_cases p h)
+    ⊎_elim (λ (t : (p ≡ h) × (same p h ≡ 1)). absurd (omega arith)) (λ (t : (p ≢ h)
+    × (same p h ≡ 0)). next_later p h x xs t.0 ∙ next_last p x xs is (omega arith)) (same_cases p h)
 
 -- an entry that is put in at the end comes behind the last, and nothing else changes
 pub next_put : (p h : ℕ) (rest : List ℕ) (e : ℕ) → p ≡ last_entry h rest → times p (h ∷ rest) ≤ 1 → next p h (rest ++ e ∷ []) ≡ suc e
 next_put p h [] e is once = subst (λ (q : ℕ). next q h (e ∷ []) ≡ suc e) (sym is) (next_first h e [])
 next_put p h (x ∷ xs) e is once =
     let more : 0 < times p (x ∷ xs) = subst (λ (q : ℕ). 0 < times q (x ∷ xs)) (sym is) (last_in x xs) in
-    ⊎_elim (λ (t : (p ≡ h) × (same p h ≡ 1)). absurd (omega arith)) (λ (t : (p ≢ h) × (same p h ≡ 0)). next_later p h x (xs ++ e ∷ []) t.0 ∙ next_put p x xs e is (omega arith)) (same_cases p h)
+    ⊎_elim (λ (t : (p ≡ h) × (same p h ≡ 1)). absurd (omega arith)) (λ (t : (p ≢ h)
+    × (same p h ≡ 0)). next_later p h x (xs ++ e ∷ []) t.0 ∙ next_put p x xs e is (omega arith)) (same_cases p h)
 
 pub next_kept : (p h : ℕ) (rest : List ℕ) (e : ℕ) → p ≢ last_entry h rest → next p h (rest ++ e ∷ []) ≡ next p h rest
 next_kept p h [] e ne = next_later p h e [] ne
 next_kept p h (x ∷ xs) e ne = ⊎_elim
-    (λ (t : (p ≡ h) × (same p h ≡ 1)). subst (λ (q : ℕ). next q h (x ∷ (xs ++ e ∷ [])) ≡ next q h (x ∷ xs)) (sym t.0) (next_first h x (xs ++ e ∷ []) ∙ sym (next_first h x xs)))
-    (λ (t : (p ≢ h) × (same p h ≡ 0)). next_later p h x (xs ++ e ∷ []) t.0 ∙ (next_kept p x xs e ne ∙ sym (next_later p h x xs t.0))) (same_cases p h)
+    (λ (t : (p ≡ h) × (same p h ≡ 1)). subst (λ (q : ℕ). next q h (x ∷ (xs ++ e ∷ [])) ≡ next q h (x ∷ xs)) (sym t.0)
+    (next_first h x (xs ++ e ∷ []) ∙ sym (next_first h x xs)))
+    (λ (t : (p ≢ h) × (same p h ≡ 0)). next_later p h x (xs ++ e ∷ []) t.0 ∙ (next_kept p x xs e ne ∙ sym (next_later p h x xs t.0)))
+    (same_cases p h)
 
 -- what stands behind an entry still does
 pub next_stays : (p h : ℕ) (rest : List ℕ) (e q : ℕ) → next p h rest ≡ suc q → next p h (rest ++ e ∷ []) ≡ suc q
 next_stays p h [] e q is = absurd (omega arith)
 next_stays p h (x ∷ xs) e q is = ⊎_elim
-    (λ (t : (p ≡ h) × (same p h ≡ 1)). subst (λ (k : ℕ). next k h (x ∷ (xs ++ e ∷ [])) ≡ suc q) (sym t.0) (next_first h x (xs ++ e ∷ []) ∙ (sym (next_first h x xs) ∙ subst (λ (k : ℕ). next k h (x ∷ xs) ≡ suc q) t.0 is)))
-    (λ (t : (p ≢ h) × (same p h ≡ 0)). next_later p h x (xs ++ e ∷ []) t.0 ∙ next_stays p x xs e q (sym (next_later p h x xs t.0) ∙ is)) (same_cases p h)
+    (λ (t : (p ≡ h) × (same p h ≡ 1)). subst (λ (k : ℕ). next k h (x ∷ (xs ++ e ∷ [])) ≡ suc q) (sym t.0)
+    (next_first h x (xs ++ e ∷ []) ∙ (sym (next_first h x xs) ∙ subst (λ (k : ℕ). next k h (x ∷ xs) ≡ suc q) t.0 is)))
+    (λ (t : (p ≢ h) × (same p h ≡ 0)). next_later p h x (xs ++ e ∷ []) t.0 ∙ next_stays p x xs e q (sym (next_later p h x xs t.0) ∙ is))
+    (same_cases p h)
 
 pub alone : (h : ℕ) (rest : List ℕ) → h ≡ last_entry h rest → times h (h ∷ rest) ≤ 1 → rest ≡ []
 alone h [] is once = refl
@@ -123,7 +135,8 @@ abbrev pub answered_by : Role → List ℕ
 answered_by (Polls h (InHand i)) = i ∷ []
 answered_by _ = []
 
--- a step from the role `old` to the role `new`, and from one row to another: what was put in comes at the end, and what is answered was the first.
+-- a step from the role `old` to the role `new`, and from one row to another: what was put in comes at the end, and what is answered was the
+-- first.
 -- The hand of the poller is empty but in InHand, whose step is its answer
 abbrev pub Flows : ℕ → Role → Role → List ℕ → List ℕ → Type 0
 Flows n (Polls h (InHand i)) new row now = (in_hand new ≡ []) × (row_slots n now ≡ row_slots n row)

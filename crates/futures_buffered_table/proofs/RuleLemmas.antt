@@ -7,7 +7,7 @@ use Rattle.futures_buffered_table.specs.declared.view.Phase.{Phase}
 use Rattle.futures_buffered_table.specs.declared.view.Phase.TheVariants.{Start, AtStub, Moved, NoNext, Last, StubCleared, StubPut, StubLinked, InHand}
 use Rattle.futures_buffered_table.specs.declared.view.Role.{Role}
 use Rattle.futures_buffered_table.specs.declared.view.Role.TheVariants.{Idle, Won, Cleared, Swapped, Polls}
-use Rattle.atomic_table.specs.Table.{State, Me, step, keeps, Allows, Splits, Joins}
+use Rattle.atomic_table.specs.Table.{State, Me, step as table_step, keeps, Allows, Splits, Joins}
 use Rattle.futures_buffered_table.specs.declared.view.AtomicStep.{AtomicStep}
 use Rattle.atomic_table.proofs.Lists.{at_set, at_snoc, set_again}
 use Rattle.futures_buffered_table.specs.RowInvariant.{FitsRole, KeepsRow, outside, outside_by}
@@ -21,12 +21,14 @@ use Rattle.futures_buffered_table.specs.Effect.{next_view, put_by_role, word_of_
 use Rattle.futures_buffered_table.proofs.EffectLemmas.{poll_keeps, wake_keeps}
 use Rattle.futures_buffered_table.proofs.RowInvariantLemmas.{keeps_first, tail_low}
 
-pub begins_at : (n : ℕ) (words : List ℕ) → words ≡ empty_words n → HoldsRow n record { words = words; homes = []; views = first_poller n ∷ [] }
+pub begins_at : (n : ℕ) (words : List ℕ) → words ≡ empty_words n →
+    HoldsRow n record { words = words; homes = []; views = first_poller n ∷ [] }
 begins_at n words is = (n, [], 0, subst (λ (ws : List ℕ). KeepsRow n n [] 0 ws (first_poller n ∷ [])) (sym is) (keeps_first 0 n))
 
 module _ (n h : ℕ) (rest : List ℕ) (poller : ℕ) (words : List ℕ) (views : List View) (R : KeepsRow n h rest poller words views) where
   -- what the rule tells of the number that a wake's step finds
-  pub wake_tells : (slot : ℕ) (role : Role) → (role ≡ Idle → slot < n) → ((head : ℕ) (phase : Phase) → role ≢ Polls head phase) → MayFind n role (get_or words (word_of_role n slot role) 0)
+  pub wake_tells : (slot : ℕ) (role : Role) → (role ≡ Idle → slot < n) → ((head : ℕ) (phase : Phase) → role ≢ Polls head phase) →
+      MayFind n role (get_or words (word_of_role n slot role) 0)
   wake_tells slot Idle lt wakes = (R.whereabouts slot (lt refl)).1
   wake_tells slot (Won e) lt wakes = tt
   wake_tells slot (Cleared e) lt wakes = tail_low n h rest poller words views R
@@ -34,7 +36,9 @@ module _ (n h : ℕ) (rest : List ℕ) (poller : ℕ) (words : List ℕ) (views 
   wake_tells slot (Polls head phase) lt wakes = absurd (wakes head phase refl)
 
   link_low : link n words h ≤ suc n
-  link_low = ⊎_elim (λ (t : (link n words h ≡ next h h rest) × (owed views h ≡ 0)). let a = t.0 in let b = next_low rest refl in omega arith) (λ (t : (link n words h ≡ 0) × (owed views h ≡ 1) × (0 < next h h rest)). let a = t.0 in omega arith) (R.linked h (let a = same_here h in omega arith)).1
+  link_low = ⊎_elim (λ (t : (link n words h ≡ next h h rest) × (owed views h ≡ 0)). let a = t.0 in let b = next_low rest refl in
+      omega arith) (λ (t : (link n words h ≡ 0) × (owed views h ≡ 1) × (0 < next h h rest)). let a = t.0 in
+      omega arith) (R.linked h (let a = same_here h in omega arith)).1
     where
       next_low : (r : List ℕ) → rest ≡ r → next h h rest ≤ suc n
       next_low [] is = let a : next h h rest ≡ 0 = ap (next h h) is in omega arith
@@ -44,15 +48,19 @@ module _ (n h : ℕ) (rest : List ℕ) (poller : ℕ) (words : List ℕ) (views 
 
   -- behind the stub stands a slot
   stub_low : h ≡ n → link n words h ≤ n
-  stub_low at_stub = ⊎_elim (λ (t : (link n words h ≡ next h h rest) × (owed views h ≡ 0)). let a = t.0 in let b = next_low rest refl in omega arith) (λ (t : (link n words h ≡ 0) × (owed views h ≡ 1) × (0 < next h h rest)). let a = t.0 in omega arith) (R.linked h (let a = same_here h in omega arith)).1
+  stub_low at_stub = ⊎_elim (λ (t : (link n words h ≡ next h h rest) × (owed views h ≡ 0)). let a = t.0 in let b = next_low rest refl in
+      omega arith) (λ (t : (link n words h ≡ 0) × (owed views h ≡ 1) × (0 < next h h rest)). let a = t.0 in
+      omega arith) (R.linked h (let a = same_here h in omega arith)).1
     where
       next_low : (r : List ℕ) → rest ≡ r → next h h rest ≤ n
       next_low [] is = let a : next h h rest ≡ 0 = ap (next h h) is in omega arith
       next_low (x ∷ xs) is = let a : next h h rest ≡ suc x = ap (next h h) is ∙ next_first h x xs in
           let there : 0 < times x (h ∷ rest) = subst (λ (r : List ℕ). 0 < times x (h ∷ r)) (sym is) (let b = same_here x in omega arith) in
           let b = (R.linked x there).0 in
-          let twice : times h (h ∷ x ∷ xs) ≤ 1 = subst (λ (r : List ℕ). times h (h ∷ r) ≤ 1) is (subst (λ (k : ℕ). times k (h ∷ rest) ≤ 1) (sym at_stub) (let d = R.stub_once in omega arith)) in
-          ⊎_elim (λ (t : (h ≡ x) × (same h x ≡ 1)). absurd (let d = same_here h in omega arith)) (λ (t : (h ≢ x) × (same h x ≡ 0)). grind arith) (same_cases h x)
+          let twice : times h (h ∷ x ∷ xs) ≤ 1 = subst (λ (r : List ℕ). times h (h ∷ r) ≤ 1) is
+          (subst (λ (k : ℕ). times k (h ∷ rest) ≤ 1) (sym at_stub) (let d = R.stub_once in omega arith)) in
+          ⊎_elim (λ (t : (h ≡ x) × (same h x ≡ 1)). absurd (let d = same_here h in omega arith)) (λ (t : (h ≢ x)
+          × (same h x ≡ 0)). grind arith) (same_cases h x)
 
   -- what the rule tells of the number that a step of a taking finds
   pub poll_tells : (slot : ℕ) (phase : Phase) → MayFind n (Polls h phase) (get_or words (word_of_role n slot (Polls h phase)) 0)
@@ -79,14 +87,29 @@ module _ (n id i : ℕ) (steps : List AtomicStep) where
 
   -- the state after the step of this role, of which the rule tells what it found
   abbrev Keeps : Role → State ℕ View → Type 0
-  Keeps role s = HoldsRow n record { words = set s.words i (put_by_role n role (Found s)); homes = s.homes; views = set s.views id (next_view i (seated n role steps).0 (Found s)) } × MayFind n role (Found s)
+  Keeps role s = HoldsRow n record {
+    words = set s.words i (put_by_role n role (Found s));
+    homes = s.homes;
+    views = set s.views id
+        (next_view i (seated n role steps).0 (Found s));
+  } × MayFind n role (Found s)
 
-  wake_keeps_rule : (role : Role) → (role ≡ Idle → i < n) → ((head : ℕ) (phase : Phase) → role ≢ Polls head phase) → i ≡ word_of_role n i role
+  wake_keeps_rule : (role : Role) → (role ≡ Idle → i < n) → ((head : ℕ) (phase : Phase) → role ≢ Polls head phase) →
+      i ≡ word_of_role n i role
       → (s : State ℕ View) → HoldsRow n s → get_elem? s.views id ≡ some (seated n role steps).0 → Keeps role s
   wake_keeps_rule role lt wakes there s held at =
-      let kept = wake_keeps n held.0 held.1 held.2 s.words s.views held.3 id steps i role lt wakes at (Found s) (ap (λ (k : ℕ). get_or s.words k 0) there) in (
-        (kept.0, kept.1, held.2, subst (λ (k : ℕ). KeepsRow n kept.0 kept.1 held.2 (set s.words k (put_by_role n role (Found s))) (set s.views id (next_view i (seated n role steps).0 (Found s)))) (sym there) kept.2),
-        subst (λ (k : ℕ). MayFind n role (get_or s.words k 0)) (sym there) (wake_tells n held.0 held.1 held.2 s.words s.views held.3 i role lt wakes),
+      let kept = wake_keeps n held.0 held.1 held.2 s.words s.views held.3 id steps i role lt wakes at (Found s)
+      (ap (λ (k : ℕ). get_or s.words k 0) there) in (
+        (
+          kept.0,
+          kept.1,
+          held.2,
+          subst
+              (λ (k : ℕ). KeepsRow n kept.0 kept.1 held.2 (set s.words k (put_by_role n role (Found s)))
+              (set s.views id (next_view i (seated n role steps).0 (Found s)))) (sym there) kept.2,
+        ),
+        subst (λ (k : ℕ). MayFind n role (get_or s.words k 0)) (sym there)
+            (wake_tells n held.0 held.1 held.2 s.words s.views held.3 i role lt wakes),
       )
 
   poll_keeps_rule : (h : ℕ) (phase : Phase) → i ≡ word_of_role n i (Polls h phase)
@@ -94,9 +117,17 @@ module _ (n id i : ℕ) (steps : List AtomicStep) where
   poll_keeps_rule h phase there s held at =
       let v = (seated n (Polls h phase) steps).0 in
       let ok = (held.3.seats id v at).0 in
-      let R : KeepsRow n h held.1 id s.words s.views = subst (λ (x : ℕ × ℕ). KeepsRow n x.0 held.1 x.1 s.words s.views) (λ k. (sym ok.1 k, sym ok.0 k)) held.3 in
+      let R : KeepsRow n h held.1 id s.words s.views = subst (λ (x : ℕ
+      × ℕ). KeepsRow n x.0 held.1 x.1 s.words s.views) (λ k. (sym ok.1 k, sym ok.0 k)) held.3 in
       let kept = poll_keeps n h held.1 id s.words s.views R steps i phase at (Found s) (ap (λ (k : ℕ). get_or s.words k 0) there) in (
-        (kept.0, kept.1, id, subst (λ (k : ℕ). KeepsRow n kept.0 kept.1 id (set s.words k (put_by_role n (Polls h phase) (Found s))) (set s.views id (next_view i v (Found s)))) (sym there) kept.2),
+        (
+          kept.0,
+          kept.1,
+          id,
+          subst
+              (λ (k : ℕ). KeepsRow n kept.0 kept.1 id (set s.words k (put_by_role n (Polls h phase) (Found s)))
+              (set s.views id (next_view i v (Found s)))) (sym there) kept.2,
+        ),
         subst (λ (k : ℕ). MayFind n (Polls h phase) (get_or s.words k 0)) (sym there) (poll_tells n h held.1 id s.words s.views R i phase),
       )
 
@@ -114,25 +145,33 @@ module _ (n id i : ℕ) (steps : List AtomicStep) where
   keeps_rule (Polls h phase) lt = poll_keeps_rule h phase
 
   -- so the table lets the seat make it, by a step that puts what the role puts there
-  module _ (role : Role) (lt : WakesSlot role) (there : i ≡ word_of_role n i role) (slots key : ℕ) (is_key : key ≡ n) (me : Me ℕ View) (is_me : me ≡ seated n role steps) where
+  module _ (role : Role) (lt : WakesSlot role) (there : i ≡ word_of_role n i role) (slots key : ℕ) (is_key : key ≡ n) (me : Me ℕ View)
+      (is_me : me ≡ seated n role steps) where
     pub allows_step : (a b : ℕ) (f : ℕ → ℕ) → ((found : ℕ) → put_by_role n role found ≡ f found)
-        → Allows (HoldsRow key) slots id me i f (PlaysRole (step slots i a b none) me)
-    allows_step a b f put = subst (λ (x : ℕ × Me ℕ View). Allows (HoldsRow x.0) slots id x.1 i f (PlaysRole (step slots i a b none) x.1)) (λ k. (sym is_key k, sym is_me k))
+        → Allows (HoldsRow key) slots id me i f (PlaysRole (table_step slots i a b none) me)
+    allows_step a b f put = subst (λ (x : ℕ
+        × Me ℕ View). Allows (HoldsRow x.0) slots id x.1 i f (PlaysRole (table_step slots i a b none) x.1))
+        (λ k. (sym is_key k, sym is_me k))
         (λ s held len at fits.
         let kept = keeps_rule role lt there s held at in
         let w = next_view i (seated n role steps).0 (Found s) in
-        let now = subst (λ (x : ℕ). HoldsRow n record { words = set s.words i x; homes = s.homes; views = set s.views id w }) (put (Found s)) kept.0 in
+        let now = subst (λ (x : ℕ). HoldsRow n record { words = set s.words i x; homes = s.homes; views = set s.views id w })
+        (put (Found s)) kept.0 in
         (w, keeps, tt, now, (refl, refl, kept.1)))
 
     -- a store tells nothing of what it finds
     pub allows_store : (new : ℕ) → ((found : ℕ) → put_by_role n role found ≡ new)
         → ((found : ℕ) → next_view i (seated n role steps).0 found ≡ next_view i (seated n role steps).0 new) → MayFind n role new
-        → Allows (HoldsRow key) slots id me i (λ _. new) (λ _. PlaysRole (step slots i new 0 none) me new)
-    allows_store new put blind told = subst (λ (x : ℕ × Me ℕ View). Allows (HoldsRow x.0) slots id x.1 i (λ _. new) (λ _. PlaysRole (step slots i new 0 none) x.1 new)) (λ k. (sym is_key k, sym is_me k))
+        → Allows (HoldsRow key) slots id me i (λ _. new) (λ _. PlaysRole (table_step slots i new 0 none) me new)
+    allows_store new put blind told = subst (λ (x : ℕ
+        × Me ℕ View). Allows (HoldsRow x.0) slots id x.1 i (λ _. new) (λ _. PlaysRole (table_step slots i new 0 none) x.1 new))
+        (λ k. (sym is_key k, sym is_me k))
         (λ s held len at fits.
         let kept = keeps_rule role lt there s held at in
         let w = next_view i (seated n role steps).0 new in
-        let now = subst (λ (x : ℕ × View). HoldsRow n record { words = set s.words i x.0; homes = s.homes; views = set s.views id x.1 }) (λ k. (put (Found s) k, blind (Found s) k)) kept.0 in
+        let now = subst (λ (x : ℕ
+        × View). HoldsRow n record { words = set s.words i x.0; homes = s.homes; views = set s.views id x.1 })
+        (λ k. (put (Found s) k, blind (Found s) k)) kept.0 in
         (w, keeps, tt, now, (refl, refl, told)))
 
 -- the rule sees of the views only these sums, and what each seat knows
@@ -140,7 +179,8 @@ same_sums : (n h : ℕ) (rest : List ℕ) (poller : ℕ) (words : List ℕ) (vie
     → ((e : ℕ) → outside n now e ≡ outside n views e) → ((p : ℕ) → owed now p ≡ owed views p)
     → ((e : ℕ) → total (λ (v : View). wins e v.steps) now ≡ total (λ (v : View). wins e v.steps) views)
     → ((e : ℕ) → total (λ (v : View). unmarks e v.steps) now ≡ total (λ (v : View). unmarks e v.steps) views)
-    → ((j : ℕ) (v : View) → get_elem? now j ≡ some v → FitsRole n words h rest poller j v.role × (j ≢ poller → (e : ℕ) → unmarks e v.steps ≡ 0))
+    → ((j : ℕ) (v : View) → get_elem? now j ≡ some v → FitsRole n words h rest poller j v.role
+    × (j ≢ poller → (e : ℕ) → unmarks e v.steps ≡ 0))
     → KeepsRow n h rest poller words now
 same_sums n h rest poller words views now R outs oweds won undone seats = record {
   wide = R.wide;
@@ -163,11 +203,18 @@ splits n id v s held at =
     (λ e. omega (arith, total-append (λ (u : View). wins e u.steps) s.views (new_waker_beside v ∷ [])))
     (λ e. omega (arith, total-append (λ (u : View). unmarks e u.steps) s.views (new_waker_beside v ∷ [])))
     (λ j u e. ⊎_elim (λ t. R.seats j u t)
-    (λ (t : new_waker_beside v ≡ u). subst (λ (y : View). FitsRole n s.words held.0 held.1 held.2 j y.role × (j ≢ held.2 → (x : ℕ) → unmarks x y.steps ≡ 0)) t (tt, λ _ x. refl))
-    (at_snoc s.views (new_waker_beside v) u j e)) in
-    (held.0, held.1, held.2, subst (λ (vs : List View). KeepsRow n held.0 held.1 held.2 s.words (vs ++ new_waker_beside v ∷ [])) (sym (set_again s.views id v at)) kept)
+    (λ (t : new_waker_beside v ≡ u). subst (λ (y : View). FitsRole n s.words held.0 held.1 held.2 j y.role
+    × (j ≢ held.2 → (x : ℕ) → unmarks x y.steps ≡ 0)) t (tt, λ _ x. refl))
+    (at_snoc s.views (new_waker_beside v) u j e)) in (
+      held.0,
+      held.1,
+      held.2,
+      subst (λ (vs : List View). KeepsRow n held.0 held.1 held.2 s.words (vs ++ new_waker_beside v ∷ []))
+          (sym (set_again s.views id v at)) kept,
+    )
 
-pub joins : (n id other : ℕ) (v w : View) (head : ℕ) (phase : Phase) → v.role ≡ Polls head phase → w.role ≡ Idle → Joins (HoldsRow n) id v other w (with_steps_of v w) spent_view
+pub joins : (n id other : ℕ) (v w : View) (head : ℕ) (phase : Phase) → v.role ≡ Polls head phase → w.role ≡ Idle →
+    Joins (HoldsRow n) id v other w (with_steps_of v w) spent_view
 joins n id other v w head phase polls idle s held at apart there =
     let R = held.3 in
     let both = with_steps_of v w in
@@ -185,9 +232,11 @@ joins n id other v w head phase polls idle s held at apart there =
           (λ e. sums (λ u. wins e u.steps) (total-append (is_win e) v.steps w.steps) refl)
           (λ e. sums (λ u. unmarks e u.steps) (total-append (is_unmark e) v.steps w.steps) refl)
           (λ j u e. ⊎_elim
-          (λ (t : (j ≡ other) × (spent_view ≡ u)). subst (λ (y : View). FitsRole n s.words held.0 held.1 held.2 j y.role × (j ≢ held.2 → (x : ℕ) → unmarks x y.steps ≡ 0)) t.1 (tt, λ _ x. refl))
+          (λ (t : (j ≡ other) × (spent_view ≡ u)). subst (λ (y : View). FitsRole n s.words held.0 held.1 held.2 j y.role
+          × (j ≢ held.2 → (x : ℕ) → unmarks x y.steps ≡ 0)) t.1 (tt, λ _ x. refl))
           (λ (t : (j ≢ other) × (get_elem? one j ≡ some u)). ⊎_elim
-          (λ (r : (j ≡ id) × (both ≡ u)). subst (λ (y : ℕ × View). FitsRole n s.words held.0 held.1 held.2 y.0 y.1.role × (y.0 ≢ held.2 → (x : ℕ) → unmarks x y.1.steps ≡ 0)) (λ k. (sym r.0 k, r.1 k)) ((R.seats id v at).0, λ ne. absurd (ne here)))
+          (λ (r : (j ≡ id) × (both ≡ u)). subst (λ (y : ℕ × View). FitsRole n s.words held.0 held.1 held.2 y.0 y.1.role
+          × (y.0 ≢ held.2 → (x : ℕ) → unmarks x y.1.steps ≡ 0)) (λ k. (sym r.0 k, r.1 k)) ((R.seats id v at).0, λ ne. absurd (ne here)))
           (λ (r : (j ≢ id) × (get_elem? s.views j ≡ some u)). R.seats j u r.1)
           (at_set s.views id j both u t.1))
           (at_set one other j spent_view u e)),

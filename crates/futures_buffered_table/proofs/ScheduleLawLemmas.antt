@@ -66,14 +66,16 @@ IsRight (Taken Empty) past = put_in past ≡ answered past
 IsRight (Taken Pause) past = WakerStands past ⊎ WakerStood past
 IsRight _ past = Unit {0}
 
-wake_same : (seat : ℕ) (e : Turn) (past : List Turn) → seat_of e.step ≡ seat → wake_of seat (e ∷ past) ≡ wake_after e.step e.reply (wake_of seat past)
+wake_same : (seat : ℕ) (e : Turn) (past : List Turn) → seat_of e.step ≡ seat →
+    wake_of seat (e ∷ past) ≡ wake_after e.step e.reply (wake_of seat past)
 wake_same seat e past is = if_yes (seat_of e.step == seat) _ _ (grind (arith, nat_tests))
 
 wake_else : (seat : ℕ) (e : Turn) (past : List Turn) → seat_of e.step ≢ seat → wake_of seat (e ∷ past) ≡ wake_of seat past
 wake_else seat e past ne = if_no (seat_of e.step == seat) _ _ (grind (arith, nat_tests))
 
 -- a waker that stands so is told of
-stands_told : (n : ℕ) (past : List Turn) (c : Moment) (good : IsReachable n c) → IsTold n past c good → SomeWakerStands c.views → WakerStands past
+stands_told : (n : ℕ) (past : List Turn) (c : Moment) (good : IsReachable n c) → IsTold n past c good → SomeWakerStands c.views →
+    WakerStands past
 stands_told n past c good tells waits =
     let j = waits.0 in let u = waits.1.2 in let at = waits.1.3 in let is = waits.1.4 in let polls = good.2.3 in
     let other : j ≢ WAKE_SEATS = λ z.
@@ -86,7 +88,8 @@ abbrev event : (n : ℕ) (c : Moment) → Step → Turn
 event n c s = record { step = s; reply = reply_of_role n (view_at c s).role (found_at n c s) }
 
 abbrev StaysTold : (n : ℕ) (past : List Turn) (c : Moment) (good : IsReachable n c) → Step → Type 0
-StaysTold n past c good s = IsRight (event n c s).reply past × ((on : IsReachable n (after_step n c s)) × IsTold n (event n c s ∷ past) (after_step n c s) on)
+StaysTold n past c good s = IsRight (event n c s).reply past
+    × ((on : IsReachable n (after_step n c s)) × IsTold n (event n c s ∷ past) (after_step n c s) on)
 
 -- a wake's step
 abbrev IsPolls : Role → Type 0
@@ -98,7 +101,8 @@ MayMake (Mark seat slot) role = role ≡ Idle
 MayMake (Go seat) role = (role ≢ Idle) × (IsPolls role → ⊥)
 MayMake Poll role = ⊥
 
-shows_on : (n m : ℕ) (s : Step) (role : Role) (found : ℕ) (w : Wake) → MayMake s role → ShowsWake w role → ShowsWake (wake_after s (reply_of_role n role found) w) (next_role m (slot_of s) role found)
+shows_on : (n m : ℕ) (s : Step) (role : Role) (found : ℕ) (w : Wake) → MayMake s role → ShowsWake w role →
+    ShowsWake (wake_after s (reply_of_role n role found) w) (next_role m (slot_of s) role found)
 shows_on n m (Mark seat slot) Idle zero w may shows = (refl, refl)
 shows_on n m (Mark seat slot) Idle (suc k) w may shows = tt
 shows_on n m (Mark seat slot) (Won e) found w may shows = absurd cc
@@ -112,7 +116,8 @@ shows_on n m (Go seat) (Swapped e p) found w may shows = tt
 shows_on n m (Go seat) (Polls h phase) found w may shows = absurd (may.1 tt)
 shows_on n m Poll role found w may shows = absurd may
 
-put_on : (n : ℕ) (s : Step) (role : Role) (found : ℕ) (w : Wake) → MayMake s role → ShowsWake w role → put_in_by s (reply_of_role n role found) w ≡ put_by role
+put_on : (n : ℕ) (s : Step) (role : Role) (found : ℕ) (w : Wake) → MayMake s role → ShowsWake w role →
+    put_in_by s (reply_of_role n role found) w ≡ put_by role
 put_on n (Mark seat slot) Idle zero w may shows = refl
 put_on n (Mark seat slot) Idle (suc k) w may shows = refl
 put_on n (Mark seat slot) (Won e) found w may shows = absurd cc
@@ -156,29 +161,47 @@ right_wake n (Cleared e) found past wakes = tt
 right_wake n (Swapped e p) found past wakes = tt
 right_wake n (Polls h phase) found past wakes = absurd (wakes tt)
 
--- the taking under way goes on while a wake makes a step that leaves the tail, or after which its waker stands so
-takes_on : (s : Step) (r : StepReply) (past : List Turn) (t now h : ℕ) (phase : Phase) → seat_of s < WAKE_SEATS → (now ≡ t) ⊎ WakerStands (record { step = s; reply = r } ∷ past) → TellsPhase past t h phase → TellsPhase (record { step = s; reply = r } ∷ past) now h phase
-takes_on (Mark seat slot) r past t now h Start low or takes = tt
-takes_on (Mark seat slot) r past t now h AtStub low or takes = (takes.0, ⊎_elim (λ (e : now ≡ t). ⊎_elim (λ (z : WakerStood past). inl (inr z)) (λ (z : t ≡ h). inr (e ∙ z)) takes.1) (λ (z : WakerStands (record { step = Mark seat slot; reply = r } ∷ past)). inl (inl (takes.0, z))) or)
-takes_on (Mark seat slot) r past t now h NoNext low or takes = (takes.0, ⊎_elim (λ (e : now ≡ t). ⊎_elim (λ (z : WakerStood past). inl (inr z)) (λ (z : t ≡ h). inr (e ∙ z)) takes.1) (λ (z : WakerStands (record { step = Mark seat slot; reply = r } ∷ past)). inl (inl (takes.0, z))) or)
-takes_on (Mark seat slot) r past t now h Moved low or takes = takes
-takes_on (Mark seat slot) r past t now h Last low or takes = takes
-takes_on (Mark seat slot) r past t now h StubCleared low or takes = takes
-takes_on (Mark seat slot) r past t now h (StubPut p) low or takes = takes
-takes_on (Mark seat slot) r past t now h StubLinked low or takes = takes
-takes_on (Mark seat slot) r past t now h (InHand i) low or takes = takes
-takes_on (Go seat) r past t now h Start low or takes = tt
-takes_on (Go seat) r past t now h AtStub low or takes = (takes.0, ⊎_elim (λ (e : now ≡ t). ⊎_elim (λ (z : WakerStood past). inl (inr z)) (λ (z : t ≡ h). inr (e ∙ z)) takes.1) (λ (z : WakerStands (record { step = Go seat; reply = r } ∷ past)). inl (inl (takes.0, z))) or)
-takes_on (Go seat) r past t now h NoNext low or takes = (takes.0, ⊎_elim (λ (e : now ≡ t). ⊎_elim (λ (z : WakerStood past). inl (inr z)) (λ (z : t ≡ h). inr (e ∙ z)) takes.1) (λ (z : WakerStands (record { step = Go seat; reply = r } ∷ past)). inl (inl (takes.0, z))) or)
-takes_on (Go seat) r past t now h Moved low or takes = takes
-takes_on (Go seat) r past t now h Last low or takes = takes
-takes_on (Go seat) r past t now h StubCleared low or takes = takes
-takes_on (Go seat) r past t now h (StubPut p) low or takes = takes
-takes_on (Go seat) r past t now h StubLinked low or takes = takes
-takes_on (Go seat) r past t now h (InHand i) low or takes = takes
-takes_on Poll r past t now h phase low or takes = absurd (omega arith)
+-- a step of a wake leaves a taking under way
+stays_under_way : (s : Step) (r : StepReply) (past : List Turn) → seat_of s < WAKE_SEATS → IsUnderWay past →
+    IsUnderWay (record { step = s; reply = r } ∷ past)
+stays_under_way (Mark seat slot) r past low is = is
+stays_under_way (Go seat) r past low is = is
+stays_under_way Poll r past low is = absurd (omega arith)
 
-takes_as : (s : Step) (r : StepReply) (past : List Turn) (t now : ℕ) (role : Role) → seat_of s < WAKE_SEATS → (now ≡ t) ⊎ WakerStands (record { step = s; reply = r } ∷ past) → TellsRole past t role → TellsRole (record { step = s; reply = r } ∷ past) now role
+stood_by_then : (s : Step) (r : StepReply) (past : List Turn) → seat_of s < WAKE_SEATS →
+    (IsUnderWay past × WakerStands (record { step = s; reply = r } ∷ past)) ⊎ WakerStood past →
+    WakerStood (record { step = s; reply = r } ∷ past)
+stood_by_then (Mark seat slot) r past low is = is
+stood_by_then (Go seat) r past low is = is
+stood_by_then Poll r past low is = absurd (omega arith)
+
+-- and leaves the tail, or its waker stands so after it
+stood_or_last : (s : Step) (r : StepReply) (past : List Turn) (t now h : ℕ) → seat_of s < WAKE_SEATS → (now ≡ t)
+    ⊎ WakerStands (record { step = s; reply = r } ∷ past)
+    → IsUnderWay past × (WakerStood past ⊎ (t ≡ h)) → IsUnderWay (record { step = s; reply = r } ∷ past)
+    × (WakerStood (record { step = s; reply = r } ∷ past) ⊎ (now ≡ h))
+stood_or_last s r past t now h low or takes = (
+  stays_under_way s r past low takes.0,
+  ⊎_elim (λ (e : now ≡ t). ⊎_elim (λ (z : WakerStood past). inl (stood_by_then s r past low (inr z))) (λ (z : t ≡ h). inr (e ∙ z)) takes.1)
+      (λ (z : WakerStands (record { step = s; reply = r } ∷ past)). inl (stood_by_then s r past low (inl (takes.0, z)))) or,
+)
+
+takes_on : (s : Step) (r : StepReply) (past : List Turn) (t now h : ℕ) (phase : Phase) → seat_of s < WAKE_SEATS → (now ≡ t)
+    ⊎ WakerStands (record { step = s; reply = r } ∷ past) → TellsPhase past t h phase →
+    TellsPhase (record { step = s; reply = r } ∷ past) now h phase
+takes_on s r past t now h Start low or takes = tt
+takes_on s r past t now h AtStub low or takes = stood_or_last s r past t now h low or takes
+takes_on s r past t now h NoNext low or takes = stood_or_last s r past t now h low or takes
+takes_on s r past t now h Moved low or takes = stays_under_way s r past low takes
+takes_on s r past t now h Last low or takes = stays_under_way s r past low takes
+takes_on s r past t now h StubCleared low or takes = stays_under_way s r past low takes
+takes_on s r past t now h (StubPut p) low or takes = stays_under_way s r past low takes
+takes_on s r past t now h StubLinked low or takes = stays_under_way s r past low takes
+takes_on s r past t now h (InHand i) low or takes = stays_under_way s r past low takes
+
+takes_as : (s : Step) (r : StepReply) (past : List Turn) (t now : ℕ) (role : Role) → seat_of s < WAKE_SEATS → (now ≡ t)
+    ⊎ WakerStands (record { step = s; reply = r } ∷ past) → TellsRole past t role →
+    TellsRole (record { step = s; reply = r } ∷ past) now role
 takes_as s r past t now Idle low or takes = tt
 takes_as s r past t now (Won e) low or takes = tt
 takes_as s r past t now (Cleared e) low or takes = tt
@@ -186,12 +209,16 @@ takes_as s r past t now (Swapped e p) low or takes = tt
 takes_as s r past t now (Polls h phase) low or takes = takes_on s r past t now h phase low or takes
 
 -- a step of a wake leaves the tail, or its waker stands so after it
-tail_or : (n h : ℕ) (rest : List ℕ) (words : List ℕ) (j : ℕ) (s : Step) (role : Role) (found : ℕ) (w : Wake) → FitsRole n words h rest WAKE_SEATS j role → (role ≡ Idle → slot_of s < n) → (IsPolls role → ⊥) → ShowsWake (wake_after s (reply_of_role n role found) w) (next_role n (slot_of s) role found)
-    → (tail n (set words (word_of_role n (slot_of s) role) (put_by_role n role found)) ≡ tail n words) ⊎ ((wake_after s (reply_of_role n role found) w).made ≡ 3)
+tail_or : (n h : ℕ) (rest : List ℕ) (words : List ℕ) (j : ℕ) (s : Step) (role : Role) (found : ℕ) (w : Wake) →
+    FitsRole n words h rest WAKE_SEATS j role → (role ≡ Idle → slot_of s < n) → (IsPolls role → ⊥) →
+    ShowsWake (wake_after s (reply_of_role n role found) w) (next_role n (slot_of s) role found)
+    → (tail n (set words (word_of_role n (slot_of s) role) (put_by_role n role found)) ≡ tail n words)
+    ⊎ ((wake_after s (reply_of_role n role found) w).made ≡ 3)
 tail_or n h rest words j s Idle found w ok lt wakes shows = inl (tail_kept n words (slot_of s) 1 (let a = lt refl in λ z. omega arith))
 tail_or n h rest words j s (Won e) found w ok lt wakes shows = inl (tail_kept n words (n + e) 0 (λ z. omega arith))
 tail_or n h rest words j s (Cleared e) found w ok lt wakes shows = inr shows.1
-tail_or n h rest words j s (Swapped e p) found w ok lt wakes shows = inl (tail_kept n words (n + p) (suc e) (let a = ok.1 in λ z. omega arith))
+tail_or n h rest words j s (Swapped e p) found w ok lt wakes shows = inl (tail_kept n words (n + p) (suc e) (let a = ok.1 in
+    λ z. omega arith))
 tail_or n h rest words j s (Polls head phase) found w ok lt wakes shows = absurd (wakes tt)
 
 moved_on : (p q a b d x : List ℕ) → x ≡ a ++ p → p ++ q ≡ b ++ d → x ++ q ≡ (a ++ b) ++ d
@@ -204,12 +231,15 @@ role_polls (Cleared e) is = absurd is
 role_polls (Swapped e p) is = absurd is
 role_polls (Polls h phase) is = (h, phase, refl)
 
-wake_next : (n : ℕ) (past : List Turn) (c : Moment) (good : IsReachable n c) → IsTold n past c good → (s : Step) → CanStep n (map role_of c.views) s → seat_of s < WAKE_SEATS → ((IsPolls (view_at c s).role → ⊥) → MayMake s (view_at c s).role) → ((view_at c s).role ≡ Idle → slot_of s < n) → StaysTold n past c good s
+wake_next : (n : ℕ) (past : List Turn) (c : Moment) (good : IsReachable n c) → IsTold n past c good → (s : Step) →
+    CanStep n (map role_of c.views) s → seat_of s < WAKE_SEATS → ((IsPolls (view_at c s).role → ⊥) → MayMake s (view_at c s).role) →
+    ((view_at c s).role ≡ Idle → slot_of s < n) → StaysTold n past c good s
 wake_next n past c good tells s can low may_of lt =
     let seat = seat_of s in let v = view_at c s in let found = found_at n c s in
     let there : get_elem? c.views seat ≡ some v = elem_at c.views seat spent_view (let a = good.1 in omega arith) in
     let ok : FitsRole n c.words good.2.0 good.2.1 WAKE_SEATS seat v.role = (good.2.2.seats seat v there).0 in
-    let wakes : IsPolls v.role → ⊥ = λ is. let p = role_polls v.role is in let a = (subst (FitsRole n c.words good.2.0 good.2.1 WAKE_SEATS seat) p.2 ok).0 in omega arith in
+    let wakes : IsPolls v.role → ⊥ = λ is. let p = role_polls v.role is in
+    let a = (subst (FitsRole n c.words good.2.0 good.2.1 WAKE_SEATS seat) p.2 ok).0 in omega arith in
     let may = may_of wakes in
     let stub : v.stub ≡ n = good.0 seat v there in
     let goes_there = step_reaches n c good s can in
@@ -225,26 +255,33 @@ wake_next n past c good tells s can low may_of lt =
           wakes = λ j lj u at. ⊎_elim
               (λ (t : (j ≡ seat) × (next_view (slot_of s) v found ≡ u)).
               subst (λ (y : ℕ × View). ShowsWake (wake_of y.0 (e ∷ past)) y.1.role) (λ k. (sym t.0 k, t.1 k))
-              (subst (λ (w : Wake). ShowsWake w (next_role v.stub (slot_of s) v.role found)) (sym mine) (shows_on n v.stub s v.role found (wake_of seat past) may shows)))
-              (λ (t : (j ≢ seat) × (get_elem? c.views j ≡ some u)). subst (λ (w : Wake). ShowsWake w u.role) (sym (wake_else j e past (λ z. t.0 (sym z)))) (tells.wakes j lj u t.1))
+              (subst (λ (w : Wake). ShowsWake w (next_role v.stub (slot_of s) v.role found)) (sym mine)
+              (shows_on n v.stub s v.role found (wake_of seat past) may shows)))
+              (λ (t : (j ≢ seat) × (get_elem? c.views j ≡ some u)). subst (λ (w : Wake). ShowsWake w u.role)
+              (sym (wake_else j e past (λ z. t.0 (sym z)))) (tells.wakes j lj u t.1))
               (at_set c.views seat j (next_view (slot_of s) v found) u at);
           flow = (λ k. put_in past ++ put_on n s v.role found (wake_of seat past) may shows k)
-              ∙ (moved_on (pending n c good) (put_by v.role) (answered past) (answered_by v.role) (pending n (after_step n c s) goes_there.0) (put_in past) tells.flow goes_there.1
+              ∙ (moved_on (pending n c good) (put_by v.role) (answered past) (answered_by v.role)
+              (pending n (after_step n c s) goes_there.0) (put_in past) tells.flow goes_there.1
               ∙ (λ k. (answered past ++ sym (slot_on n v.role found) k) ++ pending n (after_step n c s) goes_there.0));
           takes = λ u at. takes_as s e.reply past (tail n c.words) (tail n (after_step n c s).words) u.role low
-              (⊎_elim (λ (t : tail n (set c.words (word_of_role n (slot_of s) v.role) (put_by_role n v.role found)) ≡ tail n c.words). inl t)
-              (λ (t : (wake_after s (reply_of_role n v.role found) (wake_of seat past)).made ≡ 3). inr (seat, low, ap (λ (w : Wake). w.made) mine ∙ t)) or)
+              (⊎_elim (λ (t : tail n (set c.words (word_of_role n (slot_of s) v.role) (put_by_role n v.role found)) ≡ tail n c.words). inl
+              t)
+              (λ (t : (wake_after s (reply_of_role n v.role found) (wake_of seat past)).made ≡ 3). inr
+              (seat, low, ap (λ (w : Wake). w.made) mine ∙ t)) or)
               (tells.takes u (sym (set_else c.views seat WAKE_SEATS (next_view (slot_of s) v found) (λ z. omega arith)) ∙ at));
         },
       ),
     )
 
-both_test : (P : StepReply → Role → Type 0) (b : Bool) (r q : StepReply) (x y : Role) → (b ≡ true → P r x) → (b ≡ false → P q y) → P (if b then r else q) (if b then x else y)
+both_test : (P : StepReply → Role → Type 0) (b : Bool) (r q : StepReply) (x y : Role) → (b ≡ true → P r x) → (b ≡ false → P q y) →
+    P (if b then r else q) (if b then x else y)
 both_test P true r q x y f g = f refl
 both_test P false r q x y f g = g refl
 
 -- a step of the poller
-module _ (n h : ℕ) (rest : List ℕ) (words : List ℕ) (views : List View) (R : KeepsRow n h rest WAKE_SEATS words views) (steps : List AtomicStep) (past : List Turn) (stands : SomeWakerStands views → WakerStands past) where
+module _ (n h : ℕ) (rest : List ℕ) (words : List ℕ) (views : List View) (R : KeepsRow n h rest WAKE_SEATS words views)
+    (steps : List AtomicStep) (past : List Turn) (stands : SomeWakerStands views → WakerStands past) where
   abbrev now_tail : Phase → ℕ → ℕ
   now_tail phase f = tail n (set words (word_of_role n 0 (Polls h phase)) (put_by_role n (Polls h phase) f))
 
@@ -252,29 +289,44 @@ module _ (n h : ℕ) (rest : List ℕ) (words : List ℕ) (views : List View) (R
   made phase f = record { step = Poll; reply = reply_of_role n (Polls h phase) f }
 
   abbrev Case : Phase → ℕ → Type 0
-  Case phase f = IsRight (reply_of_role n (Polls h phase) f) past × TellsRole (made phase f ∷ past) (now_tail phase f) (next_role n 0 (Polls h phase) f)
+  Case phase f = IsRight (reply_of_role n (Polls h phase) f) past
+      × TellsRole (made phase f ∷ past) (now_tail phase f) (next_role n 0 (Polls h phase) f)
 
   -- where the link of the head names none, it is the last, or some waker stands so
-  none_behind : (phase : Phase) → get_elem? views WAKE_SEATS ≡ some (record { stub = n; role = Polls h phase; steps = steps }) → owed_by h (Polls h phase) ≡ 0 → link n words h ≡ 0 → (x : ℕ) → (WakerStands past ⊎ WakerStood past) ⊎ (tail n (set words (n + h) x) ≡ h)
+  none_behind : (phase : Phase) → get_elem? views WAKE_SEATS ≡ some (record { stub = n; role = Polls h phase; steps = steps }) →
+      owed_by h (Polls h phase) ≡ 0 → link n words h ≡ 0 → (x : ℕ) → (WakerStands past ⊎ WakerStood past)
+      ⊎ (tail n (set words (n + h) x) ≡ h)
   none_behind phase at owes zero_link x = ⊎_elim
-      (λ (t : rest ≡ []). inr (tail_kept n words (n + h) x (let a = head_low n h rest WAKE_SEATS words views R in λ z. omega arith) ∙ (sym R.ends ∙ ap (last_entry h) t)))
+      (λ (t : rest ≡ []). inr (tail_kept n words (n + h) x (let a = head_low n h rest WAKE_SEATS words views R in
+      λ z. omega arith) ∙ (sym R.ends ∙ ap (last_entry h) t)))
       (λ (t : SomeWakerStands views). inl (inl (stands t)))
       (row_ends_or_waker_stands n h rest WAKE_SEATS words views R steps phase at owes zero_link)
 
-  poll_case : (phase : Phase) → get_elem? views WAKE_SEATS ≡ some (record { stub = n; role = Polls h phase; steps = steps }) → TellsPhase past (tail n words) h phase
-      → put_in past ≡ answered past ++ (in_hand (Polls h phase) ++ row_slots n (h ∷ rest)) → (f : ℕ) → f ≡ get_or words (word_of_role n 0 (Polls h phase)) 0 → Case phase f
+  poll_case : (phase : Phase) → get_elem? views WAKE_SEATS ≡ some (record { stub = n; role = Polls h phase; steps = steps }) →
+      TellsPhase past (tail n words) h phase
+      → put_in past ≡ answered past ++ (in_hand (Polls h phase) ++ row_slots n (h ∷ rest)) → (f : ℕ) →
+      f ≡ get_or words (word_of_role n 0 (Polls h phase)) 0 → Case phase f
   poll_case Start at takes flow zero is =
-      let or = none_behind Start at refl (sym is) 0 in
-      (tt, by_test (λ role. TellsRole (made Start zero ∷ past) (now_tail Start zero) role) (h == n) (Polls h AtStub) (Polls h NoNext) (λ _. (tt, or)) (λ _. (tt, or)))
-  poll_case Start at takes flow (suc q) is = (tt, by_test (λ role. TellsRole (made Start (suc q) ∷ past) (now_tail Start (suc q)) role) (h == n) (Polls q Moved) (Polls q (InHand h)) (λ _. tt) (λ _. tt))
+      let or = none_behind Start at refl (sym is) 0 in (
+        tt,
+        by_test (λ role. TellsRole (made Start zero ∷ past) (now_tail Start zero) role) (h == n) (Polls h AtStub) (Polls h NoNext)
+            (λ _. (tt, or)) (λ _. (tt, or)),
+      )
+  poll_case Start at takes flow (suc q) is = (
+    tt,
+    by_test (λ role. TellsRole (made Start (suc q) ∷ past) (now_tail Start (suc q)) role) (h == n) (Polls q Moved)
+        (Polls q (InHand h)) (λ _. tt) (λ _. tt),
+  )
   poll_case AtStub at takes flow f is =
       let at_stub : h ≡ n = (R.seats WAKE_SEATS _ at).0.2 in (
         by_test (λ r. IsRight r past) (f == n) (Taken Empty) (Taken Pause)
             (λ t.
             let g : f ≡ n = eqb-true f n t in
             let is_last : h ≡ last_entry h rest = at_stub ∙ (sym g ∙ (is ∙ sym R.ends)) in
-            let once : times h (h ∷ rest) ≤ 1 = subst (λ (k : ℕ). times k (h ∷ rest) ≤ 1) (sym at_stub) (let d = R.stub_once in omega arith) in
-            let none : row_slots n (h ∷ rest) ≡ [] = ap (λ (r : List ℕ). row_slots n (h ∷ r)) (alone h rest is_last once) ∙ slots_stub n h [] at_stub in
+            let once : times h (h ∷ rest) ≤ 1 = subst (λ (k : ℕ). times k (h ∷ rest) ≤ 1) (sym at_stub) (let d = R.stub_once in
+            omega arith) in
+            let none : row_slots n (h ∷ rest) ≡ [] = ap (λ (r : List ℕ). row_slots n (h ∷ r)) (alone h rest is_last once) ∙ slots_stub n h
+            [] at_stub in
             flow ∙ (ap (λ (l : List ℕ). answered past ++ l) none ∙ append-nil (answered past)))
             (λ t.
             let g : f ≢ n = eqb-false f n t in
@@ -283,7 +335,9 @@ module _ (n h : ℕ) (rest : List ℕ) (words : List ℕ) (views : List View) (R
       )
   poll_case Moved at takes flow zero is = (tt, (tt, none_behind Moved at refl (sym is) 0))
   poll_case Moved at takes flow (suc q) is = (tt, tt)
-  poll_case NoNext at takes flow f is = both_test (λ r role. IsRight r past × TellsRole (record { step = Poll; reply = r } ∷ past) (now_tail NoNext f) role) (f == h) More (Taken Pause) (Polls h Last) (Polls h Start)
+  poll_case NoNext at takes flow f is = both_test (λ r role. IsRight r past
+      × TellsRole (record { step = Poll; reply = r } ∷ past) (now_tail NoNext f) role) (f == h) More (Taken Pause) (Polls h Last)
+      (Polls h Start)
       (λ t. (tt, tt))
       (λ t. (⊎_elim (λ (z : WakerStood past). inr z) (λ (z : tail n words ≡ h). absurd (eqb-false f h t (is ∙ z))) takes.1, tt))
   poll_case Last at takes flow f is = (tt, tt)
@@ -291,8 +345,12 @@ module _ (n h : ℕ) (rest : List ℕ) (words : List ℕ) (views : List View) (R
   poll_case (StubPut p) at takes flow f is = (tt, tt)
   poll_case StubLinked at takes flow zero is =
       let ok = (R.seats WAKE_SEATS _ at).0.2 in
-      let more : (r : List ℕ) → rest ≡ r → rest ≡ [] → ⊥ = λ r e none. let a : 0 < length rest = ok.1 in let b : length rest ≡ 0 = ap (λ (l : List ℕ). length l) none in omega arith in
-      (⊎_elim (λ (t : rest ≡ []). absurd (more rest refl t)) (λ (t : SomeWakerStands views). inl (stands t)) (row_ends_or_waker_stands n h rest WAKE_SEATS words views R steps StubLinked at refl (sym is)), tt)
+      let more : (r : List ℕ) → rest ≡ r → rest ≡ [] → ⊥ = λ r e none. let a : 0 < length rest = ok.1 in
+      let b : length rest ≡ 0 = ap (λ (l : List ℕ). length l) none in omega arith in (
+        ⊎_elim (λ (t : rest ≡ []). absurd (more rest refl t)) (λ (t : SomeWakerStands views). inl (stands t))
+            (row_ends_or_waker_stands n h rest WAKE_SEATS words views R steps StubLinked at refl (sym is)),
+        tt,
+      )
   poll_case StubLinked at takes flow (suc q) is = (tt, tt)
   poll_case (InHand i) at takes flow f is = (tt, tt)
 
@@ -305,9 +363,12 @@ poll_next n past c good tells =
     let same_v : p ≡ v = some-injective p v (sym polls.2 ∙ there) in
     let goes_there = step_reaches n c good Poll tt in
     let f : ℕ = get_or c.words (word_of_role n 0 p.role) 0 in
-    let case = poll_case n h good.2.1 c.words c.views good.2.2 polls.1 past (stands_told n past c good tells) phase polls.2 (tells.takes p polls.2) tells.flow f refl in
+    let case = poll_case n h good.2.1 c.words c.views good.2.2 polls.1 past (stands_told n past c good tells) phase polls.2
+    (tells.takes p polls.2) tells.flow f refl in
     let Right : View → Type 0 = λ u. IsRight (reply_of_role n u.role (get_or c.words (word_of_role n 0 u.role) 0)) past
-    × TellsRole (record { step = Poll; reply = reply_of_role n u.role (get_or c.words (word_of_role n 0 u.role) 0) } ∷ past) (tail n (set c.words (word_of_role n 0 u.role) (put_by_role n u.role (get_or c.words (word_of_role n 0 u.role) 0)))) (next_role n 0 u.role (get_or c.words (word_of_role n 0 u.role) 0)) in
+    × TellsRole (record { step = Poll; reply = reply_of_role n u.role (get_or c.words (word_of_role n 0 u.role) 0) } ∷ past)
+    (tail n (set c.words (word_of_role n 0 u.role) (put_by_role n u.role (get_or c.words (word_of_role n 0 u.role) 0))))
+    (next_role n 0 u.role (get_or c.words (word_of_role n 0 u.role) 0)) in
     let right : Right v = subst Right same_v case in
     let stub : n ≡ v.stub = ap (λ (u : View). u.stub) same_v in
     let found = found_at n c Poll in
@@ -320,18 +381,24 @@ poll_next n past c good tells =
           wakes = λ j lj u at. subst (λ (w : Wake). ShowsWake w u.role) (sym (wake_else j e past (λ z. omega arith)))
               (tells.wakes j lj u (sym (set_else c.views WAKE_SEATS j (next_view 0 v found) (λ z. omega arith)) ∙ at));
           flow = (λ k. put_in past ++ (put_poll e.reply (wake_of WAKE_SEATS past) ∙ sym no_put) k)
-              ∙ (moved_on (pending n c good) (put_by v.role) (answered past) (answered_by v.role) (pending n (after_step n c Poll) goes_there.0) (put_in past) tells.flow goes_there.1
+              ∙ (moved_on (pending n c good) (put_by v.role) (answered past) (answered_by v.role)
+              (pending n (after_step n c Poll) goes_there.0) (put_in past) tells.flow goes_there.1
               ∙ (λ k. (answered past ++ sym (slot_on n v.role found) k) ++ pending n (after_step n c Poll) goes_there.0));
           takes = λ u at. subst (λ (y : View). TellsRole (e ∷ past) (tail n (after_step n c Poll).words) y.role)
-              (some-injective (next_view 0 v found) u (sym (set_here c.views WAKE_SEATS (next_view 0 v found) (place_low c.views WAKE_SEATS v there)) ∙ at))
+              (some-injective (next_view 0 v found) u
+              (sym (set_here c.views WAKE_SEATS (next_view 0 v found) (place_low c.views WAKE_SEATS v there)) ∙ at))
               (subst (λ (m : ℕ). TellsRole (e ∷ past) (tail n (after_step n c Poll).words) (next_role m 0 v.role found)) stub right.1);
         },
       ),
     )
 
-next_here : (n : ℕ) (past : List Turn) (c : Moment) (good : IsReachable n c) → IsTold n past c good → (s : Step) → CanStep n (map role_of c.views) s → StaysTold n past c good s
-next_here n past c good tells (Mark seat slot) can = wake_next n past c good tells (Mark seat slot) can can.0 (λ wakes. sym (get_or-map role_of c.views seat spent_view) ∙ can.2) (λ _. can.1)
-next_here n past c good tells (Go seat) can = wake_next n past c good tells (Go seat) can can.0 (λ wakes. ((λ e. can.1 (get_or-map role_of c.views seat spent_view ∙ e)), wakes)) (λ e. absurd (can.1 (get_or-map role_of c.views seat spent_view ∙ e)))
+next_here : (n : ℕ) (past : List Turn) (c : Moment) (good : IsReachable n c) → IsTold n past c good → (s : Step) →
+    CanStep n (map role_of c.views) s → StaysTold n past c good s
+next_here n past c good tells (Mark seat slot) can = wake_next n past c good tells (Mark seat slot) can can.0
+    (λ wakes. sym (get_or-map role_of c.views seat spent_view) ∙ can.2) (λ _. can.1)
+next_here n past c good tells (Go seat) can = wake_next n past c good tells (Go seat) can can.0
+    (λ wakes. ((λ e. can.1 (get_or-map role_of c.views seat spent_view ∙ e)), wakes))
+    (λ e. absurd (can.1 (get_or-map role_of c.views seat spent_view ∙ e)))
 next_here n past c good tells Poll can = poll_next n past c good tells
 
 -- what is right of a step, by its reply, follows of the turn
@@ -345,12 +412,16 @@ pause_caused t past right = λ is. subst (λ (r : StepReply). IsRight r past) is
 abbrev Lawful : List Turn → Type 0
 Lawful history = AnswersInOrder history × EmptyIsTrue history × PauseHasCause history
 
-lawful_from : (n : ℕ) (past : List Turn) (c : Moment) (good : IsReachable n c) → IsTold n past c good → (ss : List Step) → Legal n c ss → AfterEach Lawful past ss (replies_of n c ss)
+lawful_from : (n : ℕ) (past : List Turn) (c : Moment) (good : IsReachable n c) → IsTold n past c good → (ss : List Step) → Legal n c ss →
+    AfterEach Lawful past ss (replies_of n c ss)
 lawful_from n past c good tells [] legal = tt
 lawful_from n past c good tells (s ∷ ss) legal =
     let one = next_here n past c good tells s legal.0 in
-    let t : Turn = event n c s in
-    (((pending n (after_step n c s) one.1.0, one.1.1.flow), empty_true t past one.0, pause_caused t past one.0), lawful_from n (t ∷ past) (after_step n c s) one.1.0 one.1.1 ss legal.1)
+    let t : Turn = event n c s in (
+      ((pending n (after_step n c s) one.1.0, one.1.1.flow), empty_true t past one.0, pause_caused t past one.0),
+      lawful_from n (t ∷ past)
+          (after_step n c s) one.1.0 one.1.1 ss legal.1,
+    )
 
 lawful : (n : ℕ) (ss : List Step) → Legal n (at_start n) ss → AfterEach Lawful [] ss (replies_of n (at_start n) ss)
 lawful n ss legal = lawful_from n [] (at_start n) (reachable_start n) (record {
@@ -359,11 +430,13 @@ lawful n ss legal = lawful_from n [] (at_start n) (reachable_start n) (record {
   takes = each_first WAKE_SEATS n (λ j v. TellsRole [] (tail n (at_start n).words) v.role) (λ j l. tt) tt WAKE_SEATS;
 }) ss legal
 
-each_of : (P Q : List Turn → Type 0) → ((history : List Turn) → P history → Q history) → (past : List Turn) (ss : List Step) (rs : List StepReply) → AfterEach P past ss rs → AfterEach Q past ss rs
+each_of : (P Q : List Turn → Type 0) → ((history : List Turn) → P history → Q history) →
+    (past : List Turn) (ss : List Step) (rs : List StepReply) → AfterEach P past ss rs → AfterEach Q past ss rs
 each_of P Q f past [] [] all = tt
 each_of P Q f past [] (r ∷ rs) all = all
 each_of P Q f past (s ∷ ss) [] all = all
-each_of P Q f past (s ∷ ss) (r ∷ rs) all = (f (record { step = s; reply = r } ∷ past) all.0, each_of P Q f (record { step = s; reply = r } ∷ past) ss rs all.1)
+each_of P Q f past (s ∷ ss) (r ∷ rs) all =
+    (f (record { step = s; reply = r } ∷ past) all.0, each_of P Q f (record { step = s; reply = r } ∷ past) ss rs all.1)
 
 pub in_order : (n : ℕ) (ss : List Step) → Legal n (at_start n) ss → AfterEach AnswersInOrder [] ss (replies_of n (at_start n) ss)
 in_order n ss legal = each_of Lawful AnswersInOrder (λ _ x. x.0) [] ss (replies_of n (at_start n) ss) (lawful n ss legal)

@@ -27,7 +27,8 @@ use Rattle.futures_buffered_table.proofs.RowInvariantLemmas.{keeps_first}
 
 -- the seat 64 polls, at the head h
 abbrev pub PollsAt : ℕ → ℕ → List View → Type 0
-PollsAt n h views = (phase : Phase) × (steps : List AtomicStep) × (get_elem? views WAKE_SEATS ≡ some (record { stub = n; role = Polls h phase; steps = steps }))
+PollsAt n h views = (phase : Phase) × (steps : List AtomicStep)
+    × (get_elem? views WAKE_SEATS ≡ some (record { stub = n; role = Polls h phase; steps = steps }))
 
 -- 64 wake seats and the poll seat of one list for n slots, with some row that keeps itself
 abbrev pub IsReachable : ℕ → Moment → Type 0
@@ -41,7 +42,8 @@ pending n c good = in_hand (Polls good.2.0 good.2.3.0) ++ row_slots n (good.2.0 
 
 -- where the poller's phase has nothing in hand, or is answered
 abbrev pub StaysReachable : (n : ℕ) (c : Moment) → IsReachable n c → Step → Type 0
-StaysReachable n c good step = (on : IsReachable n (after_step n c step)) × (pending n c good ++ put_by (view_at c step).role ≡ answered_by (view_at c step).role ++ pending n (after_step n c step) on)
+StaysReachable n c good step = (on : IsReachable n (after_step n c step))
+    × (pending n c good ++ put_by (view_at c step).role ≡ answered_by (view_at c step).role ++ pending n (after_step n c step) on)
 
 wake_answer : (role : Role) → ((head : ℕ) (phase : Phase) → role ≢ Polls head phase) → answered_by role ≡ []
 wake_answer Idle wakes = refl
@@ -50,7 +52,8 @@ wake_answer (Cleared e) wakes = refl
 wake_answer (Swapped e p) wakes = refl
 wake_answer (Polls h phase) wakes = absurd (wakes h phase refl)
 
-wake_flow : (n : ℕ) (old now : Role) (row after : List ℕ) → ((head : ℕ) (phase : Phase) → old ≢ Polls head phase) → ((head : ℕ) (phase : Phase) → now ≢ Polls head phase) → Flows n old now row after → row_slots n row ++ put_by old ≡ row_slots n after
+wake_flow : (n : ℕ) (old now : Role) (row after : List ℕ) → ((head : ℕ) (phase : Phase) → old ≢ Polls head phase) →
+    ((head : ℕ) (phase : Phase) → now ≢ Polls head phase) → Flows n old now row after → row_slots n row ++ put_by old ≡ row_slots n after
 wake_flow n Idle Idle row after w w' f = f
 wake_flow n Idle (Won a) row after w w' f = f
 wake_flow n Idle (Cleared a) row after w w' f = f
@@ -73,7 +76,8 @@ wake_flow n (Swapped e p) (Swapped a b) row after w w' f = f
 wake_flow n (Swapped e p) (Polls a b) row after w w' f = absurd (w' a b refl)
 wake_flow n (Polls h phase) now row after w w' f = absurd (w h phase refl)
 
-wake_stays : (n slot : ℕ) (role : Role) (found : ℕ) → ((head : ℕ) (phase : Phase) → role ≢ Polls head phase) → (head : ℕ) (phase : Phase) → next_role n slot role found ≢ Polls head phase
+wake_stays : (n slot : ℕ) (role : Role) (found : ℕ) → ((head : ℕ) (phase : Phase) → role ≢ Polls head phase) → (head : ℕ) (phase : Phase) →
+    next_role n slot role found ≢ Polls head phase
 wake_stays n slot Idle zero wakes head phase = λ e. cc
 wake_stays n slot Idle (suc k) wakes head phase = λ e. cc
 wake_stays n slot (Won e') found wakes head phase = λ e. cc
@@ -91,35 +95,63 @@ poll_flow n h Last head next row after f = f
 poll_flow n h StubCleared head next row after f = f
 poll_flow n h (StubPut p) head next row after f = f
 poll_flow n h StubLinked head next row after f = f
-poll_flow n h (InHand i) head next row after f = ap (λ (l : List ℕ). i ∷ l) (append-nil (row_slots n row) ∙ (sym f.1 ∙ ap (λ (l : List ℕ). l ++ row_slots n after) (sym f.0)))
+poll_flow n h (InHand i) head next row after f = ap (λ (l : List ℕ). i ∷ l)
+    (append-nil (row_slots n row) ∙ (sym f.1 ∙ ap (λ (l : List ℕ). l ++ row_slots n after) (sym f.0)))
 
 -- a wake's step
-wake_reaches : (n : ℕ) (c : Moment) (good : IsReachable n c) (step : Step) → seat_of step < WAKE_SEATS → ((view_at c step).role ≡ Idle → slot_of step < n) → StaysReachable n c good step
+wake_reaches : (n : ℕ) (c : Moment) (good : IsReachable n c) (step : Step) → seat_of step < WAKE_SEATS →
+    ((view_at c step).role ≡ Idle → slot_of step < n) → StaysReachable n c good step
 wake_reaches n c good step low lt =
     let h = good.2.0 in let rest = good.2.1 in let R = good.2.2 in let polls = good.2.3 in
     let seat = seat_of step in let v = view_at c step in
     let there : get_elem? c.views seat ≡ some v = elem_at c.views seat spent_view (let a = good.1 in omega arith) in
     let stub : v.stub ≡ n = good.0 seat v there in
     let found = found_at n c step in
-    let at : get_elem? c.views seat ≡ some (record { stub = n; role = v.role; steps = v.steps }) = there ∙ (λ k. some (record { stub = stub k; role = v.role; steps = v.steps })) in
-    let wakes : (head : ℕ) (phase : Phase) → v.role ≢ Polls head phase = λ head phase e. let a = (subst (FitsRole n c.words h rest WAKE_SEATS seat) e (R.seats seat v there).0).0 in omega arith in
+    let at : get_elem? c.views seat ≡ some (record { stub = n; role = v.role; steps = v.steps }) = there ∙
+    (λ k. some (record { stub = stub k; role = v.role; steps = v.steps })) in
+    let wakes : (head : ℕ) (phase : Phase) →
+    v.role ≢ Polls head phase = λ head phase e. let a = (subst (FitsRole n c.words h rest WAKE_SEATS seat) e (R.seats seat v there).0).0
+    in omega arith in
     let kept = wake_keeps n h rest WAKE_SEATS c.words c.views R seat v.steps (slot_of step) v.role lt wakes at found refl in
-    let w : View = record { stub = n; role = next_role n (slot_of step) v.role found; steps = v.steps ++ step_of_role n (slot_of step) v.role found ∷ [] } in
-    let same_view : w ≡ next_view (slot_of step) v found = λ k. record { stub = sym stub k; role = next_role (sym stub k) (slot_of step) v.role found; steps = v.steps ++ step_of_role (sym stub k) (slot_of step) v.role found ∷ [] } in
+    let w : View = record
+    { stub = n; role = next_role n (slot_of step) v.role found; steps = v.steps ++ step_of_role n (slot_of step) v.role found ∷ [] } in
+    let same_view : w ≡ next_view (slot_of step) v found = λ k. record {
+      stub = sym stub k;
+      role = next_role (sym stub k) (slot_of step) v.role found;
+      steps = v.steps ++ step_of_role (sym stub k)
+          (slot_of step) v.role found ∷ [];
+    } in
     let now : List View = set c.views seat w in
-    let still : get_elem? now WAKE_SEATS ≡ some (record { stub = n; role = Polls h polls.0; steps = polls.1 }) = set_else c.views seat WAKE_SEATS w (λ z. omega arith) ∙ polls.2 in
+    let still : get_elem? now WAKE_SEATS ≡ some (record { stub = n; role = Polls h polls.0; steps = polls.1 }) = set_else c.views seat
+    WAKE_SEATS w (λ z. omega arith) ∙ polls.2 in
     let same_head : h ≡ kept.0 = (kept.2.seats WAKE_SEATS _ still).0.1 in
     let words_now = set c.words (word_of n c step) (put_by_role n v.role found) in
     let on : IsReachable n (record { words = words_now; views = now }) = (
       stubs_set n c.views seat w good.0 refl,
       length-set c.views seat w ∙ good.1,
-      (kept.0, kept.1, kept.2, (polls.0, polls.1, still ∙ ap (λ (x : ℕ). let y : View = record { stub = n; role = Polls x polls.0; steps = polls.1 } in some y) same_head)),
+      (
+        kept.0,
+        kept.1,
+        kept.2,
+        (
+          polls.0,
+          polls.1,
+          still ∙ ap (λ (x : ℕ). let y : View = record { stub = n; role = Polls x polls.0; steps = polls.1 } in
+              some y) same_head,
+        ),
+      ),
     ) in
-    let flow = wake_flow n v.role (next_role n (slot_of step) v.role found) (h ∷ rest) (kept.0 ∷ kept.1) wakes (wake_stays n (slot_of step) v.role found wakes) kept.3 in
+    let flow = wake_flow n v.role (next_role n (slot_of step) v.role found) (h ∷ rest) (kept.0 ∷ kept.1) wakes
+    (wake_stays n (slot_of step) v.role found wakes) kept.3 in
     let hand : in_hand (Polls h polls.0) ≡ in_hand (Polls kept.0 polls.0) = ap (λ (x : ℕ). in_hand (Polls x polls.0)) same_head in
-    let all : (in_hand (Polls h polls.0) ++ row_slots n (h ∷ rest)) ++ put_by v.role ≡ answered_by v.role ++ (in_hand (Polls kept.0 polls.0) ++ row_slots n (kept.0 ∷ kept.1)) =
-    append_assoc (in_hand (Polls h polls.0)) (row_slots n (h ∷ rest)) (put_by v.role) ∙ ((λ k. hand k ++ flow k) ∙ ap (λ (l : List ℕ). l ++ (in_hand (Polls kept.0 polls.0) ++ row_slots n (kept.0 ∷ kept.1))) (sym (wake_answer v.role wakes))) in
-    subst (λ (u : View). (on : IsReachable n (record { words = words_now; views = set c.views seat u })) × ((in_hand (Polls h polls.0) ++ row_slots n (h ∷ rest)) ++ put_by v.role ≡ answered_by v.role ++ pending n (record { words = words_now; views = set c.views seat u }) on)) same_view (on, all)
+    let all : (in_hand (Polls h polls.0) ++ row_slots n (h ∷ rest)) ++ put_by v.role ≡ answered_by v.role ++
+    (in_hand (Polls kept.0 polls.0) ++ row_slots n (kept.0 ∷ kept.1)) =
+    append_assoc (in_hand (Polls h polls.0)) (row_slots n (h ∷ rest)) (put_by v.role) ∙
+    ((λ k. hand k ++ flow k) ∙ ap (λ (l : List ℕ). l ++ (in_hand (Polls kept.0 polls.0) ++ row_slots n (kept.0 ∷ kept.1)))
+    (sym (wake_answer v.role wakes))) in
+    subst (λ (u : View). (on : IsReachable n (record { words = words_now; views = set c.views seat u }))
+    × ((in_hand (Polls h polls.0) ++ row_slots n (h ∷ rest)) ++ put_by v.role ≡ answered_by v.role ++ pending n
+    (record { words = words_now; views = set c.views seat u }) on)) same_view (on, all)
 
 -- the poller's step
 poll_reaches : (n : ℕ) (c : Moment) (good : IsReachable n c) → StaysReachable n c good Poll
@@ -133,25 +165,51 @@ poll_reaches n c good =
     let kept = poll_keeps n h rest WAKE_SEATS c.words c.views R polls.1 0 polls.0 polls.2 f refl in
     let w : View = next_view 0 p f in
     let next = still_polls n h polls.0 f in
-    let at : get_elem? (set c.views WAKE_SEATS w) WAKE_SEATS ≡ some w = set_here c.views WAKE_SEATS w (place_low c.views WAKE_SEATS _ there) in
-    let at_next : get_elem? (set c.views WAKE_SEATS w) WAKE_SEATS ≡ some (record { stub = n; role = Polls next.0 next.1; steps = w.steps }) = at ∙ ap (λ (x : Role). let y : View = record { stub = n; role = x; steps = w.steps } in some y) next.2 in
+    let at : get_elem? (set c.views WAKE_SEATS w) WAKE_SEATS ≡ some w = set_here c.views WAKE_SEATS w (place_low c.views WAKE_SEATS _ there)
+    in
+    let at_next : get_elem? (set c.views WAKE_SEATS w) WAKE_SEATS ≡ some (record { stub = n; role = Polls next.0 next.1; steps = w.steps })
+    = at ∙ ap (λ (x : Role). let y : View = record { stub = n; role = x; steps = w.steps } in some y) next.2 in
     let same_head : next.0 ≡ kept.0 = (kept.2.seats WAKE_SEATS _ at_next).0.1 in
     let c1 : Moment = record { words = set c.words (word_of_role n 0 p.role) (put_by_role n p.role f); views = set c.views WAKE_SEATS w } in
     let on : IsReachable n c1 = (
       stubs_set n c.views WAKE_SEATS w good.0 refl,
       length-set c.views WAKE_SEATS w ∙ good.1,
-      (kept.0, kept.1, kept.2, (next.1, w.steps, at_next ∙ ap (λ (x : ℕ). let y : View = record { stub = n; role = Polls x next.1; steps = w.steps } in some y) same_head)),
+      (
+        kept.0,
+        kept.1,
+        kept.2,
+        (
+          next.1,
+          w.steps,
+          at_next ∙ ap (λ (x : ℕ). let y : View = record { stub = n; role = Polls x next.1; steps = w.steps } in
+              some y) same_head,
+        ),
+      ),
     ) in
     let role_is : next_role n 0 (Polls h polls.0) f ≡ Polls kept.0 next.1 = next.2 ∙ ap (λ (x : ℕ). Polls x next.1) same_head in
-    let flow : Flows n (Polls h polls.0) (Polls kept.0 next.1) (h ∷ rest) (kept.0 ∷ kept.1) = subst (λ (x : Role). Flows n (Polls h polls.0) x (h ∷ rest) (kept.0 ∷ kept.1)) role_is kept.3 in
+    let flow : Flows n (Polls h polls.0) (Polls kept.0 next.1) (h ∷ rest) (kept.0 ∷ kept.1) = subst
+    (λ (x : Role). Flows n (Polls h polls.0) x (h ∷ rest) (kept.0 ∷ kept.1)) role_is kept.3 in
     let all = poll_flow n h polls.0 kept.0 next.1 (h ∷ rest) (kept.0 ∷ kept.1) flow in
-    subst (λ (u : View). (on' : IsReachable n (record { words = set c.words (word_of_role n 0 u.role) (put_by_role n u.role (get_or c.words (word_of_role n 0 u.role) 0)); views = set c.views WAKE_SEATS (next_view 0 u (get_or c.words (word_of_role n 0 u.role) 0)) }))
-    × (pending n c good ++ put_by u.role ≡ answered_by u.role ++ pending n (record { words = set c.words (word_of_role n 0 u.role) (put_by_role n u.role (get_or c.words (word_of_role n 0 u.role) 0)); views = set c.views WAKE_SEATS (next_view 0 u (get_or c.words (word_of_role n 0 u.role) 0)) }) on'))
+    subst (λ (u : View).
+    (on' : IsReachable n
+    (record {
+      words = set c.words (word_of_role n 0 u.role) (put_by_role n u.role (get_or c.words (word_of_role n 0 u.role) 0));
+      views =
+          set c.views WAKE_SEATS (next_view 0 u (get_or c.words (word_of_role n 0 u.role) 0));
+    }))
+    × (pending n c good ++ put_by u.role ≡ answered_by u.role ++ pending n
+    (record {
+      words = set c.words (word_of_role n 0 u.role) (put_by_role n u.role (get_or c.words (word_of_role n 0 u.role) 0));
+      views =
+          set c.views WAKE_SEATS (next_view 0 u (get_or c.words (word_of_role n 0 u.role) 0));
+    }) on'))
     same_v (on, all)
 
-pub step_reaches : (n : ℕ) (c : Moment) (good : IsReachable n c) (step : Step) → CanStep n (map role_of c.views) step → StaysReachable n c good step
+pub step_reaches : (n : ℕ) (c : Moment) (good : IsReachable n c) (step : Step) → CanStep n (map role_of c.views) step →
+    StaysReachable n c good step
 step_reaches n c good (Mark seat slot) can = wake_reaches n c good (Mark seat slot) can.0 (λ _. can.1)
-step_reaches n c good (Go seat) can = wake_reaches n c good (Go seat) can.0 (λ e. absurd (can.1 (get_or-map role_of c.views seat spent_view ∙ e)))
+step_reaches n c good (Go seat) can = wake_reaches n c good (Go seat) can.0
+    (λ e. absurd (can.1 (get_or-map role_of c.views seat spent_view ∙ e)))
 step_reaches n c good Poll can = poll_reaches n c good
 
 -- after a legal schedule
@@ -160,19 +218,27 @@ run_reaches n c good [] legal = good
 run_reaches n c good (s ∷ ss) legal = run_reaches n (after_step n c s) (step_reaches n c good s legal.0).0 ss legal.1
 
 abbrev pub reachable_start : (n : ℕ) → IsReachable n (at_start n)
-reachable_start n = (each_first WAKE_SEATS n (λ j v. v.stub ≡ n) (λ j l. refl) refl, length_and_last WAKE_SEATS (new_waker_beside (first_poller n)) (first_poller n), (n, [], keeps_first WAKE_SEATS n, (Start, [], last_at WAKE_SEATS (new_waker_beside (first_poller n)) (first_poller n))))
+reachable_start n = (
+  each_first WAKE_SEATS n (λ j v. v.stub ≡ n) (λ j l. refl) refl,
+  length_and_last WAKE_SEATS
+      (new_waker_beside (first_poller n)) (first_poller n),
+  (n, [], keeps_first WAKE_SEATS n, (Start, [], last_at WAKE_SEATS (new_waker_beside (first_poller n)) (first_poller n))),
+)
 
 pub run_more : (n : ℕ) (c : Moment) (ss : List Step) (s : Step) → run n c (ss ++ s ∷ []) ≡ after_step n (run n c ss) s
 run_more n c [] s = refl
 run_more n c (x ∷ xs) s = run_more n (after_step n c x) xs s
 
-pub legal_more : (n : ℕ) (c : Moment) (ss : List Step) (s : Step) → Legal n c ss → CanStep n (map role_of (run n c ss).views) s → Legal n c (ss ++ s ∷ [])
+pub legal_more : (n : ℕ) (c : Moment) (ss : List Step) (s : Step) → Legal n c ss → CanStep n (map role_of (run n c ss).views) s →
+    Legal n c (ss ++ s ∷ [])
 legal_more n c [] s legal can = (can, tt)
 legal_more n c (x ∷ xs) s legal can = (legal.0, legal_more n (after_step n c x) xs s legal.1 can)
 
-pub replies_more : (n : ℕ) (c : Moment) (ss : List Step) (s : Step) → replies_of n c (ss ++ s ∷ []) ≡ replies_of n c ss ++ reply_of_role n (view_at (run n c ss) s).role (found_at n (run n c ss) s) ∷ []
+pub replies_more : (n : ℕ) (c : Moment) (ss : List Step) (s : Step) →
+    replies_of n c (ss ++ s ∷ []) ≡ replies_of n c ss ++ reply_of_role n (view_at (run n c ss) s).role (found_at n (run n c ss) s) ∷ []
 replies_more n c [] s = refl
-replies_more n c (x ∷ xs) s = ap (λ (l : List StepReply). reply_of_role n (view_at c x).role (found_at n c x) ∷ l) (replies_more n (after_step n c x) xs s)
+replies_more n c (x ∷ xs) s = ap (λ (l : List StepReply). reply_of_role n (view_at c x).role (found_at n c x) ∷ l)
+    (replies_more n (after_step n c x) xs s)
 
 pub reachable_at : (n : ℕ) (schedule : List Step) → Legal n (at_start n) schedule → IsReachable n (run n (at_start n) schedule)
 reachable_at n schedule legal = run_reaches n (at_start n) (reachable_start n) schedule legal

@@ -11,7 +11,8 @@ seat_in n roles (Mark seat slot) can = let a = can.0 in omega arith
 seat_in n roles (Go seat) can = let a = can.0 in omega arith
 seat_in n roles Poll can = omega arith
 
-pub seat_low : (n : ℕ) (roles : List Role) (step : Step) → CanStep n roles step → length roles ≡ WAKE_SEATS + 1 → seat_of step < length roles
+pub seat_low : (n : ℕ) (roles : List Role) (step : Step) → CanStep n roles step → length roles ≡ WAKE_SEATS + 1 →
+    seat_of step < length roles
 seat_low n roles step can wide = let a = seat_in n roles step can in omega arith
 
 pub slot_low : (n : ℕ) (roles : List Role) (step : Step) → CanStep n roles step → slot_of step ≤ n

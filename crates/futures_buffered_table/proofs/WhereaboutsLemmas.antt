@@ -27,7 +27,8 @@ pub out_are : (n e : ℕ) (views : List View) → e < n → outside n views e �
 out_are n e [] lt = refl
 out_are n e (v ∷ vs) lt = omega (arith, out_is n e v.role lt, out_are n e vs lt)
 
-pub agrees : (n h : ℕ) (rest : List ℕ) (poller j : ℕ) (words : List ℕ) (role : Role) → FitsRole n words h rest poller j role → AgreesWith n h rest role
+pub agrees : (n h : ℕ) (rest : List ℕ) (poller j : ℕ) (words : List ℕ) (role : Role) → FitsRole n words h rest poller j role →
+    AgreesWith n h rest role
 agrees n h rest poller j words Idle ok = tt
 agrees n h rest poller j words (Won i) ok = tt
 agrees n h rest poller j words (Cleared i) ok = tt
@@ -42,7 +43,8 @@ agrees n h rest poller j words (Polls a (StubPut p)) ok = (ok.1, ok.2.2)
 agrees n h rest poller j words (Polls a StubLinked) ok = ok.1
 agrees n h rest poller j words (Polls a (InHand i)) ok = ok.1
 
-abbrev pub whereabouts : (n h : ℕ) (rest : List ℕ) (poller : ℕ) (words : List ℕ) (views : List View) → KeepsRow n h rest poller words views → Whereabouts n words views
+abbrev pub whereabouts : (n h : ℕ) (rest : List ℕ) (poller : ℕ) (words : List ℕ) (views : List View) →
+    KeepsRow n h rest poller words views → Whereabouts n words views
 whereabouts n h rest poller words views R = record {
   head = h;
   rest = rest;

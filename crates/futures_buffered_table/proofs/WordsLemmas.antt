@@ -6,10 +6,12 @@ use Rattle.futures_buffered_table.specs.Words.{tail_at, empty_words, tail}
 use Rattle.futures_buffered_table.proofs.ListLemmas.{length_and_last}
 
 pub empty_word : (n i : ℕ) → i < tail_at n → get_or (empty_words n) i 0 ≡ 0
-empty_word n i lt = get_or_append_left (replicate (tail_at n) 0) (n ∷ []) 0 i (subst (λ (k : ℕ). i < k) (sym (length-replicate (tail_at n) 0)) lt) ∙ get_or-replicate (tail_at n) i 0 0 lt
+empty_word n i lt = get_or_append_left (replicate (tail_at n) 0) (n ∷ []) 0 i
+    (subst (λ (k : ℕ). i < k) (sym (length-replicate (tail_at n) 0)) lt) ∙ get_or-replicate (tail_at n) i 0 0 lt
 
 pub empty_tail : (n : ℕ) → tail n (empty_words n) ≡ n
-empty_tail n = subst (λ (k : ℕ). get_or (empty_words n) k 0 ≡ n) (length-replicate (tail_at n) 0) (get_or-append_seam (replicate (tail_at n) 0) n [] 0)
+empty_tail n = subst (λ (k : ℕ). get_or (empty_words n) k 0 ≡ n) (length-replicate (tail_at n) 0)
+    (get_or-append_seam (replicate (tail_at n) 0) n [] 0)
 
 pub empty_wide : (n : ℕ) → length (empty_words n) ≡ n + n + 2
 empty_wide n = let a = length_and_last (tail_at n) 0 n in omega arith

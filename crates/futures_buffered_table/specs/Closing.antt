@@ -3,6 +3,7 @@ use Rattle.std.specs.Prelude.{ℕ, List, [], ◌∷◌, ◌++◌}
 use Rattle.futures_buffered_table.specs.declared.view.AtomicStep.{AtomicStep}
 use Rattle.futures_buffered_table.specs.ReadyList.{Waker}
 
+-- the words that were left, of a list for so many slots
 pub record ClosedWords : Type 0 where
   pub capacity : ℕ
   pub words : List ℕ

@@ -6,6 +6,7 @@ use Rattle.atomic_table.specs.declared.shared.Seat.{Seat}
 use Rattle.futures_buffered_table.specs.declared.view.Role.{Role}
 use Rattle.futures_buffered_table.specs.declared.view.View.{View}
 
+-- which list it is, and how many slots it has
 pub record ListIdentity : Type 0 where
   pub list : TableId
   pub capacity : ℕ
@@ -21,11 +22,11 @@ pub record Poller : Type 0 where
   pub head : ℕ
   pub steps : List AtomicStep
 
--- the seat is one for n slots, in this role
-abbrev pub IsInRole : ℕ → Role → Seat ℕ View → Type 0
-IsInRole n role seat = (seat.me.0.stub ≡ n) × (seat.me.0.role ≡ role) × (seat.me.1 ≡ [])
+-- the seat is one of this list, in this role, and holds no slot of the table
+abbrev pub IsInRole : ListIdentity → Role → Seat ℕ View → Type 0
+IsInRole list role seat = (seat.table_id ≡ list.list) × (seat.me.0.stub ≡ list.capacity)
+    × (seat.me.0.role ≡ role) × (seat.me.1 ≡ [])
 
--- the same seat, which has made these steps more
+-- the seat has made these steps more
 abbrev pub Adds : Seat ℕ View → Seat ℕ View → List AtomicStep → Type 0
-Adds before now shape = (now.table_id ≡ before.table_id)
-    × (now.me.0.steps ≡ before.me.0.steps ++ shape)
+Adds before now shape = now.me.0.steps ≡ before.me.0.steps ++ shape

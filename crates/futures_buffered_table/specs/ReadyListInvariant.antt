@@ -21,10 +21,12 @@ pub record KeepsSeat (table : TableId) (me : Me ℕ View) (role : Role) : Type 0
   pub empty : me.1 ≡ []
   pub sized : me.0.stub + me.0.stub + 2 ≡ table.words
 
+-- a wake seat is idle between two wakes, and never unmarks
 pub record KeepsWaker (table : TableId) (me : Me ℕ View) : Type 0 where
   pub seat : KeepsSeat table me Idle
   pub wakes : (e : ℕ) → unmarks e me.0.steps ≡ 0
 
+-- the poll seat begins a taking next, and its head is an entry
 pub record KeepsPoller (table : TableId) (me : Me ℕ View) (head : ℕ) : Type 0 where
   pub seat : KeepsSeat table me (Polls head Start)
   pub low : head ≤ me.0.stub

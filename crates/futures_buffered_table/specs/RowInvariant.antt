@@ -45,6 +45,7 @@ module _ (n : ℕ) (words : List ℕ) (h : ℕ) (rest : List ℕ) where
   FitsRole poller j (Swapped i p) = (i < n) × (p ≤ n) × (next p h rest ≡ suc i)
   FitsRole poller j (Polls head phase) = (j ≡ poller) × (head ≡ h) × FitsPhase phase
 
+-- the words and views of a list for n slots have the row h ∷ rest; the seat of this number polls
 pub record KeepsRow (n h : ℕ) (rest : List ℕ) (poller : ℕ) (words : List ℕ) (views : List View) :
     Type 0 where
   pub wide : length words ≡ n + n + 2

@@ -1,7 +1,7 @@
--- The rule of the atomic table (`HoldsRow`), which holds between any two steps of any threads, and what
--- a step tells the seat that makes it (`PlaysRole`).
+-- The rule of the atomic table (`HoldsRow`), which holds between any two steps of any threads, and
+-- what a step tells the seat that makes it (`PlaysRole`).
 use Rattle.std.specs.Prelude.{◌≡◌, ℕ, suc, ◌≤◌, List}
-use Rattle.atomic_table.specs.Table.{State, Me, Step}
+use Rattle.atomic_table.specs.Table.{State, Me, Step as TableStep}
 use Rattle.futures_buffered_table.specs.declared.view.Phase.TheVariants.{Start, Moved, StubCleared, StubLinked}
 use Rattle.futures_buffered_table.specs.declared.view.Role.{Role}
 use Rattle.futures_buffered_table.specs.declared.view.Role.TheVariants.{Idle, Cleared, Polls}
@@ -25,6 +25,6 @@ MayFind n (Polls h StubLinked) found = found ≤ suc n
 MayFind n _ found = Unit {0}
 
 -- a seat's step is the one of its role, and is put at the end of its list
-abbrev pub PlaysRole : Step ℕ → Me ℕ View → ℕ → Me ℕ View → Type 0
+abbrev pub PlaysRole : TableStep ℕ → Me ℕ View → ℕ → Me ℕ View → Type 0
 PlaysRole s before found after = (after.0 ≡ next_view s.word before.0 found) × (after.1 ≡ before.1)
     × MayFind before.0.stub before.0.role found

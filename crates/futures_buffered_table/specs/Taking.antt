@@ -1,37 +1,52 @@
 -- The shapes of a taking: which steps it makes, with what was found, for each answer. There is no
 -- other shape.
--- In each, h is the poller's head before the taking, and `head` its head after.
+-- In each, h is the poller's head before these steps, and `head` its head after them.
 use Rattle.std.specs.Prelude.{◌≡◌, ◌≢◌, ◌⊎◌, ℕ, suc, List, [], ◌∷◌}
 use Rattle.futures_buffered_table.specs.declared.answer.Taken.{Taken}
 use Rattle.futures_buffered_table.specs.declared.answer.Taken.TheVariants.{Slot, Empty, Pause}
 use Rattle.futures_buffered_table.specs.declared.view.AtomicStep.{AtomicStep}
 use Rattle.futures_buffered_table.specs.declared.view.AtomicStep.TheVariants.{LinkClear, TailSwap, LinkWrite, LinkRead, TailRead, Unmark}
 
--- In the shapes of a taking, h is the poller's head before, and `head` its head after.
 -- the link of h names the entry `head`: the slot h is answered, its unmark the last step
 abbrev pub IsHanded : ℕ → List AtomicStep → Taken → ℕ → Type 0
 IsHanded h shape answer head = (shape ≡ LinkRead h (suc head) ∷ Unmark h ∷ []) × (answer ≡ Slot h)
 
+-- the stub stands behind the slot h, whose link is read again: it names none, or h is answered
+abbrev pub IsReadAgain : ℕ → List AtomicStep → Taken → ℕ → Type 0
+IsReadAgain h shape answer head =
+    ((shape ≡ LinkRead h 0 ∷ []) × (answer ≡ Pause) × (head ≡ h)) ⊎ IsHanded h shape answer head
+
+-- h is a slot whose link named none, and another entry is the tail
+abbrev pub IsBeforeTail : ℕ → List AtomicStep → Taken → ℕ → Type 0
+IsBeforeTail h shape answer head =
+    (t : ℕ) × (t ≢ h) × (shape ≡ TailRead t ∷ []) × (answer ≡ Pause) × (head ≡ h)
+
+-- h is a slot whose link named none, and the tail: the stub is put in behind it
+abbrev pub IsAtTail : ℕ → ℕ → List AtomicStep → Taken → ℕ → Type 0
+IsAtTail n h shape answer head = (p : ℕ) × (rest : List AtomicStep)
+    × (shape ≡ TailRead h ∷ LinkClear n ∷ TailSwap n p ∷ LinkWrite p n ∷ rest)
+    × IsReadAgain h rest answer head
+
 -- h is a slot, and its link named none
 abbrev pub IsAtLast : ℕ → ℕ → List AtomicStep → Taken → ℕ → Type 0
-IsAtLast n h shape answer head =
-    ((t : ℕ) × (t ≢ h) × (shape ≡ TailRead t ∷ []) × (answer ≡ Pause) × (head ≡ h))
-    ⊎ ((p : ℕ) × (rest : List AtomicStep)
-    × (shape ≡ TailRead h ∷ LinkClear n ∷ TailSwap n p ∷ LinkWrite p n ∷ rest)
-    × (((rest ≡ LinkRead h 0 ∷ []) × (answer ≡ Pause) × (head ≡ h))
-    ⊎ IsHanded h rest answer head))
+IsAtLast n h shape answer head = IsBeforeTail h shape answer head ⊎ IsAtTail n h shape answer head
 
 -- h is a slot
 abbrev pub IsFromSlot : ℕ → ℕ → List AtomicStep → Taken → ℕ → Type 0
 IsFromSlot n h shape answer head = IsHanded h shape answer head
     ⊎ ((rest : List AtomicStep) × (shape ≡ LinkRead h 0 ∷ rest) × IsAtLast n h rest answer head)
 
--- h is the stub and its link names none: Empty where the tail is the stub too, else Pause; or the
--- head moves to the slot that it names; or h is a slot
+-- the head is the stub, and its link names none: Empty where the tail is the stub too, else Pause
+abbrev pub IsAtStub : ℕ → List AtomicStep → Taken → ℕ → Type 0
+IsAtStub n shape answer head = (t : ℕ) × (shape ≡ LinkRead n 0 ∷ TailRead t ∷ []) × (head ≡ n)
+    × (((t ≡ n) × (answer ≡ Empty)) ⊎ ((t ≢ n) × (answer ≡ Pause)))
+
+-- the head is the stub, and moves to the slot that its link names
+abbrev pub IsFromStub : ℕ → List AtomicStep → Taken → ℕ → Type 0
+IsFromStub n shape answer head = (q : ℕ) × (rest : List AtomicStep)
+    × (shape ≡ LinkRead n (suc q) ∷ rest) × IsFromSlot n q rest answer head
+
+-- a whole taking: h is the stub or a slot
 abbrev pub IsTaking : ℕ → ℕ → List AtomicStep → Taken → ℕ → Type 0
-IsTaking n h shape answer head =
-    ((h ≡ n) × ((t : ℕ) × (shape ≡ LinkRead n 0 ∷ TailRead t ∷ []) × (head ≡ n)
-    × (((t ≡ n) × (answer ≡ Empty)) ⊎ ((t ≢ n) × (answer ≡ Pause)))))
-    ⊎ ((h ≡ n) × ((q : ℕ) × (rest : List AtomicStep) × (shape ≡ LinkRead n (suc q) ∷ rest)
-    × IsFromSlot n q rest answer head))
-    ⊎ ((h ≢ n) × IsFromSlot n h shape answer head)
+IsTaking n h shape answer head = ((h ≡ n) × IsAtStub n shape answer head)
+    ⊎ ((h ≡ n) × IsFromStub n shape answer head) ⊎ ((h ≢ n) × IsFromSlot n h shape answer head)

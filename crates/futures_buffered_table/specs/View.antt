@@ -5,6 +5,7 @@ use Rattle.futures_buffered_table.specs.declared.view.Role.{Role}
 use Rattle.futures_buffered_table.specs.declared.view.Role.TheVariants.{Idle, Polls}
 use Rattle.futures_buffered_table.specs.declared.view.View.{View}
 
+-- what a seat is about to do
 abbrev pub role_of : View → Role
 role_of v = v.role
 

@@ -5,6 +5,8 @@ use thiserror::Error;
 /// The most slots that a list, a core, a source or a set can have: 4611686018427387903.
 pub const MAX_CAPACITY: usize = usize::MAX / 4;
 
+const _: () = prove!(MAX_CAPACITY == 4611686018427387903);
+
 /// The answer of a taking.
 #[derive(Clone, Copy, Debug, PartialEq, Eq)]
 pub enum Taken {

@@ -5,6 +5,8 @@ use thiserror::Error;
 /// How many wake seats a machine has: their numbers are below this.
 pub const WAKE_SEATS: usize = 64;
 
+const _: () = prove!(WAKE_SEATS == 64);
+
 /// A step of one seat, of which there are wake seats, by their numbers, and one poll seat.
 #[derive(Clone, Copy, Debug, PartialEq, Eq)]
 pub enum Step {

@@ -19,14 +19,13 @@ impl ReadyList {
 
     // Reads the link of the head, as a taking begins.
     fn read_first(&self, seat: &mut Seat<u8, View>, head: usize) -> usize
-        requires list { seat.old.table_id ≡ self.now.list }
-        requires phase { IsInRole self.now.capacity (Polls head Start) seat.old
+        requires role { IsInRole self.now (Polls head Start) seat.old
             × (head ≤ self.now.capacity) }
         ensures low { (result ≤ self.now.capacity + 1)
             × (head ≡ self.now.capacity → result ≤ self.now.capacity) }
-        ensures phase { IsInRole self.now.capacity
+        ensures role { IsInRole self.now
             (next_role self.now.capacity 0 (Polls head Start) result) seat.new }
-        ensures came { Adds seat.old seat.new (LinkRead head result ∷ []) }
+        ensures adds { Adds seat.old seat.new (LinkRead head result ∷ []) }
     {
         self.table
             .shared
@@ -35,11 +34,10 @@ impl ReadyList {
 
     // Reads the tail, where the head is a slot whose link named none.
     fn read_tail(&self, seat: &mut Seat<u8, View>, head: usize) -> usize
-        requires list { seat.old.table_id ≡ self.now.list }
-        requires phase { IsInRole self.now.capacity (Polls head NoNext) seat.old }
-        ensures phase { IsInRole self.now.capacity
+        requires role { IsInRole self.now (Polls head NoNext) seat.old }
+        ensures role { IsInRole self.now
             (next_role self.now.capacity 0 (Polls head NoNext) result) seat.new }
-        ensures came { Adds seat.old seat.new (TailRead result ∷ []) }
+        ensures adds { Adds seat.old seat.new (TailRead result ∷ []) }
     {
         self.table
             .shared
@@ -48,10 +46,9 @@ impl ReadyList {
 
     // Clears the stub's link.
     fn clear_stub(&self, seat: &mut Seat<u8, View>, head: usize)
-        requires list { seat.old.table_id ≡ self.now.list }
-        requires phase { IsInRole self.now.capacity (Polls head Last) seat.old }
-        ensures phase { IsInRole self.now.capacity (Polls head StubCleared) seat.new }
-        ensures came { Adds seat.old seat.new (LinkClear self.now.capacity ∷ []) }
+        requires role { IsInRole self.now (Polls head Last) seat.old }
+        ensures role { IsInRole self.now (Polls head StubCleared) seat.new }
+        ensures adds { Adds seat.old seat.new (LinkClear self.now.capacity ∷ []) }
     {
         self.table
             .shared
@@ -60,11 +57,10 @@ impl ReadyList {
 
     // Puts the stub into the tail word, and answers the entry that stood there.
     fn swap_stub(&self, seat: &mut Seat<u8, View>, head: usize) -> usize
-        requires list { seat.old.table_id ≡ self.now.list }
-        requires phase { IsInRole self.now.capacity (Polls head StubCleared) seat.old }
+        requires role { IsInRole self.now (Polls head StubCleared) seat.old }
         ensures low { result ≤ self.now.capacity }
-        ensures phase { IsInRole self.now.capacity (Polls head (StubPut result)) seat.new }
-        ensures came { Adds seat.old seat.new (TailSwap self.now.capacity result ∷ []) }
+        ensures role { IsInRole self.now (Polls head (StubPut result)) seat.new }
+        ensures adds { Adds seat.old seat.new (TailSwap self.now.capacity result ∷ []) }
     {
         self.table.shared.swap::<SeatStep>(
             seat,
@@ -75,11 +71,10 @@ impl ReadyList {
 
     // Lets the entry before the stub name it.
     fn link_stub(&self, seat: &mut Seat<u8, View>, head: usize, before: usize)
-        requires list { seat.old.table_id ≡ self.now.list }
-        requires phase { IsInRole self.now.capacity (Polls head (StubPut before)) seat.old
+        requires role { IsInRole self.now (Polls head (StubPut before)) seat.old
             × (before ≤ self.now.capacity) }
-        ensures phase { IsInRole self.now.capacity (Polls head StubLinked) seat.new }
-        ensures came { Adds seat.old seat.new (LinkWrite before self.now.capacity ∷ []) }
+        ensures role { IsInRole self.now (Polls head StubLinked) seat.new }
+        ensures adds { Adds seat.old seat.new (LinkWrite before self.now.capacity ∷ []) }
     {
         self.table
             .shared
@@ -88,13 +83,12 @@ impl ReadyList {
 
     // Reads the link of a slot, to which the head moved from the stub.
     fn read_slot(&self, seat: &mut Seat<u8, View>, head: usize) -> usize
-        requires list { seat.old.table_id ≡ self.now.list }
-        requires phase { IsInRole self.now.capacity (Polls head Moved) seat.old
+        requires role { IsInRole self.now (Polls head Moved) seat.old
             × (head ≤ self.now.capacity) }
         ensures low { result ≤ self.now.capacity + 1 }
-        ensures phase { IsInRole self.now.capacity
+        ensures role { IsInRole self.now
             (next_role self.now.capacity 0 (Polls head Moved) result) seat.new }
-        ensures came { Adds seat.old seat.new (LinkRead head result ∷ []) }
+        ensures adds { Adds seat.old seat.new (LinkRead head result ∷ []) }
     {
         self.table
             .shared
@@ -103,13 +97,12 @@ impl ReadyList {
 
     // Reads the link of the head again, now that the stub stands behind it.
     fn read_again(&self, seat: &mut Seat<u8, View>, head: usize) -> usize
-        requires list { seat.old.table_id ≡ self.now.list }
-        requires phase { IsInRole self.now.capacity (Polls head StubLinked) seat.old
+        requires role { IsInRole self.now (Polls head StubLinked) seat.old
             × (head ≤ self.now.capacity) }
         ensures low { result ≤ self.now.capacity + 1 }
-        ensures phase { IsInRole self.now.capacity
+        ensures role { IsInRole self.now
             (next_role self.now.capacity 0 (Polls head StubLinked) result) seat.new }
-        ensures came { Adds seat.old seat.new (LinkRead head result ∷ []) }
+        ensures adds { Adds seat.old seat.new (LinkRead head result ∷ []) }
     {
         self.table
             .shared
@@ -118,10 +111,9 @@ impl ReadyList {
 
     // Reads the tail, where the head is the stub, whose link named none.
     fn read_tail_first(&self, seat: &mut Seat<u8, View>, head: usize) -> usize
-        requires list { seat.old.table_id ≡ self.now.list }
-        requires phase { IsInRole self.now.capacity (Polls head AtStub) seat.old }
-        ensures phase { IsInRole self.now.capacity (Polls head Start) seat.new }
-        ensures came { Adds seat.old seat.new (TailRead result ∷ []) }
+        requires role { IsInRole self.now (Polls head AtStub) seat.old }
+        ensures role { IsInRole self.now (Polls head Start) seat.new }
+        ensures adds { Adds seat.old seat.new (TailRead result ∷ []) }
     {
         self.table
             .shared
@@ -130,21 +122,19 @@ impl ReadyList {
 
     // Clears the slot's mark.
     fn unmark(&self, seat: &mut Seat<u8, View>, head: usize, slot: usize)
-        requires list { seat.old.table_id ≡ self.now.list }
-        requires phase { IsInRole self.now.capacity (Polls head (InHand slot)) seat.old
+        requires role { IsInRole self.now (Polls head (InHand slot)) seat.old
             × (slot ≤ self.now.capacity) }
-        ensures phase { IsInRole self.now.capacity (Polls head Start) seat.new }
-        ensures came { Adds seat.old seat.new (Unmark slot ∷ []) }
+        ensures role { IsInRole self.now (Polls head Start) seat.new }
+        ensures adds { Adds seat.old seat.new (Unmark slot ∷ []) }
     {
         self.table.shared.store::<SeatStep>(seat, slot, 0);
     }
 
     // Goes on with a taking whose head is a slot whose link named none.
     fn take_last(&self, seat: &mut Seat<u8, View>, head: usize) -> (usize, Taken)
-        requires list { seat.old.table_id ≡ self.now.list }
-        requires phase { IsInRole self.now.capacity (Polls head NoNext) seat.old
+        requires role { IsInRole self.now (Polls head NoNext) seat.old
             × (head < self.now.capacity) }
-        ensures phase { IsInRole self.now.capacity (Polls result.0 Start) seat.new
+        ensures role { IsInRole self.now (Polls result.0 Start) seat.new
             × (result.0 ≤ self.now.capacity) }
         ensures never { result.1 ≢ Empty }
         ensures named { (slot : ℕ) → result.1 ≡ Slot slot → slot < self.now.capacity }
@@ -167,10 +157,9 @@ impl ReadyList {
 
     // Goes on with a taking whose head moved from the stub to this slot.
     fn take_slot(&self, seat: &mut Seat<u8, View>, head: usize) -> (usize, Taken)
-        requires list { seat.old.table_id ≡ self.now.list }
-        requires phase { IsInRole self.now.capacity (Polls head Moved) seat.old
+        requires role { IsInRole self.now (Polls head Moved) seat.old
             × (head < self.now.capacity) }
-        ensures phase { IsInRole self.now.capacity (Polls result.0 Start) seat.new
+        ensures role { IsInRole self.now (Polls result.0 Start) seat.new
             × (result.0 ≤ self.now.capacity) }
         ensures never { result.1 ≢ Empty }
         ensures named { (slot : ℕ) → result.1 ≡ Slot slot → slot < self.now.capacity }
@@ -187,10 +176,9 @@ impl ReadyList {
 
     // Makes a taking from this head, and answers the head after it and its answer.
     fn take_from(&self, seat: &mut Seat<u8, View>, head: usize) -> (usize, Taken)
-        requires list { seat.old.table_id ≡ self.now.list }
-        requires phase { IsInRole self.now.capacity (Polls head Start) seat.old
+        requires role { IsInRole self.now (Polls head Start) seat.old
             × (head ≤ self.now.capacity) }
-        ensures phase { IsInRole self.now.capacity (Polls result.0 Start) seat.new
+        ensures role { IsInRole self.now (Polls result.0 Start) seat.new
             × (result.0 ≤ self.now.capacity) }
         ensures named { (slot : ℕ) → result.1 ≡ Slot slot → slot < self.now.capacity }
         ensures shape { (shape : List AtomicStep) × Adds seat.old seat.new shape
@@ -226,6 +214,7 @@ impl ReadyList {
         ensures shape { (shape : List AtomicStep) × (seat.new.steps ≡ seat.old.steps ++ shape)
             × IsTaking self.now.capacity seat.old.head shape result seat.new.head }
     {
+        // What the list keeps of itself is known from here on.
         let _ = &self.table;
         let (head, taken) = self.take_from(&mut seat.seat, seat.head);
         seat.head = head;

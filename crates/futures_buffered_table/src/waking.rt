@@ -17,23 +17,19 @@ impl ReadyList {
 
     // Sets the slot's mark, and answers what it was.
     fn swap_mark(&self, seat: &mut Seat<u8, View>, slot: usize) -> u64
-        requires list { seat.old.table_id ≡ self.now.list }
-        requires phase { IsInRole self.now.capacity Idle seat.old × (slot < self.now.capacity) }
+        requires role { IsInRole self.now Idle seat.old × (slot < self.now.capacity) }
         ensures low { result ≤ 1 }
-        ensures phase { IsInRole self.now.capacity (next_role self.now.capacity slot Idle result)
-            seat.new }
-        ensures came { Adds seat.old seat.new (MarkSwap slot result ∷ []) }
+        ensures role { IsInRole self.now (next_role self.now.capacity slot Idle result) seat.new }
+        ensures adds { Adds seat.old seat.new (MarkSwap slot result ∷ []) }
     {
         self.table.shared.swap::<SeatStep>(seat, slot, 1)
     }
 
     // Clears the slot's link.
     fn clear_link(&self, seat: &mut Seat<u8, View>, slot: usize)
-        requires list { seat.old.table_id ≡ self.now.list }
-        requires phase { IsInRole self.now.capacity (Won slot) seat.old
-            × (slot < self.now.capacity) }
-        ensures phase { IsInRole self.now.capacity (Cleared slot) seat.new }
-        ensures came { Adds seat.old seat.new (LinkClear slot ∷ []) }
+        requires role { IsInRole self.now (Won slot) seat.old × (slot < self.now.capacity) }
+        ensures role { IsInRole self.now (Cleared slot) seat.new }
+        ensures adds { Adds seat.old seat.new (LinkClear slot ∷ []) }
     {
         self.table
             .shared
@@ -42,12 +38,10 @@ impl ReadyList {
 
     // Puts the slot into the tail word, and answers the entry that stood there.
     fn swap_tail(&self, seat: &mut Seat<u8, View>, slot: usize) -> usize
-        requires list { seat.old.table_id ≡ self.now.list }
-        requires phase { IsInRole self.now.capacity (Cleared slot) seat.old
-            × (slot < self.now.capacity) }
+        requires role { IsInRole self.now (Cleared slot) seat.old × (slot < self.now.capacity) }
         ensures low { result ≤ self.now.capacity }
-        ensures phase { IsInRole self.now.capacity (Swapped slot result) seat.new }
-        ensures came { Adds seat.old seat.new (TailSwap slot result ∷ []) }
+        ensures role { IsInRole self.now (Swapped slot result) seat.new }
+        ensures adds { Adds seat.old seat.new (TailSwap slot result ∷ []) }
     {
         self.table
             .shared
@@ -56,11 +50,10 @@ impl ReadyList {
 
     // Lets the entry before the slot name it.
     fn write_link(&self, seat: &mut Seat<u8, View>, slot: usize, before: usize)
-        requires list { seat.old.table_id ≡ self.now.list }
-        requires phase { IsInRole self.now.capacity (Swapped slot before) seat.old
+        requires role { IsInRole self.now (Swapped slot before) seat.old
             × (slot < self.now.capacity) × (before ≤ self.now.capacity) }
-        ensures phase { IsInRole self.now.capacity Idle seat.new }
-        ensures came { Adds seat.old seat.new (LinkWrite before slot ∷ []) }
+        ensures role { IsInRole self.now Idle seat.new }
+        ensures adds { Adds seat.old seat.new (LinkWrite before slot ∷ []) }
     {
         self.table
             .shared
@@ -69,11 +62,9 @@ impl ReadyList {
 
     // Puts the slot, which this seat won, into the row as its last entry.
     fn put_in(&self, seat: &mut Seat<u8, View>, slot: usize)
-        requires list { seat.old.table_id ≡ self.now.list }
-        requires phase { IsInRole self.now.capacity (Won slot) seat.old
-            × (slot < self.now.capacity) }
-        ensures phase { IsInRole self.now.capacity Idle seat.new }
-        ensures came { (p : ℕ) × Adds seat.old seat.new
+        requires role { IsInRole self.now (Won slot) seat.old × (slot < self.now.capacity) }
+        ensures role { IsInRole self.now Idle seat.new }
+        ensures adds { (p : ℕ) × Adds seat.old seat.new
             (LinkClear slot ∷ TailSwap slot p ∷ LinkWrite p slot ∷ []) }
     {
         self.clear_link(seat, slot);
@@ -90,6 +81,7 @@ impl ReadyList {
         ensures shape { (shape : List AtomicStep) × (seat.new.steps ≡ seat.old.steps ++ shape)
             × IsWake slot shape result }
     {
+        // What the list keeps of itself is known from here on.
         let _ = &self.table;
         if self.swap_mark(&mut seat.seat, slot) != 0 {
             return Woke::Already;

@@ -1,6 +1,6 @@
+//! Worked schedules on a machine, step by step.
 use futures_buffered_table::answer::{Taken, Woke};
-use crate::plain::Plain;
-use futures_buffered_table::ready_table::{Step, StepFault, StepMachine, StepReply, steps};
+use futures_buffered_table::ready_table::{Step, StepMachine, StepReply, WAKE_SEATS};
 use std::alloc::Global;
 use std::process::Abort;
 use std::test::Fail;
@@ -17,11 +17,11 @@ const PAUSE: Option<StepReply> = Some(StepReply::Taken(Taken::Pause));
 
 const STUCK: Option<StepReply> = None;
 
-fn mark(seat: usize, slot: usize) -> Step {
+pub fn mark(seat: usize, slot: usize) -> Step {
     Step::Mark { seat, slot }
 }
 
-fn go(seat: usize) -> Step {
+pub fn go(seat: usize) -> Step {
     Step::Go { seat }
 }
 
@@ -42,7 +42,7 @@ fn makes(
     }
 }
 
-fn machine_of(rt: &impl Abort, alloc: Global, capacity: usize) -> StepMachine {
+pub fn machine_of(rt: &impl Abort, alloc: Global, capacity: usize) -> StepMachine {
     match StepMachine::new(alloc, capacity) {
         Ok(machine) => machine,
         Err(_) => panic!(rt; "no machine"),
@@ -120,111 +120,14 @@ fn waker_before_the_stub(rt: HostRuntime) -> Result<(), Fail> {
     Ok(())
 }
 
-// The numbers of wake seats end at 63.
+// The numbers of wake seats are those below `WAKE_SEATS`.
 #[test]
 fn seats_have_numbers(rt: HostRuntime) -> Result<(), Fail> {
     let mut m = machine_of(&rt, rt.alloc(), 1);
-    makes(&rt, &mut m, 1, mark(64, 0), STUCK);
-    makes(&rt, &mut m, 1, go(63), STUCK);
-    makes(&rt, &mut m, 1, mark(63, 0), MORE);
-    makes(&rt, &mut m, 1, go(63), MORE);
-    makes(&rt, &mut m, 1, go(64), STUCK);
-    Ok(())
-}
-
-// The faults, in the order in which they are tested.
-#[test]
-fn faults_of_steps(rt: HostRuntime) -> Result<(), Fail> {
-    assert!(rt; steps(rt.alloc(), usize::MAX, &[go(0)]) == Err(StepFault::TooLarge));
-    assert!(rt; steps(rt.alloc(), usize::MAX / 4 + 1, &[]) == Err(StepFault::TooLarge));
-    assert!(rt; steps(rt.alloc(), usize::MAX / 4, &[go(0)]) == Err(StepFault::Memory));
-    assert!(rt; steps(rt.alloc(), 1, &[mark(63, 0), go(62), go(61)]) == Err(StepFault::Step(1)));
-    Ok(())
-}
-
-// The step of 2 seats and 2 slots with this number, of 7.
-fn small_step(number: u64) -> Step {
-    match number {
-        0 => mark(0, 0),
-        1 => mark(0, 1),
-        2 => mark(1, 0),
-        3 => mark(1, 1),
-        4 => go(0),
-        5 => go(1),
-        _ => Step::Poll,
-    }
-}
-
-// Makes the steps that the digits of the number name, up to the first that is refused, against the plain list. Answers how many numbers begin with the same digits up to there.
-fn follows(rt: &impl Abort, machine: &mut StepMachine, plain: &mut Plain, number: u64) -> u64 {
-    let mut unit = 117649u64;
-    for _ in 0..7u64 {
-        let step = small_step(number / unit % 7);
-        let reply = machine.step(step);
-        assert_eq!(rt; reply, plain.step(step));
-        if reply == STUCK || unit < 7 {
-            return unit;
-        }
-        unit /= 7;
-    }
-    unit
-}
-
-// All schedules of 2 seats and 2 slots of 7 steps, and so their beginnings; after a step that is refused, which changes nothing, no other is tried.
-#[test]
-fn every_short_schedule(rt: HostRuntime) -> Result<(), Fail> {
-    let mut next = 0u64;
-    for number in 0..823543u64 {
-        if number >= next {
-            let mut machine = machine_of(&rt, rt.alloc(), 2);
-            let mut plain = Plain::new(rt.alloc(), 2, 2)?;
-            next = number.wrapping_add(follows(&rt, &mut machine, &mut plain, number));
-        }
-    }
-    Ok(())
-}
-
-// The next number of a fixed row.
-fn next_number(number: u64) -> u64 {
-    number
-        .wrapping_mul(6364136223846793005)
-        .wrapping_add(1442695040888963407)
-}
-
-// A step of 4 seats and 3 slots, by a number: wakers and poller have about as many.
-fn step_by(number: u64) -> Step {
-    let seat = ((number >> 33) % 4) as usize;
-    match (number >> 40) % 8 {
-        0 | 1 => mark(seat, ((number >> 50) % 3) as usize),
-        2 | 3 | 4 => go(seat),
-        _ => Step::Poll,
-    }
-}
-
-// 1000 schedules of up to 400 steps, against the plain list; the steps that were made are then made by one call.
-#[test]
-fn many_long_schedules(rt: HostRuntime) -> Result<(), Fail> {
-    let mut number = 1u64;
-    for _ in 0..1000u64 {
-        let mut machine = machine_of(&rt, rt.alloc(), 3);
-        let mut plain = Plain::new(rt.alloc(), 3, 4)?;
-        let mut made = Vec::new(rt.alloc());
-        let mut replies = Vec::new(rt.alloc());
-        number = next_number(number);
-        for _ in 0..(number >> 33) % 400 + 1 {
-            number = next_number(number);
-            let step = step_by(number);
-            let reply = machine.step(step);
-            assert_eq!(rt; reply, plain.step(step));
-            if let Some(reply) = reply {
-                made.push(step)?;
-                replies.push(reply)?;
-            }
-        }
-        match steps(rt.alloc(), 3, made.as_slice()) {
-            Ok(all) => assert!(rt; all == replies),
-            Err(_) => panic!(rt; "a step of a legal schedule was refused"),
-        }
-    }
+    makes(&rt, &mut m, 1, mark(WAKE_SEATS, 0), STUCK);
+    makes(&rt, &mut m, 1, go(WAKE_SEATS - 1), STUCK);
+    makes(&rt, &mut m, 1, mark(WAKE_SEATS - 1, 0), MORE);
+    makes(&rt, &mut m, 1, go(WAKE_SEATS - 1), MORE);
+    makes(&rt, &mut m, 1, go(WAKE_SEATS), STUCK);
     Ok(())
 }

@@ -29,23 +29,31 @@ returns-in_default-step-clause-stuck c = λ k e.
     let step : Step = get_or steps c.loop-k.k (Mark 0 0) in
     subst (IsStuckAt n steps) same (
       subst (λ m. Legal m (at_start m) (take c.loop-k.k steps)) so_far.capacity so_far.leads.0,
-      (step, elem_at steps c.loop-k.k (Mark 0 0) c.loop-k-test.true, stuck_here n c.loop-k.machine (take c.loop-k.k steps) step so_far.capacity so_far.leads c.in_default-step.ensures.refused.0),
+      (
+        step,
+        elem_at steps c.loop-k.k (Mark 0 0) c.loop-k-test.true,
+        stuck_here n c.loop-k.machine (take c.loop-k.k steps) step
+            so_far.capacity so_far.leads c.in_default-step.ensures.refused.0,
+      ),
     )
 
 pub returns-clause-order : goal.returns-clause-order
 returns-clause-order c =
     let n = c.args.capacity in let steps = c.args.steps.now in let so_far = c.loop-k.invariant in
-    let all = whole n c.loop-k.machine (take c.loop-k.k steps) steps c.loop-k.replies.items so_far.capacity (take_all c.loop-k.k steps c.loop-k-test.false) so_far.leads so_far.replied in
+    let all = whole n c.loop-k.machine (take c.loop-k.k steps) steps c.loop-k.replies.items so_far.capacity
+    (take_all c.loop-k.k steps c.loop-k-test.false) so_far.leads so_far.replied in
     subst (AfterEach AnswersInOrder [] steps) (sym all.1) (in_order n steps all.0)
 
 pub returns-clause-empty : goal.returns-clause-empty
 returns-clause-empty c =
     let n = c.args.capacity in let steps = c.args.steps.now in let so_far = c.loop-k.invariant in
-    let all = whole n c.loop-k.machine (take c.loop-k.k steps) steps c.loop-k.replies.items so_far.capacity (take_all c.loop-k.k steps c.loop-k-test.false) so_far.leads so_far.replied in
+    let all = whole n c.loop-k.machine (take c.loop-k.k steps) steps c.loop-k.replies.items so_far.capacity
+    (take_all c.loop-k.k steps c.loop-k-test.false) so_far.leads so_far.replied in
     subst (AfterEach EmptyIsTrue [] steps) (sym all.1) (empties n steps all.0)
 
 pub returns-clause-pause : goal.returns-clause-pause
 returns-clause-pause c =
     let n = c.args.capacity in let steps = c.args.steps.now in let so_far = c.loop-k.invariant in
-    let all = whole n c.loop-k.machine (take c.loop-k.k steps) steps c.loop-k.replies.items so_far.capacity (take_all c.loop-k.k steps c.loop-k-test.false) so_far.leads so_far.replied in
+    let all = whole n c.loop-k.machine (take c.loop-k.k steps) steps c.loop-k.replies.items so_far.capacity
+    (take_all c.loop-k.k steps c.loop-k-test.false) so_far.leads so_far.replied in
     subst (AfterEach PauseHasCause [] steps) (sym all.1) (pauses n steps all.0)

@@ -6,5 +6,6 @@ use Rattle.futures_buffered_table.proofs.ready_list.ReadyList.clear_stub.Goals a
 
 pub store-requires : goal.store-requires
 store-requires c =
-    may_store c.self.inside.table.shared.table_id _ c.self.inside.capacity c.self.invariant _ c.self.view_is c.args.seat.now c.requires.list (Polls c.args.head Last) c.requires.phase
+    may_store c.self.inside.table.shared.table_id _ c.self.inside.capacity c.self.invariant _ c.self.view_is c.args.seat.now
+    (Polls c.args.head Last) c.requires.role
     _ (λ cap. tt) refl (λ cap. omega arith) 0 (λ _. refl) (λ _. refl) tt

@@ -17,7 +17,11 @@ loop-seat-init c = let same = c.into_iter-seat-iterator.ensures.into_iter_gives.
     }
 
 pub join-all-requires : goal.join-all-requires
-join-all-requires c = (c.loop-seat.invariant.here.0, All-head (λ (s : Waker). s.list ≡ c.args.self.list) _ _ (subst (All (λ (s : Waker). s.list ≡ c.args.self.list)) c.in-Some.ensures.steps.0 c.loop-seat.invariant.theirs))
+join-all-requires c = (
+  c.loop-seat.invariant.here.0,
+  All-head (λ (s : Waker). s.list ≡ c.args.self.list) _ _
+      (subst (All (λ (s : Waker). s.list ≡ c.args.self.list)) c.in-Some.ensures.steps.0 c.loop-seat.invariant.theirs),
+)
 
 pub loop-seat-preserved : goal.loop-seat-preserved
 loop-seat-preserved c = let so_far = c.loop-seat.invariant in let step = c.in-Some.ensures.steps.0 in let did = c.join-all.ensures in
@@ -25,7 +29,8 @@ loop-seat-preserved c = let so_far = c.loop-seat.invariant in let step = c.in-So
       whole = joined_on _ _ _ _ c.in-Some.seat _ step did.joined.2 so_far.whole;
       kept = λ e. did.unmarks e ∙ so_far.kept e;
       here = (did.joined.0 ∙ so_far.here.0, did.joined.1 ∙ so_far.here.1);
-      theirs = All-tail (λ (s : Waker). s.list ≡ c.args.self.list) _ _ (subst (All (λ (s : Waker). s.list ≡ c.args.self.list)) step so_far.theirs);
+      theirs = All-tail (λ (s : Waker). s.list ≡ c.args.self.list) _ _
+          (subst (All (λ (s : Waker). s.list ≡ c.args.self.list)) step so_far.theirs);
     }
 
 pub close_seat-requires : goal.close_seat-requires
@@ -39,4 +44,5 @@ returns-clause-none_lost c = λ e lt.
     let rest = c.loop-seat.seat-iterator.rest in
     let none : rest.items ≡ [] = nil_from_length rest.items (sym rest.ok.0 ∙ c.in-None.ensures.steps.0) in
     let all = joined_all _ _ _ none c.loop-seat.invariant.whole in
-    handed_in e c.args.poll.steps c.loop-seat.all.steps c.args.seats.items (mark c.close_seat.result.words e) all (c.loop-seat.invariant.kept e) (c.close_seat.ensures.none_lost e lt)
+    handed_in e c.args.poll.steps c.loop-seat.all.steps c.args.seats.items (mark c.close_seat.result.words e) all
+    (c.loop-seat.invariant.kept e) (c.close_seat.ensures.none_lost e lt)

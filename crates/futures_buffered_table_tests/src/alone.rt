@@ -1,0 +1,75 @@
+//! A list with its poll seat and one wake seat, for tests on one thread.
+ghost use Rattle.std.specs.Prelude.{◌≡◌};
+
+use futures_buffered_table::answer::{Taken, Woke};
+use futures_buffered_table::ready_table::{PollSeat, ReadyList, WakeSeat};
+use std::alloc::{AllocError, Global};
+use std::marker::Model;
+use std::process::Abort;
+
+// A list whose capacity is the one asked for.
+pub fn list_of(rt: &impl Abort, alloc: Global, capacity: usize) -> (ReadyList, PollSeat, WakeSeat)
+    ensures { (result.0.capacity ≡ capacity) × (result.1.list ≡ result.0.list)
+        × (result.2.list ≡ result.0.list) }
+{
+    match ReadyList::new(alloc, capacity) {
+        Ok(made) => made,
+        Err(_) => panic!(rt; "no list"),
+    }
+}
+
+#[derive(Drop)]
+pub struct Alone {
+    list: ReadyList,
+    poll: PollSeat,
+    seat: WakeSeat,
+}
+
+impl Model for Alone {
+    ghost use Rattle.std.specs.Prelude.{ℕ, ◌≡◌};
+
+    ghost Value = { ℕ };
+
+    ghost view = { λ a. a.list.capacity };
+
+    ghost invariant = { λ a. (a.poll.list ≡ a.list.list) × (a.seat.list ≡ a.list.list) };
+}
+
+impl Alone {
+    pub fn new(rt: &impl Abort, alloc: Global, capacity: usize) -> Alone {
+        let (list, poll, seat) = list_of(rt, alloc, capacity);
+        Alone { list, poll, seat }
+    }
+
+    pub fn capacity(&self) -> usize {
+        self.list.capacity()
+    }
+
+    // None where there is no such slot.
+    pub fn wake(&mut self, slot: usize) -> Option<Woke> {
+        if slot < self.list.capacity() {
+            Some(self.list.wake(&mut self.seat, slot))
+        } else {
+            None
+        }
+    }
+
+    pub fn take(&mut self) -> Taken {
+        self.list.take(&mut self.poll)
+    }
+
+    // Closes the list: whether just these slots were left marked.
+    pub fn closes_with(self, alloc: Global, wanted: &[usize]) -> Result<bool, AllocError> {
+        let Alone { list, poll, seat } = self;
+        let mut seats = Vec::new(alloc);
+        seats.push(seat)?;
+        let capacity = list.capacity();
+        let closed = list.close(poll, seats);
+        let mut same = true;
+        for slot in 0..capacity {
+            same &= closed.marked(slot) == wanted.contains(&slot);
+        }
+        closed.free();
+        Ok(same)
+    }
+}

@@ -1,0 +1,114 @@
+//! Calls on a list of more slots than a handful: a call makes the steps of its own seat alone.
+use crate::alone::Alone;
+use futures_buffered_table::answer::{Taken, Woke};
+use std::alloc::{AllocError, Global};
+use std::test::Fail;
+
+const SLOTS: usize = 100;
+
+#[test]
+fn a_new_list_is_empty(rt: HostRuntime) -> Result<(), Fail> {
+    let mut list = Alone::new(&rt, rt.alloc(), SLOTS);
+    assert_eq!(rt; list.capacity(), SLOTS);
+    assert_eq!(rt; list.take(), Taken::Empty);
+    assert!(rt; list.closes_with(rt.alloc(), &[])?);
+    assert!(rt; Alone::new(&rt, rt.alloc(), SLOTS).closes_with(rt.alloc(), &[])?);
+    Ok(())
+}
+
+// What a wake wakes is its own slot, and what a taking names is taken.
+#[test]
+fn a_wake_wakes_its_slot_alone(rt: HostRuntime) -> Result<(), Fail> {
+    let mut list = Alone::new(&rt, rt.alloc(), SLOTS);
+    for slot in 0..SLOTS {
+        assert_eq!(rt; list.wake(slot), Some(Woke::Fresh));
+        assert_eq!(rt; list.take(), Taken::Slot(slot));
+        assert_eq!(rt; list.take(), Taken::Empty);
+    }
+    assert_eq!(rt; list.wake(SLOTS), None);
+    assert!(rt; list.closes_with(rt.alloc(), &[])?);
+    Ok(())
+}
+
+// All slots are woken, then all are taken, in the order of their wakes.
+#[test]
+fn a_full_list_is_taken_in_order(rt: HostRuntime) -> Result<(), Fail> {
+    let mut list = Alone::new(&rt, rt.alloc(), SLOTS);
+    for slot in 0..SLOTS {
+        assert_eq!(rt; list.wake(slot * 37 % SLOTS), Some(Woke::Fresh));
+    }
+    for slot in 0..SLOTS {
+        assert_eq!(rt; list.wake(slot), Some(Woke::Already));
+    }
+    for slot in 0..SLOTS {
+        assert_eq!(rt; list.take(), Taken::Slot(slot * 37 % SLOTS));
+    }
+    assert_eq!(rt; list.take(), Taken::Empty);
+    Ok(())
+}
+
+#[test]
+fn a_close_leaves_the_marks(rt: HostRuntime) -> Result<(), Fail> {
+    let mut list = Alone::new(&rt, rt.alloc(), SLOTS);
+    assert_eq!(rt; list.wake(50), Some(Woke::Fresh));
+    assert_eq!(rt; list.wake(3), Some(Woke::Fresh));
+    assert_eq!(rt; list.wake(97), Some(Woke::Fresh));
+    assert_eq!(rt; list.take(), Taken::Slot(50));
+    assert!(rt; list.closes_with(rt.alloc(), &[3, 97])?);
+    Ok(())
+}
+
+// The slots that are marked, in the order of their wakes: slow, and with nothing shared with the
+// list.
+#[derive(Drop)]
+struct Marked {
+    slots: Vec<usize>,
+}
+
+impl Marked {
+    fn wake(&mut self, slot: usize) -> Result<Woke, AllocError> {
+        if self.slots.contains(&slot) {
+            return Ok(Woke::Already);
+        }
+        self.slots.push(slot)?;
+        Ok(Woke::Fresh)
+    }
+
+    fn take(&mut self) -> Taken {
+        if self.slots.is_empty() {
+            Taken::Empty
+        } else {
+            Taken::Slot(self.slots.remove(0))
+        }
+    }
+}
+
+// The next number of a fixed row.
+fn next_number(number: u64) -> u64 {
+    number
+        .wrapping_mul(6364136223846793005)
+        .wrapping_add(1442695040888963407)
+}
+
+// 20000 wakes and takings, now more of the one and now of the other, against the plain marks.
+#[test]
+fn many_calls(rt: HostRuntime) -> Result<(), Fail> {
+    let mut list = Alone::new(&rt, rt.alloc(), SLOTS);
+    let mut marked = Marked {
+        slots: Vec::new(rt.alloc()),
+    };
+    let mut number = 1u64;
+    for turn in 0..20000u64 {
+        number = next_number(number);
+        let takes_of_ten = if turn / 500 % 2 == 0 { 3 } else { 7 };
+        if (number >> 33) % 10 < takes_of_ten {
+            assert_eq!(rt; list.take(), marked.take());
+        } else {
+            let slot = ((number >> 40) % 100) as usize;
+            let woke = marked.wake(slot)?;
+            assert_eq!(rt; list.wake(slot), Some(woke));
+        }
+    }
+    assert!(rt; list.closes_with(rt.alloc(), marked.slots.as_slice())?);
+    Ok(())
+}
