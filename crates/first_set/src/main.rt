@@ -10,7 +10,7 @@ use futures_buffered_sets::{FuturesUnorderedBounded, SlotFuture};
 #[derive(Drop)]
 struct Square(u64);
 
-impl<W> SlotFuture<W> for Square {
+impl<W: WakesSlot> SlotFuture<W> for Square {
     type Output = u64;
 
     fn poll(&mut self, _waker: &W) -> Poll<u64> {
@@ -19,7 +19,7 @@ impl<W> SlotFuture<W> for Square {
 }
 
 fn main(rt: HostRuntime) -> Result<(), anyhow::Error> {
-    let mut set = FuturesUnorderedBounded::new(&rt, rt.alloc(), 4).map_err(|_| std::alloc::AllocError)?;
+    let mut set = FuturesUnorderedBounded::new(&rt, rt.alloc(), 4)?;
     for number in 0..4u64 {
         if let Err(_refused) = set.try_push(Square(number)) {
             break;
