@@ -4,7 +4,7 @@
 use futures::StreamExt;
 use futures::executor::block_on;
 use futures::task::Poll;
-use futures_buffered_sets::{FuturesUnorderedBounded, SlotFuture};
+use futures_buffered_sets::{FuturesUnorderedBounded, SlotFuture, WakesSlot};
 
 // Gives the square of its number at its first poll.
 #[derive(Drop)]

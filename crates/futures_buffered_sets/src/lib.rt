@@ -4,7 +4,7 @@
 //!
 //! In the order in which to read them:
 //!
-//! - `slot_future`: `SlotFuture`, what a set holds: a future that is polled with the waker of its slot.
+//! - `slot_future`: `SlotFuture`, what a set holds: a future that is polled with the waker of its slot; `SlotWaker` wakes a slot.
 //! - `poll_one`: `PollOne`, the rule by which one held value is polled, and `PollFuture`, the rule for `SlotFuture`s.
 //! - `fused`: the traits `FusedStream`, `FusedFuture` and `SizeHint`, by which a type says whether it has ended and how much is left.
 //! - `futures_unordered_bounded`: `FuturesUnorderedBounded`, as many futures as it has slots, yielded as they finish.
@@ -13,5 +13,5 @@
 pub use futures_buffered_bounded::fused::{FusedFuture, FusedStream, SizeHint};
 pub use futures_buffered_bounded::futures_unordered_bounded::FuturesUnorderedBounded;
 pub use futures_buffered_bounded::poll_one::{PollFuture, PollOne};
-pub use futures_buffered_bounded::slot_future::SlotFuture;
+pub use futures_buffered_bounded::slot_future::{SlotFuture, SlotWaker, WakesSlot};
 pub use futures_buffered_bounded::{fused, futures_unordered_bounded, poll_one, slot_future};
