@@ -229,7 +229,10 @@ impl<F: Drop, S: ReadySource> FuturesUnorderedBounded<F, S> {
         ensures same_slots { (j : ℕ)
             → is_some (value_in self.new.slots j) ≡ is_some (value_in self.old.slots j) }
         ensures covered { OnPending result (Covers cx.new (S.needs self.new.source)) }
-        ensures woken { OnPending result (IsWoken cx.new ⊎ SaidEmpty S.takes self.new.source) }
+        ensures woken { OnPending result (IsWoken cx.new
+            ⊎ SaidEmpty S.takes self.new.source × S.registers_poll self.old.source cx.old cx.new) }
+        ensures only_registered { IfReady result (λ _.
+            S.registers_poll self.old.source cx.old cx.new) }
         ensures kept { Keeps cx.old cx.new }
     {
         self.source.register(cx);
@@ -276,8 +279,11 @@ impl<F: Drop, S: ReadySource> FuturesUnorderedBounded<F, S> {
         ensures capacity { slot_count self.new.slots ≡ slot_count self.old.slots }
         ensures limit { self.new.limit ≡ self.old.limit }
         ensures covered { OnPending result (Covers cx.new (S.needs self.new.source)) }
-        ensures woken { OnPending result (IsWoken cx.new ⊎ SaidEmpty S.takes self.new.source) }
+        ensures woken { OnPending result (IsWoken cx.new
+            ⊎ SaidEmpty S.takes self.new.source × S.registers_poll self.old.source cx.old cx.new) }
         ensures untouched { IfReady result (λ o. IfNone o (cx.new ≡ cx.old)) }
+        ensures only_registered { IfReady result (λ o. OnSome o
+            (S.registers_poll self.old.source cx.old cx.new)) }
         ensures kept { Keeps cx.old cx.new }
     {
         if self.slots.is_empty() {
@@ -321,8 +327,11 @@ impl<F: SlotFuture<S::Waker>, S: ReadySource> Stream for FuturesUnorderedBounded
         ensures capacity { slot_count self.new.slots ≡ slot_count self.old.slots }
         ensures limit { self.new.limit ≡ self.old.limit }
         ensures registered { OnPending result (Covers cx.new (S.needs self.new.source)) }
-        ensures woken { OnPending result (IsWoken cx.new ⊎ SaidEmpty S.takes self.new.source) }
+        ensures woken { OnPending result (IsWoken cx.new
+            ⊎ SaidEmpty S.takes self.new.source × S.registers_poll self.old.source cx.old cx.new) }
         ensures untouched { IfReady result (λ o. IfNone o (cx.new ≡ cx.old)) }
+        ensures only_registered { IfReady result (λ o. OnSome o
+            (S.registers_poll self.old.source cx.old cx.new)) }
         ensures kept { Keeps cx.old cx.new }
     {
         self.poll_with(&PollFuture, cx)

@@ -42,6 +42,8 @@ impl Model for CoreSource {
 }
 
 impl ReadySource for CoreSource {
+    ghost use Rattle.futures.specs.Task.{IsArmed, Keeps};
+
     type Waker = Silent;
 
     ghost slots = { λ s. s.capacity };
@@ -51,6 +53,8 @@ impl ReadySource for CoreSource {
     ghost takes = { Takes };
 
     ghost registers = { λ old new. new ≡ old };
+
+    ghost registers_poll = { λ _ old new. IsArmed new × Keeps old new };
 
     ghost needs = { λ _ _. ⊥ };
 

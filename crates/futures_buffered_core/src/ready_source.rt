@@ -3,6 +3,7 @@
 //! A source has a content of its own, of which a contract knows only what the source's relations say. `CoreSource` is a ready core under one caller, and `ScriptSource` gives a list of answers; both have exact relations.
 ghost use Rattle.std.specs.Prelude.{◌≡◌, ◌<◌, ℕ, IfOk};
 ghost use Rattle.futures.specs.Task.{Covers, Keeps};
+ghost use Rattle.futures.specs.declared.task.context.Context.{Context};
 ghost use Rattle.futures_buffered_table.specs.declared.answer.Woke.{Woke};
 ghost use Rattle.futures_buffered_table.specs.declared.answer.Taken.{Taken};
 ghost use Rattle.futures_buffered_table.specs.declared.answer.Taken.TheVariants.{Slot};
@@ -45,6 +46,9 @@ pub trait ReadySource: Drop {
     // What a registration may make of the content.
     ghost registers: { Self → Self → Type 0 };
 
+    // What a registration may make of the context of the poll that registers.
+    ghost registers_poll: { Self → Context → Context → Type 0 };
+
     // The places of a task's wakes at which a registration waits, by their names.
     ghost needs: { Self → ℕ → Type 0 };
 
@@ -69,6 +73,7 @@ pub trait ReadySource: Drop {
     /// Keeps the waker of the task that polls, in place of the one kept before.
     fn register(&mut self, cx: &mut Context<'_>)
         ensures registered { registers self.old self.new }
+        ensures poll { registers_poll self.old cx.old cx.new }
         ensures covered { Covers cx.new (needs self.old) }
         ensures kept { Keeps cx.old cx.new };
 

@@ -65,6 +65,7 @@ impl ScriptSource {
 }
 
 impl ReadySource for ScriptSource {
+    ghost use Rattle.futures.specs.Task.{IsArmed, Keeps};
     ghost use Rattle.futures_buffered_core.specs.ScriptSource.{TakesNext, MarksNothing};
 
     type Waker = Silent;
@@ -76,6 +77,8 @@ impl ReadySource for ScriptSource {
     ghost takes = { TakesNext };
 
     ghost registers = { λ old new. new ≡ old };
+
+    ghost registers_poll = { λ _ old new. IsArmed new × Keeps old new };
 
     ghost needs = { λ _ _. ⊥ };
 

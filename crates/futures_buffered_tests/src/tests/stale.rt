@@ -8,7 +8,7 @@ use futures_buffered_core::ready_shared::{SharedReady, SlotWake};
 use futures_buffered_core::ready_source::SlotWaker;
 use futures_buffered_sets::futures_unordered_bounded::FuturesUnorderedBounded;
 use futures_buffered_sets::slot_future::SlotFuture;
-use std::alloc::AllocError;
+use std::alloc::{AllocError, Global};
 use std::sync::atomic::AtomicU64;
 use std::sync::atomic::Ordering::SeqCst;
 use std::sync::{Arc, Wait};
@@ -46,43 +46,83 @@ fn counted_keeper<R: Drop>(
     Ok(Counted::new(Keeper { kept, ends }, polls))
 }
 
+// A set of two, the place of the waker that was kept last, and how often its first, second and third future was polled.
+#[derive(Drop)]
+struct Row<R: Wait + Clone + Drop> {
+    set: Set<R>,
+    place: WakerPlace<R>,
+    first: Arc<AtomicU64>,
+    second: Arc<AtomicU64>,
+    third: Arc<AtomicU64>,
+}
+
+fn new_row<R: Wait + Clone + Drop + Send + Sync>(rt: &R, alloc: Global) -> Result<Row<R>, Fail> {
+    let set = FuturesUnorderedBounded::new(rt, alloc, 2)?;
+    let place = empty_place(alloc)?;
+    let first = Arc::new(alloc, AtomicU64::new(0))?;
+    let second = Arc::new(alloc, AtomicU64::new(0))?;
+    let third = Arc::new(alloc, AtomicU64::new(0))?;
+    Ok(Row {
+        set,
+        place,
+        first,
+        second,
+        third,
+    })
+}
+
+// Whether one more future was put in.
+fn pushes<R: Wait + Clone + Drop>(
+    rt: R,
+    set: &mut Set<R>,
+    place: &WakerPlace<R>,
+    ends: bool,
+    polls: &Arc<AtomicU64>,
+) -> bool {
+    match counted_keeper(rt, place, ends, polls) {
+        Ok(future) => set.try_push(future).is_ok(),
+        Err(_) => false,
+    }
+}
+
+// The answer of one poll, and how often each future was polled by then.
+fn polled<R: Wait + Clone + Drop>(
+    task: &MockTask,
+    row: &mut Row<R>,
+) -> (Poll<Option<()>>, [u64; 3]) {
+    let answer = poll_set(task, &mut row.set);
+    let polls = [
+        row.first.load(SeqCst),
+        row.second.load(SeqCst),
+        row.third.load(SeqCst),
+    ];
+    (answer, polls)
+}
+
+// The first future of the set, which ends at once, and the second, which stays.
+fn pushes_two<R: Wait + Clone + Copy + Drop>(rt: R, row: &mut Row<R>) -> bool {
+    pushes(rt, &mut row.set, &row.place, true, &row.first)
+        && pushes(rt, &mut row.set, &row.place, false, &row.second)
+}
+
 #[test]
 fn a_stale_wake_reaches_who_came_after(rt: HostRuntime) -> Result<(), Fail> {
     let task = MockTask::new(&rt)?;
-    let mut set: Set<_> = FuturesUnorderedBounded::new(&rt, rt.alloc(), 2)?;
-    let place = empty_place(rt.alloc())?;
-    let of_first = Arc::new(rt.alloc(), AtomicU64::new(0))?;
-    let of_second = Arc::new(rt.alloc(), AtomicU64::new(0))?;
-    let of_third = Arc::new(rt.alloc(), AtomicU64::new(0))?;
-    assert!(rt;
-        set.try_push(counted_keeper(rt, &place, true, &of_first)?)
-            .is_ok()
-    );
-    assert!(rt;
-        set.try_push(counted_keeper(rt, &place, false, &of_second)?)
-            .is_ok()
-    );
-    assert_eq!(rt; poll_set(&task, &mut set), Poll::Ready(Some(())));
-    let stale = taken_from(&rt, &place).ok_or("kept")?;
+    let mut row = new_row(&rt, rt.alloc())?;
+    assert!(rt; pushes_two(rt, &mut row));
+    assert_eq!(rt; polled(&task, &mut row), (Poll::Ready(Some(())), [1, 0, 0]));
+    let stale = taken_from(&rt, &row.place).ok_or("kept")?;
     assert_eq!(rt; stale.slot(), 0);
-    assert!(rt; poll_set(&task, &mut set).is_pending());
-    assert_eq!(rt; of_second.load(SeqCst), 1);
+    assert_eq!(rt; polled(&task, &mut row), (Poll::Pending, [1, 1, 0]));
     // The slot is free: its mark is taken, and nothing is polled.
     stale.wake();
     assert!(rt; task.is_woken());
-    assert!(rt; poll_set(&task, &mut set).is_pending());
-    assert_eq!(rt; of_second.load(SeqCst), 1);
-    assert!(rt;
-        set.try_push(counted_keeper(rt, &place, false, &of_third)?)
-            .is_ok()
-    );
-    assert!(rt; poll_set(&task, &mut set).is_pending());
-    assert_eq!(rt; of_third.load(SeqCst), 1);
+    assert_eq!(rt; polled(&task, &mut row), (Poll::Pending, [1, 1, 0]));
+    assert!(rt; pushes(rt, &mut row.set, &row.place, false, &row.third));
+    assert_eq!(rt; polled(&task, &mut row), (Poll::Pending, [1, 1, 1]));
     // The slot is another future's now, which is polled once more.
     stale.wake();
     assert!(rt; task.is_woken());
-    assert!(rt; poll_set(&task, &mut set).is_pending());
-    assert_eq!(rt; of_third.load(SeqCst), 2);
-    assert_eq!(rt; (of_first.load(SeqCst), of_second.load(SeqCst)), (1, 1));
+    assert_eq!(rt; polled(&task, &mut row), (Poll::Pending, [1, 1, 2]));
     Ok(())
 }

@@ -3,48 +3,82 @@ use crate::counted::Counted;
 use crate::kept::{Kept, WakerPlace, empty_place, taken_from};
 use crate::polling::{poll_nothing, poll_set};
 use futures::test::MockTask;
-use futures_buffered_core::ready_shared::SharedReady;
+use futures_buffered_core::ready_shared::{SharedReady, SlotWake};
 use futures_buffered_core::ready_source::SlotWaker;
 use futures_buffered_sets::futures_unordered_bounded::FuturesUnorderedBounded;
-use std::alloc::AllocError;
-use std::sync::Arc;
+use std::alloc::{AllocError, Global};
 use std::sync::atomic::AtomicU64;
 use std::sync::atomic::Ordering::SeqCst;
+use std::sync::{Arc, Wait};
 use std::test::Fail;
 
 type Set<R> = FuturesUnorderedBounded<Counted<Kept<R>>, SharedReady<R>>;
 
-fn counted_kept<R: Drop>(
-    rt: R,
-    place: &WakerPlace<R>,
-    polls: &Arc<AtomicU64>,
+// A set, the place of the waker that was kept last, and how often a future was polled.
+#[derive(Drop)]
+struct Row<R: Wait + Clone + Drop> {
+    set: Set<R>,
+    place: WakerPlace<R>,
+    polls: Arc<AtomicU64>,
+}
+
+fn new_row<R>(rt: &R, alloc: Global, capacity: usize) -> Result<Row<R>, Fail>
+where
+    R: Wait + Clone + Drop + Send + Sync,
+{
+    let set = FuturesUnorderedBounded::new(rt, alloc, capacity)?;
+    let place = empty_place(alloc)?;
+    let polls = Arc::new(alloc, AtomicU64::new(0))?;
+    Ok(Row { set, place, polls })
+}
+
+fn counted_kept<R: Wait + Clone + Drop>(
+    rt: &R,
+    row: &Row<R>,
 ) -> Result<Counted<Kept<R>>, AllocError> {
-    let place = Arc::try_clone(place)?;
-    let polls = Arc::try_clone(polls)?;
-    Ok(Counted::new(Kept::new(rt, place), polls))
+    let place = Arc::try_clone(&row.place)?;
+    let polls = Arc::try_clone(&row.polls)?;
+    Ok(Counted::new(Kept::new(rt.clone()?, place), polls))
+}
+
+// Whether one more future was put in.
+fn pushes<R: Wait + Clone + Drop>(rt: &R, row: &mut Row<R>) -> bool {
+    match counted_kept(rt, row) {
+        Ok(future) => row.set.try_push(future).is_ok(),
+        Err(_) => false,
+    }
+}
+
+// Whether the set is pending, and how often futures were polled by then.
+fn polled<R: Wait + Clone + Drop>(task: &MockTask, row: &mut Row<R>) -> (bool, u64) {
+    let is_pending = poll_set(task, &mut row.set).is_pending();
+    (is_pending, row.polls.load(SeqCst))
+}
+
+fn kept_waker<R: Wait + Clone + Drop>(rt: &R, row: &Row<R>) -> Result<SlotWake<R>, Fail> {
+    Ok(taken_from(rt, &row.place).ok_or("kept")?)
 }
 
 #[test]
 fn two_wakes_of_a_slot_are_one(rt: HostRuntime) -> Result<(), Fail> {
     let task = MockTask::new(&rt)?;
-    let mut set: Set<_> = FuturesUnorderedBounded::new(&rt, rt.alloc(), 2)?;
-    let polls = Arc::new(rt.alloc(), AtomicU64::new(0))?;
-    let place = empty_place(rt.alloc())?;
-    assert!(rt; set.try_push(counted_kept(rt, &place, &polls)?).is_ok());
-    assert!(rt; poll_set(&task, &mut set).is_pending());
-    assert!(rt; !task.is_woken());
-    assert_eq!(rt; polls.load(SeqCst), 1);
-    let waker = taken_from(&rt, &place).ok_or("kept")?;
+    let mut row = new_row(&rt, rt.alloc(), 2)?;
+    assert!(rt; pushes(&rt, &mut row));
+    assert_eq!(rt;
+        (polled(&task, &mut row), task.is_woken()),
+        ((true, 1), false)
+    );
+    let waker = kept_waker(&rt, &row)?;
     assert_eq!(rt; waker.slot(), 0);
     waker.wake();
     assert!(rt; task.is_woken());
     waker.wake();
-    assert!(rt; poll_set(&task, &mut set).is_pending());
-    assert_eq!(rt; polls.load(SeqCst), 2);
-    assert!(rt; !task.is_woken());
+    assert_eq!(rt;
+        (polled(&task, &mut row), task.is_woken()),
+        ((true, 2), false)
+    );
     // Nothing is marked now, so a further poll polls no future.
-    assert!(rt; poll_set(&task, &mut set).is_pending());
-    assert_eq!(rt; polls.load(SeqCst), 2);
+    assert_eq!(rt; polled(&task, &mut row), (true, 2));
     Ok(())
 }
 
@@ -77,30 +111,23 @@ fn a_task_is_woken_once(rt: HostRuntime) -> Result<(), Fail> {
 #[test]
 fn a_push_wakes_nobody(rt: HostRuntime) -> Result<(), Fail> {
     let task = MockTask::new(&rt)?;
-    let mut set: Set<_> = FuturesUnorderedBounded::new(&rt, rt.alloc(), 2)?;
-    let polls = Arc::new(rt.alloc(), AtomicU64::new(0))?;
-    let place = empty_place(rt.alloc())?;
-    assert!(rt; set.try_push(counted_kept(rt, &place, &polls)?).is_ok());
-    assert!(rt; poll_set(&task, &mut set).is_pending());
-    assert!(rt; set.try_push(counted_kept(rt, &place, &polls)?).is_ok());
-    assert!(rt; !task.is_woken());
-    assert!(rt; poll_set(&task, &mut set).is_pending());
-    assert_eq!(rt; polls.load(SeqCst), 2);
-    let waker = taken_from(&rt, &place).ok_or("kept")?;
-    assert_eq!(rt; waker.slot(), 1);
+    let mut row = new_row(&rt, rt.alloc(), 2)?;
+    assert!(rt; pushes(&rt, &mut row));
+    assert_eq!(rt; polled(&task, &mut row), (true, 1));
+    assert_eq!(rt; (pushes(&rt, &mut row), task.is_woken()), (true, false));
+    assert_eq!(rt; polled(&task, &mut row), (true, 2));
+    assert_eq!(rt; kept_waker(&rt, &row)?.slot(), 1);
     Ok(())
 }
 
 #[test]
 fn a_waker_outlives_its_set(rt: HostRuntime) -> Result<(), Fail> {
     let task = MockTask::new(&rt)?;
-    let mut set: Set<_> = FuturesUnorderedBounded::new(&rt, rt.alloc(), 2)?;
-    let polls = Arc::new(rt.alloc(), AtomicU64::new(0))?;
-    let place = empty_place(rt.alloc())?;
-    assert!(rt; set.try_push(counted_kept(rt, &place, &polls)?).is_ok());
-    assert!(rt; poll_set(&task, &mut set).is_pending());
-    let waker = taken_from(&rt, &place).ok_or("kept")?;
-    drop(set);
+    let mut row = new_row(&rt, rt.alloc(), 2)?;
+    assert!(rt; pushes(&rt, &mut row));
+    assert_eq!(rt; polled(&task, &mut row), (true, 1));
+    let waker = kept_waker(&rt, &row)?;
+    drop(row);
     assert!(rt; !task.is_woken());
     waker.wake();
     assert!(rt; task.is_woken());
@@ -114,14 +141,12 @@ fn a_waker_outlives_its_set(rt: HostRuntime) -> Result<(), Fail> {
 #[test]
 fn a_set_that_goes_wakes_its_task(rt: HostRuntime) -> Result<(), Fail> {
     let task = MockTask::new(&rt)?;
-    let mut set: Set<_> = FuturesUnorderedBounded::new(&rt, rt.alloc(), 2)?;
-    let polls = Arc::new(rt.alloc(), AtomicU64::new(0))?;
-    let place = empty_place(rt.alloc())?;
-    assert!(rt; set.try_push(counted_kept(rt, &place, &polls)?).is_ok());
-    assert!(rt; poll_set(&task, &mut set).is_pending());
-    drop(taken_from(&rt, &place));
+    let mut row = new_row(&rt, rt.alloc(), 2)?;
+    assert!(rt; pushes(&rt, &mut row));
+    assert_eq!(rt; polled(&task, &mut row), (true, 1));
+    drop(taken_from(&rt, &row.place));
     assert!(rt; !task.is_woken());
-    drop(set);
+    drop(row);
     assert!(rt; task.is_woken());
     Ok(())
 }
@@ -130,20 +155,15 @@ fn a_set_that_goes_wakes_its_task(rt: HostRuntime) -> Result<(), Fail> {
 fn another_task_that_polls_wakes_the_one_before(rt: HostRuntime) -> Result<(), Fail> {
     let first = MockTask::new(&rt)?;
     let second = MockTask::new(&rt)?;
-    let mut set: Set<_> = FuturesUnorderedBounded::new(&rt, rt.alloc(), 1)?;
-    let polls = Arc::new(rt.alloc(), AtomicU64::new(0))?;
-    let place = empty_place(rt.alloc())?;
-    assert!(rt; set.try_push(counted_kept(rt, &place, &polls)?).is_ok());
-    assert!(rt; poll_set(&first, &mut set).is_pending());
+    let mut row = new_row(&rt, rt.alloc(), 1)?;
+    assert!(rt; pushes(&rt, &mut row));
+    assert_eq!(rt; polled(&first, &mut row), (true, 1));
     poll_nothing(&second);
-    assert!(rt; !first.is_woken());
-    assert!(rt; poll_set(&second, &mut set).is_pending());
-    assert!(rt; first.is_woken());
-    assert!(rt; !second.is_woken());
+    assert_eq!(rt; (first.is_woken(), second.is_woken()), (false, false));
+    assert_eq!(rt; polled(&second, &mut row), (true, 1));
+    assert_eq!(rt; (first.is_woken(), second.is_woken()), (true, false));
     poll_nothing(&first);
-    let waker = taken_from(&rt, &place).ok_or("kept")?;
-    waker.wake();
-    assert!(rt; second.is_woken());
-    assert!(rt; !first.is_woken());
+    kept_waker(&rt, &row)?.wake();
+    assert_eq!(rt; (first.is_woken(), second.is_woken()), (false, true));
     Ok(())
 }

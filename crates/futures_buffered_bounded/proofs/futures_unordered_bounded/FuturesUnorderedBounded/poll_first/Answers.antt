@@ -40,6 +40,7 @@ names-preserved g c =
         same_slots = λ j. same-with slots c.in-Slot.i j _ w.poll_one.new.held w.in-Some.ensures.value ∙ c.names.invariant.same_slots j;
         covers = (c.names.invariant.covers.0, λ n h. c.names.invariant.covers.1 n (g.met.S.ReadySource.take_needs _ _ _ c.in-Slot.ensures n h));
         kept = c.names.invariant.kept;
+        registered = c.names.invariant.registered;
       })
       | in_default w ↦ rw w.self-inside-is (record {
         so_far = SoFar-skip rule.can_poll rule.polled source.registers source.takes c.args.self.now _ c.in-Slot.i slots _ _ c.names.invariant.so_far c.in-Slot.ensures (sym w.in_default.ensures.value);
@@ -50,6 +51,7 @@ names-preserved g c =
         same_slots = c.names.invariant.same_slots;
         covers = (c.names.invariant.covers.0, λ n h. c.names.invariant.covers.1 n (g.met.S.ReadySource.take_needs _ _ _ c.in-Slot.ensures n h));
         kept = c.names.invariant.kept;
+        registered = c.names.invariant.registered;
       })
     ]
 

@@ -17,4 +17,5 @@ invariant-names g l =
       same_slots : (j : ℕ) → is_some (value_in l.self-inside.slots j) ≡ is_some (value_in l.fn.self.slots j);
       covers : Covers l.cx (source.needs l.self-inside.source);
       kept : Keeps l.fn.cx l.cx;
+      registered : source.registers_poll l.fn.self.source l.fn.cx l.cx;
     }
