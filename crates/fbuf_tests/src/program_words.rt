@@ -97,12 +97,23 @@ fn says_that_there_was_no_memory(rt: HostRuntime) -> Result<(), Fail> {
     let words = args(rt.alloc(), &[])?;
     let ended = end_of(&rt, Ok(words), greatest, Sink::roomy(rt.alloc()));
     assert_eq!(rt; ended.status, 1);
-    assert_eq!(rt; ended.errors.as_slice(), b"fbuf: out of memory\n".as_slice());
+    assert_eq!(rt;
+        ended.errors.as_slice(),
+        b"fbuf: out of memory\n".as_slice()
+    );
     assert_eq!(rt; ended.output.bytes.as_slice(), b"ok\n".as_slice());
     let no_memory = io::Error::from(AllocError);
-    let ended = end_of(&rt, Err(no_memory), Source::whole(b""), Sink::roomy(rt.alloc()));
+    let ended = end_of(
+        &rt,
+        Err(no_memory),
+        Source::whole(b""),
+        Sink::roomy(rt.alloc()),
+    );
     assert_eq!(rt; ended.status, 1);
-    assert_eq!(rt; ended.errors.as_slice(), b"fbuf: out of memory\n".as_slice());
+    assert_eq!(rt;
+        ended.errors.as_slice(),
+        b"fbuf: out of memory\n".as_slice()
+    );
     Ok(())
 }
 
