@@ -14,7 +14,8 @@ const CALLS: u64 = 2_000_000;
 
 // Wakes a slot that is not marked and takes it, so often, from slot to slot.
 fn wake_and_take(list: &ReadyList, seat: &mut WakeSeat, poll: &mut PollSeat, capacity: usize)
-    requires { (seat.old.list ≡ list.now.list) × (poll.old.list ≡ list.now.list) × (list.now.capacity ≡ capacity) × (0 < capacity) }
+    requires { (seat.old.list ≡ list.now.list) × (poll.old.list ≡ list.now.list)
+        × (list.now.capacity ≡ capacity) × (0 < capacity) }
 {
     let mut slot = 0usize;
     for _ in 0..CALLS {
@@ -72,7 +73,8 @@ fn wakers_and_poller<R: Threads + Sync>(
     two: WakeSeat,
     poll: PollSeat,
 ) -> u64
-    requires { (one.list ≡ list.now.list) × (two.list ≡ list.now.list) × (poll.list ≡ list.now.list) × (list.now.capacity ≡ 256) }
+    requires { (one.list ≡ list.now.list) × (two.list ≡ list.now.list)
+        × (poll.list ≡ list.now.list) × (list.now.capacity ≡ 256) }
 {
     thread::join(
         rt,

@@ -1,13 +1,15 @@
 -- The words of a call, taken one by one, and the status that a call ends with.
-use Rattle.std.proofs.Common.{◌≡◌, ◌↔◌, ◌<◌, ◌⊎◌, ℕ, false, List, [], ◌∷◌, length, Option, Some, None}
-use Rattle.std.proofs.Common.{Result, Ok, Err, IfOk, IfErr, OnOk, IfSome, is_some, IsSome, refl, sym, ap, subst}
+use Rattle.std.proofs.Common.{◌≡◌, ◌↔◌, ◌<◌, ◌⊎◌, ℕ, false, List, [], ◌∷◌, length, Option, Some}
+use Rattle.std.proofs.Common.{None}
+use Rattle.std.proofs.Common.{Result, Ok, Err, IfOk, IfErr, OnOk, IfSome, is_some, IsSome, refl}
+use Rattle.std.proofs.Common.{sym, ap, subst}
 use Rattle.std.proofs.Common.{◌∙◌, arith, inl, inr, codes}
 use Rattle.std.specs.Fmt.{decimal}
 use Rattle.std.proofs.lemmas.Fmt.{decimal_injective}
 use Rattle.std.proofs.KnownBytes.{Appends-nil}
 use Rattle.std.proofs.Math.Seq.{take-length}
 use Rattle.fbuf_lines.specs.Lines.{lines_of}
-use Rattle.fbuf_lines.specs.declared.object.Object.TheVariants.{Nothing}
+use Rattle.fbuf_lines.specs.Object.{first_stage}
 use Rattle.fbuf_calls.specs.Script.{AppendsFirstReplies, AppendsPartOfReplies}
 use Rattle.fbuf_calls.specs.Threads.{AppendsThreadsLine}
 use Rattle.fbuf_calls.specs.ProgramWords.{WordsAskFor, CallEnds, EndsScript}
@@ -58,7 +60,7 @@ none_appended bytes old =
       after = lines_of bytes;
       lines = refl;
       text = [];
-      replied = record { replies = []; last = Nothing; given = refl; written = refl };
+      replied = record { replies = []; last = first_stage; given = refl; written = refl };
       count = 0;
       appended = Appends-nil old;
     }

@@ -1,6 +1,7 @@
 -- How far a script has been answered, and what one more line or write makes of it.
 use Rattle.std.proofs.Common.{◌≡◌, ℕ, ◌+◌, ◌-◌, List, [], ◌∷◌, ◌++◌, length, take, drop, Option}
-use Rattle.std.proofs.Common.{Bool, false, ◌||◌, ◌&&◌, ◌==◌, refl, sym, ap, ◌∙◌, append-nil, append_assoc}
+use Rattle.std.proofs.Common.{Bool, false, ◌||◌, ◌&&◌, ◌==◌, refl, sym, ap, ◌∙◌, append-nil}
+use Rattle.std.proofs.Common.{append_assoc}
 use Rattle.std.proofs.Math.Bool.{or-false}
 use Rattle.std.proofs.lemmas.Bool.{ne_eqb}
 use Rattle.std.proofs.KnownBytes.{Appends-nil, Appends-trans}
@@ -10,15 +11,13 @@ use Rattle.std.specs.List.{flat_map}
 use Rattle.std.specs.Io.KnownBytes.{Appends}
 use Rattle.fbuf_lines.specs.Lines.{lines_of}
 use Rattle.fbuf_lines.specs.Reply.{reply_line}
-use Rattle.fbuf_lines.specs.Object.{LineGives}
+use Rattle.fbuf_lines.specs.Object.{LineGives, ScriptStage, first_stage}
 use Rattle.fbuf_calls.specs.Script.{LinesGive, IsReplyTo}
 use Rattle.fbuf_calls.specs.Script.{AppendsReplies, AppendsFirstReplies, AppendsPartOfReplies}
 use Rattle.fbuf_lines.specs.declared.reply.Reply.{Reply}
-use Rattle.fbuf_lines.specs.declared.object.Object.{Object}
-use Rattle.fbuf_lines.specs.declared.object.Object.TheVariants.{Nothing}
 
-LinesGive-push : (first : Object) (lines : List (List ℕ)) (replies : List Reply)
-    (now later : Object) (line : List ℕ) (reply : Reply)
+LinesGive-push : (first : ScriptStage) (lines : List (List ℕ)) (replies : List Reply)
+    (now later : ScriptStage) (line : List ℕ) (reply : Reply)
     → LinesGive first lines replies now → LineGives now line reply later
     → LinesGive first (lines ++ line ∷ []) (replies ++ reply ∷ []) later
 LinesGive-push first [] [] now later line reply given more = (later, rw (← given) more, refl)
@@ -29,18 +28,18 @@ LinesGive-push first (l ∷ lines) (r ∷ replies) now later line reply given mo
 
 -- The lines before the rest were answered; some of the replies were appended to the output,
 -- and the text has those that follow
-pub record RepliesSoFar (bytes rest : List ℕ) (object : Object) (first now : Option (List ℕ))
+pub record RepliesSoFar (bytes rest : List ℕ) (stage : ScriptStage) (first now : Option (List ℕ))
     (text : List ℕ) : Type 0 where
   pub done : List (List ℕ)
   pub replies : List Reply
   pub lines : lines_of bytes ≡ done ++ lines_of rest
-  pub given : LinesGive Nothing done replies object
+  pub given : LinesGive first_stage done replies stage
   pub sent : List ℕ
   pub appended : Appends first now sent
   pub written : sent ++ text ≡ flat_map reply_line replies
 
 pub RepliesSoFar-start : (bytes : List ℕ) (first : Option (List ℕ))
-    → RepliesSoFar bytes bytes Nothing first first []
+    → RepliesSoFar bytes bytes first_stage first first []
 RepliesSoFar-start bytes first =
     record {
       done = [];
@@ -52,11 +51,12 @@ RepliesSoFar-start bytes first =
       written = refl;
     }
 
-module _ (bytes rest : List ℕ) (object : Object) (first now : Option (List ℕ)) (text : List ℕ)
-    (so : RepliesSoFar bytes rest object first now text) where
+module _ (bytes rest : List ℕ) (stage : ScriptStage) (first now : Option (List ℕ)) (text : List ℕ)
+    (so : RepliesSoFar bytes rest stage first now text) where
   -- one more line
-  pub RepliesSoFar-line : (line after : List ℕ) (reply : Reply) (later : Object) (more : List ℕ)
-      → lines_of rest ≡ line ∷ lines_of after → LineGives object line reply later
+  pub RepliesSoFar-line : (line after : List ℕ) (reply : Reply) (later : ScriptStage)
+      (more : List ℕ)
+      → lines_of rest ≡ line ∷ lines_of after → LineGives stage line reply later
       → more ≡ text ++ reply_line reply → RepliesSoFar bytes after later first now more
   RepliesSoFar-line line after reply later more is gives appends =
       let joined : so.sent ++ more ≡ (so.sent ++ text) ++ reply_line reply =
@@ -66,7 +66,7 @@ module _ (bytes rest : List ℕ) (object : Object) (first now : Option (List ℕ
         done = so.done ++ line ∷ [];
         replies = so.replies ++ reply ∷ [];
         lines = so.lines ∙ rw is (sym (append_assoc so.done (line ∷ []) (lines_of after)));
-        given = LinesGive-push Nothing so.done so.replies object later line reply so.given gives;
+        given = LinesGive-push first_stage so.done so.replies stage later line reply so.given gives;
         sent = so.sent;
         appended = so.appended;
         written =
@@ -77,7 +77,7 @@ module _ (bytes rest : List ℕ) (object : Object) (first now : Option (List ℕ
 
   -- the text was appended, and is begun anew
   pub RepliesSoFar-sent : (later : Option (List ℕ)) → Appends now later text
-      → RepliesSoFar bytes rest object first later []
+      → RepliesSoFar bytes rest stage first later []
   RepliesSoFar-sent later appends =
       record {
         done = so.done;
@@ -91,7 +91,7 @@ module _ (bytes rest : List ℕ) (object : Object) (first now : Option (List ℕ
 
   replied : IsReplyTo so.done (so.sent ++ text)
   replied =
-      record { replies = so.replies; last = object; given = so.given; written = so.written }
+      record { replies = so.replies; last = stage; given = so.given; written = so.written }
 
   pub replies_whole : rest ≡ [] → (later : Option (List ℕ)) → Appends now later text
       → AppendsReplies bytes first later

@@ -128,12 +128,12 @@ fn up_to(word: &[u8], most: usize) -> Option<usize>
 
 /// Does what the words of a call ask for, and answers the exit status.
 ///
-/// `words` are those of the program's call, its name first, as `std::env::args` gives them; an error
-/// other than the want of memory says that a word was no text. With no word after the name, the
-/// script on `input` is answered on `output`; `threads N M` runs N threads, each of which wakes a
-/// slot M times, and writes a line. Status 0, or 1 with a line on `errors` where memory, a thread, a
-/// read or a write failed. Any other words: the usage text on `errors`, and status 2. A fault in
-/// writing to `errors` changes nothing.
+/// `words` are those of the program's call, its name first, as `std::env::args` gives them; an
+/// error other than the want of memory says that a word was no text. With no word after the name,
+/// the script on `input` is answered on `output`; `threads N M` runs N threads, each of which wakes
+/// a slot M times, and writes a line. Status 0, or 1 with a line on `errors` where memory, a
+/// thread, a read or a write failed. Any other words: the usage text on `errors`, and status 2. A
+/// fault in writing to `errors` changes nothing.
 ///
 /// Time and memory are those of the script or of the run of threads.
 pub fn run_words<T, R, W, E>(

@@ -3,14 +3,15 @@ ghost use Rattle.std.specs.Prelude.{◌≡◌, ◌≢◌, ◌++◌, ◌⊎◌, �
 ghost use Rattle.std.specs.Prelude.{IfOk, IfErr, OnOk, OnErr, IfSome};
 ghost use Rattle.std.specs.Io.KnownBytes.{Appends};
 ghost use Rattle.futures.specs.Task.{Keeps};
-ghost use Rattle.fbuf_calls.specs.Script.{AppendsReplies, AppendsFirstReplies, AppendsPartOfReplies};
+ghost use Rattle.fbuf_calls.specs.Script.{AppendsReplies, AppendsFirstReplies};
+ghost use Rattle.fbuf_calls.specs.Script.{AppendsPartOfReplies};
 ghost use Rattle.fbuf_lines.specs.Object.{LineGives};
 ghost use Rattle.fbuf_lines.specs.Reply.{reply_line};
 ghost use Rattle.fbuf_lines.specs.declared.reply.Reply.{Reply};
 
 use crate::watched::Watched;
 use fbuf_lines::lines::first_line;
-use fbuf_lines::object::Object;
+use fbuf_lines::object::Stage;
 use futures::task::Context;
 use std::alloc::{AllocError, Global};
 use std::io::{Read, Write};
@@ -104,25 +105,27 @@ fn answer_all<W: Write + Drop>(
         (AppendsReplies bytes.now (W.contents output.old.inner) (W.contents output.new.inner)) }
     ensures unfailed { OnOk result (output.new.failed ≡ output.old.failed) }
     ensures write { result ≡ Err ScriptFault.Write → (output.new.failed ≡ true)
-        × AppendsPartOfReplies bytes.now (W.contents output.old.inner) (W.contents output.new.inner) }
+        × AppendsPartOfReplies bytes.now (W.contents output.old.inner)
+        (W.contents output.new.inner) }
     ensures memory { result ≡ Err ScriptFault.Memory →
         AppendsFirstReplies bytes.now (W.contents output.old.inner) (W.contents output.new.inner) }
     ensures read { result ≢ Err ScriptFault.Read }
     ensures kept { Keeps cx.old cx.new }
 {
-    let mut object = Object::Nothing;
+    let mut stage = Stage::new();
     let mut replies = Vec::new(alloc);
     let mut rest = bytes;
     while let Some((line, after)) = first_line(rest) {
-        let Ok(()) = append_reply(alloc, &mut object, line, cx, &mut replies) else {
+        let Ok(()) = append_reply(alloc, &mut stage, line, cx, &mut replies) else {
             write_all(output, &replies)?;
             return Err(ScriptFault::Memory);
         };
-        if replies.len() >= WRITE_SIZE {
-            write_all(output, &replies)?;
-            replies.clear();
-        }
         rest = after;
+        if replies.len() < WRITE_SIZE {
+            continue;
+        }
+        write_all(output, &replies)?;
+        replies.clear();
     }
     write_all(output, &replies)
 }
@@ -130,17 +133,17 @@ fn answer_all<W: Write + Drop>(
 // Answers one line, and appends the reply. Where there is no memory for either, the text stays.
 fn append_reply(
     alloc: Global,
-    object: &mut Object,
+    stage: &mut Stage,
     line: &[u8],
     cx: &mut Context<'_>,
     replies: &mut Vec<u8>,
 ) -> Result<(), AllocError>
-    ensures ok { OnOk result ((reply : Reply) × LineGives object.old line.now reply object.new
+    ensures ok { OnOk result ((reply : Reply) × LineGives stage.old line.now reply stage.new
         × (replies.new.items ≡ replies.old.items ++ reply_line reply)) }
     ensures err { OnErr result (replies.new.items ≡ replies.old.items) }
     ensures kept { Keeps cx.old cx.new }
 {
-    let reply = object.answer(alloc, line, cx)?;
+    let reply = stage.answer(alloc, line, cx)?;
     reply.append_to(replies)
 }
 

@@ -33,6 +33,10 @@ pub const MAX_THREADS: usize = 32;
 /// How many wakes each of its threads makes at most.
 pub const MAX_WAKES: usize = 1000000;
 
+const _: () = prove!(MAX_THREADS == 32);
+
+const _: () = prove!(MAX_WAKES == 1000000);
+
 /// Why a run printed nothing, or not all of its line.
 #[derive(Clone, Copy, Debug, PartialEq, Eq, Error)]
 pub enum ThreadsFault {
@@ -356,9 +360,9 @@ fn write_line<W: io::Write>(output: &mut W, n: usize, m: usize, outputs: &[usize
 }
 
 /// Holds `n` futures in a set, and starts as many threads. Thread i adds one to the counter of
-/// future i and wakes its slot, `m` times, and passes the gate before and after each of these wakes.
-/// Future i answers i once its counter is `m`. The line that is written has the numbers that were
-/// answered, in rising order, and is flushed.
+/// future i and wakes its slot, `m` times, and passes the gate before and after each of these
+/// wakes. Future i answers i once its counter is `m`. The line that is written has the numbers that
+/// were answered, in rising order, and is flushed.
 ///
 /// Each thread that was started has ended when this returns, also at a fault. The memory is that of
 /// `n` threads, slots and counters; a wake takes a lock of the set's source and none of another

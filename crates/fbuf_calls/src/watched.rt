@@ -24,7 +24,7 @@ impl<T: Drop> Model for Watched<T> {
 }
 
 impl<T: Drop> Watched<T> {
-    /// Nothing has failed yet.
+    /// Nothing has failed yet. No memory is taken, here and in the other calls.
     pub fn new(inner: T) -> Self
         ensures { result ≡ record { inner = inner; failed = false } }
     {
@@ -55,7 +55,8 @@ impl<R: Read + Drop> Read for Watched<R> {
 
     fn read(&mut self, buf: &mut [u8]) -> io::Result<usize>
         ensures bound { ReadsAtMost result buf.new }
-        ensures bytes { ReadConsumes (R.remaining self.old.inner) (R.remaining self.new.inner) result buf.new }
+        ensures bytes { ReadConsumes (R.remaining self.old.inner) (R.remaining self.new.inner)
+            result buf.new }
         ensures failed { self.new.failed ≡ (self.old.failed || is_err result) }
     {
         let result = self.inner.read(buf);
@@ -69,7 +70,8 @@ impl<W: Write + Drop> Write for Watched<W> {
 
     fn write(&mut self, buf: &[u8]) -> io::Result<usize>
         ensures bound { WritesAtMost result buf.now }
-        ensures bytes { WriteAppends (W.contents self.old.inner) (W.contents self.new.inner) result buf.now }
+        ensures bytes { WriteAppends (W.contents self.old.inner) (W.contents self.new.inner)
+            result buf.now }
         ensures failed { self.new.failed ≡ (self.old.failed || write_failed result buf.now) }
     {
         let result = self.inner.write(buf);

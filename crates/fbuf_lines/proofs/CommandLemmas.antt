@@ -1,5 +1,8 @@
 -- A word, and what stands behind it, come from their text in one way; and the numbers of a command.
-use Rattle.std.proofs.Common.{◌≡◌, ◌≢◌, ℕ, zero, suc, ◌^◌, ◌<◌, ◌≤◌, true, false, Bool, eqb, List, [], ◌∷◌, ◌++◌, length, take, get_or, Option, Some, None, IfSome, IfNone, is_some, codes, Result, Ok, Err, MatchResult, rules, refl, sym, ap, arith, inl, inr, true≢false, ◌∙◌}
+use Rattle.std.proofs.Common.{◌≡◌, ◌≢◌, ℕ, zero, suc, ◌^◌, ◌<◌, ◌≤◌, true, false, Bool, eqb, List}
+use Rattle.std.proofs.Common.{[], ◌∷◌, ◌++◌, length, take, get_or, Option, Some, None, IfSome}
+use Rattle.std.proofs.Common.{IfNone, is_some, codes, Result, Ok, Err, MatchResult, rules, refl}
+use Rattle.std.proofs.Common.{sym, ap, arith, inl, inr, true≢false, ◌∙◌}
 use lib.Pointwise.{pointwise}
 use Rattle.std.specs.Borrow.{Bor}
 use Rattle.std.specs.Result.{result_ok}
@@ -8,14 +11,19 @@ use Rattle.std.proofs.lemmas.Str.{IsUtf8-from_ascii}
 use Rattle.std.specs.Fmt.{decimal}
 use Rattle.std.specs.List.{list_any, flat_map}
 use Rattle.std.specs.Str.Parse.{AllDigits, digits_value, ParsesUnsigned}
-use Rattle.std.proofs.lemmas.Fmt.{decimal_digit, decimal_is_IsNumeral, decimal_nonempty, first_decimal, decimal-digits_value, parse-decimal, IsAscii-decimal}
-use Rattle.std.proofs.lemmas.Str.Parse.{IsNumeralModel, numerals_by_value, digit_from_value, digit_at, parse_plain}
+use Rattle.std.proofs.lemmas.Fmt.{decimal_digit, decimal_is_IsNumeral, decimal_nonempty}
+use Rattle.std.proofs.lemmas.Fmt.{first_decimal, decimal-digits_value, parse-decimal}
+use Rattle.std.proofs.lemmas.Fmt.{IsAscii-decimal}
+use Rattle.std.proofs.lemmas.Str.Parse.{IsNumeralModel, numerals_by_value, digit_from_value}
+use Rattle.std.proofs.lemmas.Str.Parse.{digit_at, parse_plain}
 use Rattle.std.proofs.lemmas.Bool.{or_left, or_from, or_parts, ne_eqb, eq-eqb}
 use Rattle.std.proofs.lemmas.Bool.Decides.{eqb_tells}
 use Rattle.std.proofs.lemmas.Slice.Eq.{bytes_eq-Decides}
 use Rattle.fbuf_lines.specs.declared.command.Command.{Command}
-use Rattle.fbuf_lines.specs.declared.command.Command.TheVariants.{Unordered, Steps, Push, Wake, Poll, Len, Mark, Go, Step}
-use Rattle.fbuf_lines.specs.Command.{HasNoSpace, StartsAsNumber, word_of, numbers_of, text_of, spaced_number, rest_text}
+use Rattle.fbuf_lines.specs.declared.command.Command.TheVariants.{Unordered, Steps, Push, Wake}
+use Rattle.fbuf_lines.specs.declared.command.Command.TheVariants.{Poll, Len, Mark, Go, Step}
+use Rattle.fbuf_lines.specs.Command.{HasNoSpace, StartsAsNumber, word_of, numbers_of, text_of}
+use Rattle.fbuf_lines.specs.Command.{spaced_number, rest_text}
 use Rattle.fbuf_lines.proofs.LinesLemmas.{IsAbsentBefore, IsAbsentBefore-rest}
 
 -- nothing, or a space first
@@ -23,7 +31,8 @@ abbrev pub IsRest : List ℕ → Type 0
 IsRest [] = Unit {0}
 IsRest (b ∷ rest) = b ≡ 32
 
-pub HasNoSpace-take : (text : List ℕ) (k : ℕ) → k ≤ length text → IsAbsentBefore 32 text k → HasNoSpace (take k text)
+pub HasNoSpace-take : (text : List ℕ) (k : ℕ) → k ≤ length text → IsAbsentBefore 32 text k
+    → HasNoSpace (take k text)
 HasNoSpace-take text zero within none = refl
 HasNoSpace-take [] (suc k) within none = refl
 HasNoSpace-take (b ∷ text) (suc k) within none =
@@ -35,7 +44,8 @@ HasNoSpace-take (b ∷ text) (suc k) within none =
 first_no_space : (b : ℕ) (word : List ℕ) → HasNoSpace (b ∷ word) → b ≡ 32 → ⊥
 first_no_space b word none space = true≢false (sym (or_left (eqb b 32) (list_any (λ x. eqb x 32) word) (eq-eqb b 32 space)) ∙ none)
 
-pub cut_one_way : (word other rest more : List ℕ) → HasNoSpace word → HasNoSpace other → IsRest rest → IsRest more → word ++ rest ≡ other ++ more → (word ≡ other) × (rest ≡ more)
+pub cut_one_way : (word other rest more : List ℕ) → HasNoSpace word → HasNoSpace other → IsRest rest
+    → IsRest more → word ++ rest ≡ other ++ more → (word ≡ other) × (rest ≡ more)
 cut_one_way [] [] rest more one two first second e = (refl, e)
 cut_one_way [] (b ∷ other) [] more one two first second e = cc
 cut_one_way [] (b ∷ other) (x ∷ rest) more one two first second e = let same : x ≡ b = cc in absurd (first_no_space b other two (sym same ∙ first))
@@ -69,21 +79,27 @@ decimal_starts n fits =
     alone (suc k) fits zero_first = absurd (omega (arith, first_decimal (suc k) (omega arith) fits))
 
 -- the number that was parsed is the one that is written, and where none was parsed none is
-pub number_some : {E : Type 0} (text : List ℕ) (r : Result ℕ E) → StartsAsNumber text → ParsesUnsigned 64 10 text r → IfSome (result_ok r) (λ n. text ≡ decimal n)
+pub number_some : {E : Type 0} (text : List ℕ) (r : Result ℕ E) → StartsAsNumber text
+    → ParsesUnsigned 64 10 text r → IfSome (result_ok r) (λ n. text ≡ decimal n)
 number_some {E} text (Ok n) starts parses =
     let is = parse_plain numeral {E = E} 64 text (Ok n) parses (λ plus. omega (arith, starts.low)) in
     rw (is.1) (sym (decimal-digits_value numeral text (is.0.0) (starts.some) (starts.zero_alone) (is.0.2)))
 number_some {E} text (Err e) starts parses = tt
 
-pub number_none : {E : Type 0} (text : List ℕ) (r : Result ℕ E) → ParsesUnsigned 64 10 text r → IfNone (result_ok r) ((n : ℕ) → n < 2 ^ 64 → text ≢ decimal n)
+pub number_none : {E : Type 0} (text : List ℕ) (r : Result ℕ E) → ParsesUnsigned 64 10 text r
+    → IfNone (result_ok r) ((n : ℕ) → n < 2 ^ 64 → text ≢ decimal n)
 number_none text (Ok n) parses = tt
 number_none text (Err e) parses = λ n fits same. let gives = parse-decimal 64 n text (Err e) fits fits same parses in cc
 
-pub not_utf8 : {T E : Type 0} (text : List ℕ) (r : Result T E) (P : T → Type 0) (R : E → Type 0) → result_ok r ≡ None → MatchResult r P (λ e. (IsUtf8 text → ⊥) × R e) → (n : ℕ) → n < 2 ^ 64 → text ≢ decimal n
+pub not_utf8 : {T E : Type 0} (text : List ℕ) (r : Result T E) (P : T → Type 0) (R : E → Type 0)
+    → result_ok r ≡ None → MatchResult r P (λ e. (IsUtf8 text → ⊥) × R e) → (n : ℕ) → n < 2 ^ 64
+    → text ≢ decimal n
 not_utf8 text (Ok x) P R none cases = cc
 not_utf8 text (Err e) P R none cases = λ n fits same. cases.0 (rw same (IsUtf8-from_ascii (decimal n) (IsAscii-decimal n fits)))
 
-pub same_text : {E : Type 0} (text : List ℕ) (r : Result (Bor (List ℕ)) E) (P : Type 0) (R : E → Type 0) (read : Bor (List ℕ)) → result_ok r ≡ Some read → MatchResult r (λ s. (s.now ≡ text) × P) R → read.now ≡ text
+pub same_text : {E : Type 0} (text : List ℕ) (r : Result (Bor (List ℕ)) E) (P : Type 0)
+    (R : E → Type 0) (read : Bor (List ℕ))
+    → result_ok r ≡ Some read → MatchResult r (λ s. (s.now ≡ text) × P) R → read.now ≡ text
 same_text text (Ok s) P R read ok cases = let same : s ≡ read = cc in rw (← same) cases.0
 same_text text (Err e) P R read ok cases = cc
 
@@ -92,7 +108,9 @@ rest_is None = tt
 rest_is (Some rest) = refl
 
 -- two numbers behind a word are read in one way
-pub two_parts : (text first rest : List ℕ) → HasNoSpace first → IsRest rest → text ≡ first ++ rest → (m n : ℕ) → m < 2 ^ 64 → 32 ∷ text ≡ spaced_number m ++ spaced_number n → (first ≡ decimal m) × (rest ≡ spaced_number n)
+pub two_parts : (text first rest : List ℕ) → HasNoSpace first → IsRest rest → text ≡ first ++ rest
+    → (m n : ℕ) → m < 2 ^ 64 → 32 ∷ text ≡ spaced_number m ++ spaced_number n
+    → (first ≡ decimal m) × (rest ≡ spaced_number n)
 two_parts text first rest word is whole m n fits e = cut_one_way first (decimal m) rest (spaced_number n) word (decimal_no_space m fits) is refl (cc)
 
 word_no_space : (command : Command) → HasNoSpace (word_of command)
@@ -118,13 +136,17 @@ numbers_rest (Go seat) = refl
 numbers_rest Step = tt
 
 -- the word of a line is that of its command, and its numbers stand behind
-pub command_parts : (line word rest : List ℕ) → HasNoSpace word → IsRest rest → line ≡ word ++ rest → (command : Command) → line ≡ text_of command → (word ≡ word_of command) × (rest ≡ flat_map spaced_number (numbers_of command))
+pub command_parts : (line word rest : List ℕ) → HasNoSpace word → IsRest rest → line ≡ word ++ rest
+    → (command : Command) → line ≡ text_of command
+    → (word ≡ word_of command) × (rest ≡ flat_map spaced_number (numbers_of command))
 command_parts line word rest none is whole command e =
     cut_one_way word (word_of command) rest (flat_map spaced_number (numbers_of command)) none (word_no_space command) is (numbers_rest command) (sym whole ∙ e)
 
 -- a text behind the word, where the word is none of those that numbers follow
-pub no_bare_word : (line word : List ℕ) (rest : Option (Bor (List ℕ))) → HasNoSpace word → line ≡ word ++ rest_text rest → is_some rest ≡ true
-    → word ≢ codes "unordered" → word ≢ codes "steps" → word ≢ codes "push" → word ≢ codes "wake" → word ≢ codes "mark" → word ≢ codes "go" → (command : Command) → line ≢ text_of command
+pub no_bare_word : (line word : List ℕ) (rest : Option (Bor (List ℕ))) → HasNoSpace word
+    → line ≡ word ++ rest_text rest → is_some rest ≡ true
+    → word ≢ codes "unordered" → word ≢ codes "steps" → word ≢ codes "push" → word ≢ codes "wake"
+    → word ≢ codes "mark" → word ≢ codes "go" → (command : Command) → line ≢ text_of command
 no_bare_word line word rest none whole some not_unordered not_steps not_push not_wake not_mark not_go command e =
     by_command command (command_parts line word (rest_text rest) none (rest_is rest) whole command e)
   where
@@ -132,7 +154,9 @@ no_bare_word line word rest none whole some not_unordered not_steps not_push not
     more None some empty = cc
     more (Some rest) some empty = cc
 
-    by_command : (command : Command) → (word ≡ word_of command) × (rest_text rest ≡ flat_map spaced_number (numbers_of command)) → ⊥
+    by_command : (command : Command)
+        → (word ≡ word_of command) × (rest_text rest ≡ flat_map spaced_number (numbers_of command))
+        → ⊥
     by_command (Unordered capacity) parts = not_unordered parts.0
     by_command (Steps capacity) parts = not_steps parts.0
     by_command (Push future) parts = not_push parts.0
@@ -144,6 +168,7 @@ no_bare_word line word rest none whole some not_unordered not_steps not_push not
     by_command Step parts = more rest some parts.1
 
 -- what a comparison that failed says
-pub other_word : (word text codes : List ℕ) (test : Bool) → test ≡ pointwise eqb word text → test ≡ false → text ≡ codes → word ≢ codes
+pub other_word : (word text codes : List ℕ) (test : Bool) → test ≡ pointwise eqb word text
+    → test ≡ false → text ≡ codes → word ≢ codes
 other_word word text codes test compared failed is same =
     true≢false (sym ((bytes_eq-Decides word text).1 (same ∙ sym is)) ∙ sym compared ∙ failed)

@@ -1,5 +1,6 @@
 -- The first line of a text, by the place of its line feed.
-use Rattle.std.proofs.Common.{◌≡◌, ℕ, zero, suc, ◌<◌, true, eqb, List, [], ◌∷◌, length, take, drop, get_or, refl, ap, arith, inl, inr}
+use Rattle.std.proofs.Common.{◌≡◌, ℕ, zero, suc, ◌<◌, true, eqb, List, [], ◌∷◌, length, take, drop}
+use Rattle.std.proofs.Common.{get_or, refl, ap, arith, inl, inr}
 use Rattle.std.proofs.lemmas.Bool.Decides.{eqb_tells}
 use Rattle.std.specs.Str.TwoWay.{Nowhere}
 use Rattle.fbuf_lines.specs.Lines.{lines_of, onto_first}
@@ -12,7 +13,8 @@ pub IsAbsentBefore-rest : (byte b k : ℕ) (text : List ℕ)
     → IsAbsentBefore byte (b ∷ text) (suc k) → IsAbsentBefore byte text k
 IsAbsentBefore-rest byte b k text none j low below = none (suc j) (omega arith) (omega arith)
 
-pub lines_of-feed : (text : List ℕ) (k : ℕ) → k < length text → IsAbsentBefore 10 text k → eqb (get_or text k 0) 10 ≡ true → lines_of text ≡ take k text ∷ lines_of (drop (suc k) text)
+pub lines_of-feed : (text : List ℕ) (k : ℕ) → k < length text → IsAbsentBefore 10 text k
+    → eqb (get_or text k 0) 10 ≡ true → lines_of text ≡ take k text ∷ lines_of (drop (suc k) text)
 lines_of-feed [] k within none feed = absurd (omega arith)
 lines_of-feed (b ∷ text) zero within none feed = rw feed refl
 lines_of-feed (b ∷ text) (suc k) within none feed =
@@ -21,7 +23,8 @@ lines_of-feed (b ∷ text) (suc k) within none feed =
       | inr other ↦ rw (other.0) (ap (onto_first b) (lines_of-feed text k (omega arith) (IsAbsentBefore-rest 10 b k text none) feed))
     ]
 
-pub lines_of-last : (text : List ℕ) → 0 < length text → IsAbsentBefore 10 text (length text) → lines_of text ≡ text ∷ []
+pub lines_of-last : (text : List ℕ) → 0 < length text → IsAbsentBefore 10 text (length text)
+    → lines_of text ≡ text ∷ []
 lines_of-last [] some none = absurd (omega arith)
 lines_of-last (b ∷ []) some none =
     elim (eqb_tells b 10) [

@@ -35,9 +35,22 @@ abbrev pub new_standing : ℕ → Standing
 new_standing capacity = record { capacity = capacity; marked = [] }
 
 -- no future, every place free, no slot marked
-abbrev pub new_bounded : ℕ → TimedBounded
-new_bounded capacity =
-    record { slots = no_slots capacity; source = new_standing capacity; limit = POLL_LIMIT }
+abbrev pub new_bounded : ℕ → ℕ → TimedBounded
+new_bounded capacity limit =
+    record { slots = no_slots capacity; source = new_standing capacity; limit = limit }
+
+-- how far a script has come: what was begun last, and how many names one poll takes at most
+pub record ScriptStage : Type 0 where
+  pub object : Object
+  pub limit : ℕ
+
+-- no line sets the limit
+abbrev pub stage_of : Object → ScriptStage
+stage_of object = record { object = object; limit = POLL_LIMIT }
+
+-- nothing was begun yet
+abbrev pub first_stage : ScriptStage
+first_stage = stage_of object.Nothing
 
 -- one poll of the set; registering leaves the standing as it is
 abbrev pub PollsSet : TimedBounded → PollAnswer (Option ℕ) → TimedBounded → Type 0
@@ -84,13 +97,14 @@ MachineGives old Step reply new = StepGives old step.Poll reply new
 MachineGives old command reply new = (reply ≡ Bad) × (new ≡ old)
 
 -- a capacity that is too large begins nothing
-abbrev pub RefusesLarge : Object → ℕ → Reply → Object → Type 0
+abbrev pub RefusesLarge : ScriptStage → ℕ → Reply → ScriptStage → Type 0
 RefusesLarge old capacity reply new = (reply ≡ TooLarge) × (MAX_CAPACITY < capacity) × (new ≡ old)
 
 -- a line that begins a bounded set
-abbrev pub BeginsSet : Object → ℕ → Reply → Object → Type 0
+abbrev pub BeginsSet : ScriptStage → ℕ → Reply → ScriptStage → Type 0
 BeginsSet old capacity reply new =
-    ((reply ≡ Done) × (capacity ≤ MAX_CAPACITY) × (new ≡ object.Unordered (new_bounded capacity)))
+    ((reply ≡ Done) × (capacity ≤ MAX_CAPACITY)
+    × (new ≡ record old { object = object.Unordered (new_bounded capacity old.limit) }))
     ⊎ RefusesLarge old capacity reply new
 
 -- an object that is a machine with no step made
@@ -99,9 +113,10 @@ IsNewMachine capacity new =
     (machine : Machine) × IsNew capacity machine × (new ≡ object.Steps machine)
 
 -- a line that begins a machine
-abbrev pub BeginsMachine : Object → ℕ → Reply → Object → Type 0
+abbrev pub BeginsMachine : ScriptStage → ℕ → Reply → ScriptStage → Type 0
 BeginsMachine old capacity reply new =
-    ((reply ≡ Done) × (capacity ≤ MAX_CAPACITY) × IsNewMachine capacity new)
+    ((reply ≡ Done) × (capacity ≤ MAX_CAPACITY) × IsNewMachine capacity new.object
+    × (new.limit ≡ old.limit))
     ⊎ RefusesLarge old capacity reply new
 
 -- a command to what was begun last; before anything is begun none stands
@@ -113,13 +128,14 @@ ObjectGives (object.Steps old) command reply new =
     (machine : Machine) × MachineGives old command reply machine × (new ≡ object.Steps machine)
 
 -- a command that begins something stands always
-abbrev pub CommandGives : Object → Command → Reply → Object → Type 0
+abbrev pub CommandGives : ScriptStage → Command → Reply → ScriptStage → Type 0
 CommandGives old (Unordered capacity) reply new = BeginsSet old capacity reply new
 CommandGives old (Steps capacity) reply new = BeginsMachine old capacity reply new
-CommandGives old command reply new = ObjectGives old command reply new
+CommandGives old command reply new =
+    ObjectGives old.object command reply new.object × (new.limit ≡ old.limit)
 
 -- one line: what it asks for, or `bad`
-abbrev pub LineGives : Object → List ℕ → Reply → Object → Type 0
+abbrev pub LineGives : ScriptStage → List ℕ → Reply → ScriptStage → Type 0
 LineGives old line reply new =
     (asked : Option Command)
     × LineAsksFor line asked

@@ -8,7 +8,7 @@
 //! - `timed`: `Timed`, the future of a script, pending a number of times and then a number.
 //! - `command`: `Command`, what a line asks for, and `parse`, which reads it.
 //! - `reply`: `Reply`, what a line is answered, and how it is written.
-//! - `object`: `Object`, what a script has begun, and `answer`, what one line does to it.
+//! - `object`: `Stage`, how far a script has come, and `answer`, what one line does to it.
 #![tactic(auto)]
 
 pub mod command;

@@ -2,7 +2,8 @@
 ghost use Rattle.std.specs.Prelude.{◌≡◌, ◌<◌, ◌≤◌, IfOk, OnErr};
 ghost use Rattle.futures.specs.Task.{Keeps};
 ghost use Rattle.fbuf_lines.specs.Object.{LineGives, ObjectGives, SetGives, MachineGives};
-ghost use Rattle.fbuf_lines.specs.Object.{StepGives, BeginsSet, BeginsMachine, new_bounded};
+ghost use Rattle.fbuf_lines.specs.Object.{StepGives, BeginsSet, BeginsMachine};
+ghost use Rattle.fbuf_lines.specs.Object.{new_bounded, first_stage};
 
 use crate::command::{Command, parse};
 use crate::reply::Reply;
@@ -11,8 +12,9 @@ use futures::task::Context;
 use futures_buffered_core::ready_core::{MAX_CAPACITY, NewFault};
 use futures_buffered_core::ready_source::{CoreSource, NewSource};
 use futures_buffered_core::ready_table::{Step, StepMachine};
-use futures_buffered_sets::futures_unordered_bounded::FuturesUnorderedBounded;
+use futures_buffered_sets::futures_unordered_bounded::{FuturesUnorderedBounded, POLL_LIMIT};
 use std::alloc::{AllocError, Global};
+use std::marker::Model;
 
 /// A bounded set of the script's futures, over a ready core.
 pub type TimedSet = FuturesUnorderedBounded<Timed, CoreSource>;
@@ -28,12 +30,36 @@ pub enum Object {
     Steps(StepMachine),
 }
 
-impl Object {
+/// How far a script has come: what it began last, and how many names one poll of its sets takes.
+#[derive(Drop)]
+pub struct Stage {
+    object: Object,
+}
+
+impl Model for Stage {
+    ghost use Rattle.fbuf_lines.specs.Object.{ScriptStage, stage_of};
+
+    ghost Value = { ScriptStage };
+
+    ghost view = { λ stage. stage_of stage.object };
+}
+
+impl Stage {
+    /// Nothing was begun yet. Takes no memory.
+    pub fn new() -> Stage
+        ensures { result ≡ first_stage }
+    {
+        Stage {
+            object: Object::Nothing,
+        }
+    }
+
     /// Answers one line.
     ///
-    /// The time is that of the line's bytes and of the one call that it asks for: a line that begins
-    /// an object, and the drop of the one before it, take time and memory in its capacity; the
-    /// other lines take no memory. `Err` says that the memory of a new object was refused.
+    /// The time is that of the line's bytes and of the one call that it asks for. A line that
+    /// begins an object takes time and memory in its capacity, and the drop of the one before it
+    /// takes time in that one's; the other lines take no memory. `Err` says that the memory of a
+    /// new object was refused.
     pub fn answer(
         &mut self,
         alloc: Global,
@@ -59,7 +85,7 @@ impl Object {
     {
         match new_set(alloc, capacity) {
             Ok(set) => {
-                *self = Object::Unordered(set);
+                self.object = Object::Unordered(set);
                 Ok(Reply::Done)
             }
             Err(NewFault::TooLarge) => Ok(Reply::TooLarge),
@@ -74,7 +100,7 @@ impl Object {
     {
         match StepMachine::new(alloc, capacity) {
             Ok(machine) => {
-                *self = Object::Steps(machine);
+                self.object = Object::Steps(machine);
                 Ok(Reply::Done)
             }
             Err(NewFault::TooLarge) => Ok(Reply::TooLarge),
@@ -83,10 +109,11 @@ impl Object {
     }
 
     fn carry_out(&mut self, command: Command, cx: &mut Context<'_>) -> Reply
-        ensures reply { ObjectGives self.old command result self.new }
+        ensures reply { ObjectGives self.old.object command result self.new.object }
+        ensures limit { self.new.limit ≡ self.old.limit }
         ensures kept { Keeps cx.old cx.new }
     {
-        match self {
+        match &mut self.object {
             Object::Nothing => Reply::Bad,
             Object::Unordered(set) => set_reply(set, command, cx),
             Object::Steps(machine) => machine_reply(machine, command),
@@ -95,7 +122,8 @@ impl Object {
 }
 
 fn new_set(alloc: Global, capacity: usize) -> Result<TimedSet, NewFault>
-    ensures ok { IfOk result (λ set. (set ≡ new_bounded capacity) × (capacity ≤ MAX_CAPACITY)) }
+    ensures ok { IfOk result (λ set.
+        (set ≡ new_bounded capacity POLL_LIMIT) × (capacity ≤ MAX_CAPACITY)) }
     ensures large { result ≡ Err NewFault.TooLarge → MAX_CAPACITY < capacity }
 {
     let source = CoreSource::make(&(), alloc, capacity)?;

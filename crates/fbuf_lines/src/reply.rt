@@ -113,8 +113,8 @@ impl Reply {
         }
     }
 
-    /// Appends the reply's line to the text, of at most 26 bytes. It takes memory where the text has
-    /// no room left, and `Err` says that this was refused.
+    /// Appends the reply's line, of at most 26 bytes, to the text. It takes memory where the text
+    /// has no room left, and `Err` says that this was refused.
     pub fn append_to(self, text: &mut Vec<u8>) -> Result<(), AllocError>
         ensures ok { OnOk result (text.new.items ≡ text.old.items ++ reply_line self) }
         ensures err { OnErr result (text.new.items ≡ text.old.items) }

@@ -1,7 +1,8 @@
 use Rattle.std.proofs.Common.{◌≡◌, sym, ◌∙◌, arith}
 use Rattle.std.proofs.lemmas.Fmt.{decimal_injective}
 use Rattle.fbuf_calls.proofs.program_words.up_to.Goals as goal
-use Rattle.fbuf_calls.proofs.program_words.up_to.Goals.{then-n-eq0-via-then-n-eq0, then-n-eq0-via-else-n-eq0+then-n-most}
+use Rattle.fbuf_calls.proofs.program_words.up_to.Goals.{then-n-eq0-via-then-n-eq0}
+use Rattle.fbuf_calls.proofs.program_words.up_to.Goals.{then-n-eq0-via-else-n-eq0+then-n-most}
 
 pub returns-then-n-eq0-clause-none : goal.returns-then-n-eq0-clause-none
 returns-then-n-eq0-clause-none c = λ m low high is.

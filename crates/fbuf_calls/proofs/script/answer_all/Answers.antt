@@ -8,7 +8,7 @@ pub loop-line-init : goal.loop-line-init
 loop-line-init g c =
     let start = RepliesSoFar-start c.args.bytes.now (g.W.Write.contents c.args.output.now.inner) in
     record {
-      so_far = rw c.new-replies.ensures.items start;
+      so_far = rw (c.new-replies.ensures.items, c.new-stage.ensures) start;
       unfailed = refl;
       kept = λ fact holds. holds;
     }
@@ -34,24 +34,24 @@ returns-in_err-write_all-2-clause-write g c = λ is.
     let given = c.in-Ok.ensures.ok in
     let so = RepliesSoFar-line c.args.bytes.now _ _ _ _ _ c.loop-line.invariant.so_far
     c.in-Some.line.now c.in-Some.after.now given.0 _ _ c.in-Some.ensures.first given.1 given.2 in
-    let text = c.deref-then-len-ge-WRITE_SIZE.ensures.value in
+    let text = c.deref-in-Some.ensures.value in
     (fault.1, replies_in_part c.args.bytes.now _ _ _ _ _ so fault.2.0 _ _ text fault.2.1)
 
-pub loop-line-preserved-in_ok-write_all-2 : goal.loop-line-preserved-in_ok-write_all-2
-loop-line-preserved-in_ok-write_all-2 g c =
+pub loop-line-preserved : goal.loop-line-preserved
+loop-line-preserved g c =
     let given = c.in-Ok.ensures.ok in
     let so = RepliesSoFar-line c.args.bytes.now _ _ _ _ _ c.loop-line.invariant.so_far
     c.in-Some.line.now c.in-Some.after.now given.0 _ _ c.in-Some.ensures.first given.1 given.2 in
     let appends =
-    rw c.deref-then-len-ge-WRITE_SIZE.ensures.value at c.in_ok-write_all-2.ensures.ok in
+    rw c.deref-in-Some.ensures.value at c.in_ok-write_all-2.ensures.ok in
     record {
       so_far = rw c.clear.ensures.items (RepliesSoFar-sent c.args.bytes.now _ _ _ _ _ so _ appends);
       unfailed = c.in_ok-write_all-2.ensures.unfailed ∙ c.loop-line.invariant.unfailed;
       kept = λ fact holds. c.append_reply.ensures.kept fact (c.loop-line.invariant.kept fact holds);
     }
 
-pub loop-line-preserved : goal.loop-line-preserved
-loop-line-preserved g c =
+pub loop-line-preserved-then-len-lt-WRITE_SIZE : goal.loop-line-preserved-then-len-lt-WRITE_SIZE
+loop-line-preserved-then-len-lt-WRITE_SIZE g c =
     let given = c.in-Ok.ensures.ok in
     record {
       so_far = RepliesSoFar-line c.args.bytes.now _ _ _ _ _ c.loop-line.invariant.so_far

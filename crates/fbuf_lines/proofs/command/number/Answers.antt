@@ -1,4 +1,5 @@
-use Rattle.fbuf_lines.proofs.CommandLemmas.{decimal_starts, number_some, number_none, not_utf8, same_text}
+use Rattle.fbuf_lines.proofs.CommandLemmas.{decimal_starts, number_some, number_none, not_utf8}
+use Rattle.fbuf_lines.proofs.CommandLemmas.{same_text}
 use Rattle.std.proofs.Common.{sym, ◌∙◌}
 use Rattle.fbuf_lines.proofs.command.number.Goals as goal
 
