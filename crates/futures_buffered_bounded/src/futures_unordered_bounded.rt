@@ -230,7 +230,7 @@ impl<F: Drop, S: ReadySource> FuturesUnorderedBounded<F, S> {
             → is_some (value_in self.new.slots j) ≡ is_some (value_in self.old.slots j) }
         ensures covered { OnPending result (Covers cx.new (S.needs self.new.source)) }
         ensures woken { OnPending result (IsWoken cx.new
-            ⊎ SaidEmpty S.takes self.new.source × S.registers_poll self.old.source cx.old cx.new) }
+            ⊎ (SaidEmpty S.takes self.new.source × S.registers_poll self.old.source cx.old cx.new)) }
         ensures only_registered { IfReady result (λ _.
             S.registers_poll self.old.source cx.old cx.new) }
         ensures kept { Keeps cx.old cx.new }
@@ -280,7 +280,7 @@ impl<F: Drop, S: ReadySource> FuturesUnorderedBounded<F, S> {
         ensures limit { self.new.limit ≡ self.old.limit }
         ensures covered { OnPending result (Covers cx.new (S.needs self.new.source)) }
         ensures woken { OnPending result (IsWoken cx.new
-            ⊎ SaidEmpty S.takes self.new.source × S.registers_poll self.old.source cx.old cx.new) }
+            ⊎ (SaidEmpty S.takes self.new.source × S.registers_poll self.old.source cx.old cx.new)) }
         ensures untouched { IfReady result (λ o. IfNone o (cx.new ≡ cx.old)) }
         ensures only_registered { IfReady result (λ o. OnSome o
             (S.registers_poll self.old.source cx.old cx.new)) }
@@ -328,7 +328,7 @@ impl<F: SlotFuture<S::Waker>, S: ReadySource> Stream for FuturesUnorderedBounded
         ensures limit { self.new.limit ≡ self.old.limit }
         ensures registered { OnPending result (Covers cx.new (S.needs self.new.source)) }
         ensures woken { OnPending result (IsWoken cx.new
-            ⊎ SaidEmpty S.takes self.new.source × S.registers_poll self.old.source cx.old cx.new) }
+            ⊎ (SaidEmpty S.takes self.new.source × S.registers_poll self.old.source cx.old cx.new)) }
         ensures untouched { IfReady result (λ o. IfNone o (cx.new ≡ cx.old)) }
         ensures only_registered { IfReady result (λ o. OnSome o
             (S.registers_poll self.old.source cx.old cx.new)) }

@@ -27,6 +27,8 @@ impl Model for Rationed {
 }
 
 impl ReadySource for Rationed {
+    ghost use Rattle.futures.specs.Task.{IsArmed, Keeps};
+
     type Waker = Silent;
 
     ghost slots = { λ s. s.capacity };
@@ -36,6 +38,8 @@ impl ReadySource for Rationed {
     ghost takes = { Takes };
 
     ghost registers = { λ old new. new ≡ old };
+
+    ghost registers_poll = { λ _ old new. IsArmed new × Keeps old new };
 
     ghost needs = { λ _ _. ⊥ };
 
