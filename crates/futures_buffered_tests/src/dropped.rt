@@ -6,24 +6,20 @@ use std::sync::Arc;
 use std::sync::atomic::AtomicU64;
 use std::sync::atomic::Ordering::SeqCst;
 
-/// Is ready once `polls_left` is 0, and adds one to `drops` when it is dropped.
+/// Ready at its first poll. It adds one to `drops` when it is dropped.
 pub struct Dropped {
     drops: Arc<AtomicU64>,
-    polls_left: u64,
 }
 
 impl Dropped {
-    pub fn new(drops: Arc<AtomicU64>, polls_left: u64) -> Dropped {
-        Dropped { drops, polls_left }
+    pub fn new(drops: Arc<AtomicU64>) -> Dropped {
+        Dropped { drops }
     }
 }
 
 impl Drop for Dropped {
     fn drop(self) {
-        let Dropped {
-            drops,
-            polls_left: _,
-        } = self;
+        let Dropped { drops } = self;
         drops.fetch_add(1, SeqCst);
     }
 }
@@ -32,10 +28,6 @@ impl<W: WakesSlot> SlotFuture<W> for Dropped {
     type Output = ();
 
     fn poll(&mut self, _waker: &W) -> Poll<()> {
-        if self.polls_left == 0 {
-            return Poll::Ready(());
-        }
-        self.polls_left -= 1;
-        Poll::Pending
+        Poll::Ready(())
     }
 }

@@ -23,8 +23,8 @@ fn counter(alloc: Global) -> Result<Arc<AtomicU64>, AllocError> {
     Ok(Arc::new(alloc, AtomicU64::new(0))?)
 }
 
-fn future(drops: &Arc<AtomicU64>, polls_left: u64) -> Result<Dropped, AllocError> {
-    Ok(Dropped::new(Arc::try_clone(drops)?, polls_left))
+fn future(drops: &Arc<AtomicU64>) -> Result<Dropped, AllocError> {
+    Ok(Dropped::new(Arc::try_clone(drops)?))
 }
 
 fn futures(
@@ -34,46 +34,37 @@ fn futures(
 ) -> Result<Vec<Dropped>, AllocError> {
     let mut items = Vec::new(alloc);
     for _ in 0..count {
-        items.push(future(drops, 0)?)?;
+        items.push(future(drops)?)?;
     }
     Ok(items)
+}
+
+// A poll, whether it gave an output, and how often a future was dropped by then.
+fn polled(task: &MockTask, set: &mut Set, drops: &Arc<AtomicU64>) -> (bool, u64) {
+    let given = poll_set(task, set);
+    (given == Poll::Ready(Some(())), drops.load(SeqCst))
 }
 
 #[test]
 fn a_future_that_gave_its_output_is_dropped(rt: HostRuntime) -> Result<(), Fail> {
     let task = MockTask::new(&rt)?;
     let drops = counter(rt.alloc())?;
-    let mut set = new_set(rt.alloc(), 2)?;
-    assert!(rt; set.try_push(future(&drops, 0)?).is_ok());
-    assert!(rt; set.try_push(future(&drops, 0)?).is_ok());
-    assert_eq!(rt; poll_set(&task, &mut set), Poll::Ready(Some(())));
-    assert_eq!(rt; drops.load(SeqCst), 1);
-    assert_eq!(rt; poll_set(&task, &mut set), Poll::Ready(Some(())));
-    assert_eq!(rt; drops.load(SeqCst), 2);
+    let items = futures(rt.alloc(), &drops, 2)?;
+    let mut set = FuturesUnorderedBounded::over(&(), rt.alloc(), items)?;
+    assert_eq!(rt; polled(&task, &mut set, &drops), (true, 1));
+    assert_eq!(rt; polled(&task, &mut set, &drops), (true, 2));
     drop(set);
     assert_eq!(rt; drops.load(SeqCst), 2);
-    Ok(())
-}
-
-#[test]
-fn a_pending_future_stays(rt: HostRuntime) -> Result<(), Fail> {
-    let task = MockTask::new(&rt)?;
-    let drops = counter(rt.alloc())?;
-    let mut set = new_set(rt.alloc(), 1)?;
-    assert!(rt; set.try_push(future(&drops, 1)?).is_ok());
-    assert!(rt; poll_set(&task, &mut set).is_pending());
-    assert_eq!(rt; drops.load(SeqCst), 0);
-    drop(set);
-    assert_eq!(rt; drops.load(SeqCst), 1);
     Ok(())
 }
 
 #[test]
 fn a_set_drops_what_it_holds(rt: HostRuntime) -> Result<(), Fail> {
+    let task = MockTask::new(&rt)?;
     let drops = counter(rt.alloc())?;
     let items = futures(rt.alloc(), &drops, 3)?;
-    let set: Set = FuturesUnorderedBounded::over(&(), rt.alloc(), items)?;
-    assert_eq!(rt; drops.load(SeqCst), 0);
+    let mut set = FuturesUnorderedBounded::over(&(), rt.alloc(), items)?;
+    assert_eq!(rt; polled(&task, &mut set, &drops), (true, 1));
     drop(set);
     assert_eq!(rt; drops.load(SeqCst), 3);
     Ok(())
@@ -83,14 +74,14 @@ fn a_set_drops_what_it_holds(rt: HostRuntime) -> Result<(), Fail> {
 fn a_refused_push_drops_nothing(rt: HostRuntime) -> Result<(), Fail> {
     let drops = counter(rt.alloc())?;
     let mut set = new_set(rt.alloc(), 0)?;
-    let back = set.try_push(future(&drops, 0)?);
-    assert_eq!(rt; drops.load(SeqCst), 0);
-    assert!(rt; back.is_err());
+    let back = set.try_push(future(&drops)?);
+    assert_eq!(rt; (back.is_err(), drops.load(SeqCst)), (true, 0));
     drop(back);
     assert_eq!(rt; drops.load(SeqCst), 1);
     Ok(())
 }
 
+// The source is refused, so the set is, with the items that came.
 #[test]
 fn a_refused_set_drops_its_items(rt: HostRuntime) -> Result<(), Fail> {
     let drops = counter(rt.alloc())?;

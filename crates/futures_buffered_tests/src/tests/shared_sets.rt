@@ -7,6 +7,7 @@ use futures_buffered_core::ready_core::Woke;
 use futures_buffered_core::ready_shared::SharedReady;
 use futures_buffered_sets::futures_unordered_bounded::FuturesUnorderedBounded;
 use std::alloc::{AllocError, Global};
+use std::sync::Wait;
 use std::test::Fail;
 
 type Shared<F, R> = FuturesUnorderedBounded<F, SharedReady<R>>;
@@ -22,14 +23,21 @@ fn items(alloc: Global, count: u64) -> Result<Vec<Timed>, AllocError> {
     Ok(items)
 }
 
+// Whether a set of this many items gives each, in order, and then the end.
+fn gives_all<R: Wait + Drop>(task: &MockTask, set: &mut Shared<Timed, R>, count: u64) -> bool {
+    for value in 0..count {
+        if poll_set(task, set) != Poll::Ready(Some(value)) {
+            return false;
+        }
+    }
+    poll_set(task, set) == Poll::Ready(None)
+}
+
 #[test]
 fn from_iter_marks_each_item(rt: HostRuntime) -> Result<(), Fail> {
     let task = MockTask::new(&rt)?;
     let mut set = FuturesUnorderedBounded::from_iter(&rt, rt.alloc(), items(rt.alloc(), 10)?)?;
-    for value in 0..10 {
-        assert_eq!(rt; poll_set(&task, &mut set), Poll::Ready(Some(value)));
-    }
-    assert_eq!(rt; poll_set(&task, &mut set), Poll::Ready(None));
+    assert!(rt; gives_all(&task, &mut set, 10));
     Ok(())
 }
 
@@ -38,53 +46,60 @@ fn over_marks_each_item(rt: HostRuntime) -> Result<(), Fail> {
     let task = MockTask::new(&rt)?;
     let items = items(rt.alloc(), 10)?;
     let mut set: Shared<Timed, _> = FuturesUnorderedBounded::over(&rt, rt.alloc(), items)?;
-    for value in 0..10 {
-        assert_eq!(rt; poll_set(&task, &mut set), Poll::Ready(Some(value)));
-    }
-    assert_eq!(rt; poll_set(&task, &mut set), Poll::Ready(None));
+    assert!(rt; gives_all(&task, &mut set, 10));
     Ok(())
 }
 
-#[test]
-fn a_new_set_has_no_mark(rt: HostRuntime) -> Result<(), Fail> {
-    let mut set: Shared<Timed, _> = FuturesUnorderedBounded::new(&rt, rt.alloc(), 300)?;
-    for i in 0..300 {
-        if i < set.capacity() {
-            assert_eq!(rt; set.mark_slot(i), Woke::Fresh);
-            assert_eq!(rt; set.mark_slot(i), Woke::Already);
-        }
-    }
-    assert_eq!(rt; set.capacity(), 300);
-    Ok(())
-}
-
-// More slots than fit in one byte, each named once.
+// More slots than a byte can count.
 #[test]
 fn names_each_of_300_slots(rt: HostRuntime) -> Result<(), Fail> {
     let task = MockTask::new(&rt)?;
     let mut set = FuturesUnorderedBounded::from_iter(&rt, rt.alloc(), items(rt.alloc(), 300)?)?;
-    for value in 0..300 {
-        assert_eq!(rt; poll_set(&task, &mut set), Poll::Ready(Some(value)));
-    }
-    assert_eq!(rt; poll_set(&task, &mut set), Poll::Ready(None));
+    assert!(rt; gives_all(&task, &mut set, 300));
     Ok(())
 }
 
-// A poll that finds nothing, and one that gives an output, leave the task as it was.
+// How many slots of the set are not marked. It marks each.
+fn marks_all<R: Wait + Drop>(set: &mut Shared<Timed, R>) -> usize {
+    let mut fresh = 0usize;
+    for i in 0..set.capacity() {
+        if i < set.capacity() && set.mark_slot(i) == Woke::Fresh {
+            fresh = fresh.saturating_add(1);
+        }
+    }
+    fresh
+}
+
 #[test]
-fn an_answer_wakes_nobody(rt: HostRuntime) -> Result<(), Fail> {
+fn a_new_set_has_no_mark(rt: HostRuntime) -> Result<(), Fail> {
+    let mut set = FuturesUnorderedBounded::new(&rt, rt.alloc(), 300)?;
+    assert_eq!(rt; (marks_all(&mut set), marks_all(&mut set)), (300, 0));
+    Ok(())
+}
+
+// What a poll gave, and whether the task is woken after it.
+fn gives<R: Wait + Drop>(task: &MockTask, set: &mut Shared<Timed, R>) -> (Poll<Option<u64>>, bool) {
+    let given = poll_set(task, set);
+    (given, task.is_woken())
+}
+
+#[test]
+fn an_output_wakes_nobody(rt: HostRuntime) -> Result<(), Fail> {
     let task = MockTask::new(&rt)?;
     let mut set = FuturesUnorderedBounded::from_iter(&rt, rt.alloc(), items(rt.alloc(), 2)?)?;
-    assert_eq!(rt; poll_set(&task, &mut set), Poll::Ready(Some(0)));
-    assert!(rt; !task.is_woken());
-    assert_eq!(rt; poll_set(&task, &mut set), Poll::Ready(Some(1)));
-    assert!(rt; !task.is_woken());
-    // An empty set keeps no waker, so its end wakes nobody either.
-    let other = MockTask::new(&rt)?;
-    assert_eq!(rt; poll_set(&other, &mut set), Poll::Ready(None));
-    assert!(rt; !other.is_woken());
+    assert_eq!(rt; gives(&task, &mut set), (Poll::Ready(Some(0)), false));
+    assert_eq!(rt; gives(&task, &mut set), (Poll::Ready(Some(1)), false));
+    Ok(())
+}
+
+// A set that holds nothing keeps no waker, so that its drop wakes nobody either.
+#[test]
+fn an_end_wakes_nobody(rt: HostRuntime) -> Result<(), Fail> {
+    let task = MockTask::new(&rt)?;
+    let mut set = FuturesUnorderedBounded::new(&rt, rt.alloc(), 1)?;
+    assert_eq!(rt; gives(&task, &mut set), (Poll::Ready(None), false));
     drop(set);
-    assert!(rt; !other.is_woken());
+    assert!(rt; !task.is_woken());
     Ok(())
 }
 

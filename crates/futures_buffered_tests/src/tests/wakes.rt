@@ -82,29 +82,32 @@ fn two_wakes_of_a_slot_are_one(rt: HostRuntime) -> Result<(), Fail> {
     Ok(())
 }
 
+// Whether the waker wakes the task, which is not woken before.
+fn is_woken_by<W: SlotWaker>(task: &MockTask, waker: &W) -> bool {
+    poll_nothing(task);
+    waker.wake();
+    task.is_woken()
+}
+
 // The first fresh wake after a poll wakes the task; until the next poll no other does.
 #[test]
 fn a_task_is_woken_once(rt: HostRuntime) -> Result<(), Fail> {
     let task = MockTask::new(&rt)?;
-    let mut set: Set<_> = FuturesUnorderedBounded::new(&rt, rt.alloc(), 2)?;
-    let polls = Arc::new(rt.alloc(), AtomicU64::new(0))?;
-    let places = (empty_place(rt.alloc())?, empty_place(rt.alloc())?);
-    assert!(rt; set.try_push(counted_kept(rt, &places.0, &polls)?).is_ok());
-    assert!(rt; set.try_push(counted_kept(rt, &places.1, &polls)?).is_ok());
-    assert!(rt; poll_set(&task, &mut set).is_pending());
-    let first = taken_from(&rt, &places.0).ok_or("kept")?;
-    let second = taken_from(&rt, &places.1).ok_or("kept")?;
-    first.wake();
-    assert!(rt; task.is_woken());
-    task.enter(|_cx| ());
-    first.wake();
-    assert!(rt; !task.is_woken());
-    second.wake();
-    assert!(rt; !task.is_woken());
-    assert!(rt; poll_set(&task, &mut set).is_pending());
-    assert_eq!(rt; polls.load(SeqCst), 4);
-    second.wake();
-    assert!(rt; task.is_woken());
+    let mut row = new_row(&rt, rt.alloc(), 2)?;
+    assert!(rt; pushes(&rt, &mut row));
+    assert_eq!(rt; polled(&task, &mut row), (true, 1));
+    let first = kept_waker(&rt, &row)?;
+    assert!(rt; pushes(&rt, &mut row));
+    assert_eq!(rt; polled(&task, &mut row), (true, 2));
+    let second = kept_waker(&rt, &row)?;
+    let woken = [
+        is_woken_by(&task, &first),
+        is_woken_by(&task, &first),
+        is_woken_by(&task, &second),
+    ];
+    assert_eq!(rt; woken, [true, false, false]);
+    assert_eq!(rt; polled(&task, &mut row), (true, 4));
+    assert!(rt; is_woken_by(&task, &second));
     Ok(())
 }
 
