@@ -222,7 +222,8 @@ impl<F: Drop, S: ReadySource> FuturesUnorderedBounded<F, S> {
         ensures others { IfReady result (λ (i, _). AllHeldBut i R.can_poll self.new.slots) }
         ensures goes_on { IfReady result (λ (_, x).
             R.goes_on x → AllHeld R.can_poll self.new.slots) }
-        ensures last { IfReady result (λ (i, x). EndsWith (R.polled i) x (value_in self.new.slots i)) }
+        ensures last { IfReady result (λ (i, x).
+            EndsWith (R.polled i) x (value_in self.new.slots i)) }
         ensures count { held_count self.new.slots ≡ held_count self.old.slots }
         ensures capacity { slot_count self.new.slots ≡ slot_count self.old.slots }
         ensures limit { self.new.limit ≡ self.old.limit }

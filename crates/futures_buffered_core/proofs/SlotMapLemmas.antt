@@ -1,38 +1,17 @@
 -- What each call leaves of the places and the free ones.
-use Rattle.std.proofs.Common.{◌≡◌, ℕ, zero, suc, ◌+◌, ◌<◌, ◌≤◌, Bool, true, false, cond, eqb, List, [], ◌∷◌, ◌++◌, map, length, get_or, set, replicate, Option, Some, None, is_some, IsSome, count_by, refl, sym, ap, ◌∙◌, inl, inr, arith, length-set, add-one, true≢false}
+use Rattle.std.proofs.Common.{◌≡◌, ℕ, ◌+◌, ◌<◌, ◌≤◌, Bool, true, false, cond, eqb, List, [], ◌∷◌, map, length, get_or, set, replicate, Option, Some, None, is_some, IsSome, count_by, refl, sym, ap, ◌∙◌, inl, inr, arith, length-set, true≢false}
 use Rattle.std.specs.Option.{is_none}
-use Rattle.std.specs.List.{list_any, IsDistinct, AllByRecursion, range_with_len}
+use Rattle.std.specs.List.{list_any, range_with_len}
 use Rattle.std.proofs.lemmas.List.{length-replicate, map-set, length-map, get_or-map, get_or_past, get_or-replicate}
 use Rattle.std.proofs.Math.Seq.{map-set_same}
 use Rattle.std.proofs.lemmas.List.FromFn.{length-range_with_len}
 use Rattle.std.proofs.lemmas.List.Folds.{sum_by-replicate}
 use Rattle.std.proofs.lemmas.List.Sums.{sum_by-set, sum_by-cons}
-use Rattle.std.proofs.lemmas.Bool.{cases_lt, ne_eqb, or_right, or_left, or_from}
-use Rattle.std.proofs.lemmas.Bool.Decides.{eqb_tells}
+use Rattle.std.proofs.lemmas.Bool.{cases_lt}
 use Rattle.futures_buffered_core.specs.SlotMap.{Slots, value_in, IsFirstHeld}
 use Rattle.futures_buffered_core.specs.SlotMapInvariant.{KeepsPlaces}
+use Rattle.futures_buffered_core.proofs.RangeLemmas.{in_range, past_range, range_distinct}
 use Rattle.futures_buffered_core.proofs.KeepsOnceLemmas.{KeepsOnce-first, KeepsOnce-take, KeepsOnce-marked, KeepsOnce-return, KeepsOnce-none}
-
-in_range : (a n q : ℕ) → a ≤ q → q < a + n → list_any (eqb q) (range_with_len a n) ≡ true
-in_range a zero q low high = absurd (omega arith)
-in_range a (suc n) q low high =
-    elim (eqb_tells q a) [
-      | inl same ↦ or_left (eqb q a) (list_any (eqb q) (range_with_len (a + 1) n)) same.0
-      | inr other ↦ or_right (eqb q a) (list_any (eqb q) (range_with_len (a + 1) n)) (let apart = other.1 in in_range (a + 1) n q (omega arith) (omega arith))
-    ]
-
-past_range : (a n q : ℕ) → a + n ≤ q → list_any (eqb q) (range_with_len a n) ≡ false
-past_range a zero q past = refl
-past_range a (suc n) q past = or_from (eqb q a) (list_any (eqb q) (range_with_len (a + 1) n)) (ne_eqb q a (λ e. omega arith)) (past_range (a + 1) n q (omega arith))
-
-apart_below : (a b n : ℕ) → a < b → AllByRecursion (λ y. eqb a y ≡ false) (range_with_len b n)
-apart_below a b zero below = tt
-apart_below a b (suc n) below = (ne_eqb a b (λ e. omega arith), apart_below a (b + 1) n (omega arith))
-
-range_distinct : (a n : ℕ) → IsDistinct eqb (range_with_len a n)
-unfolding IsDistinct
-range_distinct a zero = tt
-range_distinct a (suc n) = (apart_below a (a + 1) n (omega arith), range_distinct (a + 1) n)
 
 module _ {F : Type 0} where
   -- a slot that holds something is there
@@ -140,10 +119,3 @@ module _ {F : Type 0} where
         once = rw (map-is_none values) (KeepsOnce-none (length values) room fits);
         total = omega (arith, count-all values, length-map values Some);
       }
-
-range_suc : (a n : ℕ) → range_with_len a (suc n) ≡ range_with_len a n ++ (a + n) ∷ []
-range_suc a zero = ap (λ (x : ℕ). x ∷ []) (omega arith)
-range_suc a (suc n) = ap (λ (xs : List ℕ). a ∷ xs) (range_suc (a + 1) n ∙ ap (λ (x : ℕ). range_with_len (a + 1) n ++ x ∷ []) (omega arith))
-
-pub range_push : (n : ℕ) → range_with_len 0 (n + 1) ≡ range_with_len 0 n ++ n ∷ []
-range_push n = rw add-one (range_suc 0 n ∙ ap (λ (x : ℕ). range_with_len 0 n ++ x ∷ []) (omega arith))

@@ -62,7 +62,7 @@ fn empty_places<F>(alloc: Global, n: usize) -> Result<Vec<Option<F>>, AllocError
     Ok(places)
 }
 
-#[tactic(auto, using(crate::proofs::SlotMapLemmas::range_push))]
+#[tactic(auto, using(crate::proofs::RangeLemmas::range_push))]
 fn free_places(alloc: Global, n: usize) -> Result<VecDeque<usize>, AllocError>
     ensures items { IfOk result (λ q. q.items ≡ range_with_len 0 n) }
     ensures room { IfOk result (λ q. deque_capacity q ≡ n) }

@@ -3,7 +3,7 @@ use Rattle.std.specs.List.{range_with_len}
 use Rattle.std.proofs.lemmas.Fn.{FoldsTo-push}
 use Rattle.std.proofs.lemmas.List.{length-map}
 use Rattle.futures_buffered_core.specs.SlotMap.{slot_count}
-use Rattle.futures_buffered_core.proofs.SlotMapLemmas.{range_push}
+use Rattle.futures_buffered_core.proofs.RangeLemmas.{range_push}
 use Rattle.futures_buffered_bounded.specs.FuturesUnorderedBounded.{MarksSlot}
 use Rattle.futures_buffered_bounded.proofs.futures_unordered_bounded.FuturesUnorderedBounded.over.Goals as goal
 
