@@ -13,56 +13,81 @@ const TURNS: u64 = 1000000000;
 // How long a thread that is late stays behind its last wake.
 const LATE_TURNS: u64 = 100000;
 
-const ALL_PASSED: u64 = 255;
+// How often each of two threads passed the gate before and behind each of its two wakes, how many
+// threads have come to it, and how many went on alone.
+#[derive(Drop)]
+struct Passages {
+    before: [[AtomicU64; 2]; 2],
+    behind: [[AtomicU64; 2]; 2],
+    arrived: AtomicU64,
+    went_alone: AtomicU64,
+}
 
-const TOO_LATE: u64 = 256;
+fn no_passage() -> Passages {
+    let zero = || [AtomicU64::new(0), AtomicU64::new(0)];
+    Passages {
+        before: [zero(), zero()],
+        behind: [zero(), zero()],
+        arrived: AtomicU64::new(0),
+        went_alone: AtomicU64::new(0),
+    }
+}
 
-// Holds each of two threads before its first wake until the other has come there too, and notes
-// each passage by a bit of its own.
+// Whether each passage was made once, by two threads that met.
+fn is_each_made_once(passages: &Passages) -> bool {
+    for sides in [&passages.before, &passages.behind] {
+        for of_thread in sides {
+            for passage in of_thread {
+                if passage.load(SeqCst) != 1 {
+                    return false;
+                }
+            }
+        }
+    }
+    passages.arrived.load(SeqCst) == 2 && passages.went_alone.load(SeqCst) == 0
+}
+
+// Holds each of two threads before its first wake until the other has come there too.
 #[derive(Drop)]
 struct Meeting {
-    arrived: Arc<AtomicU64>,
-    passed: Arc<AtomicU64>,
+    passages: Arc<Passages>,
 }
 
 impl Gate for Meeting {
     ghost opens = { λ _ thread wake. (thread < 2) × (wake < 2) };
 
     fn before(&self, thread: usize, wake: usize) {
-        self.passed.fetch_add(1 << (4 * thread + 2 * wake), SeqCst);
+        self.passages.before[thread][wake].fetch_add(1, SeqCst);
         if wake != 0 {
             return;
         }
-        self.arrived.fetch_add(1, SeqCst);
+        self.passages.arrived.fetch_add(1, SeqCst);
         for _ in 0..TURNS {
-            if self.arrived.load(SeqCst) == 2 {
+            if self.passages.arrived.load(SeqCst) == 2 {
                 return;
             }
             yield_now();
         }
-        self.passed.fetch_add(TOO_LATE, SeqCst);
+        self.passages.went_alone.fetch_add(1, SeqCst);
     }
 
     fn after(&self, thread: usize, wake: usize) {
-        self.passed.fetch_add(2 << (4 * thread + 2 * wake), SeqCst);
+        self.passages.behind[thread][wake].fetch_add(1, SeqCst);
     }
 }
 
 #[test]
 fn two_wakers_at_once(rt: HostRuntime) -> Result<(), Fail> {
-    let arrived = Arc::new(rt.alloc(), AtomicU64::new(0))?;
-    let passed = Arc::new(rt.alloc(), AtomicU64::new(0))?;
+    let passages = Arc::new(rt.alloc(), no_passage())?;
     let gate = Meeting {
-        arrived: Arc::try_clone(&arrived)?,
-        passed: Arc::try_clone(&passed)?,
+        passages: Arc::try_clone(&passages)?,
     };
     let mut output = Vec::new(rt.alloc());
     assert_eq!(rt;
         threads_run(rt, rt.alloc(), 2, 2, gate, &mut output),
         Ok(())
     );
-    assert_eq!(rt; arrived.load(SeqCst), 2);
-    assert_eq!(rt; passed.load(SeqCst), ALL_PASSED);
+    assert!(rt; is_each_made_once(&passages));
     assert_eq!(rt;
         output.as_slice(),
         b"threads 2 wakes 4 outputs 0 1\n".as_slice()
