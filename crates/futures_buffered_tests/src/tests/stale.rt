@@ -56,7 +56,7 @@ struct Row<R: Wait + Clone + Drop> {
     third: Arc<AtomicU64>,
 }
 
-fn new_row<R: Wait + Clone + Drop + Send + Sync>(rt: &R, alloc: Global) -> Result<Row<R>, Fail> {
+fn new_row<R: Wait + Clone + Drop>(rt: &R, alloc: Global) -> Result<Row<R>, Fail> {
     let set = FuturesUnorderedBounded::new(rt, alloc, 2)?;
     let place = empty_place(alloc)?;
     let first = Arc::new(alloc, AtomicU64::new(0))?;

@@ -24,7 +24,7 @@ struct Row<R: Wait + Clone + Drop> {
 
 fn new_row<R>(rt: &R, alloc: Global, capacity: usize) -> Result<Row<R>, Fail>
 where
-    R: Wait + Clone + Drop + Send + Sync,
+    R: Wait + Clone + Drop,
 {
     let set = FuturesUnorderedBounded::new(rt, alloc, capacity)?;
     let place = empty_place(alloc)?;
