@@ -20,8 +20,11 @@ impl CountsDrops {
 
 impl Drop for CountsDrops {
     fn drop(self) {
-        let CountsDrops { drops, .. } = self;
-        drops.fetch_add(1, SeqCst);
+        self.drops.fetch_add(1, SeqCst);
+        let CountsDrops {
+            is_ready: _,
+            drops: _,
+        } = self;
     }
 }
 
