@@ -78,14 +78,14 @@ SetGives old Len reply new = (reply ≡ Count (held_count old.slots)) × (new �
 SetGives old command reply new = (reply ≡ Bad) × (new ≡ old)
 
 -- one step that the machine can make
-abbrev pub MakesStep : Machine → StepOf → Reply → Machine → Type 0
-MakesStep old step reply new =
+abbrev pub RepliesToStep : Machine → StepOf → Reply → Machine → Type 0
+RepliesToStep old step reply new =
     (answer : StepReply) × (reply ≡ step_reply answer) × MachineSteps old step new answer
 
 -- the step was made, or it cannot be made and nothing changed
 abbrev pub StepGives : Machine → StepOf → Reply → Machine → Type 0
 StepGives old step reply new =
-    (May old step × MakesStep old step reply new)
+    (May old step × RepliesToStep old step reply new)
     ⊎ ((May old step → ⊥) × (reply ≡ Stuck) × (new ≡ old))
 
 -- the last line says that no other command stands
