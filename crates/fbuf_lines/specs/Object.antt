@@ -6,7 +6,7 @@ use Rattle.futures_buffered_table.specs.declared.answer.TheConstants.{MAX_CAPACI
 use Rattle.futures_buffered_table.specs.declared.step.Step.{Step as StepOf}
 use Rattle.futures_buffered_table.specs.declared.step.Step.TheVariants as step
 use Rattle.futures_buffered_table.specs.declared.step.StepReply.{StepReply}
-use Rattle.futures_buffered_table.specs.StepMachine.{Machine, IsNew, CanMake, MakesStep as StepsTo}
+use Rattle.futures_buffered_table.specs.StepMachine.{Machine, IsNew, CanMake, MakesStep}
 use Rattle.futures_buffered_core.specs.ReadyCore.{Standing, Marks, Takes}
 use Rattle.futures_buffered_core.specs.SlotMap.{no_slots, slot_count, held_count}
 use Rattle.futures_buffered_bounded.specs.FuturesUnorderedBounded.{Bounded, Pushes, PollGives}
@@ -79,14 +79,14 @@ SetGives old Len reply new = (reply ≡ Count (held_count old.slots)) × (new �
 SetGives old command reply new = (reply ≡ Bad) × (new ≡ old)
 
 -- one step that the machine can make
-abbrev pub MakesStep : Machine → StepOf → Reply → Machine → Type 0
-MakesStep old step reply new =
-    (answer : StepReply) × (reply ≡ step_reply answer) × StepsTo old step new answer
+abbrev pub RepliesToStep : Machine → StepOf → Reply → Machine → Type 0
+RepliesToStep old step reply new =
+    (answer : StepReply) × (reply ≡ step_reply answer) × MakesStep old step new answer
 
 -- the step was made, or it cannot be made and nothing changed
 abbrev pub StepGives : Machine → StepOf → Reply → Machine → Type 0
 StepGives old step reply new =
-    (CanMake old step × MakesStep old step reply new)
+    (CanMake old step × RepliesToStep old step reply new)
     ⊎ ((CanMake old step → ⊥) × (reply ≡ Stuck) × (new ≡ old))
 
 -- the last line says that no other command stands

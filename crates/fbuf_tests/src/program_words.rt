@@ -188,7 +188,8 @@ fn runs_threads(rt: HostRuntime) -> Result<(), Fail> {
         ),
         (
             &["threads", "32", "1"],
-            b"threads 32 wakes 32 outputs 0 1 2 3 4 5 6 7 8 9 10 11 12 13 14 15 16 17 18 19 20 21 22 23 24 25 26 27 28 29 30 31\n",
+            b"threads 32 wakes 32 outputs 0 1 2 3 4 5 6 7 8 9 10 11 12 13 14 15 16 17 18 19 20 \
+              21 22 23 24 25 26 27 28 29 30 31\n",
         ),
         (
             &["threads", "1", "1000000"],

@@ -102,11 +102,17 @@ fn answers_scripts_over_a_bounded_set(rt: HostRuntime) -> Result<(), Fail> {
     Ok(())
 }
 
+// How many names one poll takes at most.
+const NAMES_OF_A_POLL: usize = 61;
+
+// Begins a set of one slot more.
+const ONE_SLOT_MORE: &[u8] = b"unordered 62\n";
+
 #[test]
-fn polls_at_most_61_names(rt: HostRuntime) -> Result<(), Fail> {
-    let mut text = Vec::from_slice(rt.alloc(), b"unordered 62\n")?;
+fn polls_no_more_names_than_the_limit(rt: HostRuntime) -> Result<(), Fail> {
+    let mut text = Vec::from_slice(rt.alloc(), ONE_SLOT_MORE)?;
     let mut want = Vec::from_slice(rt.alloc(), b"ok\n")?;
-    for _ in 0..61 {
+    for _ in 0..NAMES_OF_A_POLL {
         text.extend_from_slice(b"push 0 1\n")?;
         want.extend_from_slice(b"ok\n")?;
     }
@@ -179,8 +185,10 @@ fn answers_scripts_over_a_machine(rt: HostRuntime) -> Result<(), Fail> {
     let rows = [
         // The gap at the stub, and a taking of eight steps.
         (
-            "steps 2\nmark 0 0\ngo 0\ngo 0\nstep\nstep\ngo 0\nstep\nstep\nstep\nstep\nstep\nstep\nstep\nstep\nstep\nstep\n",
-            "ok\nmore\nmore\nmore\nmore\npause\nfresh\nmore\nmore\nmore\nmore\nmore\nmore\nmore\nslot 0\nmore\nempty\n",
+            "steps 2\nmark 0 0\ngo 0\ngo 0\nstep\nstep\ngo 0\nstep\nstep\nstep\nstep\nstep\n\
+             step\nstep\nstep\nstep\nstep\n",
+            "ok\nmore\nmore\nmore\nmore\npause\nfresh\nmore\nmore\nmore\nmore\nmore\nmore\n\
+             more\nslot 0\nmore\nempty\n",
         ),
         (
             "steps 1\nmark 0 0\nmark 0 0\nmark 1 0\ngo 1\nmark 1 1\n",
@@ -188,13 +196,17 @@ fn answers_scripts_over_a_machine(rt: HostRuntime) -> Result<(), Fail> {
         ),
         // The later waker ends first, and the order is still that of the tail swaps.
         (
-            "steps 2\nmark 0 0\ngo 0\ngo 0\nmark 1 1\ngo 1\ngo 1\ngo 1\nstep\nstep\ngo 0\nstep\nstep\nstep\nstep\nstep\nstep\nstep\nstep\nstep\nstep\nstep\nstep\n",
-            "ok\nmore\nmore\nmore\nmore\nmore\nmore\nfresh\nmore\npause\nfresh\nmore\nmore\nslot 0\nmore\nmore\nmore\nmore\nmore\nmore\nslot 1\nmore\nempty\n",
+            "steps 2\nmark 0 0\ngo 0\ngo 0\nmark 1 1\ngo 1\ngo 1\ngo 1\nstep\nstep\ngo 0\n\
+             step\nstep\nstep\nstep\nstep\nstep\nstep\nstep\nstep\nstep\nstep\nstep\n",
+            "ok\nmore\nmore\nmore\nmore\nmore\nmore\nfresh\nmore\npause\nfresh\nmore\nmore\n\
+             slot 0\nmore\nmore\nmore\nmore\nmore\nmore\nslot 1\nmore\nempty\n",
         ),
         // A waker swaps while the poller puts the stub in.
         (
-            "steps 2\nmark 0 0\ngo 0\ngo 0\ngo 0\nstep\nstep\nstep\nmark 1 1\ngo 1\ngo 1\nstep\nstep\nstep\nstep\ngo 1\nstep\nstep\nstep\nstep\nstep\nstep\n",
-            "ok\nmore\nmore\nmore\nfresh\nmore\nmore\nmore\nmore\nmore\nmore\nmore\nmore\nmore\npause\nfresh\nmore\nslot 0\nmore\nslot 1\nmore\nempty\n",
+            "steps 2\nmark 0 0\ngo 0\ngo 0\ngo 0\nstep\nstep\nstep\nmark 1 1\ngo 1\ngo 1\n\
+             step\nstep\nstep\nstep\ngo 1\nstep\nstep\nstep\nstep\nstep\nstep\n",
+            "ok\nmore\nmore\nmore\nfresh\nmore\nmore\nmore\nmore\nmore\nmore\nmore\nmore\n\
+             more\npause\nfresh\nmore\nslot 0\nmore\nslot 1\nmore\nempty\n",
         ),
         (
             "steps 1\nmark 64 0\ngo 63\nmark 63 0\ngo 63\n",
@@ -202,7 +214,8 @@ fn answers_scripts_over_a_machine(rt: HostRuntime) -> Result<(), Fail> {
         ),
         // Over a machine no command to a set stands, and the other way round.
         (
-            "step\nsteps 1\npush 1 0\npoll\nlen\nwake 0\nstep\nunordered 1\nstep\ngo 0\nmark 0 0\nlen\n",
+            "step\nsteps 1\npush 1 0\npoll\nlen\nwake 0\nstep\nunordered 1\nstep\ngo 0\n\
+             mark 0 0\nlen\n",
             "bad\nok\nbad\nbad\nbad\nbad\nmore\nok\nbad\nbad\nbad\n0\n",
         ),
         (

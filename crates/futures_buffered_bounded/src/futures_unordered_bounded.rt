@@ -30,6 +30,8 @@ use std::sync::Wait;
 /// How many names one poll takes from the source, at most.
 pub const POLL_LIMIT: usize = 61;
 
+const _: () = prove!(POLL_LIMIT == 61);
+
 /// Futures in slots, over a source that names the slots to poll.
 ///
 /// A contract sees what each slot holds and which slots are free, the content of the source, and the limit of names of one poll. The calls take no memory once the set is made. They wait for nobody where those of the source do not.
