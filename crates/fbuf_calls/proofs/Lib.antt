@@ -1,3 +1,2 @@
-pub mod ScriptLemmas
 pub mod ThreadsLemmas
 pub mod ProgramWordsLemmas

@@ -10,14 +10,14 @@ use Rattle.std.proofs.KnownBytes.{Appends-nil}
 use Rattle.std.proofs.Math.Seq.{take-length}
 use Rattle.fbuf_lines.specs.Lines.{lines_of}
 use Rattle.fbuf_lines.specs.Object.{first_stage}
-use Rattle.fbuf_calls.specs.Script.{AppendsFirstReplies, AppendsPartOfReplies}
+use Rattle.fbuf_script.specs.Script.{AppendsFirstReplies, AppendsPartOfReplies}
 use Rattle.fbuf_calls.specs.Threads.{AppendsThreadsLine}
 use Rattle.fbuf_calls.specs.ProgramWords.{WordsAskFor, CallEnds, EndsScript}
 use Rattle.fbuf_calls.specs.ProgramWords.{status_of, ended_status, fault_of_script}
 use Rattle.fbuf_calls.specs.declared.program_words.Call.{Call}
 use Rattle.fbuf_calls.specs.declared.program_words.Call.TheVariants.{Script, Threads}
-use Rattle.fbuf_calls.specs.declared.script.ScriptFault.{ScriptFault}
-use Rattle.fbuf_calls.specs.declared.script.ScriptFault.TheVariants as script
+use Rattle.fbuf_script.specs.declared.script.ScriptFault.{ScriptFault}
+use Rattle.fbuf_script.specs.declared.script.ScriptFault.TheVariants as script
 use Rattle.fbuf_calls.specs.declared.program_words.Fault.{Fault}
 use Rattle.fbuf_calls.specs.declared.program_words.Fault.TheVariants.{Usage, Memory, Read, Write}
 use Rattle.fbuf_calls.specs.declared.program_words.Fault.TheVariants.{Start}

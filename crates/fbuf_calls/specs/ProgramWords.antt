@@ -2,10 +2,10 @@
 use Rattle.std.specs.Prelude.{◌≡◌, ◌≢◌, ℕ, ◌≤◌, List, [], ◌∷◌, Option, Some, None, codes}
 use Rattle.std.specs.Prelude.{Result, Ok, Err, IfSome}
 use Rattle.std.specs.Fmt.{decimal}
-use Rattle.fbuf_calls.specs.Script.{AppendsReplies, AppendsPartOfReplies}
+use Rattle.fbuf_script.specs.Script.{AppendsReplies, AppendsPartOfReplies}
 use Rattle.fbuf_calls.specs.Threads.{AppendsThreadsLine}
-use Rattle.fbuf_calls.specs.declared.script.ScriptFault.{ScriptFault}
-use Rattle.fbuf_calls.specs.declared.script.ScriptFault.TheVariants as script
+use Rattle.fbuf_script.specs.declared.script.ScriptFault.{ScriptFault}
+use Rattle.fbuf_script.specs.declared.script.ScriptFault.TheVariants as script
 use Rattle.fbuf_calls.specs.declared.threads.ThreadsFault.{ThreadsFault}
 use Rattle.fbuf_calls.specs.declared.threads.ThreadsFault.TheVariants as threads
 use Rattle.fbuf_calls.specs.declared.threads.TheConstants.{MAX_THREADS, MAX_WAKES}

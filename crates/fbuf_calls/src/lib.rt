@@ -3,13 +3,12 @@
 //!
 //! In the order in which to read them:
 //!
-//! - `watched`: `Watched`, a reader or a writer that remembers whether it failed.
-//! - `script`: `script`, which reads a whole script and writes a reply for each of its lines.
+//! - `watched` and `script`, which this crate gives out: a reader or a writer that remembers whether it failed, and a whole script.
 //! - `threads`: `threads_run`, in which threads wake the slots of one set.
 //! - `program_words`: `run_words`, the program as a function of its words.
 #![tactic(auto)]
 
 pub mod program_words;
-pub mod script;
 pub mod threads;
-pub mod watched;
+
+pub use fbuf_script::{script, watched};

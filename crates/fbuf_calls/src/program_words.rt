@@ -10,10 +10,10 @@ ghost use Rattle.fbuf_calls.specs.ProgramWords.{WordsAskFor, CallEnds, EndsScrip
 ghost use Rattle.fbuf_calls.specs.ProgramWords.{status_of, ended_status};
 ghost use Rattle.fbuf_calls.specs.Threads.{AppendsThreadsLine};
 
-use crate::script::{ScriptFault, script};
 use crate::threads::{MAX_THREADS, MAX_WAKES, OpenGate, ThreadsFault, threads_run};
-use crate::watched::Watched;
 use fbuf_lines::command::number;
+use fbuf_script::script::{ScriptFault, script};
+use fbuf_script::watched::Watched;
 use futures::task::{Doorbell, Solo};
 use std::alloc::AllocGlobal;
 use std::env::Args;

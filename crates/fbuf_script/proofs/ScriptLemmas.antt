@@ -12,8 +12,8 @@ use Rattle.std.specs.Io.KnownBytes.{Appends}
 use Rattle.fbuf_lines.specs.Lines.{lines_of}
 use Rattle.fbuf_lines.specs.Reply.{reply_line}
 use Rattle.fbuf_lines.specs.Object.{LineGives, ScriptStage, first_stage}
-use Rattle.fbuf_calls.specs.Script.{LinesGive, IsReplyTo}
-use Rattle.fbuf_calls.specs.Script.{AppendsReplies, AppendsFirstReplies, AppendsPartOfReplies}
+use Rattle.fbuf_script.specs.Script.{LinesGive, IsReplyTo}
+use Rattle.fbuf_script.specs.Script.{AppendsReplies, AppendsFirstReplies, AppendsPartOfReplies}
 use Rattle.fbuf_lines.specs.declared.reply.Reply.{Reply}
 
 LinesGive-push : (first : ScriptStage) (lines : List (List ℕ)) (replies : List Reply)

@@ -1,7 +1,7 @@
 use Rattle.std.proofs.Common.{◌≡◌, length}
 use Rattle.futures.specs.Task.{Keeps}
-use Rattle.fbuf_calls.proofs.ScriptLemmas.{RepliesSoFar}
-use Rattle.fbuf_calls.proofs.script.answer_all.Given as goal
+use Rattle.fbuf_script.proofs.ScriptLemmas.{RepliesSoFar}
+use Rattle.fbuf_script.proofs.script.answer_all.Given as goal
 
 abbrev pub invariant-loop-line : goal.invariant-loop-line
 invariant-loop-line g l =

@@ -1,6 +1,6 @@
 use Rattle.std.proofs.Common.{◌≡◌, ℕ, length, take, drop}
 use Rattle.std.specs.Io.KnownBytes.{Appends}
-use Rattle.fbuf_calls.proofs.script.write_all.Given as goal
+use Rattle.fbuf_script.proofs.script.write_all.Given as goal
 
 abbrev pub invariant-loop-rest : goal.invariant-loop-rest
 invariant-loop-rest g l =

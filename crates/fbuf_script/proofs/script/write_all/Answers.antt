@@ -1,5 +1,5 @@
-use Rattle.fbuf_calls.proofs.ScriptLemmas.{write_advances, write_unfailed}
-use Rattle.fbuf_calls.proofs.script.write_all.Goals as goal
+use Rattle.fbuf_script.proofs.ScriptLemmas.{write_advances, write_unfailed}
+use Rattle.fbuf_script.proofs.script.write_all.Goals as goal
 
 pub loop-rest-preserved : goal.loop-rest-preserved
 loop-rest-preserved g c =

@@ -1,6 +1,6 @@
 use Rattle.std.proofs.Common.{◌≡◌, ◌≤◌, vec_len}
 use Rattle.std.specs.Io.KnownBytes.{Consumes}
-use Rattle.fbuf_calls.proofs.script.read_to_end.Given as goal
+use Rattle.fbuf_script.proofs.script.read_to_end.Given as goal
 
 abbrev pub invariant-loop : goal.invariant-loop
 invariant-loop g l =

@@ -3,8 +3,8 @@ ghost use Rattle.std.specs.Prelude.{◌≡◌, ◌≢◌, ◌++◌, ◌⊎◌, �
 ghost use Rattle.std.specs.Prelude.{IfOk, IfErr, OnOk, OnErr, IfSome};
 ghost use Rattle.std.specs.Io.KnownBytes.{Appends};
 ghost use Rattle.futures.specs.Task.{Keeps};
-ghost use Rattle.fbuf_calls.specs.Script.{AppendsReplies, AppendsFirstReplies};
-ghost use Rattle.fbuf_calls.specs.Script.{AppendsPartOfReplies};
+ghost use Rattle.fbuf_script.specs.Script.{AppendsReplies, AppendsFirstReplies};
+ghost use Rattle.fbuf_script.specs.Script.{AppendsPartOfReplies};
 ghost use Rattle.fbuf_lines.specs.Object.{LineGives};
 ghost use Rattle.fbuf_lines.specs.Reply.{reply_line};
 ghost use Rattle.fbuf_lines.specs.declared.reply.Reply.{Reply};

@@ -2,7 +2,7 @@
 ghost use Rattle.std.specs.Prelude.{◌≡◌, ◌||◌, false, is_err};
 ghost use Rattle.std.specs.Io.{ReadsAtMost, WritesAtMost};
 ghost use Rattle.std.specs.Io.KnownBytes.{ReadConsumes, WriteAppends, Keeps};
-ghost use Rattle.fbuf_calls.specs.Watched.{write_failed};
+ghost use Rattle.fbuf_script.specs.Watched.{write_failed};
 
 use std::io;
 use std::io::{Read, Write};
@@ -16,7 +16,7 @@ pub struct Watched<T: Drop> {
 }
 
 impl<T: Drop> Model for Watched<T> {
-    ghost use Rattle.fbuf_calls.specs.Watched.{Watch};
+    ghost use Rattle.fbuf_script.specs.Watched.{Watch};
 
     ghost Value = { Watch T };
 

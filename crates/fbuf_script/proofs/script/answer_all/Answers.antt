@@ -1,8 +1,8 @@
 use Rattle.std.proofs.Common.{◌∙◌, refl}
 use Rattle.std.proofs.lemmas.Result.{IfErr-at_err, on_ok_weaker}
-use Rattle.fbuf_calls.proofs.ScriptLemmas.{RepliesSoFar-start, RepliesSoFar-line, RepliesSoFar-sent}
-use Rattle.fbuf_calls.proofs.ScriptLemmas.{replies_whole, replies_cut_short, replies_in_part}
-use Rattle.fbuf_calls.proofs.script.answer_all.Goals as goal
+use Rattle.fbuf_script.proofs.ScriptLemmas.{RepliesSoFar-start, RepliesSoFar-line, RepliesSoFar-sent}
+use Rattle.fbuf_script.proofs.ScriptLemmas.{replies_whole, replies_cut_short, replies_in_part}
+use Rattle.fbuf_script.proofs.script.answer_all.Goals as goal
 
 pub loop-line-init : goal.loop-line-init
 loop-line-init g c =

@@ -1,6 +1,6 @@
 use Rattle.std.proofs.Common.{arith, [], ◌++◌, append-nil, sym}
 use Rattle.std.proofs.KnownBytes.{Consumes-trans, Consumes-all}
-use Rattle.fbuf_calls.proofs.script.read_to_end.Goals as goal
+use Rattle.fbuf_script.proofs.script.read_to_end.Goals as goal
 
 pub returns-then-count-eq0-clause-ok : goal.returns-then-count-eq0-clause-ok
 returns-then-count-eq0-clause-ok g c =
