@@ -2,6 +2,7 @@
 ghost use Rattle.std.specs.Prelude.{◌<◌};
 
 use fbuf_calls::threads::{Gate, OpenGate, threads_run};
+use std::alloc::{AllocError, Global};
 use std::sync::Arc;
 use std::sync::atomic::AtomicU64;
 use std::sync::atomic::Ordering::SeqCst;
@@ -17,31 +18,37 @@ const LATE_TURNS: u64 = 100000;
 // threads have come to it, and how many went on alone.
 #[derive(Drop)]
 struct Passages {
-    before: [[AtomicU64; 2]; 2],
-    behind: [[AtomicU64; 2]; 2],
+    each: Vec<AtomicU64>,
     arrived: AtomicU64,
     went_alone: AtomicU64,
 }
 
-fn no_passage() -> Passages {
-    let zero = || [AtomicU64::new(0), AtomicU64::new(0)];
-    Passages {
-        before: [zero(), zero()],
-        behind: [zero(), zero()],
+// One word for each passage.
+const PASSAGES: usize = 8;
+
+fn no_passage(alloc: Global) -> Result<Passages, AllocError> {
+    let mut each = Vec::new(alloc);
+    for _ in 0..PASSAGES {
+        each.push(AtomicU64::new(0))?;
+    }
+    Ok(Passages {
+        each,
         arrived: AtomicU64::new(0),
         went_alone: AtomicU64::new(0),
+    })
+}
+
+fn count(passages: &Passages, passage: usize) {
+    if let Some(word) = passages.each.get(passage) {
+        word.fetch_add(1, SeqCst);
     }
 }
 
 // Whether each passage was made once, by two threads that met.
 fn is_each_made_once(passages: &Passages) -> bool {
-    for sides in [&passages.before, &passages.behind] {
-        for of_thread in sides {
-            for passage in of_thread {
-                if passage.load(SeqCst) != 1 {
-                    return false;
-                }
-            }
+    for word in passages.each.iter() {
+        if word.load(SeqCst) != 1 {
+            return false;
         }
     }
     passages.arrived.load(SeqCst) == 2 && passages.went_alone.load(SeqCst) == 0
@@ -57,7 +64,7 @@ impl Gate for Meeting {
     ghost opens = { λ _ thread wake. (thread < 2) × (wake < 2) };
 
     fn before(&self, thread: usize, wake: usize) {
-        self.passages.before[thread][wake].fetch_add(1, SeqCst);
+        count(&self.passages, 4 * thread + 2 * wake);
         if wake != 0 {
             return;
         }
@@ -72,13 +79,13 @@ impl Gate for Meeting {
     }
 
     fn after(&self, thread: usize, wake: usize) {
-        self.passages.behind[thread][wake].fetch_add(1, SeqCst);
+        count(&self.passages, 4 * thread + 2 * wake + 1);
     }
 }
 
 #[test]
 fn two_wakers_at_once(rt: HostRuntime) -> Result<(), Fail> {
-    let passages = Arc::new(rt.alloc(), no_passage())?;
+    let passages = Arc::new(rt.alloc(), no_passage(rt.alloc())?)?;
     let gate = Meeting {
         passages: Arc::try_clone(&passages)?,
     };
