@@ -1,5 +1,6 @@
 -- The rule of the table: it holds of an empty list, tells what a step finds, and is kept by steps, splits and joins.
-use Rattle.std.proofs.Common.{◌≡◌, ◌≢◌, ℕ, suc, ◌+◌, ◌≤◌, List, [], ◌∷◌, ◌++◌, refl, sym, ap, ◌∙◌, subst, ⊎_elim, arith, ◌<◌, get_or, set}
+use Rattle.std.proofs.Common.{◌≡◌, ◌≢◌, ℕ, suc, ◌+◌, ◌≤◌, List, [], ◌∷◌, ◌++◌, refl, sym, ap, ◌∙◌, subst, ⊎_elim, arith, ◌<◌, get_or, set, length}
+use Rattle.std.proofs.Math.Seq.{set-append_seam}
 use mathlib.Core.Option.{some, none}
 use lib.ListN.{get_elem?}
 use Rattle.futures_buffered_table.specs.declared.view.View.{View}
@@ -7,15 +8,15 @@ use Rattle.futures_buffered_table.specs.declared.view.Phase.{Phase}
 use Rattle.futures_buffered_table.specs.declared.view.Phase.TheVariants.{Start, AtStub, Moved, NoNext, Last, StubCleared, StubPut, StubLinked, InHand}
 use Rattle.futures_buffered_table.specs.declared.view.Role.{Role}
 use Rattle.futures_buffered_table.specs.declared.view.Role.TheVariants.{Idle, Won, Cleared, Swapped, Polls}
-use Rattle.atomic_table.specs.Table.{State, Me, step as table_step, keeps, Allows, Splits, Joins}
+use Rattle.atomic_table.specs.Table.{State, Me, step as table_step, keeps, Allows, Arrives, Splits, Joins}
 use Rattle.futures_buffered_table.specs.declared.view.AtomicStep.{AtomicStep}
-use Rattle.atomic_table.proofs.Lists.{at_set, at_snoc, set_again}
+use Rattle.atomic_table.proofs.Lists.{at_last, at_set, at_snoc, set_again}
 use Rattle.futures_buffered_table.specs.RowInvariant.{FitsRole, KeepsRow, outside, outside_by}
 use Rattle.futures_buffered_table.specs.View.{first_poller, new_waker_beside, spent_view, with_steps_of}
 use Rattle.futures_buffered_table.specs.Row.{IsLinked, next, owed, owed_by, same, times, total}
 use Rattle.futures_buffered_table.proofs.RowLemmas.{next_first, same_cases, same_here, total-append, total_set}
 use Rattle.futures_buffered_table.specs.Tally.{is_unmark, is_win, unmarks, wins}
-use Rattle.futures_buffered_table.specs.Rule.{HoldsRow, MayFind, PlaysRole}
+use Rattle.futures_buffered_table.specs.Rule.{HoldsRow, MayFind, PlaysNewWaker, PlaysRole}
 use Rattle.futures_buffered_table.specs.Words.{link, empty_words}
 use Rattle.futures_buffered_table.specs.Effect.{next_view, put_by_role, word_of_role}
 use Rattle.futures_buffered_table.proofs.EffectLemmas.{poll_keeps, wake_keeps}
@@ -193,25 +194,43 @@ same_sums n h rest poller words views now R outs oweds won undone seats = record
   tallied = λ e lt. let a = won e in let b = undone e in let c = R.tallied e lt in omega arith;
 }
 
-pub splits : (n id : ℕ) (v : View) → Splits (HoldsRow n) id v v (new_waker_beside v)
-splits n id v s held at =
+-- a new wake seat comes, and has made no step
+grows : (n : ℕ) (v : View) (s : State ℕ View) → HoldsRow n s →
+    HoldsRow n record { words = s.words; homes = s.homes; views = s.views ++ new_waker_beside v ∷ [] }
+grows n v s held =
     let R = held.3 in
-    let now : List View = s.views ++ new_waker_beside v ∷ [] in
-    let kept : KeepsRow n held.0 held.1 held.2 s.words now = same_sums n held.0 held.1 held.2 s.words s.views now R
-    (λ e. omega (arith, total-append (λ (u : View). outside_by n e u.role) s.views (new_waker_beside v ∷ [])))
-    (λ p. omega (arith, total-append (λ (u : View). owed_by p u.role) s.views (new_waker_beside v ∷ [])))
-    (λ e. omega (arith, total-append (λ (u : View). wins e u.steps) s.views (new_waker_beside v ∷ [])))
-    (λ e. omega (arith, total-append (λ (u : View). unmarks e u.steps) s.views (new_waker_beside v ∷ [])))
-    (λ j u e. ⊎_elim (λ t. R.seats j u t)
-    (λ (t : new_waker_beside v ≡ u). subst (λ (y : View). FitsRole n s.words held.0 held.1 held.2 j y.role
-    × (j ≢ held.2 → (x : ℕ) → unmarks x y.steps ≡ 0)) t (tt, λ _ x. refl))
-    (at_snoc s.views (new_waker_beside v) u j e)) in (
+    let now : List View = s.views ++ new_waker_beside v ∷ [] in (
       held.0,
       held.1,
       held.2,
-      subst (λ (vs : List View). KeepsRow n held.0 held.1 held.2 s.words (vs ++ new_waker_beside v ∷ []))
-          (sym (set_again s.views id v at)) kept,
+      same_sums n held.0 held.1 held.2 s.words s.views now R
+          (λ e. omega (arith, total-append (λ (u : View). outside_by n e u.role) s.views (new_waker_beside v ∷ [])))
+          (λ p. omega (arith, total-append (λ (u : View). owed_by p u.role) s.views (new_waker_beside v ∷ [])))
+          (λ e. omega (arith, total-append (λ (u : View). wins e u.steps) s.views (new_waker_beside v ∷ [])))
+          (λ e. omega (arith, total-append (λ (u : View). unmarks e u.steps) s.views (new_waker_beside v ∷ [])))
+          (λ j u e. ⊎_elim (λ t. R.seats j u t)
+          (λ (t : new_waker_beside v ≡ u). subst (λ (y : View). FitsRole n s.words held.0 held.1 held.2 j y.role
+          × (j ≢ held.2 → (x : ℕ) → unmarks x y.steps ≡ 0)) t (tt, λ _ x. refl))
+          (at_snoc s.views (new_waker_beside v) u j e)),
     )
+
+pub splits : (n id : ℕ) (v : View) → Splits (HoldsRow n) id v v (new_waker_beside v)
+splits n id v s held at =
+    subst (λ (vs : List View). HoldsRow n record { words = s.words; homes = s.homes; views = vs ++ new_waker_beside v ∷ [] })
+    (sym (set_again s.views id v at)) (grows n v s held)
+
+-- whatever the words and views are, a new wake seat can come with the mark swap of a slot
+pub arrives : (n slots i : ℕ) → i < n →
+    Arrives (HoldsRow n) slots i (λ _. 1) (PlaysNewWaker (table_step slots i 1 0 none) (first_poller n, []))
+arrives n slots i lt s held len fits =
+    let fresh = new_waker_beside (first_poller n) in
+    let more : State ℕ View = record { words = s.words; homes = s.homes; views = s.views ++ fresh ∷ [] } in
+    let w = next_view i fresh (get_or s.words i 0) in
+    let kept = keeps_rule n (length s.views) i [] Idle lt refl more (grows n (first_poller n) s held)
+    (at_last s.views fresh (length s.views) refl) in
+    let now = subst (λ (vs : List View). HoldsRow n record { words = set s.words i 1; homes = s.homes; views = vs })
+    (set-append_seam s.views fresh [] w) kept.0 in
+    (w, keeps, tt, now, (refl, refl, kept.1))
 
 pub joins : (n id other : ℕ) (v w : View) (head : ℕ) (phase : Phase) → v.role ≡ Polls head phase → w.role ≡ Idle →
     Joins (HoldsRow n) id v other w (with_steps_of v w) spent_view

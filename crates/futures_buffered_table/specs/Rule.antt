@@ -1,6 +1,6 @@
 -- The rule of the atomic table (`HoldsRow`), which holds between any two steps of any threads, and
--- what a step tells the seat that makes it (`PlaysRole`).
-use Rattle.std.specs.Prelude.{◌≡◌, ℕ, suc, ◌≤◌, List}
+-- what a step tells the seat that makes it (`PlaysRole`) or is made with it (`PlaysNewWaker`).
+use Rattle.std.specs.Prelude.{◌≡◌, ℕ, suc, ◌≤◌, List, []}
 use Rattle.atomic_table.specs.Table.{State, Me, Step as TableStep}
 use Rattle.futures_buffered_table.specs.declared.view.Phase.TheVariants.{Start, Moved, StubCleared, StubLinked}
 use Rattle.futures_buffered_table.specs.declared.view.Role.{Role}
@@ -8,6 +8,7 @@ use Rattle.futures_buffered_table.specs.declared.view.Role.TheVariants.{Idle, Cl
 use Rattle.futures_buffered_table.specs.declared.view.View.{View}
 use Rattle.futures_buffered_table.specs.RowInvariant.{KeepsRow}
 use Rattle.futures_buffered_table.specs.Effect.{next_view}
+use Rattle.futures_buffered_table.specs.View.{new_waker_beside}
 
 -- the words and all views, of a list for n slots, have a row that keeps itself, from the head of
 -- one poller to the tail
@@ -28,3 +29,8 @@ MayFind n _ found = Unit {0}
 abbrev pub PlaysRole : TableStep ℕ → Me ℕ View → ℕ → Me ℕ View → Type 0
 PlaysRole s before found after = (after.0 ≡ next_view s.word before.0 found) × (after.1 ≡ before.1)
     × MayFind before.0.stub before.0.role found
+
+-- the step of a wake seat that is made with it: as if a new one, which holds no slot of the table,
+-- had stood beside this seat
+abbrev pub PlaysNewWaker : TableStep ℕ → Me ℕ View → ℕ → Me ℕ View → Type 0
+PlaysNewWaker s beside found after = PlaysRole s (new_waker_beside beside.0, []) found after

@@ -27,8 +27,8 @@ impl Model for ReadyList {
     ghost invariant = { λ l. KeepsList l.table.shared.table_id l.table.shared.key l.capacity };
 }
 
-/// A seat that wakes slots of its list. It takes no bytes, and a thread that has none gets one by
-/// [`WakeSeat::split`].
+/// A seat that wakes slots of its list. It takes no bytes. A thread that has none gets one by
+/// [`WakeSeat::split`], or with its first wake by [`ReadyList::wake_anew`].
 #[derive(Drop)]
 pub struct WakeSeat {
     pub(crate) seat: Seat<u8, View>,

@@ -24,6 +24,15 @@ impl Play<u8, View> for SeatStep {
     ghost then = { PlaysRole };
 }
 
+/// The first step of a wake seat that is made with it.
+pub struct NewWakerStep;
+
+impl Play<u8, View> for NewWakerStep {
+    ghost use Rattle.futures_buffered_table.specs.Rule.{PlaysNewWaker};
+
+    ghost then = { PlaysNewWaker };
+}
+
 /// A new wake seat beside another seat.
 pub struct NewWaker;
 

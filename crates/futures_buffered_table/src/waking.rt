@@ -8,7 +8,7 @@ ghost use Rattle.futures_buffered_table.specs.Waking.{IsWake};
 
 use crate::answer::Woke;
 use crate::ready_list::{ReadyList, WakeSeat};
-use crate::rule::SeatStep;
+use crate::rule::{NewWakerStep, SeatStep};
 use crate::view::View;
 use atomic_table::Seat;
 
@@ -88,5 +88,35 @@ impl ReadyList {
         }
         self.put_in(&mut seat.seat, slot);
         Woke::Fresh
+    }
+
+    // Sets the slot's mark by a seat that is made with this step, and answers what the mark was.
+    fn swap_mark_anew(&self, slot: usize) -> (u64, Seat<u8, View>)
+        requires { slot < self.now.capacity }
+        ensures low { result.0 ≤ 1 }
+        ensures role { IsInRole self.now (next_role self.now.capacity slot Idle result.0) result.1 }
+        ensures steps { result.1.me.0.steps ≡ MarkSwap slot result.0 ∷ [] }
+    {
+        self.table.shared.swap_new_seat::<NewWakerStep>(slot, 1)
+    }
+
+    /// Wakes the slot as [`wake`](ReadyList::wake) does, by a wake seat that is made with the first
+    /// step and then is the caller's. So a thread that has no seat can wake.
+    ///
+    /// The seat takes no bytes and its making no step: one atomic step or four in all, none of them
+    /// tried again, with no lock and no memory.
+    pub fn wake_anew(&self, slot: usize) -> (Woke, WakeSeat)
+        requires { slot < self.now.capacity }
+        ensures list { result.1.list ≡ self.now.list }
+        ensures shape { IsWake slot result.1.steps result.0 }
+    {
+        // What the list keeps of itself is known from here on.
+        let _ = &self.table;
+        let (was, mut seat) = self.swap_mark_anew(slot);
+        if was != 0 {
+            return (Woke::Already, WakeSeat { seat });
+        }
+        self.put_in(&mut seat, slot);
+        (Woke::Fresh, WakeSeat { seat })
     }
 }
