@@ -14,6 +14,21 @@ use crate::rule::SeatStep;
 use crate::view::View;
 use atomic_table::Seat;
 
+/// What a taking calls before the one read that can make its answer Empty: the read of the tail,
+/// where the head is the stub and its link names none.
+///
+/// A wake that no taking has answered, and whose tail swap comes before that read, makes the answer
+/// Pause. One whose tail swap comes after it finds what the call left.
+pub trait BeforeEmpty {
+    /// Returns before the tail is read. Its time, memory and locks are the taking's too.
+    fn before_empty(&mut self);
+}
+
+/// Does nothing.
+impl BeforeEmpty for () {
+    fn before_empty(&mut self) {}
+}
+
 impl ReadyList {
     ghost use Rattle.futures_buffered_table.specs.ReadyList.{IsInRole, Adds};
 
@@ -175,7 +190,12 @@ impl ReadyList {
     }
 
     // Makes a taking from this head, and answers the head after it and its answer.
-    fn take_from(&self, seat: &mut Seat<u8, View>, head: usize) -> (usize, Taken)
+    fn take_from<B: BeforeEmpty>(
+        &self,
+        seat: &mut Seat<u8, View>,
+        head: usize,
+        before: &mut B,
+    ) -> (usize, Taken)
         requires role { IsInRole self.now (Polls head Start) seat.old
             × (head ≤ self.now.capacity) }
         ensures role { IsInRole self.now (Polls result.0 Start) seat.new
@@ -187,6 +207,7 @@ impl ReadyList {
         let found = self.read_first(seat, head);
         if head == self.capacity {
             if found == 0 {
+                before.before_empty();
                 let tail = self.read_tail_first(seat, head);
                 if tail == self.capacity {
                     return (head, Taken::Empty);
@@ -214,9 +235,24 @@ impl ReadyList {
         ensures shape { (shape : List AtomicStep) × (seat.new.steps ≡ seat.old.steps ++ shape)
             × IsTaking self.now.capacity seat.old.head shape result seat.new.head }
     {
+        self.take_with(seat, &mut ())
+    }
+
+    /// Takes as [`take`](ReadyList::take) does, and calls `before` where the head is the stub and
+    /// its link names none: after that link read and before the tail read.
+    ///
+    /// So it is called once where the answer is Empty, once where it is Pause with the stub as head,
+    /// and nowhere else. The taking itself has no lock and no memory.
+    pub fn take_with<B: BeforeEmpty>(&self, seat: &mut PollSeat, before: &mut B) -> Taken
+        requires { seat.old.list ≡ self.now.list }
+        ensures list { seat.new.list ≡ seat.old.list }
+        ensures named { (slot : ℕ) → result ≡ Slot slot → slot < self.now.capacity }
+        ensures shape { (shape : List AtomicStep) × (seat.new.steps ≡ seat.old.steps ++ shape)
+            × IsTaking self.now.capacity seat.old.head shape result seat.new.head }
+    {
         // What the list keeps of itself is known from here on.
         let _ = &self.table;
-        let (head, taken) = self.take_from(&mut seat.seat, seat.head);
+        let (head, taken) = self.take_from(&mut seat.seat, seat.head, before);
         seat.head = head;
         taken
     }

@@ -2,15 +2,15 @@ use Rattle.std.proofs.Common.{ap, arith}
 use Rattle.futures_buffered_table.specs.ReadyList.{Poller}
 use Rattle.futures_buffered_table.proofs.ReadyListLemmas.{in_role, seat_kept}
 use Rattle.futures_buffered_table.proofs.TakingLemmas.{taken}
-use Rattle.futures_buffered_table.proofs.ready_list.ReadyList.take.Goals as goal
+use Rattle.futures_buffered_table.proofs.ready_list.ReadyList.take_with.Goals as goal
 
 pub take_from-head-requires : goal.take_from-head-requires
-take_from-head-requires c =
+take_from-head-requires g c =
     let sits = in_role _ _ _ c.self.invariant _ c.self.view_is c.seat.inside.seat _ _ c.seat.invariant.seat
     (ap (λ (v : Poller). v.list) c.seat.view_is) c.requires in
     record { role = (sits, (let a = c.seat.invariant.low in let b = sits.1 in omega arith)) }
 
 pub invariant_of-seat : goal.invariant_of-seat
-invariant_of-seat c =
+invariant_of-seat g c =
     let did = c.take_from-head.ensures in let now = c.take_from-head.new.seat in
     taken _ now _ did.role.0 (seat_kept _ _ _ c.self.invariant _ c.self.view_is now _ did.role.0) did.role.1
