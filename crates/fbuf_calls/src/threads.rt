@@ -98,7 +98,7 @@ impl Gate for OpenGate {
 #[derive(Drop)]
 struct Seat<R> {
     wakes: AtomicU64,
-    waker: Mutex<Option<SlotWake<R>>>,
+    waker: Mutex<Option<SlotWake>>,
 }
 
 // Answers its number once its seat has counted all wakes.
@@ -110,7 +110,7 @@ struct AllWakes<R> {
     seat: Arc<Seat<R>>,
 }
 
-impl<R: Wait + Drop> SlotFuture<SlotWake<R>> for AllWakes<R> {
+impl<R: Wait + Drop> SlotFuture<SlotWake> for AllWakes<R> {
     ghost use Rattle.std.specs.Prelude.{◌≡◌};
     ghost use Rattle.futures.specs.Poll.{IfReady};
 
@@ -118,7 +118,7 @@ impl<R: Wait + Drop> SlotFuture<SlotWake<R>> for AllWakes<R> {
 
     ghost polled = { λ _ old answer new. IfReady answer (λ number. number ≡ old.number) };
 
-    fn poll(&mut self, waker: &SlotWake<R>) -> Poll<usize> {
+    fn poll(&mut self, waker: &SlotWake) -> Poll<usize> {
         if self.seat.wakes.load(SeqCst) >= self.goal {
             return Poll::Ready(self.number);
         }
@@ -130,7 +130,7 @@ impl<R: Wait + Drop> SlotFuture<SlotWake<R>> for AllWakes<R> {
     }
 }
 
-type Set<R> = FuturesUnorderedBounded<AllWakes<R>, SharedReady<R>>;
+type Set<R> = FuturesUnorderedBounded<AllWakes<R>, SharedReady>;
 
 // One thread's wakes.
 fn wake_slot<R: Wait, G: Gate>(
@@ -138,7 +138,7 @@ fn wake_slot<R: Wait, G: Gate>(
     thread: usize,
     m: usize,
     seat: &Seat<R>,
-    waker: &SlotWake<R>,
+    waker: &SlotWake,
 )
     requires { (wake : ℕ) → wake < m → G.opens gate.now thread wake }
 {
@@ -224,7 +224,7 @@ fn new_set<R: Wait + Clone + Drop>(rt: &R, alloc: Global, n: usize) -> Result<Se
     ensures set { IfOk result (λ set. set.slots ≡ no_slots n) }
     ensures fault { IfErr result (λ fault. fault ≡ ThreadsFault.Memory) }
 {
-    match FuturesUnorderedBounded::new(rt, alloc, n) {
+    match FuturesUnorderedBounded::new(alloc, n) {
         Ok(set) => Ok(set),
         Err(NewFault::Memory) => Err(ThreadsFault::Memory),
         Err(NewFault::TooLarge) => unreachable!(),

@@ -19,7 +19,7 @@ impl<W: WakesSlot> SlotFuture<W> for Square {
 }
 
 fn main(rt: HostRuntime) -> Result<(), anyhow::Error> {
-    let mut set = FuturesUnorderedBounded::new(&rt, rt.alloc(), 4)?;
+    let mut set = FuturesUnorderedBounded::new(rt.alloc(), 4)?;
     for number in 0..4u64 {
         if let Err(_refused) = set.try_push(Square(number)) {
             break;

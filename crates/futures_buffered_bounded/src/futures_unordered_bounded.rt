@@ -25,7 +25,6 @@ use futures_buffered_core::slot_map::PinSlotMap;
 use std::alloc::Global;
 use std::fmt;
 use std::marker::Model;
-use std::sync::Wait;
 
 /// How many names one poll takes from the source, at most.
 pub const POLL_LIMIT: usize = 61;
@@ -34,7 +33,7 @@ const _: () = prove!(POLL_LIMIT == 61);
 
 /// Futures in slots, over a source that names the slots to poll.
 ///
-/// A contract sees what each slot holds and which slots are free, the content of the source, and the limit of names of one poll. The calls take no memory once the set is made. They wait for nobody where those of the source do not.
+/// A contract sees what each slot holds and which slots are free, the content of the source, and the limit of names of one poll. The calls take no memory once the set is made, and wait for nobody where those of the source do not: those of `CoreSource` and `SharedReady` do not.
 #[derive(Drop)]
 pub struct FuturesUnorderedBounded<F: Drop, S: ReadySource> {
     slots: PinSlotMap<F>,
@@ -341,24 +340,23 @@ impl<F: SlotFuture<S::Waker>, S: ReadySource> Stream for FuturesUnorderedBounded
     }
 }
 
-impl<R: Wait + Clone + Drop, F: Drop> FuturesUnorderedBounded<F, SharedReady<R>> {
+impl<F: Drop> FuturesUnorderedBounded<F, SharedReady> {
     ghost use Rattle.std.specs.Prelude.{List};
 
-    /// An empty set whose values are woken from any thread. It keeps a copy of the handle.
+    /// An empty set whose values are woken from any thread.
     ///
-    /// Takes time and memory in proportion to `cap`, all that the set ever needs. `Memory` where a request for memory was refused, or the handle could not be copied.
-    pub fn new(env: &R, alloc: Global, cap: usize) -> Result<Self, NewFault>
+    /// Takes time and memory in proportion to `cap`, all that the set ever needs. `Memory` where a request for it was refused.
+    pub fn new(alloc: Global, cap: usize) -> Result<Self, NewFault>
         ensures empty { IfOk result (λ set. set.slots ≡ no_slots cap) }
         ensures source { IfOk result (λ set. IsNewShared cap set.source) }
         ensures limit { IfOk result (λ set. set.limit ≡ POLL_LIMIT) }
         ensures refuses { RefusesTooLarge cap result }
     {
-        Self::with_new_source(env, alloc, cap)
+        Self::with_new_source(&(), alloc, cap)
     }
 
     /// A set without a free slot, which holds item k in slot k, each marked, in this order, and whose values are woken from any thread. It is `over` with a shared source, and refuses as `over` does.
     pub fn from_iter<I: IntoIterator<Item = F>>(
-        env: &R,
         alloc: Global,
         iter: I,
     ) -> Result<Self, NewFault>
@@ -372,7 +370,7 @@ impl<R: Wait + Clone + Drop, F: Drop> FuturesUnorderedBounded<F, SharedReady<R>>
         ensures large { result ≡ Err NewFault.TooLarge
             → DrawsMoreThan I.into_iter_gives I.IntoIter.next_gives iter MAX_CAPACITY }
     {
-        Self::over(env, alloc, iter)
+        Self::over(&(), alloc, iter)
     }
 }
 

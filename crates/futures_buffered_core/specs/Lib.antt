@@ -19,8 +19,10 @@ pub mod ReadyCore
 pub mod KeepsOnce
 pub mod History
 pub mod WrongName
+pub mod ReadySource
 pub mod ScriptSource
 pub mod ReadyShared
+pub mod ReadySharedInvariant
 pub mod SlotMap
 pub mod SlotMapInvariant
 pub mod SlotMapLends

@@ -92,13 +92,21 @@ impl ReadySource for CoreSource {
 }
 
 impl NewSource for CoreSource {
-    ghost use Rattle.std.specs.Prelude.{◌≡◌, []};
+    ghost use Rattle.std.specs.Prelude.{◌≡◌, [], refl};
 
     type Env = ();
 
     ghost made = { λ cap new. new ≡ record { capacity = cap; marked = [] } };
 
     ghost made_slots = { λ cap new h. Prim.cc (h) };
+
+    ghost covered = { λ s. refl };
+
+    ghost mark_waits = { λ old i woke new h n. (λ k. k, λ k. k) };
+
+    ghost take_waits = { λ old taken new h n. (λ k. k, λ k. k) };
+
+    ghost register_waits = { λ old new h n. (λ k. k, λ k. k) };
 
     fn make(_env: &(), alloc: Global, cap: usize) -> Result<CoreSource, NewFault> {
         let core = ReadyCore::new(alloc, cap)?;
@@ -108,5 +116,9 @@ impl NewSource for CoreSource {
             source: Source::new(),
             task: None,
         })
+    }
+
+    fn make_beside(&mut self, alloc: Global, cap: usize) -> Result<CoreSource, NewFault> {
+        CoreSource::make(&(), alloc, cap)
     }
 }

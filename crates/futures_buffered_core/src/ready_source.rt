@@ -8,6 +8,7 @@ ghost use Rattle.futures_buffered_table.specs.declared.answer.Woke.{Woke};
 ghost use Rattle.futures_buffered_table.specs.declared.answer.Taken.{Taken};
 ghost use Rattle.futures_buffered_table.specs.declared.answer.Taken.TheVariants.{Slot};
 ghost use Rattle.futures_buffered_table.specs.Answer.{RefusesTooLarge};
+ghost use Rattle.futures_buffered_core.specs.ReadySource.{WaitsAlike};
 
 pub use crate::core_source::{CoreSource, Silent};
 use crate::ready_core::{NewFault, Taken, Woke};
@@ -98,9 +99,9 @@ pub trait ReadySource: Drop {
         registers old new → (n : ℕ) → needs new n → needs old n };
 }
 
-/// A source that a set can make for itself.
+/// A source that a set can make for itself, and to which it can add others beside it.
 pub trait NewSource: ReadySource {
-    /// What making one needs besides memory, as a handle for locks.
+    /// What making one needs besides memory.
     type Env: Drop;
 
     // What a new source of this capacity may be.
@@ -111,6 +112,27 @@ pub trait NewSource: ReadySource {
         ensures made { IfOk result (made cap) }
         ensures refuses { RefusesTooLarge cap result };
 
+    /// A source of `cap` slots beside this one: a fresh wake of either wakes the task that registered last at either. So in one poll that asks both, one registration covers both.
+    ///
+    /// Takes time and memory as `make` does, and where it is refused nothing changes.
+    fn make_beside(&mut self, alloc: Global, cap: usize) -> Result<Self, NewFault>
+        ensures made { IfOk result (made cap) }
+        ensures beside { IfOk result (WaitsAlike Self.needs self.old) }
+        ensures same { self.new ≡ self.old }
+        ensures refuses { RefusesTooLarge cap result };
+
     // A new source has the capacity that was asked for.
     ghost made_slots: { (cap : ℕ) (new : Self) → made cap new → Self.slots new ≡ cap };
+
+    // A source at which nobody registers, since a source beside it did, is as after a registration.
+    ghost covered: { (s : Self) → Self.registers s s };
+
+    // It waits at the same places for good, so sources that stand beside one another stay so.
+    ghost mark_waits: { (old : Self) (i : ℕ) (woke : Woke) (new : Self) →
+        Self.marks old i woke new → WaitsAlike Self.needs old new };
+
+    ghost take_waits: { (old : Self) (taken : Taken) (new : Self) →
+        Self.takes old taken new → WaitsAlike Self.needs old new };
+
+    ghost register_waits: { (old new : Self) → Self.registers old new → WaitsAlike Self.needs old new };
 }

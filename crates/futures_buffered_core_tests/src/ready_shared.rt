@@ -12,7 +12,7 @@ use std::thread;
 #[test]
 fn a_fresh_wake_takes_the_outer_waker(rt: HostRuntime) -> Result<(), Fail> {
     let wakes = Arc::new(rt.alloc(), AtomicU64::new(0))?;
-    let mut source: SharedReady<_, CountingWaker> = SharedReady::new(&rt, rt.alloc(), 3)?;
+    let mut source: SharedReady<CountingWaker> = SharedReady::new(rt.alloc(), 3)?;
     assert_eq!(rt; source.take(), Taken::Empty);
     assert_eq!(rt; source.mark(1), Woke::Fresh);
     source.set_outer(CountingWaker::new(Arc::try_clone(&wakes)?));
@@ -57,7 +57,7 @@ fn wakes_both_when_asked<W: SlotWaker>(
 fn two_slots_are_woken_from_inside_the_outer_wake(rt: HostRuntime) -> Result<(), Fail> {
     let asked = Arc::new(rt.alloc(), AtomicU64::new(0))?;
     let answered = Arc::new(rt.alloc(), AtomicU64::new(0))?;
-    let mut source = SharedReady::new(&rt, rt.alloc(), 3)?;
+    let mut source = SharedReady::new(rt.alloc(), 3)?;
     let outer = AskingWaker::new(Arc::try_clone(&asked)?, Arc::try_clone(&answered)?, TURNS);
     source.set_outer(outer);
     let first = source.waker(2).try_clone()?;
@@ -78,14 +78,12 @@ fn two_slots_are_woken_from_inside_the_outer_wake(rt: HostRuntime) -> Result<(),
 
 #[test]
 fn a_source_that_is_too_large(rt: HostRuntime) {
-    let made: Result<SharedReady<_, CountingWaker>, _> = SharedReady::new(
-        &rt,
+    let made: Result<SharedReady<CountingWaker>, _> = SharedReady::new(
         rt.alloc(),
         MAX_CAPACITY + 1,
     );
     assert!(rt; matches!(made, Err(NewFault::TooLarge)));
-    let made: Result<SharedReady<_, CountingWaker>, _> = SharedReady::new(
-        &rt,
+    let made: Result<SharedReady<CountingWaker>, _> = SharedReady::new(
         rt.alloc(),
         MAX_CAPACITY,
     );

@@ -6,35 +6,35 @@ use std::alloc::{AllocError, Global};
 use std::sync::{Arc, Mutex, Wait};
 
 /// Where a waker is kept. It is empty where none could be made.
-pub type WakerPlace<R> = Arc<Mutex<Option<SlotWake<R>>>>;
+pub type WakerPlace = Arc<Mutex<Option<SlotWake>>>;
 
 /// Pending for good. Each poll keeps the waker in place of the one before.
 #[derive(Drop)]
 pub struct Kept<R> {
     rt: R,
-    place: WakerPlace<R>,
+    place: WakerPlace,
 }
 
 impl<R> Kept<R> {
-    pub fn new(rt: R, place: WakerPlace<R>) -> Kept<R> {
+    pub fn new(rt: R, place: WakerPlace) -> Kept<R> {
         Kept { rt, place }
     }
 }
 
-impl<R: Wait + Drop> SlotFuture<SlotWake<R>> for Kept<R> {
+impl<R: Wait + Drop> SlotFuture<SlotWake> for Kept<R> {
     type Output = ();
 
-    fn poll(&mut self, waker: &SlotWake<R>) -> Poll<()> {
+    fn poll(&mut self, waker: &SlotWake) -> Poll<()> {
         *self.place.lock(&self.rt) = waker.try_clone().ok();
         Poll::Pending
     }
 }
 
-pub fn empty_place<R: Drop>(alloc: Global) -> Result<WakerPlace<R>, AllocError> {
+pub fn empty_place(alloc: Global) -> Result<WakerPlace, AllocError> {
     Ok(Arc::new(alloc, Mutex::new(None))?)
 }
 
 /// Takes out the waker that was kept last.
-pub fn taken_from<R: Wait + Drop>(rt: &R, place: &WakerPlace<R>) -> Option<SlotWake<R>> {
+pub fn taken_from<R: Wait + Drop>(rt: &R, place: &WakerPlace) -> Option<SlotWake> {
     place.lock(rt).take()
 }

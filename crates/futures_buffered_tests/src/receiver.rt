@@ -7,22 +7,22 @@ use std::alloc::{AllocError, Global};
 use std::sync::{Arc, Mutex, Wait};
 
 #[derive(Drop)]
-struct Cell<T, R> {
+struct Cell<T> {
     value: Option<T>,
-    waker: Option<SlotWake<R>>,
+    waker: Option<SlotWake>,
 }
 
 #[derive(Drop)]
 pub struct Sender<T, R> {
     rt: R,
-    cell: Arc<Mutex<Cell<T, R>>>,
+    cell: Arc<Mutex<Cell<T>>>,
 }
 
 /// Pending until a value is sent, then ready with `Ok` of it. It is an error where its waker can't be kept.
 #[derive(Drop)]
 pub struct Receiver<T, R> {
     rt: R,
-    cell: Arc<Mutex<Cell<T, R>>>,
+    cell: Arc<Mutex<Cell<T>>>,
 }
 
 pub fn one_shot<T: Drop, R: Clone + Drop>(
@@ -57,10 +57,10 @@ impl<T: Drop, R: Wait + Drop> Sender<T, R> {
     }
 }
 
-impl<T: Drop, R: Wait + Drop> SlotFuture<SlotWake<R>> for Receiver<T, R> {
+impl<T: Drop, R: Wait + Drop> SlotFuture<SlotWake> for Receiver<T, R> {
     type Output = Result<T, AllocError>;
 
-    fn poll(&mut self, waker: &SlotWake<R>) -> Poll<Result<T, AllocError>> {
+    fn poll(&mut self, waker: &SlotWake) -> Poll<Result<T, AllocError>> {
         let mut guard = self.cell.lock(&self.rt);
         let cell = &mut *guard;
         if let Some(value) = cell.value.take() {

@@ -11,12 +11,12 @@ use std::sync::atomic::AtomicU64;
 use std::sync::atomic::Ordering::SeqCst;
 use std::test::Fail;
 
-type Set<R> = FuturesUnorderedBounded<Counted<Receiver<usize, R>>, SharedReady<R>>;
+type Set<R> = FuturesUnorderedBounded<Counted<Receiver<usize, R>>, SharedReady>;
 
 #[test]
 fn five_polls_name_all_256(rt: HostRuntime) -> Result<(), Fail> {
     let task = MockTask::new(&rt)?;
-    let mut set: Set<_> = FuturesUnorderedBounded::new(&rt, rt.alloc(), 256)?;
+    let mut set: Set<_> = FuturesUnorderedBounded::new(rt.alloc(), 256)?;
     let polls = Arc::new(rt.alloc(), AtomicU64::new(0))?;
     let mut senders = Vec::new(rt.alloc());
     for _ in 0..256 {

@@ -7,10 +7,9 @@ use futures_buffered_core::ready_core::Woke;
 use futures_buffered_core::ready_shared::SharedReady;
 use futures_buffered_sets::futures_unordered_bounded::FuturesUnorderedBounded;
 use std::alloc::{AllocError, Global};
-use std::sync::Wait;
 use std::test::Fail;
 
-type Shared<F, R> = FuturesUnorderedBounded<F, SharedReady<R>>;
+type Shared<F> = FuturesUnorderedBounded<F, SharedReady>;
 
 fn items(alloc: Global, count: u64) -> Result<Vec<Timed>, AllocError> {
     let mut items = Vec::new(alloc);
@@ -24,7 +23,7 @@ fn items(alloc: Global, count: u64) -> Result<Vec<Timed>, AllocError> {
 }
 
 // Whether a set of this many items gives each, in order, and then the end.
-fn gives_all<R: Wait + Drop>(task: &MockTask, set: &mut Shared<Timed, R>, count: u64) -> bool {
+fn gives_all(task: &MockTask, set: &mut Shared<Timed>, count: u64) -> bool {
     for value in 0..count {
         if poll_set(task, set) != Poll::Ready(Some(value)) {
             return false;
@@ -36,7 +35,7 @@ fn gives_all<R: Wait + Drop>(task: &MockTask, set: &mut Shared<Timed, R>, count:
 #[test]
 fn from_iter_marks_each_item(rt: HostRuntime) -> Result<(), Fail> {
     let task = MockTask::new(&rt)?;
-    let mut set = FuturesUnorderedBounded::from_iter(&rt, rt.alloc(), items(rt.alloc(), 10)?)?;
+    let mut set = FuturesUnorderedBounded::from_iter(rt.alloc(), items(rt.alloc(), 10)?)?;
     assert!(rt; gives_all(&task, &mut set, 10));
     Ok(())
 }
@@ -45,7 +44,7 @@ fn from_iter_marks_each_item(rt: HostRuntime) -> Result<(), Fail> {
 fn over_marks_each_item(rt: HostRuntime) -> Result<(), Fail> {
     let task = MockTask::new(&rt)?;
     let items = items(rt.alloc(), 10)?;
-    let mut set: Shared<Timed, _> = FuturesUnorderedBounded::over(&rt, rt.alloc(), items)?;
+    let mut set: Shared<Timed> = FuturesUnorderedBounded::over(&(), rt.alloc(), items)?;
     assert!(rt; gives_all(&task, &mut set, 10));
     Ok(())
 }
@@ -54,13 +53,13 @@ fn over_marks_each_item(rt: HostRuntime) -> Result<(), Fail> {
 #[test]
 fn names_each_of_300_slots(rt: HostRuntime) -> Result<(), Fail> {
     let task = MockTask::new(&rt)?;
-    let mut set = FuturesUnorderedBounded::from_iter(&rt, rt.alloc(), items(rt.alloc(), 300)?)?;
+    let mut set = FuturesUnorderedBounded::from_iter(rt.alloc(), items(rt.alloc(), 300)?)?;
     assert!(rt; gives_all(&task, &mut set, 300));
     Ok(())
 }
 
 // How many slots of the set are not marked. It marks each.
-fn marks_all<R: Wait + Drop>(set: &mut Shared<Timed, R>) -> usize {
+fn marks_all(set: &mut Shared<Timed>) -> usize {
     let mut fresh = 0usize;
     for i in 0..set.capacity() {
         if i < set.capacity() && set.mark_slot(i) == Woke::Fresh {
@@ -72,13 +71,13 @@ fn marks_all<R: Wait + Drop>(set: &mut Shared<Timed, R>) -> usize {
 
 #[test]
 fn a_new_set_has_no_mark(rt: HostRuntime) -> Result<(), Fail> {
-    let mut set = FuturesUnorderedBounded::new(&rt, rt.alloc(), 300)?;
+    let mut set = FuturesUnorderedBounded::new(rt.alloc(), 300)?;
     assert_eq!(rt; (marks_all(&mut set), marks_all(&mut set)), (300, 0));
     Ok(())
 }
 
 // What a poll gave, and whether the task is woken after it.
-fn gives<R: Wait + Drop>(task: &MockTask, set: &mut Shared<Timed, R>) -> (Poll<Option<u64>>, bool) {
+fn gives(task: &MockTask, set: &mut Shared<Timed>) -> (Poll<Option<u64>>, bool) {
     let given = poll_set(task, set);
     (given, task.is_woken())
 }
@@ -86,7 +85,7 @@ fn gives<R: Wait + Drop>(task: &MockTask, set: &mut Shared<Timed, R>) -> (Poll<O
 #[test]
 fn an_output_wakes_nobody(rt: HostRuntime) -> Result<(), Fail> {
     let task = MockTask::new(&rt)?;
-    let mut set = FuturesUnorderedBounded::from_iter(&rt, rt.alloc(), items(rt.alloc(), 2)?)?;
+    let mut set = FuturesUnorderedBounded::from_iter(rt.alloc(), items(rt.alloc(), 2)?)?;
     assert_eq!(rt; gives(&task, &mut set), (Poll::Ready(Some(0)), false));
     assert_eq!(rt; gives(&task, &mut set), (Poll::Ready(Some(1)), false));
     Ok(())
@@ -96,7 +95,7 @@ fn an_output_wakes_nobody(rt: HostRuntime) -> Result<(), Fail> {
 #[test]
 fn an_end_wakes_nobody(rt: HostRuntime) -> Result<(), Fail> {
     let task = MockTask::new(&rt)?;
-    let mut set = FuturesUnorderedBounded::new(&rt, rt.alloc(), 1)?;
+    let mut set = FuturesUnorderedBounded::new(rt.alloc(), 1)?;
     assert_eq!(rt; gives(&task, &mut set), (Poll::Ready(None), false));
     drop(set);
     assert!(rt; !task.is_woken());
@@ -105,7 +104,7 @@ fn an_end_wakes_nobody(rt: HostRuntime) -> Result<(), Fail> {
 
 #[test]
 fn prints_what_it_holds(rt: HostRuntime) -> Result<(), Fail> {
-    let set = FuturesUnorderedBounded::from_iter(&rt, rt.alloc(), items(rt.alloc(), 2)?)?;
+    let set = FuturesUnorderedBounded::from_iter(rt.alloc(), items(rt.alloc(), 2)?)?;
     let text = format!(in rt.alloc(); "{set:?}")?;
     assert_eq!(rt; text.as_str(), "FuturesUnorderedBounded { len: 2, .. }");
     Ok(())

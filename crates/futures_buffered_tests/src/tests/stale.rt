@@ -21,10 +21,10 @@ struct Keeper<R> {
     ends: bool,
 }
 
-impl<R: Wait + Drop> SlotFuture<SlotWake<R>> for Keeper<R> {
+impl<R: Wait + Drop> SlotFuture<SlotWake> for Keeper<R> {
     type Output = ();
 
-    fn poll(&mut self, waker: &SlotWake<R>) -> Poll<()> {
+    fn poll(&mut self, waker: &SlotWake) -> Poll<()> {
         let polled = self.kept.poll(waker);
         if self.ends {
             return Poll::Ready(());
@@ -33,11 +33,11 @@ impl<R: Wait + Drop> SlotFuture<SlotWake<R>> for Keeper<R> {
     }
 }
 
-type Set<R> = FuturesUnorderedBounded<Counted<Keeper<R>>, SharedReady<R>>;
+type Set<R> = FuturesUnorderedBounded<Counted<Keeper<R>>, SharedReady>;
 
 fn counted_keeper<R: Drop>(
     rt: R,
-    place: &WakerPlace<R>,
+    place: &WakerPlace,
     ends: bool,
     polls: &Arc<AtomicU64>,
 ) -> Result<Counted<Keeper<R>>, AllocError> {
@@ -50,14 +50,14 @@ fn counted_keeper<R: Drop>(
 #[derive(Drop)]
 struct Row<R: Wait + Clone + Drop> {
     set: Set<R>,
-    place: WakerPlace<R>,
+    place: WakerPlace,
     first: Arc<AtomicU64>,
     second: Arc<AtomicU64>,
     third: Arc<AtomicU64>,
 }
 
 fn new_row<R: Wait + Clone + Drop + Send + Sync>(rt: &R, alloc: Global) -> Result<Row<R>, Fail> {
-    let set = FuturesUnorderedBounded::new(rt, alloc, 2)?;
+    let set = FuturesUnorderedBounded::new(alloc, 2)?;
     let place = empty_place(alloc)?;
     let first = Arc::new(alloc, AtomicU64::new(0))?;
     let second = Arc::new(alloc, AtomicU64::new(0))?;
@@ -75,7 +75,7 @@ fn new_row<R: Wait + Clone + Drop + Send + Sync>(rt: &R, alloc: Global) -> Resul
 fn pushes<R: Wait + Clone + Drop>(
     rt: R,
     set: &mut Set<R>,
-    place: &WakerPlace<R>,
+    place: &WakerPlace,
     ends: bool,
     polls: &Arc<AtomicU64>,
 ) -> bool {

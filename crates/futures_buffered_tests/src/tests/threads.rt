@@ -12,13 +12,13 @@ use std::sync::Wait;
 use std::test::Fail;
 use std::thread;
 
-type Shared<F, R> = FuturesUnorderedBounded<F, SharedReady<R>>;
+type Shared<F> = FuturesUnorderedBounded<F, SharedReady>;
 
 // The set gives each receiver, and each has its sender.
 fn receivers<R: Wait + Clone + Drop>(
     rt: &R,
     alloc: Global,
-    set: &mut Shared<Receiver<u64, R>, R>,
+    set: &mut Shared<Receiver<u64, R>>,
 ) -> Result<Vec<Sender<u64, R>>, AllocError> {
     let mut senders = Vec::new(alloc);
     for _ in 0..4 {
@@ -31,7 +31,7 @@ fn receivers<R: Wait + Clone + Drop>(
 
 #[test]
 fn a_set_is_polled_on_another_thread(rt: HostRuntime) -> Result<(), Fail> {
-    let mut set: Shared<Timed, _> = FuturesUnorderedBounded::new(&rt, rt.alloc(), 2)?;
+    let mut set: Shared<Timed> = FuturesUnorderedBounded::new(rt.alloc(), 2)?;
     assert!(rt;
         set.try_push(Timed {
             value: 1,
@@ -54,7 +54,7 @@ fn a_set_is_polled_on_another_thread(rt: HostRuntime) -> Result<(), Fail> {
 
 #[test]
 fn a_set_that_yields_is_polled_on_another_thread(rt: HostRuntime) -> Result<(), Fail> {
-    let mut set: Shared<Yield, _> = FuturesUnorderedBounded::new(&rt, rt.alloc(), 2)?;
+    let mut set: Shared<Yield> = FuturesUnorderedBounded::new(rt.alloc(), 2)?;
     assert!(rt; set.try_push(Yield::new()).is_ok());
     assert!(rt; set.try_push(Yield::new()).is_ok());
     let child = thread::spawn(&rt, move || block_on(&rt, set.count()))?;
@@ -64,7 +64,7 @@ fn a_set_that_yields_is_polled_on_another_thread(rt: HostRuntime) -> Result<(), 
 
 #[test]
 fn next_and_fold_while_a_thread_wakes(rt: HostRuntime) -> Result<(), Fail> {
-    let mut set = FuturesUnorderedBounded::new(&rt, rt.alloc(), 4)?;
+    let mut set = FuturesUnorderedBounded::new(rt.alloc(), 4)?;
     let senders = receivers(&rt, rt.alloc(), &mut set)?;
     let child = thread::spawn(&rt, move || {
         for (bit, sender) in [1, 2, 4, 8].iter().zip(&senders) {
@@ -82,7 +82,7 @@ fn next_and_fold_while_a_thread_wakes(rt: HostRuntime) -> Result<(), Fail> {
 
 #[test]
 fn collect_while_a_thread_wakes(rt: HostRuntime) -> Result<(), Fail> {
-    let mut set = FuturesUnorderedBounded::new(&rt, rt.alloc(), 4)?;
+    let mut set = FuturesUnorderedBounded::new(rt.alloc(), 4)?;
     let senders = receivers(&rt, rt.alloc(), &mut set)?;
     let child = thread::spawn(&rt, move || {
         for (value, sender) in [5, 6, 7, 8].iter().zip(&senders) {

@@ -12,13 +12,13 @@ use std::sync::atomic::Ordering::SeqCst;
 use std::sync::{Arc, Wait};
 use std::test::Fail;
 
-type Set<R> = FuturesUnorderedBounded<Counted<Kept<R>>, SharedReady<R>>;
+type Set<R> = FuturesUnorderedBounded<Counted<Kept<R>>, SharedReady>;
 
 // A set, the place of the waker that was kept last, and how often a future was polled.
 #[derive(Drop)]
 struct Row<R: Wait + Clone + Drop> {
     set: Set<R>,
-    place: WakerPlace<R>,
+    place: WakerPlace,
     polls: Arc<AtomicU64>,
 }
 
@@ -26,7 +26,7 @@ fn new_row<R>(rt: &R, alloc: Global, capacity: usize) -> Result<Row<R>, Fail>
 where
     R: Wait + Clone + Drop + Send + Sync,
 {
-    let set = FuturesUnorderedBounded::new(rt, alloc, capacity)?;
+    let set = FuturesUnorderedBounded::new(alloc, capacity)?;
     let place = empty_place(alloc)?;
     let polls = Arc::new(alloc, AtomicU64::new(0))?;
     Ok(Row { set, place, polls })
@@ -55,7 +55,7 @@ fn polled<R: Wait + Clone + Drop>(task: &MockTask, row: &mut Row<R>) -> (bool, u
     (is_pending, row.polls.load(SeqCst))
 }
 
-fn kept_waker<R: Wait + Clone + Drop>(rt: &R, row: &Row<R>) -> Result<SlotWake<R>, Fail> {
+fn kept_waker<R: Wait + Clone + Drop>(rt: &R, row: &Row<R>) -> Result<SlotWake, Fail> {
     Ok(taken_from(rt, &row.place).ok_or("kept")?)
 }
 

@@ -12,7 +12,7 @@ use std::sync::atomic::AtomicU64;
 use std::sync::atomic::Ordering::SeqCst;
 use std::test::Fail;
 
-type Set<R> = FuturesUnorderedBounded<Counted<Yield>, SharedReady<R>>;
+type Set = FuturesUnorderedBounded<Counted<Yield>, SharedReady>;
 
 fn counted_yield(polls: &Arc<AtomicU64>) -> Result<Counted<Yield>, AllocError> {
     Ok(Counted::new(Yield::new(), Arc::try_clone(polls)?))
@@ -22,7 +22,7 @@ fn counted_yield(polls: &Arc<AtomicU64>) -> Result<Counted<Yield>, AllocError> {
 #[test]
 fn take_one_and_push_one(rt: HostRuntime) -> Result<(), Fail> {
     let task = MockTask::new(&rt)?;
-    let mut set: Set<_> = FuturesUnorderedBounded::new(&rt, rt.alloc(), 10)?;
+    let mut set: Set = FuturesUnorderedBounded::new(rt.alloc(), 10)?;
     let polls = Arc::new(rt.alloc(), AtomicU64::new(0))?;
     for _ in 0..10 {
         assert!(rt; set.try_push(counted_yield(&polls)?).is_ok());

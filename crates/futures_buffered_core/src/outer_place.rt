@@ -1,0 +1,175 @@
+//! Where a fresh wake finds the waker of the task.
+//!
+//! A wake puts its slot into the list, and looks here then. Nobody waits here: the lock is only tried, by wakes and by the poller. The poller looks into the list only after it kept its waker here, or before it puts it in and then once more. So no wake is lost, in whatever order the steps come:
+//!
+//! - The poller puts its waker in before it reads the tail that lets it answer `Empty`. A wake whose slot went into the tail before that read makes it answer `Pause`, and the task polls again. A wake whose slot went in after that read finds a waker, unless another wake took it out in between, and that one wakes the task.
+//! - A wake that finds another wake at the lock leaves the task to it: what the poller put in is in its hand, or was taken out by one before it.
+//! - A wake that finds the poller at the lock leaves its slot to the poller, which reads the tail after it has let the lock go.
+//! - The poller that finds a wake at the lock wakes the task itself.
+//!
+//! Each step is sequentially consistent, those of the lock too, so they stand in one order.
+ghost use Rattle.std.specs.Prelude.{◌≡◌, IfOk};
+ghost use Rattle.std.specs.Arc.{arc_value};
+ghost use Rattle.futures.specs.Task.{Hears, IsArmed, Keeps};
+
+use futures::task::{Context, Poll, Source, Waker};
+use std::alloc::AllocError;
+use std::marker::Model;
+use std::sync::atomic::AtomicBool;
+use std::sync::atomic::Ordering::SeqCst;
+use std::sync::{Arc, Mutex};
+
+/// What a fresh wake of a slot wakes in its turn.
+pub trait OuterWaker: Drop {
+    /// Wakes it, once. No lock of the source is held.
+    fn wake_outer(self);
+}
+
+impl OuterWaker for Waker {
+    fn wake_outer(self) {
+        self.wake();
+    }
+}
+
+// What sources that stand beside one another share with all their wakers. `is_kept` says whether a waker is kept, and changes under the lock alone.
+#[derive(Drop)]
+pub(crate) struct OuterPlace<O> {
+    source: Source,
+    is_kept: AtomicBool,
+    kept: Mutex<Option<O>>,
+}
+
+impl<O> Model for OuterPlace<O> {
+    ghost use Rattle.std.specs.Prelude.{ℕ};
+
+    ghost Value = { ℕ };
+
+    ghost view = { λ place. place.source.id };
+}
+
+impl<O: OuterWaker> OuterPlace<O> {
+    pub(crate) fn new() -> OuterPlace<O> {
+        OuterPlace {
+            source: Source::new(),
+            is_kept: AtomicBool::new(false),
+            kept: Mutex::new(None),
+        }
+    }
+
+    // Of many wakes after one registration one pays for the lock.
+    pub(crate) fn wake(&self) {
+        if self.is_kept.load(SeqCst) {
+            if let Some(outer) = self.take_out() {
+                outer.wake_outer();
+            }
+        }
+    }
+
+    fn take_out(&self) -> Option<O> {
+        let mut kept = self.kept.try_lock()?;
+        self.is_kept.store(false, SeqCst);
+        kept.take()
+    }
+
+    // The waker that was kept before is let go after the lock.
+    pub(crate) fn put_in(&self, outer: O) {
+        let _before = match self.kept.try_lock() {
+            Some(mut kept) => {
+                let before = kept.take();
+                *kept = Some(outer);
+                self.is_kept.store(true, SeqCst);
+                before
+            }
+            None => {
+                outer.wake_outer();
+                None
+            }
+        };
+    }
+}
+
+impl OuterPlace<Waker> {
+    fn register(&self, cx: &mut Context<'_>)
+        ensures armed { IsArmed cx.new }
+        ensures heard { Hears cx.new self.now }
+        ensures kept { Keeps cx.old cx.new }
+    {
+        let _: Poll<()> = match self.kept.try_lock() {
+            Some(mut kept) => {
+                let pending = cx.register(&self.source, &mut kept);
+                self.is_kept.store(true, SeqCst);
+                pending
+            }
+            None => cx.yield_now(),
+        };
+    }
+}
+
+// The poller's side. Where no source stands beside this one and the shared place keeps no waker, the task's waker is kept here, and is put in there only before the poller can answer `Empty`. So a poll that ends with an output takes no lock, and nobody wakes a task that polls again by itself.
+#[derive(Drop)]
+pub(crate) struct TaskPlace<O> {
+    shared: Arc<OuterPlace<O>>,
+    own: Option<O>,
+    stands_alone: bool,
+}
+
+impl<O> Model for TaskPlace<O> {
+    ghost use Rattle.std.specs.Prelude.{ℕ};
+    ghost use Rattle.std.specs.Arc.{arc_value};
+
+    ghost Value = { ℕ };
+
+    ghost view = { λ place. arc_value place.shared };
+}
+
+impl<O: OuterWaker> TaskPlace<O> {
+    pub(crate) fn new(shared: Arc<OuterPlace<O>>, stands_alone: bool) -> TaskPlace<O>
+        ensures { result ≡ arc_value shared }
+    {
+        TaskPlace {
+            shared,
+            own: None,
+            stands_alone,
+        }
+    }
+
+    // The shared place, for a source beside this one. What is kept here goes there.
+    pub(crate) fn share(&mut self) -> Result<Arc<OuterPlace<O>>, AllocError>
+        ensures shared { IfOk result (λ shared. arc_value shared ≡ self.old) }
+        ensures same { self.new ≡ self.old }
+    {
+        let shared = Arc::try_clone(&self.shared)?;
+        self.stands_alone = false;
+        self.before_empty();
+        Ok(shared)
+    }
+
+    pub(crate) fn put_in(&self, outer: O) {
+        self.shared.put_in(outer);
+    }
+}
+
+impl TaskPlace<Waker> {
+    pub(crate) fn register(&mut self, cx: &mut Context<'_>)
+        ensures same { self.new ≡ self.old }
+        ensures armed { IsArmed cx.new }
+        ensures heard { Hears cx.new self.old }
+        ensures kept { Keeps cx.old cx.new }
+    {
+        if !self.stands_alone || self.shared.is_kept.load(SeqCst) {
+            self.shared.register(cx);
+            return;
+        }
+        let _: Poll<()> = cx.register(&self.shared.source, &mut self.own);
+    }
+}
+
+impl<O: OuterWaker> TaskPlace<O> {
+    pub(crate) fn before_empty(&mut self)
+        ensures { self.new ≡ self.old }
+    {
+        if let Some(outer) = self.own.take() {
+            self.shared.put_in(outer);
+        }
+    }
+}
