@@ -13,7 +13,7 @@ ghost use Rattle.std.specs.Arc.{arc_value};
 ghost use Rattle.futures.specs.Task.{Hears, IsArmed, Keeps};
 
 use futures::task::{Context, Poll, Source, Waker};
-use std::alloc::AllocError;
+use std::alloc::{AllocError, Global};
 use std::marker::Model;
 use std::sync::atomic::AtomicBool;
 use std::sync::atomic::Ordering::SeqCst;
@@ -123,25 +123,34 @@ impl<O> Model for TaskPlace<O> {
 }
 
 impl<O: OuterWaker> TaskPlace<O> {
-    pub(crate) fn new(shared: Arc<OuterPlace<O>>, stands_alone: bool) -> TaskPlace<O>
-        ensures { result ≡ arc_value shared }
-    {
-        TaskPlace {
-            shared,
+    pub(crate) fn alone(alloc: Global) -> Result<TaskPlace<O>, AllocError> {
+        Ok(TaskPlace {
+            shared: Arc::new(alloc, OuterPlace::new())?,
             own: None,
-            stands_alone,
-        }
+            stands_alone: true,
+        })
     }
 
-    // The shared place, for a source beside this one. What is kept here goes there.
-    pub(crate) fn share(&mut self) -> Result<Arc<OuterPlace<O>>, AllocError>
-        ensures shared { IfOk result (λ shared. arc_value shared ≡ self.old) }
+    // The side of a source beside this one. What is kept here goes to the place that both share.
+    pub(crate) fn beside(&mut self) -> Result<TaskPlace<O>, AllocError>
+        ensures shared { IfOk result (λ place. place ≡ self.old) }
         ensures same { self.new ≡ self.old }
     {
-        let shared = Arc::try_clone(&self.shared)?;
+        let shared = self.shared()?;
         self.stands_alone = false;
         self.before_empty();
-        Ok(shared)
+        Ok(TaskPlace {
+            shared,
+            own: None,
+            stands_alone: false,
+        })
+    }
+
+    // The place in which wakes look.
+    pub(crate) fn shared(&self) -> Result<Arc<OuterPlace<O>>, AllocError>
+        ensures { IfOk result (λ shared. arc_value shared ≡ self.now) }
+    {
+        Arc::try_clone(&self.shared)
     }
 
     pub(crate) fn put_in(&self, outer: O) {
