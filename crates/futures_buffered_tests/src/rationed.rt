@@ -12,10 +12,11 @@ use std::sync::Arc;
 use std::sync::atomic::AtomicU64;
 use std::sync::atomic::Ordering::SeqCst;
 
-/// A ready core under one caller, of which `make` makes no more than the number in its `Env`: after that it answers `Memory`.
+/// A ready core under one caller, of which no more are made than the number in its `Env`: after that `make` and `make_beside` answer `Memory`.
 #[derive(Drop)]
 pub struct Rationed {
     core: CoreSource,
+    left: Arc<AtomicU64>,
 }
 
 impl Model for Rationed {
@@ -77,7 +78,7 @@ impl ReadySource for Rationed {
 }
 
 impl NewSource for Rationed {
-    ghost use Rattle.std.specs.Prelude.{◌≡◌, []};
+    ghost use Rattle.std.specs.Prelude.{◌≡◌, [], refl};
 
     type Env = Arc<AtomicU64>;
 
@@ -85,12 +86,25 @@ impl NewSource for Rationed {
 
     ghost made_slots = { λ cap new h. Prim.cc (h) };
 
+    ghost covered = { λ s. refl };
+
+    ghost mark_waits = { λ old i woke new h n. (λ k. k, λ k. k) };
+
+    ghost take_waits = { λ old taken new h n. (λ k. k, λ k. k) };
+
+    ghost register_waits = { λ old new h n. (λ k. k, λ k. k) };
+
     fn make(env: &Arc<AtomicU64>, alloc: Global, cap: usize) -> Result<Rationed, NewFault> {
         if cap <= MAX_CAPACITY && env.fetch_sub(1, SeqCst) == 0 {
             env.store(0, SeqCst);
             return Err(NewFault::Memory);
         }
         let core = CoreSource::make(&(), alloc, cap)?;
-        Ok(Rationed { core })
+        let left = Arc::try_clone(env)?;
+        Ok(Rationed { core, left })
+    }
+
+    fn make_beside(&mut self, alloc: Global, cap: usize) -> Result<Rationed, NewFault> {
+        Rationed::make(&self.left, alloc, cap)
     }
 }
