@@ -50,3 +50,11 @@ IsFromStub n shape answer head = (q : ℕ) × (rest : List AtomicStep)
 abbrev pub IsTaking : ℕ → ℕ → List AtomicStep → Taken → ℕ → Type 0
 IsTaking n h shape answer head = ((h ≡ n) × IsAtStub n shape answer head)
     ⊎ ((h ≡ n) × IsFromStub n shape answer head) ⊎ ((h ≢ n) × IsFromSlot n h shape answer head)
+
+-- how a taking changes what it calls before it can answer Empty: by one call, as `leaves` says,
+-- where it takes no slot and its head is the stub, entry n; else not at all
+abbrev pub CallsAtStub : {B : Type 0} → (B → B → Type 0) → ℕ → Taken → ℕ → B → B → Type 0
+CallsAtStub leaves n (Slot i) head before after = after ≡ before
+CallsAtStub leaves n Empty head before after = leaves before after
+CallsAtStub leaves n Pause head before after = ((head ≡ n) × leaves before after)
+    ⊎ ((head ≢ n) × (after ≡ before))

@@ -1,12 +1,12 @@
 //! A taking: the steps of the poll seat, from its head.
 ghost use Rattle.std.specs.Prelude.{◌≡◌, ◌≢◌, ℕ, ◌+◌, ◌<◌, ◌≤◌, List, [], ◌∷◌, ◌++◌};
-ghost use Rattle.futures_buffered_table.specs.declared.answer.Taken.TheVariants.{Empty, Slot};
+ghost use Rattle.futures_buffered_table.specs.declared.answer.Taken.TheVariants.{Empty, Pause, Slot};
 ghost use Rattle.futures_buffered_table.specs.declared.view.AtomicStep.{AtomicStep};
 ghost use Rattle.futures_buffered_table.specs.declared.view.AtomicStep.TheVariants.{LinkClear, TailSwap, LinkWrite, LinkRead, TailRead, Unmark};
 ghost use Rattle.futures_buffered_table.specs.declared.view.Phase.TheVariants.{Start, AtStub, Moved, NoNext, Last, StubCleared, StubPut, StubLinked, InHand};
 ghost use Rattle.futures_buffered_table.specs.declared.view.Role.TheVariants.{Polls};
 ghost use Rattle.futures_buffered_table.specs.Effect.{next_role};
-ghost use Rattle.futures_buffered_table.specs.Taking.{IsAtLast, IsFromSlot, IsTaking};
+ghost use Rattle.futures_buffered_table.specs.Taking.{CallsAtStub, IsAtLast, IsFromSlot, IsTaking};
 
 use crate::answer::Taken;
 use crate::ready_list::{PollSeat, ReadyList};
@@ -20,8 +20,12 @@ use atomic_table::Seat;
 /// A wake that no taking has answered, and whose tail swap comes before that read, makes the answer
 /// Pause. One whose tail swap comes after it finds what the call left.
 pub trait BeforeEmpty {
+    // What a call leaves, of what it found. It says nothing unless an `impl` writes it.
+    ghost leaves: { Self → Self → Type 0 } = { λ _ _. Unit {0} };
+
     /// Returns before the tail is read. Its time, memory and locks are the taking's too.
-    fn before_empty(&mut self);
+    fn before_empty(&mut self)
+        ensures { leaves self.old self.new };
 }
 
 /// Does nothing.
@@ -152,6 +156,7 @@ impl ReadyList {
         ensures role { IsInRole self.now (Polls result.0 Start) seat.new
             × (result.0 ≤ self.now.capacity) }
         ensures never { result.1 ≢ Empty }
+        ensures stays { result.1 ≡ Pause → result.0 ≡ head }
         ensures named { (slot : ℕ) → result.1 ≡ Slot slot → slot < self.now.capacity }
         ensures shape { (shape : List AtomicStep) × Adds seat.old seat.new shape
             × IsAtLast self.now.capacity head shape result.1 result.0 }
@@ -177,6 +182,7 @@ impl ReadyList {
         ensures role { IsInRole self.now (Polls result.0 Start) seat.new
             × (result.0 ≤ self.now.capacity) }
         ensures never { result.1 ≢ Empty }
+        ensures stays { result.1 ≡ Pause → result.0 ≡ head }
         ensures named { (slot : ℕ) → result.1 ≡ Slot slot → slot < self.now.capacity }
         ensures shape { (shape : List AtomicStep) × Adds seat.old seat.new shape
             × IsFromSlot self.now.capacity head shape result.1 result.0 }
@@ -203,6 +209,8 @@ impl ReadyList {
         ensures named { (slot : ℕ) → result.1 ≡ Slot slot → slot < self.now.capacity }
         ensures shape { (shape : List AtomicStep) × Adds seat.old seat.new shape
             × IsTaking self.now.capacity head shape result.1 result.0 }
+        ensures calls { CallsAtStub B.leaves self.now.capacity result.1 result.0
+            before.old before.new }
     {
         let found = self.read_first(seat, head);
         if head == self.capacity {
@@ -249,6 +257,8 @@ impl ReadyList {
         ensures named { (slot : ℕ) → result ≡ Slot slot → slot < self.now.capacity }
         ensures shape { (shape : List AtomicStep) × (seat.new.steps ≡ seat.old.steps ++ shape)
             × IsTaking self.now.capacity seat.old.head shape result seat.new.head }
+        ensures calls { CallsAtStub B.leaves self.now.capacity result seat.new.head
+            before.old before.new }
     {
         // What the list keeps of itself is known from here on.
         let _ = &self.table;

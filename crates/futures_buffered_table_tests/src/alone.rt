@@ -2,7 +2,7 @@
 ghost use Rattle.std.specs.Prelude.{◌≡◌};
 
 use futures_buffered_table::answer::{Taken, Woke};
-use futures_buffered_table::ready_table::{PollSeat, ReadyList, WakeSeat};
+use futures_buffered_table::ready_table::{BeforeEmpty, PollSeat, ReadyList, WakeSeat};
 use std::alloc::{AllocError, Global};
 use std::marker::Model;
 use std::process::Abort;
@@ -54,8 +54,23 @@ impl Alone {
         }
     }
 
+    // Wakes by a seat that is made with this wake, and that wakes from here on.
+    pub fn wake_anew(&mut self, slot: usize) -> Option<Woke> {
+        if slot < self.list.capacity() {
+            let (woke, seat) = self.list.wake_anew(slot);
+            self.seat = seat;
+            Some(woke)
+        } else {
+            None
+        }
+    }
+
     pub fn take(&mut self) -> Taken {
         self.list.take(&mut self.poll)
+    }
+
+    pub fn take_with<B: BeforeEmpty>(&mut self, before: &mut B) -> Taken {
+        self.list.take_with(&mut self.poll, before)
     }
 
     // Closes the list: whether just these slots were left marked.

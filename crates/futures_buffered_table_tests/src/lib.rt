@@ -2,12 +2,15 @@
 //!
 //! - `list`, `long_list`, `threads`: the calls of the list on one thread, over many slots, and on
 //!   four threads. `alone` holds a list with its seats.
+//! - `wake_anew`, `before_empty`: wakes by new seats, and what a taking calls.
 //! - `machine`, `schedules`, `faults`: worked schedules, whole schedules against `plain`, a slow
 //!   model of the list, and what is refused.
 #![tactic(auto)]
 
 #[cfg(test)]
 mod alone;
+#[cfg(test)]
+mod before_empty;
 #[cfg(test)]
 mod faults;
 #[cfg(test)]
@@ -22,3 +25,5 @@ mod plain;
 mod schedules;
 #[cfg(test)]
 mod threads;
+#[cfg(test)]
+mod wake_anew;

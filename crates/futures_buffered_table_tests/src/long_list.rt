@@ -90,7 +90,8 @@ fn next_number(number: u64) -> u64 {
         .wrapping_add(1442695040888963407)
 }
 
-// 20000 wakes and takings, now more of the one and now of the other, against the plain marks.
+// 20000 wakes, some by a new seat, and takings, now more of the one and now of the other, against
+// the plain marks.
 #[test]
 fn many_calls(rt: HostRuntime) -> Result<(), Fail> {
     let mut list = Alone::new(&rt, rt.alloc(), SLOTS);
@@ -105,8 +106,13 @@ fn many_calls(rt: HostRuntime) -> Result<(), Fail> {
             assert_eq!(rt; list.take(), marked.take());
         } else {
             let slot = ((number >> 40) % 100) as usize;
-            let woke = marked.wake(slot)?;
-            assert_eq!(rt; list.wake(slot), Some(woke));
+            let wanted = marked.wake(slot)?;
+            let woke = if number % 3 == 0 {
+                list.wake_anew(slot)
+            } else {
+                list.wake(slot)
+            };
+            assert_eq!(rt; woke, Some(wanted));
         }
     }
     assert!(rt; list.closes_with(rt.alloc(), marked.slots.as_slice())?);
