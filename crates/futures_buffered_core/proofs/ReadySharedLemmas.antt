@@ -1,10 +1,11 @@
 -- What a list of wakers, one for each slot, says of their number and of each of them, and what a taking names.
-use Rattle.std.proofs.Common.{◌≡◌, ℕ, ◌<◌, List, length, get_or, map, ap, ◌∙◌, zero-add, refl}
+use Rattle.std.proofs.Common.{◌≡◌, ℕ, ◌<◌, List, length, get_or, map, ap, ◌∙◌, zero-add, refl, inl, inr}
 use Rattle.std.specs.List.{range_with_len}
 use Rattle.std.proofs.lemmas.List.{length-map}
 use Rattle.std.proofs.lemmas.List.FromFn.{length-range_with_len, get_or-map-range_with_len}
 use Rattle.futures_buffered_table.specs.declared.answer.Taken.{Taken}
 use Rattle.futures_buffered_table.specs.declared.answer.Taken.TheVariants.{Slot, Empty, Pause}
+use Rattle.futures_buffered_table.specs.Taking.{CallsAtStub}
 use Rattle.futures_buffered_core.specs.ReadyCore.{IsNameBelow}
 use Rattle.futures_buffered_core.specs.ReadyShared.{SharedWaker, waker_at}
 
@@ -21,3 +22,10 @@ pub name_below : (n : ℕ) (taken : Taken) → ((slot : ℕ) → taken ≡ Slot 
 name_below n (Slot i) below = below i refl
 name_below n Empty below = tt
 name_below n Pause below = tt
+
+-- what a taking calls, where a call leaves it as it was, is as it was
+pub stays : (n : ℕ) (taken : Taken) (head before after : ℕ) → CallsAtStub (λ (old new : ℕ). new ≡ old) n taken head before after → after ≡ before
+stays n (Slot i) head before after same = same
+stays n Empty head before after same = same
+stays n Pause head before after (inl here) = here.1
+stays n Pause head before after (inr there) = there.1

@@ -13,6 +13,7 @@ ghost use Rattle.std.specs.Arc.{arc_value};
 ghost use Rattle.futures.specs.Task.{Hears, IsArmed, Keeps};
 
 use futures::task::{Context, Poll, Source, Waker};
+use futures_buffered_table::ready_table::BeforeEmpty;
 use std::alloc::{AllocError, Global};
 use std::marker::Model;
 use std::sync::atomic::AtomicBool;
@@ -173,10 +174,12 @@ impl TaskPlace<Waker> {
     }
 }
 
-impl<O: OuterWaker> TaskPlace<O> {
-    pub(crate) fn before_empty(&mut self)
-        ensures { self.new ≡ self.old }
-    {
+impl<O: OuterWaker> BeforeEmpty for TaskPlace<O> {
+    ghost use Rattle.std.specs.Prelude.{◌≡◌};
+
+    ghost leaves = { λ old new. new ≡ old };
+
+    fn before_empty(&mut self) {
         if let Some(outer) = self.own.take() {
             self.shared.put_in(outer);
         }
