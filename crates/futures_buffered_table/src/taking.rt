@@ -17,8 +17,9 @@ use atomic_table::Seat;
 /// What a taking calls before the one read that can make its answer Empty: the read of the tail,
 /// where the head is the stub and its link names none.
 ///
-/// A wake that no taking has answered, and whose tail swap comes before that read, makes the answer
-/// Pause. One whose tail swap comes after it finds what the call left.
+/// A wake whose slot is not yet taken, and whose tail swap comes before that read, makes the answer
+/// Pause. One whose tail swap comes after it finds what the call left, if it was left under a lock
+/// or by a sequentially consistent step, and is looked for after the wake.
 pub trait BeforeEmpty {
     // What a call leaves, of what it found. It says nothing unless an `impl` writes it.
     ghost leaves: { Self → Self → Type 0 } = { λ _ _. Unit {0} };
@@ -215,6 +216,8 @@ impl ReadyList {
         let found = self.read_first(seat, head);
         if head == self.capacity {
             if found == 0 {
+                // A wake that swaps the tail before the next read makes the answer Pause. One that
+                // swaps it later finds what this call leaves.
                 before.before_empty();
                 let tail = self.read_tail_first(seat, head);
                 if tail == self.capacity {
