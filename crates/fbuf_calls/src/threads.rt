@@ -96,7 +96,7 @@ impl Gate for OpenGate {
 
 // What a future and the thread that wakes it share.
 #[derive(Drop)]
-struct Seat<R> {
+struct Seat {
     wakes: AtomicU64,
     waker: Mutex<Option<SlotWake>>,
 }
@@ -107,7 +107,7 @@ struct AllWakes<R> {
     rt: R,
     number: usize,
     goal: u64,
-    seat: Arc<Seat<R>>,
+    seat: Arc<Seat>,
 }
 
 impl<R: Wait + Drop> SlotFuture<SlotWake> for AllWakes<R> {
@@ -133,11 +133,11 @@ impl<R: Wait + Drop> SlotFuture<SlotWake> for AllWakes<R> {
 type Set<R> = FuturesUnorderedBounded<AllWakes<R>, SharedReady>;
 
 // One thread's wakes.
-fn wake_slot<R: Wait, G: Gate>(
+fn wake_slot<G: Gate>(
     gate: &G,
     thread: usize,
     m: usize,
-    seat: &Seat<R>,
+    seat: &Seat,
     waker: &SlotWake,
 )
     requires { (wake : ℕ) → wake < m → G.opens gate.now thread wake }
@@ -157,7 +157,7 @@ fn seated<R: Wait + Clone + Drop>(
     n: usize,
     m: usize,
     set: &mut Set<R>,
-) -> Result<Vec<Arc<Seat<R>>>, ThreadsFault>
+) -> Result<Vec<Arc<Seat>>, ThreadsFault>
     requires { set.old.slots ≡ no_slots n }
     ensures seats { IfOk result (λ seats. vec_len seats ≡ n) }
     ensures held { OnOk result (held_count set.new.slots ≡ n) }
@@ -191,7 +191,7 @@ fn start<R, G>(
     rt: R,
     m: usize,
     gate: &Arc<G>,
-    seats: &[Arc<Seat<R>>],
+    seats: &[Arc<Seat>],
     started: &mut Vec<JoinHandle<()>>,
 ) -> Result<(), ThreadsFault>
 where
@@ -219,7 +219,7 @@ where
     Ok(())
 }
 
-fn new_set<R: Wait + Clone + Drop>(rt: &R, alloc: Global, n: usize) -> Result<Set<R>, ThreadsFault>
+fn new_set<R: Wait + Drop>(alloc: Global, n: usize) -> Result<Set<R>, ThreadsFault>
     requires { n ≤ MAX_THREADS }
     ensures set { IfOk result (λ set. set.slots ≡ no_slots n) }
     ensures fault { IfErr result (λ fault. fault ≡ ThreadsFault.Memory) }
@@ -286,7 +286,7 @@ fn run_started<R, G>(
     alloc: Global,
     m: usize,
     gate: &Arc<G>,
-    seats: &[Arc<Seat<R>>],
+    seats: &[Arc<Seat>],
     set: Set<R>,
     started: &mut Vec<JoinHandle<()>>,
 ) -> Result<Vec<usize>, ThreadsFault>
@@ -332,7 +332,7 @@ where
     ensures count { IfOk result (λ outputs. vec_len outputs ≡ n) }
     ensures fault { IfErr result (λ fault. fault ≢ ThreadsFault.Write) }
 {
-    let mut set = new_set(&rt, alloc, n)?;
+    let mut set = new_set(alloc, n)?;
     let seats = seated(&rt, alloc, n, m, &mut set)?;
     let gate = Arc::new(alloc, gate)?;
     let mut started = Vec::with_capacity(alloc, n)?;
@@ -365,8 +365,7 @@ fn write_line<W: io::Write>(output: &mut W, n: usize, m: usize, outputs: &[usize
 /// were answered, in rising order, and is flushed.
 ///
 /// Each thread that was started has ended when this returns, also at a fault. The memory is that of
-/// `n` threads, slots and counters; a wake takes a lock of the set's source and none of another
-/// future.
+/// `n` threads, slots and counters. A wake waits for nobody.
 pub fn threads_run<R, G, W>(
     rt: R,
     alloc: Global,
