@@ -1,130 +1,108 @@
-//! What calls of the ready list cost: run it with the argument `ns`.
+//! What calls of the ready list, of shared sources and of sets cost: run it with the argument `ns`.
 #![tactic(auto)]
 
-ghost use Rattle.std.specs.Prelude.{◌≡◌, ◌<◌};
+mod clock;
+mod ready_list;
+mod sets;
+mod sources;
 
-use futures_buffered_core::ready_core::Taken;
-use futures_buffered_core::ready_table::{PollSeat, ReadyList, WakeSeat};
+use clock::{Workload, least};
+use futures_buffered_core::ready_core::NewFault;
+use ready_list::{Already, Fresh, Listed};
+use sets::{Done, Refilled, Woken, Yields};
+use sources::{Beside, four_wakers};
+use std::alloc::AllocGlobal;
+use std::random::RandomSource;
+use std::io::Write;
 use std::thread::Threads;
-use std::time::{Duration, Instant};
-use std::{env, io, thread};
+use std::time::Clock;
+use std::{env, io};
 
-/// How many calls a line of the table times.
-const CALLS: u64 = 2_000_000;
-
-// Wakes a slot that is not marked and takes it, so often, from slot to slot.
-fn wake_and_take(list: &ReadyList, seat: &mut WakeSeat, poll: &mut PollSeat, capacity: usize)
-    requires { (seat.old.list ≡ list.now.list) × (poll.old.list ≡ list.now.list)
-        × (list.now.capacity ≡ capacity) × (0 < capacity) }
-{
-    let mut slot = 0usize;
-    for _ in 0..CALLS {
-        list.wake(seat, slot);
-        list.take(poll);
-        slot = if slot + 1 < capacity { slot + 1 } else { 0 };
-    }
+// One line: the name, and the time of a call in nanoseconds.
+fn line<W: io::Write>(output: &mut W, name: &str, slots: usize, tenths: u128) -> io::Result<()> {
+    let whole = tenths.checked_div(10).unwrap_or(0);
+    let tenth = tenths.checked_rem(10).unwrap_or(0);
+    writeln!(output, "{whole:>6}.{tenth} ns  {name}, {slots}")?;
+    output.flush()?;
+    Ok(())
 }
 
-// Wakes a slot that is marked.
-fn wake_again(list: &ReadyList, seat: &mut WakeSeat)
-    requires { (seat.old.list ≡ list.now.list) × (0 < list.now.capacity) }
-{
-    for _ in 0..CALLS {
-        list.wake(seat, 0);
-    }
-}
-
-// Wakes slot after slot.
-fn wake_all(list: &ReadyList, seat: WakeSeat)
-    requires { (seat.list ≡ list.now.list) × (list.now.capacity ≡ 256) }
-{
-    let mut seat = seat;
-    for _ in 0..CALLS / 256 {
-        for slot in 0..256 {
-            list.wake(&mut seat, slot);
-        }
-    }
-}
-
-// Takes so often, and counts the slots.
-fn take_all(list: &ReadyList, poll: PollSeat) -> u64
-    requires { poll.list ≡ list.now.list }
-{
-    let mut poll = poll;
-    let mut slots = 0u64;
-    for _ in 0..CALLS {
-        if let Taken::Slot(_) = list.take(&mut poll) {
-            slots = slots.wrapping_add(1);
-        }
-    }
-    slots
-}
-
-fn two_wakers(rt: &impl Threads, list: &ReadyList, one: WakeSeat, two: WakeSeat)
-    requires { (one.list ≡ list.now.list) × (two.list ≡ list.now.list) × (list.now.capacity ≡ 256) }
-{
-    thread::join(rt, || wake_all(list, one), || wake_all(list, two));
-}
-
-fn wakers_and_poller<R: Threads + Sync>(
+fn timed<R, O, W>(
     rt: &R,
-    list: &ReadyList,
-    one: WakeSeat,
-    two: WakeSeat,
-    poll: PollSeat,
-) -> u64
-    requires { (one.list ≡ list.now.list) × (two.list ≡ list.now.list)
-        × (poll.list ≡ list.now.list) × (list.now.capacity ≡ 256) }
+    output: &mut O,
+    name: &str,
+    slots: usize,
+    made: Result<W, NewFault>,
+) -> io::Result<()>
+where
+    R: Clock + RandomSource + AllocGlobal,
+    O: io::Write,
+    W: Workload + Drop,
 {
-    thread::join(
-        rt,
-        || two_wakers(rt, list, one, two),
-        || take_all(list, poll),
-    )
-    .1
+    let Ok(mut work) = made else {
+        return Ok(());
+    };
+    let tenths = least(rt, &mut work)?;
+    line(output, name, slots, tenths)
 }
 
-// The time of one of so many calls.
-fn nanos(time: Duration, calls: u64) -> u128 {
-    match time.as_nanos().checked_div(calls as u128) {
-        Some(each) => each,
-        None => 0,
+const SIZES: [usize; 4] = [16, 256, 4_096, 65_536];
+
+fn list_lines<R, O>(rt: &R, output: &mut O) -> io::Result<()>
+where
+    R: Clock + RandomSource + AllocGlobal,
+    O: io::Write,
+{
+    for slots in SIZES {
+        let made = Listed::new(rt.alloc(), slots).map(Fresh);
+        timed(rt, output, "list: a Fresh wake and its taking, slots", slots, made)?;
     }
+    let made = Listed::new(rt.alloc(), 16).map(Already);
+    timed(rt, output, "list: an Already wake, slots", 16, made)
+}
+
+fn set_lines<R, O>(rt: &R, output: &mut O) -> io::Result<()>
+where
+    R: Clock + RandomSource + AllocGlobal,
+    O: io::Write,
+{
+    let ready = Refilled::<Done>::new(rt.alloc(), 256);
+    timed(rt, output, "set: a ready future, replaced, held", 256, ready)?;
+    let yields = Refilled::<Yields>::new(rt.alloc(), 256);
+    timed(rt, output, "set: a future that wakes itself once, replaced, held", 256, yields)?;
+    let random = Woken::new(rt.alloc(), 256, true);
+    timed(rt, output, "set: a random wake, its output, replaced, held", 256, random)?;
+    for slots in SIZES {
+        let waits = Woken::new(rt.alloc(), slots, false);
+        timed(rt, output, "set: a wake and a pending poll, held", slots, waits)?;
+    }
+    Ok(())
+}
+
+fn source_lines<R, O>(rt: &R, output: &mut O) -> io::Result<()>
+where
+    R: Clock + RandomSource + AllocGlobal + Threads + Sync,
+    O: io::Write,
+{
+    for count in [1usize, 2, 11] {
+        let sources = Beside::new(rt.alloc(), count);
+        timed(rt, output, "sources: a wake of the last of those beside", count, sources)?;
+    }
+    for slots in [16usize, 256, 4_096] {
+        if let Some(tenths) = four_wakers(rt, rt.alloc(), slots)? {
+            line(output, "source: a taking beside four wakers, slots", slots, tenths)?;
+        }
+    }
+    Ok(())
 }
 
 fn main(rt: HostRuntime) -> io::Result<()> {
+    let mut output = rt.stdout();
     if env::args(&rt)?.len() < 2 {
-        println!(rt; "usage: fbuf_bench ns")?;
+        writeln!(output, "usage: fbuf_bench ns")?;
         return Ok(());
     }
-    for capacity in [16usize, 256, 4096, 65536] {
-        if let Ok((list, mut poll, mut seat)) = ReadyList::new(rt.alloc(), capacity) {
-            let start = Instant::now(&rt)?;
-            wake_and_take(&list, &mut seat, &mut poll, capacity);
-            let each = nanos(start.elapsed(&rt)?, CALLS);
-            println!(rt; "a Fresh wake and its take, {capacity} slots: {each} ns")?;
-        }
-    }
-    if let Ok((list, _poll, mut seat)) = ReadyList::new(rt.alloc(), 16) {
-        let start = Instant::now(&rt)?;
-        wake_again(&list, &mut seat);
-        let each = nanos(start.elapsed(&rt)?, CALLS);
-        println!(rt; "an Already wake: {each} ns")?;
-    }
-    if let Ok((list, poll, seat)) = ReadyList::new(rt.alloc(), 256) {
-        let (one, two) = seat.split(&list);
-        let (one, three) = one.split(&list);
-        let (two, four) = two.split(&list);
-        let start = Instant::now(&rt)?;
-        let (_, slots) = thread::join(
-            &rt,
-            || two_wakers(&rt, &list, one, two),
-            || wakers_and_poller(&rt, &list, three, four, poll),
-        );
-        let each = nanos(start.elapsed(&rt)?, CALLS);
-        println!(rt;
-            "four wakers on 256 slots and one poller: {each} ns a taking, {slots} slots taken"
-        )?;
-    }
-    Ok(())
+    list_lines(&rt, &mut output)?;
+    set_lines(&rt, &mut output)?;
+    source_lines(&rt, &mut output)
 }

@@ -1,16 +1,19 @@
 //! Where a fresh wake finds the waker of the task.
 //!
-//! A wake puts its slot into the list, and looks here then. Nobody waits here: the lock is only tried, by wakes and by the poller. The poller looks into the list only after it kept its waker here, or before it puts it in and then once more. So no wake is lost, in whatever order the steps come:
+//! A wake puts its slot into the list first, and looks here then. Nobody waits here: the lock is tried once, by wakes and by the poller. No wake is lost by that, in whatever order the steps come.
 //!
-//! - The poller puts its waker in before it reads the tail that lets it answer `Empty`. A wake whose slot went into the tail before that read makes it answer `Pause`, and the task polls again. A wake whose slot went in after that read finds a waker, unless another wake took it out in between, and that one wakes the task.
-//! - A wake that finds another wake at the lock leaves the task to it: what the poller put in is in its hand, or was taken out by one before it.
-//! - A wake that finds the poller at the lock leaves its slot to the poller, which reads the tail after it has let the lock go.
+//! - The poller puts its waker in before it reads the tail that lets it answer `Empty`. A wake whose slot went into the tail before that read makes the poller answer `Pause`, after which the task polls again. A wake whose slot went in later finds the waker, unless another wake took it out in between: that one wakes the task.
+//! - A wake that finds another wake at the lock leaves the task to it. That one wakes the task, or comes after one that does.
+//! - A wake that finds the poller at the lock leaves its slot to the poller, which reads the tail once the lock is let go.
 //! - The poller that finds a wake at the lock wakes the task itself.
 //!
-//! Each step is sequentially consistent, those of the lock too, so they stand in one order.
+//! Every step is sequentially consistent, those of the lock too, so all of them stand in one order.
 ghost use Rattle.std.specs.Prelude.{◌≡◌, IfOk};
 ghost use Rattle.std.specs.Arc.{arc_value};
 ghost use Rattle.futures.specs.Task.{Hears, IsArmed, Keeps};
+
+#[cfg(test)]
+mod tests;
 
 use futures::task::{Context, Poll, Source, Waker};
 use futures_buffered_table::ready_table::BeforeEmpty;

@@ -3,7 +3,7 @@
 //!
 //! The words are a mark for each slot, a link for each slot and for the stub, and the tail. The
 //! poller keeps the head. The entries from there along the links to the tail are the row: the slots
-//! in the order in which they will be named. No set of futures stands on this list yet.
+//! in the order in which they will be named.
 //!
 //! In the order in which to read the parts:
 //!

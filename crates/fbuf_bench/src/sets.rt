@@ -1,0 +1,234 @@
+//! Workloads of a set over the shared source.
+use crate::clock::Workload;
+use futures::task::{Context, Poll};
+use futures_buffered_bounded::futures_unordered_bounded::FuturesUnorderedBounded;
+use futures_buffered_bounded::poll_one::PollFuture;
+use futures_buffered_bounded::slot_future::{SlotFuture, SlotWaker, WakesSlot};
+use futures_buffered_core::ready_core::NewFault;
+use futures_buffered_core::ready_shared::{SharedReady, SlotWake};
+use std::alloc::{AllocError, Global};
+use std::sync::{Arc, Mutex};
+
+type Set<F> = FuturesUnorderedBounded<F, SharedReady>;
+
+/// Ready at its first poll.
+#[derive(Drop)]
+pub struct Done;
+
+impl<W: WakesSlot> SlotFuture<W> for Done {
+    type Output = ();
+
+    fn poll(&mut self, _waker: &W) -> Poll<()> {
+        Poll::Ready(())
+    }
+}
+
+/// Wakes itself at its first poll, and is ready at its second.
+#[derive(Drop)]
+pub struct Yields {
+    has_yielded: bool,
+}
+
+impl<W: SlotWaker> SlotFuture<W> for Yields {
+    type Output = ();
+
+    fn poll(&mut self, waker: &W) -> Poll<()> {
+        if self.has_yielded {
+            return Poll::Ready(());
+        }
+        self.has_yielded = true;
+        waker.wake();
+        Poll::Pending
+    }
+}
+
+/// Makes the futures of a workload.
+pub trait Fresh {
+    fn fresh() -> Self;
+}
+
+impl Fresh for Done {
+    fn fresh() -> Done {
+        Done
+    }
+}
+
+impl Fresh for Yields {
+    fn fresh() -> Yields {
+        Yields { has_yielded: false }
+    }
+}
+
+/// A full set, of which each call takes one output and puts one future in.
+#[derive(Drop)]
+pub struct Refilled<F: Drop> {
+    set: Set<F>,
+}
+
+impl<F: Fresh + Drop> Refilled<F> {
+    pub fn new(alloc: Global, slots: usize) -> Result<Refilled<F>, NewFault> {
+        let mut set = FuturesUnorderedBounded::new(alloc, slots)?;
+        for _ in 0..slots {
+            let _ = set.try_push(F::fresh());
+        }
+        Ok(Refilled { set })
+    }
+}
+
+impl<F: Fresh + SlotFuture<SlotWake, Output = ()>> Workload for Refilled<F> {
+    fn calls(&self) -> u64 {
+        12_800
+    }
+
+    fn run(&mut self, cx: &mut Context<'_>) {
+        for _ in 0..12_800 {
+            if let Poll::Ready(Some(_)) = self.set.poll_with(&PollFuture, cx) {
+                let _ = self.set.try_push(F::fresh());
+            }
+        }
+    }
+}
+
+// Where each future of a set leaves its waker.
+#[derive(Drop)]
+struct Board {
+    places: Vec<Mutex<Option<SlotWake>>>,
+}
+
+impl Board {
+    fn keep(&self, place: usize, waker: &SlotWake) {
+        let Some(place) = self.places.get(place) else {
+            return;
+        };
+        if let Some(mut kept) = place.try_lock() {
+            *kept = waker.try_clone().ok();
+        }
+    }
+}
+
+/// Keeps its waker at its first poll. It is ready at its second, or never.
+#[derive(Drop)]
+pub struct Kept {
+    board: Arc<Board>,
+    place: usize,
+    was_polled: bool,
+    ends: bool,
+}
+
+impl SlotFuture<SlotWake> for Kept {
+    type Output = usize;
+
+    fn poll(&mut self, waker: &SlotWake) -> Poll<usize> {
+        if !self.was_polled {
+            self.was_polled = true;
+            self.board.keep(self.place, waker);
+            return Poll::Pending;
+        }
+        if self.ends {
+            return Poll::Ready(self.place);
+        }
+        Poll::Pending
+    }
+}
+
+/// A full set of futures that wait. Each call wakes one of them and polls the set; where that one ends, another takes its place.
+#[derive(Drop)]
+pub struct Woken {
+    set: Set<Kept>,
+    board: Arc<Board>,
+    wakers: Vec<SlotWake>,
+    ends: bool,
+    random: u64,
+}
+
+fn empty_board(alloc: Global, slots: usize) -> Result<Arc<Board>, AllocError> {
+    let mut places = Vec::with_capacity(alloc, slots)?;
+    for _ in 0..slots {
+        places.push(Mutex::new(None))?;
+    }
+    Ok(Arc::new(alloc, Board { places })?)
+}
+
+fn full_set(alloc: Global, slots: usize, board: &Arc<Board>, ends: bool) -> Result<Set<Kept>, NewFault> {
+    let mut set = FuturesUnorderedBounded::new(alloc, slots)?;
+    for place in 0..slots {
+        let future = Kept {
+            board: Arc::try_clone(board)?,
+            place,
+            was_polled: false,
+            ends,
+        };
+        let _ = set.try_push(future);
+    }
+    Ok(set)
+}
+
+impl Woken {
+    pub fn new(alloc: Global, slots: usize, ends: bool) -> Result<Woken, NewFault> {
+        let board = empty_board(alloc, slots)?;
+        let set = full_set(alloc, slots, &board, ends)?;
+        Ok(Woken {
+            set,
+            board,
+            wakers: Vec::with_capacity(alloc, slots)?,
+            ends,
+            random: 88_172_645_463_325_252,
+        })
+    }
+
+    // Polls each future once, so that it keeps its waker, and takes these wakers.
+    fn begin(&mut self, cx: &mut Context<'_>) {
+        for _ in 0..self.set.capacity() {
+            let _ = self.set.poll_with(&PollFuture, cx);
+        }
+        for place in &self.board.places {
+            if let Some(mut kept) = place.try_lock() {
+                if let Some(waker) = kept.take() {
+                    let _ = self.wakers.push(waker);
+                }
+            }
+        }
+    }
+
+    fn next_place(&mut self) -> usize {
+        self.random ^= self.random << 13;
+        self.random ^= self.random >> 7;
+        self.random ^= self.random << 17;
+        let places = self.wakers.len() as u64;
+        self.random.checked_rem(places).unwrap_or(0) as usize
+    }
+
+    fn wake_and_poll(&mut self, cx: &mut Context<'_>) {
+        let place = self.next_place();
+        if let Some(waker) = self.wakers.get(place) {
+            waker.wake();
+        }
+        if let Poll::Ready(Some(place)) = self.set.poll_with(&PollFuture, cx) {
+            let Ok(board) = Arc::try_clone(&self.board) else {
+                return;
+            };
+            let future = Kept {
+                board,
+                place,
+                was_polled: false,
+                ends: self.ends,
+            };
+            let _ = self.set.try_push(future);
+        }
+    }
+}
+
+impl Workload for Woken {
+    fn calls(&self) -> u64 {
+        10_000
+    }
+
+    fn run(&mut self, cx: &mut Context<'_>) {
+        if self.wakers.is_empty() {
+            self.begin(cx);
+        }
+        for _ in 0..10_000 {
+            self.wake_and_poll(cx);
+        }
+    }
+}

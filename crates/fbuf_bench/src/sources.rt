@@ -1,0 +1,141 @@
+//! Workloads of shared sources.
+use crate::clock::{Workload, tenths};
+use futures::task::Context;
+use futures_buffered_core::ready_core::{NewFault, Taken};
+use futures_buffered_core::ready_shared::{OuterWaker, SharedReady, SlotWake};
+use futures_buffered_core::ready_source::{NewSource, ReadySource, SlotWaker};
+use std::alloc::{AllocError, Global};
+use std::thread::Threads;
+use std::time::{Clock, Instant};
+use std::{io, thread};
+
+/// Sources that stand beside one another. Each call registers once, wakes a slot of the last source, and asks each until it is empty.
+#[derive(Drop)]
+pub struct Beside {
+    sources: Vec<SharedReady>,
+}
+
+impl Beside {
+    pub fn new(alloc: Global, count: usize) -> Result<Beside, NewFault> {
+        let mut first = SharedReady::new(alloc, 64)?;
+        let mut sources = Vec::with_capacity(alloc, count)?;
+        for _ in 1..count {
+            let beside = first.make_beside(alloc, 64)?;
+            let _ = sources.push(beside);
+        }
+        let _ = sources.push(first);
+        Ok(Beside { sources })
+    }
+
+    fn wake_last(&self) {
+        if let Some(last) = self.sources.last() {
+            if last.capacity() > 7 {
+                last.waker(7).wake();
+            }
+        }
+    }
+
+    fn ask_each(&mut self) {
+        for source in &mut self.sources {
+            if let Taken::Slot(_) = source.take() {
+                source.take();
+            }
+        }
+    }
+}
+
+impl Workload for Beside {
+    fn calls(&self) -> u64 {
+        10_000
+    }
+
+    fn run(&mut self, cx: &mut Context<'_>) {
+        for _ in 0..10_000 {
+            if let Some(first) = self.sources.first_mut() {
+                ReadySource::register(first, cx);
+            }
+            self.wake_last();
+            self.ask_each();
+        }
+    }
+}
+
+/// Nobody.
+#[derive(Drop)]
+pub struct Nobody;
+
+impl OuterWaker for Nobody {
+    fn wake_outer(self) {}
+}
+
+type Source = SharedReady<Nobody>;
+
+const ROUNDS: u64 = 400;
+
+fn wake_all(wakers: &[SlotWake<Nobody>]) {
+    for _ in 0..ROUNDS {
+        for waker in wakers {
+            waker.wake();
+        }
+    }
+}
+
+// Takes so often, and counts the slots.
+fn take_all(source: &mut Source, takings: u64) -> u64 {
+    let mut slots = 0u64;
+    for _ in 0..takings {
+        if let Taken::Slot(_) = source.take() {
+            slots = slots.wrapping_add(1);
+        }
+    }
+    slots
+}
+
+fn wakers_of(alloc: Global, source: &Source) -> Result<Vec<SlotWake<Nobody>>, AllocError> {
+    let mut wakers = Vec::new(alloc);
+    for slot in 0..source.capacity() {
+        if slot < source.capacity() {
+            wakers.push(source.waker(slot).try_clone()?)?;
+        }
+    }
+    Ok(wakers)
+}
+
+fn two<T: Threads>(rt: &T, wakers: &[SlotWake<Nobody>]) {
+    thread::join(rt, || wake_all(wakers), || wake_all(wakers));
+}
+
+fn four<T: Threads + Sync>(rt: &T, wakers: &[SlotWake<Nobody>]) {
+    thread::join(rt, || two(rt, wakers), || two(rt, wakers));
+}
+
+fn one_run<R: Clock + Threads + Sync>(
+    rt: &R,
+    wakers: &[SlotWake<Nobody>],
+    source: &mut Source,
+    takings: u64,
+) -> io::Result<u128> {
+    let start = Instant::now(rt)?;
+    thread::join(rt, || four(rt, wakers), || take_all(source, takings));
+    Ok(tenths(start.elapsed(rt)?, takings))
+}
+
+/// Four threads wake the slots one after another, while this one takes as often as each of them wakes: the time of one taking in the quickest of several runs, in tenths of a nanosecond. `None` where memory is lacking.
+pub fn four_wakers<R: Clock + Threads + Sync>(
+    rt: &R,
+    alloc: Global,
+    slots: usize,
+) -> io::Result<Option<u128>> {
+    let Ok(mut source) = Source::new(alloc, slots) else {
+        return Ok(None);
+    };
+    let Ok(wakers) = wakers_of(alloc, &source) else {
+        return Ok(None);
+    };
+    let takings = (slots as u64).saturating_mul(ROUNDS);
+    let mut least = u128::MAX;
+    for _ in 0..8 {
+        least = least.min(one_run(rt, wakers.as_slice(), &mut source, takings)?);
+    }
+    Ok(Some(least))
+}
