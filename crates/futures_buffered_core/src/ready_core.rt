@@ -63,7 +63,8 @@ impl Model for ReadyCore {
         (slots_of core.links.items (vec_len core.marks) core.head) };
 }
 
-// Puts the entry behind the last: its link is cleared, it becomes the tail, and the entry that was the tail names it.
+// Puts the entry behind the last: its link is cleared, it becomes the tail, and the entry that was
+// the tail names it.
 fn put_last(links: &mut Vec<usize>, tail: &mut usize, entry: usize)
     requires entry { entry < vec_len links.old }
     requires tail { tail.old < vec_len links.old }
@@ -130,6 +131,8 @@ impl ReadyCore {
         ensures below { IsNameBelow self.old.capacity result }
         ensures capacity { self.new.capacity ≡ self.old.capacity }
     {
+        // The steps are those of a `ReadyList`. No mark is half made here, so a tail that is read is
+        // always the head.
         let stub = self.marks.len();
         if self.head == stub {
             let first = self.links[stub];

@@ -47,7 +47,8 @@ record CanTake (was now : Inside) (slot : ℕ) : Type 0 where
   pub served : IsServed was.marks.len now.marks.items now.links.items slot now.tail (slots_of was.links.items was.marks.len was.head)
   pub same : now.marks.len ≡ was.marks.len
 
-can_take : (c : Joined-index-eq0) → HasMoved c.self.inside c.if-self-stub.self-inside → CanTake c.self.inside c.if-index-eq0.self-inside c.if-self-stub.self-inside.head
+can_take : (c : Joined-index-eq0) → HasMoved c.self.inside c.if-self-stub.self-inside →
+    CanTake c.self.inside c.if-index-eq0.self-inside c.if-self-stub.self-inside.head
 can_take c here = elim c.if-index-eq0.branch [
   | then-index-eq0+else-self-slot w ↦
       let served = IsServed-last _ _ _ _ _ _ here.kept here.slot (named c here ∙ w.if-index-eq0.true) in
@@ -57,7 +58,8 @@ can_take c here = elim c.if-index-eq0.branch [
       rw w.self-inside-is (record { served = served; same = here.same })
 ]
   where
-    named : (c : Joined-index-eq0) → HasMoved c.self.inside c.if-self-stub.self-inside → get_or c.if-self-stub.self-inside.links.items c.if-self-stub.self-inside.head 0 ≡ c.index.result.now
+    named : (c : Joined-index-eq0) → HasMoved c.self.inside c.if-self-stub.self-inside →
+        get_or c.if-self-stub.self-inside.links.items c.if-self-stub.self-inside.head 0 ≡ c.index.result.now
     named c here = get_or_read c.if-self-stub.self-inside.links.items c.if-self-stub.self-inside.head c.index.result.now (omega (arith, here.low)) c.index.ensures
 
 slot_low : (was now : Inside) (slot : ℕ) → CanTake was now slot → slot < length now.links.items
@@ -67,11 +69,15 @@ slot_low was now slot can =
     omega arith
 
 -- what the link of the slot names
-named_now : (c : After-index-2) → CanTake c.self.inside c.if-index-eq0.self-inside c.if-self-stub.self-inside.head → get_or c.if-index-eq0.self-inside.links.items c.if-self-stub.self-inside.head 0 ≡ c.index-2.result.now
+named_now : (c : After-index-2) →
+    CanTake c.self.inside c.if-index-eq0.self-inside c.if-self-stub.self-inside.head →
+    get_or c.if-index-eq0.self-inside.links.items c.if-self-stub.self-inside.head 0 ≡ c.index-2.result.now
 named_now c can = get_or_read c.if-index-eq0.self-inside.links.items c.if-self-stub.self-inside.head c.index-2.result.now (slot_low _ _ _ can) c.index-2.ensures
 
 -- the row without the slot is kept
-kept_now : (c : After-index-2) → (can : CanTake c.self.inside c.if-index-eq0.self-inside c.if-self-stub.self-inside.head) → let now = c.if-index-eq0.self-inside in
+kept_now : (c : After-index-2) →
+    (can : CanTake c.self.inside c.if-index-eq0.self-inside c.if-self-stub.self-inside.head) →
+    let now = c.if-index-eq0.self-inside in
     KeepsLinks c.self.inside.marks.len (set now.marks.items c.if-self-stub.self-inside.head false) now.links.items (c.index-2.result.now - 1) now.tail can.served.rest
 kept_now c can = let now = c.if-index-eq0.self-inside in
     subst (λ (k : ℕ). KeepsLinks c.self.inside.marks.len (set now.marks.items c.if-self-stub.self-inside.head false) now.links.items (k - 1) now.tail can.served.rest)
