@@ -1,4 +1,5 @@
 pub mod KeepsOnceLemmas
+pub mod ReadyCoreLemmas
 pub mod RangeLemmas
 pub mod SlotMapLemmas
 pub mod HistoryLemmas

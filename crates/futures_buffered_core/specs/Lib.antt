@@ -17,6 +17,7 @@ pub use Rattle.futures_buffered_table.specs.Taking
 pub use Rattle.futures_buffered_table.specs.Closing
 pub mod ReadyCore
 pub mod KeepsOnce
+pub mod ReadyCoreInvariant
 pub mod History
 pub mod WrongName
 pub mod ReadySource

@@ -1,7 +1,7 @@
 //! Which slots are marked, and which one is named next.
 //!
 //! Events are marks and takings. A mark of a slot is unserved until a taking names that slot. A taking names the slot whose unserved mark is oldest. Nothing here waits, and after construction nothing takes memory but `run`, for its replies.
-ghost use Rattle.std.specs.Prelude.{◌≡◌, ◌<◌, ◌≤◌, ◌↔◌, [], IfOk, IfErr, ℕ, List, ◌++◌, length, slice_get, IfNone, IfSome, OnOk, OnErr, nat_eq};
+ghost use Rattle.std.specs.Prelude.{◌≡◌, ◌+◌, ◌<◌, ◌≤◌, ◌↔◌, [], IfOk, IfErr, ℕ, List, ◌++◌, length, slice_get, slice_set, IfNone, IfSome, OnOk, OnErr, nat_eq, vec_len};
 ghost use Rattle.std.specs.List.{IsDistinct};
 ghost use Rattle.futures_buffered_core.specs.ReadyCore.{MarkGives, TakeGives, IsNameBelow};
 ghost use Rattle.futures_buffered_core.specs.declared.ready_core.Reply.{Reply};
@@ -12,7 +12,6 @@ ghost use Rattle.futures_buffered_table.specs.Answer.{RefusesTooLarge};
 use crate::wrong_name::first_wrong;
 pub use futures_buffered_table::answer::{MAX_CAPACITY, NewFault, Taken, Woke};
 use std::alloc::Global;
-use std::collections::VecDeque;
 use std::marker::Model;
 use thiserror::Error;
 
@@ -36,11 +35,14 @@ pub enum Reply {
 
 /// Slots with at most one unserved mark each that counts, in the order in which these marks were made.
 ///
-/// A contract sees the capacity and the list of marked slots, oldest unserved mark first.
+/// A contract sees the capacity and the list of marked slots, oldest unserved mark first. The marked slots stand in a row of links, as in a `ReadyList`, and one entry more than there are slots, the stub, takes the head's place where no slot is marked.
 #[derive(Drop)]
 pub struct ReadyCore {
     marks: Vec<bool>,
-    queue: VecDeque<usize>,
+    // For each slot and for the stub 0, or 1 more than the entry that follows.
+    links: Vec<usize>,
+    head: usize,
+    tail: usize,
 }
 
 impl Model for ReadyCore {
@@ -49,19 +51,37 @@ impl Model for ReadyCore {
     ghost Value = { Standing };
 
     ghost use Rattle.std.specs.Prelude.{vec_len};
-    ghost use Rattle.std.specs.VecDeque.{deque_capacity};
-    ghost use Rattle.futures_buffered_core.specs.KeepsOnce.{KeepsOnce};
+    ghost use Rattle.futures_buffered_core.specs.ReadyCoreInvariant.{KeepsLinks, slots_of};
 
-    ghost view = { λ core. record { capacity = vec_len core.marks; marked = core.queue.items } };
+    ghost view = { λ core. record {
+      capacity = vec_len core.marks;
+      marked = slots_of core.links.items (vec_len core.marks) core.head;
+    } };
 
     ghost invariant = { λ core.
-        KeepsOnce core.marks.items core.queue.items (deque_capacity core.queue) };
+        KeepsLinks (vec_len core.marks) core.marks.items core.links.items core.head core.tail
+        (slots_of core.links.items (vec_len core.marks) core.head) };
+}
+
+// Puts the entry behind the last: its link is cleared, it becomes the tail, and the entry that was
+// the tail names it.
+fn put_last(links: &mut Vec<usize>, tail: &mut usize, entry: usize)
+    requires entry { entry < vec_len links.old }
+    requires tail { tail.old < vec_len links.old }
+    ensures links { links.new.items
+        ≡ slice_set (slice_set links.old.items entry 0) tail.old (entry + 1) }
+    ensures tail { tail.new ≡ entry }
+{
+    links[entry] = 0;
+    let before = *tail;
+    *tail = entry;
+    links[before] = entry + 1;
 }
 
 impl ReadyCore {
     /// A core of `cap` slots, none of which is marked.
     ///
-    /// Takes time and memory in proportion to `cap`: room for every slot to be marked, so that no later call takes any. `Memory` where a request for that room was refused.
+    /// Takes time and memory in proportion to `cap`: `cap` marks and `cap + 1` links, so that no later call takes any. `Memory` where a request for that room was refused.
     pub fn new(alloc: Global, cap: usize) -> Result<Self, NewFault>
         ensures empty { IfOk result (λ core. core ≡ record { capacity = cap; marked = [] }) }
         ensures refuses { RefusesTooLarge cap result }
@@ -69,9 +89,14 @@ impl ReadyCore {
         if cap > MAX_CAPACITY {
             return Err(NewFault::TooLarge);
         }
-        let queue = VecDeque::with_capacity(alloc, cap)?;
         let marks = vec![in alloc; false; cap]?;
-        Ok(ReadyCore { marks, queue })
+        let links = vec![in alloc; 0; cap + 1]?;
+        Ok(ReadyCore {
+            marks,
+            links,
+            head: cap,
+            tail: cap,
+        })
     }
 
     /// The number of slots. Takes the same time at any capacity.
@@ -90,12 +115,12 @@ impl ReadyCore {
         ensures marked { MarkGives self.old.marked i result self.new.marked }
         ensures capacity { self.new.capacity ≡ self.old.capacity }
     {
-        if self.marks[i] {
-            return Woke::Already;
+        if !self.marks[i] {
+            self.marks[i] = true;
+            put_last(&mut self.links, &mut self.tail, i);
+            return Woke::Fresh;
         }
-        self.marks[i] = true;
-        self.queue.push_back_reserved(i);
-        Woke::Fresh
+        Woke::Already
     }
 
     /// Names the slot whose unserved mark is oldest, and unmarks it. `Empty` where no slot is marked, and never `Pause`.
@@ -106,11 +131,29 @@ impl ReadyCore {
         ensures below { IsNameBelow self.old.capacity result }
         ensures capacity { self.new.capacity ≡ self.old.capacity }
     {
-        let Some(i) = self.queue.pop_front() else {
-            return Taken::Empty;
-        };
-        self.marks[i] = false;
-        Taken::Slot(i)
+        // The steps are those of a `ReadyList`. No mark is half made here, so a tail that is read is
+        // always the head.
+        let stub = self.marks.len();
+        if self.head == stub {
+            let first = self.links[stub];
+            if first == 0 {
+                if self.tail != stub {
+                    return Taken::Pause;
+                }
+                return Taken::Empty;
+            }
+            self.head = first - 1;
+        }
+        let slot = self.head;
+        if self.links[slot] == 0 {
+            if self.tail != slot {
+                return Taken::Pause;
+            }
+            put_last(&mut self.links, &mut self.tail, stub);
+        }
+        self.head = self.links[slot] - 1;
+        self.marks[slot] = false;
+        Taken::Slot(slot)
     }
 }
 

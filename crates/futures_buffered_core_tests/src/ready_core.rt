@@ -2,6 +2,8 @@
 use futures_buffered_core::ready_core::{
     Event, MAX_CAPACITY, NewFault, ReadyCore, Reply, RunFault, Taken, Woke, run,
 };
+use std::alloc::Global;
+use std::collections::VecDeque;
 use std::test::Fail;
 
 const ROW: [(Event, Reply); 8] = [
@@ -53,4 +55,43 @@ fn refuses_a_list_that_marks_no_slot(rt: HostRuntime) -> Result<(), Fail> {
 fn refuses_a_capacity(rt: HostRuntime) {
     let large = ReadyCore::new(rt.alloc(), MAX_CAPACITY + 1);
     assert_eq!(rt; large.err(), Some(NewFault::TooLarge));
+}
+
+// Whether a core answers as a plain list does, over many marks and takings of slots that vary.
+fn is_like_a_list(alloc: Global, capacity: usize) -> Result<bool, Fail> {
+    let mut core = ReadyCore::new(alloc, capacity)?;
+    let mut list = VecDeque::new(alloc);
+    let mut number = 1_u64;
+    for _ in 0..20_000 {
+        number = number
+            .wrapping_mul(6_364_136_223_846_793_005)
+            .wrapping_add(1_442_695_040_888_963_407);
+        let slot = (number >> 33) as usize % 12;
+        if slot < core.capacity() {
+            let marked = list.contains(&slot);
+            if !marked {
+                list.push_back(slot)?;
+            }
+            if (core.mark(slot) == Woke::Already) != marked {
+                return Ok(false);
+            }
+        } else {
+            let want = match list.pop_front() {
+                Some(first) => Taken::Slot(first),
+                None => Taken::Empty,
+            };
+            if core.take() != want {
+                return Ok(false);
+            }
+        }
+    }
+    Ok(true)
+}
+
+#[test]
+fn names_what_a_plain_list_names(rt: HostRuntime) -> Result<(), Fail> {
+    for capacity in [1_usize, 2, 6, 11] {
+        assert!(rt; is_like_a_list(rt.alloc(), capacity)?);
+    }
+    Ok(())
 }
