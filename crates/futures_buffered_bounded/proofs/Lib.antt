@@ -1,2 +1,4 @@
 pub mod HeldLemmas
 pub mod GivingLemmas
+pub mod GroupsStepLemmas
+pub mod GroupsLemmas

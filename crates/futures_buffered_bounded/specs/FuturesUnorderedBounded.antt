@@ -33,6 +33,10 @@ bounded_code {F} {S} code source_code =
 abbrev pub with_empty_slot : {F S : Type 0} → Bounded F S → ℕ → Bounded F S
 with_empty_slot b i = record b { slots = with_slot_freed b.slots i }
 
+-- the same set over another source
+abbrev pub with_source : {F S : Type 0} → Bounded F S → S → Bounded F S
+with_source b source = record b { source = source }
+
 -- one mark of a slot, whatever it answered
 abbrev pub MarksSlot : {S : Type 0} → (S → ℕ → Woke → S → Type 0) → S → ℕ → S → Type 0
 MarksSlot marks old i new = (woke : Woke) × marks old i woke new

@@ -1,2 +1,4 @@
 pub mod Held
 pub mod FuturesUnorderedBounded
+pub mod Groups
+pub mod GroupsStep

@@ -9,9 +9,10 @@ ghost use Rattle.std.specs.Iterator.{IsFiniteIterable};
 ghost use Rattle.futures_buffered_core.specs.Answer.{RefusesTooLarge};
 ghost use Rattle.futures_buffered_core.specs.Drawn.{Draws, DrawsMoreThan};
 ghost use Rattle.futures_buffered_core.specs.ReadyShared.{IsNewShared, MarksShared};
+ghost use Rattle.futures_buffered_core.specs.ReadySource.{WaitsAlike};
 ghost use Rattle.futures_buffered_core.specs.SlotMap.{value_in, held_count, slot_count, no_slots, IsFull};
 ghost use Rattle.futures_buffered_bounded.specs.Held.{AllHeld, AllHeldBut, EndsWith, ComesFrom};
-ghost use Rattle.futures_buffered_bounded.specs.FuturesUnorderedBounded.{HoldsEach, Pushes, PushesAt, AsksUntil, PollGives, SaidEmpty, IsWoken, with_empty_slot};
+ghost use Rattle.futures_buffered_bounded.specs.FuturesUnorderedBounded.{HoldsEach, Pushes, PushesAt, AsksUntil, PollGives, SaidEmpty, IsWoken, with_empty_slot, with_source};
 
 use crate::fused::{FusedStream, SizeHint};
 use crate::poll_one::{PollFuture, PollOne};
@@ -65,25 +66,65 @@ impl<F: Drop, S: ReadySource> FuturesUnorderedBounded<F, S> {
             ≡ record { slots = no_slots (S.slots source); source = source; limit = POLL_LIMIT }) }
         ensures refuses { RefusesTooLarge (S.slots source) result }
     {
+        Self::with_source_limit(alloc, source, POLL_LIMIT)
+    }
+
+    /// As `with_source`, where one poll takes at most `limit` names.
+    pub fn with_source_limit(alloc: Global, source: S, limit: usize) -> Result<Self, NewFault>
+        requires { 1 ≤ limit }
+        ensures empty { IfOk result (λ set. set
+            ≡ record { slots = no_slots (S.slots source); source = source; limit = limit }) }
+        ensures refuses { RefusesTooLarge (S.slots source) result }
+    {
         let slots = PinSlotMap::new(alloc, source.capacity())?;
         Ok(FuturesUnorderedBounded {
             slots,
             source,
-            limit: POLL_LIMIT,
+            limit,
         })
     }
 
-    // An empty set of `cap` slots, over a source made for it. It knows no source, so it can neither mark nor take in secret.
-    fn with_new_source(env: &S::Env, alloc: Global, cap: usize) -> Result<Self, NewFault>
+    /// An empty set of `cap` slots over a source made for it, where one poll takes at most `limit` names.
+    ///
+    /// Takes time and memory in proportion to `cap`, and refuses as `with_source` does. The source is not known here but by what its trait says, so nobody can have marked or taken.
+    pub fn with_new_source(
+        env: &S::Env,
+        alloc: Global,
+        cap: usize,
+        limit: usize,
+    ) -> Result<Self, NewFault>
+    where
+        S: NewSource,
+        requires { 1 ≤ limit }
+        ensures empty { IfOk result (λ set. set.slots ≡ no_slots cap) }
+        ensures source { IfOk result (λ set. S.made cap set.source) }
+        ensures limit { IfOk result (λ set. set.limit ≡ limit) }
+        ensures refuses { RefusesTooLarge cap result }
+    {
+        let source = S::make(env, alloc, cap)?;
+        Self::with_source_limit(alloc, source, limit)
+    }
+
+    /// An empty set of `cap` slots beside this one, with the same limit: a task that registers with either set is woken by the futures of both.
+    ///
+    /// Takes time and memory, and refuses, as `with_new_source` does. This set stays as it is.
+    pub fn new_beside(&mut self, alloc: Global, cap: usize) -> Result<Self, NewFault>
     where
         S: NewSource,
         ensures empty { IfOk result (λ set. set.slots ≡ no_slots cap) }
         ensures source { IfOk result (λ set. S.made cap set.source) }
-        ensures limit { IfOk result (λ set. set.limit ≡ POLL_LIMIT) }
+        ensures beside { IfOk result (λ set. WaitsAlike S.needs self.old.source set.source) }
+        ensures limit { IfOk result (λ set. set.limit ≡ self.old.limit) }
+        ensures same { self.new ≡ self.old }
         ensures refuses { RefusesTooLarge cap result }
     {
-        let source = S::make(env, alloc, cap)?;
-        FuturesUnorderedBounded::with_source(alloc, source)
+        let source = self.source.make_beside(alloc, cap)?;
+        let slots = PinSlotMap::new(alloc, cap)?;
+        Ok(FuturesUnorderedBounded {
+            slots,
+            source,
+            limit: self.limit,
+        })
     }
 
     /// A set without a free slot, which holds item k in slot k, each marked, in this order. It has as many slots as there are items, and a source made for it.
@@ -105,6 +146,28 @@ impl<F: Drop, S: ReadySource> FuturesUnorderedBounded<F, S> {
         ensures large { result ≡ Err NewFault.TooLarge
             → DrawsMoreThan I.into_iter_gives I.IntoIter.next_gives iter MAX_CAPACITY }
     {
+        Self::over_limit(env, alloc, iter, POLL_LIMIT)
+    }
+
+    /// As `over`, where one poll takes at most `limit` names.
+    pub fn over_limit<I: IntoIterator<Item = F>>(
+        env: &S::Env,
+        alloc: Global,
+        iter: I,
+        limit: usize,
+    ) -> Result<Self, NewFault>
+    where
+        S: NewSource,
+        requires finite { IsFiniteIterable I.into_iter_gives I.IntoIter.can_next
+            I.IntoIter.remaining iter }
+        requires some { 1 ≤ limit }
+        ensures holds { IfOk result (λ set. (items : List F)
+            × Draws I.into_iter_gives I.IntoIter.next_gives iter items
+            × HoldsEach S.made S.marks limit items set) }
+        ensures fits { IfOk result (λ set. slot_count set.slots ≤ MAX_CAPACITY) }
+        ensures large { result ≡ Err NewFault.TooLarge
+            → DrawsMoreThan I.into_iter_gives I.IntoIter.next_gives iter MAX_CAPACITY }
+    {
         let slots = PinSlotMap::from_iter(alloc, iter)?;
         let mut source = S::make(env, alloc, slots.capacity())?;
         for i in 0..slots.capacity() {
@@ -113,7 +176,7 @@ impl<F: Drop, S: ReadySource> FuturesUnorderedBounded<F, S> {
         Ok(FuturesUnorderedBounded {
             slots,
             source,
-            limit: POLL_LIMIT,
+            limit,
         })
     }
 
@@ -238,6 +301,37 @@ impl<F: Drop, S: ReadySource> FuturesUnorderedBounded<F, S> {
         ensures kept { Keeps cx.old cx.new }
     {
         self.source.register(cx);
+        self.ask(rule, cx)
+    }
+
+    // The takings and polls of `poll_first`, by a task that is registered already. The source is as a registration may have left it.
+    fn ask<R: PollOne<F, S::Waker>>(
+        &mut self,
+        rule: &R,
+        cx: &mut Context<'_>,
+    ) -> Poll<(usize, R::Output)>
+        requires held { AllHeld R.can_poll self.old.slots }
+        requires registered { Covers cx.old (S.needs self.old.source) }
+        ensures polled { (before : S) → S.registers before self.old.source
+            → AsksUntil R.polled S.registers S.takes
+            (with_source self.old before) result self.new }
+        ensures pollable { OnPending result (AllHeld R.can_poll self.new.slots) }
+        ensures others { IfReady result (λ (i, _). AllHeldBut i R.can_poll self.new.slots) }
+        ensures goes_on { IfReady result (λ (_, x).
+            R.goes_on x → AllHeld R.can_poll self.new.slots) }
+        ensures last { IfReady result (λ (i, x).
+            EndsWith (R.polled i) x (value_in self.new.slots i)) }
+        ensures count { held_count self.new.slots ≡ held_count self.old.slots }
+        ensures capacity { slot_count self.new.slots ≡ slot_count self.old.slots }
+        ensures limit { self.new.limit ≡ self.old.limit }
+        ensures same_slots { (j : ℕ)
+            → is_some (value_in self.new.slots j) ≡ is_some (value_in self.old.slots j) }
+        ensures covered { OnPending result (Covers cx.new (S.needs self.new.source)) }
+        ensures woken { OnPending result (IsWoken cx.new
+            ⊎ (SaidEmpty S.takes self.new.source × (cx.new ≡ cx.old))) }
+        ensures untouched { IfReady result (λ _. cx.new ≡ cx.old) }
+        ensures kept { Keeps cx.old cx.new }
+    {
         'names: for _count in 0..self.limit {
             let i = match self.source.take() {
                 Taken::Slot(i) => i,
@@ -299,6 +393,41 @@ impl<F: Drop, S: ReadySource> FuturesUnorderedBounded<F, S> {
             Poll::Pending => Poll::Pending,
         }
     }
+
+    /// As `poll_with`, for a task that is registered already, with this set or with one beside it. Registers nothing.
+    pub fn poll_covered<R: PollOne<F, S::Waker>>(
+        &mut self,
+        rule: &R,
+        cx: &mut Context<'_>,
+    ) -> Poll<Option<R::Output>>
+    where
+        S: NewSource,
+        requires held { AllHeld R.can_poll self.old.slots }
+        requires registered { Covers cx.old (S.needs self.old.source) }
+        ensures polled { PollGives R.polled S.registers S.takes self.old result self.new }
+        ensures pollable { AllHeld R.can_poll self.new.slots }
+        ensures fewer { IfReady result (λ o. OnSome o
+            (held_count self.new.slots + 1 ≡ held_count self.old.slots)) }
+        ensures same { OnPending result (held_count self.new.slots ≡ held_count self.old.slots) }
+        ensures capacity { slot_count self.new.slots ≡ slot_count self.old.slots }
+        ensures limit { self.new.limit ≡ self.old.limit }
+        ensures covered { OnPending result (Covers cx.new (S.needs self.new.source)) }
+        ensures woken { OnPending result (IsWoken cx.new
+            ⊎ (SaidEmpty S.takes self.new.source × (cx.new ≡ cx.old))) }
+        ensures untouched { IfReady result (λ _. cx.new ≡ cx.old) }
+        ensures kept { Keeps cx.old cx.new }
+    {
+        if self.is_empty() {
+            return Poll::Ready(None);
+        }
+        match self.ask(rule, cx) {
+            Poll::Ready((i, output)) => {
+                self.empty_slot(i);
+                Poll::Ready(Some(output))
+            }
+            Poll::Pending => Poll::Pending,
+        }
+    }
 }
 
 impl<F: SlotFuture<S::Waker>, S: ReadySource> Stream for FuturesUnorderedBounded<F, S> {
@@ -352,14 +481,22 @@ impl<F: Drop> FuturesUnorderedBounded<F, SharedReady> {
         ensures limit { IfOk result (λ set. set.limit ≡ POLL_LIMIT) }
         ensures refuses { RefusesTooLarge cap result }
     {
-        Self::with_new_source(&(), alloc, cap)
+        Self::with_limit(alloc, cap, POLL_LIMIT)
+    }
+
+    /// As `new`, where one poll takes at most `limit` names.
+    pub fn with_limit(alloc: Global, cap: usize, limit: usize) -> Result<Self, NewFault>
+        requires { 1 ≤ limit }
+        ensures empty { IfOk result (λ set. set.slots ≡ no_slots cap) }
+        ensures source { IfOk result (λ set. IsNewShared cap set.source) }
+        ensures limit { IfOk result (λ set. set.limit ≡ limit) }
+        ensures refuses { RefusesTooLarge cap result }
+    {
+        Self::with_new_source(&(), alloc, cap, limit)
     }
 
     /// A set without a free slot, which holds item k in slot k, each marked, in this order, and whose values are woken from any thread. It is `over` with a shared source, and refuses as `over` does.
-    pub fn from_iter<I: IntoIterator<Item = F>>(
-        alloc: Global,
-        iter: I,
-    ) -> Result<Self, NewFault>
+    pub fn from_iter<I: IntoIterator<Item = F>>(alloc: Global, iter: I) -> Result<Self, NewFault>
     where
         requires { IsFiniteIterable I.into_iter_gives I.IntoIter.can_next
             I.IntoIter.remaining iter }

@@ -1,28 +1,28 @@
 use Rattle.futures_buffered_bounded.specs.FuturesUnorderedBounded.{Bounded}
 use Rattle.std.proofs.Common.{Some, refl, sym, inl, inr, arith, ◌∙◌, length-set, ap}
 use Rattle.futures_buffered_bounded.proofs.HeldLemmas.{AllHeld-with, SoFar-skip, SoFar-pending, ready_after, ended_after, count-with, same-with}
-use Rattle.futures_buffered_bounded.proofs.futures_unordered_bounded.FuturesUnorderedBounded.poll_first.Goals.{in-Some+in_default-poll_one, in_default}
-use Rattle.futures_buffered_bounded.proofs.futures_unordered_bounded.FuturesUnorderedBounded.poll_first.Goals as goal
+use Rattle.futures_buffered_bounded.proofs.futures_unordered_bounded.FuturesUnorderedBounded.ask.Goals.{in-Some+in_default-poll_one, in_default}
+use Rattle.futures_buffered_bounded.proofs.futures_unordered_bounded.FuturesUnorderedBounded.ask.Goals as goal
 
 pub returns-in-Empty-clause-polled : goal.returns-in-Empty-clause-polled
 returns-in-Empty-clause-polled g c =
     let source = g.S.ReadySource in
     let rule = g.R.PollOne in
-    ended_after rule.can_poll rule.polled source.registers source.takes c.args.self.now _ _ _ _ _ _ c.names.invariant.so_far c.names.invariant.same_limit (omega (arith, ap (λ (v : Bounded g.row.F.Denot g.row.S.Denot). v.limit) c.self.view_is)) c.in-Empty.ensures (inl refl)
+    λ before first. ended_after rule.can_poll rule.polled source.takes source.registers c.args.self.now before first _ _ _ _ _ _ c.names.invariant.so_far c.names.invariant.same_limit (omega (arith, ap (λ (v : Bounded g.row.F.Denot g.row.S.Denot). v.limit) c.self.view_is)) c.in-Empty.ensures (inl refl)
 
 pub returns-in-Pause-clause-polled : goal.returns-in-Pause-clause-polled
 returns-in-Pause-clause-polled g c =
     let source = g.S.ReadySource in
     let rule = g.R.PollOne in
     rw c.yield_now.ensures.pending
-    (ended_after rule.can_poll rule.polled source.registers source.takes c.args.self.now _ _ _ _ _ _ c.names.invariant.so_far c.names.invariant.same_limit (omega (arith, ap (λ (v : Bounded g.row.F.Denot g.row.S.Denot). v.limit) c.self.view_is)) c.in-Pause.ensures (inr refl))
+    (λ before first. ended_after rule.can_poll rule.polled source.takes source.registers c.args.self.now before first _ _ _ _ _ _ c.names.invariant.so_far c.names.invariant.same_limit (omega (arith, ap (λ (v : Bounded g.row.F.Denot g.row.S.Denot). v.limit) c.self.view_is)) c.in-Pause.ensures (inr refl))
 
 pub returns-in-Ready-clause-polled : goal.returns-in-Ready-clause-polled
 returns-in-Ready-clause-polled g c =
     let source = g.S.ReadySource in
     let rule = g.R.PollOne in
     let slots = c.names.self-inside.slots in
-    ready_after rule.can_poll rule.polled source.registers source.takes c.args.self.now _ _ c.in-Slot.i slots _ _ _ c.poll_one.new.held c.in-Ready.output c.names.invariant.so_far c.names.invariant.same_limit (omega (arith, ap (λ (v : Bounded g.row.F.Denot g.row.S.Denot). v.limit) c.self.view_is)) c.in-Slot.ensures (sym c.in-Some.ensures.value) (c.in-Ready.ensures.polled c.in-Slot.i c.waker-waker.ensures)
+    λ before first. ready_after rule.can_poll rule.polled source.takes source.registers c.args.self.now before first _ _ c.in-Slot.i slots _ _ _ c.poll_one.new.held c.in-Ready.output c.names.invariant.so_far c.names.invariant.same_limit (omega (arith, ap (λ (v : Bounded g.row.F.Denot g.row.S.Denot). v.limit) c.self.view_is)) c.in-Slot.ensures (sym c.in-Some.ensures.value) (c.in-Ready.ensures.polled c.in-Slot.i c.waker-waker.ensures)
 
 pub names-preserved : goal.names-preserved
 names-preserved g c =
@@ -32,26 +32,24 @@ names-preserved g c =
     let keeps = g.met.S.ReadySource.take_keeps _ _ _ c.in-Slot.ensures ∙ c.names.invariant.same_size in
     elim c.match-get.branch [
       | in-Some+in_default-poll_one w ↦ rw w.self-inside-is (record {
-        so_far = SoFar-pending rule.can_poll rule.polled source.registers source.takes c.args.self.now _ c.in-Slot.i slots _ _ _ w.poll_one.new.held c.names.invariant.so_far c.in-Slot.ensures (sym w.in-Some.ensures.value) (w.in_default-poll_one.ensures.polled c.in-Slot.i c.waker-waker.ensures) w.in_default-poll_one.ensures.again;
+        so_far = SoFar-pending rule.can_poll rule.polled source.takes c.args.self.now _ c.in-Slot.i slots _ _ _ w.poll_one.new.held c.names.invariant.so_far c.in-Slot.ensures (sym w.in-Some.ensures.value) (w.in_default-poll_one.ensures.polled c.in-Slot.i c.waker-waker.ensures) w.in_default-poll_one.ensures.again;
         same_size = keeps ∙ sym (length-set slots.places c.in-Slot.i (Some w.poll_one.new.held));
         capacity = length-set slots.places c.in-Slot.i (Some w.poll_one.new.held) ∙ c.names.invariant.capacity;
         count = count-with slots c.in-Slot.i _ w.poll_one.new.held w.in-Some.ensures.value ∙ c.names.invariant.count;
         same_limit = c.names.invariant.same_limit;
         same_slots = λ j. same-with slots c.in-Slot.i j _ w.poll_one.new.held w.in-Some.ensures.value ∙ c.names.invariant.same_slots j;
         covers = (c.names.invariant.covers.0, λ n h. c.names.invariant.covers.1 n (g.met.S.ReadySource.take_needs _ _ _ c.in-Slot.ensures n h));
-        kept = c.names.invariant.kept;
-        registered = c.names.invariant.registered;
+        same_context = c.names.invariant.same_context;
       })
       | in_default w ↦ rw w.self-inside-is (record {
-        so_far = SoFar-skip rule.can_poll rule.polled source.registers source.takes c.args.self.now _ c.in-Slot.i slots _ _ c.names.invariant.so_far c.in-Slot.ensures (sym w.in_default.ensures.value);
+        so_far = SoFar-skip rule.can_poll rule.polled source.takes c.args.self.now _ c.in-Slot.i slots _ _ c.names.invariant.so_far c.in-Slot.ensures (sym w.in_default.ensures.value);
         same_size = keeps;
         capacity = c.names.invariant.capacity;
         count = c.names.invariant.count;
         same_limit = c.names.invariant.same_limit;
         same_slots = c.names.invariant.same_slots;
         covers = (c.names.invariant.covers.0, λ n h. c.names.invariant.covers.1 n (g.met.S.ReadySource.take_needs _ _ _ c.in-Slot.ensures n h));
-        kept = c.names.invariant.kept;
-        registered = c.names.invariant.registered;
+        same_context = c.names.invariant.same_context;
       })
     ]
 

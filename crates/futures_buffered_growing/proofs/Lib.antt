@@ -1,0 +1,2 @@
+pub mod FuturesUnorderedLemmas
+pub mod PushLemmas

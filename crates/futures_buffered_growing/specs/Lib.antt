@@ -1,0 +1,2 @@
+pub mod FuturesUnordered
+pub mod FuturesUnorderedInvariant

@@ -1,0 +1,315 @@
+//! A set of futures that grows by groups, yielded as they finish.
+//!
+//! Each group is a bounded set. A push goes into the last group, and makes one of twice its slots where it is full. A poll asks each group in turn, from the place where the poll before ended, until one gives an output. One registration of the task does for all groups.
+ghost use Rattle.std.specs.Prelude.{◌≡◌, ◌↔◌, ◌<◌, ◌≤◌, ◌+◌, ◌⊎◌, [], length, IsTrue, OnOk, OnErr, IsErr, IfOk, IfErr, IfNone, IfSome};
+ghost use Rattle.std.specs.List.{All};
+ghost use Rattle.futures.specs.Poll.{IfReady, OnPending};
+ghost use Rattle.futures.specs.Task.{Covers, Keeps};
+ghost use Rattle.futures_buffered_core.specs.Answer.{RefusesTooLarge};
+ghost use Rattle.futures_buffered_core.specs.ReadySource.{WaitsAlike};
+ghost use Rattle.futures_buffered_bounded.specs.Held.{AllHeld};
+ghost use Rattle.futures_buffered_bounded.specs.FuturesUnorderedBounded.{PollGives};
+ghost use Rattle.futures_buffered_bounded.specs.Groups.{GroupsGive};
+ghost use Rattle.futures_buffered_bounded.specs.GroupsStep.{AsksOne, next_place};
+ghost use Rattle.futures_buffered_growing.specs.FuturesUnordered.{EachHeld, EachCovered, AnyGroupMayGive, GrowingPushes, IsNewGroup, LastIsFull, all_held, capacity_of, next_capacity, outputs_in, spare_places};
+ghost use Rattle.futures_buffered_growing.specs.FuturesUnorderedInvariant.{AddsGroup, KeepsGroup, PushesLast};
+
+use futures::task::{Context, Poll};
+use futures_buffered_bounded::futures_unordered_bounded::FuturesUnorderedBounded;
+use futures_buffered_bounded::poll_one::PollOne;
+use futures_buffered_core::ready_core::{MAX_CAPACITY, NewFault};
+use futures_buffered_core::ready_source::NewSource;
+use std::alloc::Global;
+use std::marker::Model;
+
+/// How many slots the first group has, where no number was chosen.
+pub const FIRST_GROUP: usize = 32;
+
+/// How many futures one set holds, at most.
+pub const MAX_HELD: usize = usize::MAX / 2;
+
+const _: () = prove!(FIRST_GROUP == 32);
+
+/// Futures in groups of slots.
+///
+/// A contract sees the groups, each a bounded set, the place where the next poll begins, and the limit of names that one poll takes from each group. Only the calls that make a set and a push that makes a group take memory. The calls wait for nobody where those of the source do not.
+#[derive(Drop)]
+pub struct FuturesUnordered<F: Drop, S: NewSource> {
+    groups: Vec<FuturesUnorderedBounded<F, S>>,
+    place: usize,
+    held: usize,
+    limit: usize,
+    env: S::Env,
+    alloc: Global,
+}
+
+impl<F: Drop, S: NewSource> Model for FuturesUnordered<F, S> {
+    ghost use Rattle.futures_buffered_growing.specs.FuturesUnordered.{Growing, growing_code};
+
+    ghost Value = { Growing F S };
+
+    ghost coded = { growing_code F.code S.code };
+
+    ghost use Rattle.futures_buffered_growing.specs.FuturesUnorderedInvariant.{KeepsGroups};
+
+    ghost view = { λ s. record {
+      groups = record { listed = s.groups.items; place = s.place };
+      limit = s.limit;
+    } };
+
+    ghost invariant = { λ s. KeepsGroups S.needs
+        (record { listed = s.groups.items; place = s.place }) s.limit s.held };
+}
+
+// One poll of a group: it registers the task, unless that is registered with a group beside it.
+fn ask_group<F: Drop, S: NewSource, R: PollOne<F, S::Waker>>(
+    group: &mut FuturesUnorderedBounded<F, S>,
+    rule: &R,
+    cx: &mut Context<'_>,
+    is_registered: bool,
+) -> Poll<Option<R::Output>>
+    requires held { AllHeld R.can_poll group.old.slots }
+    requires registered { IsTrue is_registered → Covers cx.old (S.needs group.old.source) }
+    ensures polled { PollGives R.polled S.registers S.takes group.old result group.new }
+    ensures keeps { KeepsGroup S.needs group.old result group.new }
+    ensures pollable { AllHeld R.can_poll group.new.slots }
+    ensures covered { OnPending result (Covers cx.new (S.needs group.new.source)) }
+    ensures untouched { IfReady result (λ o. IfNone o (cx.new ≡ cx.old)) }
+    ensures kept { Keeps cx.old cx.new }
+{
+    if is_registered {
+        group.poll_covered(rule, cx)
+    } else {
+        group.poll_with(rule, cx)
+    }
+}
+
+impl<F: Drop, S: NewSource> FuturesUnordered<F, S> {
+    /// The number of futures held. Takes the same time at any number of groups.
+    pub fn len(&self) -> usize
+        ensures { result ≡ all_held self.now.groups.listed }
+    {
+        self.held
+    }
+
+    /// Whether no future is held. Takes the same time at any number of groups.
+    pub fn is_empty(&self) -> bool
+        ensures { IsTrue result ↔ (all_held self.now.groups.listed ≡ 0) }
+    {
+        self.held == 0
+    }
+
+    /// How many names one poll takes from each group, at most. It never changes.
+    pub fn limit(&self) -> usize
+        ensures { result ≡ self.now.limit }
+    {
+        self.limit
+    }
+
+    /// How many futures it has room for: of several groups, what they hold and the free places of the last one; of one, its slots; without groups, 0.
+    ///
+    /// Takes the same time at any number of groups.
+    pub fn capacity(&self) -> usize
+        ensures { result ≡ capacity_of self.now.groups.listed }
+    {
+        match self.groups.len() {
+            0 => 0,
+            1 => self.groups[0].capacity(),
+            _ => self.held + self.spare_places(),
+        }
+    }
+
+    // The free places of the last group, where a push goes.
+    fn spare_places(&self) -> usize
+        ensures value { result ≡ spare_places self.now.groups.listed }
+        ensures few { result ≤ MAX_CAPACITY }
+    {
+        let groups = self.groups.len();
+        if groups == 0 {
+            return 0;
+        }
+        let last = &self.groups[groups - 1];
+        last.capacity() - last.len()
+    }
+
+    // The number of slots of the group that a push makes.
+    fn next_capacity(&self) -> usize
+        ensures value { result ≡ next_capacity FIRST_GROUP self.now.groups.listed }
+        ensures some { 0 < result }
+    {
+        let groups = self.groups.len();
+        if groups == 0 {
+            return FIRST_GROUP;
+        }
+        2 * self.groups[groups - 1].capacity()
+    }
+
+    // An empty group beside the others.
+    fn make_group(&mut self, capacity: usize) -> Result<FuturesUnorderedBounded<F, S>, NewFault>
+        ensures new { IfOk result (IsNewGroup S.made capacity self.old.limit) }
+        ensures beside { IfOk result (λ group.
+            All (λ other. WaitsAlike S.needs other.source group.source)
+            self.old.groups.listed) }
+        ensures same { self.new ≡ self.old }
+        ensures refuses { RefusesTooLarge capacity result }
+    {
+        let groups = self.groups.len();
+        if groups == 0 {
+            return FuturesUnorderedBounded::with_new_source(
+                &self.env, self.alloc, capacity, self.limit,
+            );
+        }
+        self.groups[groups - 1].new_beside(self.alloc, capacity)
+    }
+
+    // Adds an empty group behind all others. Both growths are made before the list changes.
+    fn add_group(&mut self, capacity: usize) -> Result<(), NewFault>
+        requires some { 0 < capacity }
+        requires full { LastIsFull self.old.groups.listed }
+        ensures added { OnOk result (AddsGroup S.made capacity self.old self.new) }
+        ensures same { OnErr result (self.new ≡ self.old) }
+        ensures refuses { RefusesTooLarge capacity result }
+    {
+        let group = self.make_group(capacity)?;
+        if self.groups.reserve(1).is_err() {
+            return Err(NewFault::Memory);
+        }
+        self.groups.push_reserved(group);
+        Ok(())
+    }
+
+    // Puts the value into the last group, which has a free place.
+    fn push_last(&mut self, value: F)
+        requires room { 0 < spare_places self.old.groups.listed }
+        requires few { all_held self.old.groups.listed < MAX_HELD }
+        ensures pushed { PushesLast S.marks self.old value self.new }
+        ensures count { all_held self.new.groups.listed ≡ all_held self.old.groups.listed + 1 }
+    {
+        let last = self.groups.len() - 1;
+        self.groups[last].push(value);
+        self.held += 1;
+    }
+
+    /// Puts the value into the last group. Where that is full, or there is none, a group is made behind it: of twice as many slots, or of `FIRST_GROUP`.
+    ///
+    /// The value comes back, and nothing has changed, where `MAX_HELD` futures are held, where the new group would have more than `MAX_CAPACITY` slots, and where a request for memory was refused. Takes the same time at any capacity where the last group has a free place, and then no memory; else time and memory in proportion to the new group. Polls nothing, and wakes nobody.
+    pub fn push(&mut self, value: F) -> Result<(), F>
+        ensures pushed { OnOk result
+            (GrowingPushes S.marks S.made FIRST_GROUP self.old value self.new) }
+        ensures count { OnOk result
+            (all_held self.new.groups.listed ≡ all_held self.old.groups.listed + 1) }
+        ensures back { IfErr result (λ back. (back ≡ value) × (self.new ≡ self.old)) }
+        ensures room { OnErr result ((all_held self.old.groups.listed ≡ MAX_HELD)
+            ⊎ LastIsFull self.old.groups.listed) }
+        ensures large { (all_held self.old.groups.listed ≡ MAX_HELD)
+            ⊎ (LastIsFull self.old.groups.listed
+            × (MAX_CAPACITY < next_capacity FIRST_GROUP self.old.groups.listed))
+            → IsErr result }
+    {
+        if self.held == MAX_HELD {
+            return Err(value);
+        }
+        if self.spare_places() == 0 {
+            let capacity = self.next_capacity();
+            let Ok(()) = self.add_group(capacity) else {
+                return Err(value);
+            };
+        }
+        self.push_last(value);
+        Ok(())
+    }
+
+    // The place of the group that is asked next.
+    fn next_place(&self) -> usize
+        requires { 0 < length self.now.groups.listed }
+        ensures value { result ≡ next_place self.now.groups }
+        ensures below { result < length self.now.groups.listed }
+    {
+        if self.place < self.groups.len() {
+            self.place
+        } else {
+            0
+        }
+    }
+
+    // Asks the group at the place, and goes on to the next: a group that has ended leaves, unless it is the last.
+    fn ask_one<R: PollOne<F, S::Waker>>(
+        &mut self,
+        rule: &R,
+        cx: &mut Context<'_>,
+        is_registered: bool,
+    ) -> Poll<Option<R::Output>>
+        requires some { 0 < length self.old.groups.listed }
+        requires pollable { EachHeld R.can_poll self.old.groups.listed }
+        requires registered { IsTrue is_registered →
+            EachCovered S.needs cx.old self.old.groups.listed }
+        ensures asked { AsksOne (PollGives R.polled S.registers S.takes)
+            self.old.groups result self.new.groups }
+        ensures count { all_held self.new.groups.listed + outputs_in result
+            ≡ all_held self.old.groups.listed }
+        ensures pending { OnPending result (0 < all_held self.new.groups.listed) }
+        ensures limit { self.new.limit ≡ self.old.limit }
+        ensures pollable { EachHeld R.can_poll self.new.groups.listed }
+        ensures covered { OnPending result (EachCovered S.needs cx.new self.new.groups.listed) }
+        ensures still_covered { IsTrue is_registered →
+            EachCovered S.needs cx.new self.new.groups.listed }
+        ensures untouched { IfReady result (λ o. IfNone o (cx.new ≡ cx.old)) }
+        ensures kept { Keeps cx.old cx.new }
+    {
+        let place = self.next_place();
+        let answer = ask_group(&mut self.groups[place], rule, cx, is_registered);
+        match &answer {
+            Poll::Pending => self.place = place + 1,
+            Poll::Ready(output) => {
+                if output.is_some() {
+                    self.place = place;
+                    self.held -= 1;
+                } else if place + 1 == self.groups.len() {
+                    self.place = 0;
+                } else {
+                    let _ended = self.groups.remove(place);
+                    self.place = place;
+                }
+            }
+        }
+        answer
+    }
+
+    /// One poll of the set, where `rule` says how one held value is polled.
+    ///
+    /// `Ready(None)` where nothing is held. Else each group that stands as the poll begins is asked once, in turn, until one gives an output. A group that holds nothing leaves, unless it is the last. Registers the task once, and takes no memory. Takes time in proportion to the number of groups and to the names taken, besides the polls.
+    pub fn poll_with<R: PollOne<F, S::Waker>>(
+        &mut self,
+        rule: &R,
+        cx: &mut Context<'_>,
+    ) -> Poll<Option<R::Output>>
+        requires { EachHeld R.can_poll self.old.groups.listed }
+        ensures polled { GroupsGive (PollGives R.polled S.registers S.takes)
+            self.old.groups result self.new.groups }
+        ensures ends { (result ≡ Poll.Ready None) ↔ (all_held self.old.groups.listed ≡ 0) }
+        ensures count { all_held self.new.groups.listed + outputs_in result
+            ≡ all_held self.old.groups.listed }
+        ensures limit { self.new.limit ≡ self.old.limit }
+        ensures pollable { EachHeld R.can_poll self.new.groups.listed }
+        ensures covered { OnPending result (EachCovered S.needs cx.new self.new.groups.listed) }
+        ensures untouched { IfReady result (λ o. IfNone o (cx.new ≡ cx.old)) }
+        ensures kept { Keeps cx.old cx.new }
+    {
+        let mut is_registered = false;
+        for _asked in 0..self.groups.len() {
+            match self.ask_one(rule, cx, is_registered) {
+                Poll::Pending => is_registered = true,
+                Poll::Ready(answer) => {
+                    if let Some(output) = answer {
+                        return Poll::Ready(Some(output));
+                    }
+                }
+            }
+        }
+        if is_registered {
+            Poll::Pending
+        } else {
+            Poll::Ready(None)
+        }
+    }
+}
