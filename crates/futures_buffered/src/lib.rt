@@ -1,0 +1,18 @@
+//! Adaptors that draw futures from a stream and keep some of them in progress, over the sets of `futures_buffered_sets`.
+//!
+//! Everything here is found under its own module, and the types by their names alone as well. What the sets' crate gives out is given out here too.
+//!
+//! In the order in which to read them:
+//!
+//! - `buffer_unordered`: `BufferUnordered`, whose outputs come as the futures finish.
+//! - `buffered`: `BufferedStreamExt`, these adaptors as methods of a stream.
+#![tactic(auto)]
+
+pub mod buffer_unordered;
+pub mod buffered;
+
+pub use buffered::{BufferUnordered, BufferedStreamExt};
+pub use futures_buffered_sets::{
+    FusedFuture, FusedStream, FuturesUnorderedBounded, PollFuture, PollOne, SizeHint, SlotFuture,
+    SlotWaker, WakesSlot, fused, futures_unordered_bounded, poll_one, slot_future,
+};
