@@ -1,2 +1,3 @@
 pub mod BufferUnorderedLemmas
 pub mod AccountLemmas
+pub mod ForEachConcurrentLemmas

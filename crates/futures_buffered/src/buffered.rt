@@ -5,8 +5,10 @@ ghost use Rattle.std.specs.Prelude.{◌<◌, IfOk};
 ghost use Rattle.futures_buffered_core.specs.Answer.{RefusesTooLarge};
 ghost use Rattle.futures_buffered_core.specs.ReadyShared.{IsNewShared};
 ghost use Rattle.futures_buffered.specs.BufferUnordered.{IsNewBuffer};
+ghost use Rattle.futures_buffered.specs.ForEachConcurrent.{IsNewForEach};
 
 pub use crate::buffer_unordered::BufferUnordered;
+pub use crate::for_each_concurrent::ForEachConcurrent;
 use futures::Stream;
 use futures_buffered_bounded::SlotFuture;
 use futures_buffered_bounded::futures_unordered_bounded::POLL_LIMIT;
@@ -32,6 +34,26 @@ pub trait BufferedStreamExt: Stream {
         ensures refuses { RefusesTooLarge n result }
     {
         BufferUnordered::over(&(), alloc, self, n)
+    }
+
+    /// Calls `f` with each item of this stream, once and in order, and runs the futures that it makes, at most `limit` at a time. Nothing is polled.
+    ///
+    /// Takes time and memory in proportion to `limit`. Stream and closure are dropped where they are refused: `TooLarge` where `limit` is above `MAX_CAPACITY`, and `Memory` where a request for memory was refused.
+    final fn for_each_concurrent<Fut, F>(
+        self,
+        alloc: Global,
+        limit: usize,
+        f: F,
+    ) -> Result<ForEachConcurrent<Self, F, Fut, SharedReady>, NewFault>
+    where
+        Self: Sized,
+        F: FnMut(Self::Item) -> Fut + Drop,
+        Fut: SlotFuture<SlotWake, Output = ()>,
+        requires { 0 < limit }
+        ensures new { IfOk result (IsNewForEach IsNewShared POLL_LIMIT self f limit) }
+        ensures refuses { RefusesTooLarge limit result }
+    {
+        ForEachConcurrent::over(&(), alloc, self, limit, f)
     }
 }
 

@@ -5,13 +5,15 @@
 //! In the order in which to read them:
 //!
 //! - `buffer_unordered`: `BufferUnordered`, whose outputs come as the futures finish.
+//! - `for_each_concurrent`: `ForEachConcurrent`, which makes its futures of the items by a closure.
 //! - `buffered`: `BufferedStreamExt`, these adaptors as methods of a stream.
 #![tactic(auto)]
 
 pub mod buffer_unordered;
 pub mod buffered;
+pub mod for_each_concurrent;
 
-pub use buffered::{BufferUnordered, BufferedStreamExt};
+pub use buffered::{BufferUnordered, BufferedStreamExt, ForEachConcurrent};
 pub use futures_buffered_sets::{
     FusedFuture, FusedStream, FuturesUnorderedBounded, PollFuture, PollOne, SizeHint, SlotFuture,
     SlotWaker, WakesSlot, fused, futures_unordered_bounded, poll_one, slot_future,
