@@ -79,17 +79,23 @@ module _
         → Accounts IsPermutation (MayGiveInSlot polled) (WaitsInSlot polled)
             (all_drawn calls) (all_outputs calls) (held_values new.queue.slots)
 
--- The stream may be polled, unless it has ended, and so may each future that is held or that may still come.
-pub record CanBuffer
-    {St F S : Type 0}
+-- The stream may be polled, unless it has ended; each item that may still come is fit to be drawn; and each future that is held may be polled.
+pub record CanDraw
+    {St X F S : Type 0}
     (can_next : St → Type 0)
-    (yields : St → Runs F)
+    (yields : St → Runs X)
+    (is_fit : X → Type 0)
     (can_poll : F → Type 0)
     (b : Buffer St (Bounded F S))
     : Type 0 where
   pub stream : IfSome b.stream can_next
-  pub to_come : AllItems (Ahead yields b.stream) can_poll
+  pub to_come : AllItems (Ahead yields b.stream) is_fit
   pub held : AllHeld can_poll b.queue.slots
+
+-- the stream may be polled, unless it has ended, and so may each future that is held or that may still come
+abbrev pub CanBuffer : {St F S : Type 0}
+    → (St → Type 0) → (St → Runs F) → (F → Type 0) → Buffer St (Bounded F S) → Type 0
+CanBuffer can_next yields can_poll = CanDraw can_next yields can_poll can_poll
 
 -- where a pending call waits: with the set's source, if anything is held; with the stream, if it has not ended and there is room
 abbrev pub WaitsAt : {St F S : Type 0}
@@ -99,14 +105,21 @@ WaitsAt stream_needs source_needs b place =
     ⊎ ((set_len b.queue < set_room b.queue)
     × IsSomeAnd b.stream (λ stream. stream_needs stream place))
 
--- an output of a future that is held or that may still come
-abbrev pub OneGives : {St F A S : Type 0}
-    → (St → Runs F) → (ℕ → F → Poll A → F → Type 0) → Buffer St (Bounded F S) → A → Type 0
-OneGives yields polled b x = AnyMayGive polled b.queue.slots x
-    ⊎ AnyItemGives (MayGiveInSlot polled) (Ahead yields b.stream) x
+-- an output of a future that is held, or one that an item gives which may still come
+abbrev pub OneComes : {St X F A S : Type 0}
+    → (St → Runs X) → (X → A → Type 0) → (ℕ → F → Poll A → F → Type 0)
+    → Buffer St (Bounded F S) → A → Type 0
+OneComes yields item_gives polled b x = AnyMayGive polled b.queue.slots x
+    ⊎ AnyItemGives item_gives (Ahead yields b.stream) x
 
--- what may come from a buffer: as many outputs as futures are held and as items come from the stream, each of one of these, and then the end
+-- as many outputs as futures are held and as items come from the stream, each of one of these, and then the end
+abbrev pub Comes : {St X F A S : Type 0}
+    → (St → Runs X) → (X → A → Type 0) → (ℕ → F → Poll A → F → Type 0)
+    → Buffer St (Bounded F S) → Runs A
+Comes yields item_gives polled b =
+    GathersWith (OneComes yields item_gives polled b) (set_len b.queue) (Ahead yields b.stream)
+
+-- what may come from a buffer, whose items are futures
 abbrev pub BufferGives : {St F A S : Type 0}
     → (St → Runs F) → (ℕ → F → Poll A → F → Type 0) → Buffer St (Bounded F S) → Runs A
-BufferGives yields polled b =
-    GathersWith (OneGives yields polled b) (set_len b.queue) (Ahead yields b.stream)
+BufferGives yields polled = Comes yields (MayGiveInSlot polled) polled

@@ -7,14 +7,19 @@
 //! - `buffer_unordered`: `BufferUnordered`, whose outputs come as the futures finish.
 //! - `for_each_concurrent`: `ForEachConcurrent`, which makes its futures of the items by a closure.
 //! - `buffered`: `BufferedStreamExt`, these adaptors as methods of a stream.
+//! - `try_buffer_unordered`: `TryBufferUnordered`, whose stream gives errors as well.
+//! - `try_buffered`: `BufferedTryStreamExt`, this adaptor as a method of a stream.
 #![tactic(auto)]
 
 pub mod buffer_unordered;
 pub mod buffered;
 pub mod for_each_concurrent;
+pub mod try_buffer_unordered;
+pub mod try_buffered;
 
 pub use buffered::{BufferUnordered, BufferedStreamExt, ForEachConcurrent};
 pub use futures_buffered_sets::{
     FusedFuture, FusedStream, FuturesUnorderedBounded, PollFuture, PollOne, SizeHint, SlotFuture,
     SlotWaker, WakesSlot, fused, futures_unordered_bounded, poll_one, slot_future,
 };
+pub use try_buffered::{BufferedTryStreamExt, TryBufferUnordered};

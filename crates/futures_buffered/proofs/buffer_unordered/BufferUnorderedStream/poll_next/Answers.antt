@@ -1,7 +1,7 @@
 use Rattle.std.proofs.Common.{◌≡◌, [], ◌∷◌, Some, None, sym, subst, refl}
 use Rattle.futures_buffered_bounded.specs.FuturesUnorderedBounded.{Bounded, Pushes, PollGives}
 use Rattle.futures_buffered.specs.Buffered.{Buffer, PollsStream}
-use Rattle.futures_buffered.specs.BufferUnordered.{BufferGives, set_len, set_room}
+use Rattle.futures_buffered.specs.BufferUnordered.{BufferGives, MayGiveInSlot, set_len, set_room}
 use Rattle.futures_buffered.proofs.BufferUnorderedLemmas.{call_of, set_pending, set_none, set_none_ends, set_some_value, set_some_rest, some_pends, none_ends, none_is}
 use Rattle.futures_buffered.proofs.buffer_unordered.BufferUnorderedStream.poll_next.Goals as goal
 
@@ -22,7 +22,7 @@ returns-in-Pending-clause-same g c =
     let was : c.fill.new.self ≡ record { stream = c.self.inside.stream; queue = c.self.inside.queue } = sym c.self.view_is in
     λ xs last h. c.fill.ensures.within xs last (
     subst (λ (b : Buffer g.row.St.Denot (Bounded g.row.St-Item.Denot g.row.S.Denot)). BufferGives stream.yields future.polled b xs last) (sym was)
-    (set_pending stream.yields future.polled source.registers source.takes c.self.inside.stream c.self.inside.queue c.poll_next.new.self c.in-Pending.ensures.polled c.in-Pending.ensures.count xs last h))
+    (set_pending stream.yields (MayGiveInSlot future.polled) future.polled source.registers source.takes c.self.inside.stream c.self.inside.queue c.poll_next.new.self c.in-Pending.ensures.polled c.in-Pending.ensures.count xs last h))
 
 pub returns-in-Ready-Some-clause-called : goal.returns-in-Ready-Some-clause-called
 returns-in-Ready-Some-clause-called g c =
@@ -41,7 +41,7 @@ returns-in-Ready-Some-clause-value g c =
     let was : c.fill.new.self ≡ record { stream = c.self.inside.stream; queue = c.self.inside.queue } = sym c.self.view_is in
     c.fill.ensures.within [] (Some c.in-Ready-Some.output) (
     subst (λ (b : Buffer g.row.St.Denot (Bounded g.row.St-Item.Denot g.row.S.Denot)). BufferGives stream.yields future.polled b [] (Some c.in-Ready-Some.output)) (sym was)
-    (set_some_value stream.yields future.polled source.registers source.takes c.self.inside.stream c.self.inside.queue c.poll_next.new.self c.in-Ready-Some.output (rw c.in-Ready-Some.field-0-is at c.in-Ready-Some.ensures.polled)))
+    (set_some_value stream.yields (MayGiveInSlot future.polled) future.polled source.registers source.takes c.self.inside.stream c.self.inside.queue c.poll_next.new.self c.in-Ready-Some.output (rw c.in-Ready-Some.field-0-is at c.in-Ready-Some.ensures.polled)))
 
 pub returns-in-Ready-Some-clause-rest : goal.returns-in-Ready-Some-clause-rest
 returns-in-Ready-Some-clause-rest g c =
@@ -51,7 +51,7 @@ returns-in-Ready-Some-clause-rest g c =
     let was : c.fill.new.self ≡ record { stream = c.self.inside.stream; queue = c.self.inside.queue } = sym c.self.view_is in
     λ xs last h. c.fill.ensures.within (c.in-Ready-Some.output ∷ xs) last (
     subst (λ (b : Buffer g.row.St.Denot (Bounded g.row.St-Item.Denot g.row.S.Denot)). BufferGives stream.yields future.polled b (c.in-Ready-Some.output ∷ xs) last) (sym was)
-    (set_some_rest stream.yields future.polled source.registers source.takes c.self.inside.stream c.self.inside.queue c.poll_next.new.self c.in-Ready-Some.output (rw c.in-Ready-Some.field-0-is at c.in-Ready-Some.ensures.polled) (rw c.in-Ready-Some.field-0-is at c.in-Ready-Some.ensures.fewer) xs last h))
+    (set_some_rest stream.yields (MayGiveInSlot future.polled) future.polled source.registers source.takes c.self.inside.stream c.self.inside.queue c.poll_next.new.self c.in-Ready-Some.output (rw c.in-Ready-Some.field-0-is at c.in-Ready-Some.ensures.polled) (rw c.in-Ready-Some.field-0-is at c.in-Ready-Some.ensures.fewer) xs last h))
 
 pub returns-then-is_some-clause-called : goal.returns-then-is_some-clause-called
 returns-then-is_some-clause-called g c =
@@ -70,7 +70,7 @@ returns-then-is_some-clause-same g c =
     let was : c.fill.new.self ≡ record { stream = c.self.inside.stream; queue = c.self.inside.queue } = sym c.self.view_is in
     λ xs last h. c.fill.ensures.within xs last (
     subst (λ (b : Buffer g.row.St.Denot (Bounded g.row.St-Item.Denot g.row.S.Denot)). BufferGives stream.yields future.polled b xs last) (sym was)
-    (set_none stream.yields future.polled source.registers source.takes c.self.inside.stream c.self.inside.queue c.poll_next.new.self (rw c.in-Ready-None.field-0-is at c.in-Ready-None.ensures.polled) xs last h))
+    (set_none stream.yields (MayGiveInSlot future.polled) future.polled source.registers source.takes c.self.inside.stream c.self.inside.queue c.poll_next.new.self (rw c.in-Ready-None.field-0-is at c.in-Ready-None.ensures.polled) xs last h))
 
 pub returns-clause-called : goal.returns-clause-called
 returns-clause-called g c =
@@ -90,4 +90,4 @@ returns-clause-value g c =
     let ended = none_is c.self.inside.stream (sym c.if-is_some.ensures) in
     c.fill.ensures.within [] None (
     subst (λ (b : Buffer g.row.St.Denot (Bounded g.row.St-Item.Denot g.row.S.Denot)). BufferGives stream.yields future.polled b [] None) (sym was)
-    (rw ended (set_none_ends stream.yields future.polled source.registers source.takes c.self.inside.queue c.poll_next.new.self (rw c.in-Ready-None.field-0-is at c.in-Ready-None.ensures.polled))))
+    (rw ended (set_none_ends stream.yields (MayGiveInSlot future.polled) future.polled source.registers source.takes c.self.inside.queue c.poll_next.new.self (rw c.in-Ready-None.field-0-is at c.in-Ready-None.ensures.polled))))
