@@ -9,11 +9,13 @@
 //! - `buffered`: `BufferedStreamExt`, these adaptors as methods of a stream.
 //! - `try_buffer_unordered`: `TryBufferUnordered`, whose stream gives errors as well.
 //! - `try_buffered`: `BufferedTryStreamExt`, this adaptor as a method of a stream.
+//! - `iter_ext`: `IterExt`, the sets' constructors as methods of what gives the items.
 #![tactic(auto)]
 
 pub mod buffer_unordered;
 pub mod buffered;
 pub mod for_each_concurrent;
+pub mod iter_ext;
 pub mod try_buffer_unordered;
 pub mod try_buffered;
 
@@ -22,4 +24,5 @@ pub use futures_buffered_sets::{
     FusedFuture, FusedStream, FuturesUnorderedBounded, PollFuture, PollOne, SizeHint, SlotFuture,
     SlotWaker, WakesSlot, fused, futures_unordered_bounded, poll_one, slot_future,
 };
+pub use iter_ext::IterExt;
 pub use try_buffered::{BufferedTryStreamExt, TryBufferUnordered};
