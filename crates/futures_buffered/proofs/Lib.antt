@@ -1,0 +1,4 @@
+pub mod BufferUnorderedLemmas
+pub mod AccountLemmas
+pub mod ForEachConcurrentLemmas
+pub mod TryBufferUnorderedLemmas

@@ -1,0 +1,60 @@
+//! Adaptors of a stream of futures, as methods of the stream.
+//!
+//! Each is its type's `over` with a shared source, so that what it holds is woken from any thread.
+ghost use Rattle.std.specs.Prelude.{◌<◌, IfOk};
+ghost use Rattle.futures_buffered_core.specs.Answer.{RefusesTooLarge};
+ghost use Rattle.futures_buffered_core.specs.ReadyShared.{IsNewShared};
+ghost use Rattle.futures_buffered.specs.BufferUnordered.{IsNewBuffer};
+ghost use Rattle.futures_buffered.specs.ForEachConcurrent.{IsNewForEach};
+
+pub use crate::buffer_unordered::BufferUnordered;
+pub use crate::for_each_concurrent::ForEachConcurrent;
+use futures::Stream;
+use futures_buffered_bounded::SlotFuture;
+use futures_buffered_bounded::futures_unordered_bounded::POLL_LIMIT;
+use futures_buffered_core::ready_core::NewFault;
+use futures_buffered_core::ready_shared::{SharedReady, SlotWake};
+use std::alloc::Global;
+
+/// Adaptors that keep some futures of a stream in progress.
+pub trait BufferedStreamExt: Stream {
+    /// The outputs of this stream's futures as they finish, with at most `n` in progress at a time. Nothing is polled.
+    ///
+    /// Takes time and memory in proportion to `n`. The stream is dropped where it is refused: `TooLarge` where `n` is above `MAX_CAPACITY`, and `Memory` where a request for memory was refused.
+    final fn buffered_unordered(
+        self,
+        alloc: Global,
+        n: usize,
+    ) -> Result<BufferUnordered<Self, SharedReady>, NewFault>
+    where
+        Self: Sized,
+        Self::Item: SlotFuture<SlotWake>,
+        requires { 0 < n }
+        ensures new { IfOk result (IsNewBuffer IsNewShared POLL_LIMIT self n) }
+        ensures refuses { RefusesTooLarge n result }
+    {
+        BufferUnordered::over(&(), alloc, self, n)
+    }
+
+    /// Calls `f` with each item of this stream, once and in order, and runs the futures that it makes, at most `limit` at a time. Nothing is polled.
+    ///
+    /// Takes time and memory in proportion to `limit`. Stream and closure are dropped where they are refused: `TooLarge` where `limit` is above `MAX_CAPACITY`, and `Memory` where a request for memory was refused.
+    final fn for_each_concurrent<Fut, F>(
+        self,
+        alloc: Global,
+        limit: usize,
+        f: F,
+    ) -> Result<ForEachConcurrent<Self, F, Fut, SharedReady>, NewFault>
+    where
+        Self: Sized,
+        F: FnMut(Self::Item) -> Fut + Drop,
+        Fut: SlotFuture<SlotWake, Output = ()>,
+        requires { 0 < limit }
+        ensures new { IfOk result (IsNewForEach IsNewShared POLL_LIMIT self f limit) }
+        ensures refuses { RefusesTooLarge limit result }
+    {
+        ForEachConcurrent::over(&(), alloc, self, limit, f)
+    }
+}
+
+impl<St: Stream> BufferedStreamExt for St {}

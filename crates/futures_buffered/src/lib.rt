@@ -1,0 +1,28 @@
+//! Adaptors that draw futures from a stream and keep some of them in progress, over the sets of `futures_buffered_sets`.
+//!
+//! Everything here is found under its own module, and the types by their names alone as well. What the sets' crate gives out is given out here too.
+//!
+//! In the order in which to read them:
+//!
+//! - `buffer_unordered`: `BufferUnordered`, whose outputs come as the futures finish.
+//! - `for_each_concurrent`: `ForEachConcurrent`, which makes its futures of the items by a closure.
+//! - `buffered`: `BufferedStreamExt`, these adaptors as methods of a stream.
+//! - `try_buffer_unordered`: `TryBufferUnordered`, whose stream gives errors as well.
+//! - `try_buffered`: `BufferedTryStreamExt`, this adaptor as a method of a stream.
+//! - `iter_ext`: `IterExt`, the sets' constructors as methods of what gives the items.
+#![tactic(auto)]
+
+pub mod buffer_unordered;
+pub mod buffered;
+pub mod for_each_concurrent;
+pub mod iter_ext;
+pub mod try_buffer_unordered;
+pub mod try_buffered;
+
+pub use buffered::{BufferUnordered, BufferedStreamExt, ForEachConcurrent};
+pub use futures_buffered_sets::{
+    FusedFuture, FusedStream, FuturesUnorderedBounded, PollFuture, PollOne, SizeHint, SlotFuture,
+    SlotWaker, WakesSlot, fused, futures_unordered_bounded, poll_one, slot_future,
+};
+pub use iter_ext::IterExt;
+pub use try_buffered::{BufferedTryStreamExt, TryBufferUnordered};

@@ -1,0 +1,38 @@
+//! Adaptors of a stream of futures and errors, as methods of the stream.
+//!
+//! Each is its type's `over` with a shared source, so that what it holds is woken from any thread.
+ghost use Rattle.std.specs.Prelude.{◌<◌, IfOk};
+ghost use Rattle.futures_buffered_core.specs.Answer.{RefusesTooLarge};
+ghost use Rattle.futures_buffered_core.specs.ReadyShared.{IsNewShared};
+ghost use Rattle.futures_buffered.specs.BufferUnordered.{IsNewBuffer};
+
+pub use crate::try_buffer_unordered::TryBufferUnordered;
+use futures::Stream;
+use futures_buffered_bounded::SlotFuture;
+use futures_buffered_bounded::futures_unordered_bounded::POLL_LIMIT;
+use futures_buffered_core::ready_core::NewFault;
+use futures_buffered_core::ready_shared::{SharedReady, SlotWake};
+use std::alloc::Global;
+
+/// Adaptors that keep some futures of a stream in progress, where the stream gives errors as well.
+pub trait BufferedTryStreamExt: Stream {
+    /// The outputs of this stream's futures as they finish, with at most `n` in progress at a time, and each error of the stream as soon as it is met. Nothing is polled.
+    ///
+    /// Takes time and memory in proportion to `n`. The stream is dropped where it is refused: `TooLarge` where `n` is above `MAX_CAPACITY`, and `Memory` where a request for memory was refused.
+    final fn try_buffered_unordered<F, T, E>(
+        self,
+        alloc: Global,
+        n: usize,
+    ) -> Result<TryBufferUnordered<Self, F, SharedReady>, NewFault>
+    where
+        Self: Stream<Item = Result<F, E>> + Sized,
+        F: SlotFuture<SlotWake, Output = Result<T, E>>,
+        requires { 0 < n }
+        ensures new { IfOk result (IsNewBuffer IsNewShared POLL_LIMIT self n) }
+        ensures refuses { RefusesTooLarge n result }
+    {
+        TryBufferUnordered::over(&(), alloc, self, n)
+    }
+}
+
+impl<St: Stream> BufferedTryStreamExt for St {}
