@@ -50,6 +50,22 @@ impl OuterWaker for AskingWaker {
     }
 }
 
+/// One of the two.
+#[derive(Drop)]
+pub enum Either {
+    Asks(AskingWaker),
+    Counts(CountingWaker),
+}
+
+impl OuterWaker for Either {
+    fn wake_outer(self) {
+        match self {
+            Either::Asks(waker) => waker.wake_outer(),
+            Either::Counts(waker) => waker.wake_outer(),
+        }
+    }
+}
+
 /// Whether a word became other than 0 within so many turns.
 pub fn is_set_within(word: &AtomicU64, turns: u64) -> bool {
     for _ in 0..turns {

@@ -1,5 +1,5 @@
 // Outer wakers that are no task's.
-use crate::outer::{AskingWaker, CountingWaker, is_set_within};
+use crate::outer::{AskingWaker, CountingWaker, Either, is_set_within};
 use futures_buffered_core::ready_core::{MAX_CAPACITY, NewFault, Taken, Woke};
 use futures_buffered_core::ready_shared::SharedReady;
 use futures_buffered_core::ready_source::SlotWaker;
@@ -51,8 +51,8 @@ fn wakes_both_when_asked<W: SlotWaker>(
     }
 }
 
-// Two slots are woken while the outer waker is at its wake, by a thread that it waits for.
-// That thread could not go on, and the asking would not be answered, if the wake held a lock.
+// Two slots are woken while the outer waker is at its wake, by a thread that it waits for. No wake waits for
+// another, and none is lost.
 #[test]
 fn two_slots_are_woken_from_inside_the_outer_wake(rt: HostRuntime) -> Result<(), Fail> {
     let asked = Arc::new(rt.alloc(), AtomicU64::new(0))?;
@@ -73,6 +73,28 @@ fn two_slots_are_woken_from_inside_the_outer_wake(rt: HostRuntime) -> Result<(),
     assert_eq!(rt; source.take(), Taken::Slot(2));
     assert_eq!(rt; source.take(), Taken::Slot(1));
     assert_eq!(rt; source.take(), Taken::Empty);
+    Ok(())
+}
+
+// The outer waker stops inside its wake, on another thread, until this one has put in the next one.
+// That one would be woken at once if the wake still had the place.
+#[test]
+fn the_place_is_free_while_the_outer_waker_is_woken(rt: HostRuntime) -> Result<(), Fail> {
+    let asked = Arc::new(rt.alloc(), AtomicU64::new(0))?;
+    let answered = Arc::new(rt.alloc(), AtomicU64::new(0))?;
+    let wakes = Arc::new(rt.alloc(), AtomicU64::new(0))?;
+    let mut source = SharedReady::new(rt.alloc(), 2)?;
+    let theirs = (Arc::try_clone(&asked)?, Arc::try_clone(&answered)?);
+    source.set_outer(Either::Asks(AskingWaker::new(theirs.0, theirs.1, TURNS)));
+    let waker = source.waker(0).try_clone()?;
+    let helper = thread::spawn(&rt, move || waker.wake())?;
+    assert!(rt; is_set_within(&asked, TURNS));
+    source.set_outer(Either::Counts(CountingWaker::new(Arc::try_clone(&wakes)?)));
+    answered.store(1, SeqCst);
+    helper.join(&rt);
+    assert_eq!(rt; (asked.load(SeqCst), wakes.load(SeqCst)), (2, 0));
+    source.waker(1).wake();
+    assert_eq!(rt; wakes.load(SeqCst), 1);
     Ok(())
 }
 
