@@ -21,8 +21,9 @@ pub mod try_buffered;
 
 pub use buffered::{BufferUnordered, BufferedStreamExt, ForEachConcurrent};
 pub use futures_buffered_sets::{
-    FusedFuture, FusedStream, FuturesUnorderedBounded, PollFuture, PollOne, SizeHint, SlotFuture,
-    SlotWaker, WakesSlot, fused, futures_unordered_bounded, poll_one, slot_future,
+    FusedFuture, FusedStream, FuturesUnordered, FuturesUnorderedBounded, PollFuture, PollOne,
+    SizeHint, SlotFuture, SlotWaker, WakesSlot, fused, futures_unordered,
+    futures_unordered_bounded, poll_one, slot_future,
 };
 pub use iter_ext::IterExt;
 pub use try_buffered::{BufferedTryStreamExt, TryBufferUnordered};

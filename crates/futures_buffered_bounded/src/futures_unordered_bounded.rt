@@ -1,9 +1,8 @@
 //! A set of as many futures as it has slots, yielded as they finish.
 //!
-//! Each future stands in a slot. A push marks its slot, and a future's waker marks it again. A poll takes the names of marked slots from the set's source, at most `POLL_LIMIT` of them, and polls what these slots hold until one is ready. A slot that nobody marked costs nothing.
-ghost use Rattle.std.specs.Prelude.{◌≡◌, ◌<◌, ◌≤◌, ◌+◌, ◌==◌, ◌↔◌, [], ℕ, List, IfOk, IfErr, OnOk, OnSome, IfSome, is_some, IsSome, IsTrue, IfNone, ◌⊎◌};
+//! Each future stands in a slot. A push marks its slot, and a future's waker marks it again. A poll takes the names of marked slots from the set's source, at most as many as its limit, and polls what these slots hold until one is ready. A slot that nobody marked costs nothing.
+ghost use Rattle.std.specs.Prelude.{◌≡◌, ◌<◌, ◌≤◌, ◌+◌, ◌==◌, ◌↔◌, [], ℕ, List, IfOk, IfErr, OnOk, OnSome, is_some, IsSome, IsTrue, IfNone, ◌⊎◌};
 ghost use Rattle.futures.specs.Task.{Covers, Keeps};
-ghost use Rattle.futures.specs.Runs.{After, Within};
 ghost use Rattle.futures.specs.Poll.{IfReady, OnPending};
 ghost use Rattle.std.specs.Iterator.{IsFiniteIterable};
 ghost use Rattle.futures_buffered_core.specs.Answer.{RefusesTooLarge};
@@ -11,23 +10,19 @@ ghost use Rattle.futures_buffered_core.specs.Drawn.{Draws, DrawsMoreThan};
 ghost use Rattle.futures_buffered_core.specs.ReadyShared.{IsNewShared, MarksShared};
 ghost use Rattle.futures_buffered_core.specs.ReadySource.{WaitsAlike};
 ghost use Rattle.futures_buffered_core.specs.SlotMap.{value_in, held_count, slot_count, no_slots, IsFull};
-ghost use Rattle.futures_buffered_bounded.specs.Held.{AllHeld, AllHeldBut, EndsWith, ComesFrom};
+ghost use Rattle.futures_buffered_bounded.specs.Held.{AllHeld, AllHeldBut, EndsWith};
 ghost use Rattle.futures_buffered_bounded.specs.FuturesUnorderedBounded.{HoldsEach, Pushes, PushesAt, AsksUntil, PollGives, SaidEmpty, IsWoken, with_empty_slot, with_source};
 
-use crate::fused::{FusedStream, SizeHint};
-use crate::poll_one::{PollFuture, PollOne};
-use crate::slot_future::SlotFuture;
-use futures::Stream;
+use crate::poll_one::PollOne;
 use futures::task::{Context, Poll};
 use futures_buffered_core::ready_core::{MAX_CAPACITY, NewFault, Taken, Woke};
 use futures_buffered_core::ready_shared::SharedReady;
 use futures_buffered_core::ready_source::{NewSource, ReadySource};
 use futures_buffered_core::slot_map::PinSlotMap;
 use std::alloc::Global;
-use std::fmt;
 use std::marker::Model;
 
-/// How many names one poll takes from the source, at most.
+/// How many names one poll takes from the source, at most, where no other limit was chosen.
 pub const POLL_LIMIT: usize = 61;
 
 const _: () = prove!(POLL_LIMIT == 61);
@@ -430,45 +425,6 @@ impl<F: Drop, S: ReadySource> FuturesUnorderedBounded<F, S> {
     }
 }
 
-impl<F: SlotFuture<S::Waker>, S: ReadySource> Stream for FuturesUnorderedBounded<F, S> {
-    type Item = F::Output;
-
-    ghost can_poll = { λ set. AllHeld F.can_poll set.slots };
-
-    ghost needs = { λ set n. (0 < held_count set.slots) × S.needs set.source n };
-
-    ghost yields = { λ set. ComesFrom F.polled set.slots };
-
-    /// One poll, as `poll_with` by the rule that polls the future itself.
-    ///
-    /// Takes no memory. Names at most `POLL_LIMIT` slots and polls only what these hold, so its time is that of these polls, at any capacity. Holds no lock of the source while it polls a future.
-    fn poll_next(&mut self, cx: &mut Context<'_>) -> Poll<Option<F::Output>>
-        requires { AllHeld F.can_poll self.old.slots }
-        ensures polled { PollGives F.polled S.registers S.takes self.old result self.new }
-        ensures value { IfReady result (ComesFrom F.polled self.old.slots []) }
-        ensures rest { IfReady result (λ o. IfSome o (λ x.
-            After (ComesFrom F.polled self.old.slots) x (ComesFrom F.polled self.new.slots))) }
-        ensures same { OnPending result
-            (Within (ComesFrom F.polled self.old.slots) (ComesFrom F.polled self.new.slots)) }
-        ensures goes { IfReady result (λ o. OnSome o (AllHeld F.can_poll self.new.slots)) }
-        ensures again { OnPending result (AllHeld F.can_poll self.new.slots) }
-        ensures fewer { IfReady result (λ o. OnSome o
-            (held_count self.new.slots + 1 ≡ held_count self.old.slots)) }
-        ensures count { OnPending result (held_count self.new.slots ≡ held_count self.old.slots) }
-        ensures capacity { slot_count self.new.slots ≡ slot_count self.old.slots }
-        ensures limit { self.new.limit ≡ self.old.limit }
-        ensures registered { OnPending result (Covers cx.new (S.needs self.new.source)) }
-        ensures woken { OnPending result (IsWoken cx.new
-            ⊎ (SaidEmpty S.takes self.new.source × S.registers_poll self.old.source cx.old cx.new)) }
-        ensures untouched { IfReady result (λ o. IfNone o (cx.new ≡ cx.old)) }
-        ensures only_registered { IfReady result (λ o. OnSome o
-            (S.registers_poll self.old.source cx.old cx.new)) }
-        ensures kept { Keeps cx.old cx.new }
-    {
-        self.poll_with(&PollFuture, cx)
-    }
-}
-
 impl<F: Drop> FuturesUnorderedBounded<F, SharedReady> {
     ghost use Rattle.std.specs.Prelude.{List};
 
@@ -508,34 +464,5 @@ impl<F: Drop> FuturesUnorderedBounded<F, SharedReady> {
             → DrawsMoreThan I.into_iter_gives I.IntoIter.next_gives iter MAX_CAPACITY }
     {
         Self::over(&(), alloc, iter)
-    }
-}
-
-impl<F: SlotFuture<S::Waker>, S: ReadySource> FusedStream for FuturesUnorderedBounded<F, S> {
-    ghost use Rattle.std.specs.Prelude.{◌≡◌};
-
-    ghost is_over = { λ set. held_count set.slots ≡ 0 };
-
-    fn is_terminated(&self) -> bool {
-        self.is_empty()
-    }
-}
-
-impl<F: Drop, S: ReadySource> SizeHint for FuturesUnorderedBounded<F, S> {
-    ghost use Rattle.std.specs.Prelude.{Some};
-
-    ghost items_left = { λ set. (held_count set.slots, Some (held_count set.slots)) };
-
-    fn size_hint(&self) -> (usize, Option<usize>) {
-        (self.len(), Some(self.len()))
-    }
-}
-
-/// Prints the number of futures held.
-impl<F: Drop, S: ReadySource> fmt::Debug for FuturesUnorderedBounded<F, S> {
-    fn fmt<W: fmt::Write>(&self, f: &mut fmt::Formatter<W>) -> fmt::Result {
-        f.debug_struct("FuturesUnorderedBounded")
-            .field("len", &self.len())
-            .finish_non_exhaustive()
     }
 }

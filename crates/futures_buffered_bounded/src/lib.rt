@@ -5,9 +5,10 @@
 //! - `slot_future`: `SlotFuture`, what a set holds: a future that is polled with the waker of its slot.
 //! - `poll_one`: `PollOne`, the rule by which one held value is polled, and `PollFuture`, the rule for `SlotFuture`s.
 //! - `fused`: the traits `FusedStream`, `FusedFuture` and `SizeHint`, by which a type says whether it has ended and how much is left.
-//! - `futures_unordered_bounded`: `FuturesUnorderedBounded`, as many futures as it has slots, yielded as they finish.
+//! - `futures_unordered_bounded`: `FuturesUnorderedBounded`, as many futures as it has slots, yielded as they finish; `bounded_stream` is the same set as a stream.
 #![tactic(auto)]
 
+mod bounded_stream;
 pub mod fused;
 pub mod futures_unordered_bounded;
 pub mod poll_one;

@@ -1,9 +1,9 @@
 -- What one poll makes of the groups of a set.
 use Rattle.std.proofs.Common.{◌≡◌, ◌≢◌, ◌⊎◌, ℕ, zero, suc, ◌+◌, ◌-◌, Bool, true≢false, ◌<◌, ◌≤◌, nat_lt, cond, true, false, ◌&&◌, ◌↔◌, MatchOption, List, [], ◌∷◌, ◌++◌, length, take, drop, set, get_or, Option, Some, None, OnSome, IfNone, is_some, refl, sym, ap, subst, inl, inr, arith, length-set, ◌∙◌}
-use Rattle.std.specs.List.{All, AllZip, FoldsTo, list_all, sum_by}
-use Rattle.std.proofs.lemmas.Bool.{cases_eq, cases_lt, lt-ltb, le-ltb}
+use Rattle.std.specs.List.{All, AllZip, FoldsTo, list_all}
+use Rattle.std.proofs.lemmas.Bool.{cases_eq, cases_lt, lt-ltb}
 use Rattle.std.proofs.lemmas.List.{get_or-set_same, get_or-set_other, get_or-take, get_or-drop, get_or_append_left, get_or-append_right, length-append, length-take-le, length-drop}
-use Rattle.std.proofs.lemmas.List.Elements.{All-set, All-push}
+use Rattle.std.proofs.lemmas.List.Elements.{All-set}
 use Rattle.std.proofs.lemmas.List.Sums.{sum_by-cons, sum_by-set, sum_by-append, sum_by_more, sum_by-take-drop, get_or-le-sum_by}
 use Rattle.futures.specs.Poll.{IfReady, OnPending}
 use Rattle.futures.specs.Task.{Covers, Keeps, Lasting}

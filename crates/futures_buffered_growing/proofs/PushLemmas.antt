@@ -1,13 +1,13 @@
 -- What a push makes of the groups of a set.
-use Rattle.std.proofs.Common.{◌≡◌, ◌≢◌, ◌⊎◌, ℕ, zero, suc, ◌+◌, ◌-◌, ◌*◌, ◌<◌, ◌≤◌, List, [], ◌∷◌, ◌++◌, length, take, drop, set, get_or, None, is_some, cond, replicate, refl, sym, ap, subst, inl, inr, arith, length-set, ◌∙◌}
-use Rattle.std.specs.List.{All, count_by, sum_by}
+use Rattle.std.proofs.Common.{◌≡◌, ◌≢◌, ◌⊎◌, ℕ, zero, suc, ◌+◌, ◌-◌, ◌*◌, ◌<◌, ◌≤◌, List, [], ◌∷◌, ◌++◌, length, take, drop, set, get_or, None, is_some, cond, refl, sym, ap, subst, inl, inr, arith, length-set, ◌∙◌}
+use Rattle.std.specs.List.{All}
 use Rattle.std.proofs.lemmas.Bool.{cases_eq}
-use Rattle.std.proofs.lemmas.List.{get_or-set_same, get_or-set_other, get_or_append_left, get_or_push, length_push, set-get_or, drop_all, length-replicate}
+use Rattle.std.proofs.lemmas.List.{get_or-set_other, get_or_append_left, get_or_push, length_push, set-get_or, drop_all, length-replicate}
 use Rattle.std.proofs.lemmas.List.Elements.{All-push}
 use Rattle.std.proofs.lemmas.List.Folds.{sum_by-replicate}
-use Rattle.std.proofs.lemmas.List.Sums.{sum_by-set, sum_by_push, sum_by-cons, count_by-le-length}
+use Rattle.std.proofs.lemmas.List.Sums.{sum_by-set, sum_by_push, count_by-le-length}
 use Rattle.futures_buffered_core.specs.ReadySource.{WaitsAlike}
-use Rattle.futures_buffered_core.specs.SlotMap.{held_count, slot_count, no_slots}
+use Rattle.futures_buffered_core.specs.SlotMap.{held_count, slot_count}
 use Rattle.futures_buffered_table.specs.declared.answer.TheConstants.{MAX_CAPACITY}
 use Rattle.futures_buffered_table.specs.declared.answer.Woke.{Woke}
 use Rattle.futures_buffered_bounded.specs.FuturesUnorderedBounded.{Bounded, Pushes}
@@ -16,8 +16,8 @@ use Rattle.futures_buffered_bounded.proofs.GroupsLemmas.{same_parts}
 use Rattle.futures_buffered_bounded.proofs.GroupsStepLemmas.{split_at, split_set}
 use Rattle.futures_buffered_growing.specs.declared.futures_unordered.TheConstants.{MAX_HELD}
 use Rattle.futures_buffered_growing.specs.FuturesUnordered.{Growing, GrowingPushes, IsNewGroup, IsNewGrowing, LastIsFull, no_groups, held_in, all_held, spare_places, capacity_of, next_capacity}
-use Rattle.futures_buffered_growing.specs.FuturesUnorderedInvariant.{IsGroup, AllWaitAlike, KeepsGroups, SameKind, AddsGroup, PushesLast}
-use Rattle.futures_buffered_growing.proofs.FuturesUnorderedLemmas.{same_or, alike_self, alike_back, each_set, alike_set}
+use Rattle.futures_buffered_growing.specs.FuturesUnorderedInvariant.{IsGroup, KeepsGroups, SameKind, AddsGroup, PushesLast}
+use Rattle.futures_buffered_growing.proofs.FuturesUnorderedLemmas.{alike_self, alike_back, each_set, alike_set}
 
 module _ {F S : Type 0} where
   -- what is said of the last group is said of the one at the last place

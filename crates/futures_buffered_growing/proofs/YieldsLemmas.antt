@@ -1,8 +1,7 @@
 -- What the polls of a set may still give.
-use Rattle.std.proofs.Common.{◌≡◌, ◌⊎◌, ℕ, zero, suc, ◌+◌, ◌<◌, Bool, true, false, cond, List, [], ◌∷◌, ◌++◌, length, take, drop, Option, Some, None, MatchOption, OnSome, IfSome, refl, sym, subst, inl, inr, arith, ◌∙◌}
+use Rattle.std.proofs.Common.{◌≡◌, ◌⊎◌, ℕ, zero, suc, ◌+◌, ◌<◌, Bool, true, false, cond, List, [], ◌∷◌, ◌++◌, take, drop, Option, Some, None, MatchOption, IfSome, refl, sym, subst, inl, inr, arith}
 use Rattle.std.specs.List.{AllZip, enumerate_from}
 use Rattle.std.proofs.lemmas.List.Elements.{All-tail}
-use Rattle.std.proofs.lemmas.List.Sums.{sum_by-cons}
 use Rattle.futures.specs.Poll.{IfReady, OnPending}
 use Rattle.futures.specs.Runs.{After, Within}
 use Rattle.futures.specs.Task.{Covers, Hears}
@@ -12,9 +11,9 @@ use Rattle.futures.specs.declared.task.Poll.TheVariants.{Ready, Pending}
 use Rattle.futures_buffered_table.specs.declared.answer.Taken.{Taken}
 use Rattle.futures_buffered_bounded.specs.Held.{AnyMayGive}
 use Rattle.futures_buffered_bounded.specs.FuturesUnorderedBounded.{Bounded, PollGives}
-use Rattle.futures_buffered_bounded.specs.Groups.{Groups, Turn, TakesTurn, round_from, staying, ended, AsksLast, GroupsGive}
+use Rattle.futures_buffered_bounded.specs.Groups.{Groups, Turn, TakesTurn, round_from, staying, ended, GroupsGive}
 use Rattle.futures_buffered_bounded.proofs.GivingLemmas.{Gathers-Within, Gathers-After, gives_passed, gives_output, gives_others}
-use Rattle.futures_buffered_growing.specs.FuturesUnordered.{AnyOf, AnyNeeds, AnyGroupMayGive, ComesFromGroups, EachCovered, held_in, all_held, outputs_in}
+use Rattle.futures_buffered_growing.specs.FuturesUnordered.{AnyOf, AnyNeeds, AnyGroupMayGive, ComesFromGroups, EachCovered, all_held, outputs_in}
 
 -- one of a list's parts is one of the list, and the other way round
 module _ {X : Type 0} (P : X → Type 0) where

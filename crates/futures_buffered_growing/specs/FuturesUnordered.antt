@@ -98,10 +98,12 @@ module _ {F S : Type 0} where
     pub takes_at_most : group.limit ≡ limit
 
   -- where a push puts its value: into the last group, if that has a free place, and else into a new one behind all others
-  abbrev pub IsChosen : (ℕ → S → Type 0) → ℕ → ℕ → List (Bounded F S) → List (Bounded F S) → Bounded F S → Type 0
+  abbrev pub IsChosen : (ℕ → S → Type 0) → ℕ → ℕ
+      → List (Bounded F S) → List (Bounded F S) → Bounded F S → Type 0
   IsChosen made first limit groups before into =
       ((groups ≡ before ++ into ∷ []) × (held_in into < slot_count into.slots))
-      ⊎ ((groups ≡ before) × LastIsFull before × IsNewGroup made (next_capacity first before) limit into)
+      ⊎ ((groups ≡ before) × LastIsFull before
+      × IsNewGroup made (next_capacity first before) limit into)
 
   -- One push. The other groups, the place and the limit stay.
   pub record GrowingPushes

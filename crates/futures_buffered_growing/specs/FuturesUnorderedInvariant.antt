@@ -22,7 +22,9 @@ module _ {F S : Type 0} where
   -- all groups wait at the same places of a task's wakes, so one registration does for all
   abbrev pub AllWaitAlike : (S → ℕ → Type 0) → List (Bounded F S) → Type 0
   AllWaitAlike needs groups =
-      All (λ (a : Bounded F S). All (λ (b : Bounded F S). WaitsAlike needs a.source b.source) groups) groups
+      All
+      (λ (a : Bounded F S). All (λ (b : Bounded F S). WaitsAlike needs a.source b.source) groups)
+      groups
 
   -- each group holds a future, but for the last and the one at the place
   abbrev pub OthersHold : Groups (Bounded F S) → Type 0

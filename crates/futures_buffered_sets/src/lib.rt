@@ -8,6 +8,7 @@
 //! - `poll_one`: `PollOne`, the rule by which one held value is polled, and `PollFuture`, the rule for `SlotFuture`s.
 //! - `fused`: the traits `FusedStream`, `FusedFuture` and `SizeHint`, by which a type says whether it has ended and how much is left.
 //! - `futures_unordered_bounded`: `FuturesUnorderedBounded`, as many futures as it has slots, yielded as they finish.
+//! - `futures_unordered`: `FuturesUnordered`, any number of futures, in groups of slots.
 #![tactic(auto)]
 
 pub use futures_buffered_bounded::fused::{FusedFuture, FusedStream, SizeHint};
@@ -15,3 +16,5 @@ pub use futures_buffered_bounded::futures_unordered_bounded::FuturesUnorderedBou
 pub use futures_buffered_bounded::poll_one::{PollFuture, PollOne};
 pub use futures_buffered_bounded::slot_future::{SlotFuture, SlotWaker, WakesSlot};
 pub use futures_buffered_bounded::{fused, futures_unordered_bounded, poll_one, slot_future};
+pub use futures_buffered_growing::futures_unordered;
+pub use futures_buffered_growing::futures_unordered::FuturesUnordered;

@@ -1,7 +1,6 @@
-use Rattle.std.proofs.Common.{◌≡◌, ◌+◌, ◌-◌, ◌*◌, ◌<◌, ◌∷◌, ◌++◌, [], List, length, sym, ap, subst, arith, ◌∙◌}
-use Rattle.futures_buffered_core.specs.SlotMap.{held_count, slot_count}
+use Rattle.std.proofs.Common.{◌∷◌, ◌++◌, [], List, sym, ap, subst, ◌∙◌}
 use Rattle.futures_buffered_bounded.specs.FuturesUnorderedBounded.{Bounded}
-use Rattle.futures_buffered_growing.specs.FuturesUnordered.{Growing, IsNewGroup, LastIsFull, held_in, all_held, spare_places}
+use Rattle.futures_buffered_growing.specs.FuturesUnordered.{Growing, IsNewGroup, LastIsFull}
 use Rattle.std.specs.List.{All}
 use Rattle.futures_buffered_core.specs.ReadySource.{WaitsAlike}
 use Rattle.futures_buffered_growing.proofs.PushLemmas.{keeps_added}

@@ -1,4 +1,4 @@
-use Rattle.std.proofs.Common.{rules, ◌≡◌, ◌<◌, length, sym, subst, IsTrue}
+use Rattle.std.proofs.Common.{rules, ◌≡◌, ◌<◌, length, sym, subst}
 use Rattle.std.proofs.lemmas.List.Elements.{All-set}
 use Rattle.futures.specs.Poll.{OnPending}
 use Rattle.futures.specs.Task.{Covers}

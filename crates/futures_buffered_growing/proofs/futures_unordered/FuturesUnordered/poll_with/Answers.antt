@@ -1,7 +1,7 @@
-use Rattle.std.proofs.Common.{true, false, is_some, IsSome, IfNone, None, arith, subst, ap, sym, refl, length, ◌≡◌, ◌≤◌, ◌<◌, ◌∙◌, IsTrue, true≢false}
+use Rattle.std.proofs.Common.{true, false, is_some, arith, subst, ap, sym, refl, length, ◌≤◌, ◌∙◌, true≢false}
 use Rattle.futures_buffered_bounded.specs.FuturesUnorderedBounded.{PollGives}
-use Rattle.futures_buffered_bounded.proofs.GroupsLemmas.{so_far_some, so_far_none, so_far_none_left, so_far_pending, so_far_some_left, so_far_end, SoFar}
-use Rattle.futures_buffered_growing.specs.FuturesUnordered.{Growing, all_held}
+use Rattle.futures_buffered_bounded.proofs.GroupsPollLemmas.{so_far_some, so_far_none, so_far_none_left, so_far_pending, so_far_some_left, so_far_end, SoFar}
+use Rattle.futures_buffered_growing.specs.FuturesUnordered.{Growing}
 use Rattle.futures_buffered_growing.proofs.FuturesUnorderedLemmas.{end_holds_none, ends_pending, ends_some, ends_none}
 use Rattle.futures_buffered_growing.proofs.futures_unordered.FuturesUnordered.poll_with.Goals.{in-Pending, in-Ready+in_default}
 use Rattle.futures_buffered_growing.proofs.futures_unordered.FuturesUnordered.poll_with.Goals as goal

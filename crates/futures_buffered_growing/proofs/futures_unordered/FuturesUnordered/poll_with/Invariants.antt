@@ -1,7 +1,7 @@
 use Rattle.std.proofs.Common.{◌≡◌, ◌<◌, false, IsTrue}
 use Rattle.futures.specs.Task.{Keeps}
 use Rattle.futures_buffered_bounded.specs.FuturesUnorderedBounded.{PollGives}
-use Rattle.futures_buffered_bounded.proofs.GroupsLemmas.{SoFar}
+use Rattle.futures_buffered_bounded.proofs.GroupsPollLemmas.{SoFar}
 use Rattle.futures_buffered_growing.specs.FuturesUnordered.{EachHeld, EachCovered, all_held}
 use Rattle.futures_buffered_growing.proofs.futures_unordered.FuturesUnordered.poll_with.Given as goal
 

@@ -1,7 +1,5 @@
-use Rattle.std.proofs.Common.{◌≡◌, ◌+◌, ◌-◌, ◌*◌, ◌<◌, ◌∷◌, ◌++◌, [], List, length, sym, ap, subst, arith, ◌∙◌}
-use Rattle.futures_buffered_core.specs.SlotMap.{held_count, slot_count}
-use Rattle.futures_buffered_bounded.specs.FuturesUnorderedBounded.{Bounded}
-use Rattle.futures_buffered_growing.specs.FuturesUnordered.{Growing, IsNewGroup, LastIsFull, held_in, all_held, spare_places}
+use Rattle.std.proofs.Common.{sym, subst, arith, ◌∙◌}
+use Rattle.futures_buffered_growing.specs.FuturesUnordered.{Growing}
 use Rattle.futures_buffered_growing.proofs.PushLemmas.{pushes_old, pushes_new, added_counts}
 use Rattle.futures_buffered_growing.specs.FuturesUnorderedInvariant.{AddsGroup, PushesLast}
 use Rattle.futures_buffered_growing.proofs.futures_unordered.FuturesUnordered.push.Goals.{then-spare_places-eq0+in-Ok, else-spare_places-eq0}

@@ -1,7 +1,7 @@
-use Rattle.std.proofs.Common.{◌≡◌, ◌+◌, ◌-◌, ◌*◌, ◌<◌, ◌∷◌, ◌++◌, [], List, length, sym, ap, subst, arith, ◌∙◌}
-use Rattle.futures_buffered_core.specs.SlotMap.{held_count, slot_count}
+use Rattle.std.proofs.Common.{◌≡◌, ◌+◌, ◌-◌, length, ap, arith}
+use Rattle.futures_buffered_core.specs.SlotMap.{slot_count}
 use Rattle.futures_buffered_bounded.specs.FuturesUnorderedBounded.{Bounded}
-use Rattle.futures_buffered_growing.specs.FuturesUnordered.{Growing, IsNewGroup, LastIsFull, held_in, all_held, spare_places}
+use Rattle.futures_buffered_growing.specs.FuturesUnordered.{held_in}
 use Rattle.futures_buffered_growing.proofs.PushLemmas.{spare_last}
 use Rattle.futures_buffered_growing.proofs.futures_unordered.FuturesUnordered.spare_places.Goals as goal
 

@@ -1,5 +1,5 @@
 use Rattle.futures_buffered_bounded.proofs.GivingLemmas.{value_of, rest_of, same_of}
-use Rattle.futures_buffered_bounded.proofs.futures_unordered_bounded.FuturesUnorderedBoundedStream.poll_next.Goals as goal
+use Rattle.futures_buffered_bounded.proofs.bounded_stream.FuturesUnorderedBoundedStream.poll_next.Goals as goal
 
 pub returns-clause-value : goal.returns-clause-value
 returns-clause-value g c = value_of g.F.SlotFuture.polled g.S.ReadySource.registers g.S.ReadySource.takes c.args.self.now c.poll_with.new.self c.poll_with.result c.poll_with.ensures.polled

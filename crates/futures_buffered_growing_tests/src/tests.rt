@@ -1,0 +1,5 @@
+mod drops;
+mod limits;
+mod refusals;
+mod rows;
+mod wakes;
