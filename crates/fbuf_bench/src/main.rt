@@ -9,7 +9,7 @@ mod sources;
 use clock::{Workload, least};
 use futures_buffered_core::ready_core::NewFault;
 use ready_list::{Already, Fresh, Listed};
-use sets::{Done, Refilled, Woken, Yields};
+use sets::{Refilled, Woken};
 use sources::{Beside, four_wakers};
 use std::alloc::AllocGlobal;
 use std::random::RandomSource;
@@ -66,9 +66,9 @@ where
     R: Clock + RandomSource + AllocGlobal,
     O: io::Write,
 {
-    let ready = Refilled::<Done>::new(rt.alloc(), 256);
+    let ready = Refilled::new(rt.alloc(), 256, 0);
     timed(rt, output, "set: a ready future, replaced, held", 256, ready)?;
-    let yields = Refilled::<Yields>::new(rt.alloc(), 256);
+    let yields = Refilled::new(rt.alloc(), 256, 1);
     timed(rt, output, "set: a future that wakes itself once, replaced, held", 256, yields)?;
     let random = Woken::new(rt.alloc(), 256, true);
     timed(rt, output, "set: a random wake, its output, replaced, held", 256, random)?;

@@ -21,8 +21,9 @@ impl Listed {
     fn wake_and_take(&mut self) {
         self.list.wake(&mut self.seat, self.slot);
         self.list.take(&mut self.poll);
-        self.slot = if self.slot + 1 < self.list.capacity() {
-            self.slot + 1
+        let next = self.slot.wrapping_add(1);
+        self.slot = if next < self.list.capacity() {
+            next
         } else {
             0
         };

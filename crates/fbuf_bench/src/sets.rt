@@ -3,7 +3,7 @@ use crate::clock::Workload;
 use futures::task::{Context, Poll};
 use futures_buffered_bounded::futures_unordered_bounded::FuturesUnorderedBounded;
 use futures_buffered_bounded::poll_one::PollFuture;
-use futures_buffered_bounded::slot_future::{SlotFuture, SlotWaker, WakesSlot};
+use futures_buffered_bounded::slot_future::{SlotFuture, SlotWaker};
 use futures_buffered_core::ready_core::NewFault;
 use futures_buffered_core::ready_shared::{SharedReady, SlotWake};
 use std::alloc::{AllocError, Global};
@@ -11,79 +11,51 @@ use std::sync::{Arc, Mutex};
 
 type Set<F> = FuturesUnorderedBounded<F, SharedReady>;
 
-/// Ready at its first poll.
+/// Wakes itself at so many polls, and is ready at the next.
 #[derive(Drop)]
-pub struct Done;
-
-impl<W: WakesSlot> SlotFuture<W> for Done {
-    type Output = ();
-
-    fn poll(&mut self, _waker: &W) -> Poll<()> {
-        Poll::Ready(())
-    }
-}
-
-/// Wakes itself at its first poll, and is ready at its second.
-#[derive(Drop)]
-pub struct Yields {
-    has_yielded: bool,
+struct Yields {
+    left: u64,
 }
 
 impl<W: SlotWaker> SlotFuture<W> for Yields {
     type Output = ();
 
     fn poll(&mut self, waker: &W) -> Poll<()> {
-        if self.has_yielded {
+        if self.left == 0 {
             return Poll::Ready(());
         }
-        self.has_yielded = true;
+        self.left -= 1;
         waker.wake();
         Poll::Pending
     }
 }
 
-/// Makes the futures of a workload.
-pub trait Fresh {
-    fn fresh() -> Self;
-}
-
-impl Fresh for Done {
-    fn fresh() -> Done {
-        Done
-    }
-}
-
-impl Fresh for Yields {
-    fn fresh() -> Yields {
-        Yields { has_yielded: false }
-    }
-}
-
-/// A full set, of which each call takes one output and puts one future in.
+/// A full set of futures that wake themselves so often. Each call takes one output and puts one future in.
 #[derive(Drop)]
-pub struct Refilled<F: Drop> {
-    set: Set<F>,
+pub struct Refilled {
+    set: Set<Yields>,
+    yields: u64,
 }
 
-impl<F: Fresh + Drop> Refilled<F> {
-    pub fn new(alloc: Global, slots: usize) -> Result<Refilled<F>, NewFault> {
+impl Refilled {
+    pub fn new(alloc: Global, slots: usize, yields: u64) -> Result<Refilled, NewFault> {
         let mut set = FuturesUnorderedBounded::new(alloc, slots)?;
         for _ in 0..slots {
-            let _ = set.try_push(F::fresh());
+            let _ = set.try_push(Yields { left: yields });
         }
-        Ok(Refilled { set })
+        Ok(Refilled { set, yields })
     }
 }
 
-impl<F: Fresh + SlotFuture<SlotWake, Output = ()>> Workload for Refilled<F> {
+impl Workload for Refilled {
     fn calls(&self) -> u64 {
         12_800
     }
 
     fn run(&mut self, cx: &mut Context<'_>) {
         for _ in 0..12_800 {
-            if let Poll::Ready(Some(_)) = self.set.poll_with(&PollFuture, cx) {
-                let _ = self.set.try_push(F::fresh());
+            if let Poll::Ready(Some(())) = self.set.poll_with(&PollFuture, cx) {
+                let _ = self.set.try_push(Yields { left: self.yields });
             }
         }
     }
@@ -190,10 +162,15 @@ impl Woken {
         }
     }
 
+    // A random one where futures end, else the next in turn.
     fn next_place(&mut self) -> usize {
-        self.random ^= self.random << 13;
-        self.random ^= self.random >> 7;
-        self.random ^= self.random << 17;
+        if self.ends {
+            self.random ^= self.random << 13;
+            self.random ^= self.random >> 7;
+            self.random ^= self.random << 17;
+        } else {
+            self.random = self.random.wrapping_add(1);
+        }
         let places = self.wakers.len() as u64;
         self.random.checked_rem(places).unwrap_or(0) as usize
     }

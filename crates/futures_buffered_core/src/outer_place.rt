@@ -142,7 +142,7 @@ impl<O: OuterWaker> TaskPlace<O> {
     {
         let shared = self.shared()?;
         self.stands_alone = false;
-        self.before_empty();
+        self.give_up_own();
         Ok(TaskPlace {
             shared,
             own: None,
@@ -183,6 +183,17 @@ impl<O: OuterWaker> BeforeEmpty for TaskPlace<O> {
     ghost leaves = { λ old new. new ≡ old };
 
     fn before_empty(&mut self) {
+        if self.own.is_some() {
+            self.give_up_own();
+        }
+    }
+}
+
+impl<O: OuterWaker> TaskPlace<O> {
+    // Wakes find the waker from here on.
+    fn give_up_own(&mut self)
+        ensures { self.new ≡ self.old }
+    {
         if let Some(outer) = self.own.take() {
             self.shared.put_in(outer);
         }
