@@ -18,8 +18,8 @@ use Rattle.fbuf_lines.specs.Command.{LineAsksFor}
 use Rattle.fbuf_lines.specs.Reply.{woke_reply, poll_reply, step_reply}
 use Rattle.fbuf_lines.specs.declared.timed.Timed.{Timed}
 use Rattle.fbuf_lines.specs.declared.command.Command.{Command}
-use Rattle.fbuf_lines.specs.declared.command.Command.TheVariants.{Unordered, Steps, Push, Wake}
-use Rattle.fbuf_lines.specs.declared.command.Command.TheVariants.{Poll, Len, Mark, Go, Step}
+use Rattle.fbuf_lines.specs.declared.command.Command.TheVariants.{Unordered, Steps, Limit, Push}
+use Rattle.fbuf_lines.specs.declared.command.Command.TheVariants.{Wake, Poll, Len, Mark, Go, Step}
 use Rattle.fbuf_lines.specs.declared.reply.Reply.{Reply}
 use Rattle.fbuf_lines.specs.declared.reply.Reply.TheVariants.{Done, Full, TooLarge, Count}
 use Rattle.fbuf_lines.specs.declared.reply.Reply.TheVariants.{Stuck, Bad}
@@ -39,18 +39,15 @@ abbrev pub new_bounded : ℕ → ℕ → TimedBounded
 new_bounded capacity limit =
     record { slots = no_slots capacity; source = new_standing capacity; limit = limit }
 
--- how far a script has come: what was begun last, and how many names one poll takes at most
+-- how far a script has come: what was begun last, and the limit of the sets that are begun from
+-- now on, which is how many names one poll of theirs takes at most
 pub record ScriptStage : Type 0 where
   pub object : Object
   pub limit : ℕ
 
--- no line sets the limit
-abbrev pub stage_of : Object → ScriptStage
-stage_of object = record { object = object; limit = POLL_LIMIT }
-
--- nothing was begun yet
+-- nothing was begun yet, and no limit was chosen
 abbrev pub first_stage : ScriptStage
-first_stage = stage_of object.Nothing
+first_stage = record { object = object.Nothing; limit = POLL_LIMIT }
 
 -- one poll of the set; registering leaves the standing as it is
 abbrev pub PollsSet : TimedBounded → PollAnswer (Option ℕ) → TimedBounded → Type 0
@@ -119,6 +116,12 @@ BeginsMachine old capacity reply new =
     × (new.limit ≡ old.limit))
     ⊎ RefusesLarge old capacity reply new
 
+-- a line that sets the limit: what was begun before stays as it is, and 0 is no limit
+abbrev pub SetsLimit : ScriptStage → ℕ → Reply → ScriptStage → Type 0
+SetsLimit old limit reply new =
+    ((reply ≡ Done) × (1 ≤ limit) × (new ≡ record old { limit = limit }))
+    ⊎ ((reply ≡ Bad) × (limit ≡ 0) × (new ≡ old))
+
 -- a command to what was begun last; before anything is begun none stands
 abbrev pub ObjectGives : Object → Command → Reply → Object → Type 0
 ObjectGives object.Nothing command reply new = (reply ≡ Bad) × (new ≡ object.Nothing)
@@ -127,10 +130,11 @@ ObjectGives (object.Unordered old) command reply new =
 ObjectGives (object.Steps old) command reply new =
     (machine : Machine) × MachineGives old command reply machine × (new ≡ object.Steps machine)
 
--- a command that begins something stands always
+-- a command that begins something, or sets the limit, stands always
 abbrev pub CommandGives : ScriptStage → Command → Reply → ScriptStage → Type 0
 CommandGives old (Unordered capacity) reply new = BeginsSet old capacity reply new
 CommandGives old (Steps capacity) reply new = BeginsMachine old capacity reply new
+CommandGives old (Limit limit) reply new = SetsLimit old limit reply new
 CommandGives old command reply new =
     ObjectGives old.object command reply new.object × (new.limit ≡ old.limit)
 

@@ -14,6 +14,8 @@ pub enum Command {
     Unordered(usize),
     /// `steps C`: begins a machine of single steps of this capacity.
     Steps(usize),
+    /// `limit L`: how many names one poll takes at most, of each set that is begun from now on.
+    Limit(usize),
     /// `push V K`: pushes the future that is pending K times and then V.
     Push(Timed),
     /// `wake I`: marks a slot.
@@ -92,6 +94,9 @@ pub fn parse(line: &[u8]) -> Option<Command>
     }
     if word == b"steps".as_slice() {
         return Some(Command::Steps(one(rest)? as usize));
+    }
+    if word == b"limit".as_slice() {
+        return Some(Command::Limit(one(rest)? as usize));
     }
     if word == b"push".as_slice() {
         let (value, pending) = two(rest)?;

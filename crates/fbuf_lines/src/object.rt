@@ -2,7 +2,7 @@
 ghost use Rattle.std.specs.Prelude.{◌≡◌, ◌<◌, ◌≤◌, IfOk, OnErr};
 ghost use Rattle.futures.specs.Task.{Keeps};
 ghost use Rattle.fbuf_lines.specs.Object.{LineGives, ObjectGives, SetGives, MachineGives};
-ghost use Rattle.fbuf_lines.specs.Object.{StepGives, BeginsSet, BeginsMachine};
+ghost use Rattle.fbuf_lines.specs.Object.{StepGives, BeginsSet, BeginsMachine, SetsLimit};
 ghost use Rattle.fbuf_lines.specs.Object.{new_bounded, first_stage};
 
 use crate::command::{Command, parse};
@@ -30,27 +30,33 @@ pub enum Object {
     Steps(StepMachine),
 }
 
-/// How far a script has come: what it began last, and how many names one poll of its sets takes.
+/// How far a script has come: what it began last, and how many names one poll takes at most, of the
+/// sets that it begins from now on.
 #[derive(Drop)]
 pub struct Stage {
     object: Object,
+    limit: usize,
 }
 
 impl Model for Stage {
-    ghost use Rattle.fbuf_lines.specs.Object.{ScriptStage, stage_of};
+    ghost use Rattle.std.specs.Prelude.{◌≤◌};
+    ghost use Rattle.fbuf_lines.specs.Object.{ScriptStage};
 
     ghost Value = { ScriptStage };
 
-    ghost view = { λ stage. stage_of stage.object };
+    ghost view = { λ stage. record { object = stage.object; limit = stage.limit } };
+
+    ghost invariant = { λ stage. 1 ≤ stage.limit };
 }
 
 impl Stage {
-    /// Nothing was begun yet. Takes no memory.
+    /// Nothing was begun yet, and no limit was chosen. Takes no memory.
     pub fn new() -> Stage
         ensures { result ≡ first_stage }
     {
         Stage {
             object: Object::Nothing,
+            limit: POLL_LIMIT,
         }
     }
 
@@ -73,6 +79,7 @@ impl Stage {
         match parse(line) {
             Some(Command::Unordered(capacity)) => self.begin_unordered(alloc, capacity),
             Some(Command::Steps(capacity)) => self.begin_steps(alloc, capacity),
+            Some(Command::Limit(limit)) => Ok(self.set_limit(limit)),
             Some(command) => Ok(self.carry_out(command, cx)),
             None => Ok(Reply::Bad),
         }
@@ -83,7 +90,7 @@ impl Stage {
         ensures reply { IfOk result (λ reply. BeginsSet self.old capacity reply self.new) }
         ensures memory { OnErr result (self.new ≡ self.old) }
     {
-        match new_set(alloc, capacity) {
+        match new_set(alloc, capacity, self.limit) {
             Ok(set) => {
                 self.object = Object::Unordered(set);
                 Ok(Reply::Done)
@@ -108,6 +115,17 @@ impl Stage {
         }
     }
 
+    // What was begun before keeps its own limit.
+    fn set_limit(&mut self, limit: usize) -> Reply
+        ensures { SetsLimit self.old limit result self.new }
+    {
+        if limit == 0 {
+            return Reply::Bad;
+        }
+        self.limit = limit;
+        Reply::Done
+    }
+
     fn carry_out(&mut self, command: Command, cx: &mut Context<'_>) -> Reply
         ensures reply { ObjectGives self.old.object command result self.new.object }
         ensures limit { self.new.limit ≡ self.old.limit }
@@ -121,13 +139,14 @@ impl Stage {
     }
 }
 
-fn new_set(alloc: Global, capacity: usize) -> Result<TimedSet, NewFault>
+fn new_set(alloc: Global, capacity: usize, limit: usize) -> Result<TimedSet, NewFault>
+    requires { 1 ≤ limit }
     ensures ok { IfOk result (λ set.
-        (set ≡ new_bounded capacity POLL_LIMIT) × (capacity ≤ MAX_CAPACITY)) }
+        (set ≡ new_bounded capacity limit) × (capacity ≤ MAX_CAPACITY)) }
     ensures large { result ≡ Err NewFault.TooLarge → MAX_CAPACITY < capacity }
 {
     let source = CoreSource::make(&(), alloc, capacity)?;
-    FuturesUnorderedBounded::with_source(alloc, source)
+    FuturesUnorderedBounded::with_source_limit(alloc, source, limit)
 }
 
 // A command to a bounded set.

@@ -102,28 +102,69 @@ fn answers_scripts_over_a_bounded_set(rt: HostRuntime) -> Result<(), Fail> {
     Ok(())
 }
 
-// How many names one poll takes at most.
+#[test]
+fn answers_scripts_over_chosen_limits(rt: HostRuntime) -> Result<(), Fail> {
+    let rows = [
+        (
+            "limit 2\nunordered 3\npush 1 1\npush 2 1\npush 3 0\npoll\npoll\n",
+            "ok\nok\nok\nok\nok\npending\nsome 3\n",
+        ),
+        // Zero is no limit, and no line of a limit touches the set that is there.
+        (
+            "limit 0\nunordered 1\nlimit 1\nlen\n",
+            "bad\nok\nok\n0\n",
+        ),
+        (
+            "unordered 2\npush 1 1\npush 2 0\nlimit 1\nlen\npoll\n",
+            "ok\nok\nok\nok\n2\nsome 2\n",
+        ),
+        // The limit stays over what is begun and refused, until another line sets it.
+        (
+            "limit 1\nsteps 1\nlimit 0\nunordered 4611686018427387904\nunordered 2\npush 1 1\n\
+             push 2 0\npoll\npoll\n",
+            "ok\nok\nbad\nlarge\nok\nok\nok\npending\nsome 2\n",
+        ),
+        (
+            "limit 1\nlimit 18446744073709551615\nunordered 2\npush 1 1\npush 2 0\npoll\n",
+            "ok\nok\nok\nok\nok\nsome 2\n",
+        ),
+    ];
+    for (text, want) in rows {
+        assert_replies(&rt, text.as_bytes(), want.as_bytes())?;
+    }
+    Ok(())
+}
+
+// How many names one poll takes at most, where no limit was chosen.
 const NAMES_OF_A_POLL: usize = 61;
 
-// Begins a set of one slot more.
-const ONE_SLOT_MORE: &[u8] = b"unordered 62\n";
-
-#[test]
-fn polls_no_more_names_than_the_limit(rt: HostRuntime) -> Result<(), Fail> {
-    let mut text = Vec::from_slice(rt.alloc(), ONE_SLOT_MORE)?;
-    let mut want = Vec::from_slice(rt.alloc(), b"ok\n")?;
+// Begins a set, and pushes as many pending futures as a poll takes names, and then a ready one.
+fn assert_one_slot_more<H>(rt: &H, begin: &[u8], begun: &[u8], polled: &[u8]) -> Result<(), Fail>
+where
+    H: Abort + RandomSource + AllocGlobal,
+{
+    let mut text = Vec::from_slice(rt.alloc(), begin)?;
+    let mut want = Vec::from_slice(rt.alloc(), begun)?;
     for _ in 0..NAMES_OF_A_POLL {
         text.extend_from_slice(b"push 0 1\n")?;
         want.extend_from_slice(b"ok\n")?;
     }
     text.extend_from_slice(b"push 99 0\npoll\npoll\n")?;
-    want.extend_from_slice(b"ok\npending\nsome 99\n")?;
-    assert_replies(&rt, &text, &want)
+    want.extend_from_slice(b"ok\n")?;
+    want.extend_from_slice(polled)?;
+    assert_replies(rt, &text, &want)
+}
+
+#[test]
+fn polls_no_more_names_than_the_limit(rt: HostRuntime) -> Result<(), Fail> {
+    assert_one_slot_more(&rt, b"unordered 62\n", b"ok\n", b"pending\nsome 99\n")?;
+    let begin = b"limit 62\nunordered 62\n";
+    assert_one_slot_more(&rt, begin, b"ok\nok\n", b"some 99\npending\n")
 }
 
 #[test]
 fn answers_bad_to_what_is_no_line(rt: HostRuntime) -> Result<(), Fail> {
-    let lines: [&[u8]; 30] = [
+    let lines: [&[u8]; 34] = [
         b"",
         b" ",
         b"len ",
@@ -152,6 +193,10 @@ fn answers_bad_to_what_is_no_line(rt: HostRuntime) -> Result<(), Fail> {
         b"wake 1",
         b"wake 00",
         b"unordered",
+        b"limit",
+        b"limit 0",
+        b"limit 01",
+        b"limit 18446744073709551616",
         b"\x00",
         b"\xff\xfe",
     ];
