@@ -1,2 +1,3 @@
 pub mod FuturesUnorderedLemmas
 pub mod PushLemmas
+pub mod YieldsLemmas

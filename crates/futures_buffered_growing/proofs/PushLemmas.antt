@@ -15,7 +15,7 @@ use Rattle.futures_buffered_bounded.specs.Groups.{Groups}
 use Rattle.futures_buffered_bounded.proofs.GroupsLemmas.{same_parts}
 use Rattle.futures_buffered_bounded.proofs.GroupsStepLemmas.{split_at, split_set}
 use Rattle.futures_buffered_growing.specs.declared.futures_unordered.TheConstants.{MAX_HELD}
-use Rattle.futures_buffered_growing.specs.FuturesUnordered.{Growing, GrowingPushes, IsNewGroup, LastIsFull, held_in, all_held, spare_places, capacity_of, next_capacity}
+use Rattle.futures_buffered_growing.specs.FuturesUnordered.{Growing, GrowingPushes, IsNewGroup, IsNewGrowing, LastIsFull, no_groups, held_in, all_held, spare_places, capacity_of, next_capacity}
 use Rattle.futures_buffered_growing.specs.FuturesUnorderedInvariant.{IsGroup, AllWaitAlike, KeepsGroups, SameKind, AddsGroup, PushesLast}
 use Rattle.futures_buffered_growing.proofs.FuturesUnorderedLemmas.{same_or, alike_self, alike_back, each_set, alike_set}
 
@@ -184,3 +184,21 @@ module _ {F S : Type 0} (marks : S → ℕ → Woke → S → Type 0) where
           omega (arith, ap (λ (l : List (Bounded F S)). all_held l) adds.listed, sum_by_push held_in old.groups.listed adds.group, none.0),
           omega (arith, ap (λ (l : List (Bounded F S)). spare_places l) adds.listed, spare, ap (λ (b : Bounded F S). held_in b) at_end, ap (λ (b : Bounded F S). slot_count b.slots) at_end, none.0, none.1),
         )
+
+module _ {F S : Type 0} (made : ℕ → S → Type 0) where
+  -- a new set has the group that was added, if one was
+  pub new_without : (n limit : ℕ) (set : Growing F S) → n ≤ 0 → set ≡ no_groups limit → IsNewGrowing made n limit set
+  new_without n limit set none is = inl (omega (arith, none), is)
+
+  pub new_with : (n limit : ℕ) (start set : Growing F S) → 0 < n → start ≡ no_groups limit → AddsGroup made n start set → IsNewGrowing made n limit set
+  new_with n limit start set some is adds =
+      inr (
+        some,
+        (
+          adds.group,
+          subst (λ (v : Growing F S). IsNewGroup made n v.limit adds.group) is adds.is_new,
+          ap (λ (l : List (Bounded F S)). record { groups = record { listed = l; place = set.groups.place }; limit = set.limit }) (adds.listed ∙ ap (λ (v : Growing F S). v.groups.listed ++ adds.group ∷ []) is)
+              ∙ ap (λ (k : ℕ). record { groups = record { listed = adds.group ∷ []; place = k }; limit = set.limit }) (adds.same_place ∙ ap (λ (v : Growing F S). v.groups.place) is)
+              ∙ ap (λ (k : ℕ). record { groups = record { listed = adds.group ∷ []; place = 0 }; limit = k }) (adds.same_limit ∙ ap (λ (v : Growing F S). v.limit) is),
+        ),
+      )

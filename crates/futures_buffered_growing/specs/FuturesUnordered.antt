@@ -1,6 +1,6 @@
 -- What a contract sees of a set that grows by groups, and what its calls make of it.
 use Rattle.std.specs.Prelude.{◌≡◌, ℕ, ◌+◌, ◌-◌, ◌*◌, ◌<◌, List, [], ◌∷◌, ◌++◌, ◌⊎◌, Option, Some, None, refl}
-use Rattle.std.specs.List.{sum_by, All}
+use Rattle.std.specs.List.{sum_by, All, FoldsTo}
 use Rattle.std.specs.Coded.{Coded, code_by, coded×, coded_ℕ}
 use Rattle.futures.specs.Task.{Covers}
 use Rattle.futures.specs.Runs.{Runs}
@@ -9,10 +9,12 @@ use Rattle.futures.specs.declared.task.context.Context.{Context}
 use Rattle.futures.specs.declared.task.Poll.{Poll}
 use Rattle.futures.specs.declared.task.Poll.TheVariants.{Ready, Pending}
 use Rattle.futures_buffered_core.specs.SlotMap.{held_count, slot_count, no_slots}
+use Rattle.futures_buffered_table.specs.declared.answer.TheConstants.{MAX_CAPACITY}
 use Rattle.futures_buffered_table.specs.declared.answer.Woke.{Woke}
 use Rattle.futures_buffered_bounded.specs.Held.{AllHeld, AnyMayGive}
 use Rattle.futures_buffered_bounded.specs.FuturesUnorderedBounded.{Bounded, bounded_code, Pushes}
 use Rattle.futures_buffered_bounded.specs.Groups.{Groups, groups_code}
+use Rattle.futures_buffered_growing.specs.declared.futures_unordered.TheConstants.{FIRST_GROUP, MAX_HELD}
 
 -- the groups, the place where the next poll begins, and how many names one poll takes from each group at most
 pub record Growing (F S : Type 0) : Type 0 where
@@ -32,6 +34,11 @@ growing_code {F} {S} code source_code =
 -- a set without a group, with this limit
 abbrev pub no_groups : {F S : Type 0} → ℕ → Growing F S
 no_groups limit = record { groups = record { listed = []; place = 0 }; limit = limit }
+
+-- P holds of one of these
+abbrev pub AnyOf : {X : Type 0} → (X → Type 0) → List X → Type 0
+AnyOf P [] = ⊥
+AnyOf P (x ∷ xs) = P x ⊎ AnyOf P xs
 
 -- how many outputs an answer brings
 abbrev pub outputs_in : {A : Type 0} → Poll (Option A) → ℕ
@@ -58,9 +65,8 @@ module _ {F S : Type 0} where
 
   -- a group that holds a future waits at place n of a task's wakes
   abbrev pub AnyNeeds : (S → ℕ → Type 0) → List (Bounded F S) → ℕ → Type 0
-  AnyNeeds needs [] n = ⊥
-  AnyNeeds needs (group ∷ groups) n =
-      ((0 < held_in group) × needs group.source n) ⊎ AnyNeeds needs groups n
+  AnyNeeds needs groups n =
+      AnyOf (λ (group : Bounded F S). (0 < held_in group) × needs group.source n) groups
 
   -- the free places of the last group
   abbrev pub spare_places : List (Bounded F S) → ℕ
@@ -115,6 +121,16 @@ module _ {F S : Type 0} where
     pub same_place : new.groups.place ≡ old.groups.place
     pub same_limit : new.limit ≡ old.limit
 
+  -- nothing more goes in: as many futures are held as a set may hold, or the last group is full and a new one would have too many slots
+  abbrev pub IsAtBound : List (Bounded F S) → Type 0
+  IsAtBound groups = (all_held groups ≡ MAX_HELD)
+      ⊎ (LastIsFull groups × (MAX_CAPACITY < next_capacity FIRST_GROUP groups))
+
+  -- these values were pushed, in order
+  abbrev pub PushesEach : (S → ℕ → Woke → S → Type 0) → (ℕ → S → Type 0)
+      → Growing F S → List F → Growing F S → Type 0
+  PushesEach marks made = FoldsTo (GrowingPushes marks made FIRST_GROUP)
+
   -- one group of so many slots, or none where that number is 0
   abbrev pub IsNewGrowing : (ℕ → S → Type 0) → ℕ → ℕ → Growing F S → Type 0
   IsNewGrowing made n limit new = ((n ≡ 0) × (new ≡ no_groups limit))
@@ -126,8 +142,7 @@ module _ {F S : Type 0} where
 module _ {F A S : Type 0} (polled : ℕ → F → Poll A → F → Type 0) where
   -- one of the futures that are held in these groups may give x
   abbrev pub AnyGroupMayGive : List (Bounded F S) → A → Type 0
-  AnyGroupMayGive [] x = ⊥
-  AnyGroupMayGive (group ∷ groups) x = AnyMayGive polled group.slots x ⊎ AnyGroupMayGive groups x
+  AnyGroupMayGive groups x = AnyOf (λ (group : Bounded F S). AnyMayGive polled group.slots x) groups
 
   -- what may come from the set: as many outputs as futures are held, each from one of them, and then the end
   abbrev pub ComesFromGroups : List (Bounded F S) → Runs A

@@ -1,23 +1,27 @@
 //! A set of futures that grows by groups, yielded as they finish.
 //!
 //! Each group is a bounded set. A push goes into the last group, and makes one of twice its slots where it is full. A poll asks each group in turn, from the place where the poll before ended, until one gives an output. One registration of the task does for all groups.
-ghost use Rattle.std.specs.Prelude.{◌≡◌, ◌↔◌, ◌<◌, ◌≤◌, ◌+◌, ◌⊎◌, [], length, IsTrue, OnOk, OnErr, IsErr, IfOk, IfErr, IfNone, IfSome};
+ghost use Rattle.std.specs.Prelude.{◌≡◌, ◌↔◌, ◌<◌, ◌≤◌, ◌+◌, ◌⊎◌, [], length, IsTrue, OnOk, OnErr, IsOk, IsErr, IfOk, IfErr, IfNone};
 ghost use Rattle.std.specs.List.{All};
 ghost use Rattle.futures.specs.Poll.{IfReady, OnPending};
+ghost use Rattle.std.specs.Iterator.{IsFiniteIterable};
 ghost use Rattle.futures.specs.Task.{Covers, Keeps};
 ghost use Rattle.futures_buffered_core.specs.Answer.{RefusesTooLarge};
+ghost use Rattle.futures_buffered_core.specs.Drawn.{Draws};
+ghost use Rattle.futures_buffered_core.specs.ReadyShared.{IsNewShared, MarksShared, Shared};
 ghost use Rattle.futures_buffered_core.specs.ReadySource.{WaitsAlike};
 ghost use Rattle.futures_buffered_bounded.specs.Held.{AllHeld};
 ghost use Rattle.futures_buffered_bounded.specs.FuturesUnorderedBounded.{PollGives};
 ghost use Rattle.futures_buffered_bounded.specs.Groups.{GroupsGive};
 ghost use Rattle.futures_buffered_bounded.specs.GroupsStep.{AsksOne, next_place};
-ghost use Rattle.futures_buffered_growing.specs.FuturesUnordered.{EachHeld, EachCovered, AnyGroupMayGive, GrowingPushes, IsNewGroup, LastIsFull, all_held, capacity_of, next_capacity, outputs_in, spare_places};
+ghost use Rattle.futures_buffered_growing.specs.FuturesUnordered.{EachHeld, EachCovered, Growing, GrowingPushes, IsAtBound, IsNewGroup, IsNewGrowing, LastIsFull, PushesEach, no_groups, all_held, capacity_of, next_capacity, outputs_in, spare_places};
 ghost use Rattle.futures_buffered_growing.specs.FuturesUnorderedInvariant.{AddsGroup, KeepsGroup, PushesLast};
 
 use futures::task::{Context, Poll};
-use futures_buffered_bounded::futures_unordered_bounded::FuturesUnorderedBounded;
+use futures_buffered_bounded::futures_unordered_bounded::{FuturesUnorderedBounded, POLL_LIMIT};
 use futures_buffered_bounded::poll_one::PollOne;
 use futures_buffered_core::ready_core::{MAX_CAPACITY, NewFault};
+use futures_buffered_core::ready_shared::SharedReady;
 use futures_buffered_core::ready_source::NewSource;
 use std::alloc::Global;
 use std::marker::Model;
@@ -85,6 +89,46 @@ fn ask_group<F: Drop, S: NewSource, R: PollOne<F, S::Waker>>(
 }
 
 impl<F: Drop, S: NewSource> FuturesUnordered<F, S> {
+    // A set without a group. Takes no memory.
+    fn without_groups(env: S::Env, alloc: Global, limit: usize) -> Self
+        requires { 1 ≤ limit }
+        ensures { result ≡ no_groups limit }
+    {
+        FuturesUnordered {
+            groups: Vec::new(alloc),
+            place: 0,
+            held: 0,
+            limit,
+            env,
+            alloc,
+        }
+    }
+
+    /// An empty set over sources that are made by `env`, which it keeps. It has one group of `n` slots, or none where `n` is 0.
+    ///
+    /// Takes time and memory in proportion to `n`. `TooLarge` where `n` is above `MAX_CAPACITY`, and `Memory` where a request for memory was refused.
+    pub fn over(env: S::Env, alloc: Global, n: usize) -> Result<Self, NewFault>
+        ensures empty { IfOk result (IsNewGrowing S.made n POLL_LIMIT) }
+        ensures refuses { RefusesTooLarge n result }
+        ensures none { n ≡ 0 → IsOk result }
+    {
+        Self::over_limit(env, alloc, n, POLL_LIMIT)
+    }
+
+    /// As `over`, where one poll takes at most `limit` names from each group, also from those that are made later.
+    pub fn over_limit(env: S::Env, alloc: Global, n: usize, limit: usize) -> Result<Self, NewFault>
+        requires { 1 ≤ limit }
+        ensures empty { IfOk result (IsNewGrowing S.made n limit) }
+        ensures refuses { RefusesTooLarge n result }
+        ensures none { n ≡ 0 → IsOk result }
+    {
+        let mut set = Self::without_groups(env, alloc, limit);
+        if n > 0 {
+            set.add_group(n)?;
+        }
+        Ok(set)
+    }
+
     /// The number of futures held. Takes the same time at any number of groups.
     pub fn len(&self) -> usize
         ensures { result ≡ all_held self.now.groups.listed }
@@ -190,6 +234,18 @@ impl<F: Drop, S: NewSource> FuturesUnordered<F, S> {
         self.held += 1;
     }
 
+    // Why a push was refused.
+    fn refusal(&self) -> NewFault
+        ensures { (result ≡ NewFault.TooLarge) ↔ IsAtBound self.now.groups.listed }
+    {
+        let is_full = self.spare_places() == 0;
+        if self.held == MAX_HELD || (is_full && self.next_capacity() > MAX_CAPACITY) {
+            NewFault::TooLarge
+        } else {
+            NewFault::Memory
+        }
+    }
+
     /// Puts the value into the last group. Where that is full, or there is none, a group is made behind it: of twice as many slots, or of `FIRST_GROUP`.
     ///
     /// The value comes back, and nothing has changed, where `MAX_HELD` futures are held, where the new group would have more than `MAX_CAPACITY` slots, and where a request for memory was refused. Takes the same time at any capacity where the last group has a free place, and then no memory; else time and memory in proportion to the new group. Polls nothing, and wakes nobody.
@@ -201,10 +257,7 @@ impl<F: Drop, S: NewSource> FuturesUnordered<F, S> {
         ensures back { IfErr result (λ back. (back ≡ value) × (self.new ≡ self.old)) }
         ensures room { OnErr result ((all_held self.old.groups.listed ≡ MAX_HELD)
             ⊎ LastIsFull self.old.groups.listed) }
-        ensures large { (all_held self.old.groups.listed ≡ MAX_HELD)
-            ⊎ (LastIsFull self.old.groups.listed
-            × (MAX_CAPACITY < next_capacity FIRST_GROUP self.old.groups.listed))
-            → IsErr result }
+        ensures large { IsAtBound self.old.groups.listed → IsErr result }
     {
         if self.held == MAX_HELD {
             return Err(value);
@@ -311,5 +364,64 @@ impl<F: Drop, S: NewSource> FuturesUnordered<F, S> {
         } else {
             Poll::Ready(None)
         }
+    }
+}
+
+impl<F: Drop> FuturesUnordered<F, SharedReady> {
+    ghost use Rattle.std.specs.Prelude.{ℕ, List, max};
+
+    /// An empty set without a group, whose values are woken from any thread. Takes no memory.
+    pub fn new(alloc: Global) -> Self
+        ensures { result ≡ no_groups POLL_LIMIT }
+    {
+        Self::without_groups((), alloc, POLL_LIMIT)
+    }
+
+    /// An empty set with one group of `n` slots, or none where `n` is 0, whose values are woken from any thread. It is `over` with shared sources, and refuses as `over` does.
+    pub fn with_capacity(alloc: Global, n: usize) -> Result<Self, NewFault>
+        ensures empty { IfOk result (IsNewGrowing IsNewShared n POLL_LIMIT) }
+        ensures refuses { RefusesTooLarge n result }
+        ensures none { n ≡ 0 → IsOk result }
+    {
+        Self::with_limit(alloc, n, POLL_LIMIT)
+    }
+
+    /// As `with_capacity`, where one poll takes at most `limit` names from each group, also from those that are made later.
+    pub fn with_limit(alloc: Global, n: usize, limit: usize) -> Result<Self, NewFault>
+        requires { 1 ≤ limit }
+        ensures empty { IfOk result (IsNewGrowing IsNewShared n limit) }
+        ensures refuses { RefusesTooLarge n result }
+        ensures none { n ≡ 0 → IsOk result }
+    {
+        Self::over_limit((), alloc, n, limit)
+    }
+
+    /// A set that holds the items, pushed in order. Its first group has as many slots as the iterator says that it has items at least, and not fewer than `FIRST_GROUP`.
+    ///
+    /// Takes time and memory in proportion to the number of items and to that first number. Where it is refused, the items that came are dropped: `TooLarge` where that number or a later group is too large, or more than `MAX_HELD` came, and `Memory` where a request for memory was refused.
+    pub fn from_iter<I: IntoIterator<Item = F>>(alloc: Global, iter: I) -> Result<Self, NewFault>
+    where
+        requires { IsFiniteIterable I.into_iter_gives I.IntoIter.can_next
+            I.IntoIter.remaining iter }
+        ensures holds { IfOk result (λ set. (items : List F) × (least : ℕ)
+            × ((start : Growing F Shared)
+            × Draws I.into_iter_gives I.IntoIter.next_gives iter items
+            × IsNewGrowing IsNewShared (max least FIRST_GROUP) POLL_LIMIT start
+            × PushesEach MarksShared IsNewShared start items set)) }
+    {
+        let iter = iter.into_iter();
+        let (least, _most) = iter.size_hint();
+        let first = if least > FIRST_GROUP {
+            least
+        } else {
+            FIRST_GROUP
+        };
+        let mut set = Self::with_capacity(alloc, first)?;
+        for item in iter {
+            let Ok(()) = set.push(item) else {
+                return Err(set.refusal());
+            };
+        }
+        Ok(set)
     }
 }
