@@ -12,6 +12,8 @@ use memchr::memchr;
 pub enum Command {
     /// `unordered C`: begins a bounded set of this capacity.
     Unordered(usize),
+    /// `growing C`: begins a growing set, whose first group has this capacity.
+    Growing(usize),
     /// `steps C`: begins a machine of single steps of this capacity.
     Steps(usize),
     /// `limit L`: how many names one poll takes at most, of each set that is begun from now on.
@@ -91,6 +93,9 @@ pub fn parse(line: &[u8]) -> Option<Command>
     let (word, rest) = cut(line);
     if word == b"unordered".as_slice() {
         return Some(Command::Unordered(one(rest)? as usize));
+    }
+    if word == b"growing".as_slice() {
+        return Some(Command::Growing(one(rest)? as usize));
     }
     if word == b"steps".as_slice() {
         return Some(Command::Steps(one(rest)? as usize));

@@ -1,8 +1,9 @@
 //! What a script has begun, and what each line does to it.
 ghost use Rattle.std.specs.Prelude.{◌≡◌, ◌<◌, ◌≤◌, IfOk, OnErr};
 ghost use Rattle.futures.specs.Task.{Keeps};
-ghost use Rattle.fbuf_lines.specs.Object.{LineGives, ObjectGives, SetGives, MachineGives};
-ghost use Rattle.fbuf_lines.specs.Object.{StepGives, BeginsSet, BeginsMachine, SetsLimit};
+ghost use Rattle.fbuf_lines.specs.Object.{LineGives, ObjectGives, SetGives, GrowingGives};
+ghost use Rattle.fbuf_lines.specs.Object.{MachineGives, StepGives};
+ghost use Rattle.fbuf_lines.specs.Object.{BeginsSet, BeginsGrowing, BeginsMachine, SetsLimit};
 ghost use Rattle.fbuf_lines.specs.Object.{new_bounded, first_stage};
 
 use crate::command::{Command, parse};
@@ -12,12 +13,16 @@ use futures::task::Context;
 use futures_buffered_core::ready_core::{MAX_CAPACITY, NewFault};
 use futures_buffered_core::ready_source::{CoreSource, NewSource};
 use futures_buffered_core::ready_table::{Step, StepMachine};
+use futures_buffered_growing::futures_unordered::FuturesUnordered;
 use futures_buffered_sets::futures_unordered_bounded::{FuturesUnorderedBounded, POLL_LIMIT};
 use std::alloc::{AllocError, Global};
 use std::marker::Model;
 
 /// A bounded set of the script's futures, over a ready core.
 pub type TimedSet = FuturesUnorderedBounded<Timed, CoreSource>;
+
+/// A growing set of them, each group over a ready core.
+pub type TimedGrowing = FuturesUnordered<Timed, CoreSource>;
 
 /// What was begun last.
 #[derive(Drop)]
@@ -26,6 +31,8 @@ pub enum Object {
     Nothing,
     /// `unordered C` did.
     Unordered(TimedSet),
+    /// `growing C` did.
+    Growing(TimedGrowing),
     /// `steps C` did.
     Steps(StepMachine),
 }
@@ -64,8 +71,9 @@ impl Stage {
     ///
     /// The time is that of the line's bytes and of the one call that it asks for. A line that
     /// begins an object takes time and memory in its capacity, and the drop of the one before it
-    /// takes time in that one's; the other lines take no memory. `Err` says that the memory of a
-    /// new object was refused.
+    /// takes time in that one's. A push that makes a group of a growing set takes time and memory
+    /// in that group's capacity; the other lines take no memory. `Err` says that the memory of a
+    /// new object was refused, or a push into a growing set.
     pub fn answer(
         &mut self,
         alloc: Global,
@@ -78,9 +86,10 @@ impl Stage {
     {
         match parse(line) {
             Some(Command::Unordered(capacity)) => self.begin_unordered(alloc, capacity),
+            Some(Command::Growing(capacity)) => self.begin_growing(alloc, capacity),
             Some(Command::Steps(capacity)) => self.begin_steps(alloc, capacity),
             Some(Command::Limit(limit)) => Ok(self.set_limit(limit)),
-            Some(command) => Ok(self.carry_out(command, cx)),
+            Some(command) => self.carry_out(command, cx),
             None => Ok(Reply::Bad),
         }
     }
@@ -93,6 +102,21 @@ impl Stage {
         match new_set(alloc, capacity, self.limit) {
             Ok(set) => {
                 self.object = Object::Unordered(set);
+                Ok(Reply::Done)
+            }
+            Err(NewFault::TooLarge) => Ok(Reply::TooLarge),
+            Err(NewFault::Memory) => Err(AllocError),
+        }
+    }
+
+    // The same, of a growing set.
+    fn begin_growing(&mut self, alloc: Global, capacity: usize) -> Result<Reply, AllocError>
+        ensures reply { IfOk result (λ reply. BeginsGrowing self.old capacity reply self.new) }
+        ensures memory { OnErr result (self.new ≡ self.old) }
+    {
+        match FuturesUnordered::over_limit((), alloc, capacity, self.limit) {
+            Ok(set) => {
+                self.object = Object::Growing(set);
                 Ok(Reply::Done)
             }
             Err(NewFault::TooLarge) => Ok(Reply::TooLarge),
@@ -126,15 +150,22 @@ impl Stage {
         Reply::Done
     }
 
-    fn carry_out(&mut self, command: Command, cx: &mut Context<'_>) -> Reply
-        ensures reply { ObjectGives self.old.object command result self.new.object }
+    fn carry_out(
+        &mut self,
+        command: Command,
+        cx: &mut Context<'_>,
+    ) -> Result<Reply, AllocError>
+        ensures reply { IfOk result (λ reply.
+            ObjectGives self.old.object command reply self.new.object) }
+        ensures memory { OnErr result (self.new ≡ self.old) }
         ensures limit { self.new.limit ≡ self.old.limit }
         ensures kept { Keeps cx.old cx.new }
     {
         match &mut self.object {
-            Object::Nothing => Reply::Bad,
-            Object::Unordered(set) => set_reply(set, command, cx),
-            Object::Steps(machine) => machine_reply(machine, command),
+            Object::Nothing => Ok(Reply::Bad),
+            Object::Unordered(set) => Ok(set_reply(set, command, cx)),
+            Object::Growing(set) => growing_reply(set, command, cx),
+            Object::Steps(machine) => Ok(machine_reply(machine, command)),
         }
     }
 }
@@ -163,6 +194,27 @@ fn set_reply(set: &mut TimedSet, command: Command, cx: &mut Context<'_>) -> Repl
         Command::Poll => Reply::of_poll(set.poll_with(&PollTimed, cx)),
         Command::Len => Reply::Count(set.len()),
         _ => Reply::Bad,
+    }
+}
+
+// A command to a growing set. A push that is refused changes nothing.
+fn growing_reply(
+    set: &mut TimedGrowing,
+    command: Command,
+    cx: &mut Context<'_>,
+) -> Result<Reply, AllocError>
+    ensures reply { IfOk result (λ reply. GrowingGives set.old command reply set.new) }
+    ensures memory { OnErr result (set.new ≡ set.old) }
+    ensures kept { Keeps cx.old cx.new }
+{
+    match command {
+        Command::Push(future) => match set.push(future) {
+            Ok(()) => Ok(Reply::Done),
+            Err(_) => Err(AllocError),
+        },
+        Command::Poll => Ok(Reply::of_poll(set.poll_with(&PollTimed, cx))),
+        Command::Len => Ok(Reply::Count(set.len())),
+        _ => Ok(Reply::Bad),
     }
 }
 

@@ -103,6 +103,59 @@ fn answers_scripts_over_a_bounded_set(rt: HostRuntime) -> Result<(), Fail> {
 }
 
 #[test]
+fn answers_scripts_over_a_growing_set(rt: HostRuntime) -> Result<(), Fail> {
+    let rows = [
+        // A push into a full group makes another; a wake never stands.
+        (
+            "growing 1\npush 1 1\npush 2 0\npush 3 0\npoll\npoll\npoll\nlen\nwake 0\n",
+            "ok\nok\nok\nok\nsome 2\nsome 3\npending\n1\nbad\n",
+        ),
+        (
+            "growing 1\npush 5 0\npush 6 0\nlen\npoll\npoll\npoll\nlen\n",
+            "ok\nok\nok\n2\nsome 5\nsome 6\nnone\n0\n",
+        ),
+        // No group at all, until the first push.
+        (
+            "growing 0\npoll\npush 5 0\npoll\n",
+            "ok\nnone\nok\nsome 5\n",
+        ),
+        // A capacity past the greatest leaves what was there.
+        ("growing 18446744073709551615\npoll\n", "large\nbad\n"),
+        (
+            "growing 1\npush 5 0\ngrowing 4611686018427387904\nlen\npoll\n",
+            "ok\nok\nlarge\n1\nsome 5\n",
+        ),
+        // What was begun before is dropped.
+        (
+            "growing 1\npush 1 0\ngrowing 2\nlen\npush 2 0\nunordered 1\npoll\n",
+            "ok\nok\nok\n0\nok\nok\nnone\n",
+        ),
+        // What is no command to a growing set changes nothing.
+        (
+            "growing 1\npush 1 0\nlimit 0\nlimit\nwake 0\nmark 0 0\ngo 0\nstep\nlen\npoll\n",
+            "ok\nok\nbad\nbad\nbad\nbad\nbad\nbad\n1\nsome 1\n",
+        ),
+        // Each group has the limit that stood as the set was begun, also one that is made later.
+        (
+            "limit 1\ngrowing 2\npush 1 1\npush 2 0\npoll\npoll\n",
+            "ok\nok\nok\nok\npending\nsome 2\n",
+        ),
+        (
+            "limit 1\ngrowing 0\nlimit 2\npush 1 1\npush 2 0\npoll\npoll\n",
+            "ok\nok\nok\nok\nok\npending\nsome 2\n",
+        ),
+        (
+            "growing 1\npush 1 1\nlimit 1\npush 2 1\npush 3 0\npoll\n",
+            "ok\nok\nok\nok\nok\nsome 3\n",
+        ),
+    ];
+    for (text, want) in rows {
+        assert_replies(&rt, text.as_bytes(), want.as_bytes())?;
+    }
+    Ok(())
+}
+
+#[test]
 fn answers_scripts_over_chosen_limits(rt: HostRuntime) -> Result<(), Fail> {
     let rows = [
         (
@@ -159,12 +212,15 @@ where
 fn polls_no_more_names_than_the_limit(rt: HostRuntime) -> Result<(), Fail> {
     assert_one_slot_more(&rt, b"unordered 62\n", b"ok\n", b"pending\nsome 99\n")?;
     let begin = b"limit 62\nunordered 62\n";
+    assert_one_slot_more(&rt, begin, b"ok\nok\n", b"some 99\npending\n")?;
+    assert_one_slot_more(&rt, b"growing 62\n", b"ok\n", b"pending\nsome 99\n")?;
+    let begin = b"limit 62\ngrowing 62\n";
     assert_one_slot_more(&rt, begin, b"ok\nok\n", b"some 99\npending\n")
 }
 
 #[test]
 fn answers_bad_to_what_is_no_line(rt: HostRuntime) -> Result<(), Fail> {
-    let lines: [&[u8]; 34] = [
+    let lines: [&[u8]; 37] = [
         b"",
         b" ",
         b"len ",
@@ -193,6 +249,9 @@ fn answers_bad_to_what_is_no_line(rt: HostRuntime) -> Result<(), Fail> {
         b"wake 1",
         b"wake 00",
         b"unordered",
+        b"growing",
+        b"growing 01",
+        b"growing 1 ",
         b"limit",
         b"limit 0",
         b"limit 01",
@@ -211,8 +270,8 @@ fn answers_bad_to_what_is_no_line(rt: HostRuntime) -> Result<(), Fail> {
 
 #[test]
 fn answers_bad_to_what_is_not_built(rt: HostRuntime) -> Result<(), Fail> {
-    let text = b"ordered 1\ngrowing 1\nback 1 0\nfront 1 0\nunordered 1\nback 1 0\nlen\n";
-    assert_replies(&rt, text, b"bad\nbad\nbad\nbad\nok\nbad\n0\n")
+    let text = b"ordered 1\nback 1 0\nfront 1 0\nunordered 1\nback 1 0\nlen\n";
+    assert_replies(&rt, text, b"bad\nbad\nbad\nok\nbad\n0\n")
 }
 
 #[test]
@@ -331,10 +390,15 @@ fn a_write_that_takes_nothing_fails(rt: HostRuntime) -> Result<(), Fail> {
 
 #[test]
 fn answers_the_lines_before_memory_was_refused(rt: HostRuntime) -> Result<(), Fail> {
-    let text = b"unordered 1\nlen\nunordered 4611686018427387903\nlen\n";
-    let outcome = run_over(&rt, Source::whole(text), Sink::roomy(rt.alloc()))?;
-    assert_eq!(rt; outcome.answer, Err(ScriptFault::Memory));
-    assert_eq!(rt; outcome.failed, (false, false));
-    assert_eq!(rt; outcome.written.as_slice(), b"ok\n0\n".as_slice());
+    let texts: [&[u8]; 2] = [
+        b"unordered 1\nlen\nunordered 4611686018427387903\nlen\n",
+        b"growing 1\nlen\ngrowing 4611686018427387903\nlen\n",
+    ];
+    for text in texts {
+        let outcome = run_over(&rt, Source::whole(text), Sink::roomy(rt.alloc()))?;
+        assert_eq!(rt; outcome.answer, Err(ScriptFault::Memory));
+        assert_eq!(rt; outcome.failed, (false, false));
+        assert_eq!(rt; outcome.written.as_slice(), b"ok\n0\n".as_slice());
+    }
     Ok(())
 }
