@@ -1,5 +1,5 @@
 -- What a line of a script is answered, and what it leaves of the object that was begun last.
-use Rattle.std.specs.Prelude.{◌≡◌, ℕ, ◌<◌, ◌≤◌, List, [], Option, MatchOption, ◌⊎◌}
+use Rattle.std.specs.Prelude.{◌≡◌, ℕ, ◌<◌, ◌≤◌, List, [], Option, Some, MatchOption, ◌⊎◌}
 use Rattle.futures.specs.declared.task.Poll.{Poll as PollAnswer}
 use Rattle.futures_buffered_table.specs.declared.answer.Woke.{Woke}
 use Rattle.futures_buffered_table.specs.declared.answer.TheConstants.{MAX_CAPACITY}
@@ -15,8 +15,10 @@ use Rattle.futures_buffered_bounded.specs.declared.futures_unordered_bounded.The
 }
 use Rattle.futures_buffered_bounded.specs.Groups.{GroupsGive}
 use Rattle.futures_buffered_growing.specs.FuturesUnordered.{Growing as GrowingOf, GrowingPushes}
-use Rattle.futures_buffered_growing.specs.FuturesUnordered.{IsNewGrowing, all_held}
+use Rattle.futures_buffered_growing.specs.FuturesUnordered.{IsNewGrowing, LastIsFull}
+use Rattle.futures_buffered_growing.specs.FuturesUnordered.{all_held}
 use Rattle.futures_buffered_growing.specs.declared.futures_unordered.TheConstants.{FIRST_GROUP}
+use Rattle.futures_buffered_growing.specs.declared.futures_unordered.TheConstants.{MAX_HELD}
 use Rattle.fbuf_lines.specs.Timed.{PollsTimed}
 use Rattle.fbuf_lines.specs.Command.{LineAsksFor}
 use Rattle.fbuf_lines.specs.Reply.{woke_reply, poll_reply, step_reply}
@@ -187,3 +189,18 @@ LineGives old line reply new =
     × LineAsksFor line asked
     × MatchOption asked ((reply ≡ Bad) × (new ≡ old))
     (λ command. CommandGives old command reply new)
+
+-- a command that may lack memory: it begins something that is not too large, or it pushes into a
+-- growing set that is full, or whose last group is
+abbrev pub MayLackMemory : Object → Command → Type 0
+MayLackMemory old (Unordered capacity) = capacity ≤ MAX_CAPACITY
+MayLackMemory old (Growing capacity) = capacity ≤ MAX_CAPACITY
+MayLackMemory old (Steps capacity) = capacity ≤ MAX_CAPACITY
+MayLackMemory (object.Growing old) (Push future) =
+    (all_held old.groups.listed ≡ MAX_HELD) ⊎ LastIsFull old.groups.listed
+MayLackMemory old command = ⊥
+
+-- a line that asks for such a command
+abbrev pub LineMayLackMemory : ScriptStage → List ℕ → Type 0
+LineMayLackMemory old line =
+    (command : Command) × LineAsksFor line (Some command) × MayLackMemory old.object command

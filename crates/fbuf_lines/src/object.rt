@@ -4,6 +4,7 @@ ghost use Rattle.futures.specs.Task.{Keeps};
 ghost use Rattle.fbuf_lines.specs.Object.{LineGives, ObjectGives, SetGives, GrowingGives};
 ghost use Rattle.fbuf_lines.specs.Object.{MachineGives, StepGives};
 ghost use Rattle.fbuf_lines.specs.Object.{BeginsSet, BeginsGrowing, BeginsMachine, SetsLimit};
+ghost use Rattle.fbuf_lines.specs.Object.{MayLackMemory, LineMayLackMemory};
 ghost use Rattle.fbuf_lines.specs.Object.{new_bounded, first_stage};
 
 use crate::command::{Command, parse};
@@ -82,6 +83,7 @@ impl Stage {
     ) -> Result<Reply, AllocError>
         ensures reply { IfOk result (λ reply. LineGives self.old line.now reply self.new) }
         ensures memory { OnErr result (self.new ≡ self.old) }
+        ensures refused { OnErr result (LineMayLackMemory self.old line.now) }
         ensures kept { Keeps cx.old cx.new }
     {
         match parse(line) {
@@ -98,6 +100,7 @@ impl Stage {
     fn begin_unordered(&mut self, alloc: Global, capacity: usize) -> Result<Reply, AllocError>
         ensures reply { IfOk result (λ reply. BeginsSet self.old capacity reply self.new) }
         ensures memory { OnErr result (self.new ≡ self.old) }
+        ensures refused { OnErr result (capacity ≤ MAX_CAPACITY) }
     {
         match new_set(alloc, capacity, self.limit) {
             Ok(set) => {
@@ -113,6 +116,7 @@ impl Stage {
     fn begin_growing(&mut self, alloc: Global, capacity: usize) -> Result<Reply, AllocError>
         ensures reply { IfOk result (λ reply. BeginsGrowing self.old capacity reply self.new) }
         ensures memory { OnErr result (self.new ≡ self.old) }
+        ensures refused { OnErr result (capacity ≤ MAX_CAPACITY) }
     {
         match FuturesUnordered::over_limit((), alloc, capacity, self.limit) {
             Ok(set) => {
@@ -128,6 +132,7 @@ impl Stage {
     fn begin_steps(&mut self, alloc: Global, capacity: usize) -> Result<Reply, AllocError>
         ensures reply { IfOk result (λ reply. BeginsMachine self.old capacity reply self.new) }
         ensures memory { OnErr result (self.new ≡ self.old) }
+        ensures refused { OnErr result (capacity ≤ MAX_CAPACITY) }
     {
         match StepMachine::new(alloc, capacity) {
             Ok(machine) => {
@@ -158,6 +163,7 @@ impl Stage {
         ensures reply { IfOk result (λ reply.
             ObjectGives self.old.object command reply self.new.object) }
         ensures memory { OnErr result (self.new ≡ self.old) }
+        ensures refused { OnErr result (MayLackMemory self.old.object command) }
         ensures limit { self.new.limit ≡ self.old.limit }
         ensures kept { Keeps cx.old cx.new }
     {
@@ -175,6 +181,7 @@ fn new_set(alloc: Global, capacity: usize, limit: usize) -> Result<TimedSet, New
     ensures ok { IfOk result (λ set.
         (set ≡ new_bounded capacity limit) × (capacity ≤ MAX_CAPACITY)) }
     ensures large { result ≡ Err NewFault.TooLarge → MAX_CAPACITY < capacity }
+    ensures memory { result ≡ Err NewFault.Memory → capacity ≤ MAX_CAPACITY }
 {
     let source = CoreSource::make(&(), alloc, capacity)?;
     FuturesUnorderedBounded::with_source_limit(alloc, source, limit)
@@ -205,6 +212,7 @@ fn growing_reply(
 ) -> Result<Reply, AllocError>
     ensures reply { IfOk result (λ reply. GrowingGives set.old command reply set.new) }
     ensures memory { OnErr result (set.new ≡ set.old) }
+    ensures refused { OnErr result (MayLackMemory (Object.Growing set.old) command) }
     ensures kept { Keeps cx.old cx.new }
 {
     match command {
