@@ -85,6 +85,23 @@ fn two(rest: Option<&[u8]>) -> Option<(u64, u64)>
     Some((number(first)?, number(second?)?))
 }
 
+// The command that a line with no space writes.
+fn bare(word: &[u8]) -> Option<Command>
+    requires { HasNoSpace word.now }
+    ensures { LineAsksFor word.now result }
+{
+    if word == b"poll".as_slice() {
+        return Some(Command::Poll);
+    }
+    if word == b"len".as_slice() {
+        return Some(Command::Len);
+    }
+    if word == b"step".as_slice() {
+        return Some(Command::Step);
+    }
+    None
+}
+
 /// The command that the line writes, in its one spelling; `None` if there is none. The time is that
 /// of the line's bytes; no memory is taken.
 pub fn parse(line: &[u8]) -> Option<Command>
@@ -118,21 +135,11 @@ pub fn parse(line: &[u8]) -> Option<Command>
         });
     }
     if word == b"go".as_slice() {
-        return Some(Command::Go {
-            seat: one(rest)? as usize,
-        });
+        let seat = one(rest)? as usize;
+        return Some(Command::Go { seat });
     }
     if rest.is_some() {
         return None;
     }
-    if word == b"poll".as_slice() {
-        return Some(Command::Poll);
-    }
-    if word == b"len".as_slice() {
-        return Some(Command::Len);
-    }
-    if word == b"step".as_slice() {
-        return Some(Command::Step);
-    }
-    None
+    bare(word)
 }
