@@ -16,7 +16,7 @@ use Rattle.futures_buffered_bounded.specs.declared.futures_unordered_bounded.The
 use Rattle.futures_buffered_bounded.specs.Groups.{GroupsGive}
 use Rattle.futures_buffered_growing.specs.FuturesUnordered.{Growing as GrowingOf, GrowingPushes}
 use Rattle.futures_buffered_growing.specs.FuturesUnordered.{IsNewGrowing, LastIsFull}
-use Rattle.futures_buffered_growing.specs.FuturesUnordered.{all_held}
+use Rattle.futures_buffered_growing.specs.FuturesUnordered.{IsAtBound, all_held}
 use Rattle.futures_buffered_growing.specs.declared.futures_unordered.TheConstants.{FIRST_GROUP}
 use Rattle.futures_buffered_growing.specs.declared.futures_unordered.TheConstants.{MAX_HELD}
 use Rattle.fbuf_lines.specs.Timed.{PollsTimed}
@@ -94,10 +94,14 @@ abbrev pub PollsGrowing : TimedGrowing → PollAnswer (Option ℕ) → TimedGrow
 PollsGrowing old answer new =
     GroupsGive PollsSet old.groups answer new.groups × (new.limit ≡ old.limit)
 
+-- one push into a growing set that can take more
+abbrev pub PushesGrowing : TimedGrowing → Timed → TimedGrowing → Type 0
+PushesGrowing old future new = (IsAtBound old.groups.listed → ⊥)
+    × GrowingPushes Marks IsNewStanding FIRST_GROUP old future new
+
 -- the last line says that no other command stands
 abbrev pub GrowingGives : TimedGrowing → Command → Reply → TimedGrowing → Type 0
-GrowingGives old (Push future) reply new =
-    (reply ≡ Done) × GrowingPushes Marks IsNewStanding FIRST_GROUP old future new
+GrowingGives old (Push future) reply new = (reply ≡ Done) × PushesGrowing old future new
 GrowingGives old Poll reply new =
     (answer : PollAnswer (Option ℕ)) × (reply ≡ poll_reply answer) × PollsGrowing old answer new
 GrowingGives old Len reply new = (reply ≡ Count (all_held old.groups.listed)) × (new ≡ old)

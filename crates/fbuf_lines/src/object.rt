@@ -155,11 +155,7 @@ impl Stage {
         Reply::Done
     }
 
-    fn carry_out(
-        &mut self,
-        command: Command,
-        cx: &mut Context<'_>,
-    ) -> Result<Reply, AllocError>
+    fn carry_out(&mut self, command: Command, cx: &mut Context<'_>) -> Result<Reply, AllocError>
         ensures reply { IfOk result (λ reply.
             ObjectGives self.old.object command reply self.new.object) }
         ensures memory { OnErr result (self.new ≡ self.old) }

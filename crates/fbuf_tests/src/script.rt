@@ -163,10 +163,7 @@ fn answers_scripts_over_chosen_limits(rt: HostRuntime) -> Result<(), Fail> {
             "ok\nok\nok\nok\nok\npending\nsome 3\n",
         ),
         // Zero is no limit, and no line of a limit touches the set that is there.
-        (
-            "limit 0\nunordered 1\nlimit 1\nlen\n",
-            "bad\nok\nok\n0\n",
-        ),
+        ("limit 0\nunordered 1\nlimit 1\nlen\n", "bad\nok\nok\n0\n"),
         (
             "unordered 2\npush 1 1\npush 2 0\nlimit 1\nlen\npoll\n",
             "ok\nok\nok\nok\n2\nsome 2\n",
