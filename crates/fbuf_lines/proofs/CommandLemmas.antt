@@ -20,8 +20,8 @@ use Rattle.std.proofs.lemmas.Bool.{or_left, or_from, or_parts, ne_eqb, eq-eqb}
 use Rattle.std.proofs.lemmas.Bool.Decides.{eqb_tells}
 use Rattle.std.proofs.lemmas.Slice.Eq.{bytes_eq-Decides}
 use Rattle.fbuf_lines.specs.declared.command.Command.{Command}
-use Rattle.fbuf_lines.specs.declared.command.Command.TheVariants.{Unordered, Steps, Push, Wake}
-use Rattle.fbuf_lines.specs.declared.command.Command.TheVariants.{Poll, Len, Mark, Go, Step}
+use Rattle.fbuf_lines.specs.declared.command.Command.TheVariants.{Unordered, Growing, Steps, Limit}
+use Rattle.fbuf_lines.specs.declared.command.Command.TheVariants.{Push, Wake, Poll, Len, Mark, Go, Step}
 use Rattle.fbuf_lines.specs.Command.{HasNoSpace, StartsAsNumber, word_of, numbers_of, text_of}
 use Rattle.fbuf_lines.specs.Command.{spaced_number, rest_text}
 use Rattle.fbuf_lines.proofs.LinesLemmas.{IsAbsentBefore, IsAbsentBefore-rest}
@@ -115,7 +115,9 @@ two_parts text first rest word is whole m n fits e = cut_one_way first (decimal 
 
 word_no_space : (command : Command) → HasNoSpace (word_of command)
 word_no_space (Unordered capacity) = refl
+word_no_space (Growing capacity) = refl
 word_no_space (Steps capacity) = refl
+word_no_space (Limit limit) = refl
 word_no_space (Push future) = refl
 word_no_space (Wake slot) = refl
 word_no_space Poll = refl
@@ -126,7 +128,9 @@ word_no_space Step = refl
 
 numbers_rest : (command : Command) → IsRest (flat_map spaced_number (numbers_of command))
 numbers_rest (Unordered capacity) = refl
+numbers_rest (Growing capacity) = refl
 numbers_rest (Steps capacity) = refl
+numbers_rest (Limit limit) = refl
 numbers_rest (Push future) = refl
 numbers_rest (Wake slot) = refl
 numbers_rest Poll = tt
@@ -145,9 +149,11 @@ command_parts line word rest none is whole command e =
 -- a text behind the word, where the word is none of those that numbers follow
 pub no_bare_word : (line word : List ℕ) (rest : Option (Bor (List ℕ))) → HasNoSpace word
     → line ≡ word ++ rest_text rest → is_some rest ≡ true
-    → word ≢ codes "unordered" → word ≢ codes "steps" → word ≢ codes "push" → word ≢ codes "wake"
-    → word ≢ codes "mark" → word ≢ codes "go" → (command : Command) → line ≢ text_of command
-no_bare_word line word rest none whole some not_unordered not_steps not_push not_wake not_mark not_go command e =
+    → word ≢ codes "unordered" → word ≢ codes "growing" → word ≢ codes "steps"
+    → word ≢ codes "limit" → word ≢ codes "push" → word ≢ codes "wake"
+    → word ≢ codes "mark" → word ≢ codes "go"
+    → (command : Command) → line ≢ text_of command
+no_bare_word line word rest none whole some not_unordered not_growing not_steps not_limit not_push not_wake not_mark not_go command e =
     by_command command (command_parts line word (rest_text rest) none (rest_is rest) whole command e)
   where
     more : (rest : Option (Bor (List ℕ))) → is_some rest ≡ true → rest_text rest ≡ [] → ⊥
@@ -158,7 +164,9 @@ no_bare_word line word rest none whole some not_unordered not_steps not_push not
         → (word ≡ word_of command) × (rest_text rest ≡ flat_map spaced_number (numbers_of command))
         → ⊥
     by_command (Unordered capacity) parts = not_unordered parts.0
+    by_command (Growing capacity) parts = not_growing parts.0
     by_command (Steps capacity) parts = not_steps parts.0
+    by_command (Limit limit) parts = not_limit parts.0
     by_command (Push future) parts = not_push parts.0
     by_command (Wake slot) parts = not_wake parts.0
     by_command Poll parts = more rest some parts.1

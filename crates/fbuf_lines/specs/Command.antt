@@ -5,13 +5,15 @@ use Rattle.std.specs.Borrow.{Bor}
 use Rattle.std.specs.List.{AllByRecursion, flat_map, list_any}
 use Rattle.std.specs.Fmt.{decimal}
 use Rattle.fbuf_lines.specs.declared.command.Command.{Command}
-use Rattle.fbuf_lines.specs.declared.command.Command.TheVariants.{Unordered, Steps, Push, Wake}
-use Rattle.fbuf_lines.specs.declared.command.Command.TheVariants.{Poll, Len, Mark, Go, Step}
+use Rattle.fbuf_lines.specs.declared.command.Command.TheVariants.{Unordered, Growing, Steps, Limit}
+use Rattle.fbuf_lines.specs.declared.command.Command.TheVariants.{Push, Wake, Poll, Len, Mark, Go, Step}
 
 -- the word that a command begins with
 abbrev pub word_of : Command → List ℕ
 word_of (Unordered capacity) = codes "unordered"
+word_of (Growing capacity) = codes "growing"
 word_of (Steps capacity) = codes "steps"
+word_of (Limit limit) = codes "limit"
 word_of (Push future) = codes "push"
 word_of (Wake slot) = codes "wake"
 word_of Poll = codes "poll"
@@ -23,7 +25,9 @@ word_of Step = codes "step"
 -- its numbers, in the order in which they are written
 abbrev pub numbers_of : Command → List ℕ
 numbers_of (Unordered capacity) = capacity ∷ []
+numbers_of (Growing capacity) = capacity ∷ []
 numbers_of (Steps capacity) = capacity ∷ []
+numbers_of (Limit limit) = limit ∷ []
 numbers_of (Push future) = future.value ∷ future.pending ∷ []
 numbers_of (Wake slot) = slot ∷ []
 numbers_of Poll = []

@@ -1,5 +1,5 @@
 -- What a line of a script is answered, and what it leaves of the object that was begun last.
-use Rattle.std.specs.Prelude.{◌≡◌, ℕ, ◌<◌, ◌≤◌, List, [], Option, MatchOption, ◌⊎◌}
+use Rattle.std.specs.Prelude.{◌≡◌, ℕ, ◌<◌, ◌≤◌, List, [], Option, Some, MatchOption, ◌⊎◌}
 use Rattle.futures.specs.declared.task.Poll.{Poll as PollAnswer}
 use Rattle.futures_buffered_table.specs.declared.answer.Woke.{Woke}
 use Rattle.futures_buffered_table.specs.declared.answer.TheConstants.{MAX_CAPACITY}
@@ -13,13 +13,19 @@ use Rattle.futures_buffered_bounded.specs.FuturesUnorderedBounded.{Bounded, Push
 use Rattle.futures_buffered_bounded.specs.declared.futures_unordered_bounded.TheConstants.{
   POLL_LIMIT,
 }
+use Rattle.futures_buffered_bounded.specs.Groups.{GroupsGive}
+use Rattle.futures_buffered_growing.specs.FuturesUnordered.{Growing as GrowingOf, GrowingPushes}
+use Rattle.futures_buffered_growing.specs.FuturesUnordered.{IsNewGrowing, LastIsFull}
+use Rattle.futures_buffered_growing.specs.FuturesUnordered.{IsAtBound, all_held}
+use Rattle.futures_buffered_growing.specs.declared.futures_unordered.TheConstants.{FIRST_GROUP}
+use Rattle.futures_buffered_growing.specs.declared.futures_unordered.TheConstants.{MAX_HELD}
 use Rattle.fbuf_lines.specs.Timed.{PollsTimed}
 use Rattle.fbuf_lines.specs.Command.{LineAsksFor}
 use Rattle.fbuf_lines.specs.Reply.{woke_reply, poll_reply, step_reply}
 use Rattle.fbuf_lines.specs.declared.timed.Timed.{Timed}
 use Rattle.fbuf_lines.specs.declared.command.Command.{Command}
-use Rattle.fbuf_lines.specs.declared.command.Command.TheVariants.{Unordered, Steps, Push, Wake}
-use Rattle.fbuf_lines.specs.declared.command.Command.TheVariants.{Poll, Len, Mark, Go, Step}
+use Rattle.fbuf_lines.specs.declared.command.Command.TheVariants.{Unordered, Growing, Steps, Limit}
+use Rattle.fbuf_lines.specs.declared.command.Command.TheVariants.{Push, Wake, Poll, Len, Mark, Go, Step}
 use Rattle.fbuf_lines.specs.declared.reply.Reply.{Reply}
 use Rattle.fbuf_lines.specs.declared.reply.Reply.TheVariants.{Done, Full, TooLarge, Count}
 use Rattle.fbuf_lines.specs.declared.reply.Reply.TheVariants.{Stuck, Bad}
@@ -39,18 +45,23 @@ abbrev pub new_bounded : ℕ → ℕ → TimedBounded
 new_bounded capacity limit =
     record { slots = no_slots capacity; source = new_standing capacity; limit = limit }
 
--- how far a script has come: what was begun last, and how many names one poll takes at most
+-- the growing set of a script: its groups are such sets
+abbrev pub TimedGrowing : Type 0
+TimedGrowing = GrowingOf Timed Standing
+
+-- a ready core that was just made
+abbrev pub IsNewStanding : ℕ → Standing → Type 0
+IsNewStanding capacity standing = standing ≡ new_standing capacity
+
+-- how far a script has come: what was begun last, and the limit of the sets that are begun from
+-- now on, which is how many names one poll of theirs takes at most
 pub record ScriptStage : Type 0 where
   pub object : Object
   pub limit : ℕ
 
--- no line sets the limit
-abbrev pub stage_of : Object → ScriptStage
-stage_of object = record { object = object; limit = POLL_LIMIT }
-
--- nothing was begun yet
+-- nothing was begun yet, and no limit was chosen
 abbrev pub first_stage : ScriptStage
-first_stage = stage_of object.Nothing
+first_stage = record { object = object.Nothing; limit = POLL_LIMIT }
 
 -- one poll of the set; registering leaves the standing as it is
 abbrev pub PollsSet : TimedBounded → PollAnswer (Option ℕ) → TimedBounded → Type 0
@@ -77,6 +88,24 @@ SetGives old Poll reply new =
     (answer : PollAnswer (Option ℕ)) × (reply ≡ poll_reply answer) × PollsSet old answer new
 SetGives old Len reply new = (reply ≡ Count (held_count old.slots)) × (new ≡ old)
 SetGives old command reply new = (reply ≡ Bad) × (new ≡ old)
+
+-- one poll of the groups of a growing set, each polled as a bounded set is; the limit stays
+abbrev pub PollsGrowing : TimedGrowing → PollAnswer (Option ℕ) → TimedGrowing → Type 0
+PollsGrowing old answer new =
+    GroupsGive PollsSet old.groups answer new.groups × (new.limit ≡ old.limit)
+
+-- one push into a growing set that can take more
+abbrev pub PushesGrowing : TimedGrowing → Timed → TimedGrowing → Type 0
+PushesGrowing old future new = (IsAtBound old.groups.listed → ⊥)
+    × GrowingPushes Marks IsNewStanding FIRST_GROUP old future new
+
+-- the last line says that no other command stands
+abbrev pub GrowingGives : TimedGrowing → Command → Reply → TimedGrowing → Type 0
+GrowingGives old (Push future) reply new = (reply ≡ Done) × PushesGrowing old future new
+GrowingGives old Poll reply new =
+    (answer : PollAnswer (Option ℕ)) × (reply ≡ poll_reply answer) × PollsGrowing old answer new
+GrowingGives old Len reply new = (reply ≡ Count (all_held old.groups.listed)) × (new ≡ old)
+GrowingGives old command reply new = (reply ≡ Bad) × (new ≡ old)
 
 -- one step that the machine can make
 abbrev pub RepliesToStep : Machine → StepOf → Reply → Machine → Type 0
@@ -107,6 +136,19 @@ BeginsSet old capacity reply new =
     × (new ≡ record old { object = object.Unordered (new_bounded capacity old.limit) }))
     ⊎ RefusesLarge old capacity reply new
 
+-- an object that is an empty growing set, with one group of this capacity, or none where that is 0
+abbrev pub IsNewGrowingObject : ℕ → ℕ → Object → Type 0
+IsNewGrowingObject capacity limit new = (set : TimedGrowing)
+    × IsNewGrowing IsNewStanding capacity limit set
+    × (new ≡ object.Growing set)
+
+-- a line that begins a growing set
+abbrev pub BeginsGrowing : ScriptStage → ℕ → Reply → ScriptStage → Type 0
+BeginsGrowing old capacity reply new =
+    ((reply ≡ Done) × (capacity ≤ MAX_CAPACITY)
+    × IsNewGrowingObject capacity old.limit new.object × (new.limit ≡ old.limit))
+    ⊎ RefusesLarge old capacity reply new
+
 -- an object that is a machine with no step made
 abbrev pub IsNewMachine : ℕ → Object → Type 0
 IsNewMachine capacity new =
@@ -119,18 +161,28 @@ BeginsMachine old capacity reply new =
     × (new.limit ≡ old.limit))
     ⊎ RefusesLarge old capacity reply new
 
+-- a line that sets the limit: what was begun before stays as it is, and 0 is no limit
+abbrev pub SetsLimit : ScriptStage → ℕ → Reply → ScriptStage → Type 0
+SetsLimit old limit reply new =
+    ((reply ≡ Done) × (1 ≤ limit) × (new ≡ record old { limit = limit }))
+    ⊎ ((reply ≡ Bad) × (limit ≡ 0) × (new ≡ old))
+
 -- a command to what was begun last; before anything is begun none stands
 abbrev pub ObjectGives : Object → Command → Reply → Object → Type 0
 ObjectGives object.Nothing command reply new = (reply ≡ Bad) × (new ≡ object.Nothing)
 ObjectGives (object.Unordered old) command reply new =
     (set : TimedBounded) × SetGives old command reply set × (new ≡ object.Unordered set)
+ObjectGives (object.Growing old) command reply new =
+    (set : TimedGrowing) × GrowingGives old command reply set × (new ≡ object.Growing set)
 ObjectGives (object.Steps old) command reply new =
     (machine : Machine) × MachineGives old command reply machine × (new ≡ object.Steps machine)
 
--- a command that begins something stands always
+-- a command that begins something, or sets the limit, stands always
 abbrev pub CommandGives : ScriptStage → Command → Reply → ScriptStage → Type 0
 CommandGives old (Unordered capacity) reply new = BeginsSet old capacity reply new
+CommandGives old (Growing capacity) reply new = BeginsGrowing old capacity reply new
 CommandGives old (Steps capacity) reply new = BeginsMachine old capacity reply new
+CommandGives old (Limit limit) reply new = SetsLimit old limit reply new
 CommandGives old command reply new =
     ObjectGives old.object command reply new.object × (new.limit ≡ old.limit)
 
@@ -141,3 +193,18 @@ LineGives old line reply new =
     × LineAsksFor line asked
     × MatchOption asked ((reply ≡ Bad) × (new ≡ old))
     (λ command. CommandGives old command reply new)
+
+-- a command that may lack memory: it begins something that is not too large, or it pushes into a
+-- growing set that is full, or whose last group is
+abbrev pub MayLackMemory : Object → Command → Type 0
+MayLackMemory old (Unordered capacity) = capacity ≤ MAX_CAPACITY
+MayLackMemory old (Growing capacity) = capacity ≤ MAX_CAPACITY
+MayLackMemory old (Steps capacity) = capacity ≤ MAX_CAPACITY
+MayLackMemory (object.Growing old) (Push future) =
+    (all_held old.groups.listed ≡ MAX_HELD) ⊎ LastIsFull old.groups.listed
+MayLackMemory old command = ⊥
+
+-- a line that asks for such a command
+abbrev pub LineMayLackMemory : ScriptStage → List ℕ → Type 0
+LineMayLackMemory old line =
+    (command : Command) × LineAsksFor line (Some command) × MayLackMemory old.object command

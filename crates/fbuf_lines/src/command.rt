@@ -12,8 +12,12 @@ use memchr::memchr;
 pub enum Command {
     /// `unordered C`: begins a bounded set of this capacity.
     Unordered(usize),
+    /// `growing C`: begins a growing set, whose first group has this capacity.
+    Growing(usize),
     /// `steps C`: begins a machine of single steps of this capacity.
     Steps(usize),
+    /// `limit L`: how many names one poll takes at most, of each set that is begun from now on.
+    Limit(usize),
     /// `push V K`: pushes the future that is pending K times and then V.
     Push(Timed),
     /// `wake I`: marks a slot.
@@ -81,6 +85,23 @@ fn two(rest: Option<&[u8]>) -> Option<(u64, u64)>
     Some((number(first)?, number(second?)?))
 }
 
+// The command that a line with no space writes.
+fn bare(word: &[u8]) -> Option<Command>
+    requires { HasNoSpace word.now }
+    ensures { LineAsksFor word.now result }
+{
+    if word == b"poll".as_slice() {
+        return Some(Command::Poll);
+    }
+    if word == b"len".as_slice() {
+        return Some(Command::Len);
+    }
+    if word == b"step".as_slice() {
+        return Some(Command::Step);
+    }
+    None
+}
+
 /// The command that the line writes, in its one spelling; `None` if there is none. The time is that
 /// of the line's bytes; no memory is taken.
 pub fn parse(line: &[u8]) -> Option<Command>
@@ -90,8 +111,14 @@ pub fn parse(line: &[u8]) -> Option<Command>
     if word == b"unordered".as_slice() {
         return Some(Command::Unordered(one(rest)? as usize));
     }
+    if word == b"growing".as_slice() {
+        return Some(Command::Growing(one(rest)? as usize));
+    }
     if word == b"steps".as_slice() {
         return Some(Command::Steps(one(rest)? as usize));
+    }
+    if word == b"limit".as_slice() {
+        return Some(Command::Limit(one(rest)? as usize));
     }
     if word == b"push".as_slice() {
         let (value, pending) = two(rest)?;
@@ -108,21 +135,11 @@ pub fn parse(line: &[u8]) -> Option<Command>
         });
     }
     if word == b"go".as_slice() {
-        return Some(Command::Go {
-            seat: one(rest)? as usize,
-        });
+        let seat = one(rest)? as usize;
+        return Some(Command::Go { seat });
     }
     if rest.is_some() {
         return None;
     }
-    if word == b"poll".as_slice() {
-        return Some(Command::Poll);
-    }
-    if word == b"len".as_slice() {
-        return Some(Command::Len);
-    }
-    if word == b"step".as_slice() {
-        return Some(Command::Step);
-    }
-    None
+    bare(word)
 }

@@ -1,8 +1,10 @@
 //! What a script has begun, and what each line does to it.
 ghost use Rattle.std.specs.Prelude.{◌≡◌, ◌<◌, ◌≤◌, IfOk, OnErr};
 ghost use Rattle.futures.specs.Task.{Keeps};
-ghost use Rattle.fbuf_lines.specs.Object.{LineGives, ObjectGives, SetGives, MachineGives};
-ghost use Rattle.fbuf_lines.specs.Object.{StepGives, BeginsSet, BeginsMachine};
+ghost use Rattle.fbuf_lines.specs.Object.{LineGives, ObjectGives, SetGives, GrowingGives};
+ghost use Rattle.fbuf_lines.specs.Object.{MachineGives, StepGives};
+ghost use Rattle.fbuf_lines.specs.Object.{BeginsSet, BeginsGrowing, BeginsMachine, SetsLimit};
+ghost use Rattle.fbuf_lines.specs.Object.{MayLackMemory, LineMayLackMemory};
 ghost use Rattle.fbuf_lines.specs.Object.{new_bounded, first_stage};
 
 use crate::command::{Command, parse};
@@ -12,12 +14,16 @@ use futures::task::Context;
 use futures_buffered_core::ready_core::{MAX_CAPACITY, NewFault};
 use futures_buffered_core::ready_source::{CoreSource, NewSource};
 use futures_buffered_core::ready_table::{Step, StepMachine};
+use futures_buffered_growing::futures_unordered::FuturesUnordered;
 use futures_buffered_sets::futures_unordered_bounded::{FuturesUnorderedBounded, POLL_LIMIT};
 use std::alloc::{AllocError, Global};
 use std::marker::Model;
 
 /// A bounded set of the script's futures, over a ready core.
 pub type TimedSet = FuturesUnorderedBounded<Timed, CoreSource>;
+
+/// A growing set of them, each group over a ready core.
+pub type TimedGrowing = FuturesUnordered<Timed, CoreSource>;
 
 /// What was begun last.
 #[derive(Drop)]
@@ -26,31 +32,39 @@ pub enum Object {
     Nothing,
     /// `unordered C` did.
     Unordered(TimedSet),
+    /// `growing C` did.
+    Growing(TimedGrowing),
     /// `steps C` did.
     Steps(StepMachine),
 }
 
-/// How far a script has come: what it began last, and how many names one poll of its sets takes.
+/// How far a script has come: what it began last, and how many names one poll takes at most, of the
+/// sets that it begins from now on.
 #[derive(Drop)]
 pub struct Stage {
     object: Object,
+    limit: usize,
 }
 
 impl Model for Stage {
-    ghost use Rattle.fbuf_lines.specs.Object.{ScriptStage, stage_of};
+    ghost use Rattle.std.specs.Prelude.{◌≤◌};
+    ghost use Rattle.fbuf_lines.specs.Object.{ScriptStage};
 
     ghost Value = { ScriptStage };
 
-    ghost view = { λ stage. stage_of stage.object };
+    ghost view = { λ stage. record { object = stage.object; limit = stage.limit } };
+
+    ghost invariant = { λ stage. 1 ≤ stage.limit };
 }
 
 impl Stage {
-    /// Nothing was begun yet. Takes no memory.
+    /// Nothing was begun yet, and no limit was chosen. Takes no memory.
     pub fn new() -> Stage
         ensures { result ≡ first_stage }
     {
         Stage {
             object: Object::Nothing,
+            limit: POLL_LIMIT,
         }
     }
 
@@ -58,8 +72,9 @@ impl Stage {
     ///
     /// The time is that of the line's bytes and of the one call that it asks for. A line that
     /// begins an object takes time and memory in its capacity, and the drop of the one before it
-    /// takes time in that one's; the other lines take no memory. `Err` says that the memory of a
-    /// new object was refused.
+    /// takes time in that one's. A push that makes a group of a growing set takes time and memory
+    /// in that group's capacity; the other lines take no memory. `Err` says that the memory of a
+    /// new object was refused, or a push into a growing set.
     pub fn answer(
         &mut self,
         alloc: Global,
@@ -68,12 +83,15 @@ impl Stage {
     ) -> Result<Reply, AllocError>
         ensures reply { IfOk result (λ reply. LineGives self.old line.now reply self.new) }
         ensures memory { OnErr result (self.new ≡ self.old) }
+        ensures refused { OnErr result (LineMayLackMemory self.old line.now) }
         ensures kept { Keeps cx.old cx.new }
     {
         match parse(line) {
             Some(Command::Unordered(capacity)) => self.begin_unordered(alloc, capacity),
+            Some(Command::Growing(capacity)) => self.begin_growing(alloc, capacity),
             Some(Command::Steps(capacity)) => self.begin_steps(alloc, capacity),
-            Some(command) => Ok(self.carry_out(command, cx)),
+            Some(Command::Limit(limit)) => Ok(self.set_limit(limit)),
+            Some(command) => self.carry_out(command, cx),
             None => Ok(Reply::Bad),
         }
     }
@@ -82,10 +100,27 @@ impl Stage {
     fn begin_unordered(&mut self, alloc: Global, capacity: usize) -> Result<Reply, AllocError>
         ensures reply { IfOk result (λ reply. BeginsSet self.old capacity reply self.new) }
         ensures memory { OnErr result (self.new ≡ self.old) }
+        ensures refused { OnErr result (capacity ≤ MAX_CAPACITY) }
     {
-        match new_set(alloc, capacity) {
+        match new_set(alloc, capacity, self.limit) {
             Ok(set) => {
                 self.object = Object::Unordered(set);
+                Ok(Reply::Done)
+            }
+            Err(NewFault::TooLarge) => Ok(Reply::TooLarge),
+            Err(NewFault::Memory) => Err(AllocError),
+        }
+    }
+
+    // The same, of a growing set.
+    fn begin_growing(&mut self, alloc: Global, capacity: usize) -> Result<Reply, AllocError>
+        ensures reply { IfOk result (λ reply. BeginsGrowing self.old capacity reply self.new) }
+        ensures memory { OnErr result (self.new ≡ self.old) }
+        ensures refused { OnErr result (capacity ≤ MAX_CAPACITY) }
+    {
+        match FuturesUnordered::over_limit((), alloc, capacity, self.limit) {
+            Ok(set) => {
+                self.object = Object::Growing(set);
                 Ok(Reply::Done)
             }
             Err(NewFault::TooLarge) => Ok(Reply::TooLarge),
@@ -97,6 +132,7 @@ impl Stage {
     fn begin_steps(&mut self, alloc: Global, capacity: usize) -> Result<Reply, AllocError>
         ensures reply { IfOk result (λ reply. BeginsMachine self.old capacity reply self.new) }
         ensures memory { OnErr result (self.new ≡ self.old) }
+        ensures refused { OnErr result (capacity ≤ MAX_CAPACITY) }
     {
         match StepMachine::new(alloc, capacity) {
             Ok(machine) => {
@@ -108,26 +144,43 @@ impl Stage {
         }
     }
 
-    fn carry_out(&mut self, command: Command, cx: &mut Context<'_>) -> Reply
-        ensures reply { ObjectGives self.old.object command result self.new.object }
+    // What was begun before keeps its own limit.
+    fn set_limit(&mut self, limit: usize) -> Reply
+        ensures { SetsLimit self.old limit result self.new }
+    {
+        if limit == 0 {
+            return Reply::Bad;
+        }
+        self.limit = limit;
+        Reply::Done
+    }
+
+    fn carry_out(&mut self, command: Command, cx: &mut Context<'_>) -> Result<Reply, AllocError>
+        ensures reply { IfOk result (λ reply.
+            ObjectGives self.old.object command reply self.new.object) }
+        ensures memory { OnErr result (self.new ≡ self.old) }
+        ensures refused { OnErr result (MayLackMemory self.old.object command) }
         ensures limit { self.new.limit ≡ self.old.limit }
         ensures kept { Keeps cx.old cx.new }
     {
         match &mut self.object {
-            Object::Nothing => Reply::Bad,
-            Object::Unordered(set) => set_reply(set, command, cx),
-            Object::Steps(machine) => machine_reply(machine, command),
+            Object::Nothing => Ok(Reply::Bad),
+            Object::Unordered(set) => Ok(set_reply(set, command, cx)),
+            Object::Growing(set) => growing_reply(set, command, cx),
+            Object::Steps(machine) => Ok(machine_reply(machine, command)),
         }
     }
 }
 
-fn new_set(alloc: Global, capacity: usize) -> Result<TimedSet, NewFault>
+fn new_set(alloc: Global, capacity: usize, limit: usize) -> Result<TimedSet, NewFault>
+    requires { 1 ≤ limit }
     ensures ok { IfOk result (λ set.
-        (set ≡ new_bounded capacity POLL_LIMIT) × (capacity ≤ MAX_CAPACITY)) }
+        (set ≡ new_bounded capacity limit) × (capacity ≤ MAX_CAPACITY)) }
     ensures large { result ≡ Err NewFault.TooLarge → MAX_CAPACITY < capacity }
+    ensures memory { result ≡ Err NewFault.Memory → capacity ≤ MAX_CAPACITY }
 {
     let source = CoreSource::make(&(), alloc, capacity)?;
-    FuturesUnorderedBounded::with_source(alloc, source)
+    FuturesUnorderedBounded::with_source_limit(alloc, source, limit)
 }
 
 // A command to a bounded set.
@@ -144,6 +197,28 @@ fn set_reply(set: &mut TimedSet, command: Command, cx: &mut Context<'_>) -> Repl
         Command::Poll => Reply::of_poll(set.poll_with(&PollTimed, cx)),
         Command::Len => Reply::Count(set.len()),
         _ => Reply::Bad,
+    }
+}
+
+// A command to a growing set. A push that is refused changes nothing.
+fn growing_reply(
+    set: &mut TimedGrowing,
+    command: Command,
+    cx: &mut Context<'_>,
+) -> Result<Reply, AllocError>
+    ensures reply { IfOk result (λ reply. GrowingGives set.old command reply set.new) }
+    ensures memory { OnErr result (set.new ≡ set.old) }
+    ensures refused { OnErr result (MayLackMemory (Object.Growing set.old) command) }
+    ensures kept { Keeps cx.old cx.new }
+{
+    match command {
+        Command::Push(future) => match set.push(future) {
+            Ok(()) => Ok(Reply::Done),
+            Err(_) => Err(AllocError),
+        },
+        Command::Poll => Ok(Reply::of_poll(set.poll_with(&PollTimed, cx))),
+        Command::Len => Ok(Reply::Count(set.len())),
+        _ => Ok(Reply::Bad),
     }
 }
 

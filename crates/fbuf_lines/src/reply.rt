@@ -13,7 +13,7 @@ use std::alloc::AllocError;
 /// The answer to one line.
 #[derive(Clone, Copy, Debug, PartialEq, Eq)]
 pub enum Reply {
-    /// `ok`: begun, or pushed.
+    /// `ok`: begun, pushed, or the limit is set.
     Done,
     /// `full`: no free place; nothing changed.
     Full,

@@ -102,28 +102,122 @@ fn answers_scripts_over_a_bounded_set(rt: HostRuntime) -> Result<(), Fail> {
     Ok(())
 }
 
-// How many names one poll takes at most.
-const NAMES_OF_A_POLL: usize = 61;
-
-// Begins a set of one slot more.
-const ONE_SLOT_MORE: &[u8] = b"unordered 62\n";
+#[test]
+fn answers_scripts_over_a_growing_set(rt: HostRuntime) -> Result<(), Fail> {
+    let rows = [
+        // A push into a full group makes another; a wake never stands.
+        (
+            "growing 1\npush 1 1\npush 2 0\npush 3 0\npoll\npoll\npoll\nlen\nwake 0\n",
+            "ok\nok\nok\nok\nsome 2\nsome 3\npending\n1\nbad\n",
+        ),
+        (
+            "growing 1\npush 5 0\npush 6 0\nlen\npoll\npoll\npoll\nlen\n",
+            "ok\nok\nok\n2\nsome 5\nsome 6\nnone\n0\n",
+        ),
+        // No group at all, until the first push.
+        (
+            "growing 0\npoll\npush 5 0\npoll\n",
+            "ok\nnone\nok\nsome 5\n",
+        ),
+        // A capacity past the greatest leaves what was there.
+        ("growing 18446744073709551615\npoll\n", "large\nbad\n"),
+        (
+            "growing 1\npush 5 0\ngrowing 4611686018427387904\nlen\npoll\n",
+            "ok\nok\nlarge\n1\nsome 5\n",
+        ),
+        // What was begun before is dropped.
+        (
+            "growing 1\npush 1 0\ngrowing 2\nlen\npush 2 0\nunordered 1\npoll\n",
+            "ok\nok\nok\n0\nok\nok\nnone\n",
+        ),
+        // What is no command to a growing set changes nothing.
+        (
+            "growing 1\npush 1 0\nlimit 0\nlimit\nwake 0\nmark 0 0\ngo 0\nstep\nlen\npoll\n",
+            "ok\nok\nbad\nbad\nbad\nbad\nbad\nbad\n1\nsome 1\n",
+        ),
+        // Each group has the limit that stood as the set was begun, also one that is made later.
+        (
+            "limit 1\ngrowing 2\npush 1 1\npush 2 0\npoll\npoll\n",
+            "ok\nok\nok\nok\npending\nsome 2\n",
+        ),
+        (
+            "limit 1\ngrowing 0\nlimit 2\npush 1 1\npush 2 0\npoll\npoll\n",
+            "ok\nok\nok\nok\nok\npending\nsome 2\n",
+        ),
+        (
+            "growing 1\npush 1 1\nlimit 1\npush 2 1\npush 3 0\npoll\n",
+            "ok\nok\nok\nok\nok\nsome 3\n",
+        ),
+    ];
+    for (text, want) in rows {
+        assert_replies(&rt, text.as_bytes(), want.as_bytes())?;
+    }
+    Ok(())
+}
 
 #[test]
-fn polls_no_more_names_than_the_limit(rt: HostRuntime) -> Result<(), Fail> {
-    let mut text = Vec::from_slice(rt.alloc(), ONE_SLOT_MORE)?;
-    let mut want = Vec::from_slice(rt.alloc(), b"ok\n")?;
+fn answers_scripts_over_chosen_limits(rt: HostRuntime) -> Result<(), Fail> {
+    let rows = [
+        (
+            "limit 2\nunordered 3\npush 1 1\npush 2 1\npush 3 0\npoll\npoll\n",
+            "ok\nok\nok\nok\nok\npending\nsome 3\n",
+        ),
+        // Zero is no limit, and no line of a limit touches the set that is there.
+        ("limit 0\nunordered 1\nlimit 1\nlen\n", "bad\nok\nok\n0\n"),
+        (
+            "unordered 2\npush 1 1\npush 2 0\nlimit 1\nlen\npoll\n",
+            "ok\nok\nok\nok\n2\nsome 2\n",
+        ),
+        // The limit stays over what is begun and refused, until another line sets it.
+        (
+            "limit 1\nsteps 1\nlimit 0\nunordered 4611686018427387904\nunordered 2\npush 1 1\n\
+             push 2 0\npoll\npoll\n",
+            "ok\nok\nbad\nlarge\nok\nok\nok\npending\nsome 2\n",
+        ),
+        (
+            "limit 1\nlimit 18446744073709551615\nunordered 2\npush 1 1\npush 2 0\npoll\n",
+            "ok\nok\nok\nok\nok\nsome 2\n",
+        ),
+    ];
+    for (text, want) in rows {
+        assert_replies(&rt, text.as_bytes(), want.as_bytes())?;
+    }
+    Ok(())
+}
+
+// How many names one poll takes at most, where no limit was chosen.
+const NAMES_OF_A_POLL: usize = 61;
+
+// Begins a set, and pushes as many pending futures as a poll takes names, and then a ready one.
+fn assert_one_slot_more<H>(rt: &H, begin: &[u8], begun: &[u8], polled: &[u8]) -> Result<(), Fail>
+where
+    H: Abort + RandomSource + AllocGlobal,
+{
+    let mut text = Vec::from_slice(rt.alloc(), begin)?;
+    let mut want = Vec::from_slice(rt.alloc(), begun)?;
     for _ in 0..NAMES_OF_A_POLL {
         text.extend_from_slice(b"push 0 1\n")?;
         want.extend_from_slice(b"ok\n")?;
     }
     text.extend_from_slice(b"push 99 0\npoll\npoll\n")?;
-    want.extend_from_slice(b"ok\npending\nsome 99\n")?;
-    assert_replies(&rt, &text, &want)
+    want.extend_from_slice(b"ok\n")?;
+    want.extend_from_slice(polled)?;
+    assert_replies(rt, &text, &want)
+}
+
+#[test]
+fn polls_no_more_names_than_the_limit(rt: HostRuntime) -> Result<(), Fail> {
+    assert_one_slot_more(&rt, b"unordered 62\n", b"ok\n", b"pending\nsome 99\n")?;
+    let begin = b"limit 62\nunordered 62\n";
+    assert_one_slot_more(&rt, begin, b"ok\nok\n", b"some 99\npending\n")?;
+    assert_one_slot_more(&rt, b"growing 62\n", b"ok\n", b"pending\nsome 99\n")?;
+    let begin = b"limit 62\ngrowing 62\n";
+    assert_one_slot_more(&rt, begin, b"ok\nok\n", b"some 99\npending\n")
 }
 
 #[test]
 fn answers_bad_to_what_is_no_line(rt: HostRuntime) -> Result<(), Fail> {
-    let lines: [&[u8]; 30] = [
+    let lines: [&[u8]; 37] = [
         b"",
         b" ",
         b"len ",
@@ -152,6 +246,13 @@ fn answers_bad_to_what_is_no_line(rt: HostRuntime) -> Result<(), Fail> {
         b"wake 1",
         b"wake 00",
         b"unordered",
+        b"growing",
+        b"growing 01",
+        b"growing 1 ",
+        b"limit",
+        b"limit 0",
+        b"limit 01",
+        b"limit 18446744073709551616",
         b"\x00",
         b"\xff\xfe",
     ];
@@ -166,8 +267,8 @@ fn answers_bad_to_what_is_no_line(rt: HostRuntime) -> Result<(), Fail> {
 
 #[test]
 fn answers_bad_to_what_is_not_built(rt: HostRuntime) -> Result<(), Fail> {
-    let text = b"ordered 1\ngrowing 1\nback 1 0\nfront 1 0\nunordered 1\nback 1 0\nlen\n";
-    assert_replies(&rt, text, b"bad\nbad\nbad\nbad\nok\nbad\n0\n")
+    let text = b"ordered 1\nback 1 0\nfront 1 0\nunordered 1\nback 1 0\nlen\n";
+    assert_replies(&rt, text, b"bad\nbad\nbad\nok\nbad\n0\n")
 }
 
 #[test]
@@ -286,10 +387,15 @@ fn a_write_that_takes_nothing_fails(rt: HostRuntime) -> Result<(), Fail> {
 
 #[test]
 fn answers_the_lines_before_memory_was_refused(rt: HostRuntime) -> Result<(), Fail> {
-    let text = b"unordered 1\nlen\nunordered 4611686018427387903\nlen\n";
-    let outcome = run_over(&rt, Source::whole(text), Sink::roomy(rt.alloc()))?;
-    assert_eq!(rt; outcome.answer, Err(ScriptFault::Memory));
-    assert_eq!(rt; outcome.failed, (false, false));
-    assert_eq!(rt; outcome.written.as_slice(), b"ok\n0\n".as_slice());
+    let texts: [&[u8]; 2] = [
+        b"unordered 1\nlen\nunordered 4611686018427387903\nlen\n",
+        b"growing 1\nlen\ngrowing 4611686018427387903\nlen\n",
+    ];
+    for text in texts {
+        let outcome = run_over(&rt, Source::whole(text), Sink::roomy(rt.alloc()))?;
+        assert_eq!(rt; outcome.answer, Err(ScriptFault::Memory));
+        assert_eq!(rt; outcome.failed, (false, false));
+        assert_eq!(rt; outcome.written.as_slice(), b"ok\n0\n".as_slice());
+    }
     Ok(())
 }

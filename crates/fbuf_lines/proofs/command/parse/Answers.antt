@@ -11,4 +11,6 @@ returns-then-is_some c = λ command writable e.
     (other_word c.cut.result.0.now _ _ _ c.eq-4.ensures c.if-eq-4.false c.as_slice-4.ensures)
     (other_word c.cut.result.0.now _ _ _ c.eq-5.ensures c.if-eq-5.false c.as_slice-5.ensures)
     (other_word c.cut.result.0.now _ _ _ c.eq-6.ensures c.if-eq-6.false c.as_slice-6.ensures)
+    (other_word c.cut.result.0.now _ _ _ c.eq-7.ensures c.if-eq-7.false c.as_slice-7.ensures)
+    (other_word c.cut.result.0.now _ _ _ c.eq-8.ensures c.if-eq-8.false c.as_slice-8.ensures)
     command e
