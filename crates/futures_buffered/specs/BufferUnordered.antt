@@ -75,9 +75,9 @@ module _
     LosesNothing = (n : ℕ) (old new : Buffer St (Bounded F S))
         (calls : List (List F × Poll (Option A))) → set_len old.queue ≡ 0
         → CallsInTurn (PollsStream yields) set_len n (Pushes marks)
-            (PollGives polled registers takes) old calls new
+        (PollGives polled registers takes) old calls new
         → Accounts IsPermutation (MayGiveInSlot polled) (WaitsInSlot polled)
-            (all_drawn calls) (all_outputs calls) (held_values new.queue.slots)
+        (all_drawn calls) (all_outputs calls) (held_values new.queue.slots)
 
 -- The stream may be polled, unless it has ended; each item that may still come is fit to be drawn; and each future that is held may be polled.
 pub record CanDraw

@@ -45,8 +45,10 @@ impl<St: Stream, F: Drop, Fut: Drop, S: ReadySource> Model for ForEachConcurrent
     ghost use Rattle.std.specs.Prelude.{◌<◌};
     ghost use Rattle.futures_buffered_core.specs.SlotMap.{slot_count};
 
-    ghost view = { λ s. record { buffer = record { stream = s.stream; queue = s.queue };
-        closure = s.closure } };
+    ghost view = { λ s. record {
+      buffer = record { stream = s.stream; queue = s.queue };
+      closure = s.closure;
+    } };
 
     ghost invariant = { λ s. 0 < slot_count s.queue.slots };
 }
@@ -83,14 +85,13 @@ impl<
     F: FnMut(St::Item) -> Fut + Drop,
     Fut: SlotFuture<S::Waker, Output = ()>,
     S: ReadySource,
-> ForEachConcurrent<St, F, Fut, S>
-{
+> ForEachConcurrent<St, F, Fut, S> {
     // Draws at most one item, gives it to the closure, and pushes the future that comes of it. Says whether one was drawn.
     fn draw(&mut self, cx: &mut Context<'_>) -> bool
         requires { CanForEach St.can_poll St.yields F.pre (Calls F.FnMut) Fut.can_poll self.old }
         ensures drew { (asked : Option (Poll (Option St.Item))) × (drew_one asked ≡ result)
             × DrawsOnce (PollsStream St.yields) set_len (set_room self.old.buffer.queue)
-                (Pushes S.marks) (Calls F.FnMut) self.old asked self.new }
+            (Pushes S.marks) (Calls F.FnMut) self.old asked self.new }
         ensures count { result ≡ true → 0 < set_len self.new.buffer.queue }
         ensures capacity { set_room self.new.buffer.queue ≡ set_room self.old.buffer.queue }
         ensures bound { set_len self.new.buffer.queue ≤ set_room self.new.buffer.queue }
@@ -127,8 +128,7 @@ impl<
     F: FnMut(St::Item) -> Fut + Drop,
     Fut: SlotFuture<S::Waker, Output = ()>,
     S: ReadySource,
-> Future for ForEachConcurrent<St, F, Fut, S>
-{
+> Future for ForEachConcurrent<St, F, Fut, S> {
     type Output = ();
 
     ghost can_poll = { CanForEach St.can_poll St.yields F.pre (Calls F.FnMut) Fut.can_poll };
@@ -180,8 +180,7 @@ impl<
     F: FnMut(St::Item) -> Fut + Drop,
     Fut: SlotFuture<S::Waker, Output = ()>,
     S: ReadySource,
-> FusedFuture for ForEachConcurrent<St, F, Fut, S>
-{
+> FusedFuture for ForEachConcurrent<St, F, Fut, S> {
     ghost is_over = { IsDone set_len };
 
     fn is_terminated(&self) -> bool {

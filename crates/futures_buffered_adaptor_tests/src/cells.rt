@@ -1,0 +1,37 @@
+//! Receivers and what sends to them.
+use crate::receiver::{Receiver, Sender, one_shot};
+use std::alloc::{AllocError, Global};
+use std::sync::Wait;
+
+/// The receiver at each place is that of the sender at this place.
+#[derive(Drop)]
+pub struct Cells<T, R> {
+    pub senders: Vec<Sender<T, R>>,
+    pub receivers: Vec<Receiver<T, R>>,
+}
+
+pub fn new_cells<T: Drop, R: Clone + Drop>(
+    rt: &R,
+    alloc: Global,
+    count: usize,
+) -> Result<Cells<T, R>, AllocError> {
+    let mut senders = Vec::new(alloc);
+    let mut receivers = Vec::new(alloc);
+    for _ in 0..count {
+        let (sender, receiver) = one_shot(rt, alloc)?;
+        senders.push(sender)?;
+        receivers.push(receiver)?;
+    }
+    Ok(Cells { senders, receivers })
+}
+
+/// Whether there is such a sender. It sends the value.
+pub fn sent<T: Drop, R: Wait + Drop>(senders: &Vec<Sender<T, R>>, place: usize, value: T) -> bool {
+    match senders.get(place) {
+        Some(sender) => {
+            sender.send(value);
+            true
+        }
+        None => false,
+    }
+}

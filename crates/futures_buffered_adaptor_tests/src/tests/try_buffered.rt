@@ -1,0 +1,58 @@
+// Outputs as the futures finish, and the errors of the stream at once.
+use crate::cells::{Cells, new_cells, sent};
+use crate::list_stream::ListStream;
+use crate::polling::poll_try_buffer;
+use crate::receiver::Receiver;
+use futures::task::Poll;
+use futures::test::MockTask;
+use futures_buffered::{BufferedTryStreamExt, FusedStream, SizeHint};
+use std::alloc::{AllocError, Global};
+use std::test::Fail;
+
+type Output = Result<usize, usize>;
+
+// A stream of two futures, with an error between them. The second of these futures comes first.
+fn with_an_error<R: Drop>(
+    alloc: Global,
+    receivers: Vec<Receiver<Output, R>>,
+) -> Result<ListStream<Result<Receiver<Output, R>, usize>>, AllocError> {
+    let mut items = Vec::new(alloc);
+    for receiver in receivers {
+        if items.len() == 1 {
+            items.push(Err(0))?;
+        }
+        items.push(Ok(receiver))?;
+    }
+    Ok(ListStream::new(items))
+}
+
+#[test]
+fn an_error_of_the_stream_comes_at_once(rt: HostRuntime) -> Result<(), Fail> {
+    let task = MockTask::new(&rt)?;
+    let Cells { senders, receivers } = new_cells(&rt, rt.alloc(), 2)?;
+    let stream = with_an_error(rt.alloc(), receivers)?;
+    let mut buffer = stream.try_buffered_unordered(rt.alloc(), 10)?;
+    assert_eq!(rt; buffer.size_hint(), (3, Some(3)));
+    assert!(rt; sent(&senders, 1, Ok(5)));
+    assert_eq!(rt;
+        poll_try_buffer(&task, &mut buffer),
+        Poll::Ready(Some(Err(0)))
+    );
+    assert_eq!(rt; buffer.size_hint(), (2, Some(2)));
+    assert_eq!(rt;
+        poll_try_buffer(&task, &mut buffer),
+        Poll::Ready(Some(Ok(5)))
+    );
+    assert!(rt; poll_try_buffer(&task, &mut buffer).is_pending());
+    assert_eq!(rt; buffer.size_hint(), (1, Some(1)));
+    assert!(rt; sent(&senders, 0, Err(1)));
+    assert!(rt; task.is_woken());
+    assert!(rt; !buffer.is_terminated());
+    assert_eq!(rt;
+        poll_try_buffer(&task, &mut buffer),
+        Poll::Ready(Some(Err(1)))
+    );
+    assert_eq!(rt; poll_try_buffer(&task, &mut buffer), Poll::Ready(None));
+    assert!(rt; buffer.is_terminated());
+    Ok(())
+}
