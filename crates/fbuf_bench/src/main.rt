@@ -12,8 +12,8 @@ use ready_list::{Already, Fresh, Listed};
 use sets::{Refilled, Woken};
 use sources::{Beside, four_wakers};
 use std::alloc::AllocGlobal;
-use std::random::RandomSource;
 use std::io::Write;
+use std::random::RandomSource;
 use std::thread::Threads;
 use std::time::Clock;
 use std::{env, io};
@@ -55,7 +55,13 @@ where
 {
     for slots in SIZES {
         let made = Listed::new(rt.alloc(), slots).map(Fresh);
-        timed(rt, output, "list: a Fresh wake and its taking, slots", slots, made)?;
+        timed(
+            rt,
+            output,
+            "list: a Fresh wake and its taking, slots",
+            slots,
+            made,
+        )?;
     }
     let made = Listed::new(rt.alloc(), 16).map(Already);
     timed(rt, output, "list: an Already wake, slots", 16, made)
@@ -67,14 +73,38 @@ where
     O: io::Write,
 {
     let ready = Refilled::new(rt.alloc(), 256, 0);
-    timed(rt, output, "set: a ready future, replaced, held", 256, ready)?;
+    timed(
+        rt,
+        output,
+        "set: a ready future, replaced, held",
+        256,
+        ready,
+    )?;
     let yields = Refilled::new(rt.alloc(), 256, 1);
-    timed(rt, output, "set: a future that wakes itself once, replaced, held", 256, yields)?;
+    timed(
+        rt,
+        output,
+        "set: a future that wakes itself once, replaced, held",
+        256,
+        yields,
+    )?;
     let random = Woken::new(rt.alloc(), 256, true);
-    timed(rt, output, "set: a random wake, its output, replaced, held", 256, random)?;
+    timed(
+        rt,
+        output,
+        "set: a random wake, its output, replaced, held",
+        256,
+        random,
+    )?;
     for slots in SIZES {
         let waits = Woken::new(rt.alloc(), slots, false);
-        timed(rt, output, "set: a wake and a pending poll, held", slots, waits)?;
+        timed(
+            rt,
+            output,
+            "set: a wake and a pending poll, held",
+            slots,
+            waits,
+        )?;
     }
     Ok(())
 }
@@ -86,11 +116,22 @@ where
 {
     for count in [1usize, 2, 11] {
         let sources = Beside::new(rt.alloc(), count);
-        timed(rt, output, "sources: a wake of the last of those beside", count, sources)?;
+        timed(
+            rt,
+            output,
+            "sources: a wake of the last of those beside",
+            count,
+            sources,
+        )?;
     }
     for slots in [16usize, 256, 4_096] {
         if let Some(tenths) = four_wakers(rt, rt.alloc(), slots)? {
-            line(output, "source: a taking beside four wakers, slots", slots, tenths)?;
+            line(
+                output,
+                "source: a taking beside four wakers, slots",
+                slots,
+                tenths,
+            )?;
         }
     }
     Ok(())

@@ -1,5 +1,6 @@
 //! Workloads of the list alone.
 ghost use Rattle.std.specs.Prelude.{◌≡◌, ◌<◌};
+
 use crate::clock::Workload;
 use futures::task::Context;
 use futures_buffered_core::ready_core::NewFault;
@@ -22,11 +23,7 @@ impl Listed {
         self.list.wake(&mut self.seat, self.slot);
         self.list.take(&mut self.poll);
         let next = self.slot.wrapping_add(1);
-        self.slot = if next < self.list.capacity() {
-            next
-        } else {
-            0
-        };
+        self.slot = if next < self.list.capacity() { next } else { 0 };
     }
 
     fn wake_only(&mut self) {

@@ -121,7 +121,12 @@ fn empty_board(alloc: Global, slots: usize) -> Result<Arc<Board>, AllocError> {
     Ok(Arc::new(alloc, Board { places })?)
 }
 
-fn full_set(alloc: Global, slots: usize, board: &Arc<Board>, ends: bool) -> Result<Set<Kept>, NewFault> {
+fn full_set(
+    alloc: Global,
+    slots: usize,
+    board: &Arc<Board>,
+    ends: bool,
+) -> Result<Set<Kept>, NewFault> {
     let mut set = FuturesUnorderedBounded::new(alloc, slots)?;
     for place in 0..slots {
         let future = Kept {

@@ -133,13 +133,7 @@ impl<R: Wait + Drop> SlotFuture<SlotWake> for AllWakes<R> {
 type Set<R> = FuturesUnorderedBounded<AllWakes<R>, SharedReady>;
 
 // One thread's wakes.
-fn wake_slot<G: Gate>(
-    gate: &G,
-    thread: usize,
-    m: usize,
-    seat: &Seat,
-    waker: &SlotWake,
-)
+fn wake_slot<G: Gate>(gate: &G, thread: usize, m: usize, seat: &Seat, waker: &SlotWake)
     requires { (wake : ℕ) → wake < m → G.opens gate.now thread wake }
 {
     for wake in 0..m {

@@ -105,9 +105,6 @@ fn a_source_that_is_too_large(rt: HostRuntime) {
         MAX_CAPACITY + 1,
     );
     assert!(rt; matches!(made, Err(NewFault::TooLarge)));
-    let made: Result<SharedReady<CountingWaker>, _> = SharedReady::new(
-        rt.alloc(),
-        MAX_CAPACITY,
-    );
+    let made: Result<SharedReady<CountingWaker>, _> = SharedReady::new(rt.alloc(), MAX_CAPACITY);
     assert!(rt; matches!(made, Err(NewFault::Memory)));
 }

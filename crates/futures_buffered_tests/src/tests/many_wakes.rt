@@ -16,7 +16,9 @@ use std::test::Fail;
 use std::thread::{self, Threads};
 
 const SLOTS: usize = 256;
+
 const THREADS: u64 = 8;
+
 const ROUNDS: u64 = 4_883;
 
 #[derive(Drop)]
