@@ -2,12 +2,14 @@
 #![tactic(auto)]
 
 mod clock;
+mod growing;
 mod ready_list;
 mod sets;
 mod sources;
 
 use clock::{Workload, least};
 use futures_buffered_core::ready_core::NewFault;
+use growing::LastWoken;
 use ready_list::{Already, Fresh, Listed};
 use sets::{Refilled, Woken};
 use sources::{Beside, four_wakers};
@@ -109,6 +111,19 @@ where
     Ok(())
 }
 
+fn growing_lines<R, O>(rt: &R, output: &mut O) -> io::Result<()>
+where
+    R: Clock + RandomSource + AllocGlobal,
+    O: io::Write,
+{
+    for (groups, first, held) in [(1_usize, 16, 16), (11, 33, 65_536)] {
+        let waits = LastWoken::new(rt.alloc(), first, held);
+        let name = "growing set: a wake in the last group and a pending poll, groups";
+        timed(rt, output, name, groups, waits)?;
+    }
+    Ok(())
+}
+
 fn source_lines<R, O>(rt: &R, output: &mut O) -> io::Result<()>
 where
     R: Clock + RandomSource + AllocGlobal + Threads + Sync,
@@ -145,5 +160,6 @@ fn main(rt: HostRuntime) -> io::Result<()> {
     }
     list_lines(&rt, &mut output)?;
     set_lines(&rt, &mut output)?;
+    growing_lines(&rt, &mut output)?;
     source_lines(&rt, &mut output)
 }

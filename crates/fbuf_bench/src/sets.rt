@@ -61,9 +61,9 @@ impl Workload for Refilled {
     }
 }
 
-// Where each future of a set leaves its waker.
+/// Where each future of a set leaves its waker.
 #[derive(Drop)]
-struct Board {
+pub struct Board {
     places: Vec<Mutex<Option<SlotWake>>>,
 }
 
@@ -76,6 +76,17 @@ impl Board {
             *kept = waker.try_clone().ok();
         }
     }
+
+    /// Takes the wakers that were left.
+    pub fn take_all(&self, wakers: &mut Vec<SlotWake>) {
+        for place in &self.places {
+            if let Some(mut kept) = place.try_lock() {
+                if let Some(waker) = kept.take() {
+                    let _ = wakers.push(waker);
+                }
+            }
+        }
+    }
 }
 
 /// Keeps its waker at its first poll. It is ready at its second, or never.
@@ -85,6 +96,18 @@ pub struct Kept {
     place: usize,
     was_polled: bool,
     ends: bool,
+}
+
+impl Kept {
+    /// It leaves its waker at this place of the board, if that has one.
+    pub fn new(board: &Arc<Board>, place: usize, ends: bool) -> Result<Kept, AllocError> {
+        Ok(Kept {
+            board: Arc::try_clone(board)?,
+            place,
+            was_polled: false,
+            ends,
+        })
+    }
 }
 
 impl SlotFuture<SlotWake> for Kept {
@@ -113,7 +136,8 @@ pub struct Woken {
     random: u64,
 }
 
-fn empty_board(alloc: Global, slots: usize) -> Result<Arc<Board>, AllocError> {
+/// A board of so many places.
+pub fn empty_board(alloc: Global, slots: usize) -> Result<Arc<Board>, AllocError> {
     let mut places = Vec::with_capacity(alloc, slots)?;
     for _ in 0..slots {
         places.push(Mutex::new(None))?;
@@ -129,13 +153,7 @@ fn full_set(
 ) -> Result<Set<Kept>, NewFault> {
     let mut set = FuturesUnorderedBounded::new(alloc, slots)?;
     for place in 0..slots {
-        let future = Kept {
-            board: Arc::try_clone(board)?,
-            place,
-            was_polled: false,
-            ends,
-        };
-        let _ = set.try_push(future);
+        let _ = set.try_push(Kept::new(board, place, ends)?);
     }
     Ok(set)
 }
@@ -158,13 +176,7 @@ impl Woken {
         for _ in 0..self.set.capacity() {
             let _ = self.set.poll_with(&PollFuture, cx);
         }
-        for place in &self.board.places {
-            if let Some(mut kept) = place.try_lock() {
-                if let Some(waker) = kept.take() {
-                    let _ = self.wakers.push(waker);
-                }
-            }
-        }
+        self.board.take_all(&mut self.wakers);
     }
 
     // A random one where futures end, else the next in turn.
@@ -186,16 +198,9 @@ impl Woken {
             waker.wake();
         }
         if let Poll::Ready(Some(place)) = self.set.poll_with(&PollFuture, cx) {
-            let Ok(board) = Arc::try_clone(&self.board) else {
-                return;
-            };
-            let future = Kept {
-                board,
-                place,
-                was_polled: false,
-                ends: self.ends,
-            };
-            let _ = self.set.try_push(future);
+            if let Ok(future) = Kept::new(&self.board, place, self.ends) {
+                let _ = self.set.try_push(future);
+            }
         }
     }
 }

@@ -115,21 +115,32 @@ fn start<R: Threads>(
     Ok(started)
 }
 
+// The bells of a full set, each of whose futures was polled once.
+fn begin(alloc: Global, task: &MockTask, set: &mut Set) -> Result<Vec<Bell>, AllocError> {
+    let seats = seated(alloc, set)?;
+    for _ in 0..5 {
+        let _ = poll_set(task, set);
+    }
+    bells(alloc, seats)
+}
+
+fn join_all<R: Threads>(rt: &R, started: Vec<thread::JoinHandle<()>>) {
+    for thread in started {
+        thread.join(rt);
+    }
+}
+
 // Each future is polled once more after its last wake, so that all of them end.
 #[test]
 fn no_wake_of_ten_million_is_lost(rt: HostRuntime) -> Result<(), Fail> {
     let task = MockTask::new(&rt)?;
     let mut set: Set = FuturesUnorderedBounded::new(rt.alloc(), SLOTS)?;
-    let seats = seated(rt.alloc(), &mut set)?;
-    for _ in 0..5 {
-        assert!(rt; poll_set(&task, &mut set).is_pending());
-    }
-    let bells = Arc::new(rt.alloc(), bells(rt.alloc(), seats)?)?;
+    let bells = begin(rt.alloc(), &task, &mut set)?;
     assert_eq!(rt; bells.len(), SLOTS);
+    let bells = Arc::new(rt.alloc(), bells)?;
     let started = start(&rt, rt.alloc(), &bells)?;
-    assert_eq!(rt; block_on(&rt, set.count())?, SLOTS);
-    for thread in started {
-        thread.join(&rt);
-    }
+    let outputs = block_on(&rt, set.count())?;
+    join_all(&rt, started);
+    assert_eq!(rt; outputs, SLOTS);
     Ok(())
 }
