@@ -1,0 +1,4 @@
+pub mod PlacesLemmas
+pub mod FuturesOrderedBoundedLemmas
+pub mod PushLemmas
+pub mod YieldsLemmas
