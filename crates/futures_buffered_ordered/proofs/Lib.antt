@@ -2,3 +2,4 @@ pub mod PlacesLemmas
 pub mod FuturesOrderedBoundedLemmas
 pub mod PushLemmas
 pub mod YieldsLemmas
+pub mod NamesLemmas

@@ -1,5 +1,5 @@
 -- What a contract sees of a bounded ordered queue, and what its calls make of it.
-use Rattle.std.specs.Prelude.{◌≡◌, ℕ, ◌+◌, ◌<◌, ◌≤◌, Bool, true, false, List, [], ◌∷◌, ◌++◌, map, length, Option, Some, None, IsSome, slice_set}
+use Rattle.std.specs.Prelude.{◌≡◌, ℕ, ◌+◌, ◌*◌, ◌<◌, ◌≤◌, Bool, true, false, List, [], ◌∷◌, ◌++◌, map, length, Option, Some, None, IsSome, slice_set}
 use Rattle.std.specs.List.{FoldsTo, slice_get, range_with_len}
 use Rattle.std.specs.Iterator.{YieldsThen}
 use Rattle.futures.specs.declared.task.Poll.{Poll}
@@ -99,6 +99,29 @@ module _ {F A S : Type 0} (polled : ℕ → F → Poll A → F → Type 0) (regi
     pub row : FoldsTo SetYields old yielded before
     pub count : length yielded + held_count before.set.slots ≡ held_count old.set.slots
     pub last_step : LastStep before answer new
+
+  -- how many names a poll of the set took that gave an output: those that were passed, and that of the output
+  abbrev pub names_of_yield : (old : OrderedBounded F A S) (out : ℕ × A) (new : OrderedBounded F A S) → SetYields old out new → ℕ
+  names_of_yield old (i, x) new yields = length yields.1.1.0 + 1
+
+  -- how many names such polls took, one after another
+  abbrev pub names_of_row : (old : OrderedBounded F A S) (row : List (ℕ × A)) (new : OrderedBounded F A S) → FoldsTo (SetYields) old row new → ℕ
+  names_of_row old [] new yields = 0
+  names_of_row old (out ∷ row) new yields = names_of_yield old out yields.0 yields.1 + names_of_row yields.0 row new yields.2
+
+  -- how many names the last step took: those that were passed, where the set was polled
+  abbrev pub names_of_last : (old : OrderedBounded F A S) (answer : Poll (Option A)) (new : OrderedBounded F A S) → LastStep old answer new → ℕ
+  names_of_last old (Ready _) new step = 0
+  names_of_last old Pending new step = length step.2.0
+
+  -- how many names a poll of the queue took
+  abbrev pub names_of_poll : (old : OrderedBounded F A S) (answer : Poll (Option A)) (new : OrderedBounded F A S) → OrderedGives old answer new → ℕ
+  names_of_poll old answer new gives = names_of_row old gives.yielded gives.before gives.row + names_of_last gives.before answer new gives.last_step
+
+-- each poll takes at most as many names as the limit is, for each future that is in progress as it begins
+abbrev pub TakesFewNames : {F A S : Type 0} → (ℕ → F → Poll A → F → Type 0) → (S → S → Type 0) → (S → Taken → S → Type 0) → Type 0
+TakesFewNames {F} {A} {S} polled registers takes = (old : OrderedBounded F A S) (answer : Poll (Option A)) (new : OrderedBounded F A S) → (gives : OrderedGives polled registers takes old answer new)
+    → names_of_poll polled registers takes old answer new gives ≤ old.set.limit * held_count old.set.slots
 
 -- an output of each, in order, and then the end
 abbrev pub InTurn : {E A : Type 0} → (E → A → Type 0) → List E → Runs A

@@ -13,7 +13,7 @@ ghost use Rattle.futures_buffered_core.specs.ReadyShared.{IsNewShared, MarksShar
 ghost use Rattle.futures_buffered_core.specs.SlotMap.{value_in, held_count, slot_count};
 ghost use Rattle.futures_buffered_bounded.specs.Held.{AllHeld, AllHeldBut, EndsWith};
 ghost use Rattle.futures_buffered_bounded.specs.FuturesUnorderedBounded.{AsksUntil, SaidEmpty, IsWoken};
-ghost use Rattle.futures_buffered_ordered.specs.FuturesOrderedBounded.{IsFull, EachHasOne, IsNewQueue, HoldsInOrder, AddsBack, AddsFront, AddsEachBack, StopsAt, Finishes, OrderedGives, starts_running};
+ghost use Rattle.futures_buffered_ordered.specs.FuturesOrderedBounded.{IsFull, EachHasOne, IsNewQueue, HoldsInOrder, AddsBack, AddsFront, AddsEachBack, StopsAt, Finishes, OrderedGives, TakesFewNames, starts_running};
 ghost use Rattle.futures_buffered_ordered.specs.FuturesOrderedBoundedInvariant.{AreTurned};
 ghost use Rattle.futures_buffered_ordered.specs.declared.futures_ordered_bounded.Entry.TheVariants.{Running, Kept};
 
@@ -370,6 +370,13 @@ where
         Poll::Ready(self.pop_kept())
     }
 }
+
+/// Each poll of a queue takes at most `limit` names for each future that is in progress as it begins.
+///
+/// This is of the words that the contract of a poll says. Nothing is done.
+pub fn polls_take_few_names<T, S: ReadySource, R: PollOne<T, S::Waker>>()
+    ensures { TakesFewNames R.polled S.registers S.takes }
+{}
 
 // The entries of the first `count` slots, in order.
 #[tactic(auto, using(crate::proofs::PushLemmas::running_push))]
