@@ -4,6 +4,7 @@ use Rattle.std.specs.List.{slice_get, range_with_len}
 use Rattle.std.proofs.lemmas.List.{length-map, map_push, get_or_past, get_or-set_same, get_or-set_other, length_push, get_or-replicate}
 use Rattle.std.proofs.lemmas.List.Sums.{sum_by-set, sum_by-append, count_by-le-length}
 use Rattle.std.proofs.lemmas.List.Folds.{sum_by-replicate}
+use Rattle.std.proofs.lemmas.Fn.{FoldsTo-push}
 use Rattle.std.proofs.lemmas.Bool.{cases_eq, cases_lt}
 use Rattle.std.proofs.lemmas.List.FromFn.{length-range_with_len, length-map-range_with_len, get_or-range_with_len}
 use Rattle.std.proofs.lemmas.Option.{slice_get_within}
@@ -12,7 +13,7 @@ use Rattle.futures_buffered_core.proofs.RangeLemmas.{range_push}
 use Rattle.futures_buffered_core.specs.SlotMap.{Slots, value_in, held_count, slot_count, no_slots, all_slots, Inserts}
 use Rattle.futures_buffered_table.specs.declared.answer.Woke.{Woke}
 use Rattle.futures_buffered_bounded.specs.FuturesUnorderedBounded.{Bounded, PushesAt}
-use Rattle.futures_buffered_ordered.specs.FuturesOrderedBounded.{is_running, starts_running}
+use Rattle.futures_buffered_ordered.specs.FuturesOrderedBounded.{OrderedBounded, AddsBack, AddsEachBack, is_running, starts_running}
 use Rattle.futures_buffered_ordered.specs.FuturesOrderedBoundedInvariant.{KeepsOrder, place_of}
 use Rattle.futures_buffered_ordered.specs.declared.futures_ordered_bounded.Entry.{Entry}
 use Rattle.futures_buffered_ordered.specs.declared.futures_ordered_bounded.Entry.TheVariants.{Running, Kept}
@@ -244,3 +245,7 @@ pub KeepsOrder-filled : {F A S : Type 0} (b : Bounded F S) (items : List F) (n r
     → indices ≡ range_with_len 0 n → list ≡ map Running (range_with_len 0 n) → n ≤ room → KeepsOrder b indices list 0 room
 KeepsOrder-filled b items n room indices list is same small each listed fits =
     rw (each, listed) (KeepsOrder-all b items n room is (same ∙ rw is (length-map items Some)) (omega (arith, same, small)) fits)
+
+-- one item more was added at the back
+pub adds_one_more : {F A S : Type 0} (marks : S → ℕ → Woke → S → Type 0) (old mid new : OrderedBounded F A S) (items : List F) (item : F) → AddsEachBack marks old items mid → AddsBack marks mid item new → AddsEachBack marks old (items ++ item ∷ []) new
+adds_one_more marks old mid new items item before added = FoldsTo-push (AddsBack marks) old items mid item new before added

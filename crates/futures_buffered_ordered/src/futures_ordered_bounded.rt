@@ -244,6 +244,7 @@ where
         }
     }
 
+    #[tactic(auto, using(crate::proofs::PushLemmas::adds_one_more))]
     /// Adds each item at the back, in order, as `try_push_back` does. The first that is refused comes back; those before it stay, and the iterator is asked for no further one.
     pub fn extend<I: IntoIterator<Item = T>>(&mut self, iter: I) -> Result<(), T>
     where

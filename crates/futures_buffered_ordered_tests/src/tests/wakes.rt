@@ -31,14 +31,12 @@ fn values_come_in_the_order_of_the_receivers(rt: HostRuntime) -> Result<(), Fail
     let task = MockTask::new(&rt)?;
     let mut queue = FuturesOrderedBounded::new(rt.alloc(), 3)?;
     let senders = with_receivers(&rt, &mut queue)?;
-    let mut value = 3;
-    for sender in senders.iter().rev() {
+    for (value, sender) in senders.iter().rev().enumerate() {
         assert!(rt; poll_queue(&task, &mut queue) == Poll::Pending);
-        sender.send(value);
+        sender.send(value as u64);
         assert!(rt; task.is_woken());
-        value -= 1;
     }
-    for value in 1..4 {
+    for value in [2, 1, 0] {
         assert!(rt; poll_queue(&task, &mut queue) == Poll::Ready(Some(Ok(value))));
     }
     assert!(rt; poll_queue(&task, &mut queue) == Poll::Ready(None));
