@@ -1,5 +1,5 @@
 #!/usr/bin/env python3
-"""Compares fbuf with a slow model, over random scripts of lines for bounded and growing sets.
+"""Compares fbuf with a slow model, over random scripts of lines for bounded sets, ordered queues and growing sets.
 
     python3 scripts/compare_with_model.py PROGRAM [SCRIPTS] [SEED]
 
@@ -59,6 +59,39 @@ class Bounded:
             self.free.insert(0, slot)
             return f"some {value[0]}"
         return "pending"
+
+
+class Ordered:
+    """Entries from front to back, each a slot or an output, over a bounded set."""
+
+    def __init__(self, capacity, limit):
+        self.set = Bounded(capacity, limit)
+        self.slots = self.set.slots
+        self.entries = []
+
+    def held(self):
+        return len(self.entries)
+
+    def mark(self, slot):
+        return self.set.mark(slot)
+
+    def add(self, at_front, output, pending):
+        slot = self.set.free[0] if self.set.free else None
+        if self.set.push(output, pending) == "full":
+            return "full"
+        self.entries.insert(0 if at_front else len(self.entries), ("runs", slot))
+        return "ok"
+
+    def poll(self):
+        """The set is polled until the front's output is there, and each output stays in its entry."""
+        while self.entries and self.entries[0][0] == "runs":
+            held = [value is not None for value in self.slots]
+            answer = self.set.poll()
+            if answer == "pending":
+                return answer
+            slot = next(i for i, was in enumerate(held) if was and self.slots[i] is None)
+            self.entries[self.entries.index(("runs", slot))] = ("kept", answer)
+        return self.entries.pop(0)[1] if self.entries else "none"
 
 
 class Growing:
@@ -135,6 +168,8 @@ class Model:
         match word, len(numbers):
             case "unordered", 1:
                 return self.begin(Bounded, numbers[0])
+            case "ordered", 1:
+                return self.begin(Ordered, numbers[0])
             case "growing", 1:
                 return self.begin(Growing, numbers[0])
             case "limit", 1 if numbers[0] > 0:
@@ -143,9 +178,11 @@ class Model:
         if self.held is None:
             return "bad"
         match word, len(numbers):
-            case "push", 2:
+            case "push", 2 if not isinstance(self.held, Ordered):
                 return self.held.push(*numbers)
-            case "wake", 1 if isinstance(self.held, Bounded) and numbers[0] < len(self.held.slots):
+            case ("back" | "front"), 2 if isinstance(self.held, Ordered):
+                return self.held.add(word == "front", *numbers)
+            case "wake", 1 if not isinstance(self.held, Growing) and numbers[0] < len(self.held.slots):
                 return self.held.mark(numbers[0])
             case "poll", 0:
                 return self.held.poll()
@@ -154,20 +191,21 @@ class Model:
         return "bad"
 
 
-def random_line(draw):
+def random_line(draw, adds):
     small = draw.choice([0, 1, 2, 3, 5, 8])
     return draw.choices(
         [
             f"unordered {small}",
+            f"ordered {small}",
             f"growing {small}",
             f"limit {draw.choice([0, 1, 2, 3, 61])}",
-            f"push {draw.randrange(100)} {draw.choice([0, 0, 0, 1, 2])}",
+            f"{draw.choice(adds)} {draw.randrange(100)} {draw.choice([0, 0, 0, 1, 2])}",
             f"wake {draw.randrange(9)}",
             "poll",
             "len",
-            draw.choice(["", "poll 1", "push 1", "wake", "limit", "growing", "growing 18446744073709551615", "push 01 0", "Len"]),
+            draw.choice(["", "poll 1", "push 1", "wake", "limit", "growing", "growing 18446744073709551615", "ordered 4611686018427387904", "push 01 0", "front 1", "Len"]),
         ],
-        weights=[1, 2, 1, 14, 6, 20, 3, 1],
+        weights=[0.5, 0.5, 0.5, 1, 14, 6, 20, 3, 1],
     )[0]
 
 
@@ -176,9 +214,10 @@ def main():
     scripts = int(sys.argv[2]) if len(sys.argv) > 2 else 10_000
     draw = random.Random(int(sys.argv[3]) if len(sys.argv) > 3 else 1)
     for number in range(scripts):
-        begins = draw.choice(["growing", "growing", "unordered"])
+        begins = draw.choice(["growing", "ordered", "ordered", "unordered"])
+        adds = ["back", "back", "front", "push"] if begins == "ordered" else ["push", "push", "push", "back"]
         lines = [f"limit {draw.choice([1, 2, 61])}", f"{begins} {draw.randrange(6)}"]
-        lines += [random_line(draw) for _ in range(draw.randrange(10, 120))]
+        lines += [random_line(draw, adds) for _ in range(draw.randrange(10, 120))]
         model = Model()
         expected = [model.answer(line) for line in lines]
         text = "".join(line + "\n" for line in lines)

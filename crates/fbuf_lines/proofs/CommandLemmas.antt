@@ -20,8 +20,8 @@ use Rattle.std.proofs.lemmas.Bool.{or_left, or_from, or_parts, ne_eqb, eq-eqb}
 use Rattle.std.proofs.lemmas.Bool.Decides.{eqb_tells}
 use Rattle.std.proofs.lemmas.Slice.Eq.{bytes_eq-Decides}
 use Rattle.fbuf_lines.specs.declared.command.Command.{Command}
-use Rattle.fbuf_lines.specs.declared.command.Command.TheVariants.{Unordered, Growing, Steps, Limit}
-use Rattle.fbuf_lines.specs.declared.command.Command.TheVariants.{Push, Wake, Poll, Len, Mark, Go, Step}
+use Rattle.fbuf_lines.specs.declared.command.Command.TheVariants.{Unordered, Ordered, Growing, Steps, Limit}
+use Rattle.fbuf_lines.specs.declared.command.Command.TheVariants.{Push, Back, Front, Wake, Poll, Len, Mark, Go, Step}
 use Rattle.fbuf_lines.specs.Command.{HasNoSpace, StartsAsNumber, word_of, numbers_of, text_of}
 use Rattle.fbuf_lines.specs.Command.{spaced_number, rest_text}
 use Rattle.fbuf_lines.proofs.LinesLemmas.{IsAbsentBefore, IsAbsentBefore-rest}
@@ -115,10 +115,13 @@ two_parts text first rest word is whole m n fits e = cut_one_way first (decimal 
 
 word_no_space : (command : Command) → HasNoSpace (word_of command)
 word_no_space (Unordered capacity) = refl
+word_no_space (Ordered capacity) = refl
 word_no_space (Growing capacity) = refl
 word_no_space (Steps capacity) = refl
 word_no_space (Limit limit) = refl
 word_no_space (Push future) = refl
+word_no_space (Back future) = refl
+word_no_space (Front future) = refl
 word_no_space (Wake slot) = refl
 word_no_space Poll = refl
 word_no_space Len = refl
@@ -128,10 +131,13 @@ word_no_space Step = refl
 
 numbers_rest : (command : Command) → IsRest (flat_map spaced_number (numbers_of command))
 numbers_rest (Unordered capacity) = refl
+numbers_rest (Ordered capacity) = refl
 numbers_rest (Growing capacity) = refl
 numbers_rest (Steps capacity) = refl
 numbers_rest (Limit limit) = refl
 numbers_rest (Push future) = refl
+numbers_rest (Back future) = refl
+numbers_rest (Front future) = refl
 numbers_rest (Wake slot) = refl
 numbers_rest Poll = tt
 numbers_rest Len = tt
@@ -149,11 +155,12 @@ command_parts line word rest none is whole command e =
 -- a text behind the word, where the word is none of those that numbers follow
 pub no_bare_word : (line word : List ℕ) (rest : Option (Bor (List ℕ))) → HasNoSpace word
     → line ≡ word ++ rest_text rest → is_some rest ≡ true
-    → word ≢ codes "unordered" → word ≢ codes "growing" → word ≢ codes "steps"
-    → word ≢ codes "limit" → word ≢ codes "push" → word ≢ codes "wake"
+    → word ≢ codes "unordered" → word ≢ codes "ordered" → word ≢ codes "growing"
+    → word ≢ codes "steps" → word ≢ codes "limit" → word ≢ codes "push"
+    → word ≢ codes "back" → word ≢ codes "front" → word ≢ codes "wake"
     → word ≢ codes "mark" → word ≢ codes "go"
     → (command : Command) → line ≢ text_of command
-no_bare_word line word rest none whole some not_unordered not_growing not_steps not_limit not_push not_wake not_mark not_go command e =
+no_bare_word line word rest none whole some not_unordered not_ordered not_growing not_steps not_limit not_push not_back not_front not_wake not_mark not_go command e =
     by_command command (command_parts line word (rest_text rest) none (rest_is rest) whole command e)
   where
     more : (rest : Option (Bor (List ℕ))) → is_some rest ≡ true → rest_text rest ≡ [] → ⊥
@@ -164,10 +171,13 @@ no_bare_word line word rest none whole some not_unordered not_growing not_steps 
         → (word ≡ word_of command) × (rest_text rest ≡ flat_map spaced_number (numbers_of command))
         → ⊥
     by_command (Unordered capacity) parts = not_unordered parts.0
+    by_command (Ordered capacity) parts = not_ordered parts.0
     by_command (Growing capacity) parts = not_growing parts.0
     by_command (Steps capacity) parts = not_steps parts.0
     by_command (Limit limit) parts = not_limit parts.0
     by_command (Push future) parts = not_push parts.0
+    by_command (Back future) parts = not_back parts.0
+    by_command (Front future) parts = not_front parts.0
     by_command (Wake slot) parts = not_wake parts.0
     by_command Poll parts = more rest some parts.1
     by_command Len parts = more rest some parts.1

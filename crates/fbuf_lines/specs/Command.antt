@@ -5,16 +5,19 @@ use Rattle.std.specs.Borrow.{Bor}
 use Rattle.std.specs.List.{AllByRecursion, flat_map, list_any}
 use Rattle.std.specs.Fmt.{decimal}
 use Rattle.fbuf_lines.specs.declared.command.Command.{Command}
-use Rattle.fbuf_lines.specs.declared.command.Command.TheVariants.{Unordered, Growing, Steps, Limit}
-use Rattle.fbuf_lines.specs.declared.command.Command.TheVariants.{Push, Wake, Poll, Len, Mark, Go, Step}
+use Rattle.fbuf_lines.specs.declared.command.Command.TheVariants.{Unordered, Ordered, Growing, Steps, Limit}
+use Rattle.fbuf_lines.specs.declared.command.Command.TheVariants.{Push, Back, Front, Wake, Poll, Len, Mark, Go, Step}
 
 -- the word that a command begins with
 abbrev pub word_of : Command → List ℕ
 word_of (Unordered capacity) = codes "unordered"
+word_of (Ordered capacity) = codes "ordered"
 word_of (Growing capacity) = codes "growing"
 word_of (Steps capacity) = codes "steps"
 word_of (Limit limit) = codes "limit"
 word_of (Push future) = codes "push"
+word_of (Back future) = codes "back"
+word_of (Front future) = codes "front"
 word_of (Wake slot) = codes "wake"
 word_of Poll = codes "poll"
 word_of Len = codes "len"
@@ -25,10 +28,13 @@ word_of Step = codes "step"
 -- its numbers, in the order in which they are written
 abbrev pub numbers_of : Command → List ℕ
 numbers_of (Unordered capacity) = capacity ∷ []
+numbers_of (Ordered capacity) = capacity ∷ []
 numbers_of (Growing capacity) = capacity ∷ []
 numbers_of (Steps capacity) = capacity ∷ []
 numbers_of (Limit limit) = limit ∷ []
 numbers_of (Push future) = future.value ∷ future.pending ∷ []
+numbers_of (Back future) = future.value ∷ future.pending ∷ []
+numbers_of (Front future) = future.value ∷ future.pending ∷ []
 numbers_of (Wake slot) = slot ∷ []
 numbers_of Poll = []
 numbers_of Len = []

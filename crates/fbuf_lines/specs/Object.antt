@@ -1,5 +1,5 @@
 -- What a line of a script is answered, and what it leaves of the object that was begun last.
-use Rattle.std.specs.Prelude.{◌≡◌, ℕ, ◌<◌, ◌≤◌, List, [], Option, Some, MatchOption, ◌⊎◌}
+use Rattle.std.specs.Prelude.{◌≡◌, ℕ, ◌<◌, ◌≤◌, List, [], length, Option, Some, MatchOption, ◌⊎◌}
 use Rattle.futures.specs.declared.task.Poll.{Poll as PollAnswer}
 use Rattle.futures_buffered_table.specs.declared.answer.Woke.{Woke}
 use Rattle.futures_buffered_table.specs.declared.answer.TheConstants.{MAX_CAPACITY}
@@ -14,6 +14,9 @@ use Rattle.futures_buffered_bounded.specs.declared.futures_unordered_bounded.The
   POLL_LIMIT,
 }
 use Rattle.futures_buffered_bounded.specs.Groups.{GroupsGive}
+use Rattle.futures_buffered_ordered.specs.FuturesOrderedBounded.{OrderedBounded, IsNewQueue}
+use Rattle.futures_buffered_ordered.specs.FuturesOrderedBounded.{IsFull, AddsBack, AddsFront}
+use Rattle.futures_buffered_ordered.specs.FuturesOrderedBounded.{OrderedGives}
 use Rattle.futures_buffered_growing.specs.FuturesUnordered.{Growing as GrowingOf, GrowingPushes}
 use Rattle.futures_buffered_growing.specs.FuturesUnordered.{IsNewGrowing, LastIsFull}
 use Rattle.futures_buffered_growing.specs.FuturesUnordered.{IsAtBound, all_held}
@@ -24,8 +27,8 @@ use Rattle.fbuf_lines.specs.Command.{LineAsksFor}
 use Rattle.fbuf_lines.specs.Reply.{woke_reply, poll_reply, step_reply}
 use Rattle.fbuf_lines.specs.declared.timed.Timed.{Timed}
 use Rattle.fbuf_lines.specs.declared.command.Command.{Command}
-use Rattle.fbuf_lines.specs.declared.command.Command.TheVariants.{Unordered, Growing, Steps, Limit}
-use Rattle.fbuf_lines.specs.declared.command.Command.TheVariants.{Push, Wake, Poll, Len, Mark, Go, Step}
+use Rattle.fbuf_lines.specs.declared.command.Command.TheVariants.{Unordered, Ordered, Growing, Steps, Limit}
+use Rattle.fbuf_lines.specs.declared.command.Command.TheVariants.{Push, Back, Front, Wake, Poll, Len, Mark, Go, Step}
 use Rattle.fbuf_lines.specs.declared.reply.Reply.{Reply}
 use Rattle.fbuf_lines.specs.declared.reply.Reply.TheVariants.{Done, Full, TooLarge, Count}
 use Rattle.fbuf_lines.specs.declared.reply.Reply.TheVariants.{Stuck, Bad}
@@ -48,6 +51,10 @@ new_bounded capacity limit =
 -- the growing set of a script: its groups are such sets
 abbrev pub TimedGrowing : Type 0
 TimedGrowing = GrowingOf Timed Standing
+
+-- the ordered queue of a script: its set is such a set, and an output is a number
+abbrev pub TimedOrdered : Type 0
+TimedOrdered = OrderedBounded Timed ℕ Standing
 
 -- a ready core that was just made
 abbrev pub IsNewStanding : ℕ → Standing → Type 0
@@ -88,6 +95,41 @@ SetGives old Poll reply new =
     (answer : PollAnswer (Option ℕ)) × (reply ≡ poll_reply answer) × PollsSet old answer new
 SetGives old Len reply new = (reply ≡ Count (held_count old.slots)) × (new ≡ old)
 SetGives old command reply new = (reply ≡ Bad) × (new ≡ old)
+
+-- a push into an ordered queue: the future is added, as `adds` says, or no slot is free
+abbrev pub QueuePushGives : (TimedOrdered → Timed → TimedOrdered → Type 0)
+    → TimedOrdered → Timed → Reply → TimedOrdered → Type 0
+QueuePushGives adds old future reply new =
+    ((reply ≡ Done) × (IsFull old → ⊥) × adds old future new)
+    ⊎ ((reply ≡ Full) × IsFull old × (new ≡ old))
+
+abbrev pub BackGives : TimedOrdered → Timed → Reply → TimedOrdered → Type 0
+BackGives = QueuePushGives (AddsBack Marks)
+
+abbrev pub FrontGives : TimedOrdered → Timed → Reply → TimedOrdered → Type 0
+FrontGives = QueuePushGives (AddsFront Marks)
+
+-- one poll of the queue; registering leaves the standing as it is
+abbrev pub PollsQueue : TimedOrdered → PollAnswer (Option ℕ) → TimedOrdered → Type 0
+PollsQueue old answer new =
+    OrderedGives (λ _. PollsTimed) (λ before after. after ≡ before) Takes old answer new
+
+-- one mark of a slot of the queue's set
+abbrev pub MarksQueue : TimedOrdered → ℕ → Woke → TimedOrdered → Type 0
+MarksQueue old slot woke new =
+    MarksSlot old.set slot woke new.set × (new.entries ≡ old.entries)
+
+-- the last line says that no other command stands
+abbrev pub QueueGives : TimedOrdered → Command → Reply → TimedOrdered → Type 0
+QueueGives old (Back future) reply new = BackGives old future reply new
+QueueGives old (Front future) reply new = FrontGives old future reply new
+QueueGives old (Wake slot) reply new =
+    ((woke : Woke) × (reply ≡ woke_reply woke) × MarksQueue old slot woke new)
+    ⊎ ((reply ≡ Bad) × (slot_count old.set.slots ≤ slot) × (new ≡ old))
+QueueGives old Poll reply new =
+    (answer : PollAnswer (Option ℕ)) × (reply ≡ poll_reply answer) × PollsQueue old answer new
+QueueGives old Len reply new = (reply ≡ Count (length old.entries)) × (new ≡ old)
+QueueGives old command reply new = (reply ≡ Bad) × (new ≡ old)
 
 -- one poll of the groups of a growing set, each polled as a bounded set is; the limit stays
 abbrev pub PollsGrowing : TimedGrowing → PollAnswer (Option ℕ) → TimedGrowing → Type 0
@@ -136,6 +178,19 @@ BeginsSet old capacity reply new =
     × (new ≡ record old { object = object.Unordered (new_bounded capacity old.limit) }))
     ⊎ RefusesLarge old capacity reply new
 
+-- an object that is an empty ordered queue
+abbrev pub IsNewQueueObject : ℕ → ℕ → Object → Type 0
+IsNewQueueObject capacity limit new = (queue : TimedOrdered)
+    × IsNewQueue IsNewStanding capacity limit queue
+    × (new ≡ object.Ordered queue)
+
+-- a line that begins an ordered queue
+abbrev pub BeginsQueue : ScriptStage → ℕ → Reply → ScriptStage → Type 0
+BeginsQueue old capacity reply new =
+    ((reply ≡ Done) × (capacity ≤ MAX_CAPACITY)
+    × IsNewQueueObject capacity old.limit new.object × (new.limit ≡ old.limit))
+    ⊎ RefusesLarge old capacity reply new
+
 -- an object that is an empty growing set, with one group of this capacity, or none where that is 0
 abbrev pub IsNewGrowingObject : ℕ → ℕ → Object → Type 0
 IsNewGrowingObject capacity limit new = (set : TimedGrowing)
@@ -172,6 +227,8 @@ abbrev pub ObjectGives : Object → Command → Reply → Object → Type 0
 ObjectGives object.Nothing command reply new = (reply ≡ Bad) × (new ≡ object.Nothing)
 ObjectGives (object.Unordered old) command reply new =
     (set : TimedBounded) × SetGives old command reply set × (new ≡ object.Unordered set)
+ObjectGives (object.Ordered old) command reply new =
+    (queue : TimedOrdered) × QueueGives old command reply queue × (new ≡ object.Ordered queue)
 ObjectGives (object.Growing old) command reply new =
     (set : TimedGrowing) × GrowingGives old command reply set × (new ≡ object.Growing set)
 ObjectGives (object.Steps old) command reply new =
@@ -180,6 +237,7 @@ ObjectGives (object.Steps old) command reply new =
 -- a command that begins something, or sets the limit, stands always
 abbrev pub CommandGives : ScriptStage → Command → Reply → ScriptStage → Type 0
 CommandGives old (Unordered capacity) reply new = BeginsSet old capacity reply new
+CommandGives old (Ordered capacity) reply new = BeginsQueue old capacity reply new
 CommandGives old (Growing capacity) reply new = BeginsGrowing old capacity reply new
 CommandGives old (Steps capacity) reply new = BeginsMachine old capacity reply new
 CommandGives old (Limit limit) reply new = SetsLimit old limit reply new
@@ -194,14 +252,22 @@ LineGives old line reply new =
     × MatchOption asked ((reply ≡ Bad) × (new ≡ old))
     (λ command. CommandGives old command reply new)
 
+-- an ordered queue may lack memory at a push where a slot is free, and there are as many entries as
+-- slots or more
+abbrev pub QueueMayLack : TimedOrdered → Type 0
+QueueMayLack old = (IsFull old → ⊥) × (slot_count old.set.slots ≤ length old.entries)
+
 -- a command that may lack memory: it begins something that is not too large, or it pushes into a
--- growing set that is full, or whose last group is
+-- growing set that is full, or whose last group is, or into such a queue
 abbrev pub MayLackMemory : Object → Command → Type 0
 MayLackMemory old (Unordered capacity) = capacity ≤ MAX_CAPACITY
+MayLackMemory old (Ordered capacity) = capacity ≤ MAX_CAPACITY
 MayLackMemory old (Growing capacity) = capacity ≤ MAX_CAPACITY
 MayLackMemory old (Steps capacity) = capacity ≤ MAX_CAPACITY
 MayLackMemory (object.Growing old) (Push future) =
     (all_held old.groups.listed ≡ MAX_HELD) ⊎ LastIsFull old.groups.listed
+MayLackMemory (object.Ordered old) (Back future) = QueueMayLack old
+MayLackMemory (object.Ordered old) (Front future) = QueueMayLack old
 MayLackMemory old command = ⊥
 
 -- a line that asks for such a command

@@ -12,6 +12,8 @@ use memchr::memchr;
 pub enum Command {
     /// `unordered C`: begins a bounded set of this capacity.
     Unordered(usize),
+    /// `ordered C`: begins an ordered queue of this capacity.
+    Ordered(usize),
     /// `growing C`: begins a growing set, whose first group has this capacity.
     Growing(usize),
     /// `steps C`: begins a machine of single steps of this capacity.
@@ -20,6 +22,10 @@ pub enum Command {
     Limit(usize),
     /// `push V K`: pushes the future that is pending K times and then V.
     Push(Timed),
+    /// `back V K`: adds such a future behind all others.
+    Back(Timed),
+    /// `front V K`: adds such a future before all others.
+    Front(Timed),
     /// `wake I`: marks a slot.
     Wake(usize),
     /// `poll`: one poll.
@@ -111,6 +117,9 @@ pub fn parse(line: &[u8]) -> Option<Command>
     if word == b"unordered".as_slice() {
         return Some(Command::Unordered(one(rest)? as usize));
     }
+    if word == b"ordered".as_slice() {
+        return Some(Command::Ordered(one(rest)? as usize));
+    }
     if word == b"growing".as_slice() {
         return Some(Command::Growing(one(rest)? as usize));
     }
@@ -123,6 +132,14 @@ pub fn parse(line: &[u8]) -> Option<Command>
     if word == b"push".as_slice() {
         let (value, pending) = two(rest)?;
         return Some(Command::Push(Timed { value, pending }));
+    }
+    if word == b"back".as_slice() {
+        let (value, pending) = two(rest)?;
+        return Some(Command::Back(Timed { value, pending }));
+    }
+    if word == b"front".as_slice() {
+        let (value, pending) = two(rest)?;
+        return Some(Command::Front(Timed { value, pending }));
     }
     if word == b"wake".as_slice() {
         return Some(Command::Wake(one(rest)? as usize));

@@ -2,6 +2,7 @@
 ghost use Rattle.std.specs.Prelude.{◌≡◌, ◌<◌, ◌≤◌, IfOk, OnErr};
 ghost use Rattle.futures.specs.Task.{Keeps};
 ghost use Rattle.fbuf_lines.specs.Object.{LineGives, ObjectGives, SetGives, GrowingGives};
+ghost use Rattle.fbuf_lines.specs.Object.{QueueGives, BackGives, FrontGives, BeginsQueue};
 ghost use Rattle.fbuf_lines.specs.Object.{MachineGives, StepGives};
 ghost use Rattle.fbuf_lines.specs.Object.{BeginsSet, BeginsGrowing, BeginsMachine, SetsLimit};
 ghost use Rattle.fbuf_lines.specs.Object.{MayLackMemory, LineMayLackMemory};
@@ -15,6 +16,7 @@ use futures_buffered_core::ready_core::{MAX_CAPACITY, NewFault};
 use futures_buffered_core::ready_source::{CoreSource, NewSource};
 use futures_buffered_core::ready_table::{Step, StepMachine};
 use futures_buffered_growing::futures_unordered::FuturesUnordered;
+use futures_buffered_sets::futures_ordered_bounded::FuturesOrderedBounded;
 use futures_buffered_sets::futures_unordered_bounded::{FuturesUnorderedBounded, POLL_LIMIT};
 use std::alloc::{AllocError, Global};
 use std::marker::Model;
@@ -25,6 +27,9 @@ pub type TimedSet = FuturesUnorderedBounded<Timed, CoreSource>;
 /// A growing set of them, each group over a ready core.
 pub type TimedGrowing = FuturesUnordered<Timed, CoreSource>;
 
+/// An ordered queue of them, over a ready core.
+pub type TimedQueue = FuturesOrderedBounded<Timed, CoreSource>;
+
 /// What was begun last.
 #[derive(Drop)]
 pub enum Object {
@@ -32,6 +37,8 @@ pub enum Object {
     Nothing,
     /// `unordered C` did.
     Unordered(TimedSet),
+    /// `ordered C` did.
+    Ordered(TimedQueue),
     /// `growing C` did.
     Growing(TimedGrowing),
     /// `steps C` did.
@@ -73,8 +80,9 @@ impl Stage {
     /// The time is that of the line's bytes and of the one call that it asks for. A line that
     /// begins an object takes time and memory in its capacity, and the drop of the one before it
     /// takes time in that one's. A push that makes a group of a growing set takes time and memory
-    /// in that group's capacity; the other lines take no memory. `Err` says that the memory of a
-    /// new object was refused, or a push into a growing set.
+    /// in that group's capacity, and one that makes an ordered queue longer than ever before takes
+    /// memory in its length; the other lines take no memory. `Err` says that the memory of a new
+    /// object was refused, or a push into a growing set or into a queue that is not full.
     pub fn answer(
         &mut self,
         alloc: Global,
@@ -88,6 +96,7 @@ impl Stage {
     {
         match parse(line) {
             Some(Command::Unordered(capacity)) => self.begin_unordered(alloc, capacity),
+            Some(Command::Ordered(capacity)) => self.begin_ordered(alloc, capacity),
             Some(Command::Growing(capacity)) => self.begin_growing(alloc, capacity),
             Some(Command::Steps(capacity)) => self.begin_steps(alloc, capacity),
             Some(Command::Limit(limit)) => Ok(self.set_limit(limit)),
@@ -105,6 +114,22 @@ impl Stage {
         match new_set(alloc, capacity, self.limit) {
             Ok(set) => {
                 self.object = Object::Unordered(set);
+                Ok(Reply::Done)
+            }
+            Err(NewFault::TooLarge) => Ok(Reply::TooLarge),
+            Err(NewFault::Memory) => Err(AllocError),
+        }
+    }
+
+    // The same, of an ordered queue.
+    fn begin_ordered(&mut self, alloc: Global, capacity: usize) -> Result<Reply, AllocError>
+        ensures reply { IfOk result (λ reply. BeginsQueue self.old capacity reply self.new) }
+        ensures memory { OnErr result (self.new ≡ self.old) }
+        ensures refused { OnErr result (capacity ≤ MAX_CAPACITY) }
+    {
+        match FuturesOrderedBounded::over_limit(&(), alloc, capacity, self.limit) {
+            Ok(queue) => {
+                self.object = Object::Ordered(queue);
                 Ok(Reply::Done)
             }
             Err(NewFault::TooLarge) => Ok(Reply::TooLarge),
@@ -166,6 +191,7 @@ impl Stage {
         match &mut self.object {
             Object::Nothing => Ok(Reply::Bad),
             Object::Unordered(set) => Ok(set_reply(set, command, cx)),
+            Object::Ordered(queue) => queue_reply(queue, command, cx),
             Object::Growing(set) => growing_reply(set, command, cx),
             Object::Steps(machine) => Ok(machine_reply(machine, command)),
         }
@@ -197,6 +223,61 @@ fn set_reply(set: &mut TimedSet, command: Command, cx: &mut Context<'_>) -> Repl
         Command::Poll => Reply::of_poll(set.poll_with(&PollTimed, cx)),
         Command::Len => Reply::Count(set.len()),
         _ => Reply::Bad,
+    }
+}
+
+// A future to the back of an ordered queue. One that is refused changes nothing.
+fn back_reply(queue: &mut TimedQueue, future: Timed) -> Result<Reply, AllocError>
+    ensures reply { IfOk result (λ reply. BackGives queue.old future reply queue.new) }
+    ensures memory { OnErr result (queue.new ≡ queue.old) }
+    ensures refused { OnErr result
+        (MayLackMemory (Object.Ordered queue.old) (Command.Back future)) }
+{
+    if queue.is_full() {
+        return Ok(Reply::Full);
+    }
+    match queue.try_push_back(future) {
+        Ok(()) => Ok(Reply::Done),
+        Err(_) => Err(AllocError),
+    }
+}
+
+// The same, to its front.
+fn front_reply(queue: &mut TimedQueue, future: Timed) -> Result<Reply, AllocError>
+    ensures reply { IfOk result (λ reply. FrontGives queue.old future reply queue.new) }
+    ensures memory { OnErr result (queue.new ≡ queue.old) }
+    ensures refused { OnErr result
+        (MayLackMemory (Object.Ordered queue.old) (Command.Front future)) }
+{
+    if queue.is_full() {
+        return Ok(Reply::Full);
+    }
+    match queue.try_push_front(future) {
+        Ok(()) => Ok(Reply::Done),
+        Err(_) => Err(AllocError),
+    }
+}
+
+// A command to an ordered queue.
+fn queue_reply(
+    queue: &mut TimedQueue,
+    command: Command,
+    cx: &mut Context<'_>,
+) -> Result<Reply, AllocError>
+    ensures reply { IfOk result (λ reply. QueueGives queue.old command reply queue.new) }
+    ensures memory { OnErr result (queue.new ≡ queue.old) }
+    ensures refused { OnErr result (MayLackMemory (Object.Ordered queue.old) command) }
+    ensures kept { Keeps cx.old cx.new }
+{
+    match command {
+        Command::Back(future) => back_reply(queue, future),
+        Command::Front(future) => front_reply(queue, future),
+        Command::Wake(slot) if slot < queue.capacity() => {
+            Ok(Reply::of_woke(queue.mark_slot(slot)))
+        }
+        Command::Poll => Ok(Reply::of_poll(queue.poll_with(&PollTimed, cx))),
+        Command::Len => Ok(Reply::Count(queue.len())),
+        _ => Ok(Reply::Bad),
     }
 }
 

@@ -4,6 +4,7 @@ ghost use Rattle.fbuf_lines.specs.Timed.{PollsTimed};
 use futures::task::Poll;
 use futures_buffered_core::ready_source::WakesSlot;
 use futures_buffered_sets::poll_one::PollOne;
+use futures_buffered_sets::slot_future::SlotFuture;
 
 /// Pending `pending` times, and then `value`. It keeps no waker and never wakes.
 #[derive(Clone, Copy, Debug, PartialEq, Eq)]
@@ -32,5 +33,16 @@ impl<W: WakesSlot> PollOne<Timed, W> for PollTimed {
         }
         held.pending -= 1;
         Poll::Pending
+    }
+}
+
+/// The same poll.
+impl<W: WakesSlot> SlotFuture<W> for Timed {
+    type Output = u64;
+
+    ghost polled = { λ _. PollsTimed };
+
+    fn poll(&mut self, waker: &W) -> Poll<u64> {
+        PollTimed.poll_one(self, waker)
     }
 }

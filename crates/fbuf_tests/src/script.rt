@@ -156,6 +156,78 @@ fn answers_scripts_over_a_growing_set(rt: HostRuntime) -> Result<(), Fail> {
 }
 
 #[test]
+fn answers_scripts_over_an_ordered_queue(rt: HostRuntime) -> Result<(), Fail> {
+    let rows = [
+        // An output that comes early waits for the front.
+        (
+            "ordered 3\nback 1 1\nback 2 0\npoll\nwake 0\npoll\npoll\npoll\n",
+            "ok\nok\nok\npending\nfresh\nsome 1\nsome 2\nnone\n",
+        ),
+        // The first entry added at the front comes after those added there later; a full queue hands back.
+        (
+            "ordered 2\nfront 1 0\nfront 2 0\nback 3 0\npoll\npoll\npoll\n",
+            "ok\nok\nok\nfull\nsome 2\nsome 1\nnone\n",
+        ),
+        // A kept output leaves its slot to another future.
+        (
+            "ordered 2\nback 1 1\nback 2 0\npoll\nback 3 0\nlen\nback 4 0\nwake 0\npoll\npoll\npoll\npoll\n",
+            "ok\nok\nok\npending\nok\n3\nfull\nfresh\nsome 1\nsome 2\nsome 3\nnone\n",
+        ),
+        // No slot at all.
+        ("ordered 0\nback 1 0\nlen\npoll\n", "ok\nfull\n0\nnone\n"),
+        // Additions at both ends.
+        (
+            "ordered 4\nback 1 0\nfront 0 1\nback 2 0\nfront 9 0\npoll\npoll\nwake 1\npoll\npoll\npoll\npoll\n",
+            "ok\nok\nok\nok\nok\nsome 9\npending\nfresh\nsome 0\nsome 1\nsome 2\nnone\n",
+        ),
+        // Before its first poll the front moves past the number zero.
+        (
+            "ordered 3\nback 3 0\nfront 2 0\nfront 1 1\npoll\nwake 2\npoll\npoll\npoll\npoll\n",
+            "ok\nok\nok\nok\npending\nfresh\nsome 1\nsome 2\nsome 3\nnone\n",
+        ),
+    ];
+    for (text, want) in rows {
+        assert_replies(&rt, text.as_bytes(), want.as_bytes())?;
+    }
+    Ok(())
+}
+
+#[test]
+fn answers_lines_that_an_ordered_queue_refuses(rt: HostRuntime) -> Result<(), Fail> {
+    let rows = [
+        // A capacity past the greatest leaves what was there.
+        (
+            "ordered 1\nback 5 0\nordered 4611686018427387904\nlen\npoll\n",
+            "ok\nok\nlarge\n1\nsome 5\n",
+        ),
+        // What was begun before is dropped.
+        (
+            "ordered 1\nback 1 0\nordered 2\nlen\ngrowing 1\npoll\n",
+            "ok\nok\nok\n0\nok\nnone\n",
+        ),
+        // What is no command to a queue changes nothing; a mark needs a slot that is there.
+        (
+            "ordered 1\nback 1 0\npush 2 0\nback 01 0\nfront 1\nwake 1\nwake 0\nmark 0 0\ngo 0\nstep\nlen\npoll\n",
+            "ok\nok\nbad\nbad\nbad\nbad\nalready\nbad\nbad\nbad\n1\nsome 1\n",
+        ),
+        // A queue's lines stand over no other object.
+        (
+            "back 1 0\nunordered 1\nback 1 0\nfront 1 0\nlen\n",
+            "bad\nok\nbad\nbad\n0\n",
+        ),
+        // The limit of each poll of its set is the one that stood as it was begun.
+        (
+            "limit 1\nordered 3\nback 1 1\nback 2 0\npoll\npoll\nwake 0\npoll\npoll\npoll\n",
+            "ok\nok\nok\nok\npending\npending\nfresh\nsome 1\nsome 2\nnone\n",
+        ),
+    ];
+    for (text, want) in rows {
+        assert_replies(&rt, text.as_bytes(), want.as_bytes())?;
+    }
+    Ok(())
+}
+
+#[test]
 fn answers_scripts_over_chosen_limits(rt: HostRuntime) -> Result<(), Fail> {
     let rows = [
         (
@@ -263,12 +335,6 @@ fn answers_bad_to_what_is_no_line(rt: HostRuntime) -> Result<(), Fail> {
         assert_replies(&rt, &text, b"ok\nok\nbad\n1\nsome 3\n")?;
     }
     Ok(())
-}
-
-#[test]
-fn answers_bad_to_what_is_not_built(rt: HostRuntime) -> Result<(), Fail> {
-    let text = b"ordered 1\nback 1 0\nfront 1 0\nunordered 1\nback 1 0\nlen\n";
-    assert_replies(&rt, text, b"bad\nbad\nbad\nok\nbad\n0\n")
 }
 
 #[test]

@@ -9,6 +9,7 @@
 //! - `fused`: the traits `FusedStream`, `FusedFuture` and `SizeHint`, by which a type says whether it has ended and how much is left.
 //! - `futures_unordered_bounded`: `FuturesUnorderedBounded`, as many futures as it has slots, yielded as they finish.
 //! - `futures_unordered`: `FuturesUnordered`, any number of futures, in groups of slots.
+//! - `futures_ordered_bounded`: `FuturesOrderedBounded`, as many futures in progress as it has slots, yielded in the order of a list.
 #![tactic(auto)]
 
 pub use futures_buffered_bounded::fused::{FusedFuture, FusedStream, SizeHint};
@@ -18,3 +19,5 @@ pub use futures_buffered_bounded::slot_future::{SlotFuture, SlotWaker, WakesSlot
 pub use futures_buffered_bounded::{fused, futures_unordered_bounded, poll_one, slot_future};
 pub use futures_buffered_growing::futures_unordered;
 pub use futures_buffered_growing::futures_unordered::FuturesUnordered;
+pub use futures_buffered_ordered::futures_ordered_bounded;
+pub use futures_buffered_ordered::futures_ordered_bounded::FuturesOrderedBounded;

@@ -13,4 +13,7 @@ returns-then-is_some c = λ command writable e.
     (other_word c.cut.result.0.now _ _ _ c.eq-6.ensures c.if-eq-6.false c.as_slice-6.ensures)
     (other_word c.cut.result.0.now _ _ _ c.eq-7.ensures c.if-eq-7.false c.as_slice-7.ensures)
     (other_word c.cut.result.0.now _ _ _ c.eq-8.ensures c.if-eq-8.false c.as_slice-8.ensures)
+    (other_word c.cut.result.0.now _ _ _ c.eq-9.ensures c.if-eq-9.false c.as_slice-9.ensures)
+    (other_word c.cut.result.0.now _ _ _ c.eq-10.ensures c.if-eq-10.false c.as_slice-10.ensures)
+    (other_word c.cut.result.0.now _ _ _ c.eq-11.ensures c.if-eq-11.false c.as_slice-11.ensures)
     command e

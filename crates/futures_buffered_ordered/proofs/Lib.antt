@@ -1,0 +1,5 @@
+pub mod PlacesLemmas
+pub mod FuturesOrderedBoundedLemmas
+pub mod PushLemmas
+pub mod YieldsLemmas
+pub mod NamesLemmas

@@ -1,0 +1,2 @@
+pub mod FuturesOrderedBounded
+pub mod FuturesOrderedBoundedInvariant
