@@ -5,6 +5,7 @@ ghost use Rattle.futures.specs.Runs.{Calls};
 ghost use Rattle.futures.specs.Poll.{IfReady, OnPending};
 ghost use Rattle.futures.specs.declared.task.Poll.{Poll};
 ghost use Rattle.futures_buffered_core.specs.Answer.{RefusesTooLarge};
+ghost use Rattle.futures_buffered_core.specs.ReadyShared.{IsNewShared};
 ghost use Rattle.futures_buffered_bounded.specs.FuturesUnorderedBounded.{Pushes, PollGives, IsWoken};
 ghost use Rattle.futures_buffered.specs.Buffered.{PollsStream};
 ghost use Rattle.futures_buffered.specs.BufferUnordered.{WaitsAt, set_len, set_room};
@@ -15,14 +16,10 @@ use futures::{Future, Stream};
 use futures_buffered_bounded::futures_unordered_bounded::{FuturesUnorderedBounded, POLL_LIMIT};
 use futures_buffered_bounded::{FusedFuture, SlotFuture};
 use futures_buffered_core::ready_core::NewFault;
+use futures_buffered_core::ready_shared::SharedReady;
 use futures_buffered_core::ready_source::{NewSource, ReadySource};
 use std::alloc::Global;
 use std::marker::Model;
-
-/// How many turns one poll takes, at most.
-pub const TURN_LIMIT: usize = 61;
-
-const _: () = prove!(TURN_LIMIT == 61);
 
 /// Gives each item of a stream to a closure, once and in order, and runs the futures that it makes, at most as many at a time as its set has slots.
 ///
@@ -42,7 +39,7 @@ impl<St: Stream, F: Drop, Fut: Drop, S: ReadySource> Model for ForEachConcurrent
 
     ghost coded = { for_each_code St.code F.code (bounded_code Fut.code S.code) };
 
-    ghost use Rattle.std.specs.Prelude.{◌<◌};
+    ghost use Rattle.std.specs.Prelude.{◌<◌, ◌≤◌};
     ghost use Rattle.futures_buffered_core.specs.SlotMap.{slot_count};
 
     ghost view = { λ s. record {
@@ -50,33 +47,69 @@ impl<St: Stream, F: Drop, Fut: Drop, S: ReadySource> Model for ForEachConcurrent
       closure = s.closure;
     } };
 
-    ghost invariant = { λ s. 0 < slot_count s.queue.slots };
+    ghost invariant = { λ s. (0 < slot_count s.queue.slots) × (1 ≤ s.queue.limit) };
 }
 
 impl<St: Stream, F: Drop, Fut: Drop, S: ReadySource> ForEachConcurrent<St, F, Fut, S> {
-    /// Over this stream and closure, with at most `limit` futures at a time and a source made for them. Nothing is polled.
+    /// Over this stream and closure, with at most `n` futures at a time and a source made for them. Nothing is polled.
     ///
-    /// Takes time and memory in proportion to `limit`. Stream and closure are dropped where they are refused: `TooLarge` where `limit` is above `MAX_CAPACITY`, and `Memory` where a request for memory was refused.
+    /// Takes time and memory in proportion to `n`. Stream and closure are dropped where they are refused: `TooLarge` where `n` is above `MAX_CAPACITY`, and `Memory` where a request for memory was refused.
     pub fn over(
         env: &S::Env,
         alloc: Global,
         stream: St,
+        n: usize,
+        closure: F,
+    ) -> Result<Self, NewFault>
+    where
+        S: NewSource,
+        requires { 0 < n }
+        ensures new { IfOk result (IsNewForEach S.made POLL_LIMIT stream closure n) }
+        ensures refuses { RefusesTooLarge n result }
+    {
+        Self::over_limit(env, alloc, stream, n, POLL_LIMIT, closure)
+    }
+
+    /// As `over`, where one poll takes at most `limit` turns, and its polls of the set at most as many names each.
+    pub fn over_limit(
+        env: &S::Env,
+        alloc: Global,
+        stream: St,
+        n: usize,
         limit: usize,
         closure: F,
     ) -> Result<Self, NewFault>
     where
         S: NewSource,
-        requires { 0 < limit }
-        ensures new { IfOk result (IsNewForEach S.made POLL_LIMIT stream closure limit) }
-        ensures refuses { RefusesTooLarge limit result }
+        requires room { 0 < n }
+        requires some { 1 ≤ limit }
+        ensures new { IfOk result (IsNewForEach S.made limit stream closure n) }
+        ensures refuses { RefusesTooLarge n result }
     {
-        let source = S::make(env, alloc, limit)?;
-        let queue = FuturesUnorderedBounded::with_source(alloc, source)?;
+        let queue = FuturesUnorderedBounded::with_new_source(env, alloc, n, limit)?;
         Ok(ForEachConcurrent {
             stream: Some(stream),
             closure,
             queue,
         })
+    }
+}
+
+impl<St: Stream, F: Drop, Fut: Drop> ForEachConcurrent<St, F, Fut, SharedReady> {
+    /// As `over_limit`, with a shared source, whose futures are woken from any thread.
+    pub fn with_limit(
+        alloc: Global,
+        stream: St,
+        n: usize,
+        limit: usize,
+        closure: F,
+    ) -> Result<Self, NewFault>
+        requires room { 0 < n }
+        requires some { 1 ≤ limit }
+        ensures new { IfOk result (IsNewForEach IsNewShared limit stream closure n) }
+        ensures refuses { RefusesTooLarge n result }
+    {
+        Self::over_limit(&(), alloc, stream, n, limit, closure)
     }
 }
 
@@ -86,6 +119,14 @@ impl<
     Fut: SlotFuture<S::Waker, Output = ()>,
     S: ReadySource,
 > ForEachConcurrent<St, F, Fut, S> {
+    // How many turns one poll takes, at most.
+    fn turn_limit(&self) -> usize
+        ensures value { result ≡ self.now.buffer.queue.limit }
+        ensures some { 1 ≤ result }
+    {
+        self.queue.limit()
+    }
+
     // Draws at most one item, gives it to the closure, and pushes the future that comes of it. Says whether one was drawn.
     fn draw(&mut self, cx: &mut Context<'_>) -> bool
         requires { CanForEach St.can_poll St.yields F.pre (Calls F.FnMut) Fut.can_poll self.old }
@@ -94,6 +135,7 @@ impl<
             (Pushes S.marks) (Calls F.FnMut) self.old asked self.new }
         ensures count { result ≡ true → 0 < set_len self.new.buffer.queue }
         ensures capacity { set_room self.new.buffer.queue ≡ set_room self.old.buffer.queue }
+        ensures limit { self.new.buffer.queue.limit ≡ self.old.buffer.queue.limit }
         ensures bound { set_len self.new.buffer.queue ≤ set_room self.new.buffer.queue }
         ensures again { CanForEach St.can_poll St.yields F.pre (Calls F.FnMut) Fut.can_poll self.new }
         ensures gives { ForEachGives St.yields self.new tt → ForEachGives St.yields self.old tt }
@@ -137,17 +179,18 @@ impl<
 
     ghost gives = { ForEachGives St.yields };
 
-    /// At most `TURN_LIMIT` turns. A turn draws at most one item, where there is room, calls the closure with it, holds the future that comes of it, and polls the set once. Another follows where an item was drawn or a future was done. `Ready` where the stream has ended and nothing is held, and then again; at the limit the task is woken at once.
+    /// At most as many turns as the limit is. A turn draws at most one item, where there is room, calls the closure with it, holds the future that comes of it, and polls the set once. Another follows where an item was drawn or a future was done. `Ready` where the stream has ended and nothing is held, and then again; at the limit the task is woken at once.
     ///
     /// Takes no memory but what the closure takes, and waits for nobody where the source's calls do not. Takes time in proportion to the turns and the names that their polls of the set take, besides the polls and the closure's calls.
     fn poll(&mut self, cx: &mut Context<'_>) -> Poll<()>
         requires { CanForEach St.can_poll St.yields F.pre (Calls F.FnMut) Fut.can_poll self.old }
         ensures called { ForEachCall (PollsStream St.yields) set_len
             (set_room self.old.buffer.queue) (Pushes S.marks) (Calls F.FnMut)
-            (PollGives Fut.polled S.registers S.takes) (IsWoken cx.new) TURN_LIMIT
-            self.old result self.new }
+            (PollGives Fut.polled S.registers S.takes) (IsWoken cx.new)
+            self.old.buffer.queue.limit self.old result self.new }
         ensures ended { IfReady result (λ _. IsDone set_len self.new) }
         ensures capacity { set_room self.new.buffer.queue ≡ set_room self.old.buffer.queue }
+        ensures limit { self.new.buffer.queue.limit ≡ self.old.buffer.queue.limit }
         ensures bound { set_len self.new.buffer.queue ≤ set_room self.new.buffer.queue }
         ensures value { IfReady result (ForEachGives St.yields self.old) }
         ensures again { OnPending result
@@ -158,7 +201,7 @@ impl<
             (Covers cx.new (WaitsAt St.needs S.needs self.new.buffer)) }
         ensures kept { Keeps cx.old cx.new }
     {
-        'turns: for _turn in 0..TURN_LIMIT {
+        'turns: for _turn in 0..self.turn_limit() {
             let drew = self.draw(cx);
             match self.queue.poll_next(cx) {
                 Poll::Ready(Some(())) => {}

@@ -4,6 +4,7 @@ ghost use Rattle.futures.specs.Task.{Covers, Keeps};
 ghost use Rattle.futures.specs.Runs.{After, Within};
 ghost use Rattle.futures.specs.Poll.{IfReady, OnPending};
 ghost use Rattle.futures_buffered_core.specs.Answer.{RefusesTooLarge};
+ghost use Rattle.futures_buffered_core.specs.ReadyShared.{IsNewShared};
 ghost use Rattle.futures_buffered_bounded.specs.FuturesUnorderedBounded.{Pushes, PollGives};
 ghost use Rattle.futures_buffered.specs.Buffered.{PollsStream, Draws, DrawsOne, DrawsNone, hint_with, hint_ahead};
 ghost use Rattle.futures_buffered.specs.BufferUnordered.{IsNewBuffer, WaitsAt, set_len, set_room};
@@ -15,6 +16,7 @@ use futures::task::{Context, Poll};
 use futures_buffered_bounded::futures_unordered_bounded::{FuturesUnorderedBounded, POLL_LIMIT};
 use futures_buffered_bounded::{FusedStream, SizeHint, SlotFuture};
 use futures_buffered_core::ready_core::NewFault;
+use futures_buffered_core::ready_shared::SharedReady;
 use futures_buffered_core::ready_source::{NewSource, ReadySource};
 use std::alloc::Global;
 use std::marker::Model;
@@ -55,12 +57,41 @@ impl<St: Drop, F: Drop, S: ReadySource> TryBufferUnordered<St, F, S> {
         ensures new { IfOk result (IsNewBuffer S.made POLL_LIMIT stream n) }
         ensures refuses { RefusesTooLarge n result }
     {
-        let source = S::make(env, alloc, n)?;
-        let queue = FuturesUnorderedBounded::with_source(alloc, source)?;
+        Self::over_limit(env, alloc, stream, n, POLL_LIMIT)
+    }
+
+    /// As `over`, where one poll of the set takes at most `limit` names.
+    pub fn over_limit(
+        env: &S::Env,
+        alloc: Global,
+        stream: St,
+        n: usize,
+        limit: usize,
+    ) -> Result<Self, NewFault>
+    where
+        S: NewSource,
+        requires room { 0 < n }
+        requires some { 1 ≤ limit }
+        ensures new { IfOk result (IsNewBuffer S.made limit stream n) }
+        ensures refuses { RefusesTooLarge n result }
+    {
+        let queue = FuturesUnorderedBounded::with_new_source(env, alloc, n, limit)?;
         Ok(TryBufferUnordered {
             stream: Some(stream),
             queue,
         })
+    }
+}
+
+impl<St: Drop, F: Drop> TryBufferUnordered<St, F, SharedReady> {
+    /// As `over_limit`, with a shared source, whose futures are woken from any thread.
+    pub fn with_limit(alloc: Global, stream: St, n: usize, limit: usize) -> Result<Self, NewFault>
+        requires room { 0 < n }
+        requires some { 1 ≤ limit }
+        ensures new { IfOk result (IsNewBuffer IsNewShared limit stream n) }
+        ensures refuses { RefusesTooLarge n result }
+    {
+        Self::over_limit(&(), alloc, stream, n, limit)
     }
 }
 

@@ -14,7 +14,7 @@ use Rattle.futures_buffered.proofs.for_each_concurrent.ForEachConcurrentFuture.p
 use Rattle.futures_buffered.proofs.for_each_concurrent.ForEachConcurrentFuture.poll.Goals as goal
 
 pub turns-init : goal.turns-init
-turns-init g c = record { done = []; row = refl; went_on = tt; count = refl; capacity = refl; again = c.requires; gives = λ h. h; kept = λ fact h. h }
+turns-init g c = record { done = []; row = refl; went_on = tt; count = refl; capacity = refl; limit = refl; again = c.requires; gives = λ h. h; kept = λ fact h. h }
 
 pub turns-preserved : goal.turns-preserved
 turns-preserved g c =
@@ -34,6 +34,7 @@ turns-preserved g c =
       went_on = AllByRecursion-push (λ turn. goes_on turn ≡ true) so.done (drew.0, c.poll_next.result) goes so.went_on;
       count = omega (arith, length_push so.done (drew.0, c.poll_next.result), so.count);
       capacity = c.poll_next.ensures.capacity ∙ (ap (λ (b : ForEach g.row.St.Denot g.row.F.Denot (Bounded g.row.Fut.Denot g.row.S.Denot)). set_room b.buffer.queue) c.self.view_is ∙ (c.draw-drew.ensures.capacity ∙ so.capacity));
+      limit = c.poll_next.ensures.limit ∙ (ap (λ (b : ForEach g.row.St.Denot g.row.F.Denot (Bounded g.row.Fut.Denot g.row.S.Denot)). b.buffer.queue.limit) c.self.view_is ∙ (c.draw-drew.ensures.limit ∙ so.limit));
       again = let can = rw (← c.self.view_is) at c.draw-drew.ensures.again in record {
         stream = can.stream;
         to_come = can.to_come;
@@ -49,7 +50,7 @@ returns-clause-called g c =
     let source = g.S.ReadySource in
     let future = g.Fut.SlotFuture in
     let so = c.turns.invariant in
-    full_call (PollsStream stream.yields) set_len (set_room c.args.self.now.buffer.queue) (Pushes source.marks) (Calls g.F.FnMut) (PollGives future.polled source.registers source.takes) (IsWoken _) 61 c.args.self.now c.turns.self so.done _ so.row so.went_on (omega (arith, so.count)) (omega arith) c.yield_now.ensures.pending c.yield_now.ensures.heard
+    full_call (PollsStream stream.yields) set_len (set_room c.args.self.now.buffer.queue) (Pushes source.marks) (Calls g.F.FnMut) (PollGives future.polled source.registers source.takes) (IsWoken _) c.args.self.now.buffer.queue.limit c.args.self.now c.turns.self so.done _ so.row so.went_on (omega (arith, so.count, c.turn_limit-turn-end.ensures.value, c.turn_limit-turn-end.ensures.some)) (omega (arith, c.turn_limit-turn-end.ensures.value, c.turn_limit-turn-end.ensures.some)) c.yield_now.ensures.pending c.yield_now.ensures.heard
 
 pub returns-in-Ready-None-clause-called : goal.returns-in-Ready-None-clause-called
 returns-in-Ready-None-clause-called g c =
@@ -62,7 +63,7 @@ returns-in-Ready-None-clause-called g c =
     let is : c.poll_next.result ≡ Ready None = c.in-Ready-None.is ∙ ap (λ o. Ready o) c.in-Ready-None.field-0-is in
     let held : PollGives future.polled source.registers source.takes c.self.inside.queue (Ready None) c.poll_next.new.self = rw is at c.poll_next.ensures.polled in
     let not_drew : c.draw-drew.result ≡ false = none_drew c.draw-drew.result (set_len c.draw-drew.new.self.buffer.queue) c.draw-drew.ensures.count (rw (← c.self.view_is) held.0) in
-    last_call (PollsStream stream.yields) set_len (set_room c.args.self.now.buffer.queue) (Pushes source.marks) (Calls g.F.FnMut) (PollGives future.polled source.registers source.takes) (IsWoken _) 61 c.args.self.now c.turns.self _ so.done (drew.0, c.poll_next.result) _ so.row turn so.went_on (let k = so.count in search rules)
+    last_call (PollsStream stream.yields) set_len (set_room c.args.self.now.buffer.queue) (Pushes source.marks) (Calls g.F.FnMut) (PollGives future.polled source.registers source.takes) (IsWoken _) c.args.self.now.buffer.queue.limit c.args.self.now c.turns.self _ so.done (drew.0, c.poll_next.result) _ so.row turn so.went_on (let k = so.count in let e = c.turn_limit-turn-end.ensures.value in search rules)
     (stops drew.0 c.poll_next.result (drew.1 ∙ not_drew) (rw is refl), (is, none_is c.self.inside.stream c.if-is_none.ensures))
 
 pub returns-then-not-drew-clause-called : goal.returns-then-not-drew-clause-called
@@ -78,5 +79,5 @@ returns-then-not-drew-clause-called g c =
       | in-Ready-None+else-is_none w ↦ (rw (w.in-Ready-None.is, w.in-Ready-None.field-0-is) refl, λ _ none. some_not_none c.self.inside.stream w.if-is_none.ensures none)
       | in-Pending-1 w ↦ (search rules, λ is _. search rules)
     ] in
-    last_call (PollsStream stream.yields) set_len (set_room c.args.self.now.buffer.queue) (Pushes source.marks) (Calls g.F.FnMut) (PollGives future.polled source.registers source.takes) (IsWoken _) 61 c.args.self.now c.turns.self _ so.done (drew.0, c.poll_next.result) _ so.row turn so.went_on (let k = so.count in search rules)
+    last_call (PollsStream stream.yields) set_len (set_room c.args.self.now.buffer.queue) (Pushes source.marks) (Calls g.F.FnMut) (PollGives future.polled source.registers source.takes) (IsWoken _) c.args.self.now.buffer.queue.limit c.args.self.now c.turns.self _ so.done (drew.0, c.poll_next.result) _ so.row turn so.went_on (let k = so.count in let e = c.turn_limit-turn-end.ensures.value in search rules)
     (inl (stops drew.0 c.poll_next.result (drew.1 ∙ not_drew) stays.0, λ ended. stays.1 ended.0 ended.1))

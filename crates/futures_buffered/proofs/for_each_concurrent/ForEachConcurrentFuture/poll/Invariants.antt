@@ -19,6 +19,7 @@ invariant-turns g l =
       went_on : AllByRecursion (λ turn. goes_on turn ≡ true) done;
       count : length done ≡ l._turn;
       capacity : set_room l.self.buffer.queue ≡ set_room l.fn.self.buffer.queue;
+      limit : l.self.buffer.queue.limit ≡ l.fn.self.buffer.queue.limit;
       again : CanForEach stream.can_poll stream.yields (λ f x. g.F.FnMut.pre f (x, tt)) (Calls g.F.FnMut) future.can_poll l.self;
       gives : ForEachGives stream.yields l.self tt → ForEachGives stream.yields l.fn.self tt;
       kept : Keeps l.fn.cx l.cx;
