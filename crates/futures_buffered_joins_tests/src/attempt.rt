@@ -24,9 +24,9 @@ impl<W: SlotWaker> SlotFuture<W> for Attempt {
 }
 
 /// Ready at its first poll.
-pub fn attempt(result: Result<u64, u64>) -> Attempt {
+pub fn at_once(given: Result<u64, u64>) -> Attempt {
     Attempt {
-        result,
+        result: given,
         polls_left: 0,
     }
 }

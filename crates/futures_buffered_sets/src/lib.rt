@@ -9,6 +9,8 @@
 //! - `fused`: the traits `FusedStream`, `FusedFuture` and `SizeHint`, by which a type says whether it has ended and how much is left.
 //! - `futures_unordered_bounded`: `FuturesUnorderedBounded`, as many futures as it has slots, yielded as they finish.
 //! - `futures_unordered`: `FuturesUnordered`, any number of futures, in groups of slots.
+//! - `join_all`: `JoinAll`, all of some futures, whose outputs come together.
+//! - `try_join_all`: `TryJoinAll`, the same where futures may fail.
 #![tactic(auto)]
 
 pub use futures_buffered_bounded::fused::{FusedFuture, FusedStream, SizeHint};
@@ -18,3 +20,6 @@ pub use futures_buffered_bounded::slot_future::{SlotFuture, SlotWaker, WakesSlot
 pub use futures_buffered_bounded::{fused, futures_unordered_bounded, poll_one, slot_future};
 pub use futures_buffered_growing::futures_unordered;
 pub use futures_buffered_growing::futures_unordered::FuturesUnordered;
+pub use futures_buffered_joins::join_all::JoinAll;
+pub use futures_buffered_joins::try_join_all::TryJoinAll;
+pub use futures_buffered_joins::{join_all, try_join_all};

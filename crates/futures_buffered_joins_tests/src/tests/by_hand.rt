@@ -69,7 +69,10 @@ fn outputs_stand_at_their_places_in_whatever_order_they_come(rt: HostRuntime) ->
     assert!(rt; sent(&senders, 0, 3));
     let outputs = vec![in rt.alloc(); Ok(3), Ok(2), Ok(1)]?;
     assert_eq!(rt; poll_join(&task, &mut join), Poll::Ready(outputs));
-    assert_eq!(rt; poll_join(&task, &mut join), Poll::Ready(Vec::new(rt.alloc())));
+    assert_eq!(rt;
+        poll_join(&task, &mut join),
+        Poll::Ready(Vec::new(rt.alloc()))
+    );
     Ok(())
 }
 
@@ -84,7 +87,10 @@ fn a_try_join_ends_at_the_error_that_comes_first(rt: HostRuntime) -> Result<(), 
     assert!(rt; sent(&senders, 1, Err(2)));
     assert!(rt; sent(&senders, 0, Ok(3)));
     assert_eq!(rt; poll_try_join(&task, &mut join), Poll::Ready(Err(2)));
-    assert_eq!(rt; poll_try_join(&task, &mut join), Poll::Ready(Ok(Vec::new(rt.alloc()))));
+    assert_eq!(rt;
+        poll_try_join(&task, &mut join),
+        Poll::Ready(Ok(Vec::new(rt.alloc())))
+    );
     Ok(())
 }
 

@@ -21,6 +21,7 @@ struct Drops {
     outputs: Counter,
 }
 
+#[derive(Clone, Copy)]
 enum Kind {
     Gives,
     Fails,
@@ -39,7 +40,7 @@ impl Drops {
         (self.futures.load(SeqCst), self.outputs.load(SeqCst))
     }
 
-    fn holder(&self, kind: &Kind) -> Result<Holder, AllocError> {
+    fn holder(&self, kind: Kind) -> Result<Holder, AllocError> {
         let mark = Dropped::new(Arc::try_clone(&self.futures)?);
         let gives = match kind {
             Kind::Gives => Some(Ok(Dropped::new(Arc::try_clone(&self.outputs)?))),
@@ -52,13 +53,14 @@ impl Drops {
     fn holders(&self, alloc: Global, kinds: &[Kind]) -> Result<Vec<Holder>, AllocError> {
         let mut items = Vec::new(alloc);
         for kind in kinds {
-            items.push(self.holder(kind)?)?;
+            items.push(self.holder(*kind)?)?;
         }
         Ok(items)
     }
 }
 
 type Join = JoinAll<Holder, SharedReady>;
+
 type TryJoin = TryJoinAll<Holder, SharedReady>;
 
 #[test]

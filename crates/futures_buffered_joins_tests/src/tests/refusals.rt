@@ -1,4 +1,5 @@
 // Which constructors are refused, and what is dropped then.
+use crate::holder::Holder;
 use futures_buffered_core::ready_core::{MAX_CAPACITY, NewFault};
 use futures_buffered_joins::{JoinAll, TryJoinAll};
 use futures_buffered_tests::dropped::Dropped;
@@ -9,17 +10,11 @@ use std::sync::atomic::AtomicU64;
 use std::sync::atomic::Ordering::SeqCst;
 use std::test::Fail;
 
-use crate::holder::Holder;
-
 fn counter(alloc: Global) -> Result<Arc<AtomicU64>, AllocError> {
     Ok(Arc::new(alloc, AtomicU64::new(0))?)
 }
 
-fn holders(
-    alloc: Global,
-    drops: &Arc<AtomicU64>,
-    count: usize,
-) -> Result<Vec<Holder>, AllocError> {
+fn holders(alloc: Global, drops: &Arc<AtomicU64>, count: usize) -> Result<Vec<Holder>, AllocError> {
     let mut items = Vec::new(alloc);
     for _ in 0..count {
         items.push(Holder::new(Dropped::new(Arc::try_clone(drops)?), None))?;
@@ -31,8 +26,11 @@ fn holders(
 fn a_refused_join_drops_its_items(rt: HostRuntime) -> Result<(), Fail> {
     let drops = counter(rt.alloc())?;
     let items = holders(rt.alloc(), &drops, 3)?;
-    let refused: Result<JoinAll<Holder, Rationed>, NewFault> =
-        JoinAll::over(&counter(rt.alloc())?, rt.alloc(), items);
+    let refused: Result<JoinAll<Holder, Rationed>, NewFault> = JoinAll::over(
+        &counter(rt.alloc())?,
+        rt.alloc(),
+        items,
+    );
     assert_eq!(rt; refused.err(), Some(NewFault::Memory));
     assert_eq!(rt; drops.load(SeqCst), 3);
     Ok(())
@@ -42,8 +40,11 @@ fn a_refused_join_drops_its_items(rt: HostRuntime) -> Result<(), Fail> {
 fn a_refused_try_join_drops_its_items(rt: HostRuntime) -> Result<(), Fail> {
     let drops = counter(rt.alloc())?;
     let items = holders(rt.alloc(), &drops, 3)?;
-    let refused: Result<TryJoinAll<Holder, Rationed>, NewFault> =
-        TryJoinAll::over(&counter(rt.alloc())?, rt.alloc(), items);
+    let refused: Result<TryJoinAll<Holder, Rationed>, NewFault> = TryJoinAll::over(
+        &counter(rt.alloc())?,
+        rt.alloc(),
+        items,
+    );
     assert_eq!(rt; refused.err(), Some(NewFault::Memory));
     assert_eq!(rt; drops.load(SeqCst), 3);
     Ok(())
