@@ -1,15 +1,17 @@
 //! Constructors of sets as methods of what gives the items.
-ghost use Rattle.std.specs.Prelude.{◌≡◌, ◌≤◌, List, IfOk};
+ghost use Rattle.std.specs.Prelude.{◌≡◌, ◌≤◌, List, IfOk, IsSomeAnd};
 ghost use Rattle.std.specs.Iterator.{IsFiniteIterable};
 ghost use Rattle.futures_buffered_core.specs.Drawn.{Draws, DrawsMoreThan};
 ghost use Rattle.futures_buffered_core.specs.ReadyShared.{IsNewShared, MarksShared};
 ghost use Rattle.futures_buffered_core.specs.SlotMap.{slot_count};
 ghost use Rattle.futures_buffered_bounded.specs.FuturesUnorderedBounded.{HoldsEach};
+ghost use Rattle.futures_buffered_joins.specs.Joining.{IsNewJoin};
 
 use futures_buffered_bounded::SlotFuture;
 use futures_buffered_bounded::futures_unordered_bounded::{FuturesUnorderedBounded, POLL_LIMIT};
 use futures_buffered_core::ready_core::{MAX_CAPACITY, NewFault};
 use futures_buffered_core::ready_shared::{SharedReady, SlotWake};
+use futures_buffered_joins::{JoinAll, TryJoinAll};
 use std::alloc::Global;
 
 /// Sets of what an iterator gives, where it ends.
@@ -34,6 +36,51 @@ pub trait IterExt: IntoIterator {
             → DrawsMoreThan Self.into_iter_gives Self.IntoIter.next_gives self MAX_CAPACITY }
     {
         FuturesUnorderedBounded::from_iter(alloc, self)
+    }
+
+    /// A join of these futures, ready with all outputs, each at its future's place. It is the function `join_all`, and refuses as that does.
+    ///
+    /// Takes time and memory in proportion to the number of futures.
+    final fn join_all(self, alloc: Global) -> Result<JoinAll<Self::Item, SharedReady>, NewFault>
+    where
+        Self: Sized,
+        Self::Item: SlotFuture<SlotWake>,
+        <Self::Item as SlotFuture<SlotWake>>::Output: Drop,
+        requires { IsFiniteIterable Self.into_iter_gives Self.IntoIter.can_next
+            Self.IntoIter.remaining self }
+        ensures waits_for { IfOk result (λ join. (items : List Self.Item)
+            × Draws Self.into_iter_gives Self.IntoIter.next_gives self items
+            × IsSomeAnd join (IsNewJoin IsNewShared MarksShared POLL_LIMIT items)) }
+        ensures fits { IfOk result (λ join.
+            IsSomeAnd join (λ places. slot_count places.set.slots ≤ MAX_CAPACITY)) }
+        ensures large { result ≡ Err NewFault.TooLarge
+            → DrawsMoreThan Self.into_iter_gives Self.IntoIter.next_gives self MAX_CAPACITY }
+    {
+        futures_buffered_joins::join_all::join_all(alloc, self)
+    }
+
+    /// A join of these futures, which may fail: ready with all outputs, each at its future's place, or with the first error that comes. It is the function `try_join_all`, and refuses as that does.
+    ///
+    /// Takes time and memory in proportion to the number of futures.
+    final fn try_join_all<T, E>(
+        self,
+        alloc: Global,
+    ) -> Result<TryJoinAll<Self::Item, SharedReady>, NewFault>
+    where
+        Self: Sized,
+        Self::Item: SlotFuture<SlotWake, Output = Result<T, E>>,
+        T: Drop,
+        requires { IsFiniteIterable Self.into_iter_gives Self.IntoIter.can_next
+            Self.IntoIter.remaining self }
+        ensures waits_for { IfOk result (λ join. (items : List Self.Item)
+            × Draws Self.into_iter_gives Self.IntoIter.next_gives self items
+            × IsSomeAnd join (IsNewJoin IsNewShared MarksShared POLL_LIMIT items)) }
+        ensures fits { IfOk result (λ join.
+            IsSomeAnd join (λ places. slot_count places.set.slots ≤ MAX_CAPACITY)) }
+        ensures large { result ≡ Err NewFault.TooLarge
+            → DrawsMoreThan Self.into_iter_gives Self.IntoIter.next_gives self MAX_CAPACITY }
+    {
+        futures_buffered_joins::try_join_all::try_join_all(alloc, self)
     }
 }
 

@@ -21,9 +21,9 @@ pub mod try_buffered;
 
 pub use buffered::{BufferUnordered, BufferedStreamExt, ForEachConcurrent};
 pub use futures_buffered_sets::{
-    FusedFuture, FusedStream, FuturesUnordered, FuturesUnorderedBounded, PollFuture, PollOne,
-    SizeHint, SlotFuture, SlotWaker, WakesSlot, fused, futures_unordered,
-    futures_unordered_bounded, poll_one, slot_future,
+    FusedFuture, FusedStream, FuturesUnordered, FuturesUnorderedBounded, JoinAll, PollFuture,
+    PollOne, SizeHint, SlotFuture, SlotWaker, TryJoinAll, WakesSlot, fused, futures_unordered,
+    futures_unordered_bounded, join_all, poll_one, slot_future, try_join_all,
 };
 pub use iter_ext::IterExt;
 pub use try_buffered::{BufferedTryStreamExt, TryBufferUnordered};

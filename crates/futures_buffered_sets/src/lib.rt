@@ -10,6 +10,8 @@
 //! - `futures_unordered_bounded`: `FuturesUnorderedBounded`, as many futures as it has slots, yielded as they finish.
 //! - `futures_unordered`: `FuturesUnordered`, any number of futures, in groups of slots.
 //! - `futures_ordered_bounded`: `FuturesOrderedBounded`, as many futures in progress as it has slots, yielded in the order of a list.
+//! - `join_all`: `JoinAll`, all of some futures, whose outputs come together.
+//! - `try_join_all`: `TryJoinAll`, the same where futures may fail.
 #![tactic(auto)]
 
 pub use futures_buffered_bounded::fused::{FusedFuture, FusedStream, SizeHint};
@@ -21,3 +23,6 @@ pub use futures_buffered_growing::futures_unordered;
 pub use futures_buffered_growing::futures_unordered::FuturesUnordered;
 pub use futures_buffered_ordered::futures_ordered_bounded;
 pub use futures_buffered_ordered::futures_ordered_bounded::FuturesOrderedBounded;
+pub use futures_buffered_joins::join_all::JoinAll;
+pub use futures_buffered_joins::try_join_all::TryJoinAll;
+pub use futures_buffered_joins::{join_all, try_join_all};

@@ -1,0 +1,4 @@
+pub mod JoiningLemmas
+pub mod GivenLemmas
+pub mod JoinAllLemmas
+pub mod TryJoinAllLemmas

@@ -1,0 +1,21 @@
+use Rattle.std.proofs.Common.{ℕ, List, Ok}
+use Rattle.std.specs.List.{FoldsTo}
+use Rattle.futures.specs.Task.{Keeps}
+use Rattle.futures_buffered_core.specs.SlotMap.{held_count}
+use Rattle.futures_buffered_bounded.specs.Held.{AllHeld}
+use Rattle.futures_buffered_joins.specs.Joining.{Fills}
+use Rattle.futures_buffered_joins.proofs.joining.Joining.try_fill_all.Given as goal
+
+abbrev pub invariant-places : goal.invariant-places
+invariant-places g l =
+    let future = g.F.SlotFuture in
+    let source = g.S.ReadySource in
+    record {
+      row : List (ℕ × g.row.T.Denot);
+      filled : FoldsTo (Fills future.polled source.registers source.takes Ok) l.fn.self row l.self;
+      held : AllHeld future.can_poll l.self.set.slots;
+      kept : Keeps l.fn.cx l.cx;
+    }
+
+abbrev pub decreases-places : goal.decreases-places
+decreases-places g l = held_count l.self.set.slots

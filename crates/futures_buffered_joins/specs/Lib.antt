@@ -1,0 +1,4 @@
+pub mod Joining
+pub mod JoiningInvariant
+pub mod JoinAll
+pub mod TryJoinAll

@@ -1,0 +1,242 @@
+//! What a join keeps until it ends: a set of its futures, and the outputs that have come.
+ghost use Rattle.std.specs.Prelude.{◌≡◌, ◌<◌, ◌≤◌, ◌+◌, ℕ, List, Some, None, Ok, Err, IfOk, IfErr, OnOk, IsSome, IsTrue, ◌↔◌, map, replicate, slice_set, ◌⊎◌};
+ghost use Rattle.std.specs.List.{FoldsTo};
+ghost use Rattle.std.specs.Iterator.{IsFiniteIterable};
+ghost use Rattle.futures.specs.Task.{Covers, Keeps};
+ghost use Rattle.futures.specs.Poll.{IfReady, OnPending};
+ghost use Rattle.futures.specs.declared.task.context.Context.{Context};
+ghost use Rattle.futures_buffered_core.specs.Drawn.{Draws, DrawsMoreThan};
+ghost use Rattle.futures_buffered_core.specs.SlotMap.{value_in, held_count, slot_count};
+ghost use Rattle.futures_buffered_bounded.specs.Held.{AllHeld};
+ghost use Rattle.futures_buffered_bounded.specs.FuturesUnorderedBounded.{IsWoken, SaidEmpty, with_empty_slot};
+ghost use Rattle.futures_buffered_joins.specs.Joining.{Places, IsNewJoin, Fills, Waits};
+ghost use Rattle.futures_buffered_joins.specs.TryJoinAll.{Fails};
+
+use futures::task::{Context, Poll};
+use futures_buffered_bounded::futures_unordered_bounded::{FuturesUnorderedBounded, POLL_LIMIT};
+use futures_buffered_bounded::{PollFuture, SlotFuture};
+use futures_buffered_core::ready_core::{MAX_CAPACITY, NewFault};
+use futures_buffered_core::ready_source::{NewSource, ReadySource};
+use std::alloc::{AllocError, Global};
+use std::marker::Model;
+
+/// The futures that a join waits for, each in the slot of its place, and the outputs that have come, each at its place. Room for the vector that is given at the end was taken at the beginning.
+#[derive(Drop)]
+pub struct Joining<F: Drop, A: Drop, S: ReadySource> {
+    set: FuturesUnorderedBounded<F, S>,
+    outputs: Vec<Option<A>>,
+    gathered: Vec<A>,
+}
+
+impl<F: Drop, A: Drop, S: ReadySource> Model for Joining<F, A, S> {
+    ghost use Rattle.futures_buffered_bounded.specs.FuturesUnorderedBounded.{bounded_code};
+    ghost use Rattle.futures_buffered_joins.specs.Joining.{Places, places_code};
+
+    ghost Value = { Places F A S };
+
+    ghost coded = { places_code A.code (bounded_code F.code S.code) };
+
+    ghost use Rattle.std.specs.Prelude.{vec_capacity};
+    ghost use Rattle.futures_buffered_joins.specs.JoiningInvariant.{KeepsPlaces};
+
+    ghost view = { λ s. record { set = s.set; outputs = s.outputs.items } };
+
+    ghost invariant = { λ s. KeepsPlaces (record { set = s.set; outputs = s.outputs.items })
+        s.gathered.items (vec_capacity s.gathered) };
+}
+
+fn no_outputs<A: Drop>(alloc: Global, n: usize) -> Result<Vec<Option<A>>, AllocError>
+    ensures { IfOk result (λ v. v.items ≡ replicate n None) }
+{
+    let mut outputs = Vec::with_capacity(alloc, n)?;
+    for _ in 0..n {
+        outputs.push_reserved(None);
+    }
+    Ok(outputs)
+}
+
+impl<F: Drop, A: Drop, S: ReadySource> Joining<F, A, S> {
+    // Item k waits at place k, over a source made for the items.
+    pub(crate) fn over<I: IntoIterator<Item = F>>(
+        env: &S::Env,
+        alloc: Global,
+        iter: I,
+    ) -> Result<Self, NewFault>
+    where
+        S: NewSource,
+        requires { IsFiniteIterable I.into_iter_gives I.IntoIter.can_next
+            I.IntoIter.remaining iter }
+        ensures holds { IfOk result (λ places. (items : List F)
+            × Draws I.into_iter_gives I.IntoIter.next_gives iter items
+            × IsNewJoin S.made S.marks POLL_LIMIT items places) }
+        ensures fits { IfOk result (λ places. slot_count places.set.slots ≤ MAX_CAPACITY) }
+        ensures large { result ≡ Err NewFault.TooLarge
+            → DrawsMoreThan I.into_iter_gives I.IntoIter.next_gives iter MAX_CAPACITY }
+    {
+        let set = FuturesUnorderedBounded::over(env, alloc, iter)?;
+        let outputs = no_outputs(alloc, set.capacity())?;
+        let gathered = Vec::with_capacity(alloc, set.capacity())?;
+        Ok(Joining {
+            set,
+            outputs,
+            gathered,
+        })
+    }
+
+    // Whether no future is waited for.
+    fn is_done(&self) -> bool
+        ensures { IsTrue result ↔ (held_count self.now.set.slots ≡ 0) }
+    {
+        self.set.is_empty()
+    }
+
+    // Drops the future at a place, and puts its output there.
+    fn fill(&mut self, i: usize, output: A)
+        requires { IsSome (value_in self.old.set.slots i) }
+        ensures set { self.new.set ≡ with_empty_slot self.old.set i }
+        ensures outputs { self.new.outputs ≡ slice_set self.old.outputs i (Some output) }
+        ensures fewer { held_count self.new.set.slots + 1 ≡ held_count self.old.set.slots }
+    {
+        self.set.empty_slot(i);
+        self.outputs[i] = Some(output);
+    }
+
+    // All outputs, in the order of the places.
+    pub(crate) fn gather(self) -> Vec<A>
+        requires { held_count self.set.slots ≡ 0 }
+        ensures { self.outputs ≡ map Some result.items }
+    {
+        let Joining {
+            set: _,
+            outputs,
+            mut gathered,
+        } = self;
+        'places: for output in outputs {
+            match output {
+                Some(output) => gathered.push_reserved(output),
+                None => unreachable!(),
+            }
+        }
+        gathered
+    }
+}
+
+impl<F: SlotFuture<S::Waker>, S: ReadySource> Joining<F, F::Output, S>
+where
+    F::Output: Drop,
+{
+    // One poll of the set: an output fills its place.
+    fn fill_one(&mut self, cx: &mut Context<'_>) -> Poll<()>
+        requires some { 0 < held_count self.old.set.slots }
+        requires held { AllHeld F.can_poll self.old.set.slots }
+        ensures filled { IfReady result (λ _. (filled : ℕ × F.Output)
+            × Fills F.polled S.registers S.takes (λ x. x) self.old filled self.new) }
+        ensures waits { OnPending result
+            (Waits F.polled S.registers S.takes (λ x. x) self.old self.new) }
+        ensures again { AllHeld F.can_poll self.new.set.slots }
+        ensures fewer { IfReady result (λ _.
+            held_count self.new.set.slots + 1 ≡ held_count self.old.set.slots) }
+        ensures covered { OnPending result (Covers cx.new (S.needs self.new.set.source)) }
+        ensures woken { OnPending result (IsWoken cx.new
+            ⊎ (SaidEmpty S.takes self.new.set.source
+            × S.registers_poll self.old.set.source cx.old cx.new)) }
+        ensures kept { Keeps cx.old cx.new }
+    {
+        match self.set.poll_first(&PollFuture, cx) {
+            Poll::Ready((i, output)) => {
+                self.fill(i, output);
+                Poll::Ready(())
+            }
+            Poll::Pending => Poll::Pending,
+        }
+    }
+
+    // Polls of the set, until it is Pending or no future is waited for.
+    pub(crate) fn fill_all(&mut self, cx: &mut Context<'_>) -> Poll<()>
+        requires { AllHeld F.can_poll self.old.set.slots }
+        ensures done { IfReady result (λ _. held_count self.new.set.slots ≡ 0) }
+        ensures filled { IfReady result (λ _. (row : List (ℕ × F.Output))
+            × FoldsTo (Fills F.polled S.registers S.takes (λ x. x)) self.old row self.new) }
+        ensures waits { OnPending result ((row : List (ℕ × F.Output))
+            × (before : Places F F.Output S)
+            × FoldsTo (Fills F.polled S.registers S.takes (λ x. x)) self.old row before
+            × Waits F.polled S.registers S.takes (λ x. x) before self.new) }
+        ensures again { AllHeld F.can_poll self.new.set.slots }
+        ensures covered { OnPending result (Covers cx.new (S.needs self.new.set.source)) }
+        ensures woken { OnPending result (IsWoken cx.new
+            ⊎ SaidEmpty S.takes self.new.set.source) }
+        ensures kept { Keeps cx.old cx.new }
+    {
+        'places: while !self.is_done() {
+            match self.fill_one(cx) {
+                Poll::Ready(()) => {}
+                Poll::Pending => return Poll::Pending,
+            }
+        }
+        Poll::Ready(())
+    }
+}
+
+impl<F, T, E, S: ReadySource> Joining<F, T, S>
+where
+    F: SlotFuture<S::Waker, Output = Result<T, E>>,
+    T: Drop,
+{
+    // One poll of the set: an output fills its place, or an error comes.
+    fn try_fill_one(&mut self, cx: &mut Context<'_>) -> Poll<Result<(), E>>
+        requires some { 0 < held_count self.old.set.slots }
+        requires held { AllHeld F.can_poll self.old.set.slots }
+        ensures filled { IfReady result (λ r. OnOk r ((filled : ℕ × T)
+            × Fills F.polled S.registers S.takes Ok self.old filled self.new)) }
+        ensures fails { IfReady result (λ r. IfErr r
+            (Fails F.polled S.registers S.takes self.old)) }
+        ensures waits { OnPending result (Waits F.polled S.registers S.takes Ok self.old self.new) }
+        ensures again { OnPending result (AllHeld F.can_poll self.new.set.slots) }
+        ensures goes_on { IfReady result (λ r. OnOk r (AllHeld F.can_poll self.new.set.slots)) }
+        ensures fewer { IfReady result (λ r. OnOk r
+            (held_count self.new.set.slots + 1 ≡ held_count self.old.set.slots)) }
+        ensures covered { OnPending result (Covers cx.new (S.needs self.new.set.source)) }
+        ensures woken { OnPending result (IsWoken cx.new
+            ⊎ (SaidEmpty S.takes self.new.set.source
+            × S.registers_poll self.old.set.source cx.old cx.new)) }
+        ensures kept { Keeps cx.old cx.new }
+    {
+        match self.set.poll_first(&PollFuture, cx) {
+            Poll::Ready((i, Ok(output))) => {
+                self.fill(i, output);
+                Poll::Ready(Ok(()))
+            }
+            Poll::Ready((_, Err(error))) => Poll::Ready(Err(error)),
+            Poll::Pending => Poll::Pending,
+        }
+    }
+
+    // Polls of the set, until it is Pending, no future is waited for, or one gives an error.
+    pub(crate) fn try_fill_all(&mut self, cx: &mut Context<'_>) -> Poll<Result<(), E>>
+        requires { AllHeld F.can_poll self.old.set.slots }
+        ensures done { IfReady result (λ r. OnOk r (held_count self.new.set.slots ≡ 0)) }
+        ensures filled { IfReady result (λ r. OnOk r ((row : List (ℕ × T))
+            × FoldsTo (Fills F.polled S.registers S.takes Ok) self.old row self.new)) }
+        ensures fails { IfReady result (λ r. IfErr r (λ e. (row : List (ℕ × T))
+            × (before : Places F T S)
+            × FoldsTo (Fills F.polled S.registers S.takes Ok) self.old row before
+            × Fails F.polled S.registers S.takes before e)) }
+        ensures waits { OnPending result ((row : List (ℕ × T)) × (before : Places F T S)
+            × FoldsTo (Fills F.polled S.registers S.takes Ok) self.old row before
+            × Waits F.polled S.registers S.takes Ok before self.new) }
+        ensures again { OnPending result (AllHeld F.can_poll self.new.set.slots) }
+        ensures covered { OnPending result (Covers cx.new (S.needs self.new.set.source)) }
+        ensures woken { OnPending result (IsWoken cx.new
+            ⊎ SaidEmpty S.takes self.new.set.source) }
+        ensures kept { Keeps cx.old cx.new }
+    {
+        'places: while !self.is_done() {
+            match self.try_fill_one(cx) {
+                Poll::Ready(Ok(())) => {}
+                Poll::Ready(Err(error)) => return Poll::Ready(Err(error)),
+                Poll::Pending => return Poll::Pending,
+            }
+        }
+        Poll::Ready(Ok(()))
+    }
+}

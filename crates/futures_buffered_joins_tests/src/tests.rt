@@ -1,0 +1,5 @@
+mod by_hand;
+mod drops;
+mod refusals;
+mod rows;
+mod threads;
