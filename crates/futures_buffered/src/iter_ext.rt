@@ -1,16 +1,18 @@
 //! Constructors of sets as methods of what gives the items.
-ghost use Rattle.std.specs.Prelude.{◌≡◌, ◌≤◌, List, IfOk, IsSomeAnd};
+ghost use Rattle.std.specs.Prelude.{◌≡◌, ◌≤◌, ℕ, List, IfOk, IsSomeAnd, max};
 ghost use Rattle.std.specs.Iterator.{IsFiniteIterable};
 ghost use Rattle.futures_buffered_core.specs.Drawn.{Draws, DrawsMoreThan};
-ghost use Rattle.futures_buffered_core.specs.ReadyShared.{IsNewShared, MarksShared};
+ghost use Rattle.futures_buffered_core.specs.ReadyShared.{IsNewShared, MarksShared, Shared};
 ghost use Rattle.futures_buffered_core.specs.SlotMap.{slot_count};
 ghost use Rattle.futures_buffered_bounded.specs.FuturesUnorderedBounded.{HoldsEach};
+ghost use Rattle.futures_buffered_growing.specs.FuturesUnordered.{Growing, IsNewGrowing, PushesEach};
 ghost use Rattle.futures_buffered_joins.specs.Joining.{IsNewJoin};
 
 use futures_buffered_bounded::SlotFuture;
 use futures_buffered_bounded::futures_unordered_bounded::{FuturesUnorderedBounded, POLL_LIMIT};
 use futures_buffered_core::ready_core::{MAX_CAPACITY, NewFault};
 use futures_buffered_core::ready_shared::{SharedReady, SlotWake};
+use futures_buffered_growing::futures_unordered::{FIRST_GROUP, FuturesUnordered};
 use futures_buffered_joins::{JoinAll, TryJoinAll};
 use std::alloc::Global;
 
@@ -36,6 +38,27 @@ pub trait IterExt: IntoIterator {
             → DrawsMoreThan Self.into_iter_gives Self.IntoIter.next_gives self MAX_CAPACITY }
     {
         FuturesUnorderedBounded::from_iter(alloc, self)
+    }
+
+    /// A set of these futures that grows, whose outputs come as they finish. It is `FuturesUnordered::from_iter`, and refuses as that does.
+    ///
+    /// Takes time and memory in proportion to the number of futures.
+    final fn into_unordered_stream_unbounded(
+        self,
+        alloc: Global,
+    ) -> Result<FuturesUnordered<Self::Item, SharedReady>, NewFault>
+    where
+        Self: Sized,
+        Self::Item: SlotFuture<SlotWake>,
+        requires { IsFiniteIterable Self.into_iter_gives Self.IntoIter.can_next
+            Self.IntoIter.remaining self }
+        ensures holds { IfOk result (λ set. (items : List Self.Item) × (least : ℕ)
+            × ((start : Growing Self.Item Shared)
+            × Draws Self.into_iter_gives Self.IntoIter.next_gives self items
+            × IsNewGrowing IsNewShared (max least FIRST_GROUP) POLL_LIMIT start
+            × PushesEach MarksShared IsNewShared start items set)) }
+    {
+        FuturesUnordered::from_iter(alloc, self)
     }
 
     /// A join of these futures, ready with all outputs, each at its future's place. It is the function `join_all`, and refuses as that does.
