@@ -1,0 +1,3 @@
+pub mod SlotStreamLemmas
+pub mod MergeBoundedLemmas
+pub mod MergingLemmas

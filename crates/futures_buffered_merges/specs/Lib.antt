@@ -1,0 +1,3 @@
+pub mod SlotStream
+pub mod Merging
+pub mod MergeBounded
