@@ -75,6 +75,11 @@ module _ {F A : Type 0} (polled : ℕ → F → Poll (Option A) → F → Type 0
         | inr other ↦ rw (value_in-with_slot_freed_other (with_value m i left) i j other, get_or-set_other m.places i j (Some left) None other) (became_none (polled j) (value_in m j))
       ]
 
+  -- where nothing was given, what may come later might come before
+  pub within_of : (old new : Slots F) → StreamsGave polled old [] new → Within (ComesFromStreams polled old) (ComesFromStreams polled new)
+  within_of old new gave items (Some y) run = (run.0, run.1, run.2, run.3, streams_on old new run.2 [] (run.0 ++ (run.1, y) ∷ []) gave run.4)
+  within_of old new gave items None run = (run.0, run.1, run.2, run.3, streams_on old new run.1 [] run.0 gave run.4)
+
   module _ {S : Type 0} (registers : S → S → Type 0) (marks : S → ℕ → Woke → S → Type 0) (takes : S → Taken → S → Type 0) where
     count_gave : (old new : Bounded F S) (i : ℕ) → CountEnds polled registers marks takes old i new → StreamsGave polled old.slots [] new.slots
     count_gave old new i h =
@@ -133,11 +138,11 @@ module _ {F A : Type 0} (polled : ℕ → F → Poll (Option A) → F → Type 0
 
     pub same_of : (old new : Bounded F S) (answer : Poll (Option A)) → MergeGives polled registers marks takes old answer new → OnPending answer (Within (ComesFromStreams polled old.slots) (ComesFromStreams polled new.slots))
     same_of old new (Ready o) h = tt
-    same_of old new Pending h = within
-      where
-        within : Within (ComesFromStreams polled old.slots) (ComesFromStreams polled new.slots)
-        within items (Some y) run = (run.0, run.1, run.2, run.3, streams_on old.slots new.slots run.2 [] (run.0 ++ (run.1, y) ∷ []) (pending_gave old new h) run.4)
-        within items None run = (run.0, run.1, run.2, run.3, streams_on old.slots new.slots run.1 [] run.0 (pending_gave old new h) run.4)
+    same_of old new Pending h = within_of old.slots new.slots (pending_gave old new h)
+
+    -- a poll that ended the last stream adds nothing to what may come
+    pub ended_of : (old new : Bounded F S) → MergeGives polled registers marks takes old (Ready None) new → Within (ComesFromStreams polled old.slots) (ComesFromStreams polled new.slots)
+    ended_of old new h = within_of old.slots new.slots (end_gave old new h).1
 
     -- many polls
     one_first : (old mid new : Bounded F S) (answer : Poll (Option A)) (answers : List (Poll (Option A))) → MergeGives polled registers marks takes old answer mid → (given : List (ℕ × A)) × (items_in answers ≡ seconds given) × StreamsGave polled mid.slots given new.slots

@@ -39,6 +39,12 @@ module _
     LastCount old Pending new = (0 < held_count old.slots) × AsksUntil polled registers takes old Pending new
     LastCount old (Ready None) new = (held_count old.slots ≡ 0) × (new ≡ old)
 
+    -- what one count gives, where a stream is held: as the last count does, or the end of a stream
+    abbrev pub CountGives : Bounded F S → Poll (Option A) → Bounded F S → Type 0
+    CountGives old (Ready (Some x)) new = LastCount old (Ready (Some x)) new
+    CountGives old (Ready None) new = (i : ℕ) × CountEnds old i new
+    CountGives old Pending new = LastCount old Pending new
+
     -- one poll: counts that ended the streams of these slots, and then the last count
     pub record MergeGives (old : Bounded F S) (answer : Poll (Option A)) (new : Bounded F S) : Type 0 where
       pub ended : List ℕ

@@ -1,4 +1,4 @@
-use Rattle.std.proofs.Common.{◌≡◌, ℕ, List}
+use Rattle.std.proofs.Common.{◌≡◌, ◌≤◌, ℕ, List}
 use Rattle.std.specs.List.{FoldsTo}
 use Rattle.futures.specs.Task.{Keeps}
 use Rattle.futures_buffered_core.specs.SlotMap.{held_count, slot_count}
@@ -16,6 +16,7 @@ invariant-counts g l =
       capacity : slot_count l.set.slots ≡ slot_count l.fn.set.slots;
       limit : l.set.limit ≡ l.fn.set.limit;
       only_registered : OnlyRegisters source.registers_poll l.fn.cx l.cx;
+      fewer : held_count l.set.slots ≤ held_count l.fn.set.slots;
       untouched : held_count l.fn.set.slots ≡ 0 → (l.set ≡ l.fn.set) × (l.cx ≡ l.fn.cx);
       kept : Keeps l.fn.cx l.cx;
     }

@@ -1,0 +1,6 @@
+mod bounded;
+mod drops;
+mod limits;
+mod refusals;
+mod threads;
+mod wakes;
