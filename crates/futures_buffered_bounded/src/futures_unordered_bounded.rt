@@ -299,37 +299,6 @@ impl<F: Drop, S: ReadySource> FuturesUnorderedBounded<F, S> {
         self.ask(rule, cx)
     }
 
-    /// As `poll_first`, for a task that is registered already, with this set or with one beside it. Registers nothing.
-    pub fn poll_first_covered<R: PollOne<F, S::Waker>>(
-        &mut self,
-        rule: &R,
-        cx: &mut Context<'_>,
-    ) -> Poll<(usize, R::Output)>
-    where
-        S: NewSource,
-        requires held { AllHeld R.can_poll self.old.slots }
-        requires registered { Covers cx.old (S.needs self.old.source) }
-        ensures polled { AsksUntil R.polled S.registers S.takes self.old result self.new }
-        ensures pollable { OnPending result (AllHeld R.can_poll self.new.slots) }
-        ensures others { IfReady result (λ (i, _). AllHeldBut i R.can_poll self.new.slots) }
-        ensures goes_on { IfReady result (λ (_, x).
-            R.goes_on x → AllHeld R.can_poll self.new.slots) }
-        ensures last { IfReady result (λ (i, x).
-            EndsWith (R.polled i) x (value_in self.new.slots i)) }
-        ensures count { held_count self.new.slots ≡ held_count self.old.slots }
-        ensures capacity { slot_count self.new.slots ≡ slot_count self.old.slots }
-        ensures limit { self.new.limit ≡ self.old.limit }
-        ensures same_slots { (j : ℕ)
-            → is_some (value_in self.new.slots j) ≡ is_some (value_in self.old.slots j) }
-        ensures covered { OnPending result (Covers cx.new (S.needs self.new.source)) }
-        ensures woken { OnPending result (IsWoken cx.new
-            ⊎ (SaidEmpty S.takes self.new.source × (cx.new ≡ cx.old))) }
-        ensures untouched { IfReady result (λ _. cx.new ≡ cx.old) }
-        ensures kept { Keeps cx.old cx.new }
-    {
-        Self::ask(self, rule, cx)
-    }
-
     // The takings and polls of `poll_first`, by a task that is registered already. The source is as a registration may have left it.
     fn ask<R: PollOne<F, S::Waker>>(
         &mut self,

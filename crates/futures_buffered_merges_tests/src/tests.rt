@@ -3,4 +3,5 @@ mod drops;
 mod limits;
 mod refusals;
 mod threads;
+mod unbounded;
 mod wakes;

@@ -11,10 +11,7 @@ use std::random::RandomSource;
 use std::test::Fail;
 
 // Through the short name, which is the same type.
-fn merge_of(
-    alloc: Global,
-    streams: &[Stepped],
-) -> Result<MergeBounded<Stepped, CoreSource>, Fail> {
+fn merge_of(alloc: Global, streams: &[Stepped]) -> Result<MergeBounded<Stepped, CoreSource>, Fail> {
     let mut items = Vec::new(alloc);
     for stream in streams {
         items.push(*stream)?;

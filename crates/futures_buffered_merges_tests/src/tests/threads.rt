@@ -4,6 +4,7 @@ use futures::StreamExt;
 use futures::executor::block_on;
 use futures_buffered_core::ready_shared::SharedReady;
 use futures_buffered_merges::merge_bounded::MergeBounded;
+use futures_buffered_merges::merge_unbounded::MergeUnbounded;
 use std::alloc::Global;
 use std::sync::Wait;
 use std::test::Fail;
@@ -44,6 +45,20 @@ fn sum(items: &[u64]) -> u64 {
 fn a_bounded_merge_while_a_thread_wakes(rt: HostRuntime) -> Result<(), Fail> {
     let (feeders, streams) = fed(&rt, rt.alloc())?;
     let merge: MergeBounded<Fed<HostRuntime>, SharedReady> = MergeBounded::from_iter(
+        rt.alloc(),
+        streams,
+    )?;
+    let child = thread::spawn(&rt, move || give_all(feeders.as_slice()))?;
+    let items = block_on(&rt, merge.collect(rt.alloc()))??;
+    child.join(&rt);
+    assert_eq!(rt; (items.len(), sum(items.as_slice())), (4, 15));
+    Ok(())
+}
+
+#[test]
+fn a_growing_merge_while_a_thread_wakes(rt: HostRuntime) -> Result<(), Fail> {
+    let (feeders, streams) = fed(&rt, rt.alloc())?;
+    let merge: MergeUnbounded<Fed<HostRuntime>, SharedReady> = MergeUnbounded::from_iter(
         rt.alloc(),
         streams,
     )?;
