@@ -21,9 +21,10 @@ pub mod try_buffered;
 
 pub use buffered::{BufferUnordered, BufferedStreamExt, ForEachConcurrent};
 pub use futures_buffered_sets::{
-    FusedFuture, FusedStream, FuturesUnordered, FuturesUnorderedBounded, PollFuture, PollOne,
-    SizeHint, SlotFuture, SlotWaker, WakesSlot, fused, futures_unordered,
-    futures_unordered_bounded, poll_one, slot_future,
+    FusedFuture, FusedStream, FuturesUnordered, FuturesUnorderedBounded, Merge, MergeBounded,
+    MergeUnbounded, PollFuture, PollOne, PollStream, SizeHint, SlotFuture, SlotStream, SlotWaker,
+    WakesSlot, fused, futures_unordered, futures_unordered_bounded, merge_bounded, merge_unbounded,
+    poll_one, slot_future, slot_stream,
 };
 pub use iter_ext::IterExt;
 pub use try_buffered::{BufferedTryStreamExt, TryBufferUnordered};

@@ -9,6 +9,9 @@
 //! - `fused`: the traits `FusedStream`, `FusedFuture` and `SizeHint`, by which a type says whether it has ended and how much is left.
 //! - `futures_unordered_bounded`: `FuturesUnorderedBounded`, as many futures as it has slots, yielded as they finish.
 //! - `futures_unordered`: `FuturesUnordered`, any number of futures, in groups of slots.
+//! - `slot_stream`: `SlotStream`, what a merge holds: a stream that is polled with the waker of its slot.
+//! - `merge_bounded`: `MergeBounded`, also by the name `Merge`: as many streams as it has slots, polled as one.
+//! - `merge_unbounded`: `MergeUnbounded`, any number of streams, in groups of slots.
 #![tactic(auto)]
 
 pub use futures_buffered_bounded::fused::{FusedFuture, FusedStream, SizeHint};
@@ -18,3 +21,7 @@ pub use futures_buffered_bounded::slot_future::{SlotFuture, SlotWaker, WakesSlot
 pub use futures_buffered_bounded::{fused, futures_unordered_bounded, poll_one, slot_future};
 pub use futures_buffered_growing::futures_unordered;
 pub use futures_buffered_growing::futures_unordered::FuturesUnordered;
+pub use futures_buffered_merges::merge_bounded::{Merge, MergeBounded};
+pub use futures_buffered_merges::merge_unbounded::MergeUnbounded;
+pub use futures_buffered_merges::slot_stream::{PollStream, SlotStream};
+pub use futures_buffered_merges::{merge_bounded, merge_unbounded, slot_stream};
