@@ -1,12 +1,13 @@
-//! Constructors of sets as methods of what gives the items.
+//! Constructors of sets, joins and merges as methods of what gives the items.
 ghost use Rattle.std.specs.Prelude.{◌≡◌, ◌≤◌, ℕ, List, IfOk, IsSomeAnd, max};
 ghost use Rattle.std.specs.Iterator.{IsFiniteIterable};
 ghost use Rattle.futures_buffered_core.specs.Drawn.{Draws, DrawsMoreThan};
 ghost use Rattle.futures_buffered_core.specs.ReadyShared.{IsNewShared, MarksShared, Shared};
 ghost use Rattle.futures_buffered_core.specs.SlotMap.{slot_count};
 ghost use Rattle.futures_buffered_bounded.specs.FuturesUnorderedBounded.{HoldsEach};
-ghost use Rattle.futures_buffered_growing.specs.FuturesUnordered.{Growing, IsNewGrowing, PushesEach};
+ghost use Rattle.futures_buffered_growing.specs.FuturesUnordered.{Growing, IsNewGrowing, PushesEach, no_groups};
 ghost use Rattle.futures_buffered_joins.specs.Joining.{IsNewJoin};
+ghost use Rattle.futures_buffered_ordered.specs.FuturesOrderedBounded.{HoldsInOrder};
 
 use futures_buffered_bounded::SlotFuture;
 use futures_buffered_bounded::futures_unordered_bounded::{FuturesUnorderedBounded, POLL_LIMIT};
@@ -14,9 +15,11 @@ use futures_buffered_core::ready_core::{MAX_CAPACITY, NewFault};
 use futures_buffered_core::ready_shared::{SharedReady, SlotWake};
 use futures_buffered_growing::futures_unordered::{FIRST_GROUP, FuturesUnordered};
 use futures_buffered_joins::{JoinAll, TryJoinAll};
+use futures_buffered_merges::{MergeBounded, MergeUnbounded, SlotStream};
+use futures_buffered_ordered::futures_ordered_bounded::FuturesOrderedBounded;
 use std::alloc::Global;
 
-/// Sets of what an iterator gives, where it ends.
+/// Sets, joins and merges of what an iterator gives, where it ends.
 pub trait IterExt: IntoIterator {
     /// A set of these futures without a free slot, whose outputs come as they finish. It is `FuturesUnorderedBounded::from_iter`, and refuses as that does. A slot that is freed takes a push.
     ///
@@ -59,6 +62,29 @@ pub trait IterExt: IntoIterator {
             × PushesEach MarksShared IsNewShared start items set)) }
     {
         FuturesUnordered::from_iter(alloc, self)
+    }
+
+    /// A full queue of these futures, whose outputs come in their order. It is `FuturesOrderedBounded::from_iter`, and refuses as that does. A slot that is freed takes a push.
+    ///
+    /// Takes time and memory in proportion to the number of futures.
+    final fn into_ordered_stream(
+        self,
+        alloc: Global,
+    ) -> Result<FuturesOrderedBounded<Self::Item, SharedReady>, NewFault>
+    where
+        Self: Sized,
+        Self::Item: SlotFuture<SlotWake>,
+        <Self::Item as SlotFuture<SlotWake>>::Output: Drop,
+        requires { IsFiniteIterable Self.into_iter_gives Self.IntoIter.can_next
+            Self.IntoIter.remaining self }
+        ensures holds { IfOk result (λ q. (items : List Self.Item)
+            × Draws Self.into_iter_gives Self.IntoIter.next_gives self items
+            × HoldsInOrder IsNewShared MarksShared POLL_LIMIT items q) }
+        ensures fits { IfOk result (λ q. slot_count q.set.slots ≤ MAX_CAPACITY) }
+        ensures large { result ≡ Err NewFault.TooLarge
+            → DrawsMoreThan Self.into_iter_gives Self.IntoIter.next_gives self MAX_CAPACITY }
+    {
+        FuturesOrderedBounded::from_iter(alloc, self)
     }
 
     /// A join of these futures, ready with all outputs, each at its future's place. It is the function `join_all`, and refuses as that does.
@@ -104,6 +130,44 @@ pub trait IterExt: IntoIterator {
             → DrawsMoreThan Self.into_iter_gives Self.IntoIter.next_gives self MAX_CAPACITY }
     {
         futures_buffered_joins::try_join_all::try_join_all(alloc, self)
+    }
+
+    /// A merge of these streams without a free slot. It is `MergeBounded::from_iter`, and refuses as that does. A stream that ends leaves its slot to a push.
+    ///
+    /// Takes time and memory in proportion to the number of streams.
+    final fn merge(self, alloc: Global) -> Result<MergeBounded<Self::Item, SharedReady>, NewFault>
+    where
+        Self: Sized,
+        Self::Item: SlotStream<SlotWake>,
+        requires { IsFiniteIterable Self.into_iter_gives Self.IntoIter.can_next
+            Self.IntoIter.remaining self }
+        ensures holds { IfOk result (λ merge. (streams : List Self.Item)
+            × Draws Self.into_iter_gives Self.IntoIter.next_gives self streams
+            × HoldsEach IsNewShared MarksShared POLL_LIMIT streams merge) }
+        ensures fits { IfOk result (λ merge. slot_count merge.slots ≤ MAX_CAPACITY) }
+        ensures large { result ≡ Err NewFault.TooLarge
+            → DrawsMoreThan Self.into_iter_gives Self.IntoIter.next_gives self MAX_CAPACITY }
+    {
+        MergeBounded::from_iter(alloc, self)
+    }
+
+    /// A merge of these streams that grows. It is `MergeUnbounded::from_iter`, and refuses as that does.
+    ///
+    /// Takes time and memory in proportion to the number of streams.
+    final fn merge_unbounded(
+        self,
+        alloc: Global,
+    ) -> Result<MergeUnbounded<Self::Item, SharedReady>, NewFault>
+    where
+        Self: Sized,
+        Self::Item: SlotStream<SlotWake>,
+        requires { IsFiniteIterable Self.into_iter_gives Self.IntoIter.can_next
+            Self.IntoIter.remaining self }
+        ensures holds { IfOk result (λ merge. (streams : List Self.Item)
+            × Draws Self.into_iter_gives Self.IntoIter.next_gives self streams
+            × PushesEach MarksShared IsNewShared (no_groups POLL_LIMIT) streams merge) }
+    {
+        MergeUnbounded::from_iter(alloc, self)
     }
 }
 

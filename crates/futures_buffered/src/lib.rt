@@ -21,9 +21,11 @@ pub mod try_buffered;
 
 pub use buffered::{BufferUnordered, BufferedStreamExt, ForEachConcurrent};
 pub use futures_buffered_sets::{
-    FusedFuture, FusedStream, FuturesUnordered, FuturesUnorderedBounded, JoinAll, PollFuture,
-    PollOne, SizeHint, SlotFuture, SlotWaker, TryJoinAll, WakesSlot, fused, futures_unordered,
-    futures_unordered_bounded, join_all, poll_one, slot_future, try_join_all,
+    FusedFuture, FusedStream, FuturesOrderedBounded, FuturesUnordered, FuturesUnorderedBounded,
+    JoinAll, Merge, MergeBounded, MergeUnbounded, PollFuture, PollOne, PollStream, SizeHint,
+    SlotFuture, SlotStream, SlotWaker, TryJoinAll, WakesSlot, fused, futures_ordered_bounded,
+    futures_unordered, futures_unordered_bounded, join_all, merge_bounded, merge_unbounded, poll_one,
+    slot_future, slot_stream, try_join_all,
 };
 pub use iter_ext::IterExt;
 pub use try_buffered::{BufferedTryStreamExt, TryBufferUnordered};

@@ -12,6 +12,9 @@
 //! - `futures_ordered_bounded`: `FuturesOrderedBounded`, as many futures in progress as it has slots, yielded in the order of a list.
 //! - `join_all`: `JoinAll`, all of some futures, whose outputs come together.
 //! - `try_join_all`: `TryJoinAll`, the same where futures may fail.
+//! - `slot_stream`: `SlotStream`, what a merge holds: a stream that is polled with the waker of its slot.
+//! - `merge_bounded`: `MergeBounded`, also by the name `Merge`: as many streams as it has slots, polled as one.
+//! - `merge_unbounded`: `MergeUnbounded`, any number of streams, in groups of slots.
 #![tactic(auto)]
 
 pub use futures_buffered_bounded::fused::{FusedFuture, FusedStream, SizeHint};
@@ -26,3 +29,7 @@ pub use futures_buffered_ordered::futures_ordered_bounded::FuturesOrderedBounded
 pub use futures_buffered_joins::join_all::JoinAll;
 pub use futures_buffered_joins::try_join_all::TryJoinAll;
 pub use futures_buffered_joins::{join_all, try_join_all};
+pub use futures_buffered_merges::merge_bounded::{Merge, MergeBounded};
+pub use futures_buffered_merges::merge_unbounded::MergeUnbounded;
+pub use futures_buffered_merges::slot_stream::{PollStream, SlotStream};
+pub use futures_buffered_merges::{merge_bounded, merge_unbounded, slot_stream};

@@ -1,0 +1,4 @@
+pub mod SlotStreamLemmas
+pub mod MergeBoundedLemmas
+pub mod MergingLemmas
+pub mod MergeUnboundedLemmas

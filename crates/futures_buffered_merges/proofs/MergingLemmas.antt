@@ -1,0 +1,40 @@
+-- From what the calls of a set leave to what one poll of its streams says.
+use Rattle.std.proofs.Common.{◌≡◌, ◌≢◌, ℕ, [], ◌∷◌, ◌++◌, Option, Some, None, IfSome, ◌<◌, refl, sym, ap, inl, inr, ◌∙◌}
+use Rattle.std.proofs.lemmas.Fn.{FoldsTo-push}
+use Rattle.futures.specs.declared.task.context.Context.{Context}
+use Rattle.futures.specs.declared.task.Poll.{Poll}
+use Rattle.futures.specs.declared.task.Poll.TheVariants.{Ready, Pending}
+use Rattle.futures_buffered_table.specs.declared.answer.Taken.{Taken}
+use Rattle.futures_buffered_table.specs.declared.answer.Woke.{Woke}
+use Rattle.futures_buffered_merges.specs.Merging.{OnlyRegisters, CountGives}
+use Rattle.std.proofs.lemmas.Bool.{cases_eq}
+use Rattle.futures_buffered_core.specs.SlotMap.{Slots, value_in, held_count, with_slot_freed}
+use Rattle.futures_buffered_bounded.specs.Held.{AllHeld, AllHeldBut}
+use Rattle.futures_buffered_bounded.specs.FuturesUnorderedBounded.{Bounded, AsksUntil, MarksSlot, with_empty_slot, with_source}
+use Rattle.futures_buffered_bounded.proofs.GivingLemmas.{value_in-with_slot_freed, value_in-with_slot_freed_other}
+
+-- what holds of all but one value holds of all once that slot is empty
+pub AllHeld-without : {F : Type 0} (P : F → Type 0) (m : Slots F) (i : ℕ) → AllHeldBut i P m → AllHeld P (with_slot_freed m i)
+AllHeld-without P m i others j =
+    elim (cases_eq j i) [
+      | inl same ↦ rw (same, value_in-with_slot_freed m i) tt
+      | inr other ↦ rw (value_in-with_slot_freed_other m i j other) (others j other)
+    ]
+
+-- two sets that differ in their source alone
+same_but_source : {F S : Type 0} (left new : Bounded F S) → new.slots ≡ left.slots → new.limit ≡ left.limit → new ≡ with_source left new.source
+same_but_source {F} {S} left new slots limit =
+    ap (λ (m : Slots F). record { slots = m; source = new.source; limit = new.limit }) slots ∙ ap (λ (n : ℕ). record { slots = left.slots; source = new.source; limit = n }) limit
+
+-- one registration more
+pub registers_once_more : {S : Type 0} (registers_poll : S → Context → Context → Type 0) (old mid new : Context) (source : S) → OnlyRegisters registers_poll old mid → registers_poll source mid new → OnlyRegisters registers_poll old new
+registers_once_more registers_poll old mid new source before once =
+    (before.0 ++ source ∷ [], FoldsTo-push (λ cx s next. registers_poll s cx next) old before.0 mid source new before.1 once)
+
+module _ {F A S : Type 0} (polled : ℕ → F → Poll (Option A) → F → Type 0) (registers : S → S → Type 0) (marks : S → ℕ → Woke → S → Type 0) (takes : S → Taken → S → Type 0) where
+  -- one count, by what the set's calls leave
+  pub count_item : (old left new : Bounded F S) (i : ℕ) (o : Option A) (x : A) → 0 < held_count old.slots → AsksUntil polled registers takes old (Ready (i, o)) left → o ≡ Some x → MarksSlot marks left.source i new.source → new.slots ≡ left.slots → new.limit ≡ left.limit → CountGives polled registers marks takes old (Ready (Some x)) new
+  count_item old left new i o x some asks is marked slots limit = (some, (i, left, rw is at asks, marked, same_but_source left new slots limit))
+
+  pub count_end : (old left new : Bounded F S) (i : ℕ) (o : Option A) → 0 < held_count old.slots → AsksUntil polled registers takes old (Ready (i, o)) left → o ≡ None → new ≡ with_empty_slot left i → CountGives polled registers marks takes old (Ready None) new
+  count_end old left new i o some asks is emptied = (i, (some, (left, rw is at asks, emptied)))

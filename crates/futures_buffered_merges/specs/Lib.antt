@@ -1,0 +1,5 @@
+pub mod SlotStream
+pub mod Merging
+pub mod MergeBounded
+pub mod MergeUnbounded
+pub mod MergeUnboundedInvariant

@@ -1,0 +1,18 @@
+//! Streams that are polled as one: the items of each come in its own order, beside those of the others.
+//!
+//! In the order in which to read them:
+//!
+//! - `slot_stream`: `SlotStream`, what a merge holds: a stream that is polled with the waker of its slot; and `PollStream`, the rule that polls it.
+//! - `merging`: one poll of the streams that a set holds.
+//! - `merge_bounded`: `MergeBounded`, as many streams as it has slots.
+//! - `merge_unbounded`: `MergeUnbounded`, any number of streams, in groups of slots.
+#![tactic(auto)]
+
+pub mod merge_bounded;
+pub mod merge_unbounded;
+mod merging;
+pub mod slot_stream;
+
+pub use merge_bounded::{Merge, MergeBounded};
+pub use merge_unbounded::MergeUnbounded;
+pub use slot_stream::{PollStream, SlotStream};

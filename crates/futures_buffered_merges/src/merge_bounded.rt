@@ -1,0 +1,206 @@
+//! As many streams as it has slots, polled as one.
+//!
+//! Each stream stands in a slot, and a poll asks the source which slots to poll, as a set of futures does. A stream that gives an item stays, and its slot is marked, so that a later poll polls it again behind the others that were marked before. A stream that ends leaves its slot to the next push.
+ghost use Rattle.std.specs.Prelude.{◌≡◌, ◌<◌, ◌≤◌, ◌+◌, ◌↔◌, [], List, IfOk, IfErr, OnOk, IfSome, IfNone, OnSome, IsTrue, ◌⊎◌};
+ghost use Rattle.std.specs.Iterator.{IsFiniteIterable};
+ghost use Rattle.futures.specs.Poll.{IfReady, OnPending};
+ghost use Rattle.futures.specs.Runs.{After, Within};
+ghost use Rattle.futures.specs.Task.{Covers, Keeps};
+ghost use Rattle.futures_buffered_core.specs.Drawn.{Draws, DrawsMoreThan};
+ghost use Rattle.futures_buffered_core.specs.ReadyShared.{IsNewShared, MarksShared};
+ghost use Rattle.futures_buffered_core.specs.SlotMap.{held_count, slot_count, IsFull};
+ghost use Rattle.futures_buffered_bounded.specs.Held.{AllHeld};
+ghost use Rattle.futures_buffered_bounded.specs.FuturesUnorderedBounded.{HoldsEach, Pushes, SaidEmpty, IsWoken};
+ghost use Rattle.futures_buffered_merges.specs.Merging.{MergeGives, OnlyRegisters};
+ghost use Rattle.futures_buffered_merges.specs.MergeBounded.{KeepsOrder, ComesFromStreams};
+
+use crate::merging::poll_streams;
+use crate::slot_stream::SlotStream;
+use futures::Stream;
+use futures::task::{Context, Poll};
+use futures_buffered_bounded::futures_unordered_bounded::{FuturesUnorderedBounded, POLL_LIMIT};
+use futures_buffered_core::ready_core::{MAX_CAPACITY, NewFault};
+use futures_buffered_core::ready_shared::SharedReady;
+use futures_buffered_core::ready_source::{NewSource, ReadySource};
+use std::alloc::Global;
+use std::marker::Model;
+
+/// Streams in slots, over a source that names the slots to poll.
+///
+/// A contract sees what each slot holds and which slots are free, the content of the source, and the limit of names of one count. The calls take no memory once the merge is made, and wait for nobody where those of the source do not.
+#[derive(Drop)]
+pub struct MergeBounded<St: Drop, S: ReadySource> {
+    set: FuturesUnorderedBounded<St, S>,
+}
+
+/// The same merge, by its short name.
+pub type Merge<St, S> = MergeBounded<St, S>;
+
+impl<St: Drop, S: ReadySource> Model for MergeBounded<St, S> {
+    ghost use Rattle.futures_buffered_bounded.specs.FuturesUnorderedBounded.{Bounded, bounded_code};
+
+    ghost Value = { Bounded St S };
+
+    ghost coded = { bounded_code St.code S.code };
+
+    ghost view = { λ m. m.set };
+}
+
+impl<St: Drop, S: ReadySource> MergeBounded<St, S> {
+    /// A merge without a free slot, which holds item k in slot k, each marked, in this order. It has as many slots as there are items, and a source made for it.
+    ///
+    /// Takes time and memory in proportion to that number. Where it is refused, the streams that came are dropped: `TooLarge` where one more than `MAX_CAPACITY` came, and `Memory` where a request for memory was refused.
+    pub fn over<I: IntoIterator<Item = St>>(
+        env: &S::Env,
+        alloc: Global,
+        iter: I,
+    ) -> Result<Self, NewFault>
+    where
+        S: NewSource,
+        requires { IsFiniteIterable I.into_iter_gives I.IntoIter.can_next
+            I.IntoIter.remaining iter }
+        ensures holds { IfOk result (λ merge. (streams : List St)
+            × Draws I.into_iter_gives I.IntoIter.next_gives iter streams
+            × HoldsEach S.made S.marks POLL_LIMIT streams merge) }
+        ensures fits { IfOk result (λ merge. slot_count merge.slots ≤ MAX_CAPACITY) }
+        ensures large { result ≡ Err NewFault.TooLarge
+            → DrawsMoreThan I.into_iter_gives I.IntoIter.next_gives iter MAX_CAPACITY }
+    {
+        Self::over_limit(env, alloc, iter, POLL_LIMIT)
+    }
+
+    /// As `over`, where one count takes at most `limit` names.
+    pub fn over_limit<I: IntoIterator<Item = St>>(
+        env: &S::Env,
+        alloc: Global,
+        iter: I,
+        limit: usize,
+    ) -> Result<Self, NewFault>
+    where
+        S: NewSource,
+        requires finite { IsFiniteIterable I.into_iter_gives I.IntoIter.can_next
+            I.IntoIter.remaining iter }
+        requires some { 1 ≤ limit }
+        ensures holds { IfOk result (λ merge. (streams : List St)
+            × Draws I.into_iter_gives I.IntoIter.next_gives iter streams
+            × HoldsEach S.made S.marks limit streams merge) }
+        ensures fits { IfOk result (λ merge. slot_count merge.slots ≤ MAX_CAPACITY) }
+        ensures large { result ≡ Err NewFault.TooLarge
+            → DrawsMoreThan I.into_iter_gives I.IntoIter.next_gives iter MAX_CAPACITY }
+    {
+        let set = FuturesUnorderedBounded::over_limit(env, alloc, iter, limit)?;
+        Ok(MergeBounded { set })
+    }
+
+    /// Whether no slot is free. Takes the same time at any capacity.
+    pub fn is_full(&self) -> bool
+        ensures { IsTrue result ↔ (slot_count self.now.slots ≤ held_count self.now.slots) }
+    {
+        self.set.len() >= self.set.capacity()
+    }
+
+    /// Puts the stream into the first free slot and marks that slot, so that a later poll polls it. A full merge hands the stream back.
+    ///
+    /// Takes the same time at any capacity. Polls nothing, and wakes nobody: a task that waits for this merge polls it again by itself.
+    pub fn try_push(&mut self, stream: St) -> Result<(), St>
+        ensures ok { OnOk result (Pushes S.marks self.old stream self.new) }
+        ensures count { OnOk result (held_count self.new.slots ≡ held_count self.old.slots + 1) }
+        ensures full { IfErr result (λ back. (back ≡ stream) × (self.new ≡ self.old)
+            × IsFull self.old.slots) }
+        ensures capacity { slot_count self.new.slots ≡ slot_count self.old.slots }
+    {
+        self.set.try_push(stream)
+    }
+
+    /// As `try_push`, for a merge of which `is_full` is false.
+    pub fn push(&mut self, stream: St)
+        requires { held_count self.old.slots < slot_count self.old.slots }
+        ensures pushed { Pushes S.marks self.old stream self.new }
+        ensures count { held_count self.new.slots ≡ held_count self.old.slots + 1 }
+        ensures capacity { slot_count self.new.slots ≡ slot_count self.old.slots }
+    {
+        self.set.push(stream);
+    }
+}
+
+impl<St: Drop> MergeBounded<St, SharedReady> {
+    /// A merge without a free slot, which holds item k in slot k, each marked, in this order, and whose streams are woken from any thread. It is `over` with a shared source, and refuses as `over` does.
+    pub fn from_iter<I: IntoIterator<Item = St>>(alloc: Global, iter: I) -> Result<Self, NewFault>
+    where
+        requires { IsFiniteIterable I.into_iter_gives I.IntoIter.can_next
+            I.IntoIter.remaining iter }
+        ensures holds { IfOk result (λ merge. (streams : List St)
+            × Draws I.into_iter_gives I.IntoIter.next_gives iter streams
+            × HoldsEach IsNewShared MarksShared POLL_LIMIT streams merge) }
+        ensures fits { IfOk result (λ merge. slot_count merge.slots ≤ MAX_CAPACITY) }
+        ensures large { result ≡ Err NewFault.TooLarge
+            → DrawsMoreThan I.into_iter_gives I.IntoIter.next_gives iter MAX_CAPACITY }
+    {
+        Self::with_limit(alloc, iter, POLL_LIMIT)
+    }
+
+    /// As `from_iter`, where one count takes at most `limit` names.
+    pub fn with_limit<I: IntoIterator<Item = St>>(
+        alloc: Global,
+        iter: I,
+        limit: usize,
+    ) -> Result<Self, NewFault>
+    where
+        requires finite { IsFiniteIterable I.into_iter_gives I.IntoIter.can_next
+            I.IntoIter.remaining iter }
+        requires some { 1 ≤ limit }
+        ensures holds { IfOk result (λ merge. (streams : List St)
+            × Draws I.into_iter_gives I.IntoIter.next_gives iter streams
+            × HoldsEach IsNewShared MarksShared limit streams merge) }
+        ensures fits { IfOk result (λ merge. slot_count merge.slots ≤ MAX_CAPACITY) }
+        ensures large { result ≡ Err NewFault.TooLarge
+            → DrawsMoreThan I.into_iter_gives I.IntoIter.next_gives iter MAX_CAPACITY }
+    {
+        Self::over_limit(&(), alloc, iter, limit)
+    }
+}
+
+impl<St: SlotStream<S::Waker>, S: ReadySource> Stream for MergeBounded<St, S> {
+    type Item = St::Item;
+
+    ghost can_poll = { λ merge. AllHeld St.can_poll merge.slots };
+
+    ghost needs = { λ merge n. (0 < held_count merge.slots) × S.needs merge.source n };
+
+    ghost yields = { λ merge. ComesFromStreams St.polled merge.slots };
+
+    /// One poll: names are taken, in counts that each begin with a registration of the task, and the streams named are polled.
+    ///
+    /// A stream that gives an item stays, and its slot is marked. A stream that ends is dropped, and where another is still held a new count begins. `Ready(None)` at once where no stream is held, and only there. `Pending` where no further name came or a count reached the limit; where the source paused and at the limit the task is woken at once. Takes no memory, and time in proportion to the names taken, besides the polls.
+    fn poll_next(&mut self, cx: &mut Context<'_>) -> Poll<Option<St::Item>>
+        requires { AllHeld St.can_poll self.old.slots }
+        ensures polled { MergeGives St.polled S.registers S.marks S.takes
+            self.old result self.new }
+        ensures value { IfReady result (ComesFromStreams St.polled self.old.slots []) }
+        ensures rest { IfReady result (λ o. IfSome o (λ x.
+            After (ComesFromStreams St.polled self.old.slots) x
+            (ComesFromStreams St.polled self.new.slots))) }
+        ensures same { OnPending result (Within (ComesFromStreams St.polled self.old.slots)
+            (ComesFromStreams St.polled self.new.slots)) }
+        ensures ends { IfReady result (λ o. IfNone o (held_count self.new.slots ≡ 0)) }
+        ensures pollable { AllHeld St.can_poll self.new.slots }
+        ensures capacity { slot_count self.new.slots ≡ slot_count self.old.slots }
+        ensures limit { self.new.limit ≡ self.old.limit }
+        ensures covered { OnPending result (Covers cx.new (S.needs self.new.source)) }
+        ensures woken { OnPending result (IsWoken cx.new
+            ⊎ (SaidEmpty S.takes self.new.source × OnlyRegisters S.registers_poll cx.old cx.new)) }
+        ensures only_registered { IfReady result (λ _.
+            OnlyRegisters S.registers_poll cx.old cx.new) }
+        ensures untouched { held_count self.old.slots ≡ 0 → cx.new ≡ cx.old }
+        ensures kept { Keeps cx.old cx.new }
+    {
+        poll_streams(&mut self.set, cx)
+    }
+}
+
+/// After any polls of one merge the items that were given are those of the streams that it held at first: the items of each in its order, none lost and none twice. A stream that is still held is as its polls left it, and one that is not gave all of its items and then its end.
+///
+/// This is of the words that a poll's contract says of each poll. Nothing is done.
+pub fn polls_keep_order<St: SlotStream<S::Waker>, S: ReadySource>()
+    ensures { KeepsOrder St.polled S.registers S.marks S.takes }
+{}
