@@ -3,8 +3,7 @@ use futures::task::Poll;
 use futures::test::MockTask;
 use futures::{Future, Stream};
 use futures_buffered::{
-    BufferUnordered, ForEachConcurrent, FuturesUnorderedBounded, JoinAll, SlotFuture,
-    TryBufferUnordered, TryJoinAll,
+    BufferUnordered, ForEachConcurrent, FuturesUnorderedBounded, SlotFuture, TryBufferUnordered,
 };
 use futures_buffered_core::ready_source::ReadySource;
 
@@ -59,29 +58,4 @@ pub fn poll_stream<F: SlotFuture<S::Waker>, S: ReadySource>(
     requires { (future : F) → F.can_poll future }
 {
     task.enter(|cx| set.poll_next(cx))
-}
-
-/// One poll in a task.
-pub fn poll_join<F: SlotFuture<S::Waker>, S: ReadySource>(
-    task: &MockTask,
-    join: &mut JoinAll<F, S>,
-) -> Poll<Vec<F::Output>>
-where
-    F::Output: Drop,
-    requires { (future : F) → F.can_poll future }
-{
-    task.enter(|cx| join.poll(cx))
-}
-
-/// One poll in a task.
-pub fn poll_try_join<F, T, E, S: ReadySource>(
-    task: &MockTask,
-    join: &mut TryJoinAll<F, S>,
-) -> Poll<Result<Vec<T>, E>>
-where
-    F: SlotFuture<S::Waker, Output = Result<T, E>>,
-    T: Drop,
-    requires { (future : F) → F.can_poll future }
-{
-    task.enter(|cx| join.poll(cx))
 }
