@@ -24,8 +24,8 @@ pub use futures_buffered_sets::{
     FusedFuture, FusedStream, FuturesOrderedBounded, FuturesUnordered, FuturesUnorderedBounded,
     JoinAll, Merge, MergeBounded, MergeUnbounded, PollFuture, PollOne, PollStream, SizeHint,
     SlotFuture, SlotStream, SlotWaker, TryJoinAll, WakesSlot, fused, futures_ordered_bounded,
-    futures_unordered, futures_unordered_bounded, join_all, merge_bounded, merge_unbounded, poll_one,
-    slot_future, slot_stream, try_join_all,
+    futures_unordered, futures_unordered_bounded, join_all, merge_bounded, merge_unbounded,
+    poll_one, slot_future, slot_stream, try_join_all,
 };
 pub use iter_ext::IterExt;
 pub use try_buffered::{BufferedTryStreamExt, TryBufferUnordered};
