@@ -1,7 +1,3 @@
-mod bounded;
-mod drops;
 mod limits;
-mod refusals;
 mod threads;
-mod unbounded;
 mod wakes;
