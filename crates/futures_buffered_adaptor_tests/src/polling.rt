@@ -3,9 +3,10 @@ use futures::task::Poll;
 use futures::test::MockTask;
 use futures::{Future, Stream};
 use futures_buffered::{
-    BufferUnordered, ForEachConcurrent, FuturesUnorderedBounded, SlotFuture, TryBufferUnordered,
+    BufferUnordered, ForEachConcurrent, FuturesOrderedBounded, FuturesUnordered,
+    FuturesUnorderedBounded, JoinAll, SlotFuture, TryBufferUnordered, TryJoinAll,
 };
-use futures_buffered_core::ready_source::ReadySource;
+use futures_buffered_core::ready_source::{NewSource, ReadySource};
 
 /// One poll in a task.
 pub fn poll_buffer<St: Stream, S: ReadySource>(
@@ -58,4 +59,51 @@ pub fn poll_stream<F: SlotFuture<S::Waker>, S: ReadySource>(
     requires { (future : F) → F.can_poll future }
 {
     task.enter(|cx| set.poll_next(cx))
+}
+
+/// One poll of a growing set in a task.
+pub fn poll_growing<F: SlotFuture<S::Waker>, S: NewSource>(
+    task: &MockTask,
+    set: &mut FuturesUnordered<F, S>,
+) -> Poll<Option<F::Output>>
+    requires { (future : F) → F.can_poll future }
+{
+    task.enter(|cx| set.poll_next(cx))
+}
+
+/// One poll of an ordered queue in a task.
+pub fn poll_ordered<F: SlotFuture<S::Waker>, S: ReadySource>(
+    task: &MockTask,
+    queue: &mut FuturesOrderedBounded<F, S>,
+) -> Poll<Option<F::Output>>
+where
+    F::Output: Drop,
+    requires { (future : F) → F.can_poll future }
+{
+    task.enter(|cx| queue.poll_next(cx))
+}
+
+/// One poll in a task.
+pub fn poll_join<F: SlotFuture<S::Waker>, S: ReadySource>(
+    task: &MockTask,
+    join: &mut JoinAll<F, S>,
+) -> Poll<Vec<F::Output>>
+where
+    F::Output: Drop,
+    requires { (future : F) → F.can_poll future }
+{
+    task.enter(|cx| join.poll(cx))
+}
+
+/// One poll in a task.
+pub fn poll_try_join<F, T, E, S: ReadySource>(
+    task: &MockTask,
+    join: &mut TryJoinAll<F, S>,
+) -> Poll<Result<Vec<T>, E>>
+where
+    F: SlotFuture<S::Waker, Output = Result<T, E>>,
+    T: Drop,
+    requires { (future : F) → F.can_poll future }
+{
+    task.enter(|cx| join.poll(cx))
 }

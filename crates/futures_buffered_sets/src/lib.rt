@@ -24,8 +24,6 @@ pub use futures_buffered_bounded::slot_future::{SlotFuture, SlotWaker, WakesSlot
 pub use futures_buffered_bounded::{fused, futures_unordered_bounded, poll_one, slot_future};
 pub use futures_buffered_growing::futures_unordered;
 pub use futures_buffered_growing::futures_unordered::FuturesUnordered;
-pub use futures_buffered_ordered::futures_ordered_bounded;
-pub use futures_buffered_ordered::futures_ordered_bounded::FuturesOrderedBounded;
 pub use futures_buffered_joins::join_all::JoinAll;
 pub use futures_buffered_joins::try_join_all::TryJoinAll;
 pub use futures_buffered_joins::{join_all, try_join_all};
@@ -33,3 +31,5 @@ pub use futures_buffered_merges::merge_bounded::{Merge, MergeBounded};
 pub use futures_buffered_merges::merge_unbounded::MergeUnbounded;
 pub use futures_buffered_merges::slot_stream::{PollStream, SlotStream};
 pub use futures_buffered_merges::{merge_bounded, merge_unbounded, slot_stream};
+pub use futures_buffered_ordered::futures_ordered_bounded;
+pub use futures_buffered_ordered::futures_ordered_bounded::FuturesOrderedBounded;

@@ -7,7 +7,7 @@ use crate::receiver::{Receiver, one_shot};
 use crate::unbounded_hint::UnboundedHint;
 use futures::task::Poll;
 use futures::test::MockTask;
-use futures_buffered::{BufferedStreamExt, FusedStream, SizeHint};
+use futures_buffered::{BufferUnordered, BufferedStreamExt, FusedStream, SizeHint};
 use futures_buffered_core::ready_core::{MAX_CAPACITY, NewFault};
 use std::test::Fail;
 
@@ -41,6 +41,20 @@ fn draws_no_more_than_it_may_hold(rt: HostRuntime) -> Result<(), Fail> {
     assert_eq!(rt; poll_buffer(&task, &mut buffer), Poll::Ready(Some(7)));
     assert!(rt; poll_buffer(&task, &mut buffer).is_pending());
     assert!(rt; !buffer.is_terminated());
+    Ok(())
+}
+
+// One name a poll: the first poll names the future that was drawn first, which waits.
+#[test]
+fn a_chosen_limit_counts_names(rt: HostRuntime) -> Result<(), Fail> {
+    let task = MockTask::new(&rt)?;
+    let Cells { senders, receivers } = new_cells(&rt, rt.alloc(), 2)?;
+    assert!(rt; sent(&senders, 0, 7));
+    let stream = ListStream::new(receivers);
+    let mut buffer = BufferUnordered::with_limit(rt.alloc(), stream, 2, 1)?;
+    assert!(rt; poll_buffer(&task, &mut buffer).is_pending());
+    assert!(rt; task.is_woken());
+    assert_eq!(rt; poll_buffer(&task, &mut buffer), Poll::Ready(Some(7)));
     Ok(())
 }
 

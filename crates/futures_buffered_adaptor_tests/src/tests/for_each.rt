@@ -5,7 +5,7 @@ use crate::polling::poll_for_each;
 use crate::ready_at_once::ReadyAtOnce;
 use futures::task::Poll;
 use futures::test::MockTask;
-use futures_buffered::{BufferedStreamExt, FusedFuture};
+use futures_buffered::{BufferedStreamExt, ForEachConcurrent, FusedFuture};
 use std::alloc::{AllocError, Global};
 use std::sync::Arc;
 use std::sync::atomic::AtomicU64;
@@ -53,6 +53,23 @@ fn the_task_is_woken_at_the_limit(rt: HostRuntime) -> Result<(), Fail> {
     assert!(rt; !each.is_terminated());
     assert_eq!(rt; poll_for_each(&task, &mut each), Poll::Ready(()));
     assert!(rt; each.is_terminated());
+    Ok(())
+}
+
+#[test]
+fn a_chosen_limit_counts_turns(rt: HostRuntime) -> Result<(), Fail> {
+    let task = MockTask::new(&rt)?;
+    let calls = Arc::new(rt.alloc(), AtomicU64::new(0))?;
+    let counted = Arc::try_clone(&calls)?;
+    let call = move |_item: usize| {
+        counted.fetch_add(1, SeqCst);
+        ReadyAtOnce
+    };
+    let stream = items(rt.alloc(), 3)?;
+    let mut each = ForEachConcurrent::with_limit(rt.alloc(), stream, 2, 2, call)?;
+    assert!(rt; poll_for_each(&task, &mut each).is_pending());
+    assert_eq!(rt; (calls.load(SeqCst), task.is_woken()), (2, true));
+    assert_eq!(rt; poll_for_each(&task, &mut each), Poll::Ready(()));
     Ok(())
 }
 
