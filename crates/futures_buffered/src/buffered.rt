@@ -4,16 +4,16 @@
 ghost use Rattle.std.specs.Prelude.{◌<◌, IfOk};
 ghost use Rattle.futures_buffered_core.specs.Answer.{RefusesTooLarge};
 ghost use Rattle.futures_buffered_core.specs.ReadyShared.{IsNewShared};
-ghost use Rattle.futures_buffered.specs.BufferUnordered.{IsNewBuffer};
-ghost use Rattle.futures_buffered.specs.ForEachConcurrent.{IsNewForEach};
+ghost use Rattle.futures_buffered_buffers.specs.BufferUnordered.{IsNewBuffer};
+ghost use Rattle.futures_buffered_for_each.specs.ForEachConcurrent.{IsNewForEach};
 
-pub use crate::buffer_unordered::BufferUnordered;
-pub use crate::for_each_concurrent::ForEachConcurrent;
 use futures::Stream;
 use futures_buffered_bounded::SlotFuture;
 use futures_buffered_bounded::futures_unordered_bounded::POLL_LIMIT;
+pub use futures_buffered_buffers::buffer_unordered::BufferUnordered;
 use futures_buffered_core::ready_core::NewFault;
 use futures_buffered_core::ready_shared::{SharedReady, SlotWake};
+pub use futures_buffered_for_each::for_each_concurrent::ForEachConcurrent;
 use std::alloc::Global;
 
 /// Adaptors that keep some futures of a stream in progress.

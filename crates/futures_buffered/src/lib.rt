@@ -12,14 +12,13 @@
 //! - `iter_ext`: `IterExt`, the sets' constructors as methods of what gives the items.
 #![tactic(auto)]
 
-pub mod buffer_unordered;
 pub mod buffered;
-pub mod for_each_concurrent;
 pub mod iter_ext;
-pub mod try_buffer_unordered;
 pub mod try_buffered;
 
 pub use buffered::{BufferUnordered, BufferedStreamExt, ForEachConcurrent};
+pub use futures_buffered_buffers::buffer_unordered;
+pub use futures_buffered_for_each::for_each_concurrent;
 pub use futures_buffered_sets::{
     FusedFuture, FusedStream, FuturesOrderedBounded, FuturesUnordered, FuturesUnorderedBounded,
     JoinAll, Merge, MergeBounded, MergeUnbounded, PollFuture, PollOne, PollStream, SizeHint,
@@ -27,5 +26,6 @@ pub use futures_buffered_sets::{
     futures_unordered, futures_unordered_bounded, join_all, merge_bounded, merge_unbounded,
     poll_one, slot_future, slot_stream, try_join_all,
 };
+pub use futures_buffered_try_buffers::try_buffer_unordered;
 pub use iter_ext::IterExt;
 pub use try_buffered::{BufferedTryStreamExt, TryBufferUnordered};

@@ -4,14 +4,14 @@
 ghost use Rattle.std.specs.Prelude.{◌<◌, IfOk};
 ghost use Rattle.futures_buffered_core.specs.Answer.{RefusesTooLarge};
 ghost use Rattle.futures_buffered_core.specs.ReadyShared.{IsNewShared};
-ghost use Rattle.futures_buffered.specs.BufferUnordered.{IsNewBuffer};
+ghost use Rattle.futures_buffered_buffers.specs.BufferUnordered.{IsNewBuffer};
 
-pub use crate::try_buffer_unordered::TryBufferUnordered;
 use futures::Stream;
 use futures_buffered_bounded::SlotFuture;
 use futures_buffered_bounded::futures_unordered_bounded::POLL_LIMIT;
 use futures_buffered_core::ready_core::NewFault;
 use futures_buffered_core::ready_shared::{SharedReady, SlotWake};
+pub use futures_buffered_try_buffers::try_buffer_unordered::TryBufferUnordered;
 use std::alloc::Global;
 
 /// Adaptors that keep some futures of a stream in progress, where the stream gives errors as well.

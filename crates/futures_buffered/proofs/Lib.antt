@@ -1,4 +1,0 @@
-pub mod BufferUnorderedLemmas
-pub mod AccountLemmas
-pub mod ForEachConcurrentLemmas
-pub mod TryBufferUnorderedLemmas

@@ -1,0 +1,2 @@
+pub mod BufferUnorderedLemmas
+pub mod AccountLemmas

@@ -1,0 +1,2 @@
+pub mod TryBuffered
+pub mod TryBufferUnordered

@@ -1,0 +1,10 @@
+//! Adaptors that keep at most n futures of a stream in progress, where the stream gives errors as well.
+//!
+//! In the order in which to read them:
+//!
+//! - `try_buffer_unordered`: `TryBufferUnordered`, whose outputs come as the futures finish.
+#![tactic(auto)]
+
+pub mod try_buffer_unordered;
+
+pub use try_buffer_unordered::TryBufferUnordered;
