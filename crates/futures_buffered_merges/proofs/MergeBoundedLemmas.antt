@@ -1,5 +1,5 @@
 -- What the streams of a merge give over many polls.
-use Rattle.std.proofs.Common.{◌≡◌, ◌≢◌, ◌⊎◌, ℕ, zero, suc, ◌==◌, ◌<◌, ◌≤◌, cond, true, false, is_some, List, [], ◌∷◌, ◌++◌, length, get_or, Option, Some, None, MatchOption, IfSome, refl, sym, ap, subst, inl, inr, arith, ◌∙◌}
+use Rattle.std.proofs.Common.{◌≡◌, ◌≢◌, ◌⊎◌, ℕ, ◌==◌, ◌<◌, ◌≤◌, cond, is_some, List, [], ◌∷◌, ◌++◌, length, Option, Some, None, MatchOption, IfSome, refl, sym, ap, subst, inl, inr, arith, ◌∙◌}
 use Rattle.std.specs.List.{FoldsTo}
 use Rattle.std.proofs.lemmas.Bool.{cases_eq, cases_lt, eq-eqb, ne_eqb}
 use Rattle.std.proofs.lemmas.List.{get_or-set_other, get_or_past}
@@ -13,11 +13,11 @@ use Rattle.futures_buffered_core.specs.SlotMap.{Slots, value_in, held_count, wit
 use Rattle.futures_buffered_table.specs.declared.answer.Taken.{Taken}
 use Rattle.futures_buffered_table.specs.declared.answer.Woke.{Woke}
 use Rattle.futures_buffered_bounded.specs.Held.{Passes}
-use Rattle.futures_buffered_bounded.specs.FuturesUnorderedBounded.{Bounded, AsksUntil}
+use Rattle.futures_buffered_bounded.specs.FuturesUnorderedBounded.{Bounded}
 use Rattle.futures_buffered_bounded.proofs.HeldLemmas.{value_in-with_value}
 use Rattle.futures_buffered_bounded.proofs.GivingLemmas.{value_in-with_slot_freed, value_in-with_slot_freed_other}
-use Rattle.futures_buffered_merges.specs.SlotStream.{items_in, Gave, Became}
-use Rattle.futures_buffered_merges.specs.Merging.{CountEnds, LastCount, MergeGives}
+use Rattle.futures_buffered_merges.specs.SlotStream.{items_in, Gave}
+use Rattle.futures_buffered_merges.specs.Merging.{CountEnds, MergeGives}
 use Rattle.futures_buffered_merges.specs.MergeBounded.{items_at, StreamsGave, ComesFromStreams}
 use Rattle.futures_buffered_merges.proofs.SlotStreamLemmas.{gave_none, gave_pending, gave_item, became_none, became_on}
 
@@ -93,7 +93,7 @@ module _ {F A : Type 0} (polled : ℕ → F → Poll (Option A) → F → Type 0
     counts_gave (i ∷ ended) old new h = streams_on old.slots h.0.slots new.slots [] [] (count_gave old h.0 i h.1) (counts_gave ended h.0 new h.2)
 
     -- one poll
-    item_gave : (old new : Bounded F S) (x : A) → MergeGives polled registers marks takes old (Ready (Some x)) new → (i : ℕ) × StreamsGave polled old.slots ((i, x) ∷ []) new.slots
+    pub item_gave : (old new : Bounded F S) (x : A) → MergeGives polled registers marks takes old (Ready (Some x)) new → (i : ℕ) × StreamsGave polled old.slots ((i, x) ∷ []) new.slots
     item_gave old new x h =
         let last = h.last_count.1 in
         let i = last.0 in
@@ -106,12 +106,12 @@ module _ {F A : Type 0} (polled : ℕ → F → Poll (Option A) → F → Type 0
           rw stays (streams_on old.slots asks.2 (with_value asks.2 i gives.left) [] ((i, x) ∷ []) passed (at_slot asks.2 i gives.value gives.left ((i, x) ∷ []) gives.held (λ j other. items_elsewhere i j x other) (rw here (gave_item (polled i) gives.value gives.left x gives.gave)))),
         )
 
-    pending_gave : (old new : Bounded F S) → MergeGives polled registers marks takes old Pending new → StreamsGave polled old.slots [] new.slots
+    pub pending_gave : (old new : Bounded F S) → MergeGives polled registers marks takes old Pending new → StreamsGave polled old.slots [] new.slots
     pending_gave old new h =
         let asks = h.last_count.1 in
         streams_on old.slots h.before.slots new.slots [] [] (counts_gave h.ended old h.before h.counts) (passed_gave asks.0 h.before.slots new.slots asks.3.passes)
 
-    end_gave : (old new : Bounded F S) → MergeGives polled registers marks takes old (Ready None) new → ((j : ℕ) → value_in new.slots j ≡ None) × StreamsGave polled old.slots [] new.slots
+    pub end_gave : (old new : Bounded F S) → MergeGives polled registers marks takes old (Ready None) new → ((j : ℕ) → value_in new.slots j ≡ None) × StreamsGave polled old.slots [] new.slots
     end_gave old new h =
         let same = h.last_count.1 in (
           rw same (none_held h.before.slots h.last_count.0),

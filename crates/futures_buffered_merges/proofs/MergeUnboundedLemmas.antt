@@ -1,6 +1,6 @@
 -- What one poll makes of the groups of a merge.
-use Rattle.std.proofs.Common.{◌≡◌, ◌≢◌, ◌⊎◌, ℕ, zero, suc, ◌+◌, ◌-◌, Bool, true, false, true≢false, ◌<◌, ◌≤◌, nat_lt, cond, ◌&&◌, ◌↔◌, MatchOption, List, [], ◌∷◌, ◌++◌, length, take, drop, set, get_or, Option, Some, None, OnSome, IfSome, IfNone, is_some, refl, sym, ap, subst, inl, inr, arith, length-set, ◌∙◌}
-use Rattle.std.specs.List.{All, AllZip, AllByRecursion, FoldsTo, list_all, enumerate_from}
+use Rattle.std.proofs.Common.{◌≡◌, ◌≢◌, ◌⊎◌, ℕ, ◌+◌, ◌-◌, Bool, true, false, true≢false, ◌<◌, ◌≤◌, nat_lt, cond, ◌&&◌, MatchOption, List, [], ◌∷◌, ◌++◌, length, take, drop, set, get_or, Option, Some, None, OnSome, IfSome, IfNone, is_some, refl, sym, ap, subst, inl, inr, arith, length-set, ◌∙◌}
+use Rattle.std.specs.List.{AllZip, AllByRecursion, FoldsTo, list_all, enumerate_from}
 use Rattle.std.proofs.lemmas.Bool.{cases_lt, lt-ltb}
 use Rattle.std.proofs.lemmas.List.{get_or-set_same, get_or-set_other, take-append-drop}
 use Rattle.std.proofs.lemmas.List.Elements.{All-set}
@@ -20,13 +20,12 @@ use Rattle.futures_buffered_bounded.specs.FuturesUnorderedBounded.{Bounded, Asks
 use Rattle.futures_buffered_bounded.specs.Groups.{Groups, Turn, TakesTurn, AsksLast, GroupsGive, ended, is_end, staying, round_from, GaveNoOutput, NoOutput}
 use Rattle.futures_buffered_bounded.specs.GroupsStep.{next_place}
 use Rattle.futures_buffered_bounded.proofs.HeldLemmas.{count-with}
-use Rattle.futures_buffered_bounded.proofs.GroupsStepLemmas.{from_some, from_none}
+use Rattle.futures_buffered_bounded.proofs.GroupsStepLemmas.{from_none}
 use Rattle.futures_buffered_growing.specs.FuturesUnordered.{held_in, all_held, EachCovered, AnyOf, AnyNeeds}
-use Rattle.futures_buffered_growing.specs.FuturesUnorderedInvariant.{IsGroup, KeepsGroups, SameKind}
+use Rattle.futures_buffered_growing.specs.FuturesUnorderedInvariant.{KeepsGroups}
 use Rattle.futures_buffered_growing.proofs.FuturesUnorderedLemmas.{alike_self, same_or, alike_back, alike_on, covered_at, keeps_behind, keeps_last, keeps_left, each_set, alike_set, to_left}
 use Rattle.futures_buffered_growing.proofs.YieldsLemmas.{any_left, any_output, covered_of}
 use Rattle.futures_buffered_merges.specs.Merging.{CountEnds, LastCount, MergeGives}
-use Rattle.futures_buffered_merges.specs.MergeBounded.{ComesFromStreams}
 use Rattle.futures_buffered_merges.specs.MergeUnbounded.{GroupMayGive, ComesFromGroups}
 use Rattle.futures_buffered_merges.specs.MergeUnboundedInvariant.{KeepsStreams}
 use Rattle.futures_buffered_merges.proofs.MergeBoundedLemmas.{value_of, rest_of, same_of, ended_of}

@@ -1,14 +1,14 @@
 -- From what the calls of a set leave to what one poll of its streams says.
-use Rattle.std.proofs.Common.{◌≡◌, ◌≢◌, ℕ, [], ◌∷◌, ◌++◌, Option, Some, None, IfSome, ◌<◌, refl, sym, ap, inl, inr, ◌∙◌}
+use Rattle.std.proofs.Common.{◌≡◌, ℕ, [], ◌∷◌, ◌++◌, Option, Some, None, ◌<◌, ap, inl, inr, ◌∙◌}
 use Rattle.std.proofs.lemmas.Fn.{FoldsTo-push}
 use Rattle.futures.specs.declared.task.context.Context.{Context}
 use Rattle.futures.specs.declared.task.Poll.{Poll}
-use Rattle.futures.specs.declared.task.Poll.TheVariants.{Ready, Pending}
+use Rattle.futures.specs.declared.task.Poll.TheVariants.{Ready}
 use Rattle.futures_buffered_table.specs.declared.answer.Taken.{Taken}
 use Rattle.futures_buffered_table.specs.declared.answer.Woke.{Woke}
 use Rattle.futures_buffered_merges.specs.Merging.{OnlyRegisters, CountGives}
 use Rattle.std.proofs.lemmas.Bool.{cases_eq}
-use Rattle.futures_buffered_core.specs.SlotMap.{Slots, value_in, held_count, with_slot_freed}
+use Rattle.futures_buffered_core.specs.SlotMap.{Slots, held_count, with_slot_freed}
 use Rattle.futures_buffered_bounded.specs.Held.{AllHeld, AllHeldBut}
 use Rattle.futures_buffered_bounded.specs.FuturesUnorderedBounded.{Bounded, AsksUntil, MarksSlot, with_empty_slot, with_source}
 use Rattle.futures_buffered_bounded.proofs.GivingLemmas.{value_in-with_slot_freed, value_in-with_slot_freed_other}

@@ -17,7 +17,7 @@ ghost use Rattle.futures_buffered_bounded.specs.GroupsStep.{AsksOne, next_place}
 ghost use Rattle.futures_buffered_growing.specs.FuturesUnordered.{EachHeld, EachCovered, AnyNeeds, GrowingPushes, IsAtBound, IsNewGroup, LastIsFull, PushesEach, no_groups, all_held, next_capacity, spare_places};
 ghost use Rattle.futures_buffered_growing.specs.FuturesUnorderedInvariant.{AddsGroup, PushesLast};
 ghost use Rattle.futures_buffered_merges.specs.Merging.{MergeGives};
-ghost use Rattle.futures_buffered_merges.specs.MergeUnbounded.{ComesFromGroups};
+ghost use Rattle.futures_buffered_merges.specs.MergeUnbounded.{ComesFromGroups, KeepsOrderInGroups};
 ghost use Rattle.futures_buffered_merges.specs.MergeUnboundedInvariant.{KeepsStreams};
 
 use crate::merging::poll_streams;
@@ -372,6 +372,13 @@ impl<St: SlotStream<S::Waker>, S: NewSource> Stream for MergeUnbounded<St, S> {
         self.poll_groups(cx)
     }
 }
+
+/// After any polls of one merge the items that were given are those of the streams that it held at first: the items of each in its order, none lost and none twice. A group that has left holds no stream, and a stream that is still held is as its polls left it.
+///
+/// This is of the words that a poll's contract says of each poll. Nothing is done.
+pub fn polls_keep_order<St: SlotStream<S::Waker>, S: NewSource>()
+    ensures { KeepsOrderInGroups St.polled S.registers S.marks S.takes }
+{}
 
 impl<St: Drop> MergeUnbounded<St, SharedReady> {
     /// A merge without a group, whose streams are woken from any thread. Takes no memory.
