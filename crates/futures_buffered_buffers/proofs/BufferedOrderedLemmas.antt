@@ -1,21 +1,22 @@
 -- What one draw, and one poll of the queue, leave of what may come from an ordered buffer, and of whether it may be polled.
-use Rattle.std.proofs.Common.{◌≡◌, ◌⊎◌, ℕ, ◌+◌, ◌≤◌, List, [], ◌∷◌, ◌++◌, length, set, length-set, Option, Some, None, MatchOption, IsSomeAnd, zero, suc, refl, sym, ap, subst, inl, inr, arith, ◌∙◌, append_assoc}
+use Rattle.std.proofs.Common.{◌≡◌, ℕ, ◌+◌, ◌≤◌, List, [], ◌∷◌, ◌++◌, length, length-set, Option, Some, None, IfSome, IsSomeAnd, ◌<◌, true, suc, refl, sym, ap, subst, inl, inr, arith, ◌∙◌, append_assoc}
 use Rattle.std.specs.List.{FoldsTo, slice_get}
 use Rattle.futures.specs.declared.task.Poll.{Poll}
 use Rattle.futures.specs.declared.task.Poll.TheVariants.{Ready, Pending}
-use Rattle.futures.specs.Runs.{Runs, After, Within, Ends, Leads, Chains, Resolves, Turns, firsts, seconds}
-use Rattle.futures_buffered_core.specs.SlotMap.{Slots, value_in}
+use Rattle.futures.specs.declared.task.context.Context.{Context}
+use Rattle.futures.specs.Task.{Lasting, Covers, Keeps, Hears}
+use Rattle.futures.specs.Runs.{Runs, After, Within, Ends, Leads, Chains, Resolves, firsts}
 use Rattle.futures_buffered_table.specs.declared.answer.Taken.{Taken}
 use Rattle.futures_buffered_table.specs.declared.answer.Woke.{Woke}
 use Rattle.futures_buffered_bounded.specs.Held.{MayGive}
 use Rattle.futures_buffered_bounded.proofs.HeldLemmas.{AllHeld-push}
-use Rattle.futures_buffered_ordered.specs.FuturesOrderedBounded.{OrderedBounded, EachHasOne, AddsBack, SetYields, OrderedGives, InTurn, GivesAt, EntryGives, ComesInOrder}
+use Rattle.futures_buffered_ordered.specs.FuturesOrderedBounded.{OrderedBounded, EachHasOne, AddsBack, SetYields, OrderedGives, InTurn, GivesAt, EntryGives, ComesInOrder, starts_running}
 use Rattle.futures_buffered_ordered.specs.declared.futures_ordered_bounded.Entry.{Entry}
 use Rattle.futures_buffered_ordered.specs.declared.futures_ordered_bounded.Entry.TheVariants.{Running, Kept}
 use Rattle.futures_buffered_ordered.proofs.PushLemmas.{value-inserted, value-inserted_other, apart}
 use Rattle.futures_buffered_buffers.specs.Buffered.{Buffer}
 use Rattle.futures_buffered_buffers.specs.BufferUnordered.{MayGiveInSlot}
-use Rattle.futures_buffered_buffers.specs.BufferedOrdered.{CanDrawOrdered, OrderedBufferGives, queue_len}
+use Rattle.futures_buffered_buffers.specs.BufferedOrdered.{CanDrawOrdered, WaitsAtOrdered, OrderedBufferGives, queue_len, queue_room}
 
 Some-same : {F : Type 0} {f g : F} → Some f ≡ Some g → f ≡ g
 Some-same e = cc
@@ -131,19 +132,19 @@ module _ {St F A S : Type 0} (yields : St → Runs F) (polled : ℕ → F → Po
   item_within marks s s2 item old new each pushed came rest =
       item_chains (MayGiveInSlot polled) (yields s) (yields s2) item (ComesInOrder polled old) came rest (ComesInOrder polled new) (pushed_apart polled marks old new item each pushed)
 
-  more_within : (old new : Option St) (source left : Runs F) (q : OrderedBounded F A S) → Within source left → Within (Chains (ComesInOrder polled q) (Resolves (MayGiveInSlot polled) source)) (Chains (ComesInOrder polled q) (Resolves (MayGiveInSlot polled) left))
-  more_within old new source left q same xs last (inl h) = inl h
-  more_within old new source left q same xs last (inr h) = inr (h.0, h.1, h.2, h.3, resolves_same (MayGiveInSlot polled) source left same h.1 last h.4)
+  more_within : (source left : Runs F) (q : OrderedBounded F A S) → Within source left → Within (Chains (ComesInOrder polled q) (Resolves (MayGiveInSlot polled) source)) (Chains (ComesInOrder polled q) (Resolves (MayGiveInSlot polled) left))
+  more_within source left q same xs last (inl h) = inl h
+  more_within source left q same xs last (inr h) = inr (h.0, h.1, h.2, h.3, resolves_same (MayGiveInSlot polled) source left same h.1 last h.4)
 
   -- the stream was pending
   pub pending_within : (s s2 : St) (q : OrderedBounded F A S) → Within (yields s) (yields s2)
       → Within (OrderedBufferGives yields polled (record { stream = Some s; queue = q })) (OrderedBufferGives yields polled (record { stream = Some s2; queue = q }))
-  pending_within s s2 q same = more_within (Some s) (Some s2) (yields s) (yields s2) q same
+  pending_within s s2 q same = more_within (yields s) (yields s2) q same
 
   -- the stream ended
   pub end_within : (s : St) (q : OrderedBounded F A S) → yields s [] None
       → Within (OrderedBufferGives yields polled (record { stream = Some s; queue = q })) (OrderedBufferGives yields polled (record { stream = None; queue = q }))
-  end_within s q ended = more_within (Some s) None (yields s) Ends q (ends_within (yields s) ended)
+  end_within s q ended = more_within (yields s) Ends q (ends_within (yields s) ended)
 
 module _ {F A S : Type 0} (polled : ℕ → F → Poll A → F → Type 0) where
   -- an empty queue gives no more than one that may end
@@ -173,6 +174,10 @@ module _ {St X F A S : Type 0} (can_next : St → Type 0) (yields : St → Runs 
       → CanDrawOrdered can_next yields is_fit can_poll (record { stream = Some s2; queue = q })
   pending_can s s2 q can same next = record { stream = next; to_come = λ xs x h. can.to_come xs x (same xs (Some x) h); held = can.held }
 
+no_start : {A : Type 0} (es : List (Entry A)) → length es ≡ 0 → starts_running es ≡ true → ⊥
+no_start [] none runs = cc
+no_start (e ∷ es) none runs = omega (arith, none)
+
 module _ {F A S : Type 0} (polled : ℕ → F → Poll A → F → Type 0) (registers : S → S → Type 0) (takes : S → Taken → S → Type 0) where
   row_len : (row : List (ℕ × A)) (old before : OrderedBounded F A S) → FoldsTo (SetYields polled registers takes) old row before → queue_len before ≡ queue_len old
   row_len [] old before h = ap queue_len (sym h)
@@ -197,3 +202,46 @@ module _ {F A S : Type 0} (polled : ℕ → F → Poll A → F → Type 0) (regi
 
   pub none_left : (old new : OrderedBounded F A S) → OrderedGives polled registers takes old (Ready None) new → new.entries ≡ []
   none_left old new h = ap (λ (q : OrderedBounded F A S). q.entries) h.last_step.1 ∙ h.last_step.0
+
+  -- a poll that finds no entry changes nothing
+  pub none_same : (old new : OrderedBounded F A S) → OrderedGives polled registers takes old (Ready None) new → new ≡ old
+  none_same old new h = by_row h.yielded h.row
+    where
+      none : length old.entries ≡ 0
+      none = sym (row_len h.yielded old h.before h.row) ∙ ap (λ (l : List (Entry A)). length l) h.last_step.0
+
+      by_row : (row : List (ℕ × A)) → FoldsTo (SetYields polled registers takes) old row h.before → new ≡ old
+      by_row [] ran = h.last_step.1 ∙ sym ran
+      by_row ((i, x) ∷ row) ran = absurd (no_start old.entries none ran.1.0)
+
+  -- the queue holds no more than it has slots
+  pub still_fits : (old new : OrderedBounded F A S) (answer : Poll (Option A)) → OrderedGives polled registers takes old answer new → queue_room new ≡ queue_room old → (0 < queue_room old) × (queue_len old ≤ queue_room old) → (0 < queue_room new) × (queue_len new ≤ queue_room new)
+  still_fits old new answer h same fits =
+      let some = fits.0 in
+      let most = fits.1 in
+      let fewer = polled_len old new answer h in
+      (omega (arith, same, some), omega (arith, same, most, fewer))
+
+-- what may be polled before a poll that finds no entry may be polled after it
+pub none_can : {St X F A S : Type 0} (can_next : St → Type 0) (yields : St → Runs X) (is_fit : X → Type 0) (can_poll : F → Type 0) (b : Buffer St (OrderedBounded F A S)) (stream : Option St) (old new : OrderedBounded F A S) → b ≡ record { stream = stream; queue = old } → new ≡ old → CanDrawOrdered can_next yields is_fit can_poll b
+    → CanDrawOrdered can_next yields is_fit can_poll (record { stream = stream; queue = new })
+none_can {St} {X} {F} {A} {S} can_next yields is_fit can_poll b stream old new is same can =
+    subst (λ (q : OrderedBounded F A S). CanDrawOrdered can_next yields is_fit can_poll (record { stream = stream; queue = q })) (sym same)
+    (subst (λ (c : Buffer St (OrderedBounded F A S)). CanDrawOrdered can_next yields is_fit can_poll c) is can)
+
+-- a pending call waits where its draws and its queue wait
+pub pending_covers : {St F A S : Type 0} (stream_needs : St → ℕ → Type 0) (source_needs : S → ℕ → Type 0) (b : Buffer St (OrderedBounded F A S)) (stream : Option St) (old new : OrderedBounded F A S) (before after : Context) → b ≡ record { stream = stream; queue = old } → queue_len new ≡ queue_len old → queue_room new ≡ queue_room old
+    → (queue_len b.queue < queue_room b.queue → IfSome b.stream (λ s. Covers before (stream_needs s))) → Keeps before after → Covers after (source_needs new.set.source)
+    → Covers after (WaitsAtOrdered stream_needs source_needs (record { stream = stream; queue = new }))
+pending_covers {St} {F} {A} {S} stream_needs source_needs b stream old new before after is len room covered kept registered = (registered.0, by_place)
+  where
+    drawn : queue_len old < queue_room old → IfSome stream (λ s. Covers before (stream_needs s))
+    drawn = subst (λ (c : Buffer St (OrderedBounded F A S)). queue_len c.queue < queue_room c.queue → IfSome c.stream (λ s. Covers before (stream_needs s))) is covered
+
+    by_stream : (place : ℕ) (o : Option St) → IfSome o (λ s. Covers before (stream_needs s)) → IsSomeAnd o (λ s. stream_needs s place) → Hears after place
+    by_stream place None covers needs = absurd needs
+    by_stream place (Some s) covers needs = kept (Lasting.hears place) (covers.1 place needs)
+
+    by_place : (place : ℕ) → WaitsAtOrdered stream_needs source_needs (record { stream = stream; queue = new }) place → Hears after place
+    by_place place (inl waits) = registered.1 place waits.1
+    by_place place (inr waits) = let below = waits.0 in by_stream place stream (drawn (omega (arith, len, room, below))) waits.1

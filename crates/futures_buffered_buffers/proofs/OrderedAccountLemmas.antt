@@ -1,5 +1,5 @@
 -- That the outputs of an ordered buffer are those of the first items drawn, in order, and that no item drawn is lost.
-use Rattle.std.proofs.Common.{◌≡◌, ◌≢◌, ℕ, zero, suc, List, [], ◌∷◌, ◌++◌, set, get_or, Option, Some, None, MatchOption, is_some, refl, sym, ap, subst, inl, inr, ◌∙◌, append-nil, append_assoc, length, arith}
+use Rattle.std.proofs.Common.{◌≡◌, ◌≢◌, ℕ, zero, suc, List, [], ◌∷◌, ◌++◌, set, Option, Some, None, MatchOption, is_some, refl, sym, ap, subst, inl, inr, ◌∙◌, append-nil, append_assoc, length, arith}
 use Rattle.std.specs.Prelude.{⊤}
 use Rattle.std.specs.Option.{option_to_list}
 use Rattle.std.specs.List.{FoldsTo, AllZip, slice_get}

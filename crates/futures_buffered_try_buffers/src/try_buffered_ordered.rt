@@ -44,6 +44,7 @@ where
     ghost Value = { Buffer St (OrderedBounded F F.Output S) };
 
     ghost use Rattle.std.specs.Prelude.{◌<◌, ◌≤◌};
+    ghost use Rattle.futures_buffered_buffers.specs.BufferedOrdered.{queue_len, queue_room};
 
     ghost view = { λ s. record { stream = s.stream; queue = s.queue } };
 

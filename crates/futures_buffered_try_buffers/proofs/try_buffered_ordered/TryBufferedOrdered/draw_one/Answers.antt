@@ -88,3 +88,8 @@ returns-in-Pending-clause-within g c =
     let was : c.args.self.now ≡ record { stream = Some c.in-Some.stream; queue = c.self.inside.queue } = let e = c.self.view_is in let k = c.in-Some.stream-is in cc in
     λ xs last h. as_before (TryOrderedGives stream.yields future.polled) _ _ was xs last
     (pending_within stream.yields future.polled c.in-Some.stream c.poll_next.new.self c.self.inside.queue c.in-Pending.ensures.same xs last h)
+
+pub returns-in_default-clause-within : goal.returns-in_default-clause-within
+returns-in_default-clause-within g c =
+    let was : c.args.self.now ≡ record { stream = c.self.inside.stream; queue = c.self.inside.queue } = sym c.self.view_is in
+    λ xs last h. as_before (TryOrderedGives g.St.Stream.yields g.F.SlotFuture.polled) _ _ was xs last h

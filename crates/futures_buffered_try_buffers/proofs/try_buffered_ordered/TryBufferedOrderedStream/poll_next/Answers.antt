@@ -1,9 +1,9 @@
-use Rattle.std.proofs.Common.{inr, ◌≡◌, [], ◌∷◌, Some, None, sym, refl}
+use Rattle.std.proofs.Common.{IfOk, inr, ◌≡◌, [], ◌∷◌, Some, None, sym, refl}
 use Rattle.futures_buffered_ordered.specs.FuturesOrderedBounded.{AddsBack, OrderedGives}
 use Rattle.futures_buffered_buffers.specs.Buffered.{PollsStream}
 use Rattle.futures_buffered_buffers.specs.BufferedOrdered.{queue_len, queue_room}
 use Rattle.futures_buffered_buffers.proofs.BufferUnorderedLemmas.{call_of, some_pends, none_ends, none_is}
-use Rattle.futures_buffered_buffers.proofs.BufferedOrderedLemmas.{as_before}
+use Rattle.futures_buffered_buffers.proofs.BufferedOrderedLemmas.{as_before, none_same, none_can, pending_len, pending_covers, still_fits}
 use Rattle.futures_buffered_try_buffers.specs.TryBuffered.{PushesOk}
 use Rattle.futures_buffered_try_buffers.specs.TryBufferedOrdered.{TryOrderedGives}
 use Rattle.futures_buffered_try_buffers.proofs.TryBufferedOrderedLemmas.{queue_pending, queue_none, queue_rest, queue_value, queue_ends}
@@ -94,3 +94,38 @@ returns-clause-value g c =
     let ended = none_is c.self.inside.stream (sym c.if-is_some.ensures) in
     c.in_default.ensures.within [] None (as_before (TryOrderedGives stream.yields future.polled) _ _ was [] None
     (rw ended (queue_ends stream.yields future.polled source.registers source.takes c.self.inside.queue c.poll_next.new.self (rw c.in-Ready-None.field-0-is at c.in-Ready-None.ensures.polled))))
+
+pub invariant_of-self : goal.invariant_of-self
+invariant_of-self g c =
+    let source = g.S.ReadySource in
+    still_fits g.F.SlotFuture.polled source.registers source.takes c.self.inside.queue c.poll_next.new.self c.poll_next.result c.poll_next.ensures.polled c.poll_next.ensures.capacity c.self.invariant
+
+pub returns-in-Ready-Some-clause-bound : goal.returns-in-Ready-Some-clause-bound
+returns-in-Ready-Some-clause-bound g c =
+    let source = g.S.ReadySource in
+    (still_fits g.F.SlotFuture.polled source.registers source.takes c.self.inside.queue c.poll_next.new.self c.poll_next.result c.poll_next.ensures.polled c.poll_next.ensures.capacity c.self.invariant).1
+
+pub invariant_of-self-in-Pending : goal.invariant_of-self-in-Pending
+invariant_of-self-in-Pending g c =
+    let source = g.S.ReadySource in
+    still_fits g.F.SlotFuture.polled source.registers source.takes c.self.inside.queue c.poll_next.new.self c.poll_next.result c.poll_next.ensures.polled c.poll_next.ensures.capacity c.self.invariant
+
+pub returns-in-Pending-clause-bound : goal.returns-in-Pending-clause-bound
+returns-in-Pending-clause-bound g c =
+    let source = g.S.ReadySource in
+    (still_fits g.F.SlotFuture.polled source.registers source.takes c.self.inside.queue c.poll_next.new.self c.poll_next.result c.poll_next.ensures.polled c.poll_next.ensures.capacity c.self.invariant).1
+
+pub returns-in-Pending-clause-registered : goal.returns-in-Pending-clause-registered
+returns-in-Pending-clause-registered g c =
+    let source = g.S.ReadySource in
+    let was : c.fill.new.self ≡ record { stream = c.self.inside.stream; queue = c.self.inside.queue } = sym c.self.view_is in
+    let len = pending_len g.F.SlotFuture.polled source.registers source.takes c.self.inside.queue c.poll_next.new.self c.in-Pending.ensures.polled in
+    pending_covers g.St.Stream.needs source.needs c.fill.new.self c.self.inside.stream c.self.inside.queue c.poll_next.new.self c.fill.new.cx c.poll_next.new.cx was len c.poll_next.ensures.capacity c.in_default.ensures.covered c.poll_next.ensures.kept c.in-Pending.ensures.registered
+
+pub returns-then-is_some-clause-again : goal.returns-then-is_some-clause-again
+returns-then-is_some-clause-again g c =
+    let future = g.F.SlotFuture in
+    let stream = g.St.Stream in
+    let source = g.S.ReadySource in
+    let was : c.fill.new.self ≡ record { stream = c.self.inside.stream; queue = c.self.inside.queue } = sym c.self.view_is in
+    none_can stream.can_poll stream.yields (λ item. IfOk item future.can_poll) future.can_poll c.fill.new.self c.self.inside.stream c.self.inside.queue c.poll_next.new.self was (none_same future.polled source.registers source.takes c.self.inside.queue c.poll_next.new.self (rw c.in-Ready-None.field-0-is at c.in-Ready-None.ensures.polled)) c.fill.ensures.again
