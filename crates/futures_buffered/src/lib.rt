@@ -19,8 +19,7 @@ pub mod iter_ext;
 pub mod try_buffered;
 
 pub use buffered::{BufferUnordered, BufferedOrdered, BufferedStreamExt, ForEachConcurrent};
-pub use futures_buffered_buffers::buffer_unordered;
-pub use futures_buffered_buffers::buffered_ordered;
+pub use futures_buffered_buffers::{buffer_unordered, buffered_ordered};
 pub use futures_buffered_for_each::for_each_concurrent;
 pub use futures_buffered_sets::{
     FusedFuture, FusedStream, FuturesOrderedBounded, FuturesUnordered, FuturesUnorderedBounded,
@@ -29,7 +28,6 @@ pub use futures_buffered_sets::{
     futures_unordered, futures_unordered_bounded, join_all, merge_bounded, merge_unbounded,
     poll_one, slot_future, slot_stream, try_join_all,
 };
-pub use futures_buffered_try_buffers::try_buffer_unordered;
-pub use futures_buffered_try_buffers::try_buffered_ordered;
+pub use futures_buffered_try_buffers::{try_buffer_unordered, try_buffered_ordered};
 pub use iter_ext::IterExt;
 pub use try_buffered::{BufferedTryStreamExt, TryBufferUnordered, TryBufferedOrdered};

@@ -178,9 +178,9 @@ module _ {F A S : Type 0} (polled : ℕ → F → Poll A → F → Type 0) where
         all = ap (λ (l : List F). l ++ f ∷ []) so.all ∙ append_assoc so.gone so.kept (f ∷ []);
         gave = so.gave;
         came = subst (λ (l : List (Entry A)). AllZip (BecomesEntry polled new.set.slots) (so.kept ++ f ∷ []) l) (sym pushed.2)
-        (zip_push (BecomesEntry polled new.set.slots) so.kept old.entries f (Running pushed.0)
-        (came_on polled old.set.slots new.set.slots so.kept old.entries (pushed_on polled old.set.slots new.set.slots pushed.0 f into) so.came)
-        (f, value-inserted old.set.slots new.set.slots pushed.0 f into, ([], refl)));
+            (zip_push (BecomesEntry polled new.set.slots) so.kept old.entries f (Running pushed.0)
+            (came_on polled old.set.slots new.set.slots so.kept old.entries (pushed_on polled old.set.slots new.set.slots pushed.0 f into) so.came)
+            (f, value-inserted old.set.slots new.set.slots pushed.0 f into, ([], refl)));
         each = subst Apart (sym pushed.2) (apart_push pushed.0 old.entries so.each (empty_free polled old.set.slots pushed.0 so.kept old.entries into.was_empty so.came));
       }
 

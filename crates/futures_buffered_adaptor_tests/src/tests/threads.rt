@@ -5,10 +5,9 @@ use crate::receiver::{Receiver, Sender};
 use futures::StreamExt;
 use futures::executor::block_on;
 use futures_buffered::BufferedStreamExt;
-use std::sync::Arc;
-use std::sync::Wait;
 use std::sync::atomic::AtomicU64;
 use std::sync::atomic::Ordering::SeqCst;
+use std::sync::{Arc, Wait};
 use std::test::Fail;
 use std::thread;
 
