@@ -12,9 +12,9 @@ draws-init g c = record { drawn = []; items = refl; capacity = refl; again = c.r
 
 pub draws-preserved : goal.draws-preserved
 draws-preserved g c =
-    let draws = DrawsOne (PollsStream g.St.Stream.yields) queue_len (queue_room c.args.self.now.queue) (PushesOk (AddsBack g.S.ReadySource.marks)) in
     let so = c.draws.invariant in
     let drew = c.in-Ok.ensures.one (let e = c.if-not-drew.false in search rules) in
+    let draws = DrawsOne (PollsStream g.St.Stream.yields) queue_len (queue_room c.args.self.now.queue) (PushesOk (AddsBack g.S.ReadySource.marks)) in
     record {
       drawn = so.drawn ++ drew.0 ∷ [];
       items = FoldsTo-push draws c.args.self.now so.drawn c.draws.self drew.0 c.draw_one.new.self so.items (rw (← so.capacity) drew.1);
