@@ -57,7 +57,8 @@ fn a_for_each_while_a_thread_wakes(rt: HostRuntime) -> Result<(), Fail> {
         counted.fetch_add(1, SeqCst);
         receiver
     };
-    let each = ListStream::new(receivers).for_each_concurrent(rt.alloc(), 2, call)?;
+    let stream = ListStream::new(receivers);
+    let each = BufferedStreamExt::for_each_concurrent(stream, rt.alloc(), 2, call)?;
     let child = thread::spawn(&rt, move || {
         for sender in &senders {
             sender.send(());
