@@ -5,12 +5,14 @@ ghost use Rattle.std.specs.Prelude.{◌<◌, IfOk};
 ghost use Rattle.futures_buffered_core.specs.Answer.{RefusesTooLarge};
 ghost use Rattle.futures_buffered_core.specs.ReadyShared.{IsNewShared};
 ghost use Rattle.futures_buffered_buffers.specs.BufferUnordered.{IsNewBuffer};
+ghost use Rattle.futures_buffered_buffers.specs.BufferedOrdered.{IsNewOrdered};
 ghost use Rattle.futures_buffered_for_each.specs.ForEachConcurrent.{IsNewForEach};
 
 use futures::Stream;
 use futures_buffered_bounded::SlotFuture;
 use futures_buffered_bounded::futures_unordered_bounded::POLL_LIMIT;
 pub use futures_buffered_buffers::buffer_unordered::BufferUnordered;
+pub use futures_buffered_buffers::buffered_ordered::BufferedOrdered;
 use futures_buffered_core::ready_core::NewFault;
 use futures_buffered_core::ready_shared::{SharedReady, SlotWake};
 pub use futures_buffered_for_each::for_each_concurrent::ForEachConcurrent;
@@ -18,6 +20,25 @@ use std::alloc::Global;
 
 /// Adaptors that keep some futures of a stream in progress.
 pub trait BufferedStreamExt: Stream {
+    /// The outputs of this stream's futures in the order of the stream, with at most `n` held at a time: in progress, or done and waiting for their turn. Nothing is polled.
+    ///
+    /// Takes time and memory in proportion to `n`. The stream is dropped where it is refused: `TooLarge` where `n` is above `MAX_CAPACITY`, and `Memory` where a request for memory was refused.
+    final fn buffered_ordered(
+        self,
+        alloc: Global,
+        n: usize,
+    ) -> Result<BufferedOrdered<Self, SharedReady>, NewFault>
+    where
+        Self: Sized,
+        Self::Item: SlotFuture<SlotWake>,
+        <Self::Item as SlotFuture<SlotWake>>::Output: Drop,
+        requires { 0 < n }
+        ensures new { IfOk result (IsNewOrdered IsNewShared POLL_LIMIT self n) }
+        ensures refuses { RefusesTooLarge n result }
+    {
+        BufferedOrdered::over(&(), alloc, self, n)
+    }
+
     /// The outputs of this stream's futures as they finish, with at most `n` in progress at a time. Nothing is polled.
     ///
     /// Takes time and memory in proportion to `n`. The stream is dropped where it is refused: `TooLarge` where `n` is above `MAX_CAPACITY`, and `Memory` where a request for memory was refused.

@@ -5,10 +5,12 @@
 //! In the order in which to read them:
 //!
 //! - `buffer_unordered`: `BufferUnordered`, whose outputs come as the futures finish.
+//! - `buffered_ordered`: `BufferedOrdered`, whose outputs come in the order of the items.
 //! - `for_each_concurrent`: `ForEachConcurrent`, which makes its futures of the items by a closure.
 //! - `buffered`: `BufferedStreamExt`, these adaptors as methods of a stream.
 //! - `try_buffer_unordered`: `TryBufferUnordered`, whose stream gives errors as well.
-//! - `try_buffered`: `BufferedTryStreamExt`, this adaptor as a method of a stream.
+//! - `try_buffered_ordered`: `TryBufferedOrdered`, the same in the order of the futures.
+//! - `try_buffered`: `BufferedTryStreamExt`, these two as methods of a stream.
 //! - `iter_ext`: `IterExt`, the sets' constructors as methods of what gives the items.
 #![tactic(auto)]
 
@@ -16,8 +18,8 @@ pub mod buffered;
 pub mod iter_ext;
 pub mod try_buffered;
 
-pub use buffered::{BufferUnordered, BufferedStreamExt, ForEachConcurrent};
-pub use futures_buffered_buffers::buffer_unordered;
+pub use buffered::{BufferUnordered, BufferedOrdered, BufferedStreamExt, ForEachConcurrent};
+pub use futures_buffered_buffers::{buffer_unordered, buffered_ordered};
 pub use futures_buffered_for_each::for_each_concurrent;
 pub use futures_buffered_sets::{
     FusedFuture, FusedStream, FuturesOrderedBounded, FuturesUnordered, FuturesUnorderedBounded,
@@ -26,6 +28,6 @@ pub use futures_buffered_sets::{
     futures_unordered, futures_unordered_bounded, join_all, merge_bounded, merge_unbounded,
     poll_one, slot_future, slot_stream, try_join_all,
 };
-pub use futures_buffered_try_buffers::try_buffer_unordered;
+pub use futures_buffered_try_buffers::{try_buffer_unordered, try_buffered_ordered};
 pub use iter_ext::IterExt;
-pub use try_buffered::{BufferedTryStreamExt, TryBufferUnordered};
+pub use try_buffered::{BufferedTryStreamExt, TryBufferUnordered, TryBufferedOrdered};

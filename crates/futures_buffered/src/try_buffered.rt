@@ -5,6 +5,7 @@ ghost use Rattle.std.specs.Prelude.{◌<◌, IfOk};
 ghost use Rattle.futures_buffered_core.specs.Answer.{RefusesTooLarge};
 ghost use Rattle.futures_buffered_core.specs.ReadyShared.{IsNewShared};
 ghost use Rattle.futures_buffered_buffers.specs.BufferUnordered.{IsNewBuffer};
+ghost use Rattle.futures_buffered_buffers.specs.BufferedOrdered.{IsNewOrdered};
 
 use futures::Stream;
 use futures_buffered_bounded::SlotFuture;
@@ -12,10 +13,31 @@ use futures_buffered_bounded::futures_unordered_bounded::POLL_LIMIT;
 use futures_buffered_core::ready_core::NewFault;
 use futures_buffered_core::ready_shared::{SharedReady, SlotWake};
 pub use futures_buffered_try_buffers::try_buffer_unordered::TryBufferUnordered;
+pub use futures_buffered_try_buffers::try_buffered_ordered::TryBufferedOrdered;
 use std::alloc::Global;
 
 /// Adaptors that keep some futures of a stream in progress, where the stream gives errors as well.
 pub trait BufferedTryStreamExt: Stream {
+    /// The outputs of this stream's futures in the order of the stream, with at most `n` held at a time: in progress, or done and waiting for their turn. Each error of the stream comes as soon as it is met. Nothing is polled.
+    ///
+    /// Takes time and memory in proportion to `n`. The stream is dropped where it is refused: `TooLarge` where `n` is above `MAX_CAPACITY`, and `Memory` where a request for memory was refused.
+    final fn try_buffered_ordered<F, T, E>(
+        self,
+        alloc: Global,
+        n: usize,
+    ) -> Result<TryBufferedOrdered<Self, F, SharedReady>, NewFault>
+    where
+        Self: Stream<Item = Result<F, E>> + Sized,
+        F: SlotFuture<SlotWake, Output = Result<T, E>>,
+        T: Drop,
+        E: Drop,
+        requires { 0 < n }
+        ensures new { IfOk result (IsNewOrdered IsNewShared POLL_LIMIT self n) }
+        ensures refuses { RefusesTooLarge n result }
+    {
+        TryBufferedOrdered::over(&(), alloc, self, n)
+    }
+
     /// The outputs of this stream's futures as they finish, with at most `n` in progress at a time, and each error of the stream as soon as it is met. Nothing is polled.
     ///
     /// Takes time and memory in proportion to `n`. The stream is dropped where it is refused: `TooLarge` where `n` is above `MAX_CAPACITY`, and `Memory` where a request for memory was refused.

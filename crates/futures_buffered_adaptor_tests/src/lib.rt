@@ -3,7 +3,9 @@
 #![tactic(auto)]
 
 pub mod cells;
+pub mod countdown;
 pub mod list_stream;
+pub mod ordered_polling;
 pub mod paused_end;
 pub mod polling;
 pub mod ready_at_once;
@@ -11,3 +13,4 @@ pub mod receiver;
 #[cfg(test)]
 mod tests;
 pub mod unbounded_hint;
+pub mod watched;

@@ -1,4 +1,7 @@
 mod buffered;
+mod buffered_ordered;
 mod for_each;
 mod iter_ext;
+mod merges;
+mod threads;
 mod try_buffered;

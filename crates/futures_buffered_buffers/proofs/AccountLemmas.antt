@@ -45,7 +45,7 @@ module _ {F A : Type 0} where
   Origins polled (o ∷ os) [] = ⊥
   Origins polled (o ∷ os) (p ∷ ps) = Origin (polled 0) o p × Origins (from_next polled) os ps
 
-  waits_more : (polled : F → Poll A → F → Type 0) (f g h : F) → Waits polled f g → polled g Pending h → Waits polled f h
+  pub waits_more : (polled : F → Poll A → F → Type 0) (f g h : F) → Waits polled f g → polled g Pending h → Waits polled f h
   waits_more polled f g h w p = (w.0 ++ h ∷ [], FoldsTo-push (λ a b c. polled a Pending b × (c ≡ b)) f w.0 g h h w.1 (p, refl))
 
   -- an item went into an empty place
@@ -186,7 +186,7 @@ module _ {St F A S : Type 0} (yields : St → Runs F) (polled : ℕ → F → Po
   gave_one drawn outputs old new Pending so h =
       rw (append-nil outputs) (record { gone = so.gone; origins = so.origins; all = so.all; gave = so.gave; came = ran_on polled so.origins h.1.0 old.slots new.slots so.came h.1.3.passes })
 
-  same_output : (stream : Option St) (queue_answer : Poll (Option A)) → output_of (answer_from stream queue_answer) ≡ output_of queue_answer
+  pub same_output : (stream : Option St) (queue_answer : Poll (Option A)) → output_of (answer_from stream queue_answer) ≡ output_of queue_answer
   same_output stream (Ready (Some x)) = refl
   same_output None (Ready None) = refl
   same_output (Some s) (Ready None) = refl
@@ -198,7 +198,7 @@ module _ {St F A S : Type 0} (yields : St → Runs F) (polled : ℕ → F → Po
       let filled = drew_none (drawn ++ items) outputs call.draws.full call.filled (drew_all items drawn outputs old call.draws.full so call.draws.items) call.draws.last in
       rw (call.gives, same_output call.filled.stream call.queue_answer) (gave_one (drawn ++ items) outputs call.filled.queue new.queue call.queue_answer filled call.polls_queue)
 
-  outputs_cons : (items : List F) (answer : Poll (Option A)) (calls : List (List F × Poll (Option A))) → all_outputs ((items, answer) ∷ calls) ≡ option_to_list (output_of answer) ++ all_outputs calls
+  pub outputs_cons : (items : List F) (answer : Poll (Option A)) (calls : List (List F × Poll (Option A))) → all_outputs ((items, answer) ∷ calls) ≡ option_to_list (output_of answer) ++ all_outputs calls
   outputs_cons items (Ready None) calls = refl
   outputs_cons items (Ready (Some x)) calls = refl
   outputs_cons items Pending calls = refl

@@ -1,2 +1,4 @@
 pub mod BufferUnorderedLemmas
+pub mod BufferedOrderedLemmas
 pub mod AccountLemmas
+pub mod OrderedAccountLemmas

@@ -1,1 +1,2 @@
 pub mod TryBufferUnorderedLemmas
+pub mod TryBufferedOrderedLemmas

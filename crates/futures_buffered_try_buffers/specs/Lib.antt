@@ -1,2 +1,3 @@
 pub mod TryBuffered
 pub mod TryBufferUnordered
+pub mod TryBufferedOrdered

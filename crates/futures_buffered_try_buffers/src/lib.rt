@@ -3,8 +3,11 @@
 //! In the order in which to read them:
 //!
 //! - `try_buffer_unordered`: `TryBufferUnordered`, whose outputs come as the futures finish.
+//! - `try_buffered_ordered`: `TryBufferedOrdered`, whose outputs come in the order of the futures.
 #![tactic(auto)]
 
 pub mod try_buffer_unordered;
+pub mod try_buffered_ordered;
 
 pub use try_buffer_unordered::TryBufferUnordered;
+pub use try_buffered_ordered::TryBufferedOrdered;
