@@ -140,14 +140,11 @@ module _ {X A : Type 0} (asks : X → Poll (Option A) → X → Type 0) (weight 
   staying_sum (g ∷ h ∷ gs) (t ∷ []) zip = absurd zip.1
   staying_sum (g ∷ []) (t ∷ u ∷ ts) zip = absurd zip.1
   staying_sum (g ∷ h ∷ gs) (t ∷ u ∷ ts) zip =
-      by_test (ended t) (end_none g t.left t.answer zip.0)
+      by_test (ended t) (end_none g t.left t.answer zip.0) (staying_sum (h ∷ gs) (u ∷ ts) zip.1)
     where
-      rest : sum_by weight (staying (u ∷ ts)) + sum_by of_turn (u ∷ ts) ≡ sum_by weight (h ∷ gs)
-      rest = staying_sum (h ∷ gs) (u ∷ ts) zip.1
-
-      by_test : (b : Bool) → (b ≡ true → weight t.left ≡ 0) → sum_by weight (cond b (staying (u ∷ ts)) (t.left ∷ staying (u ∷ ts))) + sum_by of_turn (t ∷ u ∷ ts) ≡ sum_by weight (g ∷ h ∷ gs)
-      by_test true none = omega (arith, rest, none refl, one_turn g t.left t.answer zip.0, sum_by-cons of_turn t (u ∷ ts), sum_by-cons weight g (h ∷ gs))
-      by_test false none = omega (arith, rest, one_turn g t.left t.answer zip.0, sum_by-cons of_turn t (u ∷ ts), sum_by-cons weight t.left (staying (u ∷ ts)), sum_by-cons weight g (h ∷ gs))
+      by_test : (b : Bool) → (b ≡ true → weight t.left ≡ 0) → sum_by weight (staying (u ∷ ts)) + sum_by of_turn (u ∷ ts) ≡ sum_by weight (h ∷ gs) → sum_by weight (cond b (staying (u ∷ ts)) (t.left ∷ staying (u ∷ ts))) + sum_by of_turn (t ∷ u ∷ ts) ≡ sum_by weight (g ∷ h ∷ gs)
+      by_test true none rest = omega (arith, rest, none refl, one_turn g t.left t.answer zip.0, sum_by-cons of_turn t (u ∷ ts), sum_by-cons weight g (h ∷ gs))
+      by_test false none rest = omega (arith, rest, one_turn g t.left t.answer zip.0, sum_by-cons of_turn t (u ∷ ts), sum_by-cons weight t.left (staying (u ∷ ts)), sum_by-cons weight g (h ∷ gs))
 
   abbrev of_pair : ℕ × Turn X A → ℕ
   of_pair p = of_turn p.1
@@ -174,7 +171,7 @@ module _ {X A : Type 0} (asks : X → Poll (Option A) → X → Type 0) (weight 
   -- the turns brought what the last one brought
   last_out : (old new : Groups X) (turns : List (Turn X A)) (last : Poll (Option A)) (not_asked : List (ℕ × Turn X A)) → AsksLast asks old turns last not_asked new → sum_by of_turn turns ≡ out last
   last_out old new turns last not_asked h =
-      let mine = (h.k, record { answer = Some last; left = h.left }) in
+      let mine : ℕ × Turn X A = (h.k, record { answer = Some last; left = h.left }) in
       let order : sum_by of_pair (round_from old.place (enumerate_from 0 turns)) ≡ sum_by of_pair (h.asked_before ++ mine ∷ not_asked) = ap (λ (l : List (ℕ × Turn X A)). sum_by of_pair l) h.in_order in
       let one : of_pair mine ≡ out last = refl in
       omega (arith, sum-numbered 0 turns, sum-round old.place (enumerate_from 0 turns), order, one, sum_by-append of_pair h.asked_before (mine ∷ not_asked), sum_by-cons of_pair mine not_asked, none_before h.asked_before h.no_output_before, none_after not_asked h.none_asked_after)

@@ -183,8 +183,8 @@ module _ {F A S : Type 0} where
   KeepsNumbers-pop set rest o x keeps =
       record {
         placed = λ k i h. let was = keeps.placed (suc k) i h in omega (arith, was, keeps.word);
-        as_many = λ n. keeps.as_many n ∙ sum_by-cons (runs n) (Kept x) rest;
-        count = keeps.count ∙ sum_by-cons runs_any (Kept x) rest;
+        as_many = keeps.as_many;
+        count = keeps.count;
         short = omega (arith, keeps.short);
         word = omega arith;
       }
