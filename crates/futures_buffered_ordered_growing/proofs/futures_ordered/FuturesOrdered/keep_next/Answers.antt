@@ -14,18 +14,18 @@ use Rattle.futures_buffered_ordered_growing.proofs.futures_ordered.FuturesOrdere
 pub index_mut-requires : goal.index_mut-requires
 index_mut-requires g c =
     let gave : GroupsGive (PollGives (PollsNumbered g.R.PollOne.polled) g.S.ReadySource.registers g.S.ReadySource.takes) c.self.inside.set.groups (Ready (Some (c.in-Ready-Some.index, c.in-Ready-Some.output))) c.poll_with.new.self.groups = subst (λ (o : Option (ℕ × g.row.T-Output.Denot)). GroupsGive (PollGives (PollsNumbered g.R.PollOne.polled) g.S.ReadySource.registers g.S.ReadySource.takes) c.self.inside.set.groups (Ready o) c.poll_with.new.self.groups) c.in-Ready-Some.field-0-is c.in-Ready-Some.ensures.polled in
-    let within : place_of c.self.inside.outgoing c.in-Ready-Some.index < length c.self.inside.entries.items = yielded_within g.R.PollOne.polled g.S.ReadySource.registers g.S.ReadySource.takes _ _ _ _ c.self.invariant c.in-Ready-Some.index c.in-Ready-Some.output gave in
+    let within : place_of c.self.inside.outgoing c.in-Ready-Some.index < length c.self.inside.entries.items = yielded_within g.R.PollOne.polled g.S.ReadySource.registers g.S.ReadySource.takes _ c.poll_with.new.self _ _ c.self.invariant c.in-Ready-Some.index c.in-Ready-Some.output gave in
     grind (arith, common_steps, within)
 
 pub invariant_of-self-in-Ready-Some : goal.invariant_of-self-in-Ready-Some
 invariant_of-self-in-Ready-Some g c =
     let gave : GroupsGive (PollGives (PollsNumbered g.R.PollOne.polled) g.S.ReadySource.registers g.S.ReadySource.takes) c.self.inside.set.groups (Ready (Some (c.in-Ready-Some.index, c.in-Ready-Some.output))) c.poll_with.new.self.groups = subst (λ (o : Option (ℕ × g.row.T-Output.Denot)). GroupsGive (PollGives (PollsNumbered g.R.PollOne.polled) g.S.ReadySource.registers g.S.ReadySource.takes) c.self.inside.set.groups (Ready o) c.poll_with.new.self.groups) c.in-Ready-Some.field-0-is c.in-Ready-Some.ensures.polled in
     let one : all_held c.poll_with.new.self.groups.listed + 1 ≡ all_held c.self.inside.set.groups.listed = subst (λ (o : Option (ℕ × g.row.T-Output.Denot)). all_held c.poll_with.new.self.groups.listed + outputs_in (Ready o) ≡ all_held c.self.inside.set.groups.listed) c.in-Ready-Some.field-0-is c.in-Ready-Some.ensures.count in
-    KeepsNumbers-yielded g.R.PollOne.polled g.S.ReadySource.registers g.S.ReadySource.takes _ _ _ _ c.self.invariant c.in-Ready-Some.index c.in-Ready-Some.output gave one
+    KeepsNumbers-yielded g.R.PollOne.polled g.S.ReadySource.registers g.S.ReadySource.takes _ c.poll_with.new.self _ _ c.self.invariant c.in-Ready-Some.index c.in-Ready-Some.output gave one
 
 pub invariant_of-self : goal.invariant_of-self
 invariant_of-self g c =
-    KeepsNumbers-pending g.R.PollOne.polled g.S.ReadySource.registers g.S.ReadySource.takes _ _ _ _ c.self.invariant c.in-Pending.ensures.polled (omega (arith, c.in-Pending.ensures.count))
+    KeepsNumbers-pending g.R.PollOne.polled g.S.ReadySource.registers g.S.ReadySource.takes _ c.poll_with.new.self _ _ c.self.invariant c.in-Pending.ensures.polled (omega (arith, c.in-Pending.ensures.count))
 
 pub returns-in-Pending-clause-waits : goal.returns-in-Pending-clause-waits
 returns-in-Pending-clause-waits g c =
@@ -41,7 +41,7 @@ pub returns-in-Ready-Some-clause-gave : goal.returns-in-Ready-Some-clause-gave
 returns-in-Ready-Some-clause-gave g c =
     let gave : GroupsGive (PollGives (PollsNumbered g.R.PollOne.polled) g.S.ReadySource.registers g.S.ReadySource.takes) c.self.inside.set.groups (Ready (Some (c.in-Ready-Some.index, c.in-Ready-Some.output))) c.poll_with.new.self.groups = subst (λ (o : Option (ℕ × g.row.T-Output.Denot)). GroupsGive (PollGives (PollsNumbered g.R.PollOne.polled) g.S.ReadySource.registers g.S.ReadySource.takes) c.self.inside.set.groups (Ready o) c.poll_with.new.self.groups) c.in-Ready-Some.field-0-is c.in-Ready-Some.ensures.polled in
     let runs : starts_running c.self.inside.entries.items ≡ true = subst (λ (v : Ordered g.row.T.Denot g.row.T-Output.Denot g.row.S.Denot). starts_running v.entries ≡ true) (sym c.self.view_is) c.requires.runs in
-    let there = yielded_at g.R.PollOne.polled g.S.ReadySource.registers g.S.ReadySource.takes _ _ _ _ c.self.invariant c.in-Ready-Some.index c.in-Ready-Some.output gave in
+    let there = yielded_at g.R.PollOne.polled g.S.ReadySource.registers g.S.ReadySource.takes _ c.poll_with.new.self _ _ c.self.invariant c.in-Ready-Some.index c.in-Ready-Some.output gave in
     rw (← c.self.view_is) (
       (c.in-Ready-Some.index, c.in-Ready-Some.output),
       record {
