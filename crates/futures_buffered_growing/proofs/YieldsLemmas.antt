@@ -108,10 +108,10 @@ module _ {F A S : Type 0} (polled : ℕ → F → Poll A → F → Type 0) (regi
       gives_passed polled asks.0 _ _ y asks.3.passes any
 
   module _ (old new : Groups (Bounded F S)) where
-    still : (answer : Poll (Option A)) → GroupsGive (PollGives polled registers takes) old answer new → (y : A) → AnyGroupMayGive polled new.listed y → AnyGroupMayGive polled old.listed y
+    pub still : (answer : Poll (Option A)) → GroupsGive (PollGives polled registers takes) old answer new → (y : A) → AnyGroupMayGive polled new.listed y → AnyGroupMayGive polled old.listed y
     still answer h y any = any_left (PollGives polled registers takes) (λ (g : Bounded F S). AnyMayGive polled g.slots y) (group_left y) old answer new h any
 
-    gave : (x : A) → GroupsGive (PollGives polled registers takes) old (Ready (Some x)) new → AnyGroupMayGive polled old.listed x
+    pub gave : (x : A) → GroupsGive (PollGives polled registers takes) old (Ready (Some x)) new → AnyGroupMayGive polled old.listed x
     gave x h = any_output (PollGives polled registers takes) (λ (g : Bounded F S). AnyMayGive polled g.slots x) old new x h (group_gave x)
 
     pub value_of : (answer : Poll (Option A)) → GroupsGive (PollGives polled registers takes) old answer new → (answer ≡ Ready None → all_held old.listed ≡ 0) → all_held new.listed + outputs_in answer ≡ all_held old.listed → IfReady answer (ComesFromGroups polled old.listed [])

@@ -234,8 +234,10 @@ impl<F: Drop, S: NewSource> FuturesUnordered<F, S> {
         self.held += 1;
     }
 
-    // Why a push was refused.
-    fn refusal(&self) -> NewFault
+    /// Why a push that was refused just now was refused: `TooLarge` where nothing more goes in, and else `Memory`.
+    ///
+    /// Takes the same time at any number of groups.
+    pub fn refusal(&self) -> NewFault
         ensures { (result ≡ NewFault.TooLarge) ↔ IsAtBound self.now.groups.listed }
     {
         let is_full = self.spare_places() == 0;

@@ -1,0 +1,3 @@
+pub mod Numbered
+pub mod FuturesOrdered
+pub mod FuturesOrderedInvariant
