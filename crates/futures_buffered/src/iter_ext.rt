@@ -8,6 +8,7 @@ ghost use Rattle.futures_buffered_bounded.specs.FuturesUnorderedBounded.{HoldsEa
 ghost use Rattle.futures_buffered_growing.specs.FuturesUnordered.{Growing, IsNewGrowing, PushesEach, no_groups};
 ghost use Rattle.futures_buffered_joins.specs.Joining.{IsNewJoin};
 ghost use Rattle.futures_buffered_ordered.specs.FuturesOrderedBounded.{HoldsInOrder};
+ghost use Rattle.futures_buffered_ordered_growing.specs.FuturesOrdered.{AddsEachBack, IsNewQueue, Ordered};
 
 use futures_buffered_bounded::SlotFuture;
 use futures_buffered_bounded::futures_unordered_bounded::{FuturesUnorderedBounded, POLL_LIMIT};
@@ -17,6 +18,7 @@ use futures_buffered_growing::futures_unordered::{FIRST_GROUP, FuturesUnordered}
 use futures_buffered_joins::{JoinAll, TryJoinAll};
 use futures_buffered_merges::{MergeBounded, MergeUnbounded, SlotStream};
 use futures_buffered_ordered::futures_ordered_bounded::FuturesOrderedBounded;
+use futures_buffered_ordered_growing::FuturesOrdered;
 use std::alloc::Global;
 
 /// Sets, joins and merges of what an iterator gives, where it ends.
@@ -85,6 +87,28 @@ pub trait IterExt: IntoIterator {
             → DrawsMoreThan Self.into_iter_gives Self.IntoIter.next_gives self MAX_CAPACITY }
     {
         FuturesOrderedBounded::from_iter(alloc, self)
+    }
+
+    /// A queue of these futures that grows, whose outputs come in their order. It is `FuturesOrdered::from_iter`, and refuses as that does.
+    ///
+    /// Takes time and memory in proportion to the number of futures.
+    final fn into_ordered_stream_unbounded(
+        self,
+        alloc: Global,
+    ) -> Result<FuturesOrdered<Self::Item, SharedReady>, NewFault>
+    where
+        Self: Sized,
+        Self::Item: SlotFuture<SlotWake>,
+        <Self::Item as SlotFuture<SlotWake>>::Output: Drop,
+        requires { IsFiniteIterable Self.into_iter_gives Self.IntoIter.can_next
+            Self.IntoIter.remaining self }
+        ensures holds { IfOk result (λ q. (items : List Self.Item) × (least : ℕ)
+            × ((start : Ordered Self.Item Self.Item.Output Shared)
+            × Draws Self.into_iter_gives Self.IntoIter.next_gives self items
+            × IsNewQueue IsNewShared (max least FIRST_GROUP) POLL_LIMIT start
+            × AddsEachBack MarksShared IsNewShared start items q)) }
+    {
+        FuturesOrdered::from_iter(alloc, self)
     }
 
     /// A join of these futures, ready with all outputs, each at its future's place. It is the function `join_all`, and refuses as that does.

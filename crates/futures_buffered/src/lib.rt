@@ -1,17 +1,16 @@
 //! Adaptors that draw futures from a stream and keep some of them in progress, over the sets of `futures_buffered_sets`.
 //!
-//! Everything here is found under its own module, and the types by their names alone as well. What the sets' crate gives out is given out here too.
+//! Everything here is found under its own module, and the types by their names alone as well. It gives out every name of the crates below, so that a user depends on this one alone.
 //!
 //! In the order in which to read them:
 //!
 //! - `buffer_unordered`: `BufferUnordered`, whose outputs come as the futures finish.
-//! - `buffered_ordered`: `BufferedOrdered`, whose outputs come in the order of the items.
+//! - `buffered_ordered`: `BufferedOrdered`, whose outputs come in the order of the futures.
 //! - `for_each_concurrent`: `ForEachConcurrent`, which makes its futures of the items by a closure.
 //! - `buffered`: `BufferedStreamExt`, these adaptors as methods of a stream.
-//! - `try_buffer_unordered`: `TryBufferUnordered`, whose stream gives errors as well.
-//! - `try_buffered_ordered`: `TryBufferedOrdered`, the same in the order of the futures.
-//! - `try_buffered`: `BufferedTryStreamExt`, these two as methods of a stream.
-//! - `iter_ext`: `IterExt`, the sets' constructors as methods of what gives the items.
+//! - `try_buffer_unordered` and `try_buffered_ordered`: `TryBufferUnordered` and `TryBufferedOrdered`, whose stream gives errors as well.
+//! - `try_buffered`: `BufferedTryStreamExt`, these as methods of a stream.
+//! - `iter_ext`: `IterExt`, the constructors of sets, queues, joins and merges as methods of what gives the items.
 #![tactic(auto)]
 
 pub mod buffered;
@@ -20,13 +19,24 @@ pub mod try_buffered;
 
 pub use buffered::{BufferUnordered, BufferedOrdered, BufferedStreamExt, ForEachConcurrent};
 pub use futures_buffered_buffers::{buffer_unordered, buffered_ordered};
+pub use futures_buffered_core::core_source::CoreSource;
+pub use futures_buffered_core::ready_core::{
+    Event, MAX_CAPACITY, NewFault, ReadyCore, Reply, RunFault, Taken, Woke, run,
+};
+pub use futures_buffered_core::ready_shared::{SharedReady, SlotWake};
+pub use futures_buffered_core::ready_source::{NewSource, ReadySource};
+pub use futures_buffered_core::script_source::ScriptSource;
+pub use futures_buffered_core::slot_map::PinSlotMap;
+pub use futures_buffered_core::{
+    core_source, ready_core, ready_shared, ready_source, ready_table, script_source, slot_map,
+};
 pub use futures_buffered_for_each::for_each_concurrent;
 pub use futures_buffered_sets::{
-    FusedFuture, FusedStream, FuturesOrderedBounded, FuturesUnordered, FuturesUnorderedBounded,
-    JoinAll, Merge, MergeBounded, MergeUnbounded, PollFuture, PollOne, PollStream, SizeHint,
-    SlotFuture, SlotStream, SlotWaker, TryJoinAll, WakesSlot, fused, futures_ordered_bounded,
-    futures_unordered, futures_unordered_bounded, join_all, merge_bounded, merge_unbounded,
-    poll_one, slot_future, slot_stream, try_join_all,
+    FusedFuture, FusedStream, FuturesOrdered, FuturesOrderedBounded, FuturesUnordered,
+    FuturesUnorderedBounded, JoinAll, Merge, MergeBounded, MergeUnbounded, PollFuture, PollOne,
+    PollStream, SizeHint, SlotFuture, SlotStream, SlotWaker, TryJoinAll, WakesSlot, fused,
+    futures_ordered, futures_ordered_bounded, futures_unordered, futures_unordered_bounded,
+    join_all, merge_bounded, merge_unbounded, poll_one, slot_future, slot_stream, try_join_all,
 };
 pub use futures_buffered_try_buffers::{try_buffer_unordered, try_buffered_ordered};
 pub use iter_ext::IterExt;

@@ -10,6 +10,7 @@
 //! - `futures_unordered_bounded`: `FuturesUnorderedBounded`, as many futures as it has slots, yielded as they finish.
 //! - `futures_unordered`: `FuturesUnordered`, any number of futures, in groups of slots.
 //! - `futures_ordered_bounded`: `FuturesOrderedBounded`, as many futures in progress as it has slots, yielded in the order of a list.
+//! - `futures_ordered`: `FuturesOrdered`, the same for any number of futures.
 //! - `join_all`: `JoinAll`, all of some futures, whose outputs come together.
 //! - `try_join_all`: `TryJoinAll`, the same where futures may fail.
 //! - `slot_stream`: `SlotStream`, what a merge holds: a stream that is polled with the waker of its slot.
@@ -33,3 +34,5 @@ pub use futures_buffered_merges::slot_stream::{PollStream, SlotStream};
 pub use futures_buffered_merges::{merge_bounded, merge_unbounded, slot_stream};
 pub use futures_buffered_ordered::futures_ordered_bounded;
 pub use futures_buffered_ordered::futures_ordered_bounded::FuturesOrderedBounded;
+pub use futures_buffered_ordered_growing::futures_ordered;
+pub use futures_buffered_ordered_growing::futures_ordered::FuturesOrdered;

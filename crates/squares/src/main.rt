@@ -1,10 +1,9 @@
 //! The squares of some numbers, at most two of them in progress at a time, in the order of the numbers.
 #![tactic(auto)]
 
-use futures::StreamExt;
 use futures::executor::block_on;
-use futures::stream;
 use futures::task::Poll;
+use futures::{StreamExt, stream};
 use futures_buffered::{BufferedStreamExt, SlotFuture, WakesSlot};
 
 // Gives the square of its number at its first poll.
@@ -21,7 +20,7 @@ impl<W: WakesSlot> SlotFuture<W> for Square {
 
 fn main(rt: HostRuntime) -> Result<(), anyhow::Error> {
     let jobs = vec![in rt.alloc(); Square(1), Square(2), Square(3), Square(4)]?;
-    let squares = stream::iter(jobs).buffered_unordered(rt.alloc(), 2)?;
+    let squares = stream::iter(jobs).buffered_ordered(rt.alloc(), 2)?;
     let squares = block_on(&rt, squares.collect(rt.alloc()))??;
     println!(rt; "{squares:?}")?;
     Ok(())
