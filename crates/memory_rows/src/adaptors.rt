@@ -87,24 +87,40 @@ where
 
 fn for_each_over(bench: &Bench) -> Row {
     let stream = list_items(bench, ITEMS)?;
-    let mut each: ForEachConcurrent<_, _, _, CoreSource> =
-        ForEachConcurrent::over(&(), bench.alloc, stream, 2, |item: Item| Quiet(item))?;
+    let mut each: ForEachConcurrent<_, _, _, CoreSource> = ForEachConcurrent::over(
+        &(),
+        bench.alloc,
+        stream,
+        2,
+        |item: Item| Quiet(item),
+    )?;
     let is_done = poll_for_each(&bench.task, &mut each) == Poll::Ready(());
     Ok(holds_or(is_done, Finding::GivesOthers))
 }
 
 fn for_each_over_limit(bench: &Bench) -> Row {
     let stream = list_items(bench, ITEMS)?;
-    let mut each: ForEachConcurrent<_, _, _, CoreSource> =
-        ForEachConcurrent::over_limit(&(), bench.alloc, stream, 2, 9, |item: Item| Quiet(item))?;
+    let mut each: ForEachConcurrent<_, _, _, CoreSource> = ForEachConcurrent::over_limit(
+        &(),
+        bench.alloc,
+        stream,
+        2,
+        9,
+        |item: Item| Quiet(item),
+    )?;
     let is_done = poll_for_each(&bench.task, &mut each) == Poll::Ready(());
     Ok(holds_or(is_done, Finding::GivesOthers))
 }
 
 fn for_each_with_limit(bench: &Bench) -> Row {
     let stream = list_items(bench, ITEMS)?;
-    let mut each =
-        ForEachConcurrent::with_limit(bench.alloc, stream, 2, 9, |item: Item| Quiet(item))?;
+    let mut each = ForEachConcurrent::with_limit(
+        bench.alloc,
+        stream,
+        2,
+        9,
+        |item: Item| Quiet(item),
+    )?;
     let is_done = poll_for_each(&bench.task, &mut each) == Poll::Ready(());
     Ok(holds_or(is_done, Finding::GivesOthers))
 }
@@ -122,14 +138,23 @@ pub fn rows(bench: &Bench) -> [(&'static str, Finding); 12] {
         ("buffer, over", tried(bench, over)),
         ("buffer, over_limit", tried(bench, over_limit)),
         ("buffer, with_limit", tried(bench, with_limit)),
-        ("buffer, buffered_unordered", tried(bench, buffered_unordered)),
+        (
+            "buffer, buffered_unordered",
+            tried(bench, buffered_unordered),
+        ),
         ("try buffer, over", tried(bench, try_over)),
         ("try buffer, over_limit", tried(bench, try_over_limit)),
         ("try buffer, with_limit", tried(bench, try_with_limit)),
-        ("try buffer, try_buffered_unordered", tried(bench, try_buffered_unordered)),
+        (
+            "try buffer, try_buffered_unordered",
+            tried(bench, try_buffered_unordered),
+        ),
         ("for-each, over", tried(bench, for_each_over)),
         ("for-each, over_limit", tried(bench, for_each_over_limit)),
         ("for-each, with_limit", tried(bench, for_each_with_limit)),
-        ("for-each, for_each_concurrent", tried(bench, for_each_concurrent)),
+        (
+            "for-each, for_each_concurrent",
+            tried(bench, for_each_concurrent),
+        ),
     ]
 }

@@ -20,6 +20,7 @@ fn new_counts(alloc: Global) -> Result<Arc<Counts>, AllocError> {
     let counts = Counts {
         made: AtomicU64::new(0),
         dropped: AtomicU64::new(0),
+        refused: AtomicU64::new(0),
     };
     Ok(Arc::new(alloc, counts)?)
 }
@@ -69,6 +70,16 @@ impl Bench {
             attempts.push(Attempt(self.item(number)?))?;
         }
         Ok(attempts)
+    }
+
+    /// Counts a call that was refused.
+    pub fn note_refusal(&self) {
+        self.counts.refused.fetch_add(1, SeqCst);
+    }
+
+    /// How many calls were refused.
+    pub fn refusals(&self) -> u64 {
+        self.counts.refused.load(SeqCst)
     }
 
     /// How many more items were made than dropped.

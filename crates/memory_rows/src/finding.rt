@@ -54,7 +54,7 @@ pub fn tried<F: Fn(&Bench) -> Result<Finding, NewFault>>(bench: &Bench, row: F) 
     match first {
         Ok(finding) => return finding,
         Err(NewFault::TooLarge) => return Finding::OtherFault,
-        Err(NewFault::Memory) => {}
+        Err(NewFault::Memory) => bench.note_refusal(),
     }
     let Ok(finding) = row(bench) else {
         return Finding::RefusedTwice;

@@ -64,13 +64,18 @@ fn from_iter(bench: &Bench) -> Row {
 
 // Its hint says nothing of how many items come, so the second group is made while they are drawn.
 fn from_iter_past_the_first_group(bench: &Bench) -> Row {
-    let items = bench.items(PAST_FIRST_GROUP)?.into_iter().filter(|_item| true);
+    let items = bench
+        .items(PAST_FIRST_GROUP)?
+        .into_iter()
+        .filter(|_item| true);
     let set = Shared::from_iter(bench.alloc, items)?;
     Ok(gives_all(bench, set, PAST_FIRST_GROUP))
 }
 
 fn into_unordered_stream_unbounded(bench: &Bench) -> Row {
-    let set = bench.items(3)?.into_unordered_stream_unbounded(bench.alloc)?;
+    let set = bench
+        .items(3)?
+        .into_unordered_stream_unbounded(bench.alloc)?;
     Ok(gives_all(bench, set, 3))
 }
 

@@ -25,6 +25,7 @@ pub fn put_again<T: Grows>(bench: &Bench, set: &mut T, number: u64) -> Result<Fi
     let before = set.sizes();
     let item = bench.item(number)?;
     if let Err(back) = set.put(item) {
+        bench.note_refusal();
         if back.number() != number {
             return Ok(Finding::OtherValueBack);
         }

@@ -5,11 +5,12 @@ use std::sync::Arc;
 use std::sync::atomic::AtomicU64;
 use std::sync::atomic::Ordering::SeqCst;
 
-/// How many items were made, and how many were dropped.
+/// How many items were made, how many were dropped, and how many calls were refused.
 #[derive(Drop)]
 pub struct Counts {
     pub made: AtomicU64,
     pub dropped: AtomicU64,
+    pub refused: AtomicU64,
 }
 
 /// As a future it is pending `polls_left` times, and then ready with its number. As a stream it gives its number once, and then ends.

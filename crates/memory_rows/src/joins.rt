@@ -102,8 +102,14 @@ pub fn rows(bench: &Bench) -> [(&'static str, Finding); 6] {
         ("join, join_all", tried(bench, join_all_function)),
         ("join, over", tried(bench, join_all_over)),
         ("join, join_all of IterExt", tried(bench, join_all_method)),
-        ("try join, try_join_all", tried(bench, try_join_all_function)),
+        (
+            "try join, try_join_all",
+            tried(bench, try_join_all_function),
+        ),
         ("try join, over", tried(bench, try_join_all_over)),
-        ("try join, try_join_all of IterExt", tried(bench, try_join_all_method)),
+        (
+            "try join, try_join_all of IterExt",
+            tried(bench, try_join_all_method),
+        ),
     ]
 }

@@ -7,11 +7,13 @@
 //! - `finding`: `Finding`, what a row found, and `tried`, which tries a row again.
 //! - `gives`: what gives the numbers of its items.
 //! - `grows`: what takes items one after another, and refuses some for lack of memory.
+//! - `early`: requests before all others, by which a run chooses the request that is refused.
 //! - `lists`, `sets`, `growing`, `ordered`, `joins`, `merges`, `adaptors`: the rows, a list for each kind of type.
 #![tactic(auto)]
 
 pub mod adaptors;
 pub mod bench;
+pub mod early;
 pub mod finding;
 pub mod gives;
 pub mod growing;

@@ -15,7 +15,11 @@ type Row = Result<Finding, NewFault>;
 
 fn ready_core(bench: &Bench) -> Row {
     let mut core = ReadyCore::new(bench.alloc, 2)?;
-    let woke = if core.capacity() > 1 { core.mark(1) } else { Woke::Already };
+    let woke = if core.capacity() > 1 {
+        core.mark(1)
+    } else {
+        Woke::Already
+    };
     Ok(holds_or(
         woke == Woke::Fresh && core.take() == Taken::Slot(1),
         Finding::GivesOthers,
@@ -36,7 +40,11 @@ fn step_machine(bench: &Bench) -> Row {
 }
 
 fn marks_and_takes<S: ReadySource>(mut source: S) -> Finding {
-    let woke = if source.capacity() > 1 { source.mark(1) } else { Woke::Already };
+    let woke = if source.capacity() > 1 {
+        source.mark(1)
+    } else {
+        Woke::Already
+    };
     holds_or(
         woke == Woke::Fresh && source.take() == Taken::Slot(1),
         Finding::GivesOthers,
@@ -59,7 +67,10 @@ fn beside<S: NewSource>(bench: &Bench, mut source: S) -> Row {
     }
     let other = match source.make_beside(bench.alloc, 2) {
         Ok(other) => other,
-        Err(_) => source.make_beside(bench.alloc, 2)?,
+        Err(_) => {
+            bench.note_refusal();
+            source.make_beside(bench.alloc, 2)?
+        }
     };
     if source.take() != Taken::Slot(0) {
         return Ok(Finding::ChangedByRefusal);
@@ -97,7 +108,10 @@ fn script_source(bench: &Bench) -> Row {
 fn slot_map(bench: &Bench) -> Row {
     let mut map: PinSlotMap<Item> = PinSlotMap::new(bench.alloc, 2)?;
     let added = map.insert_with(bench.item(7)?, |item| item).is_ok();
-    Ok(holds_or(added && map.len() == 1 && map.capacity() == 2, Finding::GivesOthers))
+    Ok(holds_or(
+        added && map.len() == 1 && map.capacity() == 2,
+        Finding::GivesOthers,
+    ))
 }
 
 fn slot_map_from_iter(bench: &Bench) -> Row {
@@ -118,7 +132,10 @@ pub fn rows(bench: &Bench) -> [(&'static str, Finding); 10] {
         ("ready list, new", tried(bench, ready_list)),
         ("step machine, new", tried(bench, step_machine)),
         ("shared source, new", tried(bench, shared_ready)),
-        ("shared source, make_beside", tried(bench, shared_ready_beside)),
+        (
+            "shared source, make_beside",
+            tried(bench, shared_ready_beside),
+        ),
         ("core source, make", tried(bench, core_source)),
         ("core source, make_beside", tried(bench, core_source_beside)),
         ("script source, new", tried(bench, script_source)),

@@ -103,10 +103,19 @@ pub fn rows(bench: &Bench) -> [(&'static str, Finding); 11] {
         ("merge, with_limit", tried(bench, with_limit)),
         ("merge, merge of IterExt", tried(bench, merge_method)),
         ("growing merge, new", tried(bench, growing_new)),
-        ("growing merge, with_limit", tried(bench, growing_with_limit)),
+        (
+            "growing merge, with_limit",
+            tried(bench, growing_with_limit),
+        ),
         ("growing merge, over", tried(bench, growing_over)),
-        ("growing merge, over_limit", tried(bench, growing_over_limit)),
+        (
+            "growing merge, over_limit",
+            tried(bench, growing_over_limit),
+        ),
         ("growing merge, from_iter", tried(bench, growing_from_iter)),
-        ("growing merge, merge_unbounded of IterExt", tried(bench, growing_method)),
+        (
+            "growing merge, merge_unbounded of IterExt",
+            tried(bench, growing_method),
+        ),
     ]
 }

@@ -105,6 +105,7 @@ fn try_push_back(bench: &Bench) -> Row {
 fn gives_new_front(bench: &Bench, queue: &mut Shared, number: u64) -> Row {
     let before = queue.sizes();
     if let Err(back) = queue.try_push_front(bench.item(number)?) {
+        bench.note_refusal();
         if back.number() != number {
             return Ok(Finding::OtherValueBack);
         }
@@ -161,6 +162,7 @@ fn keeps_two(bench: &Bench, queue: &mut Shared, first: u64) -> Row {
     let last = first.wrapping_add(1);
     let before = queue.len() as u64;
     if let Err(back) = queue.extend(pair(bench, first, last)?) {
+        bench.note_refusal();
         let came = back.number().wrapping_sub(first);
         if queue.len() as u64 != before.wrapping_add(came) {
             return Ok(Finding::ChangedByRefusal);
@@ -199,9 +201,15 @@ pub fn rows(bench: &Bench) -> [(&'static str, Finding); 9] {
         ("ordered queue, over", tried(bench, over)),
         ("ordered queue, over_limit", tried(bench, over_limit)),
         ("ordered queue, from_iter", tried(bench, from_iter)),
-        ("ordered queue, into_ordered_stream", tried(bench, into_ordered_stream)),
+        (
+            "ordered queue, into_ordered_stream",
+            tried(bench, into_ordered_stream),
+        ),
         ("ordered queue, try_push_back", tried(bench, try_push_back)),
-        ("ordered queue, try_push_front", tried(bench, try_push_front)),
+        (
+            "ordered queue, try_push_front",
+            tried(bench, try_push_front),
+        ),
         ("ordered queue, extend", tried(bench, extend)),
     ]
 }

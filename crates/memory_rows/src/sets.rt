@@ -62,6 +62,7 @@ fn new_beside(bench: &Bench) -> Row {
     let beside = match set.new_beside(bench.alloc, SLOTS) {
         Ok(beside) => beside,
         Err(_) => {
+            bench.note_refusal();
             if set.len() != 1 || set.capacity() != 1 {
                 return Ok(Finding::ChangedByRefusal);
             }
@@ -100,12 +101,21 @@ pub fn rows(bench: &Bench) -> [(&'static str, Finding); 10] {
         ("bounded set, new", tried(bench, new)),
         ("bounded set, with_limit", tried(bench, with_limit)),
         ("bounded set, with_source", tried(bench, with_source)),
-        ("bounded set, with_source_limit", tried(bench, with_source_limit)),
-        ("bounded set, with_new_source", tried(bench, with_new_source)),
+        (
+            "bounded set, with_source_limit",
+            tried(bench, with_source_limit),
+        ),
+        (
+            "bounded set, with_new_source",
+            tried(bench, with_new_source),
+        ),
         ("bounded set, new_beside", tried(bench, new_beside)),
         ("bounded set, over", tried(bench, over)),
         ("bounded set, over_limit", tried(bench, over_limit)),
         ("bounded set, from_iter", tried(bench, from_iter)),
-        ("bounded set, into_unordered_stream", tried(bench, into_unordered_stream)),
+        (
+            "bounded set, into_unordered_stream",
+            tried(bench, into_unordered_stream),
+        ),
     ]
 }
