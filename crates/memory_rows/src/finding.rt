@@ -47,8 +47,9 @@ pub fn holds_or(holds: bool, fault: Finding) -> Finding {
 pub fn tried<F: Fn(&Bench) -> Result<Finding, NewFault>>(bench: &Bench, row: F) -> Finding
     requires { F.IsAlwaysCallable row }
 {
+    let others = bench.alive();
     let first = row(bench);
-    if bench.alive() != 0 {
+    if bench.alive() != others {
         return Finding::DroppedWrongly;
     }
     match first {
@@ -59,7 +60,7 @@ pub fn tried<F: Fn(&Bench) -> Result<Finding, NewFault>>(bench: &Bench, row: F) 
     let Ok(finding) = row(bench) else {
         return Finding::RefusedTwice;
     };
-    if bench.alive() != 0 {
+    if bench.alive() != others {
         return Finding::DroppedWrongly;
     }
     finding
