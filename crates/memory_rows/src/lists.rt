@@ -3,12 +3,14 @@ use crate::bench::Bench;
 use crate::finding::{Finding, holds_or, tried};
 use crate::item::Item;
 use futures_buffered_core::core_source::CoreSource;
-use futures_buffered_core::ready_core::{NewFault, ReadyCore, Taken, Woke};
+use futures_buffered_core::ready_core::{
+    Event, NewFault, ReadyCore, Reply, RunFault, Taken, Woke, run,
+};
 use futures_buffered_core::ready_shared::SharedReady;
 use futures_buffered_core::ready_source::{NewSource, ReadySource};
 use futures_buffered_core::script_source::ScriptSource;
 use futures_buffered_core::slot_map::PinSlotMap;
-use futures_buffered_table::ready_table::{ReadyList, Step, StepMachine};
+use futures_buffered_table::ready_table::{ReadyList, Step, StepFault, StepMachine, steps};
 use std::alloc::AllocError;
 
 type Row = Result<Finding, NewFault>;
@@ -37,6 +39,37 @@ fn ready_list(bench: &Bench) -> Row {
 fn step_machine(bench: &Bench) -> Row {
     let mut machine = StepMachine::new(bench.alloc, 2)?;
     Ok(holds_or(machine.step(Step::Poll).is_some(), Finding::GivesOthers))
+}
+
+fn makes_steps(bench: &Bench) -> Row {
+    match steps(bench.alloc, 2, &[Step::Poll]) {
+        Ok(replies) => Ok(holds_or(replies.len() == 1, Finding::GivesOthers)),
+        Err(StepFault::Memory) => Err(NewFault::Memory),
+        Err(_) => Ok(Finding::OtherFault),
+    }
+}
+
+// A list of events that is refused has to change nothing, and is done once more.
+fn runs_events(bench: &Bench) -> Row {
+    let mut core = ReadyCore::new(bench.alloc, 2)?;
+    let mut replies = Vec::new(bench.alloc);
+    let events = [Event::Mark(1), Event::Take];
+    if let Err(fault) = run(&mut core, &events, &mut replies) {
+        bench.note_refusal();
+        if fault != RunFault::Memory {
+            return Ok(Finding::OtherFault);
+        }
+        if replies.len() > 0 || core.take() != Taken::Empty {
+            return Ok(Finding::ChangedByRefusal);
+        }
+        if run(&mut core, &events, &mut replies).is_err() {
+            return Ok(Finding::RefusedTwice);
+        }
+    }
+    Ok(holds_or(
+        replies.last() == Some(&Reply::Taken(Taken::Slot(1))),
+        Finding::GivesOthers,
+    ))
 }
 
 fn marks_and_takes<S: ReadySource>(mut source: S) -> Finding {
@@ -126,11 +159,13 @@ fn slot_map_from_iter(bench: &Bench) -> Row {
 }
 
 /// Each call below the sets that takes memory.
-pub fn rows(bench: &Bench) -> [(&'static str, Finding); 10] {
+pub fn rows(bench: &Bench) -> [(&'static str, Finding); 12] {
     [
         ("ready core, new", tried(bench, ready_core)),
         ("ready list, new", tried(bench, ready_list)),
         ("step machine, new", tried(bench, step_machine)),
+        ("step machine, steps", tried(bench, makes_steps)),
+        ("ready core, run", tried(bench, runs_events)),
         ("shared source, new", tried(bench, shared_ready)),
         (
             "shared source, make_beside",
