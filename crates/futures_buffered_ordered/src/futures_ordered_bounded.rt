@@ -31,10 +31,10 @@ use std::marker::Model;
 /// How many entries a queue has, at most.
 pub const MAX_LEN: usize = usize::MAX / 2;
 
-/// An entry of a queue: its future is in progress, in a slot of the set, or it is done and its output is kept.
+/// An entry of a queue: its future is in progress, or it is done and its output is kept.
 #[derive(Drop)]
 pub enum Entry<A> {
-    /// The set holds its future at this slot.
+    /// Its future is in progress: a bounded queue names its slot, a growing queue the number that stands beside it.
     Running(usize),
     /// Its output, which waits for its turn.
     Kept(A),
