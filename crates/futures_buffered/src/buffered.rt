@@ -59,6 +59,8 @@ pub trait BufferedStreamExt: Stream {
 
     /// Calls `f` with each item of this stream, once and in order, and runs the futures that it makes, at most `limit` at a time. Nothing is polled.
     ///
+    /// `futures::StreamExt` has a method of this name too. Where both traits are in scope it is called by its path: `BufferedStreamExt::for_each_concurrent(stream, alloc, limit, f)`.
+    ///
     /// Takes time and memory in proportion to `limit`. Stream and closure are dropped where they are refused: `TooLarge` where `limit` is above `MAX_CAPACITY`, and `Memory` where a request for memory was refused.
     final fn for_each_concurrent<Fut, F>(
         self,
