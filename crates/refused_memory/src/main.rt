@@ -5,6 +5,7 @@ use memory_bench::early::early_requests;
 use memory_bench::{Bench, Finding};
 use memory_rows::{growing, joins, lists, merges, ordered, ordered_growing, sets};
 use memory_rows_adaptors::{buffered, for_each, try_buffered};
+use memory_rows_script::scripts;
 use std::io;
 use std::io::Write;
 use std::process::ExitCode;
@@ -26,7 +27,8 @@ fn print_all<W: Write>(bench: &Bench, out: &mut W) -> io::Result<()> {
     print(out, &merges::rows(bench))?;
     print(out, &buffered::rows(bench))?;
     print(out, &try_buffered::rows(bench))?;
-    print(out, &for_each::rows(bench))
+    print(out, &for_each::rows(bench))?;
+    print(out, &scripts::rows(bench))
 }
 
 fn main(rt: HostRuntime) -> ExitCode {
