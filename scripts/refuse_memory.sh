@@ -11,7 +11,7 @@
 # where rows are added, `requests` has to grow with them.
 set -u
 cd "$(dirname "$0")/../crates/refused_memory" || exit 2
-requests=1160
+requests=1180
 lanes=$(nproc)
 work=$(mktemp -d) || exit 2
 trap 'rm -rf "$work"' EXIT

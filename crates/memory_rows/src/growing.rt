@@ -1,14 +1,14 @@
 //! Rows of the growing set.
-use crate::bench::Bench;
-use crate::finding::{Finding, tried};
-use crate::gives::gives_all;
-use crate::grows::{Grows, Sizes, puts_and_gives};
-use crate::item::Item;
 use futures_buffered::{FuturesUnordered, IterExt};
 use futures_buffered_core::core_source::CoreSource;
 use futures_buffered_core::ready_core::NewFault;
 use futures_buffered_core::ready_shared::SharedReady;
 use futures_buffered_core::ready_source::NewSource;
+use memory_bench::bench::Bench;
+use memory_bench::finding::{Finding, tried};
+use memory_bench::gives::gives_all;
+use memory_bench::grows::puts_and_gives;
+use memory_bench::item::Item;
 
 type Row = Result<Finding, NewFault>;
 
@@ -21,20 +21,6 @@ const PAST_FIRST_GROUP: u64 = 33;
 
 /// How many items fill groups of 1, 2, 4, 8 and 16 slots, and one more.
 const PAST_FIVE_GROUPS: u64 = 32;
-
-impl<S: NewSource> Grows for FuturesUnordered<Item, S> {
-    fn put(&mut self, item: Item) -> Result<(), Item> {
-        self.push(item)
-    }
-
-    fn sizes(&self) -> Sizes {
-        Sizes {
-            len: self.len(),
-            capacity: self.capacity(),
-            is_empty: self.is_empty(),
-        }
-    }
-}
 
 fn new(bench: &Bench) -> Row {
     puts_and_gives(bench, Shared::new(bench.alloc), PAST_FIRST_GROUP)

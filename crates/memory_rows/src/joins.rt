@@ -1,7 +1,4 @@
 //! Rows of the joins.
-use crate::bench::Bench;
-use crate::finding::{Finding, holds_or, tried};
-use crate::item::{Attempt, Item};
 use futures::Future;
 use futures::task::Poll;
 use futures::test::MockTask;
@@ -11,6 +8,9 @@ use futures_buffered::{IterExt, JoinAll, SlotFuture, TryJoinAll};
 use futures_buffered_core::core_source::CoreSource;
 use futures_buffered_core::ready_core::NewFault;
 use futures_buffered_core::ready_source::ReadySource;
+use memory_bench::bench::Bench;
+use memory_bench::finding::{Finding, holds_or, tried};
+use memory_bench::item::{Attempt, Item};
 
 type Row = Result<Finding, NewFault>;
 

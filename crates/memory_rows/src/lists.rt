@@ -1,7 +1,4 @@
 //! Rows of what the sets stand on: lists of marks, sources and the slot map.
-use crate::bench::Bench;
-use crate::finding::{Finding, holds_or, tried};
-use crate::item::Item;
 use futures_buffered_core::core_source::CoreSource;
 use futures_buffered_core::ready_core::{
     Event, NewFault, ReadyCore, Reply, RunFault, Taken, Woke, run,
@@ -11,6 +8,9 @@ use futures_buffered_core::ready_source::{NewSource, ReadySource};
 use futures_buffered_core::script_source::ScriptSource;
 use futures_buffered_core::slot_map::PinSlotMap;
 use futures_buffered_table::ready_table::{ReadyList, Step, StepFault, StepMachine, steps};
+use memory_bench::bench::Bench;
+use memory_bench::finding::{Finding, holds_or, tried};
+use memory_bench::item::Item;
 use std::alloc::AllocError;
 
 type Row = Result<Finding, NewFault>;

@@ -1,14 +1,14 @@
 //! Rows of the merges.
-use crate::bench::Bench;
-use crate::finding::{Finding, tried};
-use crate::gives::gives_all;
-use crate::grows::{Grows, Sizes, puts_and_gives};
-use crate::item::Item;
 use futures_buffered::{IterExt, MergeBounded, MergeUnbounded};
 use futures_buffered_core::core_source::CoreSource;
 use futures_buffered_core::ready_core::NewFault;
 use futures_buffered_core::ready_shared::SharedReady;
 use futures_buffered_core::ready_source::NewSource;
+use memory_bench::bench::Bench;
+use memory_bench::finding::{Finding, tried};
+use memory_bench::gives::gives_all;
+use memory_bench::grows::puts_and_gives;
+use memory_bench::item::Item;
 
 type Row = Result<Finding, NewFault>;
 
@@ -25,21 +25,6 @@ const ITEMS: u64 = 3;
 
 /// How many streams fill the first group and the second, and one more.
 const PAST_TWO_GROUPS: u64 = 97;
-
-impl<S: NewSource> Grows for MergeUnbounded<Item, S> {
-    fn put(&mut self, item: Item) -> Result<(), Item> {
-        self.push(item)
-    }
-
-    // Its room is in no public call.
-    fn sizes(&self) -> Sizes {
-        Sizes {
-            len: self.len(),
-            capacity: 0,
-            is_empty: self.is_empty(),
-        }
-    }
-}
 
 fn over(bench: &Bench) -> Row {
     let merge = Alone::over(&(), bench.alloc, bench.items(ITEMS)?)?;

@@ -1,15 +1,15 @@
 //! Rows of the bounded ordered queue.
-use crate::bench::Bench;
-use crate::finding::{Finding, holds_or, tried};
-use crate::gives::{Gives, gives_all};
-use crate::grows::{Grows, Sizes, put_again, puts_and_gives};
-use crate::item::Item;
 use futures::task::Poll;
 use futures_buffered::{FuturesOrderedBounded, IterExt};
 use futures_buffered_core::core_source::CoreSource;
 use futures_buffered_core::ready_core::NewFault;
 use futures_buffered_core::ready_shared::SharedReady;
 use futures_buffered_core::ready_source::ReadySource;
+use memory_bench::bench::Bench;
+use memory_bench::finding::{Finding, holds_or, tried};
+use memory_bench::gives::{Gives, gives_all};
+use memory_bench::grows::{Grows, put_again, puts_and_gives};
+use memory_bench::item::Item;
 use std::alloc::AllocError;
 
 type Row = Result<Finding, NewFault>;
@@ -20,20 +20,6 @@ type Shared = FuturesOrderedBounded<Item, SharedReady>;
 
 /// How many entries a queue of three slots takes in its row: many more than it has room for at first.
 const ENTRIES: u64 = 12;
-
-impl<S: ReadySource> Grows for FuturesOrderedBounded<Item, S> {
-    fn put(&mut self, item: Item) -> Result<(), Item> {
-        self.try_push_back(item)
-    }
-
-    fn sizes(&self) -> Sizes {
-        Sizes {
-            len: self.len(),
-            capacity: self.capacity(),
-            is_empty: self.is_empty(),
-        }
-    }
-}
 
 fn new(bench: &Bench) -> Row {
     puts_and_gives(bench, Shared::new(bench.alloc, 3)?, 3)

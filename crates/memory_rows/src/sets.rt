@@ -1,13 +1,13 @@
 //! Rows of the bounded set.
-use crate::bench::Bench;
-use crate::finding::{Finding, tried};
-use crate::gives::gives_all;
-use crate::item::Item;
 use futures_buffered::{FuturesUnorderedBounded, IterExt};
 use futures_buffered_core::core_source::CoreSource;
 use futures_buffered_core::ready_core::NewFault;
 use futures_buffered_core::ready_shared::SharedReady;
 use futures_buffered_core::ready_source::{NewSource, ReadySource};
+use memory_bench::bench::Bench;
+use memory_bench::finding::{Finding, tried};
+use memory_bench::gives::gives_all;
+use memory_bench::item::Item;
 
 type Row = Result<Finding, NewFault>;
 

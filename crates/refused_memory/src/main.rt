@@ -1,8 +1,11 @@
 //! Makes every call that takes memory, up to its success, and prints a line for each: the same, whatever single request for memory was refused. The status is 3 where a call was refused, and 1 where nothing can be printed.
 #![tactic(auto)]
 
-use memory_rows::early::early_requests;
-use memory_rows::{Bench, Finding, adaptors, growing, joins, lists, merges, ordered, sets};
+use memory_bench::early::early_requests;
+use memory_bench::{Bench, Finding};
+use memory_rows::{growing, joins, lists, merges, ordered, ordered_growing, sets};
+use memory_rows_adaptors::{buffered, for_each, try_buffered};
+use memory_rows_script::scripts;
 use std::io;
 use std::io::Write;
 use std::process::ExitCode;
@@ -19,9 +22,13 @@ fn print_all<W: Write>(bench: &Bench, out: &mut W) -> io::Result<()> {
     print(out, &sets::rows(bench))?;
     print(out, &growing::rows(bench))?;
     print(out, &ordered::rows(bench))?;
+    print(out, &ordered_growing::rows(bench))?;
     print(out, &joins::rows(bench))?;
     print(out, &merges::rows(bench))?;
-    print(out, &adaptors::rows(bench))
+    print(out, &buffered::rows(bench))?;
+    print(out, &try_buffered::rows(bench))?;
+    print(out, &for_each::rows(bench))?;
+    print(out, &scripts::rows(bench))
 }
 
 fn main(rt: HostRuntime) -> ExitCode {

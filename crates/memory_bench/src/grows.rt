@@ -3,7 +3,9 @@ use crate::bench::Bench;
 use crate::finding::{Finding, holds_or};
 use crate::gives::{Gives, gives_all};
 use crate::item::Item;
+use futures_buffered::{FuturesOrdered, FuturesOrderedBounded, FuturesUnordered, MergeUnbounded};
 use futures_buffered_core::ready_core::NewFault;
+use futures_buffered_core::ready_source::{NewSource, ReadySource};
 
 /// How much is held, how much there is room for, and whether nothing is held.
 #[derive(Clone, Copy, Debug, PartialEq, Eq)]
@@ -18,6 +20,64 @@ pub trait Grows: Gives {
     fn put(&mut self, item: Item) -> Result<(), Item>;
 
     fn sizes(&self) -> Sizes;
+}
+
+impl<S: NewSource> Grows for FuturesUnordered<Item, S> {
+    fn put(&mut self, item: Item) -> Result<(), Item> {
+        self.push(item)
+    }
+
+    fn sizes(&self) -> Sizes {
+        Sizes {
+            len: self.len(),
+            capacity: self.capacity(),
+            is_empty: self.is_empty(),
+        }
+    }
+}
+
+impl<S: ReadySource> Grows for FuturesOrderedBounded<Item, S> {
+    fn put(&mut self, item: Item) -> Result<(), Item> {
+        self.try_push_back(item)
+    }
+
+    fn sizes(&self) -> Sizes {
+        Sizes {
+            len: self.len(),
+            capacity: self.capacity(),
+            is_empty: self.is_empty(),
+        }
+    }
+}
+
+impl<S: NewSource> Grows for FuturesOrdered<Item, S> {
+    fn put(&mut self, item: Item) -> Result<(), Item> {
+        self.push_back(item)
+    }
+
+    // Its room is in no public call.
+    fn sizes(&self) -> Sizes {
+        Sizes {
+            len: self.len(),
+            capacity: 0,
+            is_empty: self.is_empty(),
+        }
+    }
+}
+
+impl<S: NewSource> Grows for MergeUnbounded<Item, S> {
+    fn put(&mut self, item: Item) -> Result<(), Item> {
+        self.push(item)
+    }
+
+    // Its room is in no public call.
+    fn sizes(&self) -> Sizes {
+        Sizes {
+            len: self.len(),
+            capacity: 0,
+            is_empty: self.is_empty(),
+        }
+    }
 }
 
 /// Puts an item with this number in. Where it is refused, the same has to be back and nothing changed, and it is put in once more.

@@ -5,7 +5,7 @@ use futures::Stream;
 use futures::task::{Context, Poll};
 use std::alloc::AllocError;
 
-/// Gives its items from the last to the first, each at once, and then ends.
+/// Gives its items from the last to the first, each at once, and then ends. It is dropped with what it still holds.
 #[derive(Drop)]
 pub struct Listed<T> {
     items: Vec<T>,

@@ -7,8 +7,9 @@ use futures::Stream;
 use futures::task::Poll;
 use futures::test::MockTask;
 use futures_buffered::{
-    BufferUnordered, FuturesOrderedBounded, FuturesUnordered, FuturesUnorderedBounded,
-    MergeBounded, MergeUnbounded, SlotFuture, SlotStream, TryBufferUnordered,
+    BufferUnordered, BufferedOrdered, FuturesOrdered, FuturesOrderedBounded, FuturesUnordered,
+    FuturesUnorderedBounded, MergeBounded, MergeUnbounded, SlotFuture, SlotStream,
+    TryBufferUnordered, TryBufferedOrdered,
 };
 use futures_buffered_core::ready_source::{NewSource, ReadySource};
 
@@ -78,6 +79,23 @@ impl<S: ReadySource> Gives for FuturesOrderedBounded<Item, S> {
     }
 }
 
+fn poll_growing_ordered<F: SlotFuture<S::Waker>, S: NewSource>(
+    task: &MockTask,
+    queue: &mut FuturesOrdered<F, S>,
+) -> Poll<Option<F::Output>>
+where
+    F::Output: Drop,
+    requires { (future : F) → F.can_poll future }
+{
+    task.enter(|cx| queue.poll_next(cx))
+}
+
+impl<S: NewSource> Gives for FuturesOrdered<Item, S> {
+    fn next_number(&mut self, task: &MockTask) -> Poll<Option<u64>> {
+        poll_growing_ordered(task, self)
+    }
+}
+
 fn poll_merge<St: SlotStream<S::Waker>, S: ReadySource>(
     task: &MockTask,
     merge: &mut MergeBounded<St, S>,
@@ -126,6 +144,35 @@ impl<S: ReadySource> Gives for BufferUnordered<Listed<Item>, S> {
     }
 }
 
+fn poll_ordered_buffer<St: Stream, S: ReadySource>(
+    task: &MockTask,
+    buffer: &mut BufferedOrdered<St, S>,
+) -> Poll<Option<<St::Item as SlotFuture<S::Waker>>::Output>>
+where
+    St::Item: SlotFuture<S::Waker>,
+    <St::Item as SlotFuture<S::Waker>>::Output: Drop,
+    requires streams { (stream : St) → St.can_poll stream }
+    requires items { (future : St.Item) → St.Item.can_poll future }
+{
+    task.enter(|cx| buffer.poll_next(cx))
+}
+
+impl<S: ReadySource> Gives for BufferedOrdered<Listed<Item>, S> {
+    fn next_number(&mut self, task: &MockTask) -> Poll<Option<u64>> {
+        poll_ordered_buffer(task, self)
+    }
+}
+
+// The number of an attempt. An error is none of the numbers.
+fn number_of(polled: Poll<Option<Result<u64, u64>>>) -> Poll<Option<u64>> {
+    match polled {
+        Poll::Ready(Some(Ok(number))) => Poll::Ready(Some(number)),
+        Poll::Ready(Some(Err(_))) => Poll::Pending,
+        Poll::Ready(None) => Poll::Ready(None),
+        Poll::Pending => Poll::Pending,
+    }
+}
+
 fn poll_try_buffer<St, F, T, E, S: ReadySource>(
     task: &MockTask,
     buffer: &mut TryBufferUnordered<St, F, S>,
@@ -142,11 +189,27 @@ where
 
 impl<S: ReadySource> Gives for TryBufferUnordered<Listed<Result<Attempt, u64>>, Attempt, S> {
     fn next_number(&mut self, task: &MockTask) -> Poll<Option<u64>> {
-        match poll_try_buffer(task, self) {
-            Poll::Ready(Some(Ok(number))) => Poll::Ready(Some(number)),
-            Poll::Ready(Some(Err(_))) => Poll::Pending,
-            Poll::Ready(None) => Poll::Ready(None),
-            Poll::Pending => Poll::Pending,
-        }
+        number_of(poll_try_buffer(task, self))
+    }
+}
+
+fn poll_ordered_try_buffer<St, F, T, E, S: ReadySource>(
+    task: &MockTask,
+    buffer: &mut TryBufferedOrdered<St, F, S>,
+) -> Poll<Option<Result<T, E>>>
+where
+    St: Stream<Item = Result<F, E>>,
+    F: SlotFuture<S::Waker, Output = Result<T, E>>,
+    T: Drop,
+    E: Drop,
+    requires streams { (stream : St) → St.can_poll stream }
+    requires items { (future : F) → F.can_poll future }
+{
+    task.enter(|cx| buffer.poll_next(cx))
+}
+
+impl<S: ReadySource> Gives for TryBufferedOrdered<Listed<Result<Attempt, u64>>, Attempt, S> {
+    fn next_number(&mut self, task: &MockTask) -> Poll<Option<u64>> {
+        number_of(poll_ordered_try_buffer(task, self))
     }
 }
