@@ -1,8 +1,9 @@
-//! What calls of the ready list, of shared sources and of sets cost: run it with the argument `ns`.
+//! What calls of the ready list, of shared sources, of sets, of queues and of a buffer cost: run it with the argument `ns`.
 #![tactic(auto)]
 
 mod clock;
 mod growing;
+mod ordered;
 mod ready_list;
 mod sets;
 mod sources;
@@ -10,6 +11,7 @@ mod sources;
 use clock::{Workload, least};
 use futures_buffered_core::ready_core::NewFault;
 use growing::LastWoken;
+use ordered::{Bounded, Buffered, Growing, InTurn, Overtaken};
 use ready_list::{Already, Fresh, Listed};
 use sets::{Refilled, Woken};
 use sources::{Beside, four_wakers};
@@ -124,6 +126,62 @@ where
     Ok(())
 }
 
+fn bounded_queue_lines<R, O>(rt: &R, output: &mut O) -> io::Result<()>
+where
+    R: Clock + RandomSource + AllocGlobal,
+    O: io::Write,
+{
+    for held in SIZES {
+        let made = Bounded::new(rt.alloc(), held).map(|queue| InTurn::new(queue, held));
+        let name = "ordered queue: a ready front, replaced at the back, held";
+        timed(rt, output, name, held, made)?;
+    }
+    for held in SIZES {
+        let made = Bounded::new(rt.alloc(), held).map(|queue| Overtaken::new(queue, held, false));
+        let name = "ordered queue: added at the back, kept and yielded, held";
+        timed(rt, output, name, held, made)?;
+    }
+    for held in SIZES {
+        let made = Bounded::new(rt.alloc(), held).map(|queue| Overtaken::new(queue, held, true));
+        let name = "ordered queue: added at the front, kept and yielded, held";
+        timed(rt, output, name, held, made)?;
+    }
+    Ok(())
+}
+
+fn growing_queue_lines<R, O>(rt: &R, output: &mut O) -> io::Result<()>
+where
+    R: Clock + RandomSource + AllocGlobal,
+    O: io::Write,
+{
+    for held in SIZES {
+        let made = Growing::with_capacity(rt.alloc(), held).map(|queue| InTurn::new(queue, held));
+        let name = "growing ordered queue: a ready front, replaced at the back, held";
+        timed(rt, output, name, held, made)?;
+    }
+    for held in SIZES {
+        let made = Growing::with_capacity(rt.alloc(), held).map(|queue| Overtaken::new(
+            queue, held, false,
+        ));
+        let name = "growing ordered queue: added at the back, kept and yielded, held";
+        timed(rt, output, name, held, made)?;
+    }
+    Ok(())
+}
+
+fn buffer_lines<R, O>(rt: &R, output: &mut O) -> io::Result<()>
+where
+    R: Clock + RandomSource + AllocGlobal,
+    O: io::Write,
+{
+    for n in SIZES {
+        let made = Buffered::new(rt.alloc(), n);
+        let name = "buffered_ordered: an output of a ready future, at most held";
+        timed(rt, output, name, n, made)?;
+    }
+    Ok(())
+}
+
 fn source_lines<R, O>(rt: &R, output: &mut O) -> io::Result<()>
 where
     R: Clock + RandomSource + AllocGlobal + Threads + Sync,
@@ -161,5 +219,8 @@ fn main(rt: HostRuntime) -> io::Result<()> {
     list_lines(&rt, &mut output)?;
     set_lines(&rt, &mut output)?;
     growing_lines(&rt, &mut output)?;
+    bounded_queue_lines(&rt, &mut output)?;
+    growing_queue_lines(&rt, &mut output)?;
+    buffer_lines(&rt, &mut output)?;
     source_lines(&rt, &mut output)
 }

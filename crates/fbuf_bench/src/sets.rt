@@ -13,8 +13,17 @@ type Set<F> = FuturesUnorderedBounded<F, SharedReady>;
 
 /// Wakes itself at so many polls, and is ready at the next.
 #[derive(Drop)]
-struct Yields {
-    left: u64,
+pub struct Yields {
+    pub left: u64,
+}
+
+impl Yields {
+    /// Wakes itself once where this holds, and else is ready at once.
+    pub fn once_where(holds: bool) -> Yields {
+        Yields {
+            left: u64::from(holds),
+        }
+    }
 }
 
 impl<W: SlotWaker> SlotFuture<W> for Yields {
