@@ -1,5 +1,0 @@
-use Rattle.std.proofs.Common.{◌≡◌, replicate, None, vec_capacity}
-use Rattle.futures_buffered_joins.proofs.joining.no_outputs.Given as goal
-
-abbrev pub invariant-loop : goal.invariant-loop
-invariant-loop g l = record { items : l.outputs.items ≡ replicate l.counter None; room : vec_capacity l.outputs ≡ l.n }
