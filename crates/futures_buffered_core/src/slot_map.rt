@@ -52,7 +52,10 @@ fn value_of<F>(place: &mut Option<F>) -> &mut F
     }
 }
 
-fn empty_places<F>(alloc: Global, n: usize) -> Result<Vec<Option<F>>, AllocError>
+/// `n` places without a value. Takes time and memory in proportion to `n`.
+///
+/// Public for the joins, whose outputs stand at places as well.
+pub fn empty_places<F>(alloc: Global, n: usize) -> Result<Vec<Option<F>>, AllocError>
     ensures { IfOk result (λ v. v.items ≡ replicate n None) }
 {
     let mut places = Vec::with_capacity(alloc, n)?;

@@ -1,5 +1,5 @@
 //! What a join keeps until it ends: a set of its futures, and the outputs that have come.
-ghost use Rattle.std.specs.Prelude.{◌≡◌, ◌<◌, ◌≤◌, ◌+◌, ℕ, List, Some, None, Ok, Err, IfOk, IfErr, OnOk, IsSome, IsTrue, ◌↔◌, map, replicate, slice_set, ◌⊎◌};
+ghost use Rattle.std.specs.Prelude.{◌≡◌, ◌<◌, ◌≤◌, ◌+◌, ℕ, List, Some, None, Ok, Err, IfOk, IfErr, OnOk, IsSome, IsTrue, ◌↔◌, map, slice_set, ◌⊎◌};
 ghost use Rattle.std.specs.List.{FoldsTo};
 ghost use Rattle.std.specs.Iterator.{IsFiniteIterable};
 ghost use Rattle.futures.specs.Task.{Covers, Keeps};
@@ -17,7 +17,8 @@ use futures_buffered_bounded::futures_unordered_bounded::{FuturesUnorderedBounde
 use futures_buffered_bounded::{PollFuture, SlotFuture};
 use futures_buffered_core::ready_core::{MAX_CAPACITY, NewFault};
 use futures_buffered_core::ready_source::{NewSource, ReadySource};
-use std::alloc::{AllocError, Global};
+use futures_buffered_core::slot_map::empty_places;
+use std::alloc::Global;
 use std::marker::Model;
 
 /// The futures that a join waits for, each in the slot of its place, and the outputs that have come, each at its place. Room for the vector that is given at the end was taken at the beginning.
@@ -45,16 +46,6 @@ impl<F: Drop, A: Drop, S: ReadySource> Model for Joining<F, A, S> {
         s.gathered.items (vec_capacity s.gathered) };
 }
 
-fn no_outputs<A: Drop>(alloc: Global, n: usize) -> Result<Vec<Option<A>>, AllocError>
-    ensures { IfOk result (λ v. v.items ≡ replicate n None) }
-{
-    let mut outputs = Vec::with_capacity(alloc, n)?;
-    for _ in 0..n {
-        outputs.push_reserved(None);
-    }
-    Ok(outputs)
-}
-
 impl<F: Drop, A: Drop, S: ReadySource> Joining<F, A, S> {
     // Item k waits at place k, over a source made for the items.
     pub(crate) fn over<I: IntoIterator<Item = F>>(
@@ -74,7 +65,7 @@ impl<F: Drop, A: Drop, S: ReadySource> Joining<F, A, S> {
             → DrawsMoreThan I.into_iter_gives I.IntoIter.next_gives iter MAX_CAPACITY }
     {
         let set = FuturesUnorderedBounded::over(env, alloc, iter)?;
-        let outputs = no_outputs(alloc, set.capacity())?;
+        let outputs = empty_places(alloc, set.capacity())?;
         let gathered = Vec::with_capacity(alloc, set.capacity())?;
         Ok(Joining {
             set,
@@ -107,7 +98,7 @@ impl<F: Drop, A: Drop, S: ReadySource> Joining<F, A, S> {
         ensures { self.outputs ≡ map Some result.items }
     {
         let Joining {
-            set: _,
+            set: _set,
             outputs,
             mut gathered,
         } = self;
