@@ -310,6 +310,13 @@ fn in_rising_order(outputs: Vec<usize>, first: Option<usize>) -> Result<Vec<usiz
     Ok(all)
 }
 
+// Waits until each thread has ended.
+fn join_each<R: Threads + Wait>(rt: &R, started: Vec<JoinHandle<()>>) {
+    for handle in started {
+        handle.join(rt);
+    }
+}
+
 // Runs the threads to their end, and answers what the futures gave.
 fn outputs_after_all<R, G>(
     rt: R,
@@ -332,9 +339,7 @@ where
     let mut started = Vec::with_capacity(alloc, n)?;
     let first = poll_once(&rt, &mut set)?;
     let outputs = run_started(rt, alloc, m, &gate, &seats, set, &mut started);
-    for handle in started {
-        handle.join(&rt);
-    }
+    join_each(&rt, started);
     in_rising_order(outputs?, first)
 }
 
