@@ -4,44 +4,46 @@
 #     scripts/refuse_memory.sh
 #
 # Before its rows the program asks for memory once, and once more for each byte of its input. So the request that is refused,
-# which has the same number in each run, is the rows' first where the input is long, and comes later where it is short. Each run
-# has to print what the file `stdout` has, whatever its status: 3 where a call was refused, 0 where none was.
-# The runs are shared out among lanes, one for each processor. Each lane builds the program once.
-# Ends with status 0 where each run was judged and printed that, and the last ten refused none, so that no request is left out:
-# where rows are added, `requests` has to grow with them.
+# which has the same number in each run, is the rows' first where the input is long, and comes later where it is short. Run n
+# refuses the rows' request n.
+# Each run has to print what the file `stdout` has, whatever its status: 3 where a call was refused, 0 where none was. The first
+# `own` requests are what the program itself needs to begin, and asks for once more: status 0. Each further one up to `requests`
+# is some call's: status 3. The last `beyond` runs refuse none: status 0, which shows that no request is left out.
+# Where rows are added or taken away, `requests` has to change with them: the script fails until it does.
 set -u
 cd "$(dirname "$0")/../crates/refused_memory" || exit 2
-requests=1180
-lanes=$(nproc)
+own=8
+requests=1164
+beyond=6
+runs=$((requests + beyond))
 work=$(mktemp -d) || exit 2
 trap 'rm -rf "$work"' EXIT
 
-# Refuses each request of a lane: the first one is that of the lane's number.
-try_lane() {
-    cases="$work/lane_$1"
-    mkdir "$cases" || return 2
-    number=$1
-    while [ "$number" -le "$requests" ]; do
-        name=$(printf 'request_%04d' "$number")
-        head -c $((requests - number)) /dev/zero >"$cases/$name"
-        cp stdout "$cases/$name.stdout"
-        number=$((number + lanes))
-    done
-    rt try --steps 1 --fail-alloc $((requests + 1)) --cases "$cases" >"$work/log_$1" 2>&1
-}
-
-lane=1
-while [ "$lane" -le "$lanes" ]; do
-    { try_lane "$lane" || touch "$work/failed"; } &
-    lane=$((lane + 1))
+cases="$work/cases"
+mkdir "$cases" || exit 2
+number=1
+while [ "$number" -le "$runs" ]; do
+    name=$(printf 'request_%04d' "$number")
+    head -c $((runs - number)) /dev/zero >"$cases/$name"
+    cp stdout "$cases/$name.stdout"
+    number=$((number + 1))
 done
-wait
+rt try --steps 1 --fail-alloc $((runs + 1)) --cases "$cases" >"$work/log" 2>&1
+built=$?
 
-cat "$work"/log_* | grep '^case=' | sort >"$work/runs"
-runs=$(grep -c . "$work/runs")
+grep '^case=' "$work/log" | sort >"$work/runs"
+grep -v 'output=expected' "$work/runs"
+# The runs whose status is not the one that is wanted, by what each line says of its request.
+awk -v own="$own" -v requests="$requests" '
+    match($0, /request_[0-9]+/) {
+        number = substr($0, RSTART + 8, RLENGTH - 8) + 0
+        wanted = number > own && number <= requests ? 3 : 0
+        if ($0 !~ "status=" wanted " ") print "status " wanted " was wanted: " $0
+    }' "$work/runs" >"$work/wrong"
+cat "$work/wrong"
+made=$(grep -c . "$work/runs")
 well=$(grep -c ' run=ended .* output=expected' "$work/runs")
 refused=$(grep -c ' status=3 .* output=expected' "$work/runs")
-late=$(tail -n 10 "$work/runs" | grep -c ' status=0 ')
-grep -v 'output=expected' "$work/runs"
-echo "$runs runs, $well well, a call refused in $refused, none in $late of the last 10"
-[ ! -e "$work/failed" ] && [ "$well" -eq "$requests" ] && [ "$runs" -eq "$requests" ] && [ "$refused" -gt 0 ] && [ "$late" -eq 10 ]
+wrong=$(grep -c . "$work/wrong")
+echo "$made runs, $well well, a call refused in $refused, a wrong status in $wrong"
+[ "$built" -eq 0 ] && [ "$made" -eq "$runs" ] && [ "$well" -eq "$runs" ] && [ "$wrong" -eq 0 ]
