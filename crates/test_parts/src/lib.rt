@@ -5,6 +5,7 @@
 pub mod attempt;
 pub mod cells;
 pub mod counted;
+pub mod counter;
 pub mod dropped;
 pub mod dropped_streams;
 pub mod feed;

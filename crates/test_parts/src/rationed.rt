@@ -6,7 +6,7 @@ use futures::task::Context;
 use futures_buffered_core::core_source::{CoreSource, Silent};
 use futures_buffered_core::ready_core::{MAX_CAPACITY, NewFault, Taken, Woke};
 use futures_buffered_core::ready_source::{NewSource, ReadySource};
-use std::alloc::Global;
+use std::alloc::{AllocError, Global};
 use std::marker::Model;
 use std::sync::Arc;
 use std::sync::atomic::AtomicU64;
@@ -107,4 +107,9 @@ impl NewSource for Rationed {
     fn make_beside(&mut self, alloc: Global, cap: usize) -> Result<Rationed, NewFault> {
         Rationed::make(&self.left, alloc, cap)
     }
+}
+
+/// What is needed to make so many sources, and no more.
+pub fn ration(alloc: Global, sources: u64) -> Result<Arc<AtomicU64>, AllocError> {
+    Ok(Arc::new(alloc, AtomicU64::new(sources))?)
 }

@@ -6,10 +6,11 @@ use futures_buffered_core::ready_source::{CoreSource, NewSource};
 use futures_buffered_sets::futures_unordered_bounded::FuturesUnorderedBounded;
 use std::alloc::{AllocError, Global};
 use std::sync::Arc;
-use std::sync::atomic::AtomicU64;
 use std::sync::atomic::Ordering::SeqCst;
 use std::test::Fail;
+use test_parts::counter::{Counter, new_counter};
 use test_parts::dropped::Dropped;
+use test_parts::keep::keep;
 use test_parts::polling::poll_set;
 use test_parts::rationed::Rationed;
 
@@ -19,28 +20,20 @@ fn new_set(alloc: Global, capacity: usize) -> Result<Set, NewFault> {
     FuturesUnorderedBounded::with_source(alloc, CoreSource::make(&(), alloc, capacity)?)
 }
 
-fn counter(alloc: Global) -> Result<Arc<AtomicU64>, AllocError> {
-    Ok(Arc::new(alloc, AtomicU64::new(0))?)
-}
-
-fn future(drops: &Arc<AtomicU64>) -> Result<Dropped, AllocError> {
+fn future(drops: &Counter) -> Result<Dropped, AllocError> {
     Ok(Dropped::new(Arc::try_clone(drops)?))
 }
 
-fn futures(
-    alloc: Global,
-    drops: &Arc<AtomicU64>,
-    count: usize,
-) -> Result<Vec<Dropped>, AllocError> {
+fn futures(alloc: Global, drops: &Counter, count: usize) -> Result<Vec<Dropped>, AllocError> {
     let mut items = Vec::new(alloc);
     for _ in 0..count {
-        items.push(future(drops)?)?;
+        keep(&mut items, future(drops)?)?;
     }
     Ok(items)
 }
 
 // A poll, whether it gave an output, and how often a future was dropped by then.
-fn polled(task: &MockTask, set: &mut Set, drops: &Arc<AtomicU64>) -> (bool, u64) {
+fn polled(task: &MockTask, set: &mut Set, drops: &Counter) -> (bool, u64) {
     let given = poll_set(task, set);
     (given == Poll::Ready(Some(())), drops.load(SeqCst))
 }
@@ -48,7 +41,7 @@ fn polled(task: &MockTask, set: &mut Set, drops: &Arc<AtomicU64>) -> (bool, u64)
 #[test]
 fn a_future_that_gave_its_output_is_dropped(rt: HostRuntime) -> Result<(), Fail> {
     let task = MockTask::new(&rt)?;
-    let drops = counter(rt.alloc())?;
+    let drops = new_counter(rt.alloc())?;
     let items = futures(rt.alloc(), &drops, 2)?;
     let mut set = FuturesUnorderedBounded::over(&(), rt.alloc(), items)?;
     assert_eq!(rt; polled(&task, &mut set, &drops), (true, 1));
@@ -61,7 +54,7 @@ fn a_future_that_gave_its_output_is_dropped(rt: HostRuntime) -> Result<(), Fail>
 #[test]
 fn a_set_drops_what_it_holds(rt: HostRuntime) -> Result<(), Fail> {
     let task = MockTask::new(&rt)?;
-    let drops = counter(rt.alloc())?;
+    let drops = new_counter(rt.alloc())?;
     let items = futures(rt.alloc(), &drops, 3)?;
     let mut set = FuturesUnorderedBounded::over(&(), rt.alloc(), items)?;
     assert_eq!(rt; polled(&task, &mut set, &drops), (true, 1));
@@ -72,7 +65,7 @@ fn a_set_drops_what_it_holds(rt: HostRuntime) -> Result<(), Fail> {
 
 #[test]
 fn a_refused_push_drops_nothing(rt: HostRuntime) -> Result<(), Fail> {
-    let drops = counter(rt.alloc())?;
+    let drops = new_counter(rt.alloc())?;
     let mut set = new_set(rt.alloc(), 0)?;
     let back = set.try_push(future(&drops)?);
     assert_eq!(rt; (back.is_err(), drops.load(SeqCst)), (true, 0));
@@ -84,9 +77,9 @@ fn a_refused_push_drops_nothing(rt: HostRuntime) -> Result<(), Fail> {
 // The source is refused, so the set is, with the items that came.
 #[test]
 fn a_refused_set_drops_its_items(rt: HostRuntime) -> Result<(), Fail> {
-    let drops = counter(rt.alloc())?;
+    let drops = new_counter(rt.alloc())?;
     let items = futures(rt.alloc(), &drops, 3)?;
-    let none_left = counter(rt.alloc())?;
+    let none_left = new_counter(rt.alloc())?;
     let refused: Result<FuturesUnorderedBounded<Dropped, Rationed>, NewFault> =
         FuturesUnorderedBounded::over(&none_left, rt.alloc(), items);
     assert_eq!(rt; refused.err(), Some(NewFault::Memory));

@@ -13,6 +13,7 @@ use std::sync::atomic::Ordering::SeqCst;
 use std::sync::{Arc, Mutex};
 use std::test::Fail;
 use std::thread::{self, Threads};
+use test_parts::keep::keep;
 use test_parts::polling::poll_set;
 
 const SLOTS: usize = 256;
@@ -58,33 +59,52 @@ struct Bell {
     waker: SlotWake,
 }
 
+fn new_seat(alloc: Global) -> Result<Arc<Seat>, AllocError> {
+    let seat = Seat {
+        wakes: AtomicU64::new(0),
+        waker: Mutex::new(None),
+    };
+    Ok(Arc::new(alloc, seat)?)
+}
+
+// A future of the set, whose seat is kept.
+fn add_seat(alloc: Global, set: &mut Set, seats: &mut Vec<Arc<Seat>>) -> Result<(), AllocError> {
+    let seat = new_seat(alloc)?;
+    let future = AllWakes {
+        seat: Arc::try_clone(&seat)?,
+    };
+    let _ = set.try_push(future);
+    keep(seats, seat)
+}
+
 fn seated(alloc: Global, set: &mut Set) -> Result<Vec<Arc<Seat>>, AllocError> {
     let mut seats = Vec::new(alloc);
     for _ in 0..SLOTS {
-        let seat = Seat {
-            wakes: AtomicU64::new(0),
-            waker: Mutex::new(None),
-        };
-        let seat = Arc::new(alloc, seat)?;
-        let future = AllWakes {
-            seat: Arc::try_clone(&seat)?,
-        };
-        let _ = set.try_push(future);
-        seats.push(seat)?;
+        add_seat(alloc, set, &mut seats)?;
     }
     Ok(seats)
 }
 
-fn bells(alloc: Global, seats: Vec<Arc<Seat>>) -> Result<Vec<Bell>, AllocError> {
+fn waker_of(seat: &Seat) -> Option<SlotWake> {
+    match seat.waker.try_lock() {
+        Some(mut kept) => kept.take(),
+        None => None,
+    }
+}
+
+// Adds the bell of a seat that has a waker.
+fn add_bell(bells: &mut Vec<Bell>, seat: &Arc<Seat>) -> Result<(), AllocError> {
+    let seat = Arc::try_clone(seat)?;
+    match waker_of(&seat) {
+        Some(waker) => keep(bells, Bell { seat, waker }),
+        None => Ok(()),
+    }
+}
+
+fn bells(alloc: Global, seats: &[Arc<Seat>]) -> Result<Vec<Bell>, AllocError> {
     let mut bells = Vec::new(alloc);
     for seat in seats {
-        let waker = match seat.waker.try_lock() {
-            Some(mut kept) => kept.take(),
-            None => None,
-        };
-        if let Some(waker) = waker {
-            bells.push(Bell { seat, waker })?;
-        }
+        add_bell(&mut bells, seat)?;
     }
     Ok(bells)
 }
@@ -102,6 +122,11 @@ fn ring_often(bells: &Vec<Bell>) {
     }
 }
 
+fn start_one<R: Threads>(rt: &R, bells: &Arc<Vec<Bell>>) -> Result<thread::JoinHandle<()>, Fail> {
+    let bells = Arc::try_clone(bells)?;
+    Ok(thread::spawn(rt, move || ring_often(&bells))?)
+}
+
 fn start<R: Threads>(
     rt: &R,
     alloc: Global,
@@ -109,19 +134,22 @@ fn start<R: Threads>(
 ) -> Result<Vec<thread::JoinHandle<()>>, Fail> {
     let mut started = Vec::new(alloc);
     for _ in 0..THREADS {
-        let bells = Arc::try_clone(bells)?;
-        started.push(thread::spawn(rt, move || ring_often(&bells))?)?;
+        keep(&mut started, start_one(rt, bells)?)?;
     }
     Ok(started)
+}
+
+fn poll_each(task: &MockTask, set: &mut Set) {
+    for _ in 0..5 {
+        let _ = poll_set(task, set);
+    }
 }
 
 // The bells of a full set, each of whose futures was polled once.
 fn begin(alloc: Global, task: &MockTask, set: &mut Set) -> Result<Vec<Bell>, AllocError> {
     let seats = seated(alloc, set)?;
-    for _ in 0..5 {
-        let _ = poll_set(task, set);
-    }
-    bells(alloc, seats)
+    poll_each(task, set);
+    bells(alloc, seats.as_slice())
 }
 
 fn join_all<R: Threads>(rt: &R, started: Vec<thread::JoinHandle<()>>) {

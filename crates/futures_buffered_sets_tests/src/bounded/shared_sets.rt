@@ -4,23 +4,11 @@ use futures::test::MockTask;
 use futures_buffered_core::ready_core::Woke;
 use futures_buffered_core::ready_shared::SharedReady;
 use futures_buffered_sets::futures_unordered_bounded::FuturesUnorderedBounded;
-use std::alloc::{AllocError, Global};
 use std::test::Fail;
 use test_parts::polling::poll_set;
-use test_parts::timed::Timed;
+use test_parts::timed::{Timed, ready_up_to};
 
 type Shared<F> = FuturesUnorderedBounded<F, SharedReady>;
-
-fn items(alloc: Global, count: u64) -> Result<Vec<Timed>, AllocError> {
-    let mut items = Vec::new(alloc);
-    for value in 0..count {
-        items.push(Timed {
-            value,
-            polls_left: 0,
-        })?;
-    }
-    Ok(items)
-}
 
 // Whether a set of this many items gives each, in order, and then the end.
 fn gives_all(task: &MockTask, set: &mut Shared<Timed>, count: u64) -> bool {
@@ -35,7 +23,7 @@ fn gives_all(task: &MockTask, set: &mut Shared<Timed>, count: u64) -> bool {
 #[test]
 fn from_iter_marks_each_item(rt: HostRuntime) -> Result<(), Fail> {
     let task = MockTask::new(&rt)?;
-    let mut set = FuturesUnorderedBounded::from_iter(rt.alloc(), items(rt.alloc(), 10)?)?;
+    let mut set = FuturesUnorderedBounded::from_iter(rt.alloc(), ready_up_to(rt.alloc(), 10)?)?;
     assert!(rt; gives_all(&task, &mut set, 10));
     Ok(())
 }
@@ -43,7 +31,7 @@ fn from_iter_marks_each_item(rt: HostRuntime) -> Result<(), Fail> {
 #[test]
 fn over_marks_each_item(rt: HostRuntime) -> Result<(), Fail> {
     let task = MockTask::new(&rt)?;
-    let items = items(rt.alloc(), 10)?;
+    let items = ready_up_to(rt.alloc(), 10)?;
     let mut set: Shared<Timed> = FuturesUnorderedBounded::over(&(), rt.alloc(), items)?;
     assert!(rt; gives_all(&task, &mut set, 10));
     Ok(())
@@ -53,7 +41,7 @@ fn over_marks_each_item(rt: HostRuntime) -> Result<(), Fail> {
 #[test]
 fn names_each_of_300_slots(rt: HostRuntime) -> Result<(), Fail> {
     let task = MockTask::new(&rt)?;
-    let mut set = FuturesUnorderedBounded::from_iter(rt.alloc(), items(rt.alloc(), 300)?)?;
+    let mut set = FuturesUnorderedBounded::from_iter(rt.alloc(), ready_up_to(rt.alloc(), 300)?)?;
     assert!(rt; gives_all(&task, &mut set, 300));
     Ok(())
 }
@@ -85,7 +73,7 @@ fn gives(task: &MockTask, set: &mut Shared<Timed>) -> (Poll<Option<u64>>, bool) 
 #[test]
 fn an_output_wakes_nobody(rt: HostRuntime) -> Result<(), Fail> {
     let task = MockTask::new(&rt)?;
-    let mut set = FuturesUnorderedBounded::from_iter(rt.alloc(), items(rt.alloc(), 2)?)?;
+    let mut set = FuturesUnorderedBounded::from_iter(rt.alloc(), ready_up_to(rt.alloc(), 2)?)?;
     assert_eq!(rt; gives(&task, &mut set), (Poll::Ready(Some(0)), false));
     assert_eq!(rt; gives(&task, &mut set), (Poll::Ready(Some(1)), false));
     Ok(())
@@ -104,7 +92,7 @@ fn an_end_wakes_nobody(rt: HostRuntime) -> Result<(), Fail> {
 
 #[test]
 fn prints_what_it_holds(rt: HostRuntime) -> Result<(), Fail> {
-    let set = FuturesUnorderedBounded::from_iter(rt.alloc(), items(rt.alloc(), 2)?)?;
+    let set = FuturesUnorderedBounded::from_iter(rt.alloc(), ready_up_to(rt.alloc(), 2)?)?;
     let text = format!(in rt.alloc(); "{set:?}")?;
     assert_eq!(rt; text.as_str(), "FuturesUnorderedBounded { len: 2, .. }");
     Ok(())

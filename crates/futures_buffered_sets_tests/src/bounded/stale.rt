@@ -6,11 +6,11 @@ use futures_buffered_core::ready_source::SlotWaker;
 use futures_buffered_sets::futures_unordered_bounded::FuturesUnorderedBounded;
 use futures_buffered_sets::slot_future::SlotFuture;
 use std::alloc::{AllocError, Global};
-use std::sync::atomic::AtomicU64;
 use std::sync::atomic::Ordering::SeqCst;
 use std::sync::{Arc, Wait};
 use std::test::Fail;
 use test_parts::counted::Counted;
+use test_parts::counter::{Counter, new_counter};
 use test_parts::kept::{Kept, WakerPlace, empty_place, taken_from};
 use test_parts::polling::poll_set;
 
@@ -39,7 +39,7 @@ fn counted_keeper<R: Drop>(
     rt: R,
     place: &WakerPlace,
     ends: bool,
-    polls: &Arc<AtomicU64>,
+    polls: &Counter,
 ) -> Result<Counted<Keeper<R>>, AllocError> {
     let kept = Kept::new(rt, Arc::try_clone(place)?);
     let polls = Arc::try_clone(polls)?;
@@ -51,17 +51,17 @@ fn counted_keeper<R: Drop>(
 struct Row<R: Wait + Clone + Drop> {
     set: Set<R>,
     place: WakerPlace,
-    first: Arc<AtomicU64>,
-    second: Arc<AtomicU64>,
-    third: Arc<AtomicU64>,
+    first: Counter,
+    second: Counter,
+    third: Counter,
 }
 
 fn new_row<R: Wait + Clone + Drop + Send + Sync>(rt: &R, alloc: Global) -> Result<Row<R>, Fail> {
     let set = FuturesUnorderedBounded::new(alloc, 2)?;
     let place = empty_place(alloc)?;
-    let first = Arc::new(alloc, AtomicU64::new(0))?;
-    let second = Arc::new(alloc, AtomicU64::new(0))?;
-    let third = Arc::new(alloc, AtomicU64::new(0))?;
+    let first = new_counter(alloc)?;
+    let second = new_counter(alloc)?;
+    let third = new_counter(alloc)?;
     Ok(Row {
         set,
         place,
@@ -77,7 +77,7 @@ fn pushes<R: Wait + Clone + Drop>(
     set: &mut Set<R>,
     place: &WakerPlace,
     ends: bool,
-    polls: &Arc<AtomicU64>,
+    polls: &Counter,
 ) -> bool {
     match counted_keeper(rt, place, ends, polls) {
         Ok(future) => set.try_push(future).is_ok(),

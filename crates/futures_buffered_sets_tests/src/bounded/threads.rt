@@ -1,41 +1,29 @@
 // Sets that move to another thread, or are woken from one.
-use futures::StreamExt;
 use futures::executor::block_on;
-use futures::future::ready;
+use futures::{StreamExt, future};
 use futures_buffered_core::ready_shared::SharedReady;
 use futures_buffered_sets::futures_unordered_bounded::FuturesUnorderedBounded;
-use std::alloc::{AllocError, Global};
+use std::alloc::Global;
 use std::sync::Wait;
 use std::test::Fail;
 use std::thread::{self, JoinHandle, Threads};
-use test_parts::receiver::{Receiver, Sender, one_shot};
-use test_parts::timed::Timed;
+use test_parts::cells::{Cells, new_cells};
+use test_parts::receiver::{Receiver, Sender};
+use test_parts::timed::{Timed, ready};
 use test_parts::yields::Yield;
 
 type Shared<F> = FuturesUnorderedBounded<F, SharedReady>;
 
-// The set gives each receiver, and each has its sender.
-fn receivers<R: Wait + Clone + Drop>(
-    rt: &R,
-    alloc: Global,
-    set: &mut Shared<Receiver<u64, R>>,
-) -> Result<Vec<Sender<u64, R>>, AllocError> {
-    let mut senders = Vec::new(alloc);
-    for _ in 0..4 {
-        let (sender, receiver) = one_shot(rt, alloc)?;
-        senders.push(sender)?;
+// The set gives each receiver.
+fn push_all<R: Wait + Drop>(set: &mut Shared<Receiver<u64, R>>, receivers: Vec<Receiver<u64, R>>) {
+    for receiver in receivers {
         let _ = set.try_push(receiver);
     }
-    Ok(senders)
 }
 
 // Whether a future that is ready with this value was put in.
 fn pushes(set: &mut Shared<Timed>, value: u64) -> bool {
-    set.try_push(Timed {
-        value,
-        polls_left: 0,
-    })
-    .is_ok()
+    set.try_push(ready(value)).is_ok()
 }
 
 #[test]
@@ -70,7 +58,8 @@ fn sending<R: Threads + Wait + Copy + Send + Sync + 'static>(
     set: &mut Shared<Receiver<u64, R>>,
     values: [u64; 4],
 ) -> Result<JoinHandle<()>, Fail> {
-    let senders = receivers(rt, alloc, set)?;
+    let Cells { senders, receivers } = new_cells(rt, alloc, 4)?;
+    push_all(set, receivers);
     Ok(thread::spawn(rt, move || send_each(&senders, values))?)
 }
 
@@ -79,7 +68,10 @@ fn next_and_fold_while_a_thread_wakes(rt: HostRuntime) -> Result<(), Fail> {
     let mut set = FuturesUnorderedBounded::new(rt.alloc(), 4)?;
     let child = sending(&rt, rt.alloc(), &mut set, [1, 2, 4, 8])?;
     let first = block_on(&rt, set.next())?.ok_or("no first")??;
-    let others = block_on(&rt, set.fold(0, |sum, x| ready(sum | x.unwrap_or(0))))?;
+    let others = block_on(
+        &rt,
+        set.fold(0, |sum, x| future::ready(sum | x.unwrap_or(0))),
+    )?;
     child.join(&rt);
     assert_eq!(rt; (others & first, others | first), (0, 15));
     Ok(())

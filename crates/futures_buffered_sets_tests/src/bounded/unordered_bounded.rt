@@ -10,7 +10,7 @@ use std::process::Abort;
 use std::random::RandomSource;
 use std::test::Fail;
 use test_parts::polling::poll_set;
-use test_parts::timed::Timed;
+use test_parts::timed::{Timed, late, ready, ready_up_to};
 
 type Set = FuturesUnorderedBounded<Timed, CoreSource>;
 
@@ -58,15 +58,20 @@ fn gave(task: &MockTask, set: &mut Set, call: Call) -> Answer {
 }
 
 // The set's calls in order, each with its answer.
+fn try_calls<R: Abort>(rt: &R, task: &MockTask, set: &mut Set, row: &[(Call, Answer)]) {
+    for (call, want) in row {
+        assert_eq!(rt; gave(task, set, *call), *want, "at {call:?}");
+    }
+}
+
+// The same of a new set.
 fn try_row<R>(rt: &R, capacity: usize, row: &[(Call, Answer)]) -> Result<(), Fail>
 where
     R: Abort + RandomSource + AllocGlobal,
 {
     let task = MockTask::new(rt)?;
     let mut set = new_set(rt.alloc(), capacity)?;
-    for (call, want) in row {
-        assert_eq!(rt; gave(&task, &mut set, *call), *want, "at {call:?}");
-    }
+    try_calls(rt, &task, &mut set, row);
     Ok(())
 }
 
@@ -142,9 +147,12 @@ fn skips_a_slot_without_a_future(rt: HostRuntime) -> Result<(), Fail> {
 fn takes_no_more_names_than_the_limit(rt: HostRuntime) -> Result<(), Fail> {
     let task = MockTask::new(&rt)?;
     let mut set = new_set(rt.alloc(), 62)?;
-    for _ in 0..POLL_LIMIT {
-        assert_eq!(rt; gave(&task, &mut set, Call::Push(0, 1)), Answer::Pushed);
-    }
+    try_calls(
+        &rt,
+        &task,
+        &mut set,
+        &[(Call::Push(0, 1), Answer::Pushed); POLL_LIMIT],
+    );
     assert_eq!(rt; gave(&task, &mut set, Call::Push(99, 0)), Answer::Pushed);
     assert_eq!(rt; gave(&task, &mut set, Call::Poll), Answer::Pending);
     assert!(rt; task.is_woken());
@@ -157,10 +165,7 @@ fn counts_what_it_holds(rt: HostRuntime) -> Result<(), Fail> {
     let mut set = new_set(rt.alloc(), 2)?;
     assert_eq!(rt; (set.len(), set.capacity(), set.is_empty()), (0, 2, true));
     if set.len() < set.capacity() {
-        set.push(Timed {
-            value: 1,
-            polls_left: 0,
-        });
+        set.push(ready(1));
     }
     assert_eq!(rt; (set.len(), set.capacity(), set.is_empty()), (1, 2, false));
     assert_eq!(rt;
@@ -170,58 +175,48 @@ fn counts_what_it_holds(rt: HostRuntime) -> Result<(), Fail> {
     Ok(())
 }
 
+// The answer of a poll, and whether the task is woken after it.
+fn polled(
+    task: &MockTask,
+    set: &mut FuturesUnorderedBounded<Timed, ScriptSource>,
+) -> (Poll<Option<u64>>, bool) {
+    let answer = poll_set(task, set);
+    (answer, task.is_woken())
+}
+
 #[test]
 fn wakes_its_task_where_the_source_pauses(rt: HostRuntime) -> Result<(), Fail> {
     let task = MockTask::new(&rt)?;
     let answers = vec![in rt.alloc(); Taken::Slot(1), Taken::Pause, Taken::Slot(0)]?;
     let source = ScriptSource::new(rt.alloc(), 2, answers)?;
     let mut set = FuturesUnorderedBounded::with_source(rt.alloc(), source)?;
-    assert!(rt;
-        set.try_push(Timed {
-            value: 5,
-            polls_left: 0
-        })
-        .is_ok()
-    );
-    assert!(rt;
-        set.try_push(Timed {
-            value: 6,
-            polls_left: 1
-        })
-        .is_ok()
-    );
-    let rows = [
-        (Poll::Pending, true),
-        (Poll::Ready(Some(5)), false),
-        (Poll::Pending, false),
-    ];
-    for (want, is_woken) in rows {
-        assert_eq!(rt; poll_set(&task, &mut set), want);
-        assert_eq!(rt; task.is_woken(), is_woken);
-    }
+    assert!(rt; set.try_push(ready(5)).is_ok());
+    assert!(rt; set.try_push(late(6)).is_ok());
+    assert_eq!(rt; polled(&task, &mut set), (Poll::Pending, true));
+    assert_eq!(rt; polled(&task, &mut set), (Poll::Ready(Some(5)), false));
+    assert_eq!(rt; polled(&task, &mut set), (Poll::Pending, false));
     Ok(())
+}
+
+// The outputs 0 to `count - 1`, in order, and then the end.
+fn try_outputs<R: Abort>(rt: &R, task: &MockTask, set: &mut Set, count: u64) {
+    for value in 0..count {
+        assert_eq!(rt; gave(task, set, Call::Poll), Answer::Some(value));
+    }
+    assert_eq!(rt; gave(task, set, Call::Poll), Answer::None);
 }
 
 #[test]
 fn holds_each_item_it_is_made_of(rt: HostRuntime) -> Result<(), Fail> {
     let task = MockTask::new(&rt)?;
-    let mut items = Vec::new(rt.alloc());
-    for value in 0..10 {
-        items.push(Timed {
-            value,
-            polls_left: 0,
-        })?;
-    }
+    let items = ready_up_to(rt.alloc(), 10)?;
     let mut set: Set = FuturesUnorderedBounded::over(&(), rt.alloc(), items)?;
     assert_eq!(rt;
         (set.len(), set.capacity(), set.is_terminated()),
         (10, 10, false)
     );
     assert_eq!(rt; set.size_hint(), (10, Some(10)));
-    for value in 0..10 {
-        assert_eq!(rt; gave(&task, &mut set, Call::Poll), Answer::Some(value));
-    }
-    assert_eq!(rt; gave(&task, &mut set, Call::Poll), Answer::None);
+    try_outputs(&rt, &task, &mut set, 10);
     assert!(rt; set.is_terminated());
     Ok(())
 }
@@ -231,13 +226,7 @@ fn has_no_slot_where_it_is_made_of_nothing(rt: HostRuntime) -> Result<(), Fail> 
     let mut set: Set = FuturesUnorderedBounded::over(&(), rt.alloc(), Vec::new(rt.alloc()))?;
     assert_eq!(rt; (set.capacity(), set.is_terminated()), (0, true));
     assert_eq!(rt; set.size_hint(), (0, Some(0)));
-    assert!(rt;
-        set.try_push(Timed {
-            value: 1,
-            polls_left: 0
-        })
-        .is_err()
-    );
+    assert!(rt; set.try_push(ready(1)).is_err());
     Ok(())
 }
 

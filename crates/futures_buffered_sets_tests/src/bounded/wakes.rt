@@ -4,11 +4,11 @@ use futures_buffered_core::ready_shared::{SharedReady, SlotWake};
 use futures_buffered_core::ready_source::SlotWaker;
 use futures_buffered_sets::futures_unordered_bounded::FuturesUnorderedBounded;
 use std::alloc::{AllocError, Global};
-use std::sync::atomic::AtomicU64;
 use std::sync::atomic::Ordering::SeqCst;
 use std::sync::{Arc, Wait};
 use std::test::Fail;
 use test_parts::counted::Counted;
+use test_parts::counter::{Counter, new_counter};
 use test_parts::kept::{Kept, WakerPlace, empty_place, taken_from};
 use test_parts::polling::{poll_nothing, poll_set};
 
@@ -19,7 +19,7 @@ type Set<R> = FuturesUnorderedBounded<Counted<Kept<R>>, SharedReady>;
 struct Row<R: Wait + Clone + Drop> {
     set: Set<R>,
     place: WakerPlace,
-    polls: Arc<AtomicU64>,
+    polls: Counter,
 }
 
 fn new_row<R>(rt: &R, alloc: Global, capacity: usize) -> Result<Row<R>, Fail>
@@ -28,7 +28,7 @@ where
 {
     let set = FuturesUnorderedBounded::new(alloc, capacity)?;
     let place = empty_place(alloc)?;
-    let polls = Arc::new(alloc, AtomicU64::new(0))?;
+    let polls = new_counter(alloc)?;
     Ok(Row { set, place, polls })
 }
 

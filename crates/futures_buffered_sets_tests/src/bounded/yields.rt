@@ -5,17 +5,54 @@ use futures_buffered_core::ready_shared::SharedReady;
 use futures_buffered_sets::futures_unordered_bounded::FuturesUnorderedBounded;
 use std::alloc::AllocError;
 use std::sync::Arc;
-use std::sync::atomic::AtomicU64;
 use std::sync::atomic::Ordering::SeqCst;
 use std::test::Fail;
 use test_parts::counted::Counted;
+use test_parts::counter::{Counter, new_counter};
 use test_parts::polling::poll_set;
 use test_parts::yields::Yield;
 
 type Set = FuturesUnorderedBounded<Counted<Yield>, SharedReady>;
 
-fn counted_yield(polls: &Arc<AtomicU64>) -> Result<Counted<Yield>, AllocError> {
+fn counted_yield(polls: &Counter) -> Result<Counted<Yield>, AllocError> {
     Ok(Counted::new(Yield::new(), Arc::try_clone(polls)?))
+}
+
+// Whether one more future was put in.
+fn takes_one(set: &mut Set, polls: &Counter) -> bool {
+    match counted_yield(polls) {
+        Ok(future) => set.try_push(future).is_ok(),
+        Err(_) => false,
+    }
+}
+
+fn takes(set: &mut Set, polls: &Counter, count: usize) -> bool {
+    let mut all = true;
+    for _ in 0..count {
+        all = takes_one(set, polls) && all;
+    }
+    all
+}
+
+fn gives_one(task: &MockTask, set: &mut Set) -> bool {
+    poll_set(task, set) == Poll::Ready(Some(()))
+}
+
+fn gives(task: &MockTask, set: &mut Set, count: usize) -> bool {
+    let mut all = true;
+    for _ in 0..count {
+        all = gives_one(task, set) && all;
+    }
+    all
+}
+
+// Whether each poll gave an output, whose place was taken.
+fn gives_and_takes(task: &MockTask, set: &mut Set, polls: &Counter, count: usize) -> bool {
+    let mut all = true;
+    for _ in 0..count {
+        all = gives_one(task, set) && takes_one(set, polls) && all;
+    }
+    all
 }
 
 // Each future is polled twice, and no other poll is made.
@@ -23,17 +60,10 @@ fn counted_yield(polls: &Arc<AtomicU64>) -> Result<Counted<Yield>, AllocError> {
 fn take_one_and_push_one(rt: HostRuntime) -> Result<(), Fail> {
     let task = MockTask::new(&rt)?;
     let mut set: Set = FuturesUnorderedBounded::new(rt.alloc(), 10)?;
-    let polls = Arc::new(rt.alloc(), AtomicU64::new(0))?;
-    for _ in 0..10 {
-        assert!(rt; set.try_push(counted_yield(&polls)?).is_ok());
-    }
-    for _ in 0..100 {
-        assert_eq!(rt; poll_set(&task, &mut set), Poll::Ready(Some(())));
-        assert!(rt; set.try_push(counted_yield(&polls)?).is_ok());
-    }
-    for _ in 0..10 {
-        assert_eq!(rt; poll_set(&task, &mut set), Poll::Ready(Some(())));
-    }
+    let polls = new_counter(rt.alloc())?;
+    assert!(rt; takes(&mut set, &polls, 10));
+    assert!(rt; gives_and_takes(&task, &mut set, &polls, 100));
+    assert!(rt; gives(&task, &mut set, 10));
     assert_eq!(rt; poll_set(&task, &mut set), Poll::Ready(None));
     assert_eq!(rt; polls.load(SeqCst), 220);
     Ok(())

@@ -6,7 +6,7 @@ use futures_buffered_sets::futures_unordered::FuturesUnordered;
 use futures_buffered_sets::futures_unordered_bounded::FuturesUnorderedBounded;
 use std::alloc::Global;
 use std::test::Fail;
-use test_parts::timed::Timed;
+use test_parts::timed::{Timed, ready_up_to};
 
 type Bounded = FuturesUnorderedBounded<Timed, CoreSource>;
 
@@ -34,11 +34,7 @@ fn limit_of_source(alloc: Global, limit: usize) -> Result<usize, Fail>
 #[test]
 fn bounded_sets_have_the_limit(rt: HostRuntime) -> Result<(), Fail> {
     assert_eq!(rt; limit_of_source(rt.alloc(), 7)?, 7);
-    let mut items = Vec::new(rt.alloc());
-    items.push(Timed {
-        value: 1,
-        polls_left: 0,
-    })?;
+    let items = ready_up_to(rt.alloc(), 1)?;
     let set: Bounded = FuturesUnorderedBounded::over_limit(&(), rt.alloc(), items, 9)?;
     assert_eq!(rt; (set.limit(), set.capacity()), (9, 1));
     Ok(())

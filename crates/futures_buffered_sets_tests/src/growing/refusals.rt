@@ -4,27 +4,12 @@ use futures::test::MockTask;
 use futures_buffered_core::ready_core::{MAX_CAPACITY, NewFault};
 use futures_buffered_core::ready_source::CoreSource;
 use futures_buffered_sets::futures_unordered::FuturesUnordered;
-use std::alloc::{AllocError, Global};
-use std::sync::Arc;
-use std::sync::atomic::AtomicU64;
 use std::test::Fail;
 use test_parts::polling::poll_growing_set;
-use test_parts::rationed::Rationed;
-use test_parts::timed::Timed;
+use test_parts::rationed::{Rationed, ration};
+use test_parts::timed::{Timed, ready};
 
 type Set = FuturesUnordered<Timed, Rationed>;
-
-// What a set needs to make so many sources, and no more.
-fn ration(alloc: Global, sources: u64) -> Result<Arc<AtomicU64>, AllocError> {
-    Ok(Arc::new(alloc, AtomicU64::new(sources))?)
-}
-
-fn ready(value: u64) -> Timed {
-    Timed {
-        value,
-        polls_left: 0,
-    }
-}
 
 #[test]
 fn a_set_whose_group_is_refused_is_not_there(rt: HostRuntime) -> Result<(), Fail> {

@@ -1,6 +1,7 @@
 // Rows of calls of a set over `CoreSource`s, and what each call answers.
 use futures::task::Poll;
 use futures::test::MockTask;
+use futures_buffered_core::ready_shared::SharedReady;
 use futures_buffered_core::ready_source::CoreSource;
 use futures_buffered_sets::fused::{FusedStream, SizeHint};
 use futures_buffered_sets::futures_unordered::{FIRST_GROUP, FuturesUnordered};
@@ -10,7 +11,7 @@ use std::process::Abort;
 use std::random::RandomSource;
 use std::test::Fail;
 use test_parts::polling::poll_growing_set;
-use test_parts::timed::Timed;
+use test_parts::timed::{Timed, ready, ready_up_to};
 
 type Set = FuturesUnordered<Timed, CoreSource>;
 
@@ -52,16 +53,21 @@ fn gave(task: &MockTask, set: &mut Set, call: Call) -> Answer {
     }
 }
 
-// The calls of a set with a first group of `n` slots, in order, each with its answer.
+// The set's calls in order, each with its answer.
+fn try_calls<R: Abort>(rt: &R, task: &MockTask, set: &mut Set, row: &[(Call, Answer)]) {
+    for (call, want) in row {
+        assert_eq!(rt; gave(task, set, *call), *want, "at {call:?}");
+    }
+}
+
+// The same of a set with a first group of `n` slots.
 fn try_row<R>(rt: &R, n: usize, row: &[(Call, Answer)]) -> Result<(), Fail>
 where
     R: Abort + RandomSource + AllocGlobal,
 {
     let task = MockTask::new(rt)?;
     let mut set: Set = FuturesUnordered::over((), rt.alloc(), n)?;
-    for (call, want) in row {
-        assert_eq!(rt; gave(&task, &mut set, *call), *want, "at {call:?}");
-    }
+    try_calls(rt, &task, &mut set, row);
     Ok(())
 }
 
@@ -113,16 +119,9 @@ fn asks_each_group_once_from_the_kept_place(rt: HostRuntime) -> Result<(), Fail>
     try_row(&rt, 1, &row)
 }
 
-fn ten_ready() -> [Timed; 10] {
-    [Timed {
-        value: 7,
-        polls_left: 0,
-    }; 10]
-}
-
 #[test]
 fn holds_what_an_iterator_gives(rt: HostRuntime) -> Result<(), Fail> {
-    let items = Vec::from_array(rt.alloc(), ten_ready())?;
+    let items = ready_up_to(rt.alloc(), 10)?;
     let set = FuturesUnordered::from_iter(rt.alloc(), items)?;
     assert_eq!(rt; set.len(), 10);
     assert_eq!(rt; set.capacity(), FIRST_GROUP);
@@ -133,42 +132,40 @@ fn holds_what_an_iterator_gives(rt: HostRuntime) -> Result<(), Fail> {
 
 #[test]
 fn a_bounded_set_holds_as_many(rt: HostRuntime) -> Result<(), Fail> {
-    let items = Vec::from_array(rt.alloc(), ten_ready())?;
+    let items = ready_up_to(rt.alloc(), 10)?;
     let set = FuturesUnorderedBounded::from_iter(rt.alloc(), items)?;
     assert_eq!(rt; set.capacity(), 10);
     assert_eq!(rt; set.size_hint(), (10, Some(10)));
     Ok(())
 }
 
+// The outputs 0 to `count - 1`, in order, and then the end.
+fn try_outputs<R: Abort>(
+    rt: &R,
+    task: &MockTask,
+    set: &mut FuturesUnordered<Timed, SharedReady>,
+    count: u64,
+) {
+    for value in 0..count {
+        assert_eq!(rt; poll_growing_set(task, set), Poll::Ready(Some(value)));
+    }
+    assert_eq!(rt; poll_growing_set(task, set), Poll::Ready(None));
+}
+
 #[test]
 fn begins_with_a_group_for_all_items(rt: HostRuntime) -> Result<(), Fail> {
-    let mut items = Vec::new(rt.alloc());
-    for value in 0..40 {
-        items.push(Timed {
-            value,
-            polls_left: 0,
-        })?;
-    }
-    let mut set = FuturesUnordered::from_iter(rt.alloc(), items)?;
     let task = MockTask::new(&rt)?;
+    let items = ready_up_to(rt.alloc(), 40)?;
+    let mut set = FuturesUnordered::from_iter(rt.alloc(), items)?;
     assert_eq!(rt; set.capacity(), 40);
-    for value in 0..40 {
-        assert_eq!(rt; poll_growing_set(&task, &mut set), Poll::Ready(Some(value)));
-    }
-    assert_eq!(rt; poll_growing_set(&task, &mut set), Poll::Ready(None));
+    try_outputs(&rt, &task, &mut set, 40);
     Ok(())
 }
 
 #[test]
 fn prints_how_many_it_holds(rt: HostRuntime) -> Result<(), Fail> {
     let mut set: Set = FuturesUnordered::over((), rt.alloc(), 2)?;
-    assert!(rt;
-        set.push(Timed {
-            value: 1,
-            polls_left: 0
-        })
-        .is_ok()
-    );
+    assert!(rt; set.push(ready(1)).is_ok());
     let text = format!(in rt.alloc(); "{set:?}")?;
     assert_eq!(rt; text.as_str(), "FuturesUnordered { len: 1, .. }");
     Ok(())

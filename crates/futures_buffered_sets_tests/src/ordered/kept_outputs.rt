@@ -1,28 +1,27 @@
 // Additions of many, and outputs that come early.
 use futures::task::Poll;
 use futures::test::MockTask;
-use futures_buffered_core::ready_source::CoreSource;
+use futures_buffered_core::ready_core::Woke;
+use futures_buffered_core::ready_source::{CoreSource, ReadySource};
 use futures_buffered_sets::futures_ordered_bounded::FuturesOrderedBounded;
-use std::alloc::{AllocError, Global};
+use std::process::Abort;
 use std::test::Fail;
 use test_parts::polling::poll_queue;
-use test_parts::timed::Timed;
+use test_parts::timed::{Timed, late, ready, ready_up_to};
 
 type Queue = FuturesOrderedBounded<Timed, CoreSource>;
 
-fn ready(value: u64) -> Timed {
-    Timed {
-        value,
-        polls_left: 0,
+// The outputs 0 to `count - 1`, in order, and then the end.
+fn try_outputs<R: Abort, S: ReadySource>(
+    rt: &R,
+    task: &MockTask,
+    queue: &mut FuturesOrderedBounded<Timed, S>,
+    count: u64,
+) {
+    for value in 0..count {
+        assert_eq!(rt; poll_queue(task, queue), Poll::Ready(Some(value)));
     }
-}
-
-fn ready_up_to(alloc: Global, last: u64) -> Result<Vec<Timed>, AllocError> {
-    let mut items = Vec::new(alloc);
-    for value in 0..last {
-        items.push(ready(value))?;
-    }
-    Ok(items)
+    assert_eq!(rt; poll_queue(task, queue), Poll::Ready(None));
 }
 
 // The refused future comes back, and the one behind it is not drawn.
@@ -42,10 +41,8 @@ fn extend_adds_each_at_the_back(rt: HostRuntime) -> Result<(), Fail> {
     let mut queue: Queue = FuturesOrderedBounded::over(&(), rt.alloc(), 4)?;
     queue.push_front(ready(9));
     assert!(rt; queue.extend(ready_up_to(rt.alloc(), 3)?).is_ok());
-    for value in [9, 0, 1, 2] {
-        assert_eq!(rt; poll_queue(&task, &mut queue), Poll::Ready(Some(value)));
-    }
-    assert_eq!(rt; poll_queue(&task, &mut queue), Poll::Ready(None));
+    assert_eq!(rt; poll_queue(&task, &mut queue), Poll::Ready(Some(9)));
+    try_outputs(&rt, &task, &mut queue, 3);
     Ok(())
 }
 
@@ -58,11 +55,21 @@ fn holds_what_an_iterator_gives_in_order(rt: HostRuntime) -> Result<(), Fail> {
         (queue.len(), queue.capacity(), queue.is_full()),
         (5, 5, true)
     );
-    for value in 0..5 {
-        assert_eq!(rt; poll_queue(&task, &mut queue), Poll::Ready(Some(value)));
-    }
-    assert_eq!(rt; poll_queue(&task, &mut queue), Poll::Ready(None));
+    try_outputs(&rt, &task, &mut queue, 5);
     Ok(())
+}
+
+// Each push is followed by a poll, which is pending.
+fn try_early_outputs<R: Abort>(rt: &R, task: &MockTask, queue: &mut Queue) {
+    for value in 1..200 {
+        assert!(rt; queue.try_push_back(ready(value)).is_ok());
+        assert_eq!(rt; poll_queue(task, queue), Poll::Pending);
+    }
+}
+
+// Whether there is such a slot, which was not marked. It marks it.
+fn marks(queue: &mut Queue, slot: usize) -> bool {
+    slot < queue.capacity() && queue.mark_slot(slot) == Woke::Fresh
 }
 
 // Behind a front that stays pending, far more outputs are kept than there are slots.
@@ -70,20 +77,10 @@ fn holds_what_an_iterator_gives_in_order(rt: HostRuntime) -> Result<(), Fail> {
 fn many_outputs_are_kept(rt: HostRuntime) -> Result<(), Fail> {
     let task = MockTask::new(&rt)?;
     let mut queue: Queue = FuturesOrderedBounded::over(&(), rt.alloc(), 2)?;
-    let late = Timed {
-        value: 0,
-        polls_left: 1,
-    };
-    queue.push_back(late);
-    for value in 1..200 {
-        assert!(rt; queue.try_push_back(ready(value)).is_ok());
-        assert_eq!(rt; poll_queue(&task, &mut queue), Poll::Pending);
-    }
+    queue.push_back(late(0));
+    try_early_outputs(&rt, &task, &mut queue);
     assert_eq!(rt; (queue.len(), queue.is_full()), (200, false));
-    let _woke = queue.mark_slot(0);
-    for value in 0..200 {
-        assert_eq!(rt; poll_queue(&task, &mut queue), Poll::Ready(Some(value)));
-    }
-    assert_eq!(rt; poll_queue(&task, &mut queue), Poll::Ready(None));
+    assert!(rt; marks(&mut queue, 0));
+    try_outputs(&rt, &task, &mut queue, 200);
     Ok(())
 }

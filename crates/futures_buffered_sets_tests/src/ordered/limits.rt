@@ -6,7 +6,15 @@ use futures_buffered_sets::futures_ordered_bounded::FuturesOrderedBounded;
 use futures_buffered_sets::futures_unordered_bounded::POLL_LIMIT;
 use std::test::Fail;
 use test_parts::polling::poll_queue;
-use test_parts::timed::Timed;
+use test_parts::timed::{Timed, late};
+
+type Queue = FuturesOrderedBounded<Timed, CoreSource>;
+
+// The answer of a poll, and whether the task is woken after it.
+fn polled(task: &MockTask, queue: &mut Queue) -> (Poll<Option<u64>>, bool) {
+    let answer = poll_queue(task, queue);
+    (answer, task.is_woken())
+}
 
 #[test]
 fn queues_have_the_limit(rt: HostRuntime) -> Result<(), Fail> {
@@ -25,30 +33,11 @@ fn queues_have_the_limit(rt: HostRuntime) -> Result<(), Fail> {
 #[test]
 fn a_poll_ends_at_the_limit(rt: HostRuntime) -> Result<(), Fail> {
     let task = MockTask::new(&rt)?;
-    let mut queue: FuturesOrderedBounded<Timed, CoreSource> = FuturesOrderedBounded::over_limit(
-        &(),
-        rt.alloc(),
-        2,
-        1,
-    )?;
-    for value in 0..2 {
-        let late = Timed {
-            value,
-            polls_left: 1,
-        };
-        assert!(rt; queue.try_push_back(late).is_ok());
-    }
-    assert_eq!(rt;
-        (poll_queue(&task, &mut queue), task.is_woken()),
-        (Poll::Pending, true)
-    );
-    assert_eq!(rt;
-        (poll_queue(&task, &mut queue), task.is_woken()),
-        (Poll::Pending, true)
-    );
-    assert_eq!(rt;
-        (poll_queue(&task, &mut queue), task.is_woken()),
-        (Poll::Pending, false)
-    );
+    let mut queue: Queue = FuturesOrderedBounded::over_limit(&(), rt.alloc(), 2, 1)?;
+    assert!(rt; queue.try_push_back(late(0)).is_ok());
+    assert!(rt; queue.try_push_back(late(1)).is_ok());
+    assert_eq!(rt; polled(&task, &mut queue), (Poll::Pending, true));
+    assert_eq!(rt; polled(&task, &mut queue), (Poll::Pending, true));
+    assert_eq!(rt; polled(&task, &mut queue), (Poll::Pending, false));
     Ok(())
 }

@@ -1,19 +1,11 @@
 // Which request is refused, and what is then left.
 use futures_buffered_core::ready_core::{MAX_CAPACITY, NewFault};
 use futures_buffered_sets::futures_ordered_bounded::FuturesOrderedBounded;
-use std::alloc::{AllocError, Global};
-use std::sync::Arc;
-use std::sync::atomic::AtomicU64;
 use std::test::Fail;
-use test_parts::rationed::Rationed;
+use test_parts::rationed::{Rationed, ration};
 use test_parts::timed::Timed;
 
 type Queue = FuturesOrderedBounded<Timed, Rationed>;
-
-// What a queue needs to make so many sources, and no more.
-fn ration(alloc: Global, sources: u64) -> Result<Arc<AtomicU64>, AllocError> {
-    Ok(Arc::new(alloc, AtomicU64::new(sources))?)
-}
 
 #[test]
 fn a_queue_whose_source_is_refused_is_not_there(rt: HostRuntime) -> Result<(), Fail> {

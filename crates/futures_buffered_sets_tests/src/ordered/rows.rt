@@ -10,7 +10,7 @@ use std::process::Abort;
 use std::random::RandomSource;
 use std::test::Fail;
 use test_parts::polling::poll_queue;
-use test_parts::timed::Timed;
+use test_parts::timed::{Timed, ready};
 
 type Queue = FuturesOrderedBounded<Timed, CoreSource>;
 
@@ -77,16 +77,21 @@ fn gave(task: &MockTask, queue: &mut Queue, call: Call) -> Answer {
     }
 }
 
-// The calls of a new queue of `capacity` slots, in order, each with its answer.
+// The queue's calls in order, each with its answer.
+fn try_calls<R: Abort>(rt: &R, task: &MockTask, queue: &mut Queue, row: &[(Call, Answer)]) {
+    for (call, want) in row {
+        assert_eq!(rt; gave(task, queue, *call), *want, "at {call:?}");
+    }
+}
+
+// The same of a new queue of `capacity` slots.
 fn try_row<R>(rt: &R, capacity: usize, row: &[(Call, Answer)]) -> Result<(), Fail>
 where
     R: Abort + RandomSource + AllocGlobal,
 {
     let task = MockTask::new(rt)?;
     let mut queue: Queue = FuturesOrderedBounded::over(&(), rt.alloc(), capacity)?;
-    for (call, want) in row {
-        assert_eq!(rt; gave(&task, &mut queue, *call), *want, "at {call:?}");
-    }
+    try_calls(rt, &task, &mut queue, row);
     Ok(())
 }
 
@@ -198,11 +203,7 @@ fn says_how_many_entries_are_left(rt: HostRuntime) -> Result<(), Fail> {
     let mut queue: Queue = FuturesOrderedBounded::over(&(), rt.alloc(), 2)?;
     assert_eq!(rt; queue.size_hint(), (0, Some(0)));
     assert!(rt; queue.is_empty());
-    let pushed = queue.try_push_back(Timed {
-        value: 1,
-        polls_left: 0,
-    });
-    assert!(rt; pushed.is_ok());
+    assert!(rt; queue.try_push_back(ready(1)).is_ok());
     assert_eq!(rt; queue.size_hint(), (1, Some(1)));
     let text = format!(in rt.alloc(); "{queue:?}")?;
     assert_eq!(rt; text.as_str(), "FuturesOrderedBounded { ... }");

@@ -2,23 +2,19 @@
 use futures::task::Poll;
 use futures::test::MockTask;
 use futures_buffered_core::ready_source::CoreSource;
-use futures_buffered_sets::FuturesOrdered;
-use std::alloc::{AllocError, Global};
+use futures_buffered_sets::futures_ordered::FuturesOrdered;
+use std::alloc::AllocError;
 use std::sync::Arc;
-use std::sync::atomic::AtomicU64;
 use std::sync::atomic::Ordering::SeqCst;
 use std::test::Fail;
+use test_parts::counter::{Counter, new_counter};
 use test_parts::dropped::Dropped;
 use test_parts::polling::poll_growing_queue;
 
 type Queue = FuturesOrdered<Dropped, CoreSource>;
 
-fn counter(alloc: Global) -> Result<Arc<AtomicU64>, AllocError> {
-    Ok(Arc::new(alloc, AtomicU64::new(0))?)
-}
-
 // Whether `count` futures went in at the front.
-fn pushed(queue: &mut Queue, drops: &Arc<AtomicU64>, count: u64) -> Result<bool, AllocError> {
+fn pushed(queue: &mut Queue, drops: &Counter, count: u64) -> Result<bool, AllocError> {
     let mut all = true;
     for _ in 0..count {
         let future = Dropped::new(Arc::try_clone(drops)?);
@@ -33,7 +29,7 @@ fn pushed(queue: &mut Queue, drops: &Arc<AtomicU64>, count: u64) -> Result<bool,
 #[test]
 fn each_future_is_dropped_once(rt: HostRuntime) -> Result<(), Fail> {
     let task = MockTask::new(&rt)?;
-    let drops = counter(rt.alloc())?;
+    let drops = new_counter(rt.alloc())?;
     let mut queue: Queue = FuturesOrdered::over((), rt.alloc(), 1)?;
     assert!(rt; pushed(&mut queue, &drops, 3)?);
     assert_eq!(rt; drops.load(SeqCst), 0);

@@ -2,11 +2,19 @@
 use futures::task::Poll;
 use futures::test::MockTask;
 use futures_buffered_core::ready_source::CoreSource;
-use futures_buffered_sets::FuturesOrdered;
+use futures_buffered_sets::futures_ordered::FuturesOrdered;
 use futures_buffered_sets::futures_unordered_bounded::POLL_LIMIT;
 use std::test::Fail;
 use test_parts::polling::poll_growing_queue;
-use test_parts::timed::Timed;
+use test_parts::timed::{Timed, late};
+
+type Queue = FuturesOrdered<Timed, CoreSource>;
+
+// The answer of a poll, and whether the task is woken after it.
+fn polled(task: &MockTask, queue: &mut Queue) -> (Poll<Option<u64>>, bool) {
+    let answer = poll_growing_queue(task, queue);
+    (answer, task.is_woken())
+}
 
 #[test]
 fn queues_have_the_limit(rt: HostRuntime) -> Result<(), Fail> {
@@ -21,22 +29,11 @@ fn queues_have_the_limit(rt: HostRuntime) -> Result<(), Fail> {
 #[test]
 fn a_poll_ends_at_the_limit(rt: HostRuntime) -> Result<(), Fail> {
     let task = MockTask::new(&rt)?;
-    let mut queue: FuturesOrdered<Timed, CoreSource> = FuturesOrdered::over_limit(
-        (),
-        rt.alloc(),
-        2,
-        1,
-    )?;
-    for value in 0..2 {
-        let late = Timed {
-            value,
-            polls_left: 1,
-        };
-        assert!(rt; queue.push_back(late).is_ok());
-    }
-    for is_woken in [true, true, false] {
-        assert_eq!(rt; poll_growing_queue(&task, &mut queue), Poll::Pending);
-        assert_eq!(rt; task.is_woken(), is_woken);
-    }
+    let mut queue: Queue = FuturesOrdered::over_limit((), rt.alloc(), 2, 1)?;
+    assert!(rt; queue.push_back(late(0)).is_ok());
+    assert!(rt; queue.push_back(late(1)).is_ok());
+    assert_eq!(rt; polled(&task, &mut queue), (Poll::Pending, true));
+    assert_eq!(rt; polled(&task, &mut queue), (Poll::Pending, true));
+    assert_eq!(rt; polled(&task, &mut queue), (Poll::Pending, false));
     Ok(())
 }
