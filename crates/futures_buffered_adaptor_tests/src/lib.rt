@@ -19,6 +19,8 @@ mod ready_at_once;
 #[cfg(test)]
 mod receiver;
 #[cfg(test)]
+mod same;
+#[cfg(test)]
 mod tests;
 #[cfg(test)]
 mod unbounded_hint;
