@@ -1,5 +1,6 @@
 //! Calls of the program by their words, and what each reads, writes and ends with.
 use crate::fakes::{Sink, Source};
+use crate::same::assert_same;
 use fbuf_calls::program_words::run_words;
 use fbuf_calls::watched::Watched;
 use std::alloc::{AllocError, AllocGlobal, Global};
@@ -59,10 +60,10 @@ where
         reads: 0,
     };
     let ended = end_of(rt, words, input, Sink::roomy(rt.alloc()));
-    assert_eq!(rt; ended.status, 2);
-    assert_eq!(rt; ended.errors.as_slice(), USAGE);
-    assert_eq!(rt; ended.output.bytes.len(), 0);
-    assert_eq!(rt; ended.input.bytes.len(), 4);
+    assert_same(rt, ended.status, 2);
+    assert_same(rt, ended.errors.as_slice(), USAGE);
+    assert_same(rt, ended.output.bytes.len(), 0);
+    assert_same(rt, ended.input.bytes.len(), 4);
     Ok(())
 }
 
@@ -96,12 +97,13 @@ fn says_that_there_was_no_memory(rt: HostRuntime) -> Result<(), Fail> {
     let greatest = Source::whole(b"unordered 1\nunordered 4611686018427387903\n");
     let words = args(rt.alloc(), &[])?;
     let ended = end_of(&rt, Ok(words), greatest, Sink::roomy(rt.alloc()));
-    assert_eq!(rt; ended.status, 1);
-    assert_eq!(rt;
+    assert_same(&rt, ended.status, 1);
+    assert_same(
+        &rt,
         ended.errors.as_slice(),
-        b"fbuf: out of memory\n".as_slice()
+        b"fbuf: out of memory\n".as_slice(),
     );
-    assert_eq!(rt; ended.output.bytes.as_slice(), b"ok\n".as_slice());
+    assert_same(&rt, ended.output.bytes.as_slice(), b"ok\n".as_slice());
     let no_memory = io::Error::from(AllocError);
     let ended = end_of(
         &rt,
@@ -109,10 +111,11 @@ fn says_that_there_was_no_memory(rt: HostRuntime) -> Result<(), Fail> {
         Source::whole(b""),
         Sink::roomy(rt.alloc()),
     );
-    assert_eq!(rt; ended.status, 1);
-    assert_eq!(rt;
+    assert_same(&rt, ended.status, 1);
+    assert_same(
+        &rt,
         ended.errors.as_slice(),
-        b"fbuf: out of memory\n".as_slice()
+        b"fbuf: out of memory\n".as_slice(),
     );
     Ok(())
 }
@@ -127,9 +130,13 @@ fn says_that_a_read_failed(rt: HostRuntime) -> Result<(), Fail> {
         };
         let words = args(rt.alloc(), &[])?;
         let ended = end_of(&rt, Ok(words), input, Sink::roomy(rt.alloc()));
-        assert_eq!(rt; ended.status, 1);
-        assert_eq!(rt; ended.errors.as_slice(), b"fbuf: read failed\n".as_slice());
-        assert_eq!(rt; ended.output.bytes.len(), 0);
+        assert_same(&rt, ended.status, 1);
+        assert_same(
+            &rt,
+            ended.errors.as_slice(),
+            b"fbuf: read failed\n".as_slice(),
+        );
+        assert_same(&rt, ended.output.bytes.len(), 0);
     }
     Ok(())
 }
@@ -141,8 +148,12 @@ fn says_that_a_write_failed(rt: HostRuntime) -> Result<(), Fail> {
         let words = args(rt.alloc(), row)?;
         let closed = Sink::new(rt.alloc(), 1, 0);
         let ended = end_of(&rt, Ok(words), Source::whole(b"len\n"), closed);
-        assert_eq!(rt; ended.status, 1);
-        assert_eq!(rt; ended.errors.as_slice(), b"fbuf: write failed\n".as_slice());
+        assert_same(&rt, ended.status, 1);
+        assert_same(
+            &rt,
+            ended.errors.as_slice(),
+            b"fbuf: write failed\n".as_slice(),
+        );
     }
     Ok(())
 }
@@ -153,9 +164,10 @@ fn ends_with_1_where_errors_are_closed_too(rt: HostRuntime) -> Result<(), Fail> 
     let mut input = Watched::new(Source::whole(b"len\n"));
     let mut output = Watched::new(Sink::new(rt.alloc(), 1, 0));
     let mut errors = Sink::new(rt.alloc(), 1, 0);
-    assert_eq!(rt;
+    assert_same(
+        &rt,
         run_words(&rt, Ok(words), &mut input, &mut output, &mut errors),
-        1
+        1,
     );
     Ok(())
 }
@@ -166,9 +178,9 @@ where
 {
     let words = args(rt.alloc(), words)?;
     let ended = end_of(rt, Ok(words), Source::whole(input), Sink::roomy(rt.alloc()));
-    assert_eq!(rt; ended.status, 0);
-    assert_eq!(rt; ended.output.bytes.as_slice(), want);
-    assert_eq!(rt; ended.errors.len(), 0);
+    assert_same(rt, ended.status, 0);
+    assert_same(rt, ended.output.bytes.as_slice(), want);
+    assert_same(rt, ended.errors.len(), 0);
     Ok(ended.output.flushes)
 }
 
@@ -198,7 +210,7 @@ fn runs_threads(rt: HostRuntime) -> Result<(), Fail> {
     ];
     for (words, line) in rows {
         let flushes = assert_done(&rt, words, b"len\n", line)?;
-        assert_eq!(rt; flushes, 1);
+        assert_same(&rt, flushes, 1);
     }
     Ok(())
 }

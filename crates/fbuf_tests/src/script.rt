@@ -1,5 +1,6 @@
 //! Scripts and their replies, and readers and writers that fail.
 use crate::fakes::{Sink, Source};
+use crate::same::assert_same;
 use fbuf_calls::script::{ScriptFault, script};
 use fbuf_calls::watched::Watched;
 use futures::test::MockTask;
@@ -39,9 +40,9 @@ where
     H: Abort + RandomSource + AllocGlobal,
 {
     let outcome = run_over(rt, Source::whole(text), Sink::roomy(rt.alloc()))?;
-    assert_eq!(rt; outcome.answer, Ok(()));
-    assert_eq!(rt; outcome.failed, (false, false));
-    assert_eq!(rt; outcome.written.as_slice(), want);
+    assert_same(rt, &outcome.answer, &Ok(()));
+    assert_same(rt, outcome.failed, (false, false));
+    assert_same(rt, outcome.written.as_slice(), want);
     Ok(())
 }
 
@@ -409,8 +410,8 @@ fn reads_and_writes_a_byte_at_a_time(rt: HostRuntime) -> Result<(), Fail> {
     };
     let sink = Sink::new(rt.alloc(), 1, usize::MAX);
     let outcome = run_over(&rt, source, sink)?;
-    assert_eq!(rt; outcome.answer, Ok(()));
-    assert_eq!(rt; outcome.written.as_slice(), REPLIES);
+    assert_same(&rt, &outcome.answer, &Ok(()));
+    assert_same(&rt, outcome.written.as_slice(), REPLIES);
     Ok(())
 }
 
@@ -423,9 +424,9 @@ fn writes_nothing_where_a_read_fails(rt: HostRuntime) -> Result<(), Fail> {
             reads,
         };
         let outcome = run_over(&rt, source, Sink::roomy(rt.alloc()))?;
-        assert_eq!(rt; outcome.answer, Err(ScriptFault::Read));
-        assert_eq!(rt; outcome.failed, (true, false));
-        assert_eq!(rt; outcome.written.len(), 0);
+        assert_same(&rt, &outcome.answer, &Err(ScriptFault::Read));
+        assert_same(&rt, outcome.failed, (true, false));
+        assert_same(&rt, outcome.written.len(), 0);
     }
     Ok(())
 }
@@ -435,9 +436,9 @@ fn writes_a_beginning_where_a_write_fails(rt: HostRuntime) -> Result<(), Fail> {
     for writes in 0..REPLIES.len() {
         let sink = Sink::new(rt.alloc(), 1, writes);
         let outcome = run_over(&rt, Source::whole(TEXT), sink)?;
-        assert_eq!(rt; outcome.answer, Err(ScriptFault::Write));
-        assert_eq!(rt; outcome.failed, (false, true));
-        assert_eq!(rt; Some(outcome.written.as_slice()), REPLIES.get(..writes));
+        assert_same(&rt, &outcome.answer, &Err(ScriptFault::Write));
+        assert_same(&rt, outcome.failed, (false, true));
+        assert_same(&rt, Some(outcome.written.as_slice()), REPLIES.get(..writes));
     }
     Ok(())
 }
@@ -446,8 +447,8 @@ fn writes_a_beginning_where_a_write_fails(rt: HostRuntime) -> Result<(), Fail> {
 fn a_write_that_takes_nothing_fails(rt: HostRuntime) -> Result<(), Fail> {
     let sink = Sink::new(rt.alloc(), 0, usize::MAX);
     let outcome = run_over(&rt, Source::whole(TEXT), sink)?;
-    assert_eq!(rt; outcome.answer, Err(ScriptFault::Write));
-    assert_eq!(rt; outcome.failed, (false, true));
+    assert_same(&rt, &outcome.answer, &Err(ScriptFault::Write));
+    assert_same(&rt, outcome.failed, (false, true));
     Ok(())
 }
 
@@ -459,9 +460,9 @@ fn answers_the_lines_before_memory_was_refused(rt: HostRuntime) -> Result<(), Fa
     ];
     for text in texts {
         let outcome = run_over(&rt, Source::whole(text), Sink::roomy(rt.alloc()))?;
-        assert_eq!(rt; outcome.answer, Err(ScriptFault::Memory));
-        assert_eq!(rt; outcome.failed, (false, false));
-        assert_eq!(rt; outcome.written.as_slice(), b"ok\n0\n".as_slice());
+        assert_same(&rt, &outcome.answer, &Err(ScriptFault::Memory));
+        assert_same(&rt, outcome.failed, (false, false));
+        assert_same(&rt, outcome.written.as_slice(), b"ok\n0\n".as_slice());
     }
     Ok(())
 }
