@@ -6,6 +6,8 @@ mod fakes;
 #[cfg(test)]
 mod program_words;
 #[cfg(test)]
+mod same;
+#[cfg(test)]
 mod script;
 #[cfg(test)]
 mod threads;

@@ -1,5 +1,6 @@
 //! Scripts and their replies, and readers and writers that fail.
 use crate::fakes::{Sink, Source};
+use crate::same::assert_same;
 use fbuf_calls::script::{ScriptFault, script};
 use fbuf_calls::watched::Watched;
 use futures::test::MockTask;
@@ -39,9 +40,20 @@ where
     H: Abort + RandomSource + AllocGlobal,
 {
     let outcome = run_over(rt, Source::whole(text), Sink::roomy(rt.alloc()))?;
-    assert_eq!(rt; outcome.answer, Ok(()));
-    assert_eq!(rt; outcome.failed, (false, false));
-    assert_eq!(rt; outcome.written.as_slice(), want);
+    assert_same(rt, &outcome.answer, &Ok(()));
+    assert_same(rt, outcome.failed, (false, false));
+    assert_same(rt, outcome.written.as_slice(), want);
+    Ok(())
+}
+
+// Each row is a script and its replies.
+fn assert_replies_to_each<H>(rt: &H, rows: &[(&str, &str)]) -> Result<(), Fail>
+where
+    H: Abort + RandomSource + AllocGlobal,
+{
+    for (text, want) in rows {
+        assert_replies(rt, text.as_bytes(), want.as_bytes())?;
+    }
     Ok(())
 }
 
@@ -96,10 +108,7 @@ fn answers_scripts_over_a_bounded_set(rt: HostRuntime) -> Result<(), Fail> {
             "ok\nok\nsome 18446744073709551615\n",
         ),
     ];
-    for (text, want) in rows {
-        assert_replies(&rt, text.as_bytes(), want.as_bytes())?;
-    }
-    Ok(())
+    assert_replies_to_each(&rt, &rows)
 }
 
 #[test]
@@ -149,10 +158,7 @@ fn answers_scripts_over_a_growing_set(rt: HostRuntime) -> Result<(), Fail> {
             "ok\nok\nok\nok\nok\nsome 3\n",
         ),
     ];
-    for (text, want) in rows {
-        assert_replies(&rt, text.as_bytes(), want.as_bytes())?;
-    }
-    Ok(())
+    assert_replies_to_each(&rt, &rows)
 }
 
 #[test]
@@ -186,10 +192,7 @@ fn answers_scripts_over_an_ordered_queue(rt: HostRuntime) -> Result<(), Fail> {
             "ok\nok\nok\nok\npending\nfresh\nsome 1\nsome 2\nsome 3\nnone\n",
         ),
     ];
-    for (text, want) in rows {
-        assert_replies(&rt, text.as_bytes(), want.as_bytes())?;
-    }
-    Ok(())
+    assert_replies_to_each(&rt, &rows)
 }
 
 #[test]
@@ -221,10 +224,7 @@ fn answers_lines_that_an_ordered_queue_refuses(rt: HostRuntime) -> Result<(), Fa
             "ok\nok\nok\nok\npending\npending\nfresh\nsome 1\nsome 2\nnone\n",
         ),
     ];
-    for (text, want) in rows {
-        assert_replies(&rt, text.as_bytes(), want.as_bytes())?;
-    }
-    Ok(())
+    assert_replies_to_each(&rt, &rows)
 }
 
 #[test]
@@ -251,10 +251,7 @@ fn answers_scripts_over_chosen_limits(rt: HostRuntime) -> Result<(), Fail> {
             "ok\nok\nok\nok\nok\nsome 2\n",
         ),
     ];
-    for (text, want) in rows {
-        assert_replies(&rt, text.as_bytes(), want.as_bytes())?;
-    }
-    Ok(())
+    assert_replies_to_each(&rt, &rows)
 }
 
 // How many names one poll takes at most, where no limit was chosen.
@@ -285,6 +282,17 @@ fn polls_no_more_names_than_the_limit(rt: HostRuntime) -> Result<(), Fail> {
     assert_one_slot_more(&rt, b"growing 62\n", b"ok\n", b"pending\nsome 99\n")?;
     let begin = b"limit 62\ngrowing 62\n";
     assert_one_slot_more(&rt, begin, b"ok\nok\n", b"some 99\npending\n")
+}
+
+// The line changes nothing of a set with one future.
+fn assert_bad<H>(rt: &H, line: &[u8]) -> Result<(), Fail>
+where
+    H: Abort + RandomSource + AllocGlobal,
+{
+    let mut text = Vec::from_slice(rt.alloc(), b"unordered 1\npush 3 0\n")?;
+    text.extend_from_slice(line)?;
+    text.extend_from_slice(b"\nlen\npoll\n")?;
+    assert_replies(rt, &text, b"ok\nok\nbad\n1\nsome 3\n")
 }
 
 #[test]
@@ -329,10 +337,7 @@ fn answers_bad_to_what_is_no_line(rt: HostRuntime) -> Result<(), Fail> {
         b"\xff\xfe",
     ];
     for line in lines {
-        let mut text = Vec::from_slice(rt.alloc(), b"unordered 1\npush 3 0\n")?;
-        text.extend_from_slice(line)?;
-        text.extend_from_slice(b"\nlen\npoll\n")?;
-        assert_replies(&rt, &text, b"ok\nok\nbad\n1\nsome 3\n")?;
+        assert_bad(&rt, line)?;
     }
     Ok(())
 }
@@ -390,10 +395,7 @@ fn answers_scripts_over_a_machine(rt: HostRuntime) -> Result<(), Fail> {
             "large\nok\nmore\nempty\nstuck\n",
         ),
     ];
-    for (text, want) in rows {
-        assert_replies(&rt, text.as_bytes(), want.as_bytes())?;
-    }
-    Ok(())
+    assert_replies_to_each(&rt, &rows)
 }
 
 const TEXT: &[u8] = b"unordered 2\npush 7 0\npoll\nlen\n";
@@ -409,35 +411,53 @@ fn reads_and_writes_a_byte_at_a_time(rt: HostRuntime) -> Result<(), Fail> {
     };
     let sink = Sink::new(rt.alloc(), 1, usize::MAX);
     let outcome = run_over(&rt, source, sink)?;
-    assert_eq!(rt; outcome.answer, Ok(()));
-    assert_eq!(rt; outcome.written.as_slice(), REPLIES);
+    assert_same(&rt, &outcome.answer, &Ok(()));
+    assert_same(&rt, outcome.written.as_slice(), REPLIES);
+    Ok(())
+}
+
+// The read behind so many reads fails.
+fn assert_read_fails<H>(rt: &H, reads: usize) -> Result<(), Fail>
+where
+    H: Abort + RandomSource + AllocGlobal,
+{
+    let source = Source {
+        bytes: TEXT,
+        at_most: 1,
+        reads,
+    };
+    let outcome = run_over(rt, source, Sink::roomy(rt.alloc()))?;
+    assert_same(rt, &outcome.answer, &Err(ScriptFault::Read));
+    assert_same(rt, outcome.failed, (true, false));
+    assert_same(rt, outcome.written.len(), 0);
     Ok(())
 }
 
 #[test]
 fn writes_nothing_where_a_read_fails(rt: HostRuntime) -> Result<(), Fail> {
     for reads in 0..=TEXT.len() {
-        let source = Source {
-            bytes: TEXT,
-            at_most: 1,
-            reads,
-        };
-        let outcome = run_over(&rt, source, Sink::roomy(rt.alloc()))?;
-        assert_eq!(rt; outcome.answer, Err(ScriptFault::Read));
-        assert_eq!(rt; outcome.failed, (true, false));
-        assert_eq!(rt; outcome.written.len(), 0);
+        assert_read_fails(&rt, reads)?;
     }
+    Ok(())
+}
+
+// The write behind so many writes of a byte fails.
+fn assert_write_fails<H>(rt: &H, writes: usize) -> Result<(), Fail>
+where
+    H: Abort + RandomSource + AllocGlobal,
+{
+    let sink = Sink::new(rt.alloc(), 1, writes);
+    let outcome = run_over(rt, Source::whole(TEXT), sink)?;
+    assert_same(rt, &outcome.answer, &Err(ScriptFault::Write));
+    assert_same(rt, outcome.failed, (false, true));
+    assert_same(rt, Some(outcome.written.as_slice()), REPLIES.get(..writes));
     Ok(())
 }
 
 #[test]
 fn writes_a_beginning_where_a_write_fails(rt: HostRuntime) -> Result<(), Fail> {
     for writes in 0..REPLIES.len() {
-        let sink = Sink::new(rt.alloc(), 1, writes);
-        let outcome = run_over(&rt, Source::whole(TEXT), sink)?;
-        assert_eq!(rt; outcome.answer, Err(ScriptFault::Write));
-        assert_eq!(rt; outcome.failed, (false, true));
-        assert_eq!(rt; Some(outcome.written.as_slice()), REPLIES.get(..writes));
+        assert_write_fails(&rt, writes)?;
     }
     Ok(())
 }
@@ -446,22 +466,27 @@ fn writes_a_beginning_where_a_write_fails(rt: HostRuntime) -> Result<(), Fail> {
 fn a_write_that_takes_nothing_fails(rt: HostRuntime) -> Result<(), Fail> {
     let sink = Sink::new(rt.alloc(), 0, usize::MAX);
     let outcome = run_over(&rt, Source::whole(TEXT), sink)?;
-    assert_eq!(rt; outcome.answer, Err(ScriptFault::Write));
-    assert_eq!(rt; outcome.failed, (false, true));
+    assert_same(&rt, &outcome.answer, &Err(ScriptFault::Write));
+    assert_same(&rt, outcome.failed, (false, true));
+    Ok(())
+}
+
+// Memory is refused at the third line.
+fn assert_memory_refused<H>(rt: &H, text: &[u8]) -> Result<(), Fail>
+where
+    H: Abort + RandomSource + AllocGlobal,
+{
+    let outcome = run_over(rt, Source::whole(text), Sink::roomy(rt.alloc()))?;
+    assert_same(rt, &outcome.answer, &Err(ScriptFault::Memory));
+    assert_same(rt, outcome.failed, (false, false));
+    assert_same(rt, outcome.written.as_slice(), b"ok\n0\n".as_slice());
     Ok(())
 }
 
 #[test]
 fn answers_the_lines_before_memory_was_refused(rt: HostRuntime) -> Result<(), Fail> {
-    let texts: [&[u8]; 2] = [
-        b"unordered 1\nlen\nunordered 4611686018427387903\nlen\n",
-        b"growing 1\nlen\ngrowing 4611686018427387903\nlen\n",
-    ];
-    for text in texts {
-        let outcome = run_over(&rt, Source::whole(text), Sink::roomy(rt.alloc()))?;
-        assert_eq!(rt; outcome.answer, Err(ScriptFault::Memory));
-        assert_eq!(rt; outcome.failed, (false, false));
-        assert_eq!(rt; outcome.written.as_slice(), b"ok\n0\n".as_slice());
-    }
-    Ok(())
+    let bounded = b"unordered 1\nlen\nunordered 4611686018427387903\nlen\n";
+    assert_memory_refused(&rt, bounded)?;
+    let growing = b"growing 1\nlen\ngrowing 4611686018427387903\nlen\n";
+    assert_memory_refused(&rt, growing)
 }

@@ -1,6 +1,7 @@
 //! Runs of threads over one set, past gates that see each wake.
 ghost use Rattle.std.specs.Prelude.{◌<◌};
 
+use crate::same::assert_same;
 use fbuf_calls::threads::{Gate, OpenGate, threads_run};
 use std::alloc::{AllocError, Global};
 use std::sync::Arc;
@@ -90,14 +91,16 @@ fn two_wakers_at_once(rt: HostRuntime) -> Result<(), Fail> {
         passages: Arc::try_clone(&passages)?,
     };
     let mut output = Vec::new(rt.alloc());
-    assert_eq!(rt;
+    assert_same(
+        &rt,
         threads_run(rt, rt.alloc(), 2, 2, gate, &mut output),
-        Ok(())
+        Ok(()),
     );
     assert!(rt; is_each_made_once(&passages));
-    assert_eq!(rt;
+    assert_same(
+        &rt,
         output.as_slice(),
-        b"threads 2 wakes 4 outputs 0 1\n".as_slice()
+        b"threads 2 wakes 4 outputs 0 1\n".as_slice(),
     );
     Ok(())
 }
@@ -105,22 +108,26 @@ fn two_wakers_at_once(rt: HostRuntime) -> Result<(), Fail> {
 #[test]
 fn prints_one_line(rt: HostRuntime) -> Result<(), Fail> {
     let mut output = Vec::new(rt.alloc());
-    assert_eq!(rt;
+    assert_same(
+        &rt,
         threads_run(rt, rt.alloc(), 1, 1, OpenGate, &mut output),
-        Ok(())
+        Ok(()),
     );
-    assert_eq!(rt;
+    assert_same(
+        &rt,
         output.as_slice(),
-        b"threads 1 wakes 1 outputs 0\n".as_slice()
+        b"threads 1 wakes 1 outputs 0\n".as_slice(),
     );
     output.clear();
-    assert_eq!(rt;
+    assert_same(
+        &rt,
         threads_run(rt, rt.alloc(), 4, 1000, OpenGate, &mut output),
-        Ok(())
+        Ok(()),
     );
-    assert_eq!(rt;
+    assert_same(
+        &rt,
         output.as_slice(),
-        b"threads 4 wakes 4000 outputs 0 1 2 3\n".as_slice()
+        b"threads 4 wakes 4000 outputs 0 1 2 3\n".as_slice(),
     );
     Ok(())
 }
@@ -151,10 +158,11 @@ fn joins_each_thread(rt: HostRuntime) -> Result<(), Fail> {
         passed: Arc::try_clone(&passed)?,
     };
     let mut output = Vec::new(rt.alloc());
-    assert_eq!(rt;
+    assert_same(
+        &rt,
         threads_run(rt, rt.alloc(), 2, 3, gate, &mut output),
-        Ok(())
+        Ok(()),
     );
-    assert_eq!(rt; passed.load(SeqCst), 1);
+    assert_same(&rt, passed.load(SeqCst), 1);
     Ok(())
 }

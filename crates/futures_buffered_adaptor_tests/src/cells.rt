@@ -10,19 +10,35 @@ pub struct Cells<T, R> {
     pub receivers: Vec<Receiver<T, R>>,
 }
 
+/// Adds at the end. An item that finds no room is dropped here, so that a caller's `?` has none to drop.
+pub fn keep<T: Drop>(row: &mut Vec<T>, item: T) -> Result<(), AllocError> {
+    row.push(item)?;
+    Ok(())
+}
+
+fn add_cell<T: Drop, R: Clone + Drop>(
+    rt: &R,
+    alloc: Global,
+    cells: &mut Cells<T, R>,
+) -> Result<(), AllocError> {
+    let (sender, receiver) = one_shot(rt, alloc)?;
+    keep(&mut cells.senders, sender)?;
+    keep(&mut cells.receivers, receiver)
+}
+
 pub fn new_cells<T: Drop, R: Clone + Drop>(
     rt: &R,
     alloc: Global,
     count: usize,
 ) -> Result<Cells<T, R>, AllocError> {
-    let mut senders = Vec::new(alloc);
-    let mut receivers = Vec::new(alloc);
+    let mut cells = Cells {
+        senders: Vec::new(alloc),
+        receivers: Vec::new(alloc),
+    };
     for _ in 0..count {
-        let (sender, receiver) = one_shot(rt, alloc)?;
-        senders.push(sender)?;
-        receivers.push(receiver)?;
+        add_cell(rt, alloc, &mut cells)?;
     }
-    Ok(Cells { senders, receivers })
+    Ok(cells)
 }
 
 /// Whether there is such a sender. It sends the value.

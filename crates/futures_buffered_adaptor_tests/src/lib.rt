@@ -2,15 +2,27 @@
 //! No crate stands on this one.
 #![tactic(auto)]
 
-pub mod cells;
-pub mod countdown;
-pub mod list_stream;
-pub mod ordered_polling;
-pub mod paused_end;
-pub mod polling;
-pub mod ready_at_once;
-pub mod receiver;
+#[cfg(test)]
+mod cells;
+#[cfg(test)]
+mod countdown;
+#[cfg(test)]
+mod list_stream;
+#[cfg(test)]
+mod ordered_polling;
+#[cfg(test)]
+mod paused_end;
+#[cfg(test)]
+mod polling;
+#[cfg(test)]
+mod ready_at_once;
+#[cfg(test)]
+mod receiver;
+#[cfg(test)]
+mod same;
 #[cfg(test)]
 mod tests;
-pub mod unbounded_hint;
-pub mod watched;
+#[cfg(test)]
+mod unbounded_hint;
+#[cfg(test)]
+mod watched;

@@ -4,6 +4,7 @@ use crate::list_stream::ListStream;
 use crate::ordered_polling::poll_in_order;
 use crate::paused_end::PausedEnd;
 use crate::receiver::{Receiver, one_shot};
+use crate::same::assert_same;
 use crate::unbounded_hint::UnboundedHint;
 use crate::watched::Watched;
 use futures::task::Poll;
@@ -21,17 +22,17 @@ fn outputs_come_in_the_order_of_the_items(rt: HostRuntime) -> Result<(), Fail> {
     let task = MockTask::new(&rt)?;
     let Cells { senders, receivers } = new_cells(&rt, rt.alloc(), 2)?;
     let mut buffer = ListStream::new(receivers).buffered_ordered(rt.alloc(), 10)?;
-    assert_eq!(rt; buffer.size_hint(), (2, Some(2)));
+    assert_same(&rt, buffer.size_hint(), (2, Some(2)));
     assert!(rt; poll_in_order(&task, &mut buffer).is_pending());
     assert!(rt; sent(&senders, 0, 2));
     assert!(rt; task.is_woken());
     assert!(rt; poll_in_order(&task, &mut buffer).is_pending());
-    assert_eq!(rt; buffer.size_hint(), (2, Some(2)));
+    assert_same(&rt, buffer.size_hint(), (2, Some(2)));
     assert!(rt; sent(&senders, 1, 1));
-    assert_eq!(rt; poll_in_order(&task, &mut buffer), Poll::Ready(Some(1)));
+    assert_same(&rt, poll_in_order(&task, &mut buffer), Poll::Ready(Some(1)));
     assert!(rt; !buffer.is_terminated());
-    assert_eq!(rt; poll_in_order(&task, &mut buffer), Poll::Ready(Some(2)));
-    assert_eq!(rt; poll_in_order(&task, &mut buffer), Poll::Ready(None));
+    assert_same(&rt, poll_in_order(&task, &mut buffer), Poll::Ready(Some(2)));
+    assert_same(&rt, poll_in_order(&task, &mut buffer), Poll::Ready(None));
     assert!(rt; buffer.is_terminated());
     Ok(())
 }
@@ -46,15 +47,15 @@ fn outputs_that_wait_count_as_held(rt: HostRuntime) -> Result<(), Fail> {
     let mut buffer = stream.buffered_ordered(rt.alloc(), 2)?;
     assert!(rt; sent(&senders, 1, 2) && sent(&senders, 0, 3));
     assert!(rt; poll_in_order(&task, &mut buffer).is_pending());
-    assert_eq!(rt; drawn.load(SeqCst), 2);
+    assert_same(&rt, drawn.load(SeqCst), 2);
     assert!(rt; poll_in_order(&task, &mut buffer).is_pending());
-    assert_eq!(rt; drawn.load(SeqCst), 2);
+    assert_same(&rt, drawn.load(SeqCst), 2);
     assert!(rt; sent(&senders, 2, 1));
-    assert_eq!(rt; poll_in_order(&task, &mut buffer), Poll::Ready(Some(1)));
-    assert_eq!(rt; poll_in_order(&task, &mut buffer), Poll::Ready(Some(2)));
-    assert_eq!(rt; drawn.load(SeqCst), 3);
-    assert_eq!(rt; poll_in_order(&task, &mut buffer), Poll::Ready(Some(3)));
-    assert_eq!(rt; poll_in_order(&task, &mut buffer), Poll::Ready(None));
+    assert_same(&rt, poll_in_order(&task, &mut buffer), Poll::Ready(Some(1)));
+    assert_same(&rt, poll_in_order(&task, &mut buffer), Poll::Ready(Some(2)));
+    assert_same(&rt, drawn.load(SeqCst), 3);
+    assert_same(&rt, poll_in_order(&task, &mut buffer), Poll::Ready(Some(3)));
+    assert_same(&rt, poll_in_order(&task, &mut buffer), Poll::Ready(None));
     Ok(())
 }
 
@@ -66,14 +67,14 @@ fn a_stream_that_ended_is_dropped_at_once(rt: HostRuntime) -> Result<(), Fail> {
     let drops = Arc::new(rt.alloc(), AtomicU64::new(0))?;
     let stream = Watched::new(receivers, drawn, Arc::try_clone(&drops)?);
     let mut buffer = stream.buffered_ordered(rt.alloc(), 2)?;
-    assert_eq!(rt; drops.load(SeqCst), 0);
+    assert_same(&rt, drops.load(SeqCst), 0);
     assert!(rt; poll_in_order(&task, &mut buffer).is_pending());
-    assert_eq!(rt; drops.load(SeqCst), 1);
+    assert_same(&rt, drops.load(SeqCst), 1);
     assert!(rt; !buffer.is_terminated());
     assert!(rt; sent(&senders, 0, 7));
-    assert_eq!(rt; poll_in_order(&task, &mut buffer), Poll::Ready(Some(7)));
-    assert_eq!(rt; poll_in_order(&task, &mut buffer), Poll::Ready(None));
-    assert_eq!(rt; drops.load(SeqCst), 1);
+    assert_same(&rt, poll_in_order(&task, &mut buffer), Poll::Ready(Some(7)));
+    assert_same(&rt, poll_in_order(&task, &mut buffer), Poll::Ready(None));
+    assert_same(&rt, drops.load(SeqCst), 1);
     Ok(())
 }
 
@@ -89,7 +90,7 @@ fn a_chosen_limit_counts_names(rt: HostRuntime) -> Result<(), Fail> {
     assert!(rt; sent(&senders, 1, 7));
     assert!(rt; poll_in_order(&task, &mut buffer).is_pending());
     assert!(rt; task.is_woken());
-    assert_eq!(rt; poll_in_order(&task, &mut buffer), Poll::Ready(Some(7)));
+    assert_same(&rt, poll_in_order(&task, &mut buffer), Poll::Ready(Some(7)));
     Ok(())
 }
 
@@ -100,8 +101,8 @@ fn ends_with_a_stream_that_pauses(rt: HostRuntime) -> Result<(), Fail> {
     let mut buffer = stream.buffered_ordered(rt.alloc(), 1)?;
     assert!(rt; poll_in_order(&task, &mut buffer).is_pending());
     assert!(rt; task.is_woken());
-    assert_eq!(rt; poll_in_order(&task, &mut buffer), Poll::Ready(None));
-    assert_eq!(rt; poll_in_order(&task, &mut buffer), Poll::Ready(None));
+    assert_same(&rt, poll_in_order(&task, &mut buffer), Poll::Ready(None));
+    assert_same(&rt, poll_in_order(&task, &mut buffer), Poll::Ready(None));
     Ok(())
 }
 
@@ -110,9 +111,9 @@ fn a_hint_that_would_overflow_has_no_upper_part(rt: HostRuntime) -> Result<(), F
     let task = MockTask::new(&rt)?;
     let (_sender, receiver) = one_shot::<usize, HostRuntime>(&rt, rt.alloc())?;
     let mut buffer = UnboundedHint::new(receiver).buffered_ordered(rt.alloc(), 2)?;
-    assert_eq!(rt; buffer.size_hint(), (usize::MAX, Some(usize::MAX)));
+    assert_same(&rt, buffer.size_hint(), (usize::MAX, Some(usize::MAX)));
     assert!(rt; poll_in_order(&task, &mut buffer).is_pending());
-    assert_eq!(rt; buffer.size_hint(), (usize::MAX, None));
+    assert_same(&rt, buffer.size_hint(), (usize::MAX, None));
     Ok(())
 }
 
@@ -123,12 +124,12 @@ fn too_many_at_a_time_are_refused(rt: HostRuntime) -> Result<(), Fail> {
         receivers,
     } = new_cells::<usize, HostRuntime>(&rt, rt.alloc(), 1)?;
     let refused = ListStream::new(receivers).buffered_ordered(rt.alloc(), MAX_CAPACITY + 1);
-    assert_eq!(rt; refused.err(), Some(NewFault::TooLarge));
+    assert_same(&rt, refused.err(), Some(NewFault::TooLarge));
     let Cells {
         senders: _,
         receivers,
     } = new_cells::<usize, HostRuntime>(&rt, rt.alloc(), 1)?;
     let refused = ListStream::new(receivers).buffered_ordered(rt.alloc(), MAX_CAPACITY);
-    assert_eq!(rt; refused.err(), Some(NewFault::Memory));
+    assert_same(&rt, refused.err(), Some(NewFault::Memory));
     Ok(())
 }

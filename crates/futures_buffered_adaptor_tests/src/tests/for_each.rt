@@ -3,6 +3,7 @@ use crate::list_stream::ListStream;
 use crate::paused_end::PausedEnd;
 use crate::polling::poll_for_each;
 use crate::ready_at_once::ReadyAtOnce;
+use crate::same::assert_same;
 use futures::task::Poll;
 use futures::test::MockTask;
 use futures_buffered::{BufferedStreamExt, ForEachConcurrent, FusedFuture};
@@ -31,8 +32,8 @@ fn sixty_turns_end_in_one_poll(rt: HostRuntime) -> Result<(), Fail> {
     };
     let mut each = items(rt.alloc(), 60)?.for_each_concurrent(rt.alloc(), 2, call)?;
     assert!(rt; !each.is_terminated());
-    assert_eq!(rt; poll_for_each(&task, &mut each), Poll::Ready(()));
-    assert_eq!(rt; calls.load(SeqCst), 60);
+    assert_same(&rt, poll_for_each(&task, &mut each), Poll::Ready(()));
+    assert_same(&rt, calls.load(SeqCst), 60);
     assert!(rt; each.is_terminated());
     Ok(())
 }
@@ -48,10 +49,10 @@ fn the_task_is_woken_at_the_limit(rt: HostRuntime) -> Result<(), Fail> {
     };
     let mut each = items(rt.alloc(), 61)?.for_each_concurrent(rt.alloc(), 2, call)?;
     assert!(rt; poll_for_each(&task, &mut each).is_pending());
-    assert_eq!(rt; calls.load(SeqCst), 61);
+    assert_same(&rt, calls.load(SeqCst), 61);
     assert!(rt; task.is_woken());
     assert!(rt; !each.is_terminated());
-    assert_eq!(rt; poll_for_each(&task, &mut each), Poll::Ready(()));
+    assert_same(&rt, poll_for_each(&task, &mut each), Poll::Ready(()));
     assert!(rt; each.is_terminated());
     Ok(())
 }
@@ -68,8 +69,8 @@ fn a_chosen_limit_counts_turns(rt: HostRuntime) -> Result<(), Fail> {
     let stream = items(rt.alloc(), 3)?;
     let mut each = ForEachConcurrent::with_limit(rt.alloc(), stream, 2, 2, call)?;
     assert!(rt; poll_for_each(&task, &mut each).is_pending());
-    assert_eq!(rt; (calls.load(SeqCst), task.is_woken()), (2, true));
-    assert_eq!(rt; poll_for_each(&task, &mut each), Poll::Ready(()));
+    assert_same(&rt, (calls.load(SeqCst), task.is_woken()), (2, true));
+    assert_same(&rt, poll_for_each(&task, &mut each), Poll::Ready(()));
     Ok(())
 }
 
@@ -79,7 +80,7 @@ fn ends_with_a_stream_that_pauses(rt: HostRuntime) -> Result<(), Fail> {
     let stream: PausedEnd<usize> = PausedEnd::new();
     let mut each = stream.for_each_concurrent(rt.alloc(), 1, |_item: usize| ReadyAtOnce)?;
     assert!(rt; poll_for_each(&task, &mut each).is_pending());
-    assert_eq!(rt; poll_for_each(&task, &mut each), Poll::Ready(()));
-    assert_eq!(rt; poll_for_each(&task, &mut each), Poll::Ready(()));
+    assert_same(&rt, poll_for_each(&task, &mut each), Poll::Ready(()));
+    assert_same(&rt, poll_for_each(&task, &mut each), Poll::Ready(()));
     Ok(())
 }

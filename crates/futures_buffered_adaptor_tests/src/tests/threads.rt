@@ -2,6 +2,7 @@
 use crate::cells::{Cells, new_cells};
 use crate::list_stream::ListStream;
 use crate::receiver::{Receiver, Sender};
+use crate::same::assert_same;
 use futures::StreamExt;
 use futures::executor::block_on;
 use futures_buffered::BufferedStreamExt;
@@ -32,7 +33,7 @@ fn outputs_as_they_finish_while_a_thread_wakes(rt: HostRuntime) -> Result<(), Fa
     let child = thread::spawn(&rt, move || send_each(&senders))?;
     let outputs = block_on(&rt, buffer.collect(rt.alloc()))??;
     child.join(&rt);
-    assert_eq!(rt; (outputs.len(), sum(outputs.as_slice())), (4, 15));
+    assert_same(&rt, (outputs.len(), sum(outputs.as_slice())), (4, 15));
     Ok(())
 }
 
@@ -44,7 +45,7 @@ fn outputs_in_order_while_a_thread_wakes(rt: HostRuntime) -> Result<(), Fail> {
     let child = thread::spawn(&rt, move || send_each(&senders))?;
     let outputs = block_on(&rt, buffer.collect(rt.alloc()))??;
     child.join(&rt);
-    assert_eq!(rt; outputs.as_slice(), [8, 4, 2, 1].as_slice());
+    assert_same(&rt, outputs.as_slice(), [8, 4, 2, 1].as_slice());
     Ok(())
 }
 
@@ -66,6 +67,6 @@ fn a_for_each_while_a_thread_wakes(rt: HostRuntime) -> Result<(), Fail> {
     })?;
     block_on(&rt, each)?;
     child.join(&rt);
-    assert_eq!(rt; calls.load(SeqCst), 4);
+    assert_same(&rt, calls.load(SeqCst), 4);
     Ok(())
 }

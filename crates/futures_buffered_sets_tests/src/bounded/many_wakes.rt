@@ -1,0 +1,174 @@
+// Ten million wakes from eight threads.
+use futures::StreamExt;
+use futures::executor::block_on;
+use futures::task::Poll;
+use futures::test::MockTask;
+use futures_buffered_core::ready_shared::{SharedReady, SlotWake};
+use futures_buffered_core::ready_source::SlotWaker;
+use futures_buffered_sets::futures_unordered_bounded::FuturesUnorderedBounded;
+use futures_buffered_sets::slot_future::SlotFuture;
+use std::alloc::{AllocError, Global};
+use std::sync::atomic::AtomicU64;
+use std::sync::atomic::Ordering::SeqCst;
+use std::sync::{Arc, Mutex};
+use std::test::Fail;
+use std::thread::{self, Threads};
+use test_parts::keep::keep;
+use test_parts::polling::poll_set;
+
+const SLOTS: usize = 256;
+
+const THREADS: u64 = 8;
+
+const ROUNDS: u64 = 4_883;
+
+#[derive(Drop)]
+struct Seat {
+    wakes: AtomicU64,
+    waker: Mutex<Option<SlotWake>>,
+}
+
+// Ready once its seat has counted all wakes. It keeps its waker at its first poll.
+#[derive(Drop)]
+struct AllWakes {
+    seat: Arc<Seat>,
+}
+
+impl SlotFuture<SlotWake> for AllWakes {
+    type Output = ();
+
+    fn poll(&mut self, waker: &SlotWake) -> Poll<()> {
+        if self.seat.wakes.load(SeqCst) == THREADS * ROUNDS {
+            return Poll::Ready(());
+        }
+        if let Some(mut kept) = self.seat.waker.try_lock() {
+            if kept.is_none() {
+                *kept = waker.try_clone().ok();
+            }
+        }
+        Poll::Pending
+    }
+}
+
+type Set = FuturesUnorderedBounded<AllWakes, SharedReady>;
+
+// What a thread needs of one future: its seat and its waker.
+#[derive(Drop)]
+struct Bell {
+    seat: Arc<Seat>,
+    waker: SlotWake,
+}
+
+fn new_seat(alloc: Global) -> Result<Arc<Seat>, AllocError> {
+    let seat = Seat {
+        wakes: AtomicU64::new(0),
+        waker: Mutex::new(None),
+    };
+    Ok(Arc::new(alloc, seat)?)
+}
+
+// A future of the set, whose seat is kept.
+fn add_seat(alloc: Global, set: &mut Set, seats: &mut Vec<Arc<Seat>>) -> Result<(), AllocError> {
+    let seat = new_seat(alloc)?;
+    let future = AllWakes {
+        seat: Arc::try_clone(&seat)?,
+    };
+    let _ = set.try_push(future);
+    keep(seats, seat)
+}
+
+fn seated(alloc: Global, set: &mut Set) -> Result<Vec<Arc<Seat>>, AllocError> {
+    let mut seats = Vec::new(alloc);
+    for _ in 0..SLOTS {
+        add_seat(alloc, set, &mut seats)?;
+    }
+    Ok(seats)
+}
+
+fn waker_of(seat: &Seat) -> Option<SlotWake> {
+    match seat.waker.try_lock() {
+        Some(mut kept) => kept.take(),
+        None => None,
+    }
+}
+
+// Adds the bell of a seat that has a waker.
+fn add_bell(bells: &mut Vec<Bell>, seat: &Arc<Seat>) -> Result<(), AllocError> {
+    let seat = Arc::try_clone(seat)?;
+    match waker_of(&seat) {
+        Some(waker) => keep(bells, Bell { seat, waker }),
+        None => Ok(()),
+    }
+}
+
+fn bells(alloc: Global, seats: &[Arc<Seat>]) -> Result<Vec<Bell>, AllocError> {
+    let mut bells = Vec::new(alloc);
+    for seat in seats {
+        add_bell(&mut bells, seat)?;
+    }
+    Ok(bells)
+}
+
+fn ring_all(bells: &Vec<Bell>) {
+    for bell in bells {
+        bell.seat.wakes.fetch_add(1, SeqCst);
+        bell.waker.wake();
+    }
+}
+
+fn ring_often(bells: &Vec<Bell>) {
+    for _ in 0..ROUNDS {
+        ring_all(bells);
+    }
+}
+
+fn start_one<R: Threads>(rt: &R, bells: &Arc<Vec<Bell>>) -> Result<thread::JoinHandle<()>, Fail> {
+    let bells = Arc::try_clone(bells)?;
+    Ok(thread::spawn(rt, move || ring_often(&bells))?)
+}
+
+fn start<R: Threads>(
+    rt: &R,
+    alloc: Global,
+    bells: &Arc<Vec<Bell>>,
+) -> Result<Vec<thread::JoinHandle<()>>, Fail> {
+    let mut started = Vec::new(alloc);
+    for _ in 0..THREADS {
+        keep(&mut started, start_one(rt, bells)?)?;
+    }
+    Ok(started)
+}
+
+fn poll_each(task: &MockTask, set: &mut Set) {
+    for _ in 0..5 {
+        let _ = poll_set(task, set);
+    }
+}
+
+// The bells of a full set, each of whose futures was polled once.
+fn begin(alloc: Global, task: &MockTask, set: &mut Set) -> Result<Vec<Bell>, AllocError> {
+    let seats = seated(alloc, set)?;
+    poll_each(task, set);
+    bells(alloc, seats.as_slice())
+}
+
+fn join_all<R: Threads>(rt: &R, started: Vec<thread::JoinHandle<()>>) {
+    for thread in started {
+        thread.join(rt);
+    }
+}
+
+// Each future is polled once more after its last wake, so that all of them end.
+#[test]
+fn no_wake_of_ten_million_is_lost(rt: HostRuntime) -> Result<(), Fail> {
+    let task = MockTask::new(&rt)?;
+    let mut set: Set = FuturesUnorderedBounded::new(rt.alloc(), SLOTS)?;
+    let bells = begin(rt.alloc(), &task, &mut set)?;
+    assert_eq!(rt; bells.len(), SLOTS);
+    let bells = Arc::new(rt.alloc(), bells)?;
+    let started = start(&rt, rt.alloc(), &bells)?;
+    let outputs = block_on(&rt, set.count())?;
+    join_all(&rt, started);
+    assert_eq!(rt; outputs, SLOTS);
+    Ok(())
+}

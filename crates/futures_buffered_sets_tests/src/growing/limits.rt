@@ -1,0 +1,41 @@
+// The limit of a set is the one that was chosen.
+ghost use Rattle.std.specs.Prelude.{◌≤◌};
+
+use futures_buffered_core::ready_source::{CoreSource, NewSource};
+use futures_buffered_sets::futures_unordered::FuturesUnordered;
+use futures_buffered_sets::futures_unordered_bounded::FuturesUnorderedBounded;
+use std::alloc::Global;
+use std::test::Fail;
+use test_parts::timed::{Timed, ready_up_to};
+
+type Bounded = FuturesUnorderedBounded<Timed, CoreSource>;
+
+#[test]
+fn sets_over_shared_sources_have_the_limit(rt: HostRuntime) -> Result<(), Fail> {
+    let growing: FuturesUnordered<Timed, _> = FuturesUnordered::with_limit(rt.alloc(), 0, 5)?;
+    assert_eq!(rt; (growing.limit(), growing.capacity()), (5, 0));
+    let bounded: FuturesUnorderedBounded<Timed, _> = FuturesUnorderedBounded::with_limit(
+        rt.alloc(),
+        3,
+        5,
+    )?;
+    assert_eq!(rt; (bounded.limit(), bounded.capacity()), (5, 3));
+    Ok(())
+}
+
+fn limit_of_source(alloc: Global, limit: usize) -> Result<usize, Fail>
+    requires { 1 ≤ limit }
+{
+    let source = CoreSource::make(&(), alloc, 2)?;
+    let set: Bounded = FuturesUnorderedBounded::with_source_limit(alloc, source, limit)?;
+    Ok(set.limit())
+}
+
+#[test]
+fn bounded_sets_have_the_limit(rt: HostRuntime) -> Result<(), Fail> {
+    assert_eq!(rt; limit_of_source(rt.alloc(), 7)?, 7);
+    let items = ready_up_to(rt.alloc(), 1)?;
+    let set: Bounded = FuturesUnorderedBounded::over_limit(&(), rt.alloc(), items, 9)?;
+    assert_eq!(rt; (set.limit(), set.capacity()), (9, 1));
+    Ok(())
+}

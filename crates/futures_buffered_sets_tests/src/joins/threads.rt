@@ -1,0 +1,38 @@
+// Joins under `block_on`, whose futures another thread wakes.
+use futures::executor::block_on;
+use futures_buffered_sets::join_all::join_all;
+use futures_buffered_sets::try_join_all::try_join_all;
+use std::sync::Wait;
+use std::test::Fail;
+use std::thread;
+use test_parts::cells::{Cells, new_cells};
+use test_parts::receiver::Sender;
+
+// Each sender in turn sends its value.
+fn send_each<R: Wait + Drop>(senders: &Vec<Sender<u64, R>>) {
+    for (value, sender) in [5, 6, 7, 8].iter().zip(senders) {
+        sender.send(*value);
+    }
+}
+
+#[test]
+fn a_join_while_a_thread_wakes(rt: HostRuntime) -> Result<(), Fail> {
+    let Cells { senders, receivers } = new_cells(&rt, rt.alloc(), 4)?;
+    let join = join_all(rt.alloc(), receivers)?;
+    let child = thread::spawn(&rt, move || send_each(&senders))?;
+    let outputs = block_on(&rt, join)?;
+    child.join(&rt);
+    assert_eq!(rt; outputs, vec![in rt.alloc(); Ok(5), Ok(6), Ok(7), Ok(8)]?);
+    Ok(())
+}
+
+#[test]
+fn a_try_join_while_a_thread_wakes(rt: HostRuntime) -> Result<(), Fail> {
+    let Cells { senders, receivers } = new_cells(&rt, rt.alloc(), 4)?;
+    let join = try_join_all(rt.alloc(), receivers)?;
+    let child = thread::spawn(&rt, move || send_each(&senders))?;
+    let outputs = block_on(&rt, join)?;
+    child.join(&rt);
+    assert_eq!(rt; outputs?, vec![in rt.alloc(); 5, 6, 7, 8]?);
+    Ok(())
+}

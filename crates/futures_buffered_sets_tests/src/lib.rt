@@ -1,0 +1,16 @@
+//! Tests of sets, queues, joins and merges, by their public calls alone.
+//! No crate stands on this one.
+#![tactic(auto)]
+
+#[cfg(test)]
+mod bounded;
+#[cfg(test)]
+mod growing;
+#[cfg(test)]
+mod joins;
+#[cfg(test)]
+mod merges;
+#[cfg(test)]
+mod ordered;
+#[cfg(test)]
+mod ordered_growing;

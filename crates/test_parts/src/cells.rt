@@ -1,0 +1,48 @@
+//! Rows of cells that are sent one value each.
+use crate::keep::keep;
+use crate::receiver::{Receiver, Sender, one_shot};
+use std::alloc::{AllocError, Global};
+use std::sync::Wait;
+
+/// The receiver at each place is that of the sender at this place.
+#[derive(Drop)]
+pub struct Cells<T, R> {
+    pub senders: Vec<Sender<T, R>>,
+    pub receivers: Vec<Receiver<T, R>>,
+}
+
+fn add_cell<T: Drop, R: Clone + Drop>(
+    rt: &R,
+    alloc: Global,
+    cells: &mut Cells<T, R>,
+) -> Result<(), AllocError> {
+    let (sender, receiver) = one_shot(rt, alloc)?;
+    keep(&mut cells.senders, sender)?;
+    keep(&mut cells.receivers, receiver)
+}
+
+pub fn new_cells<T: Drop, R: Clone + Drop>(
+    rt: &R,
+    alloc: Global,
+    count: usize,
+) -> Result<Cells<T, R>, AllocError> {
+    let mut cells = Cells {
+        senders: Vec::new(alloc),
+        receivers: Vec::new(alloc),
+    };
+    for _ in 0..count {
+        add_cell(rt, alloc, &mut cells)?;
+    }
+    Ok(cells)
+}
+
+/// Whether there is such a sender. It sends the value.
+pub fn sent<T: Drop, R: Wait + Drop>(senders: &Vec<Sender<T, R>>, place: usize, value: T) -> bool {
+    match senders.get(place) {
+        Some(sender) => {
+            sender.send(value);
+            true
+        }
+        None => false,
+    }
+}

@@ -1,0 +1,38 @@
+//! A stream whose drops are counted.
+use futures::task::Poll;
+use futures_buffered_core::ready_source::WakesSlot;
+use futures_buffered_sets::slot_stream::SlotStream;
+use std::sync::Arc;
+use std::sync::atomic::AtomicU64;
+use std::sync::atomic::Ordering::SeqCst;
+
+/// Gives `left` items of 1, and then ends. It adds one to `drops` when it is dropped.
+pub struct DroppedStream {
+    left: u64,
+    drops: Arc<AtomicU64>,
+}
+
+impl DroppedStream {
+    pub fn new(left: u64, drops: Arc<AtomicU64>) -> DroppedStream {
+        DroppedStream { left, drops }
+    }
+}
+
+impl Drop for DroppedStream {
+    fn drop(self) {
+        let DroppedStream { left: _, drops } = self;
+        drops.fetch_add(1, SeqCst);
+    }
+}
+
+impl<W: WakesSlot> SlotStream<W> for DroppedStream {
+    type Item = u64;
+
+    fn poll_next(&mut self, _waker: &W) -> Poll<Option<u64>> {
+        if self.left == 0 {
+            return Poll::Ready(None);
+        }
+        self.left -= 1;
+        Poll::Ready(Some(1))
+    }
+}

@@ -1,0 +1,24 @@
+//! What tests share: futures, streams and wakers whose behaviour a test can foresee, and polls by hand.
+//! Only crates of tests stand on this one.
+#![tactic(auto)]
+
+pub mod attempt;
+pub mod cells;
+pub mod counted;
+pub mod counter;
+pub mod dropped;
+pub mod dropped_streams;
+pub mod feed;
+pub mod flat;
+pub mod holder;
+pub mod keep;
+pub mod kept;
+pub mod merge_answers;
+pub mod paused;
+pub mod polling;
+pub mod rationed;
+pub mod receiver;
+pub mod stepped;
+pub mod timed;
+pub mod which_slot;
+pub mod yields;
