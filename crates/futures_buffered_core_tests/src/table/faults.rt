@@ -1,5 +1,5 @@
 //! What is refused, in which order, and the texts of the faults.
-use crate::machine::{go, mark};
+use crate::table::machine::{go, mark};
 use futures_buffered_table::answer::{MAX_CAPACITY, NewFault};
 use futures_buffered_table::ready_table::{StepFault, WAKE_SEATS, steps};
 use std::test::Fail;

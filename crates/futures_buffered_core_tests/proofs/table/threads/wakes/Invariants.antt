@@ -1,5 +1,5 @@
 use Rattle.std.proofs.Common.{◌≡◌}
-use Rattle.futures_buffered_table_tests.proofs.threads.wakes.Given as goal
+use Rattle.futures_buffered_core_tests.proofs.table.threads.wakes.Given as goal
 
 abbrev pub invariant-loop-slot : goal.invariant-loop-slot
 invariant-loop-slot l = (l.seat.list ≡ l.list.list) × (l.seat.list ≡ l.fn.seat.list)

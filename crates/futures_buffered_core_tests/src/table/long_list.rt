@@ -1,5 +1,5 @@
 //! Calls on a list of more slots than a handful: a call makes the steps of its own seat alone.
-use crate::alone::Alone;
+use crate::table::alone::Alone;
 use futures_buffered_table::answer::{Taken, Woke};
 use std::alloc::{AllocError, Global};
 use std::test::Fail;

@@ -1,5 +1,5 @@
 //! The calls of a short list, on one thread.
-use crate::alone::list_of;
+use crate::table::alone::list_of;
 use futures_buffered_table::answer::{MAX_CAPACITY, NewFault, Taken, Woke};
 use futures_buffered_table::ready_table::ReadyList;
 use std::test::Fail;

@@ -1,7 +1,7 @@
 //! Wakes by a seat that is made with its first step.
 ghost use Rattle.std.specs.Prelude.{◌≡◌, ◌<◌};
 
-use crate::alone::{Alone, list_of};
+use crate::table::alone::{Alone, list_of};
 use futures_buffered_table::answer::{Taken, Woke};
 use futures_buffered_table::ready_table::{PollSeat, ReadyList};
 use std::process::Abort;

@@ -1,5 +1,5 @@
 // Outer wakers that are no task's.
-use crate::outer::{AskingWaker, CountingWaker, Either, is_set_within};
+use crate::parts::outer::{AskingWaker, CountingWaker, Either, is_set_within};
 use futures_buffered_core::ready_core::{MAX_CAPACITY, NewFault, Taken, Woke};
 use futures_buffered_core::ready_shared::{OuterWaker, SharedReady, SlotWake};
 use futures_buffered_core::ready_source::SlotWaker;

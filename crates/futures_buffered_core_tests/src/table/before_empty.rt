@@ -2,7 +2,7 @@
 ghost use Rattle.std.specs.Prelude.{◌≡◌, ◌<◌, true};
 ghost use Rattle.futures_buffered_table.specs.declared.answer.Taken.TheVariants.{Empty};
 
-use crate::alone::{Alone, list_of};
+use crate::table::alone::{Alone, list_of};
 use futures_buffered_table::answer::{Taken, Woke};
 use futures_buffered_table::ready_table::{BeforeEmpty, PollSeat, ReadyList};
 use std::process::Abort;

@@ -1,6 +1,6 @@
 //! Whole schedules on a machine, against the plain list.
-use crate::machine::{go, machine_of, mark};
-use crate::plain::Plain;
+use crate::table::machine::{go, machine_of, mark};
+use crate::table::plain::Plain;
 use futures_buffered_table::ready_table::{Step, StepMachine, steps};
 use std::process::Abort;
 use std::test::Fail;

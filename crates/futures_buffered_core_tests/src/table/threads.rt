@@ -1,7 +1,7 @@
 //! Four wakers and the poller at once.
 ghost use Rattle.std.specs.Prelude.{◌≡◌};
 
-use crate::alone::list_of;
+use crate::table::alone::list_of;
 use futures_buffered_table::answer::{Taken, Woke};
 use futures_buffered_table::ready_table::{PollSeat, ReadyList, WakeSeat};
 use std::test::Fail;
