@@ -2,8 +2,9 @@
 use futures_buffered_core::ready_core::{
     Event, MAX_CAPACITY, NewFault, ReadyCore, Reply, RunFault, Taken, Woke, run,
 };
-use std::alloc::Global;
+use std::alloc::{AllocError, Global};
 use std::collections::VecDeque;
+use std::process::Abort;
 use std::test::Fail;
 
 const ROW: [(Event, Reply); 8] = [
@@ -17,10 +18,8 @@ const ROW: [(Event, Reply); 8] = [
     (Event::Take, Reply::Taken(Taken::Empty)),
 ];
 
-#[test]
-fn names_the_oldest_unserved_mark(rt: HostRuntime) -> Result<(), Fail> {
-    let mut core = ReadyCore::new(rt.alloc(), 3)?;
-    assert_eq!(rt; core.capacity(), 3);
+// Does each event, and wants its reply.
+fn replies(rt: &impl Abort, core: &mut ReadyCore) {
     for (event, want) in ROW {
         let got = match event {
             Event::Mark(i) if i < core.capacity() => Reply::Woke(core.mark(i)),
@@ -28,6 +27,13 @@ fn names_the_oldest_unserved_mark(rt: HostRuntime) -> Result<(), Fail> {
         };
         assert_eq!(rt; got, want, "at {event:?}");
     }
+}
+
+#[test]
+fn names_the_oldest_unserved_mark(rt: HostRuntime) -> Result<(), Fail> {
+    let mut core = ReadyCore::new(rt.alloc(), 3)?;
+    assert_eq!(rt; core.capacity(), 3);
+    replies(&rt, &mut core);
     Ok(())
 }
 
@@ -57,35 +63,52 @@ fn refuses_a_capacity(rt: HostRuntime) {
     assert_eq!(rt; large.err(), Some(NewFault::TooLarge));
 }
 
-// Whether a core answers as a plain list does, over many marks and takings of slots that vary.
-fn is_like_a_list(alloc: Global, capacity: usize) -> Result<bool, Fail> {
-    let mut core = ReadyCore::new(alloc, capacity)?;
-    let mut list = VecDeque::new(alloc);
+// Whether a taking answers as the plain list does.
+fn takes_alike(core: &mut ReadyCore, list: &mut VecDeque<usize>) -> bool {
+    let want = match list.pop_front() {
+        Some(first) => Taken::Slot(first),
+        None => Taken::Empty,
+    };
+    core.take() == want
+}
+
+// Marks this slot, or takes where there is no such slot: whether the answer is that of the plain list.
+fn answers_alike(
+    core: &mut ReadyCore,
+    list: &mut VecDeque<usize>,
+    slot: usize,
+) -> Result<bool, AllocError> {
+    if slot >= core.capacity() {
+        return Ok(takes_alike(core, list));
+    }
+    let marked = list.contains(&slot);
+    if !marked {
+        list.push_back(slot)?;
+    }
+    Ok((core.mark(slot) == Woke::Already) == marked)
+}
+
+// Over many marks and takings of slots that vary.
+fn always_answers_alike(
+    core: &mut ReadyCore,
+    list: &mut VecDeque<usize>,
+) -> Result<bool, AllocError> {
     let mut number = 1_u64;
     for _ in 0..20_000 {
         number = number
             .wrapping_mul(6_364_136_223_846_793_005)
             .wrapping_add(1_442_695_040_888_963_407);
-        let slot = (number >> 33) as usize % 12;
-        if slot < core.capacity() {
-            let marked = list.contains(&slot);
-            if !marked {
-                list.push_back(slot)?;
-            }
-            if (core.mark(slot) == Woke::Already) != marked {
-                return Ok(false);
-            }
-        } else {
-            let want = match list.pop_front() {
-                Some(first) => Taken::Slot(first),
-                None => Taken::Empty,
-            };
-            if core.take() != want {
-                return Ok(false);
-            }
+        if !answers_alike(core, list, (number >> 33) as usize % 12)? {
+            return Ok(false);
         }
     }
     Ok(true)
+}
+
+fn is_like_a_list(alloc: Global, capacity: usize) -> Result<bool, Fail> {
+    let mut core = ReadyCore::new(alloc, capacity)?;
+    let mut list = VecDeque::new(alloc);
+    Ok(always_answers_alike(&mut core, &mut list)?)
 }
 
 #[test]

@@ -3,7 +3,15 @@ use futures_buffered_core::ready_core::{RunFault, Taken, Woke};
 use futures_buffered_core::ready_source::{
     CoreSource, NewSource, ReadySource, ScriptSource, SlotWaker,
 };
+use std::process::Abort;
 use std::test::Fail;
+
+// Takes, and wants these answers.
+fn takes(rt: &impl Abort, source: &mut ScriptSource, wanted: &[Taken]) {
+    for want in wanted {
+        assert_eq!(rt; source.take(), *want);
+    }
+}
 
 #[test]
 fn gives_the_answers_and_then_empty(rt: HostRuntime) -> Result<(), Fail> {
@@ -16,9 +24,11 @@ fn gives_the_answers_and_then_empty(rt: HostRuntime) -> Result<(), Fail> {
             (Woke::Fresh, Woke::Fresh)
         );
     }
-    for want in [Taken::Slot(1), Taken::Pause, Taken::Empty, Taken::Empty] {
-        assert_eq!(rt; source.take(), want);
-    }
+    takes(
+        &rt,
+        &mut source,
+        &[Taken::Slot(1), Taken::Pause, Taken::Empty, Taken::Empty],
+    );
     Ok(())
 }
 

@@ -1,16 +1,34 @@
 // Slots that are filled, emptied and filled again.
 use futures_buffered_core::ready_core::{MAX_CAPACITY, NewFault};
 use futures_buffered_core::slot_map::PinSlotMap;
+use std::process::Abort;
 use std::test::Fail;
+
+// Fills three free slots, in order.
+fn fills(rt: &impl Abort, map: &mut PinSlotMap<u64>) {
+    for (value, slot) in [(10_u64, 0), (11, 1), (12, 2)] {
+        assert_eq!(rt; map.insert_with(value, |value| value), Ok(slot));
+    }
+    assert_eq!(rt; map.insert_with(13, |value| value), Err(13));
+}
+
+// Walks over what is held, by the order of the slots, and sets each value.
+fn gives_and_sets_each(rt: &impl Abort, map: &mut PinSlotMap<u64>) {
+    let mut held = map.iter_mut();
+    for want in [Some(15), Some(16), Some(14), None, None] {
+        let next = held.next();
+        assert_eq!(rt; next.as_deref().copied(), want);
+        if let Some(value) = next {
+            *value = 17;
+        }
+    }
+}
 
 #[test]
 fn uses_the_freed_slot_first(rt: HostRuntime) -> Result<(), Fail> {
     let mut map = PinSlotMap::new(rt.alloc(), 3)?;
     assert_eq!(rt; (map.len(), map.capacity(), map.is_empty()), (0, 3, true));
-    for (value, slot) in [(10_u64, 0), (11, 1), (12, 2)] {
-        assert_eq!(rt; map.insert_with(value, |value| value), Ok(slot));
-    }
-    assert_eq!(rt; map.insert_with(13, |value| value), Err(13));
+    fills(&rt, &mut map);
     map.remove(0);
     map.remove(2);
     map.remove(2);
@@ -24,14 +42,7 @@ fn uses_the_freed_slot_first(rt: HostRuntime) -> Result<(), Fail> {
     if let Some(value) = map.get(1) {
         *value = 16;
     }
-    let mut held = map.iter_mut();
-    for want in [Some(15), Some(16), Some(14), None, None] {
-        let next = held.next();
-        assert_eq!(rt; next.as_deref().copied(), want);
-        if let Some(value) = next {
-            *value = 17;
-        }
-    }
+    gives_and_sets_each(&rt, &mut map);
     assert_eq!(rt; map.get(1).copied(), Some(17));
     Ok(())
 }

@@ -67,22 +67,29 @@ impl<'a> BeforeEmpty for WakesInside<'a> {
     }
 }
 
+// A wake of this slot inside the call is a Pause. The slot comes next, with no call.
+fn pauses_inside(rt: &impl Abort, list: &ReadyList, poll: &mut PollSeat, slot: usize)
+    requires { poll.old.list ≡ list.now.list }
+    ensures { poll.new.list ≡ poll.old.list }
+{
+    let mut inside = WakesInside {
+        list,
+        slot,
+        count: 0,
+    };
+    assert_eq!(rt; list.take_with(poll, &mut inside), Taken::Pause);
+    assert_eq!(rt; inside.count, 1);
+    assert_eq!(rt; list.take_with(poll, &mut inside), Taken::Slot(slot));
+    assert_eq!(rt; inside.count, 1);
+}
+
 // The call comes after the link read and before the tail read: a wake inside it is a Pause, and not
 // a slot or Empty.
 #[test]
 fn a_wake_inside_the_call_is_a_pause(rt: HostRuntime) -> Result<(), Fail> {
     let (list, mut poll, _) = list_of(&rt, rt.alloc(), 2);
-    for slot in 0..2 {
-        let mut inside = WakesInside {
-            list: &list,
-            slot,
-            count: 0,
-        };
-        assert_eq!(rt; list.take_with(&mut poll, &mut inside), Taken::Pause);
-        assert_eq!(rt; inside.count, 1);
-        assert_eq!(rt; list.take_with(&mut poll, &mut inside), Taken::Slot(slot));
-        assert_eq!(rt; inside.count, 1);
-    }
+    pauses_inside(&rt, &list, &mut poll, 0);
+    pauses_inside(&rt, &list, &mut poll, 1);
     assert_eq!(rt; list.take(&mut poll), Taken::Empty);
     Ok(())
 }

@@ -2,6 +2,9 @@
 use crate::table::machine::{go, mark};
 use futures_buffered_table::answer::{MAX_CAPACITY, NewFault};
 use futures_buffered_table::ready_table::{StepFault, WAKE_SEATS, steps};
+use std::alloc::Global;
+use std::fmt::Display;
+use std::process::Abort;
 use std::test::Fail;
 
 // The faults, in the order in which they are tested.
@@ -16,17 +19,33 @@ fn faults_of_steps(rt: HostRuntime) -> Result<(), Fail> {
     Ok(())
 }
 
+// Writes a fault, and wants this text.
+fn says<F: Display + Drop>(
+    rt: &impl Abort,
+    alloc: Global,
+    fault: F,
+    wanted: &str,
+) -> Result<(), Fail> {
+    let text = format!(in alloc; "{fault}")?;
+    assert_eq!(rt; text.as_str(), wanted);
+    Ok(())
+}
+
 #[test]
 fn texts_of_faults(rt: HostRuntime) -> Result<(), Fail> {
-    let memory = format!(in rt.alloc(); "{}", NewFault::Memory)?;
-    assert_eq!(rt; memory.as_str(), "out of memory");
-    let too_large = format!(in rt.alloc(); "{}", NewFault::TooLarge)?;
-    assert_eq!(rt; too_large.as_str(), "the capacity is too large");
-    let memory = format!(in rt.alloc(); "{}", StepFault::Memory)?;
-    assert_eq!(rt; memory.as_str(), "out of memory");
-    let too_large = format!(in rt.alloc(); "{}", StepFault::TooLarge)?;
-    assert_eq!(rt; too_large.as_str(), "the capacity is too large");
-    let step = format!(in rt.alloc(); "{}", StepFault::Step(7))?;
-    assert_eq!(rt; step.as_str(), "step 7 cannot be made");
-    Ok(())
+    says(&rt, rt.alloc(), NewFault::Memory, "out of memory")?;
+    says(
+        &rt,
+        rt.alloc(),
+        NewFault::TooLarge,
+        "the capacity is too large",
+    )?;
+    says(&rt, rt.alloc(), StepFault::Memory, "out of memory")?;
+    says(
+        &rt,
+        rt.alloc(),
+        StepFault::TooLarge,
+        "the capacity is too large",
+    )?;
+    says(&rt, rt.alloc(), StepFault::Step(7), "step 7 cannot be made")
 }

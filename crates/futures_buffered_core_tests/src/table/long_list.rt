@@ -1,7 +1,8 @@
 //! Calls on a list of more slots than a handful: a call makes the steps of its own seat alone.
 use crate::table::alone::Alone;
 use futures_buffered_table::answer::{Taken, Woke};
-use std::alloc::{AllocError, Global};
+use std::alloc::AllocError;
+use std::process::Abort;
 use std::test::Fail;
 
 const SLOTS: usize = 100;
@@ -16,33 +17,51 @@ fn a_new_list_is_empty(rt: HostRuntime) -> Result<(), Fail> {
     Ok(())
 }
 
-// What a wake wakes is its own slot, and what a taking names is taken.
-#[test]
-fn a_wake_wakes_its_slot_alone(rt: HostRuntime) -> Result<(), Fail> {
-    let mut list = Alone::new(&rt, rt.alloc(), SLOTS);
+fn wakes_and_takes_each(rt: &impl Abort, list: &mut Alone) {
     for slot in 0..SLOTS {
         assert_eq!(rt; list.wake(slot), Some(Woke::Fresh));
         assert_eq!(rt; list.take(), Taken::Slot(slot));
         assert_eq!(rt; list.take(), Taken::Empty);
     }
+}
+
+// What a wake wakes is its own slot, and what a taking names is taken.
+#[test]
+fn a_wake_wakes_its_slot_alone(rt: HostRuntime) -> Result<(), Fail> {
+    let mut list = Alone::new(&rt, rt.alloc(), SLOTS);
+    wakes_and_takes_each(&rt, &mut list);
     assert_eq!(rt; list.wake(SLOTS), None);
     assert!(rt; list.closes_with(rt.alloc(), &[])?);
     Ok(())
+}
+
+// Wakes all slots, in an order in which none stands beside its neighbour.
+fn wakes_all(rt: &impl Abort, list: &mut Alone) {
+    for slot in 0..SLOTS {
+        assert_eq!(rt; list.wake(slot * 37 % SLOTS), Some(Woke::Fresh));
+    }
+}
+
+fn finds_all_woken(rt: &impl Abort, list: &mut Alone) {
+    for slot in 0..SLOTS {
+        assert_eq!(rt; list.wake(slot), Some(Woke::Already));
+    }
+}
+
+// Takes all slots, in the order of `wakes_all`.
+fn takes_all(rt: &impl Abort, list: &mut Alone) {
+    for slot in 0..SLOTS {
+        assert_eq!(rt; list.take(), Taken::Slot(slot * 37 % SLOTS));
+    }
 }
 
 // All slots are woken, then all are taken, in the order of their wakes.
 #[test]
 fn a_full_list_is_taken_in_order(rt: HostRuntime) -> Result<(), Fail> {
     let mut list = Alone::new(&rt, rt.alloc(), SLOTS);
-    for slot in 0..SLOTS {
-        assert_eq!(rt; list.wake(slot * 37 % SLOTS), Some(Woke::Fresh));
-    }
-    for slot in 0..SLOTS {
-        assert_eq!(rt; list.wake(slot), Some(Woke::Already));
-    }
-    for slot in 0..SLOTS {
-        assert_eq!(rt; list.take(), Taken::Slot(slot * 37 % SLOTS));
-    }
+    wakes_all(&rt, &mut list);
+    finds_all_woken(&rt, &mut list);
+    takes_all(&rt, &mut list);
     assert_eq!(rt; list.take(), Taken::Empty);
     Ok(())
 }
@@ -90,31 +109,51 @@ fn next_number(number: u64) -> u64 {
         .wrapping_add(1442695040888963407)
 }
 
-// 20000 wakes, some by a new seat, and takings, now more of the one and now of the other, against
-// the plain marks.
+// Wakes the slot that this number names, at one number of three by a new seat.
+fn wake_by(list: &mut Alone, slot: usize, number: u64) -> Option<Woke> {
+    if number % 3 == 0 {
+        list.wake_anew(slot)
+    } else {
+        list.wake(slot)
+    }
+}
+
+// The call that this number names, and its answer by the plain marks: a taking, at so many numbers of ten, or a wake.
+fn call_by(
+    rt: &impl Abort,
+    list: &mut Alone,
+    marked: &mut Marked,
+    number: u64,
+    takes_of_ten: u64,
+) -> Result<(), AllocError> {
+    if (number >> 33) % 10 < takes_of_ten {
+        assert_eq!(rt; list.take(), marked.take());
+        return Ok(());
+    }
+    let slot = ((number >> 40) % 100) as usize;
+    let wanted = marked.wake(slot)?;
+    assert_eq!(rt; wake_by(list, slot, number), Some(wanted));
+    Ok(())
+}
+
+// 20000 wakes and takings, now more of the one and now of the other.
+fn makes_calls(rt: &impl Abort, list: &mut Alone, marked: &mut Marked) -> Result<(), AllocError> {
+    let mut number = 1u64;
+    for turn in 0..20000u64 {
+        number = next_number(number);
+        let takes_of_ten = if turn / 500 % 2 == 0 { 3 } else { 7 };
+        call_by(rt, list, marked, number, takes_of_ten)?;
+    }
+    Ok(())
+}
+
 #[test]
 fn many_calls(rt: HostRuntime) -> Result<(), Fail> {
     let mut list = Alone::new(&rt, rt.alloc(), SLOTS);
     let mut marked = Marked {
         slots: Vec::new(rt.alloc()),
     };
-    let mut number = 1u64;
-    for turn in 0..20000u64 {
-        number = next_number(number);
-        let takes_of_ten = if turn / 500 % 2 == 0 { 3 } else { 7 };
-        if (number >> 33) % 10 < takes_of_ten {
-            assert_eq!(rt; list.take(), marked.take());
-        } else {
-            let slot = ((number >> 40) % 100) as usize;
-            let wanted = marked.wake(slot)?;
-            let woke = if number % 3 == 0 {
-                list.wake_anew(slot)
-            } else {
-                list.wake(slot)
-            };
-            assert_eq!(rt; woke, Some(wanted));
-        }
-    }
+    makes_calls(&rt, &mut list, &mut marked)?;
     assert!(rt; list.closes_with(rt.alloc(), marked.slots.as_slice())?);
     Ok(())
 }

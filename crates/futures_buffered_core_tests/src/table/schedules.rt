@@ -1,7 +1,8 @@
 //! Whole schedules on a machine, against the plain list.
 use crate::table::machine::{go, machine_of, mark};
 use crate::table::plain::Plain;
-use futures_buffered_table::ready_table::{Step, StepMachine, steps};
+use futures_buffered_table::ready_table::{Step, StepMachine, StepReply, steps};
+use std::alloc::{AllocError, Global};
 use std::process::Abort;
 use std::test::Fail;
 
@@ -33,15 +34,20 @@ fn follows(rt: &impl Abort, machine: &mut StepMachine, plain: &mut Plain, number
     unit
 }
 
+// The same on a new machine.
+fn follows_anew(rt: &impl Abort, alloc: Global, number: u64) -> Result<u64, AllocError> {
+    let mut machine = machine_of(rt, alloc, 2);
+    let mut plain = Plain::new(alloc, 2, 2)?;
+    Ok(follows(rt, &mut machine, &mut plain, number))
+}
+
 // All schedules of 2 seats and 2 slots of 7 steps, and so their beginnings; after a step that is refused, which changes nothing, no other is tried.
 #[test]
 fn every_short_schedule(rt: HostRuntime) -> Result<(), Fail> {
     let mut next = 0u64;
     for number in 0..823543u64 {
         if number >= next {
-            let mut machine = machine_of(&rt, rt.alloc(), 2);
-            let mut plain = Plain::new(rt.alloc(), 2, 2)?;
-            next = number.wrapping_add(follows(&rt, &mut machine, &mut plain, number));
+            next = number.wrapping_add(follows_anew(&rt, rt.alloc(), number)?);
         }
     }
     Ok(())
@@ -64,30 +70,68 @@ fn step_by(number: u64) -> Step {
     }
 }
 
+// A machine of 3 slots and its plain list, with the steps that were made and their replies.
+#[derive(Drop)]
+struct Schedule {
+    machine: StepMachine,
+    plain: Plain,
+    made: Vec<Step>,
+    replies: Vec<StepReply>,
+}
+
+impl Schedule {
+    fn new(rt: &impl Abort, alloc: Global) -> Result<Schedule, AllocError> {
+        Ok(Schedule {
+            machine: machine_of(rt, alloc, 3),
+            plain: Plain::new(alloc, 3, 4)?,
+            made: Vec::new(alloc),
+            replies: Vec::new(alloc),
+        })
+    }
+
+    // Makes a step, which may be refused, against the plain list.
+    fn step(&mut self, rt: &impl Abort, step: Step) -> Result<(), AllocError> {
+        let reply = self.machine.step(step);
+        assert_eq!(rt; reply, self.plain.step(step));
+        if let Some(reply) = reply {
+            self.made.push(step)?;
+            self.replies.push(reply)?;
+        }
+        Ok(())
+    }
+
+    // Makes up to 400 steps by the numbers that follow, and answers the last number.
+    fn steps_by(&mut self, rt: &impl Abort, number: u64) -> Result<u64, AllocError> {
+        let mut number = next_number(number);
+        for _ in 0..(number >> 33) % 400 + 1 {
+            number = next_number(number);
+            self.step(rt, step_by(number))?;
+        }
+        Ok(number)
+    }
+
+    // Makes the steps that were made by one call, and wants the same replies.
+    fn repeats(&self, rt: &impl Abort, alloc: Global) {
+        match steps(alloc, 3, self.made.as_slice()) {
+            Ok(all) => assert!(rt; all == self.replies),
+            Err(_) => panic!(rt; "a step of a legal schedule was refused"),
+        }
+    }
+}
+
+fn long_schedule(rt: &impl Abort, alloc: Global, number: u64) -> Result<u64, AllocError> {
+    let mut schedule = Schedule::new(rt, alloc)?;
+    let number = schedule.steps_by(rt, number)?;
+    schedule.repeats(rt, alloc);
+    Ok(number)
+}
+
 // 1000 schedules of up to 400 steps, against the plain list; the steps that were made are then made by one call.
 #[test]
 fn many_long_schedules(rt: HostRuntime) -> Result<(), Fail> {
     let mut number = 1u64;
     for _ in 0..1000u64 {
-        let mut machine = machine_of(&rt, rt.alloc(), 3);
-        let mut plain = Plain::new(rt.alloc(), 3, 4)?;
-        let mut made = Vec::new(rt.alloc());
-        let mut replies = Vec::new(rt.alloc());
-        number = next_number(number);
-        for _ in 0..(number >> 33) % 400 + 1 {
-            number = next_number(number);
-            let step = step_by(number);
-            let reply = machine.step(step);
-            assert_eq!(rt; reply, plain.step(step));
-            if let Some(reply) = reply {
-                made.push(step)?;
-                replies.push(reply)?;
-            }
-        }
-        match steps(rt.alloc(), 3, made.as_slice()) {
-            Ok(all) => assert!(rt; all == replies),
-            Err(_) => panic!(rt; "a step of a legal schedule was refused"),
-        }
+        number = long_schedule(&rt, rt.alloc(), number)?;
     }
     Ok(())
 }
