@@ -1,18 +1,43 @@
 //! The calls of a short list, on one thread.
+ghost use Rattle.std.specs.Prelude.{◌≡◌};
+
 use crate::table::alone::list_of;
 use futures_buffered_table::answer::{MAX_CAPACITY, NewFault, Taken, Woke};
-use futures_buffered_table::ready_table::ReadyList;
+use futures_buffered_table::ready_table::{PollSeat, ReadyList, WakeSeat};
+use std::alloc::{AllocError, Global};
+use std::process::Abort;
 use std::test::Fail;
+
+// Wakes both slots of a list.
+fn wakes_both(rt: &impl Abort, list: &ReadyList, seat: &mut WakeSeat)
+    requires { (seat.old.list ≡ list.now.list) × (list.now.capacity ≡ 2) }
+    ensures { seat.new.list ≡ seat.old.list }
+{
+    assert_eq!(rt; list.wake(seat, 0), Woke::Fresh);
+    assert_eq!(rt; list.wake(seat, 1), Woke::Fresh);
+    assert_eq!(rt; list.wake(seat, 0), Woke::Already);
+}
+
+// Takes, and wants these answers.
+fn takes(rt: &impl Abort, list: &ReadyList, poll: &mut PollSeat, wanted: [Taken; 3])
+    requires { poll.old.list ≡ list.now.list }
+    ensures { poll.new.list ≡ poll.old.list }
+{
+    assert_eq!(rt; list.take(poll), wanted[0]);
+    assert_eq!(rt; list.take(poll), wanted[1]);
+    assert_eq!(rt; list.take(poll), wanted[2]);
+}
 
 #[test]
 fn one_thread(rt: HostRuntime) -> Result<(), Fail> {
     let (list, mut poll, mut seat) = list_of(&rt, rt.alloc(), 2);
-    assert_eq!(rt; list.wake(&mut seat, 0), Woke::Fresh);
-    assert_eq!(rt; list.wake(&mut seat, 1), Woke::Fresh);
-    assert_eq!(rt; list.wake(&mut seat, 0), Woke::Already);
-    assert_eq!(rt; list.take(&mut poll), Taken::Slot(0));
-    assert_eq!(rt; list.take(&mut poll), Taken::Slot(1));
-    assert_eq!(rt; list.take(&mut poll), Taken::Empty);
+    wakes_both(&rt, &list, &mut seat);
+    takes(
+        &rt,
+        &list,
+        &mut poll,
+        [Taken::Slot(0), Taken::Slot(1), Taken::Empty],
+    );
     Ok(())
 }
 

@@ -1,9 +1,9 @@
 //! Four wakers and the poller at once.
-ghost use Rattle.std.specs.Prelude.{◌≡◌};
+ghost use Rattle.std.specs.Prelude.{◌≡◌, All};
 
 use crate::table::alone::list_of;
 use futures_buffered_table::answer::{Taken, Woke};
-use futures_buffered_table::ready_table::{PollSeat, ReadyList, WakeSeat};
+use futures_buffered_table::ready_table::{Closed, PollSeat, ReadyList, WakeSeat};
 use std::test::Fail;
 use std::thread;
 use std::thread::Threads;
@@ -16,18 +16,17 @@ fn sum(numbers: &[u64]) -> u64 {
     all
 }
 
-// A waker's seat after its wakes, and how many of each slot were Fresh, and how many wakes answered.
-#[derive(Drop)]
-struct Woken {
-    seat: WakeSeat,
+// What a waker found: how many wakes of each slot were Fresh, and how many answered.
+#[derive(Clone, Copy)]
+struct Counted {
     fresh: [u64; 8],
     answers: u64,
 }
 
-// Wakes the slots 0 to 7 in turn, 1000 times.
-fn wakes(list: &ReadyList, seat: WakeSeat) -> Woken
+// Counted the slots 0 to 7 in turn, 1000 times.
+fn wakes(list: &ReadyList, seat: WakeSeat) -> (WakeSeat, Counted)
     requires { (seat.list ≡ list.now.list) × (list.now.capacity ≡ 8) }
-    ensures { result.seat.list ≡ seat.list }
+    ensures { result.0.list ≡ seat.list }
 {
     let mut seat = seat;
     let mut fresh = [0u64; 8];
@@ -40,23 +39,13 @@ fn wakes(list: &ReadyList, seat: WakeSeat) -> Woken
             answers = answers.wrapping_add(1);
         }
     }
-    Woken {
-        seat,
-        fresh,
-        answers,
-    }
+    (seat, Counted { fresh, answers })
 }
 
 // The poller's seat after its takings, and how many of each slot it was given.
-#[derive(Drop)]
-struct Polled {
-    poll: PollSeat,
-    slots: [u64; 8],
-}
-
-fn takes(list: &ReadyList, poll: PollSeat) -> Polled
+fn takes(list: &ReadyList, poll: PollSeat) -> (PollSeat, [u64; 8])
     requires { poll.list ≡ list.now.list }
-    ensures { result.poll.list ≡ poll.list }
+    ensures { result.0.list ≡ poll.list }
 {
     let mut poll = poll;
     let mut slots = [0u64; 8];
@@ -67,13 +56,18 @@ fn takes(list: &ReadyList, poll: PollSeat) -> Polled
             }
         }
     }
-    Polled { poll, slots }
+    (poll, slots)
 }
 
 // Two wakers at once.
-fn two_wakers(rt: &impl Threads, list: &ReadyList, one: WakeSeat, two: WakeSeat) -> (Woken, Woken)
+fn two_wakers(
+    rt: &impl Threads,
+    list: &ReadyList,
+    one: WakeSeat,
+    two: WakeSeat,
+) -> ((WakeSeat, Counted), (WakeSeat, Counted))
     requires { (one.list ≡ list.now.list) × (two.list ≡ list.now.list) × (list.now.capacity ≡ 8) }
-    ensures { (result.0.seat.list ≡ list.now.list) × (result.1.seat.list ≡ list.now.list) }
+    ensures { (result.0.0.list ≡ list.now.list) × (result.1.0.list ≡ list.now.list) }
 {
     thread::join(rt, || wakes(list, one), || wakes(list, two))
 }
@@ -85,40 +79,65 @@ fn wakers_and_poller<R: Threads + Sync>(
     one: WakeSeat,
     two: WakeSeat,
     poll: PollSeat,
-) -> ((Woken, Woken), Polled)
+) -> (
+    ((WakeSeat, Counted), (WakeSeat, Counted)),
+    (PollSeat, [u64; 8]),
+)
     requires { (one.list ≡ list.now.list) × (two.list ≡ list.now.list) × (poll.list ≡ list.now.list) × (list.now.capacity ≡ 8) }
-    ensures { (result.0.0.seat.list ≡ list.now.list) × (result.0.1.seat.list ≡ list.now.list) × (result.1.poll.list ≡ list.now.list) }
+    ensures { (result.0.0.0.list ≡ list.now.list) × (result.0.1.0.list ≡ list.now.list) × (result.1.0.list ≡ list.now.list) }
 {
     thread::join(rt, || two_wakers(rt, list, one, two), || takes(list, poll))
 }
 
-// Four wakers and the poller at once; then, for each slot, what was Fresh was taken, but for one where the slot is still marked.
+// Of each slot, 1 where it is marked, and else 0.
+fn marks_of(closed: &Closed) -> [u64; 8]
+    requires { closed.now.capacity ≡ 8 }
+{
+    let mut marks = [0u64; 8];
+    for slot in 0..8 {
+        if closed.marked(slot) {
+            marks[slot] = 1;
+        }
+    }
+    marks
+}
+
+// Closes the list: the slots that are left marked.
+fn left_marked(list: ReadyList, poll: PollSeat, seats: Vec<WakeSeat>) -> [u64; 8]
+    requires { (poll.list ≡ list.list) × (list.capacity ≡ 8) × All (λ s. s.list ≡ list.list) seats.items }
+{
+    let closed = list.close(poll, seats);
+    let marks = marks_of(&closed);
+    closed.free();
+    marks
+}
+
+// Whether, for each slot, what was Fresh was taken, but for one where the slot is still marked.
+fn is_all_taken(wakers: [Counted; 4], slots: [u64; 8], left: [u64; 8]) -> bool {
+    let [a, b, c, d] = wakers;
+    let mut all = true;
+    for slot in 0..8 {
+        let fresh = sum(&[a.fresh[slot], b.fresh[slot], c.fresh[slot], d.fresh[slot]]);
+        all &= fresh == slots[slot].wrapping_add(left[slot]);
+    }
+    all
+}
+
+// Four wakers and the poller at once.
 #[test]
 fn four_wakers(rt: HostRuntime) -> Result<(), Fail> {
     let (list, poll, seat) = list_of(&rt, rt.alloc(), 8);
     let (one, two) = seat.split(&list);
     let (one, three) = one.split(&list);
     let (two, four) = two.split(&list);
-    let ((a, b), ((c, d), polled)) = thread::join(
+    let (((one, a), (two, b)), (((three, c), (four, d)), (poll, slots))) = thread::join(
         &rt,
         || two_wakers(&rt, &list, one, two),
         || wakers_and_poller(&rt, &list, three, four, poll),
     );
-    let mut seats = Vec::new(rt.alloc());
-    seats.push(a.seat)?;
-    seats.push(b.seat)?;
-    seats.push(c.seat)?;
-    seats.push(d.seat)?;
-    let answers = sum(&[a.answers, b.answers, c.answers, d.answers]);
-    let closed = list.close(polled.poll, seats);
-    let mut all = true;
-    for slot in 0..8 {
-        let fresh = sum(&[a.fresh[slot], b.fresh[slot], c.fresh[slot], d.fresh[slot]]);
-        let left = if closed.marked(slot) { 1 } else { 0 };
-        all &= fresh == polled.slots[slot].wrapping_add(left);
-    }
-    closed.free();
-    assert_eq!(rt; answers, 32000);
-    assert!(rt; all);
+    let seats = vec![in rt.alloc(); one, two, three, four]?;
+    let left = left_marked(list, poll, seats);
+    assert_eq!(rt; sum(&[a.answers, b.answers, c.answers, d.answers]), 32000);
+    assert!(rt; is_all_taken([a, b, c, d], slots, left));
     Ok(())
 }
