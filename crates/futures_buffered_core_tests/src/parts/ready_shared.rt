@@ -4,6 +4,7 @@ use futures_buffered_core::ready_core::{MAX_CAPACITY, NewFault, Taken, Woke};
 use futures_buffered_core::ready_shared::{OuterWaker, SharedReady, SlotWake};
 use futures_buffered_core::ready_source::SlotWaker;
 use std::alloc::{AllocError, Global};
+use std::process::Abort;
 use std::sync::Arc;
 use std::sync::atomic::AtomicU64;
 use std::sync::atomic::Ordering::SeqCst;
@@ -44,6 +45,37 @@ fn mark_twice(source: &mut SharedReady<CountingWaker>) -> Option<[Woke; 2]> {
     Some([source.mark(0), source.mark(0)])
 }
 
+// Slot 1 is marked, so its wake takes nothing out, and a mark wakes nobody.
+fn wakes_at_slot_two(
+    rt: &impl Abort,
+    source: &mut SharedReady<CountingWaker>,
+    wakes: &Arc<AtomicU64>,
+) -> Result<(), AllocError> {
+    counts(source, wakes)?;
+    assert_eq!(rt; counted(source, 1, wakes), 0);
+    assert_eq!(rt; mark_twice(source), Some([Woke::Fresh, Woke::Already]));
+    assert_eq!(rt; counted(source, 2, wakes), 1);
+    assert_eq!(rt;
+        (source.take(), counted(source, 1, wakes)),
+        (Taken::Slot(1), 1)
+    );
+    Ok(())
+}
+
+fn wakes_at_slot_zero(
+    rt: &impl Abort,
+    source: &mut SharedReady<CountingWaker>,
+    wakes: &Arc<AtomicU64>,
+) -> Result<(), AllocError> {
+    counts(source, wakes)?;
+    assert_eq!(rt;
+        take_four(source),
+        [Taken::Slot(0), Taken::Slot(2), Taken::Slot(1), Taken::Empty]
+    );
+    assert_eq!(rt; counted(source, 0, wakes), 2);
+    Ok(())
+}
+
 #[test]
 fn a_fresh_wake_takes_the_outer_waker(rt: HostRuntime) -> Result<(), Fail> {
     let wakes = Arc::new(rt.alloc(), AtomicU64::new(0))?;
@@ -52,21 +84,8 @@ fn a_fresh_wake_takes_the_outer_waker(rt: HostRuntime) -> Result<(), Fail> {
         (source.take(), source.mark(1)),
         (Taken::Empty, Woke::Fresh)
     );
-    counts(&mut source, &wakes)?;
-    // Slot 1 is marked, so its wake takes nothing out, and a mark wakes nobody.
-    assert_eq!(rt; counted(&source, 1, &wakes), 0);
-    assert_eq!(rt; mark_twice(&mut source), Some([Woke::Fresh, Woke::Already]));
-    assert_eq!(rt; counted(&source, 2, &wakes), 1);
-    assert_eq!(rt;
-        (source.take(), counted(&source, 1, &wakes)),
-        (Taken::Slot(1), 1)
-    );
-    counts(&mut source, &wakes)?;
-    assert_eq!(rt;
-        take_four(&mut source),
-        [Taken::Slot(0), Taken::Slot(2), Taken::Slot(1), Taken::Empty]
-    );
-    assert_eq!(rt; counted(&source, 0, &wakes), 2);
+    wakes_at_slot_two(&rt, &mut source, &wakes)?;
+    wakes_at_slot_zero(&rt, &mut source, &wakes)?;
     Ok(())
 }
 
