@@ -130,11 +130,14 @@ fn four_wakers(rt: HostRuntime) -> Result<(), Fail> {
     let (one, two) = seat.split(&list);
     let (one, three) = one.split(&list);
     let (two, four) = two.split(&list);
-    let (((one, a), (two, b)), (((three, c), (four, d)), (poll, slots))) = thread::join(
+    let (first, (second, polled)) = thread::join(
         &rt,
         || two_wakers(&rt, &list, one, two),
         || wakers_and_poller(&rt, &list, three, four, poll),
     );
+    let ((one, a), (two, b)) = first;
+    let ((three, c), (four, d)) = second;
+    let (poll, slots) = polled;
     let seats = vec![in rt.alloc(); one, two, three, four]?;
     let left = left_marked(list, poll, seats);
     assert_eq!(rt; sum(&[a.answers, b.answers, c.answers, d.answers]), 32000);
