@@ -1,4 +1,5 @@
 // The waker that a source of one caller keeps.
+use crate::same::assert_same;
 use futures::test::MockTask;
 use futures_buffered_core::ready_core::Taken;
 use futures_buffered_core::ready_source::{CoreSource, NewSource, ReadySource, ScriptSource};
@@ -20,7 +21,7 @@ fn keeps_until_it_goes<S: ReadySource>(task: &MockTask, mut source: S) -> (bool,
 fn a_core_source_keeps_the_tasks_waker(rt: HostRuntime) -> Result<(), Fail> {
     let task = MockTask::new(&rt)?;
     let source = CoreSource::make(&(), rt.alloc(), 1)?;
-    assert_eq!(rt; keeps_until_it_goes(&task, source), (false, true));
+    assert_same(&rt, keeps_until_it_goes(&task, source), (false, true));
     Ok(())
 }
 
@@ -29,6 +30,6 @@ fn a_script_source_keeps_the_tasks_waker(rt: HostRuntime) -> Result<(), Fail> {
     let task = MockTask::new(&rt)?;
     let answers = vec![in rt.alloc(); Taken::Empty]?;
     let source = ScriptSource::new(rt.alloc(), 1, answers)?;
-    assert_eq!(rt; keeps_until_it_goes(&task, source), (false, true));
+    assert_same(&rt, keeps_until_it_goes(&task, source), (false, true));
     Ok(())
 }

@@ -1,4 +1,5 @@
 //! A row of events and their replies, one by one and as a list.
+use crate::same::assert_same;
 use futures_buffered_core::ready_core::{
     Event, MAX_CAPACITY, NewFault, ReadyCore, Reply, RunFault, Taken, Woke, run,
 };
@@ -32,7 +33,7 @@ fn replies(rt: &impl Abort, core: &mut ReadyCore) {
 #[test]
 fn names_the_oldest_unserved_mark(rt: HostRuntime) -> Result<(), Fail> {
     let mut core = ReadyCore::new(rt.alloc(), 3)?;
-    assert_eq!(rt; core.capacity(), 3);
+    assert_same(&rt, core.capacity(), 3);
     replies(&rt, &mut core);
     Ok(())
 }
@@ -41,8 +42,8 @@ fn names_the_oldest_unserved_mark(rt: HostRuntime) -> Result<(), Fail> {
 fn runs_a_list(rt: HostRuntime) -> Result<(), Fail> {
     let mut core = ReadyCore::new(rt.alloc(), 3)?;
     let mut out = Vec::new(rt.alloc());
-    assert_eq!(rt; run(&mut core, &ROW.map(|row| row.0), &mut out), Ok(()));
-    assert_eq!(rt; out.as_slice(), ROW.map(|row| row.1).as_slice());
+    assert_same(&rt, run(&mut core, &ROW.map(|row| row.0), &mut out), Ok(()));
+    assert_same(&rt, out.as_slice(), ROW.map(|row| row.1).as_slice());
     Ok(())
 }
 
@@ -51,16 +52,20 @@ fn refuses_a_list_that_marks_no_slot(rt: HostRuntime) -> Result<(), Fail> {
     let mut core = ReadyCore::new(rt.alloc(), 3)?;
     let mut out = Vec::new(rt.alloc());
     let wrong = [Event::Mark(0), Event::Mark(3), Event::Mark(4)];
-    assert_eq!(rt; run(&mut core, &wrong, &mut out), Err(RunFault::Event(1)));
-    assert_eq!(rt; out.len(), 0);
-    assert_eq!(rt; core.take(), Taken::Empty);
+    assert_same(
+        &rt,
+        run(&mut core, &wrong, &mut out),
+        Err(RunFault::Event(1)),
+    );
+    assert_same(&rt, out.len(), 0);
+    assert_same(&rt, core.take(), Taken::Empty);
     Ok(())
 }
 
 #[test]
 fn refuses_a_capacity(rt: HostRuntime) {
     let large = ReadyCore::new(rt.alloc(), MAX_CAPACITY + 1);
-    assert_eq!(rt; large.err(), Some(NewFault::TooLarge));
+    assert_same(&rt, large.err(), Some(NewFault::TooLarge));
 }
 
 // Whether a taking answers as the plain list does.

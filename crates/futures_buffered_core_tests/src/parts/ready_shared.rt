@@ -1,5 +1,6 @@
 // Outer wakers that are no task's.
 use crate::parts::outer::{AskingWaker, CountingWaker, Either, is_set_within};
+use crate::same::assert_same;
 use futures_buffered_core::ready_core::{MAX_CAPACITY, NewFault, Taken, Woke};
 use futures_buffered_core::ready_shared::{OuterWaker, SharedReady, SlotWake};
 use futures_buffered_core::ready_source::SlotWaker;
@@ -52,12 +53,13 @@ fn wakes_at_slot_two(
     wakes: &Arc<AtomicU64>,
 ) -> Result<(), AllocError> {
     counts(source, wakes)?;
-    assert_eq!(rt; counted(source, 1, wakes), 0);
-    assert_eq!(rt; mark_twice(source), Some([Woke::Fresh, Woke::Already]));
-    assert_eq!(rt; counted(source, 2, wakes), 1);
-    assert_eq!(rt;
+    assert_same(rt, counted(source, 1, wakes), 0);
+    assert_same(rt, mark_twice(source), Some([Woke::Fresh, Woke::Already]));
+    assert_same(rt, counted(source, 2, wakes), 1);
+    assert_same(
+        rt,
         (source.take(), counted(source, 1, wakes)),
-        (Taken::Slot(1), 1)
+        (Taken::Slot(1), 1),
     );
     Ok(())
 }
@@ -68,11 +70,12 @@ fn wakes_at_slot_zero(
     wakes: &Arc<AtomicU64>,
 ) -> Result<(), AllocError> {
     counts(source, wakes)?;
-    assert_eq!(rt;
+    assert_same(
+        rt,
         take_four(source),
-        [Taken::Slot(0), Taken::Slot(2), Taken::Slot(1), Taken::Empty]
+        [Taken::Slot(0), Taken::Slot(2), Taken::Slot(1), Taken::Empty],
     );
-    assert_eq!(rt; counted(source, 0, wakes), 2);
+    assert_same(rt, counted(source, 0, wakes), 2);
     Ok(())
 }
 
@@ -80,9 +83,10 @@ fn wakes_at_slot_zero(
 fn a_fresh_wake_takes_the_outer_waker(rt: HostRuntime) -> Result<(), Fail> {
     let wakes = Arc::new(rt.alloc(), AtomicU64::new(0))?;
     let mut source: SharedReady<CountingWaker> = SharedReady::new(rt.alloc(), 3)?;
-    assert_eq!(rt;
+    assert_same(
+        &rt,
         (source.take(), source.mark(1)),
-        (Taken::Empty, Woke::Fresh)
+        (Taken::Empty, Woke::Fresh),
     );
     wakes_at_slot_two(&rt, &mut source, &wakes)?;
     wakes_at_slot_zero(&rt, &mut source, &wakes)?;
@@ -143,10 +147,11 @@ fn two_slots_are_woken_from_inside_the_outer_wake(rt: HostRuntime) -> Result<(),
     let helper = wakes_two_when_asked(&rt, rt.alloc(), &mut source, &asked)?;
     wake_slot(&source, 0);
     helper.join(&rt);
-    assert_eq!(rt; asked.load(SeqCst), 2);
-    assert_eq!(rt;
+    assert_same(&rt, asked.load(SeqCst), 2);
+    assert_same(
+        &rt,
         take_four(&mut source),
-        [Taken::Slot(0), Taken::Slot(2), Taken::Slot(1), Taken::Empty]
+        [Taken::Slot(0), Taken::Slot(2), Taken::Slot(1), Taken::Empty],
     );
     Ok(())
 }
@@ -186,8 +191,8 @@ fn the_place_is_free_while_the_outer_waker_is_woken(rt: HostRuntime) -> Result<(
     let wakes = Arc::new(rt.alloc(), AtomicU64::new(0))?;
     let mut source = SharedReady::new(rt.alloc(), 2)?;
     let said = puts_in_the_next(&rt, rt.alloc(), &mut source, &wakes)?;
-    assert_eq!(rt; said, (true, 2, 0));
-    assert_eq!(rt; counted(&source, 1, &wakes), 1);
+    assert_same(&rt, said, (true, 2, 0));
+    assert_same(&rt, counted(&source, 1, &wakes), 1);
     Ok(())
 }
 

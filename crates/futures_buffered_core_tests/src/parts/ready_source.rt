@@ -1,4 +1,5 @@
 // The two sources for one caller.
+use crate::same::assert_same;
 use futures_buffered_core::ready_core::{RunFault, Taken, Woke};
 use futures_buffered_core::ready_source::{
     CoreSource, NewSource, ReadySource, ScriptSource, SlotWaker,
@@ -9,7 +10,7 @@ use std::test::Fail;
 // Takes, and wants these answers.
 fn takes(rt: &impl Abort, source: &mut ScriptSource, wanted: &[Taken]) {
     for want in wanted {
-        assert_eq!(rt; source.take(), *want);
+        assert_same(rt, source.take(), *want);
     }
 }
 
@@ -17,11 +18,12 @@ fn takes(rt: &impl Abort, source: &mut ScriptSource, wanted: &[Taken]) {
 fn gives_the_answers_and_then_empty(rt: HostRuntime) -> Result<(), Fail> {
     let answers = vec![in rt.alloc(); Taken::Slot(1), Taken::Pause]?;
     let mut source = ScriptSource::new(rt.alloc(), 2, answers)?;
-    assert_eq!(rt; source.capacity(), 2);
+    assert_same(&rt, source.capacity(), 2);
     if source.capacity() > 1 {
-        assert_eq!(rt;
+        assert_same(
+            &rt,
             (source.mark(0), source.mark(0)),
-            (Woke::Fresh, Woke::Fresh)
+            (Woke::Fresh, Woke::Fresh),
         );
     }
     takes(
@@ -36,7 +38,7 @@ fn gives_the_answers_and_then_empty(rt: HostRuntime) -> Result<(), Fail> {
 fn refuses_an_answer_that_names_no_slot(rt: HostRuntime) -> Result<(), Fail> {
     let answers = vec![in rt.alloc(); Taken::Slot(1), Taken::Slot(2), Taken::Slot(3)]?;
     let refused = ScriptSource::new(rt.alloc(), 2, answers);
-    assert_eq!(rt; refused.err(), Some(RunFault::Event(1)));
+    assert_same(&rt, refused.err(), Some(RunFault::Event(1)));
     Ok(())
 }
 
@@ -44,12 +46,13 @@ fn refuses_an_answer_that_names_no_slot(rt: HostRuntime) -> Result<(), Fail> {
 fn makes_a_core(rt: HostRuntime) -> Result<(), Fail> {
     let mut source = CoreSource::make(&(), rt.alloc(), 2)?;
     if source.capacity() > 1 {
-        assert_eq!(rt; source.mark(1), Woke::Fresh);
+        assert_same(&rt, source.mark(1), Woke::Fresh);
         source.waker(1).wake();
     }
-    assert_eq!(rt;
+    assert_same(
+        &rt,
         (source.take(), source.take()),
-        (Taken::Slot(1), Taken::Empty)
+        (Taken::Slot(1), Taken::Empty),
     );
     Ok(())
 }

@@ -2,6 +2,7 @@
 ghost use Rattle.std.specs.Prelude.{◌≡◌, ◌<◌, true};
 ghost use Rattle.futures_buffered_table.specs.declared.answer.Taken.TheVariants.{Empty};
 
+use crate::same::assert_same;
 use crate::table::alone::{Alone, list_of};
 use futures_buffered_table::answer::{Taken, Woke};
 use futures_buffered_table::ready_table::{BeforeEmpty, PollSeat, ReadyList};
@@ -27,20 +28,20 @@ impl BeforeEmpty for Calls {
 // Takes, and wants this answer and this many calls.
 fn takes(rt: &impl Abort, list: &mut Alone, wanted: Taken, count: u64) {
     let mut calls = Calls { count: 0 };
-    assert_eq!(rt; list.take_with(&mut calls), wanted);
-    assert_eq!(rt; calls.count, count);
+    assert_same(rt, list.take_with(&mut calls), wanted);
+    assert_same(rt, calls.count, count);
 }
 
 // One call at each Empty, none where a slot is taken, be it the last one or not.
 fn calls_at_empty(rt: &impl Abort, list: &mut Alone) {
     takes(rt, list, Taken::Empty, 1);
     takes(rt, list, Taken::Empty, 1);
-    assert_eq!(rt; list.wake(0), Some(Woke::Fresh));
+    assert_same(rt, list.wake(0), Some(Woke::Fresh));
     takes(rt, list, Taken::Slot(0), 0);
     takes(rt, list, Taken::Empty, 1);
-    assert_eq!(rt; list.wake(2), Some(Woke::Fresh));
-    assert_eq!(rt; list.wake(0), Some(Woke::Fresh));
-    assert_eq!(rt; list.wake(1), Some(Woke::Fresh));
+    assert_same(rt, list.wake(2), Some(Woke::Fresh));
+    assert_same(rt, list.wake(0), Some(Woke::Fresh));
+    assert_same(rt, list.wake(1), Some(Woke::Fresh));
     takes(rt, list, Taken::Slot(2), 0);
     takes(rt, list, Taken::Slot(0), 0);
     takes(rt, list, Taken::Slot(1), 0);
@@ -81,10 +82,10 @@ fn pauses_inside(rt: &impl Abort, list: &ReadyList, poll: &mut PollSeat, slot: u
         slot,
         count: 0,
     };
-    assert_eq!(rt; list.take_with(poll, &mut inside), Taken::Pause);
-    assert_eq!(rt; inside.count, 1);
-    assert_eq!(rt; list.take_with(poll, &mut inside), Taken::Slot(slot));
-    assert_eq!(rt; inside.count, 1);
+    assert_same(rt, list.take_with(poll, &mut inside), Taken::Pause);
+    assert_same(rt, inside.count, 1);
+    assert_same(rt, list.take_with(poll, &mut inside), Taken::Slot(slot));
+    assert_same(rt, inside.count, 1);
 }
 
 // The call comes after the link read and before the tail read: a wake inside it is a Pause, and not
@@ -94,7 +95,7 @@ fn a_wake_inside_the_call_is_a_pause(rt: HostRuntime) -> Result<(), Fail> {
     let (list, mut poll, _) = list_of(&rt, rt.alloc(), 2);
     pauses_inside(&rt, &list, &mut poll, 0);
     pauses_inside(&rt, &list, &mut poll, 1);
-    assert_eq!(rt; list.take(&mut poll), Taken::Empty);
+    assert_same(&rt, list.take(&mut poll), Taken::Empty);
     Ok(())
 }
 
@@ -124,7 +125,7 @@ fn told_of_empty(list: &ReadyList, poll: &mut PollSeat) -> (Taken, bool)
 fn empty_is_told_of(rt: HostRuntime) -> Result<(), Fail> {
     let (list, mut poll, _) = list_of(&rt, rt.alloc(), 0);
     let (taken, told) = told_of_empty(&list, &mut poll);
-    assert_eq!(rt; taken, Taken::Empty);
+    assert_same(&rt, taken, Taken::Empty);
     assert!(rt; told);
     Ok(())
 }
@@ -188,7 +189,7 @@ fn a_wake_after_empty_finds_the_flag(rt: HostRuntime) -> Result<(), Fail> {
         poll = seat;
         assert!(rt; found || taken != Taken::Empty);
         if taken != Taken::Slot(0) {
-            assert_eq!(rt; list.take(&mut poll), Taken::Slot(0));
+            assert_same(&rt, list.take(&mut poll), Taken::Slot(0));
         }
     }
     Ok(())

@@ -1,4 +1,5 @@
 //! What is refused, in which order, and the texts of the faults.
+use crate::same::assert_same;
 use crate::table::machine::{go, mark};
 use futures_buffered_table::answer::{MAX_CAPACITY, NewFault};
 use futures_buffered_table::ready_table::{StepFault, WAKE_SEATS, steps};
@@ -27,7 +28,7 @@ fn says<F: Display + Drop>(
     wanted: &str,
 ) -> Result<(), Fail> {
     let text = format!(in alloc; "{fault}")?;
-    assert_eq!(rt; text.as_str(), wanted);
+    assert_same(rt, text.as_str(), wanted);
     Ok(())
 }
 

@@ -1,6 +1,7 @@
 //! The calls of a short list, on one thread.
 ghost use Rattle.std.specs.Prelude.{◌≡◌};
 
+use crate::same::assert_same;
 use crate::table::alone::list_of;
 use futures_buffered_table::answer::{MAX_CAPACITY, NewFault, Taken, Woke};
 use futures_buffered_table::ready_table::{PollSeat, ReadyList, WakeSeat};
@@ -13,9 +14,9 @@ fn wakes_both(rt: &impl Abort, list: &ReadyList, seat: &mut WakeSeat)
     requires { (seat.old.list ≡ list.now.list) × (list.now.capacity ≡ 2) }
     ensures { seat.new.list ≡ seat.old.list }
 {
-    assert_eq!(rt; list.wake(seat, 0), Woke::Fresh);
-    assert_eq!(rt; list.wake(seat, 1), Woke::Fresh);
-    assert_eq!(rt; list.wake(seat, 0), Woke::Already);
+    assert_same(rt, list.wake(seat, 0), Woke::Fresh);
+    assert_same(rt, list.wake(seat, 1), Woke::Fresh);
+    assert_same(rt, list.wake(seat, 0), Woke::Already);
 }
 
 // Takes, and wants these answers.
@@ -23,9 +24,9 @@ fn takes(rt: &impl Abort, list: &ReadyList, poll: &mut PollSeat, wanted: [Taken;
     requires { poll.old.list ≡ list.now.list }
     ensures { poll.new.list ≡ poll.old.list }
 {
-    assert_eq!(rt; list.take(poll), wanted[0]);
-    assert_eq!(rt; list.take(poll), wanted[1]);
-    assert_eq!(rt; list.take(poll), wanted[2]);
+    assert_same(rt, list.take(poll), wanted[0]);
+    assert_same(rt, list.take(poll), wanted[1]);
+    assert_same(rt, list.take(poll), wanted[2]);
 }
 
 #[test]
@@ -45,8 +46,8 @@ fn one_thread(rt: HostRuntime) -> Result<(), Fail> {
 #[test]
 fn no_slots(rt: HostRuntime) -> Result<(), Fail> {
     let (list, mut poll, seat) = list_of(&rt, rt.alloc(), 0);
-    assert_eq!(rt; list.take(&mut poll), Taken::Empty);
-    assert_eq!(rt; list.take(&mut poll), Taken::Empty);
+    assert_same(&rt, list.take(&mut poll), Taken::Empty);
+    assert_same(&rt, list.take(&mut poll), Taken::Empty);
     let (one, two) = seat.split(&list);
     let mut seats = Vec::new(rt.alloc());
     seats.push(one)?;
@@ -59,11 +60,11 @@ fn no_slots(rt: HostRuntime) -> Result<(), Fail> {
 fn too_large(rt: HostRuntime) -> Result<(), Fail> {
     match ReadyList::new(rt.alloc(), MAX_CAPACITY + 1) {
         Ok(_) => panic!(rt; "a list without end"),
-        Err(fault) => assert_eq!(rt; fault, NewFault::TooLarge),
+        Err(fault) => assert_same(&rt, fault, NewFault::TooLarge),
     }
     match ReadyList::new(rt.alloc(), MAX_CAPACITY) {
         Ok(_) => panic!(rt; "a list of all memory"),
-        Err(fault) => assert_eq!(rt; fault, NewFault::Memory),
+        Err(fault) => assert_same(&rt, fault, NewFault::Memory),
     }
     Ok(())
 }
@@ -72,9 +73,9 @@ fn too_large(rt: HostRuntime) -> Result<(), Fail> {
 fn closes_with_a_mark(rt: HostRuntime) -> Result<(), Fail> {
     let (list, mut poll, seat) = list_of(&rt, rt.alloc(), 2);
     let (mut one, mut two) = seat.split(&list);
-    assert_eq!(rt; list.wake(&mut one, 0), Woke::Fresh);
-    assert_eq!(rt; list.wake(&mut two, 1), Woke::Fresh);
-    assert_eq!(rt; list.take(&mut poll), Taken::Slot(0));
+    assert_same(&rt, list.wake(&mut one, 0), Woke::Fresh);
+    assert_same(&rt, list.wake(&mut two, 1), Woke::Fresh);
+    assert_same(&rt, list.take(&mut poll), Taken::Slot(0));
     let mut seats = Vec::new(rt.alloc());
     seats.push(one)?;
     seats.push(two)?;

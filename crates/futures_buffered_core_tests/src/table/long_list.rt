@@ -1,4 +1,5 @@
 //! Calls on a list of more slots than a handful: a call makes the steps of its own seat alone.
+use crate::same::assert_same;
 use crate::table::alone::Alone;
 use futures_buffered_table::answer::{Taken, Woke};
 use std::alloc::AllocError;
@@ -10,8 +11,8 @@ const SLOTS: usize = 100;
 #[test]
 fn a_new_list_is_empty(rt: HostRuntime) -> Result<(), Fail> {
     let mut list = Alone::new(&rt, rt.alloc(), SLOTS);
-    assert_eq!(rt; list.capacity(), SLOTS);
-    assert_eq!(rt; list.take(), Taken::Empty);
+    assert_same(&rt, list.capacity(), SLOTS);
+    assert_same(&rt, list.take(), Taken::Empty);
     assert!(rt; list.closes_with(rt.alloc(), &[])?);
     assert!(rt; Alone::new(&rt, rt.alloc(), SLOTS).closes_with(rt.alloc(), &[])?);
     Ok(())
@@ -19,9 +20,9 @@ fn a_new_list_is_empty(rt: HostRuntime) -> Result<(), Fail> {
 
 fn wakes_and_takes_each(rt: &impl Abort, list: &mut Alone) {
     for slot in 0..SLOTS {
-        assert_eq!(rt; list.wake(slot), Some(Woke::Fresh));
-        assert_eq!(rt; list.take(), Taken::Slot(slot));
-        assert_eq!(rt; list.take(), Taken::Empty);
+        assert_same(rt, list.wake(slot), Some(Woke::Fresh));
+        assert_same(rt, list.take(), Taken::Slot(slot));
+        assert_same(rt, list.take(), Taken::Empty);
     }
 }
 
@@ -30,7 +31,7 @@ fn wakes_and_takes_each(rt: &impl Abort, list: &mut Alone) {
 fn a_wake_wakes_its_slot_alone(rt: HostRuntime) -> Result<(), Fail> {
     let mut list = Alone::new(&rt, rt.alloc(), SLOTS);
     wakes_and_takes_each(&rt, &mut list);
-    assert_eq!(rt; list.wake(SLOTS), None);
+    assert_same(&rt, list.wake(SLOTS), None);
     assert!(rt; list.closes_with(rt.alloc(), &[])?);
     Ok(())
 }
@@ -38,20 +39,20 @@ fn a_wake_wakes_its_slot_alone(rt: HostRuntime) -> Result<(), Fail> {
 // Wakes all slots, in an order in which none stands beside its neighbour.
 fn wakes_all(rt: &impl Abort, list: &mut Alone) {
     for slot in 0..SLOTS {
-        assert_eq!(rt; list.wake(slot * 37 % SLOTS), Some(Woke::Fresh));
+        assert_same(rt, list.wake(slot * 37 % SLOTS), Some(Woke::Fresh));
     }
 }
 
 fn finds_all_woken(rt: &impl Abort, list: &mut Alone) {
     for slot in 0..SLOTS {
-        assert_eq!(rt; list.wake(slot), Some(Woke::Already));
+        assert_same(rt, list.wake(slot), Some(Woke::Already));
     }
 }
 
 // Takes all slots, in the order of `wakes_all`.
 fn takes_all(rt: &impl Abort, list: &mut Alone) {
     for slot in 0..SLOTS {
-        assert_eq!(rt; list.take(), Taken::Slot(slot * 37 % SLOTS));
+        assert_same(rt, list.take(), Taken::Slot(slot * 37 % SLOTS));
     }
 }
 
@@ -62,17 +63,17 @@ fn a_full_list_is_taken_in_order(rt: HostRuntime) -> Result<(), Fail> {
     wakes_all(&rt, &mut list);
     finds_all_woken(&rt, &mut list);
     takes_all(&rt, &mut list);
-    assert_eq!(rt; list.take(), Taken::Empty);
+    assert_same(&rt, list.take(), Taken::Empty);
     Ok(())
 }
 
 #[test]
 fn a_close_leaves_the_marks(rt: HostRuntime) -> Result<(), Fail> {
     let mut list = Alone::new(&rt, rt.alloc(), SLOTS);
-    assert_eq!(rt; list.wake(50), Some(Woke::Fresh));
-    assert_eq!(rt; list.wake(3), Some(Woke::Fresh));
-    assert_eq!(rt; list.wake(97), Some(Woke::Fresh));
-    assert_eq!(rt; list.take(), Taken::Slot(50));
+    assert_same(&rt, list.wake(50), Some(Woke::Fresh));
+    assert_same(&rt, list.wake(3), Some(Woke::Fresh));
+    assert_same(&rt, list.wake(97), Some(Woke::Fresh));
+    assert_same(&rt, list.take(), Taken::Slot(50));
     assert!(rt; list.closes_with(rt.alloc(), &[3, 97])?);
     Ok(())
 }
@@ -127,12 +128,12 @@ fn call_by(
     takes_of_ten: u64,
 ) -> Result<(), AllocError> {
     if (number >> 33) % 10 < takes_of_ten {
-        assert_eq!(rt; list.take(), marked.take());
+        assert_same(rt, list.take(), marked.take());
         return Ok(());
     }
     let slot = ((number >> 40) % 100) as usize;
     let wanted = marked.wake(slot)?;
-    assert_eq!(rt; wake_by(list, slot, number), Some(wanted));
+    assert_same(rt, wake_by(list, slot, number), Some(wanted));
     Ok(())
 }
 

@@ -1,4 +1,5 @@
 //! Worked schedules on a machine, step by step.
+use crate::same::assert_same;
 use futures_buffered_table::answer::{Taken, Woke};
 use futures_buffered_table::ready_table::{Step, StepMachine, StepReply, WAKE_SEATS};
 use std::alloc::Global;
@@ -38,7 +39,7 @@ fn makes(
     wanted: Option<StepReply>,
 ) {
     for _ in 0..times {
-        assert_eq!(rt; machine.step(step), wanted);
+        assert_same(rt, machine.step(step), wanted);
     }
 }
 

@@ -1,4 +1,5 @@
 //! Whole schedules on a machine, against the plain list.
+use crate::same::assert_same;
 use crate::table::machine::{go, machine_of, mark};
 use crate::table::plain::Plain;
 use futures_buffered_table::ready_table::{Step, StepMachine, StepReply, steps};
@@ -25,7 +26,7 @@ fn follows(rt: &impl Abort, machine: &mut StepMachine, plain: &mut Plain, number
     for _ in 0..7u64 {
         let step = small_step(number / unit % 7);
         let reply = machine.step(step);
-        assert_eq!(rt; reply, plain.step(step));
+        assert_same(rt, reply, plain.step(step));
         if reply == None || unit < 7 {
             return unit;
         }
@@ -92,7 +93,7 @@ impl Schedule {
     // Makes a step, which may be refused, against the plain list.
     fn step(&mut self, rt: &impl Abort, step: Step) -> Result<(), AllocError> {
         let reply = self.machine.step(step);
-        assert_eq!(rt; reply, self.plain.step(step));
+        assert_same(rt, reply, self.plain.step(step));
         if let Some(reply) = reply {
             self.made.push(step)?;
             self.replies.push(reply)?;

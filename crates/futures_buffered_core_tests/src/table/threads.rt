@@ -1,6 +1,7 @@
 //! Four wakers and the poller at once.
 ghost use Rattle.std.specs.Prelude.{◌≡◌, All};
 
+use crate::same::assert_same;
 use crate::table::alone::list_of;
 use futures_buffered_table::answer::{Taken, Woke};
 use futures_buffered_table::ready_table::{Closed, PollSeat, ReadyList, WakeSeat};
@@ -140,7 +141,11 @@ fn four_wakers(rt: HostRuntime) -> Result<(), Fail> {
     let (poll, slots) = polled;
     let seats = vec![in rt.alloc(); one, two, three, four]?;
     let left = left_marked(list, poll, seats);
-    assert_eq!(rt; sum(&[a.answers, b.answers, c.answers, d.answers]), 32000);
+    assert_same(
+        &rt,
+        sum(&[a.answers, b.answers, c.answers, d.answers]),
+        32000,
+    );
     assert!(rt; is_all_taken([a, b, c, d], slots, left));
     Ok(())
 }

@@ -1,6 +1,7 @@
 //! Wakes by a seat that is made with its first step.
 ghost use Rattle.std.specs.Prelude.{◌≡◌, ◌<◌};
 
+use crate::same::assert_same;
 use crate::table::alone::{Alone, list_of};
 use futures_buffered_table::answer::{Taken, Woke};
 use futures_buffered_table::ready_table::{PollSeat, ReadyList};
@@ -16,23 +17,23 @@ const ALREADY: Option<Woke> = Some(Woke::Already);
 // Takes, and wants these answers.
 fn takes(rt: &impl Abort, list: &mut Alone, wanted: &[Taken]) {
     for taken in wanted {
-        assert_eq!(rt; list.take(), *taken);
+        assert_same(rt, list.take(), *taken);
     }
 }
 
 // A new seat wakes as an old one does, and wakes again.
 fn wakes_by_both(rt: &impl Abort, list: &mut Alone) {
-    assert_eq!(rt; list.wake_anew(2), FRESH);
-    assert_eq!(rt; list.wake_anew(2), ALREADY);
-    assert_eq!(rt; list.wake(2), ALREADY);
-    assert_eq!(rt; list.wake(0), FRESH);
-    assert_eq!(rt; list.wake_anew(0), ALREADY);
-    assert_eq!(rt; list.wake_anew(3), None);
+    assert_same(rt, list.wake_anew(2), FRESH);
+    assert_same(rt, list.wake_anew(2), ALREADY);
+    assert_same(rt, list.wake(2), ALREADY);
+    assert_same(rt, list.wake(0), FRESH);
+    assert_same(rt, list.wake_anew(0), ALREADY);
+    assert_same(rt, list.wake_anew(3), None);
     takes(rt, list, &[Taken::Slot(2)]);
-    assert_eq!(rt; list.wake_anew(2), FRESH);
-    assert_eq!(rt; list.wake(1), FRESH);
+    assert_same(rt, list.wake_anew(2), FRESH);
+    assert_same(rt, list.wake(1), FRESH);
     takes(rt, list, &[Taken::Slot(0), Taken::Slot(2)]);
-    assert_eq!(rt; list.wake_anew(0), FRESH);
+    assert_same(rt, list.wake_anew(0), FRESH);
 }
 
 // The slots whose wakes were not taken are left marked.
@@ -95,6 +96,6 @@ fn two_wakers_of_one_slot(rt: HostRuntime) -> Result<(), Fail> {
     let left = if closed.marked(0) { 1 } else { 0 };
     closed.free();
     assert!(rt; fresh > 0);
-    assert_eq!(rt; fresh, taken.wrapping_add(left));
+    assert_same(&rt, fresh, taken.wrapping_add(left));
     Ok(())
 }
