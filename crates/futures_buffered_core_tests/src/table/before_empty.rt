@@ -33,25 +33,21 @@ fn takes(rt: &impl Abort, list: &mut Alone, wanted: Taken, count: u64) {
 }
 
 // One call at each Empty, none where a slot is taken, be it the last one or not.
-fn calls_at_empty(rt: &impl Abort, list: &mut Alone) {
-    takes(rt, list, Taken::Empty, 1);
-    takes(rt, list, Taken::Empty, 1);
-    assert_same(rt, list.wake(0), Some(Woke::Fresh));
-    takes(rt, list, Taken::Slot(0), 0);
-    takes(rt, list, Taken::Empty, 1);
-    assert_same(rt, list.wake(2), Some(Woke::Fresh));
-    assert_same(rt, list.wake(0), Some(Woke::Fresh));
-    assert_same(rt, list.wake(1), Some(Woke::Fresh));
-    takes(rt, list, Taken::Slot(2), 0);
-    takes(rt, list, Taken::Slot(0), 0);
-    takes(rt, list, Taken::Slot(1), 0);
-    takes(rt, list, Taken::Empty, 1);
-}
-
 #[test]
 fn calls_at_empty_alone(rt: HostRuntime) -> Result<(), Fail> {
     let mut list = Alone::new(&rt, rt.alloc(), 3);
-    calls_at_empty(&rt, &mut list);
+    takes(&rt, &mut list, Taken::Empty, 1);
+    takes(&rt, &mut list, Taken::Empty, 1);
+    assert_same(&rt, list.wake(0), Some(Woke::Fresh));
+    takes(&rt, &mut list, Taken::Slot(0), 0);
+    takes(&rt, &mut list, Taken::Empty, 1);
+    assert_same(&rt, list.wake(2), Some(Woke::Fresh));
+    assert_same(&rt, list.wake(0), Some(Woke::Fresh));
+    assert_same(&rt, list.wake(1), Some(Woke::Fresh));
+    takes(&rt, &mut list, Taken::Slot(2), 0);
+    takes(&rt, &mut list, Taken::Slot(0), 0);
+    takes(&rt, &mut list, Taken::Slot(1), 0);
+    takes(&rt, &mut list, Taken::Empty, 1);
     Ok(())
 }
 

@@ -1,44 +1,19 @@
 //! The calls of a short list, on one thread.
-ghost use Rattle.std.specs.Prelude.{◌≡◌};
-
 use crate::same::assert_same;
 use crate::table::alone::list_of;
 use futures_buffered_table::answer::{MAX_CAPACITY, NewFault, Taken, Woke};
-use futures_buffered_table::ready_table::{PollSeat, ReadyList, WakeSeat};
-use std::alloc::{AllocError, Global};
-use std::process::Abort;
+use futures_buffered_table::ready_table::ReadyList;
 use std::test::Fail;
-
-// Wakes both slots of a list.
-fn wakes_both(rt: &impl Abort, list: &ReadyList, seat: &mut WakeSeat)
-    requires { (seat.old.list ≡ list.now.list) × (list.now.capacity ≡ 2) }
-    ensures { seat.new.list ≡ seat.old.list }
-{
-    assert_same(rt, list.wake(seat, 0), Woke::Fresh);
-    assert_same(rt, list.wake(seat, 1), Woke::Fresh);
-    assert_same(rt, list.wake(seat, 0), Woke::Already);
-}
-
-// Takes, and wants these answers.
-fn takes(rt: &impl Abort, list: &ReadyList, poll: &mut PollSeat, wanted: [Taken; 3])
-    requires { poll.old.list ≡ list.now.list }
-    ensures { poll.new.list ≡ poll.old.list }
-{
-    assert_same(rt, list.take(poll), wanted[0]);
-    assert_same(rt, list.take(poll), wanted[1]);
-    assert_same(rt, list.take(poll), wanted[2]);
-}
 
 #[test]
 fn one_thread(rt: HostRuntime) -> Result<(), Fail> {
     let (list, mut poll, mut seat) = list_of(&rt, rt.alloc(), 2);
-    wakes_both(&rt, &list, &mut seat);
-    takes(
-        &rt,
-        &list,
-        &mut poll,
-        [Taken::Slot(0), Taken::Slot(1), Taken::Empty],
-    );
+    assert_same(&rt, list.wake(&mut seat, 0), Woke::Fresh);
+    assert_same(&rt, list.wake(&mut seat, 1), Woke::Fresh);
+    assert_same(&rt, list.wake(&mut seat, 0), Woke::Already);
+    assert_same(&rt, list.take(&mut poll), Taken::Slot(0));
+    assert_same(&rt, list.take(&mut poll), Taken::Slot(1));
+    assert_same(&rt, list.take(&mut poll), Taken::Empty);
     Ok(())
 }
 
@@ -49,9 +24,7 @@ fn no_slots(rt: HostRuntime) -> Result<(), Fail> {
     assert_same(&rt, list.take(&mut poll), Taken::Empty);
     assert_same(&rt, list.take(&mut poll), Taken::Empty);
     let (one, two) = seat.split(&list);
-    let mut seats = Vec::new(rt.alloc());
-    seats.push(one)?;
-    seats.push(two)?;
+    let seats = vec![in rt.alloc(); one, two]?;
     list.close(poll, seats).free();
     Ok(())
 }
@@ -76,9 +49,7 @@ fn closes_with_a_mark(rt: HostRuntime) -> Result<(), Fail> {
     assert_same(&rt, list.wake(&mut one, 0), Woke::Fresh);
     assert_same(&rt, list.wake(&mut two, 1), Woke::Fresh);
     assert_same(&rt, list.take(&mut poll), Taken::Slot(0));
-    let mut seats = Vec::new(rt.alloc());
-    seats.push(one)?;
-    seats.push(two)?;
+    let seats = vec![in rt.alloc(); one, two]?;
     let closed = list.close(poll, seats);
     let first = closed.marked(0);
     let second = closed.marked(1);

@@ -22,25 +22,20 @@ fn takes(rt: &impl Abort, list: &mut Alone, wanted: &[Taken]) {
 }
 
 // A new seat wakes as an old one does, and wakes again.
-fn wakes_by_both(rt: &impl Abort, list: &mut Alone) {
-    assert_same(rt, list.wake_anew(2), FRESH);
-    assert_same(rt, list.wake_anew(2), ALREADY);
-    assert_same(rt, list.wake(2), ALREADY);
-    assert_same(rt, list.wake(0), FRESH);
-    assert_same(rt, list.wake_anew(0), ALREADY);
-    assert_same(rt, list.wake_anew(3), None);
-    takes(rt, list, &[Taken::Slot(2)]);
-    assert_same(rt, list.wake_anew(2), FRESH);
-    assert_same(rt, list.wake(1), FRESH);
-    takes(rt, list, &[Taken::Slot(0), Taken::Slot(2)]);
-    assert_same(rt, list.wake_anew(0), FRESH);
-}
-
-// The slots whose wakes were not taken are left marked.
 #[test]
 fn fresh_and_already(rt: HostRuntime) -> Result<(), Fail> {
     let mut list = Alone::new(&rt, rt.alloc(), 3);
-    wakes_by_both(&rt, &mut list);
+    assert_same(&rt, list.wake_anew(2), FRESH);
+    assert_same(&rt, list.wake_anew(2), ALREADY);
+    assert_same(&rt, list.wake(2), ALREADY);
+    assert_same(&rt, list.wake(0), FRESH);
+    assert_same(&rt, list.wake_anew(0), ALREADY);
+    assert_same(&rt, list.wake_anew(3), None);
+    takes(&rt, &mut list, &[Taken::Slot(2)]);
+    assert_same(&rt, list.wake_anew(2), FRESH);
+    assert_same(&rt, list.wake(1), FRESH);
+    takes(&rt, &mut list, &[Taken::Slot(0), Taken::Slot(2)]);
+    assert_same(&rt, list.wake_anew(0), FRESH);
     assert!(rt; list.closes_with(rt.alloc(), &[0, 1])?);
     Ok(())
 }
