@@ -7,7 +7,7 @@ use futures_buffered_core::ready_core::NewFault;
 use futures_buffered_core::ready_shared::{SharedReady, SlotWake};
 use futures_buffered_core::ready_source::SlotWaker;
 use futures_buffered_growing::futures_unordered::FuturesUnordered;
-use std::alloc::Global;
+use std::alloc::{AllocError, Global};
 use std::sync::Arc;
 
 /// A set of futures that wait, in several groups. Each call wakes the one that was pushed last, which stands in the last group, and polls the set.
@@ -18,14 +18,24 @@ pub struct LastWoken {
     wakers: Vec<SlotWake>,
 }
 
+// The last of the futures leaves its waker at the first place of the board.
+fn fill(
+    set: &mut FuturesUnordered<Kept, SharedReady>,
+    board: &Arc<Board>,
+    held: usize,
+) -> Result<(), AllocError> {
+    for left in (0..held).rev() {
+        let _ = set.push(Kept::new(board, left, false)?);
+    }
+    Ok(())
+}
+
 impl LastWoken {
     /// So many futures, where the first group has so many slots.
     pub fn new(alloc: Global, first_group: usize, held: usize) -> Result<LastWoken, NewFault> {
         let board = empty_board(alloc, 1)?;
         let mut set = FuturesUnordered::with_capacity(alloc, first_group)?;
-        for left in (0..held).rev() {
-            let _ = set.push(Kept::new(&board, left, false)?);
-        }
+        fill(&mut set, &board, held)?;
         Ok(LastWoken {
             set,
             board,

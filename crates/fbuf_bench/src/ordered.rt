@@ -63,12 +63,16 @@ pub struct InTurn<Q> {
     queue: Q,
 }
 
+fn fill<Q: Queue>(queue: &mut Q, held: usize) {
+    for _ in 0..held {
+        queue.add_back(Yields { left: 0 });
+    }
+}
+
 impl<Q: Queue> InTurn<Q> {
     /// With so many futures.
     pub fn new(mut queue: Q, held: usize) -> InTurn<Q> {
-        for _ in 0..held {
-            queue.add_back(Yields { left: 0 });
-        }
+        fill(&mut queue, held);
         InTurn { queue }
     }
 }

@@ -46,12 +46,16 @@ pub struct Refilled {
     yields: u64,
 }
 
+fn fill_yielding(set: &mut Set<Yields>, slots: usize, yields: u64) {
+    for _ in 0..slots {
+        let _ = set.try_push(Yields { left: yields });
+    }
+}
+
 impl Refilled {
     pub fn new(alloc: Global, slots: usize, yields: u64) -> Result<Refilled, NewFault> {
         let mut set = FuturesUnorderedBounded::new(alloc, slots)?;
-        for _ in 0..slots {
-            let _ = set.try_push(Yields { left: yields });
-        }
+        fill_yielding(&mut set, slots, yields);
         Ok(Refilled { set, yields })
     }
 }
@@ -145,13 +149,36 @@ pub struct Woken {
     random: u64,
 }
 
+/// Adds at the end. An item that finds no room is dropped here, so that a caller's `?` has none to drop.
+pub fn keep<T: Drop>(row: &mut Vec<T>, item: T) -> Result<(), AllocError> {
+    row.push(item)?;
+    Ok(())
+}
+
+fn add_places(places: &mut Vec<Mutex<Option<SlotWake>>>, slots: usize) -> Result<(), AllocError> {
+    for _ in 0..slots {
+        keep(places, Mutex::new(None))?;
+    }
+    Ok(())
+}
+
 /// A board of so many places.
 pub fn empty_board(alloc: Global, slots: usize) -> Result<Arc<Board>, AllocError> {
     let mut places = Vec::with_capacity(alloc, slots)?;
-    for _ in 0..slots {
-        places.push(Mutex::new(None))?;
-    }
+    add_places(&mut places, slots)?;
     Ok(Arc::new(alloc, Board { places })?)
+}
+
+fn fill(
+    set: &mut Set<Kept>,
+    slots: usize,
+    board: &Arc<Board>,
+    ends: bool,
+) -> Result<(), AllocError> {
+    for place in 0..slots {
+        let _ = set.try_push(Kept::new(board, place, ends)?);
+    }
+    Ok(())
 }
 
 fn full_set(
@@ -161,9 +188,7 @@ fn full_set(
     ends: bool,
 ) -> Result<Set<Kept>, NewFault> {
     let mut set = FuturesUnorderedBounded::new(alloc, slots)?;
-    for place in 0..slots {
-        let _ = set.try_push(Kept::new(board, place, ends)?);
-    }
+    fill(&mut set, slots, board, ends)?;
     Ok(set)
 }
 

@@ -1,5 +1,6 @@
 //! Workloads of shared sources.
 use crate::clock::{Workload, tenths};
+use crate::sets::keep;
 use futures::task::Context;
 use futures_buffered_core::ready_core::{NewFault, Taken};
 use futures_buffered_core::ready_shared::{OuterWaker, SharedReady, SlotWake};
@@ -15,14 +16,24 @@ pub struct Beside {
     sources: Vec<SharedReady>,
 }
 
+fn add_beside(
+    alloc: Global,
+    first: &mut SharedReady,
+    sources: &mut Vec<SharedReady>,
+    count: usize,
+) -> Result<(), NewFault> {
+    for _ in 1..count {
+        let beside = first.make_beside(alloc, 64)?;
+        let _ = sources.push(beside);
+    }
+    Ok(())
+}
+
 impl Beside {
     pub fn new(alloc: Global, count: usize) -> Result<Beside, NewFault> {
         let mut first = SharedReady::new(alloc, 64)?;
         let mut sources = Vec::with_capacity(alloc, count)?;
-        for _ in 1..count {
-            let beside = first.make_beside(alloc, 64)?;
-            let _ = sources.push(beside);
-        }
+        add_beside(alloc, &mut first, &mut sources, count)?;
         let _ = sources.push(first);
         Ok(Beside { sources })
     }
@@ -91,13 +102,18 @@ fn take_all(source: &mut Source, takings: u64) -> u64 {
     slots
 }
 
-fn wakers_of(alloc: Global, source: &Source) -> Result<Vec<SlotWake<Nobody>>, AllocError> {
-    let mut wakers = Vec::new(alloc);
+fn add_wakers(wakers: &mut Vec<SlotWake<Nobody>>, source: &Source) -> Result<(), AllocError> {
     for slot in 0..source.capacity() {
         if slot < source.capacity() {
-            wakers.push(source.waker(slot).try_clone()?)?;
+            keep(wakers, source.waker(slot).try_clone()?)?;
         }
     }
+    Ok(())
+}
+
+fn wakers_of(alloc: Global, source: &Source) -> Result<Vec<SlotWake<Nobody>>, AllocError> {
+    let mut wakers = Vec::new(alloc);
+    add_wakers(&mut wakers, source)?;
     Ok(wakers)
 }
 
@@ -120,6 +136,20 @@ fn one_run<R: Clock + Threads + Sync>(
     Ok(tenths(start.elapsed(rt)?, takings))
 }
 
+// The least time of several runs.
+fn quickest<R: Clock + Threads + Sync>(
+    rt: &R,
+    wakers: &[SlotWake<Nobody>],
+    source: &mut Source,
+    takings: u64,
+) -> io::Result<u128> {
+    let mut least = u128::MAX;
+    for _ in 0..8 {
+        least = least.min(one_run(rt, wakers, source, takings)?);
+    }
+    Ok(least)
+}
+
 /// Four threads wake the slots one after another, while this one takes as often as each of them wakes: the time of one taking in the quickest of several runs, in tenths of a nanosecond. `None` where memory is lacking.
 pub fn four_wakers<R: Clock + Threads + Sync>(
     rt: &R,
@@ -133,9 +163,5 @@ pub fn four_wakers<R: Clock + Threads + Sync>(
         return Ok(None);
     };
     let takings = (slots as u64).saturating_mul(ROUNDS);
-    let mut least = u128::MAX;
-    for _ in 0..8 {
-        least = least.min(one_run(rt, wakers.as_slice(), &mut source, takings)?);
-    }
-    Ok(Some(least))
+    Ok(Some(quickest(rt, wakers.as_slice(), &mut source, takings)?))
 }

@@ -1,15 +1,13 @@
-//! Tests of the ground under the sets, by public calls alone: the ready core, the sources and the slot map.
+//! Tests of what the sets stand on, by public calls alone.
+//!
+//! - `table`: the list of ready slots.
+//! - `parts`: the ready core, the sources and the slot map.
+//! - `same`: an assertion as a call.
 #![tactic(auto)]
 
 #[cfg(test)]
-mod core_source;
+mod parts;
 #[cfg(test)]
-mod outer;
+mod same;
 #[cfg(test)]
-mod ready_core;
-#[cfg(test)]
-mod ready_shared;
-#[cfg(test)]
-mod ready_source;
-#[cfg(test)]
-mod slot_map;
+mod table;

@@ -25,6 +25,12 @@ fn new_counts(alloc: Global) -> Result<Arc<Counts>, AllocError> {
     Ok(Arc::new(alloc, counts)?)
 }
 
+/// Adds at the end. An item that finds no room is dropped here, so that a caller's `?` has none to drop.
+pub fn keep<T: Drop>(row: &mut Vec<T>, item: T) -> Result<(), AllocError> {
+    row.push(item)?;
+    Ok(())
+}
+
 impl Bench {
     /// What is refused is asked for once more.
     pub fn new<R: RandomSource + AllocGlobal>(rt: &R) -> io::Result<Bench> {
@@ -54,21 +60,31 @@ impl Bench {
         Ok(Item::new(number, 1, Arc::try_clone(&self.counts)?))
     }
 
+    fn add_items(&self, items: &mut Vec<Item>, count: u64) -> Result<(), AllocError> {
+        for number in 0..count {
+            keep(items, self.item(number)?)?;
+        }
+        Ok(())
+    }
+
     /// Items that are ready at once, with the numbers below `count`, in order.
     pub fn items(&self, count: u64) -> Result<Vec<Item>, AllocError> {
         let mut items = Vec::new(self.alloc);
-        for number in 0..count {
-            items.push(self.item(number)?)?;
-        }
+        self.add_items(&mut items, count)?;
         Ok(items)
+    }
+
+    fn add_attempts(&self, attempts: &mut Vec<Attempt>, count: u64) -> Result<(), AllocError> {
+        for number in 0..count {
+            keep(attempts, Attempt(self.item(number)?))?;
+        }
+        Ok(())
     }
 
     /// The same items, as attempts.
     pub fn attempts(&self, count: u64) -> Result<Vec<Attempt>, AllocError> {
         let mut attempts = Vec::new(self.alloc);
-        for number in 0..count {
-            attempts.push(Attempt(self.item(number)?))?;
-        }
+        self.add_attempts(&mut attempts, count)?;
         Ok(attempts)
     }
 

@@ -19,17 +19,19 @@ pub trait Gives: Drop {
     fn next_number(&mut self, task: &MockTask) -> Poll<Option<u64>>;
 }
 
-/// Whether the numbers below `count` come, in order, and then the end.
-pub fn gives_all<T: Gives>(bench: &Bench, mut made: T, count: u64) -> Finding {
+fn gives_numbers<T: Gives>(task: &MockTask, made: &mut T, count: u64) -> bool {
     for number in 0..count {
-        if made.next_number(&bench.task) != Poll::Ready(Some(number)) {
-            return Finding::GivesOthers;
+        if made.next_number(task) != Poll::Ready(Some(number)) {
+            return false;
         }
     }
-    holds_or(
-        made.next_number(&bench.task) == Poll::Ready(None),
-        Finding::GivesOthers,
-    )
+    made.next_number(task) == Poll::Ready(None)
+}
+
+/// Whether the numbers below `count` come, in order, and then the end.
+pub fn gives_all<T: Gives>(bench: &Bench, mut made: T, count: u64) -> Finding {
+    let is_whole = gives_numbers(&bench.task, &mut made, count);
+    holds_or(is_whole, Finding::GivesOthers)
 }
 
 fn poll_set<F: SlotFuture<S::Waker>, S: ReadySource>(

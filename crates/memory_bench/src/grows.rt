@@ -102,17 +102,25 @@ pub fn put_again<T: Grows>(bench: &Bench, set: &mut T, number: u64) -> Result<Fi
     ))
 }
 
+// Puts in the numbers below `count`, in order.
+fn puts_all<T: Grows>(bench: &Bench, set: &mut T, count: u64) -> Result<Finding, NewFault> {
+    for number in 0..count {
+        let finding = put_again(bench, set, number)?;
+        if finding != Finding::Well {
+            return Ok(finding);
+        }
+    }
+    Ok(Finding::Well)
+}
+
 /// Puts in the numbers below `count`, in order, and asks for them.
 pub fn puts_and_gives<T: Grows>(
     bench: &Bench,
     mut set: T,
     count: u64,
 ) -> Result<Finding, NewFault> {
-    for number in 0..count {
-        let finding = put_again(bench, &mut set, number)?;
-        if finding != Finding::Well {
-            return Ok(finding);
-        }
+    match puts_all(bench, &mut set, count)? {
+        Finding::Well => Ok(gives_all(bench, set, count)),
+        other => Ok(other),
     }
-    Ok(gives_all(bench, set, count))
 }

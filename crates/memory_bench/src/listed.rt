@@ -1,5 +1,5 @@
 //! A stream of what a vector holds.
-use crate::bench::Bench;
+use crate::bench::{Bench, keep};
 use crate::item::{Attempt, Item};
 use futures::Stream;
 use futures::task::{Context, Poll};
@@ -19,13 +19,31 @@ impl<T: Drop> Stream for Listed<T> {
     }
 }
 
+// From the last number below `count` to the first.
+fn add_items(bench: &Bench, items: &mut Vec<Item>, count: u64) -> Result<(), AllocError> {
+    for number in (0..count).rev() {
+        keep(items, bench.item(number)?)?;
+    }
+    Ok(())
+}
+
 /// A stream of items, with the numbers below `count`, in order.
 pub fn list_items(bench: &Bench, count: u64) -> Result<Listed<Item>, AllocError> {
     let mut items = Vec::new(bench.alloc);
-    for number in (0..count).rev() {
-        items.push(bench.item(number)?)?;
-    }
+    add_items(bench, &mut items, count)?;
     Ok(Listed { items })
+}
+
+// The same, as attempts.
+fn add_attempts(
+    bench: &Bench,
+    items: &mut Vec<Result<Attempt, u64>>,
+    count: u64,
+) -> Result<(), AllocError> {
+    for number in (0..count).rev() {
+        keep(items, Ok(Attempt(bench.item(number)?)))?;
+    }
+    Ok(())
 }
 
 /// The same items as attempts, none of them an error.
@@ -34,8 +52,6 @@ pub fn list_attempts(
     count: u64,
 ) -> Result<Listed<Result<Attempt, u64>>, AllocError> {
     let mut items = Vec::new(bench.alloc);
-    for number in (0..count).rev() {
-        items.push(Ok(Attempt(bench.item(number)?)))?;
-    }
+    add_attempts(bench, &mut items, count)?;
     Ok(Listed { items })
 }

@@ -147,15 +147,20 @@ fn slot_map(bench: &Bench) -> Row {
     ))
 }
 
-fn slot_map_from_iter(bench: &Bench) -> Row {
-    let mut map = PinSlotMap::from_iter(bench.alloc, bench.items(3)?)?;
+// Whether there are three items, in order.
+fn holds_three(map: &mut PinSlotMap<Item>) -> bool {
     for number in 0..3usize {
         match map.get(number) {
             Some(item) if item.number() == number as u64 => {}
-            _ => return Ok(Finding::GivesOthers),
+            _ => return false,
         }
     }
-    Ok(holds_or(map.len() == 3, Finding::GivesOthers))
+    map.len() == 3
+}
+
+fn slot_map_from_iter(bench: &Bench) -> Row {
+    let mut map = PinSlotMap::from_iter(bench.alloc, bench.items(3)?)?;
+    Ok(holds_or(holds_three(&mut map), Finding::GivesOthers))
 }
 
 /// Each call below the sets that takes memory.

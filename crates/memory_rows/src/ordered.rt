@@ -5,7 +5,7 @@ use futures_buffered_core::core_source::CoreSource;
 use futures_buffered_core::ready_core::NewFault;
 use futures_buffered_core::ready_shared::SharedReady;
 use futures_buffered_core::ready_source::ReadySource;
-use memory_bench::bench::Bench;
+use memory_bench::bench::{Bench, keep};
 use memory_bench::finding::{Finding, holds_or, tried};
 use memory_bench::gives::{Gives, gives_all};
 use memory_bench::grows::{Grows, put_again, puts_and_gives};
@@ -75,16 +75,23 @@ fn keeps_one(bench: &Bench, queue: &mut Shared, number: u64) -> Row {
     ))
 }
 
-// The queue has more entries than slots in the end.
-fn try_push_back(bench: &Bench) -> Row {
-    let mut queue = waiting(bench)?;
+fn keeps_each(bench: &Bench, queue: &mut Shared) -> Row {
     for number in 1..ENTRIES {
-        let finding = keeps_one(bench, &mut queue, number)?;
+        let finding = keeps_one(bench, queue, number)?;
         if finding != Finding::Well {
             return Ok(finding);
         }
     }
-    Ok(ends_waiting(bench, queue, ENTRIES))
+    Ok(Finding::Well)
+}
+
+// The queue has more entries than slots in the end.
+fn try_push_back(bench: &Bench) -> Row {
+    let mut queue = waiting(bench)?;
+    match keeps_each(bench, &mut queue)? {
+        Finding::Well => Ok(ends_waiting(bench, queue, ENTRIES)),
+        other => Ok(other),
+    }
 }
 
 // The one that is put in at the front is the next to be given, before all others.
@@ -108,20 +115,27 @@ fn gives_new_front(bench: &Bench, queue: &mut Shared, number: u64) -> Row {
     ))
 }
 
-// At each length one is put in at the front first, so that it is the one for which the queue needs more room.
-fn try_push_front(bench: &Bench) -> Row {
-    let mut queue = waiting(bench)?;
+fn gives_and_keeps_each(bench: &Bench, queue: &mut Shared) -> Row {
     for number in 1..ENTRIES {
-        let finding = gives_new_front(bench, &mut queue, number)?;
+        let finding = gives_new_front(bench, queue, number)?;
         if finding != Finding::Well {
             return Ok(finding);
         }
-        let finding = keeps_one(bench, &mut queue, number)?;
+        let finding = keeps_one(bench, queue, number)?;
         if finding != Finding::Well {
             return Ok(finding);
         }
     }
-    Ok(ends_waiting(bench, queue, ENTRIES))
+    Ok(Finding::Well)
+}
+
+// At each length one is put in at the front first, so that it is the one for which the queue needs more room.
+fn try_push_front(bench: &Bench) -> Row {
+    let mut queue = waiting(bench)?;
+    match gives_and_keeps_each(bench, &mut queue)? {
+        Finding::Well => Ok(ends_waiting(bench, queue, ENTRIES)),
+        other => Ok(other),
+    }
 }
 
 // What is left of two where this one of them came back: it and those behind it are put in one by one.
@@ -138,8 +152,8 @@ fn puts_rest(bench: &Bench, queue: &mut Shared, back: Item, last: u64) -> Row {
 
 fn pair(bench: &Bench, first: u64, last: u64) -> Result<Vec<Item>, AllocError> {
     let mut pair = Vec::new(bench.alloc);
-    pair.push(bench.item(first)?)?;
-    pair.push(bench.item(last)?)?;
+    keep(&mut pair, bench.item(first)?)?;
+    keep(&mut pair, bench.item(last)?)?;
     Ok(pair)
 }
 
@@ -165,18 +179,24 @@ fn keeps_two(bench: &Bench, queue: &mut Shared, first: u64) -> Row {
     ))
 }
 
-// Both ways of needing more room: at the first of two, and at the second.
-fn extend(bench: &Bench) -> Row {
-    let mut queue = waiting(bench)?;
-    let mut count = 1u64;
-    for _ in 0..ENTRIES {
-        let finding = keeps_two(bench, &mut queue, count)?;
+fn keeps_pairs(bench: &Bench, queue: &mut Shared) -> Row {
+    for pair in 0..ENTRIES {
+        let first = pair.wrapping_mul(2).wrapping_add(1);
+        let finding = keeps_two(bench, queue, first)?;
         if finding != Finding::Well {
             return Ok(finding);
         }
-        count = count.wrapping_add(2);
     }
-    Ok(ends_waiting(bench, queue, count))
+    Ok(Finding::Well)
+}
+
+// Both ways of needing more room: at the first of two, and at the second.
+fn extend(bench: &Bench) -> Row {
+    let mut queue = waiting(bench)?;
+    match keeps_pairs(bench, &mut queue)? {
+        Finding::Well => Ok(ends_waiting(bench, queue, 2 * ENTRIES + 1)),
+        other => Ok(other),
+    }
 }
 
 /// Each call that makes an ordered queue, and its pushes.

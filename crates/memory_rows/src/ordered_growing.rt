@@ -4,7 +4,7 @@ use futures_buffered::{FuturesOrdered, IterExt};
 use futures_buffered_core::core_source::CoreSource;
 use futures_buffered_core::ready_core::NewFault;
 use futures_buffered_core::ready_shared::SharedReady;
-use memory_bench::bench::Bench;
+use memory_bench::bench::{Bench, keep};
 use memory_bench::finding::{Finding, holds_or, tried};
 use memory_bench::gives::{Gives, gives_all};
 use memory_bench::grows::{Grows, put_again, puts_and_gives};
@@ -93,15 +93,22 @@ fn put_front(bench: &Bench, queue: &mut Shared, number: u64) -> Row {
 }
 
 // From the last number to the first, so that they come in order.
-fn push_front(bench: &Bench) -> Row {
-    let mut queue = Shared::with_capacity(bench.alloc, 1)?;
+fn put_each_front(bench: &Bench, queue: &mut Shared) -> Row {
     for number in (0..PAST_FIVE_GROUPS).rev() {
-        let finding = put_front(bench, &mut queue, number)?;
+        let finding = put_front(bench, queue, number)?;
         if finding != Finding::Well {
             return Ok(finding);
         }
     }
-    Ok(gives_all(bench, queue, PAST_FIVE_GROUPS))
+    Ok(Finding::Well)
+}
+
+fn push_front(bench: &Bench) -> Row {
+    let mut queue = Shared::with_capacity(bench.alloc, 1)?;
+    match put_each_front(bench, &mut queue)? {
+        Finding::Well => Ok(gives_all(bench, queue, PAST_FIVE_GROUPS)),
+        other => Ok(other),
+    }
 }
 
 // Puts one in at the front and asks: it comes, and the outputs of all others are kept.
@@ -117,36 +124,50 @@ fn keeps_others(bench: &Bench, queue: &mut Shared) -> Row {
     ))
 }
 
-// Each is kept before the next is put in, so that the group has a free slot at each push, and only the places for entries run out.
-fn push_back_behind_kept(bench: &Bench) -> Row {
-    let mut queue = Shared::with_capacity(bench.alloc, 2)?;
+fn puts_and_keeps_each(bench: &Bench, queue: &mut Shared) -> Row {
     for number in 0..ENTRIES {
-        let finding = put_again(bench, &mut queue, number)?;
+        let finding = put_again(bench, queue, number)?;
         if finding != Finding::Well {
             return Ok(finding);
         }
-        let finding = keeps_others(bench, &mut queue)?;
+        let finding = keeps_others(bench, queue)?;
         if finding != Finding::Well {
             return Ok(finding);
         }
     }
-    Ok(gives_all(bench, queue, ENTRIES))
+    Ok(Finding::Well)
+}
+
+// Each is kept before the next is put in, so that the group has a free slot at each push, and only the places for entries run out.
+fn push_back_behind_kept(bench: &Bench) -> Row {
+    let mut queue = Shared::with_capacity(bench.alloc, 2)?;
+    match puts_and_keeps_each(bench, &mut queue)? {
+        Finding::Well => Ok(gives_all(bench, queue, ENTRIES)),
+        other => Ok(other),
+    }
+}
+
+fn keeps_and_puts_each(bench: &Bench, queue: &mut Shared) -> Row {
+    for number in 0..ENTRIES {
+        let finding = keeps_others(bench, queue)?;
+        if finding != Finding::Well {
+            return Ok(finding);
+        }
+        let finding = put_again(bench, queue, number)?;
+        if finding != Finding::Well {
+            return Ok(finding);
+        }
+    }
+    Ok(Finding::Well)
 }
 
 // At each length one is put in at the front first, so that it is the one for which the queue needs more room.
 fn push_front_before_kept(bench: &Bench) -> Row {
     let mut queue = Shared::with_capacity(bench.alloc, 2)?;
-    for number in 0..ENTRIES {
-        let finding = keeps_others(bench, &mut queue)?;
-        if finding != Finding::Well {
-            return Ok(finding);
-        }
-        let finding = put_again(bench, &mut queue, number)?;
-        if finding != Finding::Well {
-            return Ok(finding);
-        }
+    match keeps_and_puts_each(bench, &mut queue)? {
+        Finding::Well => Ok(gives_all(bench, queue, ENTRIES)),
+        other => Ok(other),
     }
-    Ok(gives_all(bench, queue, ENTRIES))
 }
 
 // What is left of two where this one of them came back: it and those behind it are put in one by one.
@@ -163,8 +184,8 @@ fn puts_rest(bench: &Bench, queue: &mut Shared, back: Item, last: u64) -> Row {
 
 fn pair(bench: &Bench, first: u64, last: u64) -> Result<Vec<Item>, AllocError> {
     let mut pair = Vec::new(bench.alloc);
-    pair.push(bench.item(first)?)?;
-    pair.push(bench.item(last)?)?;
+    keep(&mut pair, bench.item(first)?)?;
+    keep(&mut pair, bench.item(last)?)?;
     Ok(pair)
 }
 
@@ -192,32 +213,39 @@ fn puts_two(bench: &Bench, queue: &mut Shared, first: u64) -> Row {
     ))
 }
 
-// Adds pairs to a queue that holds the numbers below `held`, and asks for all.
-fn extends(bench: &Bench, mut queue: Shared, held: u64) -> Row {
-    let mut count = held;
-    for _ in 0..PAST_FIVE_GROUPS / 2 {
-        let finding = puts_two(bench, &mut queue, count)?;
+fn puts_pairs(bench: &Bench, queue: &mut Shared, held: u64) -> Row {
+    for pair in 0..PAST_FIVE_GROUPS / 2 {
+        let first = pair.wrapping_mul(2).wrapping_add(held);
+        let finding = puts_two(bench, queue, first)?;
         if finding != Finding::Well {
             return Ok(finding);
         }
-        count = count.wrapping_add(2);
     }
-    Ok(gives_all(bench, queue, count))
+    Ok(Finding::Well)
+}
+
+// Adds pairs to a queue that holds the numbers below `held`, and asks for all.
+fn extends(bench: &Bench, mut queue: Shared, held: u64) -> Row {
+    match puts_pairs(bench, &mut queue, held)? {
+        Finding::Well => Ok(gives_all(bench, queue, held.wrapping_add(PAST_FIVE_GROUPS))),
+        other => Ok(other),
+    }
+}
+
+fn extends_behind_one(bench: &Bench) -> Row {
+    let mut queue = Shared::with_capacity(bench.alloc, 1)?;
+    match put_again(bench, &mut queue, 0)? {
+        Finding::Well => extends(bench, queue, 1),
+        other => Ok(other),
+    }
 }
 
 // A group is full, or a place is lacking, at the first of two where one is held before, and else at the second.
 fn extend(bench: &Bench) -> Row {
-    let queue = Shared::with_capacity(bench.alloc, 1)?;
-    let finding = extends(bench, queue, 0)?;
-    if finding != Finding::Well {
-        return Ok(finding);
+    match extends(bench, Shared::with_capacity(bench.alloc, 1)?, 0)? {
+        Finding::Well => extends_behind_one(bench),
+        other => Ok(other),
     }
-    let mut queue = Shared::with_capacity(bench.alloc, 1)?;
-    let finding = put_again(bench, &mut queue, 0)?;
-    if finding != Finding::Well {
-        return Ok(finding);
-    }
-    extends(bench, queue, 1)
 }
 
 /// Each call that makes a growing ordered queue of memory, and its pushes.

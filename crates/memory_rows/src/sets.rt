@@ -8,6 +8,7 @@ use memory_bench::bench::Bench;
 use memory_bench::finding::{Finding, tried};
 use memory_bench::gives::gives_all;
 use memory_bench::item::Item;
+use std::alloc::AllocError;
 
 type Row = Result<Finding, NewFault>;
 
@@ -21,12 +22,23 @@ const ITEMS: u64 = 3;
 /// How many slots there are for them.
 const SLOTS: usize = 3;
 
-// Fills an empty set, which takes no memory, and asks it.
-fn fills<S: ReadySource>(bench: &Bench, mut set: FuturesUnorderedBounded<Item, S>) -> Row {
+// Whether each item is added to an empty set, which takes no memory.
+fn adds_all<S: ReadySource>(
+    bench: &Bench,
+    set: &mut FuturesUnorderedBounded<Item, S>,
+) -> Result<bool, AllocError> {
     for number in 0..ITEMS {
         if set.try_push(bench.item(number)?).is_err() {
-            return Ok(Finding::NotAdded);
+            return Ok(false);
         }
+    }
+    Ok(true)
+}
+
+// Fills an empty set, and asks it.
+fn fills<S: ReadySource>(bench: &Bench, mut set: FuturesUnorderedBounded<Item, S>) -> Row {
+    if !adds_all(bench, &mut set)? {
+        return Ok(Finding::NotAdded);
     }
     Ok(gives_all(bench, set, ITEMS))
 }

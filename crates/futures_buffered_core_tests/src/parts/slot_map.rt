@@ -1,0 +1,75 @@
+// Slots that are filled, emptied and filled again.
+use crate::same::assert_same;
+use futures_buffered_core::ready_core::{MAX_CAPACITY, NewFault};
+use futures_buffered_core::slot_map::PinSlotMap;
+use std::process::Abort;
+use std::test::Fail;
+
+// Fills three free slots, in order.
+fn fills(rt: &impl Abort, map: &mut PinSlotMap<u64>) {
+    for (value, slot) in [(10_u64, 0), (11, 1), (12, 2)] {
+        assert_same(rt, map.insert_with(value, |value| value), Ok(slot));
+    }
+    assert_same(rt, map.insert_with(13, |value| value), Err(13));
+}
+
+// Walks over what is held, by the order of the slots, and sets each value.
+fn gives_and_sets_each(rt: &impl Abort, map: &mut PinSlotMap<u64>) {
+    let mut held = map.iter_mut();
+    for want in [Some(15), Some(16), Some(14), None, None] {
+        let next = held.next();
+        assert_same(rt, next.as_deref().copied(), want);
+        if let Some(value) = next {
+            *value = 17;
+        }
+    }
+}
+
+#[test]
+fn uses_the_freed_slot_first(rt: HostRuntime) -> Result<(), Fail> {
+    let mut map = PinSlotMap::new(rt.alloc(), 3)?;
+    assert_same(
+        &rt,
+        (map.len(), map.capacity(), map.is_empty()),
+        (0, 3, true),
+    );
+    fills(&rt, &mut map);
+    map.remove(0);
+    map.remove(2);
+    map.remove(2);
+    map.remove(3);
+    assert_same(
+        &rt,
+        (map.len(), map.get(0).is_some(), map.get(3).is_some()),
+        (1, false, false),
+    );
+    assert_same(&rt, map.insert_with(14, |value| value), Ok(2));
+    assert_same(&rt, map.insert_with(15, |value| value), Ok(0));
+    if let Some(value) = map.get(1) {
+        *value = 16;
+    }
+    gives_and_sets_each(&rt, &mut map);
+    assert_same(&rt, map.get(1).copied(), Some(17));
+    Ok(())
+}
+
+#[test]
+fn refuses_a_capacity(rt: HostRuntime) {
+    let large = PinSlotMap::<u64>::new(rt.alloc(), MAX_CAPACITY + 1);
+    assert_same(&rt, large.err(), Some(NewFault::TooLarge));
+}
+
+#[test]
+fn holds_each_item(rt: HostRuntime) -> Result<(), Fail> {
+    let mut map = PinSlotMap::from_iter(rt.alloc(), 0..3_u64)?;
+    assert_same(&rt, (map.len(), map.capacity()), (3, 3));
+    assert_same(
+        &rt,
+        (map.get(0).copied(), map.get(2).copied()),
+        (Some(0), Some(2)),
+    );
+    assert_same(&rt, map.insert_with(3, |value| value), Err(3));
+    map.remove(1);
+    assert_same(&rt, map.insert_with(4, |value| value), Ok(1));
+    Ok(())
+}
