@@ -1,4 +1,5 @@
 // What is dropped, and how often.
+use crate::assert_same::assert_same;
 use futures::task::Poll;
 use futures::test::MockTask;
 use futures_buffered_core::ready_core::NewFault;
@@ -44,10 +45,10 @@ fn a_future_that_gave_its_output_is_dropped(rt: HostRuntime) -> Result<(), Fail>
     let drops = new_counter(rt.alloc())?;
     let items = futures(rt.alloc(), &drops, 2)?;
     let mut set = FuturesUnorderedBounded::over(&(), rt.alloc(), items)?;
-    assert_eq!(rt; polled(&task, &mut set, &drops), (true, 1));
-    assert_eq!(rt; polled(&task, &mut set, &drops), (true, 2));
+    assert_same(&rt, polled(&task, &mut set, &drops), (true, 1));
+    assert_same(&rt, polled(&task, &mut set, &drops), (true, 2));
     drop(set);
-    assert_eq!(rt; drops.load(SeqCst), 2);
+    assert_same(&rt, drops.load(SeqCst), 2);
     Ok(())
 }
 
@@ -57,9 +58,9 @@ fn a_set_drops_what_it_holds(rt: HostRuntime) -> Result<(), Fail> {
     let drops = new_counter(rt.alloc())?;
     let items = futures(rt.alloc(), &drops, 3)?;
     let mut set = FuturesUnorderedBounded::over(&(), rt.alloc(), items)?;
-    assert_eq!(rt; polled(&task, &mut set, &drops), (true, 1));
+    assert_same(&rt, polled(&task, &mut set, &drops), (true, 1));
     drop(set);
-    assert_eq!(rt; drops.load(SeqCst), 3);
+    assert_same(&rt, drops.load(SeqCst), 3);
     Ok(())
 }
 
@@ -68,9 +69,9 @@ fn a_refused_push_drops_nothing(rt: HostRuntime) -> Result<(), Fail> {
     let drops = new_counter(rt.alloc())?;
     let mut set = new_set(rt.alloc(), 0)?;
     let back = set.try_push(future(&drops)?);
-    assert_eq!(rt; (back.is_err(), drops.load(SeqCst)), (true, 0));
+    assert_same(&rt, (back.is_err(), drops.load(SeqCst)), (true, 0));
     drop(back);
-    assert_eq!(rt; drops.load(SeqCst), 1);
+    assert_same(&rt, drops.load(SeqCst), 1);
     Ok(())
 }
 

@@ -1,4 +1,5 @@
 // Ten million wakes from eight threads.
+use crate::assert_same::assert_same;
 use futures::StreamExt;
 use futures::executor::block_on;
 use futures::task::Poll;
@@ -164,11 +165,11 @@ fn no_wake_of_ten_million_is_lost(rt: HostRuntime) -> Result<(), Fail> {
     let task = MockTask::new(&rt)?;
     let mut set: Set = FuturesUnorderedBounded::new(rt.alloc(), SLOTS)?;
     let bells = begin(rt.alloc(), &task, &mut set)?;
-    assert_eq!(rt; bells.len(), SLOTS);
+    assert_same(&rt, bells.len(), SLOTS);
     let bells = Arc::new(rt.alloc(), bells)?;
     let started = start(&rt, rt.alloc(), &bells)?;
     let outputs = block_on(&rt, set.count())?;
     join_all(&rt, started);
-    assert_eq!(rt; outputs, SLOTS);
+    assert_same(&rt, outputs, SLOTS);
     Ok(())
 }

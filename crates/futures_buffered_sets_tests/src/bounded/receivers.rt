@@ -1,4 +1,5 @@
 // 256 futures that wait for a value: how many names one poll takes, and in which order the values come.
+use crate::assert_same::assert_same;
 use futures::task::Poll;
 use futures::test::MockTask;
 use futures_buffered_core::ready_shared::SharedReady;
@@ -64,11 +65,11 @@ fn five_polls_name_all_256(rt: HostRuntime) -> Result<(), Fail> {
     let Cells { senders, receivers } = new_cells(&rt, rt.alloc(), 256)?;
     let mut set: Set<_> = FuturesUnorderedBounded::new(rt.alloc(), 256)?;
     assert!(rt; pushes_all(&mut set, receivers, &polls));
-    assert_eq!(rt; polled(&task, &mut set, &polls), (true, 61, true));
-    assert_eq!(rt; polled(&task, &mut set, &polls), (true, 122, true));
-    assert_eq!(rt; polled(&task, &mut set, &polls), (true, 183, true));
-    assert_eq!(rt; polled(&task, &mut set, &polls), (true, 244, true));
-    assert_eq!(rt; polled(&task, &mut set, &polls), (true, 256, false));
+    assert_same(&rt, polled(&task, &mut set, &polls), (true, 61, true));
+    assert_same(&rt, polled(&task, &mut set, &polls), (true, 122, true));
+    assert_same(&rt, polled(&task, &mut set, &polls), (true, 183, true));
+    assert_same(&rt, polled(&task, &mut set, &polls), (true, 244, true));
+    assert_same(&rt, polled(&task, &mut set, &polls), (true, 256, false));
     try_sends(&rt, &task, senders.as_slice());
     try_outputs(&rt, &task, &mut set);
     Ok(())

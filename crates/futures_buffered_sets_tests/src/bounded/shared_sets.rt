@@ -1,4 +1,5 @@
 // Sets over the shared source, however they are made.
+use crate::assert_same::assert_same;
 use futures::task::Poll;
 use futures::test::MockTask;
 use futures_buffered_core::ready_core::Woke;
@@ -74,8 +75,8 @@ fn gives(task: &MockTask, set: &mut Shared<Timed>) -> (Poll<Option<u64>>, bool) 
 fn an_output_wakes_nobody(rt: HostRuntime) -> Result<(), Fail> {
     let task = MockTask::new(&rt)?;
     let mut set = FuturesUnorderedBounded::from_iter(rt.alloc(), ready_up_to(rt.alloc(), 2)?)?;
-    assert_eq!(rt; gives(&task, &mut set), (Poll::Ready(Some(0)), false));
-    assert_eq!(rt; gives(&task, &mut set), (Poll::Ready(Some(1)), false));
+    assert_same(&rt, gives(&task, &mut set), (Poll::Ready(Some(0)), false));
+    assert_same(&rt, gives(&task, &mut set), (Poll::Ready(Some(1)), false));
     Ok(())
 }
 
@@ -94,6 +95,6 @@ fn an_end_wakes_nobody(rt: HostRuntime) -> Result<(), Fail> {
 fn prints_what_it_holds(rt: HostRuntime) -> Result<(), Fail> {
     let set = FuturesUnorderedBounded::from_iter(rt.alloc(), ready_up_to(rt.alloc(), 2)?)?;
     let text = format!(in rt.alloc(); "{set:?}")?;
-    assert_eq!(rt; text.as_str(), "FuturesUnorderedBounded { len: 2, .. }");
+    assert_same(&rt, text.as_str(), "FuturesUnorderedBounded { len: 2, .. }");
     Ok(())
 }

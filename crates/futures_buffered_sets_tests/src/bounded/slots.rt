@@ -1,4 +1,5 @@
 // Each future is polled with the waker of its own slot.
+use crate::assert_same::assert_same;
 use futures::task::Poll;
 use futures::test::MockTask;
 use futures_buffered_core::ready_shared::SharedReady;
@@ -19,8 +20,8 @@ fn each_future_has_the_waker_of_its_slot(rt: HostRuntime) -> Result<(), Fail> {
     assert!(rt; set.try_push(WhichSlot).is_ok());
     assert!(rt; set.try_push(WhichSlot).is_ok());
     assert!(rt; set.try_push(WhichSlot).is_ok());
-    assert_eq!(rt; poll_slot(&task, &mut set), Poll::Ready((0, 0)));
-    assert_eq!(rt; poll_slot(&task, &mut set), Poll::Ready((1, 1)));
-    assert_eq!(rt; poll_slot(&task, &mut set), Poll::Ready((2, 2)));
+    assert_same(&rt, poll_slot(&task, &mut set), Poll::Ready((0, 0)));
+    assert_same(&rt, poll_slot(&task, &mut set), Poll::Ready((1, 1)));
+    assert_same(&rt, poll_slot(&task, &mut set), Poll::Ready((2, 2)));
     Ok(())
 }

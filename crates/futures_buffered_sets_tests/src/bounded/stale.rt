@@ -1,4 +1,5 @@
 // Wakers whose future has ended.
+use crate::assert_same::assert_same;
 use futures::task::Poll;
 use futures::test::MockTask;
 use futures_buffered_core::ready_shared::{SharedReady, SlotWake};
@@ -57,11 +58,11 @@ struct Row<R: Wait + Clone + Drop> {
 }
 
 fn new_row<R: Wait + Clone + Drop + Send + Sync>(rt: &R, alloc: Global) -> Result<Row<R>, Fail> {
-    let set = FuturesUnorderedBounded::new(alloc, 2)?;
-    let place = empty_place(alloc)?;
     let first = new_counter(alloc)?;
     let second = new_counter(alloc)?;
     let third = new_counter(alloc)?;
+    let place = empty_place(alloc)?;
+    let set = FuturesUnorderedBounded::new(alloc, 2)?;
     Ok(Row {
         set,
         place,
@@ -110,19 +111,23 @@ fn a_stale_wake_reaches_who_came_after(rt: HostRuntime) -> Result<(), Fail> {
     let task = MockTask::new(&rt)?;
     let mut row = new_row(&rt, rt.alloc())?;
     assert!(rt; pushes_two(rt, &mut row));
-    assert_eq!(rt; polled(&task, &mut row), (Poll::Ready(Some(())), [1, 0, 0]));
+    assert_same(
+        &rt,
+        polled(&task, &mut row),
+        (Poll::Ready(Some(())), [1, 0, 0]),
+    );
     let stale = taken_from(&rt, &row.place).ok_or("kept")?;
-    assert_eq!(rt; stale.slot(), 0);
-    assert_eq!(rt; polled(&task, &mut row), (Poll::Pending, [1, 1, 0]));
+    assert_same(&rt, stale.slot(), 0);
+    assert_same(&rt, polled(&task, &mut row), (Poll::Pending, [1, 1, 0]));
     // The slot is free: its mark is taken, and nothing is polled.
     stale.wake();
     assert!(rt; task.is_woken());
-    assert_eq!(rt; polled(&task, &mut row), (Poll::Pending, [1, 1, 0]));
+    assert_same(&rt, polled(&task, &mut row), (Poll::Pending, [1, 1, 0]));
     assert!(rt; pushes(rt, &mut row.set, &row.place, false, &row.third));
-    assert_eq!(rt; polled(&task, &mut row), (Poll::Pending, [1, 1, 1]));
+    assert_same(&rt, polled(&task, &mut row), (Poll::Pending, [1, 1, 1]));
     // The slot is another future's now, which is polled once more.
     stale.wake();
     assert!(rt; task.is_woken());
-    assert_eq!(rt; polled(&task, &mut row), (Poll::Pending, [1, 1, 2]));
+    assert_same(&rt, polled(&task, &mut row), (Poll::Pending, [1, 1, 2]));
     Ok(())
 }

@@ -1,4 +1,5 @@
 // Sets that move to another thread, or are woken from one.
+use crate::assert_same::assert_same;
 use futures::executor::block_on;
 use futures::{StreamExt, future};
 use futures_buffered_core::ready_shared::SharedReady;
@@ -73,7 +74,7 @@ fn next_and_fold_while_a_thread_wakes(rt: HostRuntime) -> Result<(), Fail> {
         set.fold(0, |sum, x| future::ready(sum | x.unwrap_or(0))),
     )?;
     child.join(&rt);
-    assert_eq!(rt; (others & first, others | first), (0, 15));
+    assert_same(&rt, (others & first, others | first), (0, 15));
     Ok(())
 }
 
@@ -91,6 +92,6 @@ fn collect_while_a_thread_wakes(rt: HostRuntime) -> Result<(), Fail> {
     let child = sending(&rt, rt.alloc(), &mut set, [5, 6, 7, 8])?;
     let outputs = block_on(&rt, set.collect(rt.alloc()))??;
     child.join(&rt);
-    assert_eq!(rt; sum_of(outputs)?, 26);
+    assert_same(&rt, sum_of(outputs)?, 26);
     Ok(())
 }

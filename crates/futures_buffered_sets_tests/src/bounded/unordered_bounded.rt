@@ -1,4 +1,5 @@
 // Rows of calls of a set over a `CoreSource`, and what each call answers.
+use crate::assert_same::assert_same;
 use futures::task::Poll;
 use futures::test::MockTask;
 use futures_buffered_core::ready_core::{MAX_CAPACITY, NewFault, Taken, Woke};
@@ -153,24 +154,37 @@ fn takes_no_more_names_than_the_limit(rt: HostRuntime) -> Result<(), Fail> {
         &mut set,
         &[(Call::Push(0, 1), Answer::Pushed); POLL_LIMIT],
     );
-    assert_eq!(rt; gave(&task, &mut set, Call::Push(99, 0)), Answer::Pushed);
-    assert_eq!(rt; gave(&task, &mut set, Call::Poll), Answer::Pending);
+    assert_same(
+        &rt,
+        gave(&task, &mut set, Call::Push(99, 0)),
+        Answer::Pushed,
+    );
+    assert_same(&rt, gave(&task, &mut set, Call::Poll), Answer::Pending);
     assert!(rt; task.is_woken());
-    assert_eq!(rt; gave(&task, &mut set, Call::Poll), Answer::Some(99));
+    assert_same(&rt, gave(&task, &mut set, Call::Poll), Answer::Some(99));
     Ok(())
 }
 
 #[test]
 fn counts_what_it_holds(rt: HostRuntime) -> Result<(), Fail> {
     let mut set = new_set(rt.alloc(), 2)?;
-    assert_eq!(rt; (set.len(), set.capacity(), set.is_empty()), (0, 2, true));
+    assert_same(
+        &rt,
+        (set.len(), set.capacity(), set.is_empty()),
+        (0, 2, true),
+    );
     if set.len() < set.capacity() {
         set.push(ready(1));
     }
-    assert_eq!(rt; (set.len(), set.capacity(), set.is_empty()), (1, 2, false));
-    assert_eq!(rt;
+    assert_same(
+        &rt,
+        (set.len(), set.capacity(), set.is_empty()),
+        (1, 2, false),
+    );
+    assert_same(
+        &rt,
         new_set(rt.alloc(), MAX_CAPACITY + 1).err(),
-        Some(NewFault::TooLarge)
+        Some(NewFault::TooLarge),
     );
     Ok(())
 }
@@ -192,9 +206,9 @@ fn wakes_its_task_where_the_source_pauses(rt: HostRuntime) -> Result<(), Fail> {
     let mut set = FuturesUnorderedBounded::with_source(rt.alloc(), source)?;
     assert!(rt; set.try_push(ready(5)).is_ok());
     assert!(rt; set.try_push(late(6)).is_ok());
-    assert_eq!(rt; polled(&task, &mut set), (Poll::Pending, true));
-    assert_eq!(rt; polled(&task, &mut set), (Poll::Ready(Some(5)), false));
-    assert_eq!(rt; polled(&task, &mut set), (Poll::Pending, false));
+    assert_same(&rt, polled(&task, &mut set), (Poll::Pending, true));
+    assert_same(&rt, polled(&task, &mut set), (Poll::Ready(Some(5)), false));
+    assert_same(&rt, polled(&task, &mut set), (Poll::Pending, false));
     Ok(())
 }
 
@@ -211,11 +225,12 @@ fn holds_each_item_it_is_made_of(rt: HostRuntime) -> Result<(), Fail> {
     let task = MockTask::new(&rt)?;
     let items = ready_up_to(rt.alloc(), 10)?;
     let mut set: Set = FuturesUnorderedBounded::over(&(), rt.alloc(), items)?;
-    assert_eq!(rt;
+    assert_same(
+        &rt,
         (set.len(), set.capacity(), set.is_terminated()),
-        (10, 10, false)
+        (10, 10, false),
     );
-    assert_eq!(rt; set.size_hint(), (10, Some(10)));
+    assert_same(&rt, set.size_hint(), (10, Some(10)));
     try_outputs(&rt, &task, &mut set, 10);
     assert!(rt; set.is_terminated());
     Ok(())

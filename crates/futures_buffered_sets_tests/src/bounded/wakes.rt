@@ -1,4 +1,5 @@
 // Who is woken, and how often.
+use crate::assert_same::assert_same;
 use futures::test::MockTask;
 use futures_buffered_core::ready_shared::{SharedReady, SlotWake};
 use futures_buffered_core::ready_source::SlotWaker;
@@ -26,9 +27,9 @@ fn new_row<R>(rt: &R, alloc: Global, capacity: usize) -> Result<Row<R>, Fail>
 where
     R: Wait + Clone + Drop + Send + Sync,
 {
-    let set = FuturesUnorderedBounded::new(alloc, capacity)?;
-    let place = empty_place(alloc)?;
     let polls = new_counter(alloc)?;
+    let place = empty_place(alloc)?;
+    let set = FuturesUnorderedBounded::new(alloc, capacity)?;
     Ok(Row { set, place, polls })
 }
 
@@ -64,21 +65,23 @@ fn two_wakes_of_a_slot_are_one(rt: HostRuntime) -> Result<(), Fail> {
     let task = MockTask::new(&rt)?;
     let mut row = new_row(&rt, rt.alloc(), 2)?;
     assert!(rt; pushes(&rt, &mut row));
-    assert_eq!(rt;
+    assert_same(
+        &rt,
         (polled(&task, &mut row), task.is_woken()),
-        ((true, 1), false)
+        ((true, 1), false),
     );
     let waker = kept_waker(&rt, &row)?;
-    assert_eq!(rt; waker.slot(), 0);
+    assert_same(&rt, waker.slot(), 0);
     waker.wake();
     assert!(rt; task.is_woken());
     waker.wake();
-    assert_eq!(rt;
+    assert_same(
+        &rt,
         (polled(&task, &mut row), task.is_woken()),
-        ((true, 2), false)
+        ((true, 2), false),
     );
     // Nothing is marked now, so a further poll polls no future.
-    assert_eq!(rt; polled(&task, &mut row), (true, 2));
+    assert_same(&rt, polled(&task, &mut row), (true, 2));
     Ok(())
 }
 
@@ -95,18 +98,18 @@ fn a_task_is_woken_once(rt: HostRuntime) -> Result<(), Fail> {
     let task = MockTask::new(&rt)?;
     let mut row = new_row(&rt, rt.alloc(), 2)?;
     assert!(rt; pushes(&rt, &mut row));
-    assert_eq!(rt; polled(&task, &mut row), (true, 1));
+    assert_same(&rt, polled(&task, &mut row), (true, 1));
     let first = kept_waker(&rt, &row)?;
     assert!(rt; pushes(&rt, &mut row));
-    assert_eq!(rt; polled(&task, &mut row), (true, 2));
+    assert_same(&rt, polled(&task, &mut row), (true, 2));
     let second = kept_waker(&rt, &row)?;
     let woken = [
         is_woken_by(&task, &first),
         is_woken_by(&task, &first),
         is_woken_by(&task, &second),
     ];
-    assert_eq!(rt; woken, [true, false, false]);
-    assert_eq!(rt; polled(&task, &mut row), (true, 4));
+    assert_same(&rt, woken, [true, false, false]);
+    assert_same(&rt, polled(&task, &mut row), (true, 4));
     assert!(rt; is_woken_by(&task, &second));
     Ok(())
 }
@@ -116,10 +119,10 @@ fn a_push_wakes_nobody(rt: HostRuntime) -> Result<(), Fail> {
     let task = MockTask::new(&rt)?;
     let mut row = new_row(&rt, rt.alloc(), 2)?;
     assert!(rt; pushes(&rt, &mut row));
-    assert_eq!(rt; polled(&task, &mut row), (true, 1));
-    assert_eq!(rt; (pushes(&rt, &mut row), task.is_woken()), (true, false));
-    assert_eq!(rt; polled(&task, &mut row), (true, 2));
-    assert_eq!(rt; kept_waker(&rt, &row)?.slot(), 1);
+    assert_same(&rt, polled(&task, &mut row), (true, 1));
+    assert_same(&rt, (pushes(&rt, &mut row), task.is_woken()), (true, false));
+    assert_same(&rt, polled(&task, &mut row), (true, 2));
+    assert_same(&rt, kept_waker(&rt, &row)?.slot(), 1);
     Ok(())
 }
 
@@ -128,7 +131,7 @@ fn a_waker_outlives_its_set(rt: HostRuntime) -> Result<(), Fail> {
     let task = MockTask::new(&rt)?;
     let mut row = new_row(&rt, rt.alloc(), 2)?;
     assert!(rt; pushes(&rt, &mut row));
-    assert_eq!(rt; polled(&task, &mut row), (true, 1));
+    assert_same(&rt, polled(&task, &mut row), (true, 1));
     let waker = kept_waker(&rt, &row)?;
     drop(row);
     assert!(rt; !task.is_woken());
@@ -160,13 +163,13 @@ fn another_task_that_polls_wakes_the_one_before(rt: HostRuntime) -> Result<(), F
     let second = MockTask::new(&rt)?;
     let mut row = new_row(&rt, rt.alloc(), 1)?;
     assert!(rt; pushes(&rt, &mut row));
-    assert_eq!(rt; polled(&first, &mut row), (true, 1));
+    assert_same(&rt, polled(&first, &mut row), (true, 1));
     poll_nothing(&second);
-    assert_eq!(rt; (first.is_woken(), second.is_woken()), (false, false));
-    assert_eq!(rt; polled(&second, &mut row), (true, 1));
-    assert_eq!(rt; (first.is_woken(), second.is_woken()), (true, false));
+    assert_same(&rt, (first.is_woken(), second.is_woken()), (false, false));
+    assert_same(&rt, polled(&second, &mut row), (true, 1));
+    assert_same(&rt, (first.is_woken(), second.is_woken()), (true, false));
     poll_nothing(&first);
     kept_waker(&rt, &row)?.wake();
-    assert_eq!(rt; (first.is_woken(), second.is_woken()), (false, true));
+    assert_same(&rt, (first.is_woken(), second.is_woken()), (false, true));
     Ok(())
 }

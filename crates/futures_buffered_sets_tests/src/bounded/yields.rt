@@ -1,4 +1,5 @@
 // Futures that wake themselves.
+use crate::assert_same::assert_same;
 use futures::task::Poll;
 use futures::test::MockTask;
 use futures_buffered_core::ready_shared::SharedReady;
@@ -64,7 +65,7 @@ fn take_one_and_push_one(rt: HostRuntime) -> Result<(), Fail> {
     assert!(rt; takes(&mut set, &polls, 10));
     assert!(rt; gives_and_takes(&task, &mut set, &polls, 100));
     assert!(rt; gives(&task, &mut set, 10));
-    assert_eq!(rt; poll_set(&task, &mut set), Poll::Ready(None));
-    assert_eq!(rt; polls.load(SeqCst), 220);
+    assert_same(&rt, poll_set(&task, &mut set), Poll::Ready(None));
+    assert_same(&rt, polls.load(SeqCst), 220);
     Ok(())
 }

@@ -1,4 +1,5 @@
 // What is dropped, and how often.
+use crate::assert_same::assert_same;
 use futures::task::Poll;
 use futures::test::MockTask;
 use futures_buffered_core::ready_source::CoreSource;
@@ -37,11 +38,11 @@ fn each_future_is_dropped_once(rt: HostRuntime) -> Result<(), Fail> {
     let drops = new_counter(rt.alloc())?;
     let mut set: Set = FuturesUnordered::over((), rt.alloc(), 1)?;
     assert!(rt; pushed(&mut set, &drops, 5)?);
-    assert_eq!(rt; polled(&task, &mut set, &drops), (true, 1));
-    assert_eq!(rt; polled(&task, &mut set, &drops), (true, 2));
-    assert_eq!(rt; polled(&task, &mut set, &drops), (true, 3));
+    assert_same(&rt, polled(&task, &mut set, &drops), (true, 1));
+    assert_same(&rt, polled(&task, &mut set, &drops), (true, 2));
+    assert_same(&rt, polled(&task, &mut set, &drops), (true, 3));
     drop(set);
-    assert_eq!(rt; drops.load(SeqCst), 5);
+    assert_same(&rt, drops.load(SeqCst), 5);
     Ok(())
 }
 
@@ -51,10 +52,10 @@ fn a_group_that_leaves_drops_nothing_twice(rt: HostRuntime) -> Result<(), Fail> 
     let drops = new_counter(rt.alloc())?;
     let mut set: Set = FuturesUnordered::over((), rt.alloc(), 1)?;
     assert!(rt; pushed(&mut set, &drops, 2)?);
-    assert_eq!(rt; polled(&task, &mut set, &drops), (true, 1));
-    assert_eq!(rt; polled(&task, &mut set, &drops), (true, 2));
-    assert_eq!(rt; polled(&task, &mut set, &drops), (false, 2));
+    assert_same(&rt, polled(&task, &mut set, &drops), (true, 1));
+    assert_same(&rt, polled(&task, &mut set, &drops), (true, 2));
+    assert_same(&rt, polled(&task, &mut set, &drops), (false, 2));
     drop(set);
-    assert_eq!(rt; drops.load(SeqCst), 2);
+    assert_same(&rt, drops.load(SeqCst), 2);
     Ok(())
 }

@@ -1,6 +1,7 @@
 // The limit of a set is the one that was chosen.
 ghost use Rattle.std.specs.Prelude.{◌≤◌};
 
+use crate::assert_same::assert_same;
 use futures_buffered_core::ready_source::{CoreSource, NewSource};
 use futures_buffered_sets::futures_unordered::FuturesUnordered;
 use futures_buffered_sets::futures_unordered_bounded::FuturesUnorderedBounded;
@@ -33,9 +34,9 @@ fn limit_of_source(alloc: Global, limit: usize) -> Result<usize, Fail>
 
 #[test]
 fn bounded_sets_have_the_limit(rt: HostRuntime) -> Result<(), Fail> {
-    assert_eq!(rt; limit_of_source(rt.alloc(), 7)?, 7);
+    assert_same(&rt, limit_of_source(rt.alloc(), 7)?, 7);
     let items = ready_up_to(rt.alloc(), 1)?;
     let set: Bounded = FuturesUnorderedBounded::over_limit(&(), rt.alloc(), items, 9)?;
-    assert_eq!(rt; (set.limit(), set.capacity()), (9, 1));
+    assert_same(&rt, (set.limit(), set.capacity()), (9, 1));
     Ok(())
 }

@@ -1,4 +1,5 @@
 // Rows of calls of a set over `CoreSource`s, and what each call answers.
+use crate::assert_same::assert_same;
 use futures::task::Poll;
 use futures::test::MockTask;
 use futures_buffered_core::ready_shared::SharedReady;
@@ -123,10 +124,10 @@ fn asks_each_group_once_from_the_kept_place(rt: HostRuntime) -> Result<(), Fail>
 fn holds_what_an_iterator_gives(rt: HostRuntime) -> Result<(), Fail> {
     let items = ready_up_to(rt.alloc(), 10)?;
     let set = FuturesUnordered::from_iter(rt.alloc(), items)?;
-    assert_eq!(rt; set.len(), 10);
-    assert_eq!(rt; set.capacity(), FIRST_GROUP);
-    assert_eq!(rt; set.size_hint(), (10, Some(10)));
-    assert_eq!(rt; set.limit(), POLL_LIMIT);
+    assert_same(&rt, set.len(), 10);
+    assert_same(&rt, set.capacity(), FIRST_GROUP);
+    assert_same(&rt, set.size_hint(), (10, Some(10)));
+    assert_same(&rt, set.limit(), POLL_LIMIT);
     Ok(())
 }
 

@@ -1,4 +1,5 @@
 // Futures that are finished by hand, in another order than they stand in.
+use crate::assert_same::assert_same;
 use futures::task::Poll;
 use futures::test::MockTask;
 use futures_buffered_sets::join_all::join_all;
@@ -37,10 +38,11 @@ fn outputs_stand_at_their_places_in_whatever_order_they_come(rt: HostRuntime) ->
     assert!(rt; poll_join(&task, &mut join).is_pending());
     assert!(rt; sent(&senders, 0, 3));
     let outputs = vec![in rt.alloc(); Ok(3), Ok(2), Ok(1)]?;
-    assert_eq!(rt; poll_join(&task, &mut join), Poll::Ready(outputs));
-    assert_eq!(rt;
+    assert_same(&rt, poll_join(&task, &mut join), Poll::Ready(outputs));
+    assert_same(
+        &rt,
         poll_join(&task, &mut join),
-        Poll::Ready(Vec::new(rt.alloc()))
+        Poll::Ready(Vec::new(rt.alloc())),
     );
     Ok(())
 }
@@ -55,10 +57,11 @@ fn a_try_join_ends_at_the_error_that_comes_first(rt: HostRuntime) -> Result<(), 
     assert!(rt; poll_try_join(&task, &mut join).is_pending());
     assert!(rt; sent(&senders, 1, Err(2)));
     assert!(rt; sent(&senders, 0, Ok(3)));
-    assert_eq!(rt; poll_try_join(&task, &mut join), Poll::Ready(Err(2)));
-    assert_eq!(rt;
+    assert_same(&rt, poll_try_join(&task, &mut join), Poll::Ready(Err(2)));
+    assert_same(
+        &rt,
         poll_try_join(&task, &mut join),
-        Poll::Ready(Ok(Vec::new(rt.alloc())))
+        Poll::Ready(Ok(Vec::new(rt.alloc()))),
     );
     Ok(())
 }
@@ -74,6 +77,10 @@ fn a_try_join_gives_its_outputs_by_place(rt: HostRuntime) -> Result<(), Fail> {
     assert!(rt; poll_try_join(&task, &mut join).is_pending());
     assert!(rt; sent(&senders, 0, Ok(3)));
     let outputs = vec![in rt.alloc(); 3, 2, 1]?;
-    assert_eq!(rt; poll_try_join(&task, &mut join), Poll::Ready(Ok(outputs)));
+    assert_same(
+        &rt,
+        poll_try_join(&task, &mut join),
+        Poll::Ready(Ok(outputs)),
+    );
     Ok(())
 }

@@ -1,4 +1,5 @@
 // What is dropped, and how often: futures, and the outputs that have come.
+use crate::assert_same::assert_same;
 use futures::task::Poll;
 use futures::test::MockTask;
 use futures_buffered_core::ready_shared::SharedReady;
@@ -70,9 +71,9 @@ fn an_early_drop_drops_each_output_and_each_future_once(rt: HostRuntime) -> Resu
     let items = drops.holders(rt.alloc(), &[Kind::Gives, Kind::Waits, Kind::Gives])?;
     let mut join: Join = JoinAll::over(&(), rt.alloc(), items)?;
     assert!(rt; poll_join(&task, &mut join).is_pending());
-    assert_eq!(rt; drops.seen(), (2, 0));
+    assert_same(&rt, drops.seen(), (2, 0));
     drop(join);
-    assert_eq!(rt; drops.seen(), (3, 2));
+    assert_same(&rt, drops.seen(), (3, 2));
     Ok(())
 }
 
@@ -84,11 +85,11 @@ fn outputs_that_are_given_are_the_callers(rt: HostRuntime) -> Result<(), Fail> {
     let mut join: Join = JoinAll::over(&(), rt.alloc(), items)?;
     let given = poll_join(&task, &mut join);
     assert!(rt; given.is_ready());
-    assert_eq!(rt; drops.seen(), (2, 0));
+    assert_same(&rt, drops.seen(), (2, 0));
     drop(join);
-    assert_eq!(rt; drops.seen(), (2, 0));
+    assert_same(&rt, drops.seen(), (2, 0));
     drop(given);
-    assert_eq!(rt; drops.seen(), (2, 2));
+    assert_same(&rt, drops.seen(), (2, 2));
     Ok(())
 }
 
@@ -112,10 +113,10 @@ fn the_call_that_answers_an_error_drops_the_rest(rt: HostRuntime) -> Result<(), 
     let mut join: TryJoin = TryJoinAll::over(&(), rt.alloc(), items)?;
     let given = poll_try_join(&task, &mut join);
     assert!(rt; matches!(&given, Poll::Ready(Err(7))));
-    assert_eq!(rt; drops.seen(), (4, 2));
+    assert_same(&rt, drops.seen(), (4, 2));
     drop(given);
     drop(join);
-    assert_eq!(rt; drops.seen(), (4, 2));
+    assert_same(&rt, drops.seen(), (4, 2));
     Ok(())
 }
 
@@ -126,8 +127,8 @@ fn an_early_drop_of_a_try_join(rt: HostRuntime) -> Result<(), Fail> {
     let items = drops.holders(rt.alloc(), &[Kind::Gives, Kind::Waits])?;
     let mut join: TryJoin = TryJoinAll::over(&(), rt.alloc(), items)?;
     assert!(rt; poll_try_join(&task, &mut join).is_pending());
-    assert_eq!(rt; drops.seen(), (1, 0));
+    assert_same(&rt, drops.seen(), (1, 0));
     drop(join);
-    assert_eq!(rt; drops.seen(), (2, 1));
+    assert_same(&rt, drops.seen(), (2, 1));
     Ok(())
 }

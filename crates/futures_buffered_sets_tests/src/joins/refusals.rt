@@ -1,4 +1,5 @@
 // Which constructors are refused, and what is dropped then.
+use crate::assert_same::assert_same;
 use futures_buffered_core::ready_core::{MAX_CAPACITY, NewFault};
 use futures_buffered_sets::{JoinAll, TryJoinAll};
 use std::alloc::{AllocError, Global};
@@ -31,8 +32,8 @@ fn a_refused_join_drops_its_items(rt: HostRuntime) -> Result<(), Fail> {
         rt.alloc(),
         items,
     );
-    assert_eq!(rt; refused.err(), Some(NewFault::Memory));
-    assert_eq!(rt; drops.load(SeqCst), 3);
+    assert_same(&rt, refused.err(), Some(NewFault::Memory));
+    assert_same(&rt, drops.load(SeqCst), 3);
     Ok(())
 }
 
@@ -45,7 +46,7 @@ fn a_refused_try_join_drops_its_items(rt: HostRuntime) -> Result<(), Fail> {
         rt.alloc(),
         items,
     );
-    assert_eq!(rt; refused.err(), Some(NewFault::Memory));
-    assert_eq!(rt; drops.load(SeqCst), 3);
+    assert_same(&rt, refused.err(), Some(NewFault::Memory));
+    assert_same(&rt, drops.load(SeqCst), 3);
     Ok(())
 }

@@ -1,4 +1,5 @@
 // What joins of few and of many futures are ready with, at the end and after it.
+use crate::assert_same::assert_same;
 use futures::task::Poll;
 use futures::test::MockTask;
 use futures_buffered_core::ready_shared::SharedReady;
@@ -46,11 +47,12 @@ fn outputs_stand_at_their_places(rt: HostRuntime) -> Result<(), Fail> {
     let items = vec![in rt.alloc(); ready(1), ready(2), ready(3)]?;
     let mut join = join_all(rt.alloc(), items)?;
     let outputs = vec![in rt.alloc(); 1, 2, 3]?;
-    assert_eq!(rt; poll_join(&task, &mut join), Poll::Ready(outputs));
+    assert_same(&rt, poll_join(&task, &mut join), Poll::Ready(outputs));
     for _ in 0..3 {
-        assert_eq!(rt;
+        assert_same(
+            &rt,
             poll_join(&task, &mut join),
-            Poll::Ready(Vec::new(rt.alloc()))
+            Poll::Ready(Vec::new(rt.alloc())),
         );
     }
     Ok(())
@@ -62,10 +64,11 @@ fn a_join_over_another_source(rt: HostRuntime) -> Result<(), Fail> {
     let items = many(rt.alloc(), 3)?;
     let mut join: JoinAll<Timed, CoreSource> = JoinAll::over(&(), rt.alloc(), items)?;
     let outputs = numbers(rt.alloc(), 3)?;
-    assert_eq!(rt; poll_join(&task, &mut join), Poll::Ready(outputs));
-    assert_eq!(rt;
+    assert_same(&rt, poll_join(&task, &mut join), Poll::Ready(outputs));
+    assert_same(
+        &rt,
         poll_join(&task, &mut join),
-        Poll::Ready(Vec::new(rt.alloc()))
+        Poll::Ready(Vec::new(rt.alloc())),
     );
     Ok(())
 }
@@ -74,14 +77,16 @@ fn a_join_over_another_source(rt: HostRuntime) -> Result<(), Fail> {
 fn a_join_of_none_is_ready_at_once(rt: HostRuntime) -> Result<(), Fail> {
     let task = MockTask::new(&rt)?;
     let mut join = join_all(rt.alloc(), many(rt.alloc(), 0)?)?;
-    assert_eq!(rt;
+    assert_same(
+        &rt,
         poll_join(&task, &mut join),
-        Poll::Ready(Vec::new(rt.alloc()))
+        Poll::Ready(Vec::new(rt.alloc())),
     );
     assert!(rt; !task.is_woken());
-    assert_eq!(rt;
+    assert_same(
+        &rt,
         poll_join(&task, &mut join),
-        Poll::Ready(Vec::new(rt.alloc()))
+        Poll::Ready(Vec::new(rt.alloc())),
     );
     Ok(())
 }
@@ -91,7 +96,7 @@ fn a_thousand_futures(rt: HostRuntime) -> Result<(), Fail> {
     let task = MockTask::new(&rt)?;
     let mut join = join_all(rt.alloc(), many(rt.alloc(), 1000)?)?;
     let outputs = numbers(rt.alloc(), 1000)?;
-    assert_eq!(rt; poll_join(&task, &mut join), Poll::Ready(outputs));
+    assert_same(&rt, poll_join(&task, &mut join), Poll::Ready(outputs));
     Ok(())
 }
 
@@ -119,11 +124,12 @@ fn the_first_error_ends_a_try_join(rt: HostRuntime) -> Result<(), Fail> {
         at_once(Err(4)),
     ]?;
     let mut join = try_join_all(rt.alloc(), items)?;
-    assert_eq!(rt; poll_try_join(&task, &mut join), Poll::Ready(Err(4)));
+    assert_same(&rt, poll_try_join(&task, &mut join), Poll::Ready(Err(4)));
     for _ in 0..3 {
-        assert_eq!(rt;
+        assert_same(
+            &rt,
             poll_try_join(&task, &mut join),
-            Poll::Ready(Ok(Vec::new(rt.alloc())))
+            Poll::Ready(Ok(Vec::new(rt.alloc()))),
         );
     }
     Ok(())
@@ -135,10 +141,15 @@ fn a_try_join_without_an_error_gives_all_outputs(rt: HostRuntime) -> Result<(), 
     let items = vec![in rt.alloc(); at_once(Ok(1)), at_once(Ok(2)), at_once(Ok(3))]?;
     let mut join: TryJoinAll<Attempt, SharedReady> = TryJoinAll::over(&(), rt.alloc(), items)?;
     let outputs = vec![in rt.alloc(); 1, 2, 3]?;
-    assert_eq!(rt; poll_try_join(&task, &mut join), Poll::Ready(Ok(outputs)));
-    assert_eq!(rt;
+    assert_same(
+        &rt,
         poll_try_join(&task, &mut join),
-        Poll::Ready(Ok(Vec::new(rt.alloc())))
+        Poll::Ready(Ok(outputs)),
+    );
+    assert_same(
+        &rt,
+        poll_try_join(&task, &mut join),
+        Poll::Ready(Ok(Vec::new(rt.alloc()))),
     );
     Ok(())
 }
@@ -148,13 +159,15 @@ fn a_try_join_of_none_is_ready_at_once(rt: HostRuntime) -> Result<(), Fail> {
     let task = MockTask::new(&rt)?;
     let items: Vec<Attempt> = Vec::new(rt.alloc());
     let mut join = try_join_all(rt.alloc(), items)?;
-    assert_eq!(rt;
+    assert_same(
+        &rt,
         poll_try_join(&task, &mut join),
-        Poll::Ready(Ok(Vec::new(rt.alloc())))
+        Poll::Ready(Ok(Vec::new(rt.alloc()))),
     );
-    assert_eq!(rt;
+    assert_same(
+        &rt,
         poll_try_join(&task, &mut join),
-        Poll::Ready(Ok(Vec::new(rt.alloc())))
+        Poll::Ready(Ok(Vec::new(rt.alloc()))),
     );
     Ok(())
 }
@@ -173,14 +186,15 @@ fn an_ended_try_join_polls_no_future(rt: HostRuntime) -> Result<(), Fail> {
         items.push(Counted::new(future, Arc::try_clone(&polls)?))?;
     }
     let mut join = try_join_all(rt.alloc(), items)?;
-    assert_eq!(rt; poll_try_join(&task, &mut join), Poll::Ready(Err(7)));
-    assert_eq!(rt; polls.load(SeqCst), 2);
+    assert_same(&rt, poll_try_join(&task, &mut join), Poll::Ready(Err(7)));
+    assert_same(&rt, polls.load(SeqCst), 2);
     for _ in 0..2 {
-        assert_eq!(rt;
+        assert_same(
+            &rt,
             poll_try_join(&task, &mut join),
-            Poll::Ready(Ok(Vec::new(rt.alloc())))
+            Poll::Ready(Ok(Vec::new(rt.alloc()))),
         );
     }
-    assert_eq!(rt; polls.load(SeqCst), 2);
+    assert_same(&rt, polls.load(SeqCst), 2);
     Ok(())
 }

@@ -1,4 +1,5 @@
 // Joins under `block_on`, whose futures another thread wakes.
+use crate::assert_same::assert_same;
 use futures::executor::block_on;
 use futures_buffered_sets::join_all::join_all;
 use futures_buffered_sets::try_join_all::try_join_all;
@@ -22,7 +23,11 @@ fn a_join_while_a_thread_wakes(rt: HostRuntime) -> Result<(), Fail> {
     let child = thread::spawn(&rt, move || send_each(&senders))?;
     let outputs = block_on(&rt, join)?;
     child.join(&rt);
-    assert_eq!(rt; outputs, vec![in rt.alloc(); Ok(5), Ok(6), Ok(7), Ok(8)]?);
+    assert_same(
+        &rt,
+        outputs,
+        vec![in rt.alloc(); Ok(5), Ok(6), Ok(7), Ok(8)]?,
+    );
     Ok(())
 }
 
@@ -33,6 +38,6 @@ fn a_try_join_while_a_thread_wakes(rt: HostRuntime) -> Result<(), Fail> {
     let child = thread::spawn(&rt, move || send_each(&senders))?;
     let outputs = block_on(&rt, join)?;
     child.join(&rt);
-    assert_eq!(rt; outputs?, vec![in rt.alloc(); 5, 6, 7, 8]?);
+    assert_same(&rt, outputs?, vec![in rt.alloc(); 5, 6, 7, 8]?);
     Ok(())
 }

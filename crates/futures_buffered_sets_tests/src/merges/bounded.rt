@@ -1,4 +1,5 @@
 // Rows of the bounded merge over `CoreSource`s.
+use crate::assert_same::assert_same;
 use futures::task::Poll;
 use futures::test::MockTask;
 use futures_buffered_core::ready_source::CoreSource;
@@ -45,7 +46,7 @@ where
     let mut merge = merge_of(rt.alloc(), streams)?;
     let want = expected(rt.alloc(), items, 3)?;
     let got = answers(&task, &mut merge, want.len(), rt.alloc())?;
-    assert_eq!(rt; got.as_slice(), want.as_slice());
+    assert_same(rt, got.as_slice(), want.as_slice());
     Ok(())
 }
 
@@ -97,13 +98,21 @@ fn a_merge_of_none_is_full(rt: HostRuntime) -> Result<(), Fail> {
 fn a_stream_that_ended_leaves_room(rt: HostRuntime) -> Result<(), Fail> {
     let task = MockTask::new(&rt)?;
     let mut merge = merge_of(rt.alloc(), &[same(1, 0), same(2, 2)])?;
-    assert_eq!(rt; merge.try_push(same(3, 1)), Err(same(3, 1)));
-    assert_eq!(rt; poll_merge(&task, &mut merge), Poll::Ready(Some(2)));
+    assert_same(&rt, merge.try_push(same(3, 1)), Err(same(3, 1)));
+    assert_same(&rt, poll_merge(&task, &mut merge), Poll::Ready(Some(2)));
     assert!(rt; !merge.is_full());
     merge.push(same(4, 1));
     assert!(rt; merge.is_full());
-    assert_eq!(rt; sum_of(&task, &mut merge, 100), (6, 2, Poll::Ready(None)));
-    assert_eq!(rt; merge.try_push(same(5, 1)), Ok(()));
-    assert_eq!(rt; sum_of(&task, &mut merge, 100), (5, 1, Poll::Ready(None)));
+    assert_same(
+        &rt,
+        sum_of(&task, &mut merge, 100),
+        (6, 2, Poll::Ready(None)),
+    );
+    assert_same(&rt, merge.try_push(same(5, 1)), Ok(()));
+    assert_same(
+        &rt,
+        sum_of(&task, &mut merge, 100),
+        (5, 1, Poll::Ready(None)),
+    );
     Ok(())
 }

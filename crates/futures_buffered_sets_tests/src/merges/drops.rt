@@ -1,4 +1,5 @@
 // What is dropped, and how often.
+use crate::assert_same::assert_same;
 use futures::task::Poll;
 use futures::test::MockTask;
 use futures_buffered_core::ready_core::NewFault;
@@ -38,10 +39,10 @@ fn an_early_drop_drops_each_stream_once(rt: HostRuntime) -> Result<(), Fail> {
     let task = MockTask::new(&rt)?;
     let drops = counter(rt.alloc())?;
     let mut merge = bounded(rt.alloc(), &drops)?;
-    assert_eq!(rt; poll_merge(&task, &mut merge), Poll::Ready(Some(1)));
-    assert_eq!(rt; drops.load(SeqCst), 1);
+    assert_same(&rt, poll_merge(&task, &mut merge), Poll::Ready(Some(1)));
+    assert_same(&rt, drops.load(SeqCst), 1);
     drop(merge);
-    assert_eq!(rt; drops.load(SeqCst), 4);
+    assert_same(&rt, drops.load(SeqCst), 4);
     Ok(())
 }
 
@@ -50,10 +51,14 @@ fn a_stream_is_dropped_as_it_ends(rt: HostRuntime) -> Result<(), Fail> {
     let task = MockTask::new(&rt)?;
     let drops = counter(rt.alloc())?;
     let mut merge = bounded(rt.alloc(), &drops)?;
-    assert_eq!(rt; sum_of(&task, &mut merge, 100), (6, 6, Poll::Ready(None)));
-    assert_eq!(rt; drops.load(SeqCst), 4);
+    assert_same(
+        &rt,
+        sum_of(&task, &mut merge, 100),
+        (6, 6, Poll::Ready(None)),
+    );
+    assert_same(&rt, drops.load(SeqCst), 4);
     drop(merge);
-    assert_eq!(rt; drops.load(SeqCst), 4);
+    assert_same(&rt, drops.load(SeqCst), 4);
     Ok(())
 }
 
@@ -62,9 +67,9 @@ fn a_full_merge_hands_the_stream_back(rt: HostRuntime) -> Result<(), Fail> {
     let drops = counter(rt.alloc())?;
     let mut merge = bounded(rt.alloc(), &drops)?;
     let back = merge.try_push(DroppedStream::new(1, Arc::try_clone(&drops)?));
-    assert_eq!(rt; drops.load(SeqCst), 0);
+    assert_same(&rt, drops.load(SeqCst), 0);
     assert!(rt; back.is_err());
     drop(back);
-    assert_eq!(rt; drops.load(SeqCst), 1);
+    assert_same(&rt, drops.load(SeqCst), 1);
     Ok(())
 }

@@ -1,4 +1,5 @@
 // A count takes at most as many names as the limit, and an end begins a fresh one.
+use crate::assert_same::assert_same;
 use futures::task::Poll;
 use futures::test::MockTask;
 use futures_buffered_core::ready_shared::SharedReady;
@@ -32,14 +33,14 @@ fn one_name_a_count(rt: HostRuntime) -> Result<(), Fail> {
     let task = MockTask::new(&rt)?;
     let place = empty_place(rt.alloc())?;
     let mut merge = paused_and_five(&rt, rt.alloc(), &place)?;
-    assert_eq!(rt; poll_merge(&task, &mut merge), Poll::Pending);
+    assert_same(&rt, poll_merge(&task, &mut merge), Poll::Pending);
     assert!(rt; task.is_woken());
-    assert_eq!(rt; poll_merge(&task, &mut merge), Poll::Ready(Some(5)));
-    assert_eq!(rt; poll_merge(&task, &mut merge), Poll::Pending);
+    assert_same(&rt, poll_merge(&task, &mut merge), Poll::Ready(Some(5)));
+    assert_same(&rt, poll_merge(&task, &mut merge), Poll::Pending);
     let waker = taken_from(&rt, &place).ok_or("no waker")?;
     waker.wake();
     assert!(rt; task.is_woken());
-    assert_eq!(rt; poll_merge(&task, &mut merge), Poll::Ready(None));
+    assert_same(&rt, poll_merge(&task, &mut merge), Poll::Ready(None));
     Ok(())
 }
 
@@ -56,7 +57,7 @@ fn an_end_begins_a_fresh_count(rt: HostRuntime) -> Result<(), Fail> {
         streams,
         1,
     )?;
-    assert_eq!(rt; poll_merge(&task, &mut merge), Poll::Ready(None));
+    assert_same(&rt, poll_merge(&task, &mut merge), Poll::Ready(None));
     assert!(rt; !task.is_woken());
     Ok(())
 }
@@ -81,6 +82,6 @@ fn items_come_at_a_limit_of_one(rt: HostRuntime) -> Result<(), Fail> {
         Poll::Ready(Some(1)),
         Poll::Ready(None),
     ];
-    assert_eq!(rt; got.as_slice(), want.as_slice());
+    assert_same(&rt, got.as_slice(), want.as_slice());
     Ok(())
 }

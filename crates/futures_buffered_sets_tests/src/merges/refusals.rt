@@ -1,4 +1,5 @@
 // Which request is refused, and what is then left.
+use crate::assert_same::assert_same;
 use futures_buffered_core::ready_core::NewFault;
 use futures_buffered_sets::merge_bounded::MergeBounded;
 use std::alloc::{AllocError, Global};
@@ -28,7 +29,7 @@ fn a_refused_source(rt: HostRuntime) -> Result<(), Fail> {
         rt.alloc(),
         streams,
     );
-    assert_eq!(rt; refused.err(), Some(NewFault::Memory));
-    assert_eq!(rt; drops.load(SeqCst), 3);
+    assert_same(&rt, refused.err(), Some(NewFault::Memory));
+    assert_same(&rt, drops.load(SeqCst), 3);
     Ok(())
 }

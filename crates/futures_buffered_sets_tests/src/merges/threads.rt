@@ -1,4 +1,5 @@
 // Merges that run while other threads wake their streams.
+use crate::assert_same::assert_same;
 use futures::StreamExt;
 use futures::executor::block_on;
 use futures_buffered_core::ready_shared::SharedReady;
@@ -51,7 +52,7 @@ fn a_bounded_merge_while_a_thread_wakes(rt: HostRuntime) -> Result<(), Fail> {
     let child = thread::spawn(&rt, move || give_all(feeders.as_slice()))?;
     let items = block_on(&rt, merge.collect(rt.alloc()))??;
     child.join(&rt);
-    assert_eq!(rt; (items.len(), sum(items.as_slice())), (4, 15));
+    assert_same(&rt, (items.len(), sum(items.as_slice())), (4, 15));
     Ok(())
 }
 
@@ -65,6 +66,6 @@ fn a_growing_merge_while_a_thread_wakes(rt: HostRuntime) -> Result<(), Fail> {
     let child = thread::spawn(&rt, move || give_all(feeders.as_slice()))?;
     let items = block_on(&rt, merge.collect(rt.alloc()))??;
     child.join(&rt);
-    assert_eq!(rt; (items.len(), sum(items.as_slice())), (4, 15));
+    assert_same(&rt, (items.len(), sum(items.as_slice())), (4, 15));
     Ok(())
 }

@@ -1,4 +1,5 @@
 // The merge that grows.
+use crate::assert_same::assert_same;
 use futures::task::Poll;
 use futures::test::MockTask;
 use futures_buffered_core::ready_core::NewFault;
@@ -65,11 +66,19 @@ fn wake_all<R: Wait + Drop>(rt: &R, places: &[WakerPlace]) -> usize {
 fn all_streams_end_past_the_first_group(rt: HostRuntime) -> Result<(), Fail> {
     let task = MockTask::new(&rt)?;
     let (places, mut merge) = paused(&rt, rt.alloc())?;
-    assert_eq!(rt; merge.len(), 33);
-    assert_eq!(rt; poll_growing_merge(&task, &mut merge), Poll::Ready(Some(5)));
-    assert_eq!(rt; wake_all(&rt, places.as_slice()), 32);
-    assert_eq!(rt; poll_growing_merge(&task, &mut merge), Poll::Ready(None));
-    assert_eq!(rt; merge.len(), 0);
+    assert_same(&rt, merge.len(), 33);
+    assert_same(
+        &rt,
+        poll_growing_merge(&task, &mut merge),
+        Poll::Ready(Some(5)),
+    );
+    assert_same(&rt, wake_all(&rt, places.as_slice()), 32);
+    assert_same(
+        &rt,
+        poll_growing_merge(&task, &mut merge),
+        Poll::Ready(None),
+    );
+    assert_same(&rt, merge.len(), 0);
     Ok(())
 }
 
@@ -77,25 +86,39 @@ fn all_streams_end_past_the_first_group(rt: HostRuntime) -> Result<(), Fail> {
 fn pushes_and_drains(rt: HostRuntime) -> Result<(), Fail> {
     let task = MockTask::new(&rt)?;
     let mut merge = empty(rt.alloc())?;
-    assert_eq!(rt; poll_growing_merge(&task, &mut merge), Poll::Ready(None));
-    assert_eq!(rt; (merge.len(), merge.is_empty()), (0, true));
+    assert_same(
+        &rt,
+        poll_growing_merge(&task, &mut merge),
+        Poll::Ready(None),
+    );
+    assert_same(&rt, (merge.len(), merge.is_empty()), (0, true));
     assert!(rt; pushed(&mut merge, same(2, 2), 1));
     assert!(rt; pushed(&mut merge, same(3, 3), 1));
-    assert_eq!(rt; (merge.len(), merge.is_empty()), (2, false));
-    assert_eq!(rt;
+    assert_same(&rt, (merge.len(), merge.is_empty()), (2, false));
+    assert_same(
+        &rt,
         sum_of_growing(&task, &mut merge, 100),
-        (13, 5, Poll::Ready(None))
+        (13, 5, Poll::Ready(None)),
     );
-    assert_eq!(rt; merge.len(), 0);
+    assert_same(&rt, merge.len(), 0);
     assert!(rt; pushed(&mut merge, same(4, 4), 1));
-    assert_eq!(rt; merge.len(), 1);
-    assert_eq!(rt;
+    assert_same(&rt, merge.len(), 1);
+    assert_same(
+        &rt,
         sum_of_growing(&task, &mut merge, 100),
-        (16, 4, Poll::Ready(None))
+        (16, 4, Poll::Ready(None)),
     );
-    assert_eq!(rt; merge.len(), 0);
-    assert_eq!(rt; poll_growing_merge(&task, &mut merge), Poll::Ready(None));
-    assert_eq!(rt; poll_growing_merge(&task, &mut merge), Poll::Ready(None));
+    assert_same(&rt, merge.len(), 0);
+    assert_same(
+        &rt,
+        poll_growing_merge(&task, &mut merge),
+        Poll::Ready(None),
+    );
+    assert_same(
+        &rt,
+        poll_growing_merge(&task, &mut merge),
+        Poll::Ready(None),
+    );
     Ok(())
 }
 
@@ -111,9 +134,10 @@ fn the_items_of_four_streams(rt: HostRuntime) -> Result<(), Fail> {
         rt.alloc(),
         streams,
     )?;
-    assert_eq!(rt;
+    assert_same(
+        &rt,
         sum_of_growing(&task, &mut merge, 100),
-        (87, 17, Poll::Ready(None))
+        (87, 17, Poll::Ready(None)),
     );
     Ok(())
 }
@@ -124,10 +148,11 @@ fn a_thousand_streams(rt: HostRuntime) -> Result<(), Fail> {
     let mut merge = empty(rt.alloc())?;
     assert!(rt; pushed(&mut merge, same(3, 2), 1000));
     assert!(rt; pushed(&mut merge, from(1, 0), 50));
-    assert_eq!(rt; merge.len(), 1050);
-    assert_eq!(rt;
+    assert_same(&rt, merge.len(), 1050);
+    assert_same(
+        &rt,
         sum_of_growing(&task, &mut merge, 3000),
-        (6000, 2000, Poll::Ready(None))
+        (6000, 2000, Poll::Ready(None)),
     );
     Ok(())
 }
@@ -151,14 +176,22 @@ fn one_name_a_count(rt: HostRuntime) -> Result<(), Fail> {
     let mut merge = MergeUnbounded::with_limit(rt.alloc(), 1);
     let _ = merge.push(Paused::end(rt.clone()?, Arc::try_clone(&place)?));
     let _ = merge.push(Paused::item(rt.clone()?, Arc::try_clone(&place)?, 5));
-    assert_eq!(rt; poll_growing_merge(&task, &mut merge), Poll::Pending);
+    assert_same(&rt, poll_growing_merge(&task, &mut merge), Poll::Pending);
     assert!(rt; task.is_woken());
-    assert_eq!(rt; poll_growing_merge(&task, &mut merge), Poll::Ready(Some(5)));
-    assert_eq!(rt; poll_growing_merge(&task, &mut merge), Poll::Pending);
+    assert_same(
+        &rt,
+        poll_growing_merge(&task, &mut merge),
+        Poll::Ready(Some(5)),
+    );
+    assert_same(&rt, poll_growing_merge(&task, &mut merge), Poll::Pending);
     let waker = taken_from(&rt, &place).ok_or("no waker")?;
     waker.wake();
     assert!(rt; task.is_woken());
-    assert_eq!(rt; poll_growing_merge(&task, &mut merge), Poll::Ready(None));
+    assert_same(
+        &rt,
+        poll_growing_merge(&task, &mut merge),
+        Poll::Ready(None),
+    );
     Ok(())
 }
 
@@ -176,16 +209,18 @@ fn a_refused_push_changes_nothing(rt: HostRuntime) -> Result<(), Fail> {
         rt.alloc(),
         streams,
     )?;
-    assert_eq!(rt; merge.push(same(9, 9)), Err(same(9, 9)));
-    assert_eq!(rt; merge.len(), 32);
-    assert_eq!(rt;
+    assert_same(&rt, merge.push(same(9, 9)), Err(same(9, 9)));
+    assert_same(&rt, merge.len(), 32);
+    assert_same(
+        &rt,
         sum_of_growing(&task, &mut merge, 100),
-        (32, 32, Poll::Ready(None))
+        (32, 32, Poll::Ready(None)),
     );
-    assert_eq!(rt; merge.push(same(9, 2)), Ok(()));
-    assert_eq!(rt;
+    assert_same(&rt, merge.push(same(9, 2)), Ok(()));
+    assert_same(
+        &rt,
         sum_of_growing(&task, &mut merge, 100),
-        (18, 2, Poll::Ready(None))
+        (18, 2, Poll::Ready(None)),
     );
     Ok(())
 }
@@ -208,10 +243,14 @@ fn an_early_drop_drops_each_stream_once(rt: HostRuntime) -> Result<(), Fail> {
         rt.alloc(),
         streams,
     )?;
-    assert_eq!(rt; poll_growing_merge(&task, &mut merge), Poll::Ready(Some(1)));
-    assert_eq!(rt; drops.load(SeqCst), 1);
+    assert_same(
+        &rt,
+        poll_growing_merge(&task, &mut merge),
+        Poll::Ready(Some(1)),
+    );
+    assert_same(&rt, drops.load(SeqCst), 1);
     drop(merge);
-    assert_eq!(rt; drops.load(SeqCst), 40);
+    assert_same(&rt, drops.load(SeqCst), 40);
     Ok(())
 }
 
@@ -225,7 +264,7 @@ fn refused_sources_drop_the_streams(rt: HostRuntime) -> Result<(), Fail> {
         rt.alloc(),
         streams,
     );
-    assert_eq!(rt; refused.err(), Some(NewFault::Memory));
-    assert_eq!(rt; drops.load(SeqCst), 40);
+    assert_same(&rt, refused.err(), Some(NewFault::Memory));
+    assert_same(&rt, drops.load(SeqCst), 40);
     Ok(())
 }

@@ -1,4 +1,5 @@
 // A pending merge wakes its task when one of its streams is woken.
+use crate::assert_same::assert_same;
 use futures::task::Poll;
 use futures::test::MockTask;
 use futures_buffered_core::ready_shared::SharedReady;
@@ -32,11 +33,11 @@ fn a_feed_wakes_the_task(rt: HostRuntime) -> Result<(), Fail> {
     let task = MockTask::new(&rt)?;
     let (feeders, mut merge) = fed(&rt, rt.alloc(), 3)?;
     for (value, feeder) in feeders.iter().enumerate() {
-        assert_eq!(rt; poll_merge(&task, &mut merge), Poll::Pending);
+        assert_same(&rt, poll_merge(&task, &mut merge), Poll::Pending);
         let before = task.is_woken();
         feeder.give(7);
         assert_eq!(rt; (before, task.is_woken()), (false, true), "stream {value}");
-        assert_eq!(rt; poll_merge(&task, &mut merge), Poll::Ready(Some(7)));
+        assert_same(&rt, poll_merge(&task, &mut merge), Poll::Ready(Some(7)));
     }
     Ok(())
 }
@@ -45,12 +46,12 @@ fn a_feed_wakes_the_task(rt: HostRuntime) -> Result<(), Fail> {
 fn the_last_end_gives_none(rt: HostRuntime) -> Result<(), Fail> {
     let task = MockTask::new(&rt)?;
     let (feeders, mut merge) = fed(&rt, rt.alloc(), 2)?;
-    assert_eq!(rt; poll_merge(&task, &mut merge), Poll::Pending);
+    assert_same(&rt, poll_merge(&task, &mut merge), Poll::Pending);
     for feeder in &feeders {
         feeder.close();
     }
     assert!(rt; task.is_woken());
-    assert_eq!(rt; poll_merge(&task, &mut merge), Poll::Ready(None));
-    assert_eq!(rt; poll_merge(&task, &mut merge), Poll::Ready(None));
+    assert_same(&rt, poll_merge(&task, &mut merge), Poll::Ready(None));
+    assert_same(&rt, poll_merge(&task, &mut merge), Poll::Ready(None));
     Ok(())
 }

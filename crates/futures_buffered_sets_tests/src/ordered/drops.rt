@@ -1,4 +1,5 @@
 // What is dropped, and how often.
+use crate::assert_same::assert_same;
 use futures::task::Poll;
 use futures::test::MockTask;
 use futures_buffered_core::ready_source::CoreSource;
@@ -33,9 +34,9 @@ fn each_future_is_dropped_once(rt: HostRuntime) -> Result<(), Fail> {
     let mut queue: Queue = FuturesOrderedBounded::over(&(), rt.alloc(), 3)?;
     assert!(rt; pushed(&mut queue, &drops, 3)?);
     assert!(rt; poll_queue(&task, &mut queue) == Poll::Ready(Some(())));
-    assert_eq!(rt; drops.load(SeqCst), 1);
+    assert_same(&rt, drops.load(SeqCst), 1);
     drop(queue);
-    assert_eq!(rt; drops.load(SeqCst), 3);
+    assert_same(&rt, drops.load(SeqCst), 3);
     Ok(())
 }
 
@@ -44,8 +45,8 @@ fn a_refused_future_is_not_held(rt: HostRuntime) -> Result<(), Fail> {
     let drops = new_counter(rt.alloc())?;
     let mut queue: Queue = FuturesOrderedBounded::over(&(), rt.alloc(), 2)?;
     assert!(rt; !pushed(&mut queue, &drops, 5)?);
-    assert_eq!(rt; (drops.load(SeqCst), queue.len()), (3, 2));
+    assert_same(&rt, (drops.load(SeqCst), queue.len()), (3, 2));
     drop(queue);
-    assert_eq!(rt; drops.load(SeqCst), 5);
+    assert_same(&rt, drops.load(SeqCst), 5);
     Ok(())
 }

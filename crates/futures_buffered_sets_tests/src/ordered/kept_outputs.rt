@@ -1,4 +1,5 @@
 // Additions of many, and outputs that come early.
+use crate::assert_same::assert_same;
 use futures::task::Poll;
 use futures::test::MockTask;
 use futures_buffered_core::ready_core::Woke;
@@ -29,9 +30,9 @@ fn try_outputs<R: Abort, S: ReadySource>(
 fn extend_stops_at_the_first_refusal(rt: HostRuntime) -> Result<(), Fail> {
     let mut queue: Queue = FuturesOrderedBounded::over(&(), rt.alloc(), 2)?;
     let mut items = ready_up_to(rt.alloc(), 4)?.into_iter();
-    assert_eq!(rt; queue.extend(&mut items), Err(ready(2)));
-    assert_eq!(rt; queue.len(), 2);
-    assert_eq!(rt; items.next(), Some(ready(3)));
+    assert_same(&rt, queue.extend(&mut items), Err(ready(2)));
+    assert_same(&rt, queue.len(), 2);
+    assert_same(&rt, items.next(), Some(ready(3)));
     Ok(())
 }
 
@@ -41,7 +42,7 @@ fn extend_adds_each_at_the_back(rt: HostRuntime) -> Result<(), Fail> {
     let mut queue: Queue = FuturesOrderedBounded::over(&(), rt.alloc(), 4)?;
     queue.push_front(ready(9));
     assert!(rt; queue.extend(ready_up_to(rt.alloc(), 3)?).is_ok());
-    assert_eq!(rt; poll_queue(&task, &mut queue), Poll::Ready(Some(9)));
+    assert_same(&rt, poll_queue(&task, &mut queue), Poll::Ready(Some(9)));
     try_outputs(&rt, &task, &mut queue, 3);
     Ok(())
 }
@@ -51,9 +52,10 @@ fn holds_what_an_iterator_gives_in_order(rt: HostRuntime) -> Result<(), Fail> {
     let task = MockTask::new(&rt)?;
     let items = ready_up_to(rt.alloc(), 5)?;
     let mut queue = FuturesOrderedBounded::from_iter(rt.alloc(), items)?;
-    assert_eq!(rt;
+    assert_same(
+        &rt,
         (queue.len(), queue.capacity(), queue.is_full()),
-        (5, 5, true)
+        (5, 5, true),
     );
     try_outputs(&rt, &task, &mut queue, 5);
     Ok(())
@@ -79,7 +81,7 @@ fn many_outputs_are_kept(rt: HostRuntime) -> Result<(), Fail> {
     let mut queue: Queue = FuturesOrderedBounded::over(&(), rt.alloc(), 2)?;
     queue.push_back(late(0));
     try_early_outputs(&rt, &task, &mut queue);
-    assert_eq!(rt; (queue.len(), queue.is_full()), (200, false));
+    assert_same(&rt, (queue.len(), queue.is_full()), (200, false));
     assert!(rt; marks(&mut queue, 0));
     try_outputs(&rt, &task, &mut queue, 200);
     Ok(())

@@ -1,4 +1,5 @@
 // The limit of a queue is the one that was chosen.
+use crate::assert_same::assert_same;
 use futures::task::Poll;
 use futures::test::MockTask;
 use futures_buffered_core::ready_source::CoreSource;
@@ -19,13 +20,13 @@ fn polled(task: &MockTask, queue: &mut Queue) -> (Poll<Option<u64>>, bool) {
 #[test]
 fn queues_have_the_limit(rt: HostRuntime) -> Result<(), Fail> {
     let usual: FuturesOrderedBounded<Timed, _> = FuturesOrderedBounded::new(rt.alloc(), 3)?;
-    assert_eq!(rt; (usual.limit(), usual.capacity()), (POLL_LIMIT, 3));
+    assert_same(&rt, (usual.limit(), usual.capacity()), (POLL_LIMIT, 3));
     let chosen: FuturesOrderedBounded<Timed, _> = FuturesOrderedBounded::with_limit(
         rt.alloc(),
         3,
         5,
     )?;
-    assert_eq!(rt; (chosen.limit(), chosen.capacity()), (5, 3));
+    assert_same(&rt, (chosen.limit(), chosen.capacity()), (5, 3));
     Ok(())
 }
 
@@ -36,8 +37,8 @@ fn a_poll_ends_at_the_limit(rt: HostRuntime) -> Result<(), Fail> {
     let mut queue: Queue = FuturesOrderedBounded::over_limit(&(), rt.alloc(), 2, 1)?;
     assert!(rt; queue.try_push_back(late(0)).is_ok());
     assert!(rt; queue.try_push_back(late(1)).is_ok());
-    assert_eq!(rt; polled(&task, &mut queue), (Poll::Pending, true));
-    assert_eq!(rt; polled(&task, &mut queue), (Poll::Pending, true));
-    assert_eq!(rt; polled(&task, &mut queue), (Poll::Pending, false));
+    assert_same(&rt, polled(&task, &mut queue), (Poll::Pending, true));
+    assert_same(&rt, polled(&task, &mut queue), (Poll::Pending, true));
+    assert_same(&rt, polled(&task, &mut queue), (Poll::Pending, false));
     Ok(())
 }

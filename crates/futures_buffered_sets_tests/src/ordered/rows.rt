@@ -1,4 +1,5 @@
 // Rows of calls of a queue over a `CoreSource`, and what each call answers.
+use crate::assert_same::assert_same;
 use futures::task::Poll;
 use futures::test::MockTask;
 use futures_buffered_core::ready_core::Woke;
@@ -201,11 +202,11 @@ fn a_queue_without_slots_is_full_and_ended(rt: HostRuntime) -> Result<(), Fail> 
 #[test]
 fn says_how_many_entries_are_left(rt: HostRuntime) -> Result<(), Fail> {
     let mut queue: Queue = FuturesOrderedBounded::over(&(), rt.alloc(), 2)?;
-    assert_eq!(rt; queue.size_hint(), (0, Some(0)));
+    assert_same(&rt, queue.size_hint(), (0, Some(0)));
     assert!(rt; queue.is_empty());
     assert!(rt; queue.try_push_back(ready(1)).is_ok());
-    assert_eq!(rt; queue.size_hint(), (1, Some(1)));
+    assert_same(&rt, queue.size_hint(), (1, Some(1)));
     let text = format!(in rt.alloc(); "{queue:?}")?;
-    assert_eq!(rt; text.as_str(), "FuturesOrderedBounded { ... }");
+    assert_same(&rt, text.as_str(), "FuturesOrderedBounded { ... }");
     Ok(())
 }

@@ -1,4 +1,5 @@
 // What is dropped, and how often.
+use crate::assert_same::assert_same;
 use futures::task::Poll;
 use futures::test::MockTask;
 use futures_buffered_core::ready_source::CoreSource;
@@ -32,11 +33,11 @@ fn each_future_is_dropped_once(rt: HostRuntime) -> Result<(), Fail> {
     let drops = new_counter(rt.alloc())?;
     let mut queue: Queue = FuturesOrdered::over((), rt.alloc(), 1)?;
     assert!(rt; pushed(&mut queue, &drops, 3)?);
-    assert_eq!(rt; drops.load(SeqCst), 0);
+    assert_same(&rt, drops.load(SeqCst), 0);
     assert!(rt; poll_growing_queue(&task, &mut queue) == Poll::Ready(Some(())));
-    assert_eq!(rt; (drops.load(SeqCst), queue.len()), (3, 2));
+    assert_same(&rt, (drops.load(SeqCst), queue.len()), (3, 2));
     assert!(rt; pushed(&mut queue, &drops, 2)?);
     drop(queue);
-    assert_eq!(rt; drops.load(SeqCst), 5);
+    assert_same(&rt, drops.load(SeqCst), 5);
     Ok(())
 }

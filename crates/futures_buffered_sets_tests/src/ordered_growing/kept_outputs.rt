@@ -1,4 +1,5 @@
 // Additions of many, and outputs that come early.
+use crate::assert_same::assert_same;
 use futures::task::Poll;
 use futures::test::MockTask;
 use futures_buffered_core::ready_shared::SharedReady;
@@ -47,7 +48,11 @@ fn extend_adds_each_at_the_back(rt: HostRuntime) -> Result<(), Fail> {
     let mut queue = FuturesOrdered::new(rt.alloc());
     assert!(rt; queue.push_front(ready(9)).is_ok());
     assert!(rt; queue.extend(ready_up_to(rt.alloc(), 3)?).is_ok());
-    assert_eq!(rt; poll_growing_queue(&task, &mut queue), Poll::Ready(Some(9)));
+    assert_same(
+        &rt,
+        poll_growing_queue(&task, &mut queue),
+        Poll::Ready(Some(9)),
+    );
     try_outputs(&rt, &task, &mut queue, 3);
     Ok(())
 }
@@ -77,9 +82,13 @@ fn many_outputs_are_kept(rt: HostRuntime) -> Result<(), Fail> {
     let mut queue: Queue = FuturesOrdered::over((), rt.alloc(), 1)?;
     assert!(rt; queue.push_back(late(0)).is_ok());
     try_early_outputs(&rt, &task, &mut queue);
-    assert_eq!(rt; queue.len(), 200);
+    assert_same(&rt, queue.len(), 200);
     assert!(rt; queue.push_front(ready(7)).is_ok());
-    assert_eq!(rt; poll_growing_queue(&task, &mut queue), Poll::Ready(Some(7)));
-    assert_eq!(rt; (queue.len(), queue.is_empty()), (200, false));
+    assert_same(
+        &rt,
+        poll_growing_queue(&task, &mut queue),
+        Poll::Ready(Some(7)),
+    );
+    assert_same(&rt, (queue.len(), queue.is_empty()), (200, false));
     Ok(())
 }

@@ -1,4 +1,5 @@
 // The limit of a queue is the one that was chosen.
+use crate::assert_same::assert_same;
 use futures::task::Poll;
 use futures::test::MockTask;
 use futures_buffered_core::ready_source::CoreSource;
@@ -32,8 +33,8 @@ fn a_poll_ends_at_the_limit(rt: HostRuntime) -> Result<(), Fail> {
     let mut queue: Queue = FuturesOrdered::over_limit((), rt.alloc(), 2, 1)?;
     assert!(rt; queue.push_back(late(0)).is_ok());
     assert!(rt; queue.push_back(late(1)).is_ok());
-    assert_eq!(rt; polled(&task, &mut queue), (Poll::Pending, true));
-    assert_eq!(rt; polled(&task, &mut queue), (Poll::Pending, true));
-    assert_eq!(rt; polled(&task, &mut queue), (Poll::Pending, false));
+    assert_same(&rt, polled(&task, &mut queue), (Poll::Pending, true));
+    assert_same(&rt, polled(&task, &mut queue), (Poll::Pending, true));
+    assert_same(&rt, polled(&task, &mut queue), (Poll::Pending, false));
     Ok(())
 }

@@ -1,4 +1,5 @@
 // Which request is refused, and what is then left.
+use crate::assert_same::assert_same;
 use futures::task::Poll;
 use futures::test::MockTask;
 use futures_buffered_core::ready_core::{MAX_CAPACITY, NewFault};
@@ -14,10 +15,10 @@ type Queue = FuturesOrdered<Timed, Rationed>;
 fn a_queue_whose_group_is_refused_is_not_there(rt: HostRuntime) -> Result<(), Fail> {
     let none = ration(rt.alloc(), 0)?;
     let refused: Result<Queue, NewFault> = FuturesOrdered::over(none, rt.alloc(), 1);
-    assert_eq!(rt; refused.err(), Some(NewFault::Memory));
+    assert_same(&rt, refused.err(), Some(NewFault::Memory));
     let none = ration(rt.alloc(), 0)?;
     let refused: Result<Queue, NewFault> = FuturesOrdered::over_limit(none, rt.alloc(), 1, 7);
-    assert_eq!(rt; refused.err(), Some(NewFault::Memory));
+    assert_same(&rt, refused.err(), Some(NewFault::Memory));
     let one = ration(rt.alloc(), 1)?;
     let made: Result<Queue, NewFault> = FuturesOrdered::over(one, rt.alloc(), 1);
     assert!(rt; made.is_ok());
@@ -29,18 +30,18 @@ fn a_queue_of_too_many_slots_is_not_there(rt: HostRuntime) -> Result<(), Fail> {
     let past = MAX_CAPACITY + 1;
     let none = ration(rt.alloc(), 0)?;
     let refused: Result<Queue, NewFault> = FuturesOrdered::over(none, rt.alloc(), past);
-    assert_eq!(rt; refused.err(), Some(NewFault::TooLarge));
+    assert_same(&rt, refused.err(), Some(NewFault::TooLarge));
     let refused: Result<FuturesOrdered<Timed, _>, NewFault> = FuturesOrdered::with_capacity(
         rt.alloc(),
         past,
     );
-    assert_eq!(rt; refused.err(), Some(NewFault::TooLarge));
+    assert_same(&rt, refused.err(), Some(NewFault::TooLarge));
     let refused: Result<FuturesOrdered<Timed, _>, NewFault> = FuturesOrdered::with_limit(
         rt.alloc(),
         past,
         1,
     );
-    assert_eq!(rt; refused.err(), Some(NewFault::TooLarge));
+    assert_same(&rt, refused.err(), Some(NewFault::TooLarge));
     Ok(())
 }
 
@@ -52,14 +53,30 @@ fn a_refused_push_changes_nothing(rt: HostRuntime) -> Result<(), Fail> {
     let mut queue: Queue = FuturesOrdered::over(one, rt.alloc(), 2)?;
     assert!(rt; queue.push_back(ready(1)).is_ok());
     assert!(rt; queue.push_front(ready(2)).is_ok());
-    assert_eq!(rt; queue.push_back(ready(3)), Err(ready(3)));
-    assert_eq!(rt; queue.push_front(ready(3)), Err(ready(3)));
-    assert_eq!(rt; queue.len(), 2);
-    assert_eq!(rt; poll_growing_queue(&task, &mut queue), Poll::Ready(Some(2)));
+    assert_same(&rt, queue.push_back(ready(3)), Err(ready(3)));
+    assert_same(&rt, queue.push_front(ready(3)), Err(ready(3)));
+    assert_same(&rt, queue.len(), 2);
+    assert_same(
+        &rt,
+        poll_growing_queue(&task, &mut queue),
+        Poll::Ready(Some(2)),
+    );
     assert!(rt; queue.push_front(ready(4)).is_ok());
-    assert_eq!(rt; poll_growing_queue(&task, &mut queue), Poll::Ready(Some(4)));
-    assert_eq!(rt; poll_growing_queue(&task, &mut queue), Poll::Ready(Some(1)));
-    assert_eq!(rt; poll_growing_queue(&task, &mut queue), Poll::Ready(None));
+    assert_same(
+        &rt,
+        poll_growing_queue(&task, &mut queue),
+        Poll::Ready(Some(4)),
+    );
+    assert_same(
+        &rt,
+        poll_growing_queue(&task, &mut queue),
+        Poll::Ready(Some(1)),
+    );
+    assert_same(
+        &rt,
+        poll_growing_queue(&task, &mut queue),
+        Poll::Ready(None),
+    );
     Ok(())
 }
 
@@ -81,10 +98,18 @@ fn extend_stops_at_the_first_refusal(rt: HostRuntime) -> Result<(), Fail> {
     let mut queue: Queue = FuturesOrdered::over(one, rt.alloc(), 2)?;
     let items = [ready(0), ready(1), ready(2), ready(3)];
     let mut items = Vec::from_array(rt.alloc(), items)?.into_iter();
-    assert_eq!(rt; queue.extend(&mut items), Err(ready(2)));
-    assert_eq!(rt; queue.len(), 2);
-    assert_eq!(rt; items.next(), Some(ready(3)));
-    assert_eq!(rt; poll_growing_queue(&task, &mut queue), Poll::Ready(Some(0)));
-    assert_eq!(rt; poll_growing_queue(&task, &mut queue), Poll::Ready(Some(1)));
+    assert_same(&rt, queue.extend(&mut items), Err(ready(2)));
+    assert_same(&rt, queue.len(), 2);
+    assert_same(&rt, items.next(), Some(ready(3)));
+    assert_same(
+        &rt,
+        poll_growing_queue(&task, &mut queue),
+        Poll::Ready(Some(0)),
+    );
+    assert_same(
+        &rt,
+        poll_growing_queue(&task, &mut queue),
+        Poll::Ready(Some(1)),
+    );
     Ok(())
 }

@@ -1,4 +1,5 @@
 // Rows of calls of a queue over `CoreSource`s, and what each call answers.
+use crate::assert_same::assert_same;
 use futures::task::Poll;
 use futures::test::MockTask;
 use futures_buffered_core::ready_source::CoreSource;
@@ -147,11 +148,11 @@ fn order_stays_where_the_numbers_wrap(rt: HostRuntime) -> Result<(), Fail> {
 #[test]
 fn says_how_many_entries_are_left(rt: HostRuntime) -> Result<(), Fail> {
     let mut queue: Queue = FuturesOrdered::over((), rt.alloc(), 2)?;
-    assert_eq!(rt; queue.size_hint(), (0, Some(0)));
+    assert_same(&rt, queue.size_hint(), (0, Some(0)));
     assert!(rt; queue.is_empty());
     assert!(rt; queue.push_back(ready(1)).is_ok());
-    assert_eq!(rt; queue.size_hint(), (1, Some(1)));
+    assert_same(&rt, queue.size_hint(), (1, Some(1)));
     let text = format!(in rt.alloc(); "{queue:?}")?;
-    assert_eq!(rt; text.as_str(), "FuturesOrdered { ... }");
+    assert_same(&rt, text.as_str(), "FuturesOrdered { ... }");
     Ok(())
 }
