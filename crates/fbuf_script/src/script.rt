@@ -1,11 +1,11 @@
 //! A whole script: its bytes are read to the end, and a line is written for each of its lines.
-ghost use Rattle.std.specs.Prelude.{◌≡◌, ◌≢◌, ◌++◌, ◌⊎◌, ℕ, true, take};
+ghost use Rattle.std.specs.Prelude.{◌≡◌, ◌≢◌, [], ◌++◌, ◌⊎◌, ℕ, true, take};
 ghost use Rattle.std.specs.Prelude.{IfOk, IfErr, OnOk, OnErr, IfSome};
 ghost use Rattle.std.specs.Io.KnownBytes.{Appends};
 ghost use Rattle.futures.specs.Task.{Keeps};
 ghost use Rattle.fbuf_script.specs.Script.{AppendsReplies, AppendsFirstReplies};
 ghost use Rattle.fbuf_script.specs.Script.{AppendsPartOfReplies};
-ghost use Rattle.fbuf_lines.specs.Object.{LineGives};
+ghost use Rattle.fbuf_lines.specs.Object.{LineGives, first_stage};
 ghost use Rattle.fbuf_lines.specs.Reply.{reply_line};
 ghost use Rattle.fbuf_lines.specs.declared.reply.Reply.{Reply};
 
@@ -66,7 +66,9 @@ pub fn script<R: Read + Drop, W: Write + Drop>(
     ensures kept { Keeps cx.old cx.new }
 {
     let bytes = read_to_end(alloc, input)?;
-    answer_all(alloc, cx, &bytes, output)
+    let mut stage = Stage::new();
+    let mut replies = Vec::new(alloc);
+    answer_all(alloc, cx, &bytes, &mut stage, &mut replies, output)
 }
 
 fn read_to_end<R: Read + Drop>(
@@ -95,12 +97,17 @@ fn read_to_end<R: Read + Drop>(
     unreachable!()
 }
 
+// Answers each line on a stage where nothing is begun. What is not yet written stands in `replies`.
 fn answer_all<W: Write + Drop>(
     alloc: Global,
     cx: &mut Context<'_>,
     bytes: &[u8],
+    stage: &mut Stage,
+    replies: &mut Vec<u8>,
     output: &mut Watched<W>,
 ) -> Result<(), ScriptFault>
+    requires begins { stage.old ≡ first_stage }
+    requires none { replies.old.items ≡ [] }
     ensures ok { OnOk result
         (AppendsReplies bytes.now (W.contents output.old.inner) (W.contents output.new.inner)) }
     ensures unfailed { OnOk result (output.new.failed ≡ output.old.failed) }
@@ -112,22 +119,20 @@ fn answer_all<W: Write + Drop>(
     ensures read { result ≢ Err ScriptFault.Read }
     ensures kept { Keeps cx.old cx.new }
 {
-    let mut stage = Stage::new();
-    let mut replies = Vec::new(alloc);
     let mut rest = bytes;
     while let Some((line, after)) = first_line(rest) {
-        let Ok(()) = append_reply(alloc, &mut stage, line, cx, &mut replies) else {
-            write_all(output, &replies)?;
+        let Ok(()) = append_reply(alloc, stage, line, cx, replies) else {
+            write_all(output, replies)?;
             return Err(ScriptFault::Memory);
         };
         rest = after;
         if replies.len() < WRITE_SIZE {
             continue;
         }
-        write_all(output, &replies)?;
+        write_all(output, replies)?;
         replies.clear();
     }
-    write_all(output, &replies)
+    write_all(output, replies)
 }
 
 // Answers one line, and appends the reply. Where there is no memory for either, the text stays.

@@ -8,7 +8,7 @@ pub loop-line-init : goal.loop-line-init
 loop-line-init g c =
     let start = RepliesSoFar-start c.args.bytes.now (g.W.Write.contents c.args.output.now.inner) in
     record {
-      so_far = rw (c.new-replies.ensures.items, c.new-stage.ensures) start;
+      so_far = rw (c.requires.none, c.requires.begins) start;
       unfailed = refl;
       kept = λ fact holds. holds;
     }
