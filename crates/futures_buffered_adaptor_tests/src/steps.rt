@@ -46,12 +46,14 @@ pub enum Answer<T> {
 }
 
 /// What a row is tried on.
-pub trait Polled<T>: Drop {
+pub trait Polled<T: Copy>: Drop {
     /// One poll in a task.
     fn poll_once(&mut self, task: &MockTask) -> Answer<T>;
 
-    /// What it answers to a call that only reads.
-    fn says(&self, call: Call<T>) -> Answer<T>;
+    /// What it answers to a call that only reads. It has none of these by itself.
+    fn says(&self, _call: Call<T>) -> Answer<T> {
+        Answer::Unknown
+    }
 }
 
 pub fn answered<T>(polled: Poll<Option<T>>) -> Answer<T> {

@@ -1,4 +1,6 @@
 // Outputs as the futures finish, of at most so many at a time.
+ghost use Rattle.std.specs.Prelude.{◌<◌};
+
 use crate::cells::{Cells, new_cells, sent};
 use crate::list_stream::ListStream;
 use crate::paused_end::PausedEnd;
@@ -30,10 +32,6 @@ impl<R: Wait + Drop> Polled<u64> for BufferUnordered<ListStream<Receiver<u64, R>
 impl<R: Wait + Drop> Polled<u64> for BufferUnordered<PausedEnd<Receiver<u64, R>>, SharedReady> {
     fn poll_once(&mut self, task: &MockTask) -> Answer<u64> {
         answered(poll_buffer(task, self))
-    }
-
-    fn says(&self, call: Call<u64>) -> Answer<u64> {
-        said(self, call)
     }
 }
 

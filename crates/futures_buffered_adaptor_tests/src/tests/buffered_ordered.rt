@@ -1,4 +1,6 @@
 // Outputs in the order of the items, of at most so many held at a time.
+ghost use Rattle.std.specs.Prelude.{◌<◌};
+
 use crate::cells::{Cells, new_cells};
 use crate::list_stream::ListStream;
 use crate::paused_end::PausedEnd;
@@ -33,10 +35,6 @@ impl<R: Wait + Drop> Polled<u64> for BufferedOrdered<ListStream<Receiver<u64, R>
 impl<R: Wait + Drop> Polled<u64> for BufferedOrdered<PausedEnd<Receiver<u64, R>>, SharedReady> {
     fn poll_once(&mut self, task: &MockTask) -> Answer<u64> {
         answered(poll_in_order(task, self))
-    }
-
-    fn says(&self, call: Call<u64>) -> Answer<u64> {
-        said(self, call)
     }
 }
 

@@ -31,10 +31,6 @@ impl<R: Wait + Drop> Polled<u64> for FuturesOrderedBounded<Receiver<u64, R>, Sha
     fn poll_once(&mut self, task: &MockTask) -> Answer<u64> {
         answered(poll_queue(task, self))
     }
-
-    fn says(&self, call: Call<u64>) -> Answer<u64> {
-        said(self, call)
-    }
 }
 
 impl<R: Wait + Drop> Polled<u64> for FuturesUnordered<Receiver<u64, R>, SharedReady> {
@@ -65,10 +61,6 @@ impl<R: Wait + Drop> Polled<u64> for JoinAll<Receiver<u64, R>, SharedReady> {
             Poll::Pending => Answer::Pending,
         }
     }
-
-    fn says(&self, _call: Call<u64>) -> Answer<u64> {
-        Answer::Unknown
-    }
 }
 
 // No row ends with the outputs of a try join.
@@ -79,10 +71,6 @@ impl<R: Wait + Drop> Polled<Attempt> for TryJoinAll<Receiver<Attempt, R>, Shared
             Poll::Ready(Ok(_)) => Answer::Unknown,
             Poll::Pending => Answer::Pending,
         }
-    }
-
-    fn says(&self, _call: Call<Attempt>) -> Answer<Attempt> {
-        Answer::Unknown
     }
 }
 

@@ -11,10 +11,6 @@ impl Polled<u64> for MergeBounded<Countdown, SharedReady> {
     fn poll_once(&mut self, task: &MockTask) -> Answer<u64> {
         answered(poll_merge(task, self))
     }
-
-    fn says(&self, _call: Call<u64>) -> Answer<u64> {
-        Answer::Unknown
-    }
 }
 
 impl Polled<u64> for MergeUnbounded<Countdown, SharedReady> {
