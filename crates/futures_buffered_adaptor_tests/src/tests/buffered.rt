@@ -138,8 +138,10 @@ where
     R: Wait + AllocGlobal + Clone + Drop,
     requires { 0 < n }
 {
-    let (_sender, receiver) = one_shot::<u64, R>(rt, rt.alloc())?;
-    let receivers = vec![in rt.alloc(); receiver]?;
+    let Cells {
+        senders: _senders,
+        receivers,
+    } = new_cells::<u64, R>(rt, rt.alloc(), 1)?;
     let made = ListStream::new(receivers).buffered_unordered(rt.alloc(), n);
     Ok(made.err())
 }
