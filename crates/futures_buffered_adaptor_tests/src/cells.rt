@@ -2,18 +2,13 @@
 use crate::receiver::{Receiver, Sender, one_shot};
 use std::alloc::{AllocError, Global};
 use std::sync::Wait;
+use test_parts::keep::keep;
 
 /// The receiver at each place is that of the sender at this place.
 #[derive(Drop)]
 pub struct Cells<T, R> {
     pub senders: Vec<Sender<T, R>>,
     pub receivers: Vec<Receiver<T, R>>,
-}
-
-/// Adds at the end. An item that finds no room is dropped here, so that a caller's `?` has none to drop.
-pub fn keep<T: Drop>(row: &mut Vec<T>, item: T) -> Result<(), AllocError> {
-    row.push(item)?;
-    Ok(())
 }
 
 fn add_cell<T: Drop, R: Clone + Drop>(

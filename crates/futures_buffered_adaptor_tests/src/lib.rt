@@ -9,8 +9,6 @@ mod countdown;
 #[cfg(test)]
 mod list_stream;
 #[cfg(test)]
-mod ordered_polling;
-#[cfg(test)]
 mod paused_end;
 #[cfg(test)]
 mod polling;
@@ -20,6 +18,8 @@ mod ready_at_once;
 mod receiver;
 #[cfg(test)]
 mod same;
+#[cfg(test)]
+mod steps;
 #[cfg(test)]
 mod tests;
 #[cfg(test)]

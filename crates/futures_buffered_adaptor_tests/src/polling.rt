@@ -3,10 +3,10 @@ use futures::task::Poll;
 use futures::test::MockTask;
 use futures::{Future, Stream};
 use futures_buffered::{
-    BufferUnordered, ForEachConcurrent, FuturesOrderedBounded, FuturesUnordered,
-    FuturesUnorderedBounded, JoinAll, SlotFuture, TryBufferUnordered, TryJoinAll,
+    BufferUnordered, BufferedOrdered, ForEachConcurrent, SlotFuture, TryBufferUnordered,
+    TryBufferedOrdered,
 };
-use futures_buffered_core::ready_source::{NewSource, ReadySource};
+use futures_buffered_core::ready_source::ReadySource;
 
 /// One poll in a task.
 pub fn poll_buffer<St: Stream, S: ReadySource>(
@@ -36,6 +36,36 @@ where
     task.enter(|cx| buffer.poll_next(cx))
 }
 
+/// One poll in a task.
+pub fn poll_in_order<St: Stream, S: ReadySource>(
+    task: &MockTask,
+    buffer: &mut BufferedOrdered<St, S>,
+) -> Poll<Option<<St::Item as SlotFuture<S::Waker>>::Output>>
+where
+    St::Item: SlotFuture<S::Waker>,
+    <St::Item as SlotFuture<S::Waker>>::Output: Drop,
+    requires streams { (stream : St) → St.can_poll stream }
+    requires items { (future : St.Item) → St.Item.can_poll future }
+{
+    task.enter(|cx| buffer.poll_next(cx))
+}
+
+/// One poll in a task.
+pub fn poll_try_in_order<St, F, T, E, S: ReadySource>(
+    task: &MockTask,
+    buffer: &mut TryBufferedOrdered<St, F, S>,
+) -> Poll<Option<Result<T, E>>>
+where
+    St: Stream<Item = Result<F, E>>,
+    F: SlotFuture<S::Waker, Output = Result<T, E>>,
+    T: Drop,
+    E: Drop,
+    requires streams { (stream : St) → St.can_poll stream }
+    requires items { (future : F) → F.can_poll future }
+{
+    task.enter(|cx| buffer.poll_next(cx))
+}
+
 /// One poll in a task, of a closure that may always be called.
 pub fn poll_for_each<St: Stream, F, Fut, S: ReadySource>(
     task: &MockTask,
@@ -49,61 +79,4 @@ where
     requires closures { (closure : F) (item : St.Item) → F.pre closure item }
 {
     task.enter(|cx| each.poll(cx))
-}
-
-/// One poll of a set in a task.
-pub fn poll_stream<F: SlotFuture<S::Waker>, S: ReadySource>(
-    task: &MockTask,
-    set: &mut FuturesUnorderedBounded<F, S>,
-) -> Poll<Option<F::Output>>
-    requires { (future : F) → F.can_poll future }
-{
-    task.enter(|cx| set.poll_next(cx))
-}
-
-/// One poll of a growing set in a task.
-pub fn poll_growing<F: SlotFuture<S::Waker>, S: NewSource>(
-    task: &MockTask,
-    set: &mut FuturesUnordered<F, S>,
-) -> Poll<Option<F::Output>>
-    requires { (future : F) → F.can_poll future }
-{
-    task.enter(|cx| set.poll_next(cx))
-}
-
-/// One poll of an ordered queue in a task.
-pub fn poll_ordered<F: SlotFuture<S::Waker>, S: ReadySource>(
-    task: &MockTask,
-    queue: &mut FuturesOrderedBounded<F, S>,
-) -> Poll<Option<F::Output>>
-where
-    F::Output: Drop,
-    requires { (future : F) → F.can_poll future }
-{
-    task.enter(|cx| queue.poll_next(cx))
-}
-
-/// One poll in a task.
-pub fn poll_join<F: SlotFuture<S::Waker>, S: ReadySource>(
-    task: &MockTask,
-    join: &mut JoinAll<F, S>,
-) -> Poll<Vec<F::Output>>
-where
-    F::Output: Drop,
-    requires { (future : F) → F.can_poll future }
-{
-    task.enter(|cx| join.poll(cx))
-}
-
-/// One poll in a task.
-pub fn poll_try_join<F, T, E, S: ReadySource>(
-    task: &MockTask,
-    join: &mut TryJoinAll<F, S>,
-) -> Poll<Result<Vec<T>, E>>
-where
-    F: SlotFuture<S::Waker, Output = Result<T, E>>,
-    T: Drop,
-    requires { (future : F) → F.can_poll future }
-{
-    task.enter(|cx| join.poll(cx))
 }

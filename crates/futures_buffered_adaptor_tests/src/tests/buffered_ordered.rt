@@ -1,135 +1,229 @@
 // Outputs in the order of the items, of at most so many held at a time.
-use crate::cells::{Cells, new_cells, sent};
+ghost use Rattle.std.specs.Prelude.{◌<◌};
+
+use crate::cells::{Cells, new_cells};
 use crate::list_stream::ListStream;
-use crate::ordered_polling::poll_in_order;
 use crate::paused_end::PausedEnd;
+use crate::polling::poll_in_order;
 use crate::receiver::{Receiver, one_shot};
 use crate::same::assert_same;
+use crate::steps::{Answer, Call, Polled, answered, said, try_calls};
 use crate::unbounded_hint::UnboundedHint;
 use crate::watched::Watched;
-use futures::task::Poll;
 use futures::test::MockTask;
-use futures_buffered::{BufferedOrdered, BufferedStreamExt, FusedStream, SizeHint};
+use futures_buffered::{BufferedOrdered, BufferedStreamExt, FusedStream};
 use futures_buffered_core::ready_core::{MAX_CAPACITY, NewFault};
-use std::sync::Arc;
-use std::sync::atomic::AtomicU64;
+use futures_buffered_core::ready_shared::SharedReady;
+use std::alloc::{AllocError, AllocGlobal, Global};
+use std::process::Abort;
+use std::random::RandomSource;
 use std::sync::atomic::Ordering::SeqCst;
+use std::sync::{Arc, Wait};
 use std::test::Fail;
+use test_parts::counter::{Counter, new_counter};
 
-// A list stream begins at its last item.
+impl<R: Wait + Drop> Polled<u64> for BufferedOrdered<ListStream<Receiver<u64, R>>, SharedReady> {
+    fn poll_once(&mut self, task: &MockTask) -> Answer<u64> {
+        answered(poll_in_order(task, self))
+    }
+
+    fn says(&self, call: Call<u64>) -> Answer<u64> {
+        said(self, call)
+    }
+}
+
+impl<R: Wait + Drop> Polled<u64> for BufferedOrdered<PausedEnd<Receiver<u64, R>>, SharedReady> {
+    fn poll_once(&mut self, task: &MockTask) -> Answer<u64> {
+        answered(poll_in_order(task, self))
+    }
+}
+
+impl<R: Wait + Drop> Polled<u64> for BufferedOrdered<UnboundedHint<Receiver<u64, R>>, SharedReady> {
+    fn poll_once(&mut self, task: &MockTask) -> Answer<u64> {
+        answered(poll_in_order(task, self))
+    }
+
+    fn says(&self, call: Call<u64>) -> Answer<u64> {
+        said(self, call)
+    }
+}
+
+// A buffer over a watched stream, and what is seen of the stream.
+#[derive(Drop)]
+struct Observed<R: Wait + Drop> {
+    buffer: BufferedOrdered<Watched<Receiver<u64, R>>, SharedReady>,
+    drawn: Counter,
+    drops: Counter,
+}
+
+impl<R: Wait + Drop> Polled<u64> for Observed<R> {
+    fn poll_once(&mut self, task: &MockTask) -> Answer<u64> {
+        answered(poll_in_order(task, &mut self.buffer))
+    }
+
+    fn says(&self, call: Call<u64>) -> Answer<u64> {
+        match call {
+            Call::IsTerminated => Answer::Is(self.buffer.is_terminated()),
+            Call::Drawn => Answer::Number(self.drawn.load(SeqCst)),
+            Call::Drops => Answer::Number(self.drops.load(SeqCst)),
+            _ => Answer::Unknown,
+        }
+    }
+}
+
+// The calls of a buffer of `n` at a time, over so many receivers. A list stream begins at its last item.
+fn try_row<R>(
+    rt: &R,
+    receivers: usize,
+    n: usize,
+    row: &[(Call<u64>, Answer<u64>)],
+) -> Result<(), Fail>
+where
+    R: Abort + Wait + RandomSource + AllocGlobal + Clone + Drop,
+    requires { 0 < n }
+{
+    let Cells { senders, receivers } = new_cells(rt, rt.alloc(), receivers)?;
+    let mut buffer = ListStream::new(receivers).buffered_ordered(rt.alloc(), n)?;
+    try_calls(rt, &senders, &mut buffer, row)
+}
+
+fn new_observed<R: Wait + Drop>(
+    alloc: Global,
+    receivers: Vec<Receiver<u64, R>>,
+) -> Result<Observed<R>, Fail> {
+    let drawn = new_counter(alloc)?;
+    let drops = new_counter(alloc)?;
+    let stream = Watched::new(receivers, Arc::try_clone(&drawn)?, Arc::try_clone(&drops)?);
+    let buffer = stream.buffered_ordered(alloc, 2)?;
+    Ok(Observed {
+        buffer,
+        drawn,
+        drops,
+    })
+}
+
+// The same of two at a time, over a watched stream.
+fn try_observed<R>(rt: &R, receivers: usize, row: &[(Call<u64>, Answer<u64>)]) -> Result<(), Fail>
+where
+    R: Abort + Wait + RandomSource + AllocGlobal + Clone + Drop,
+{
+    let Cells { senders, receivers } = new_cells(rt, rt.alloc(), receivers)?;
+    let mut buffer = new_observed(rt.alloc(), receivers)?;
+    try_calls(rt, &senders, &mut buffer, row)
+}
+
 #[test]
 fn outputs_come_in_the_order_of_the_items(rt: HostRuntime) -> Result<(), Fail> {
-    let task = MockTask::new(&rt)?;
-    let Cells { senders, receivers } = new_cells(&rt, rt.alloc(), 2)?;
-    let mut buffer = ListStream::new(receivers).buffered_ordered(rt.alloc(), 10)?;
-    assert_same(&rt, buffer.size_hint(), (2, Some(2)));
-    assert!(rt; poll_in_order(&task, &mut buffer).is_pending());
-    assert!(rt; sent(&senders, 0, 2));
-    assert!(rt; task.is_woken());
-    assert!(rt; poll_in_order(&task, &mut buffer).is_pending());
-    assert_same(&rt, buffer.size_hint(), (2, Some(2)));
-    assert!(rt; sent(&senders, 1, 1));
-    assert_same(&rt, poll_in_order(&task, &mut buffer), Poll::Ready(Some(1)));
-    assert!(rt; !buffer.is_terminated());
-    assert_same(&rt, poll_in_order(&task, &mut buffer), Poll::Ready(Some(2)));
-    assert_same(&rt, poll_in_order(&task, &mut buffer), Poll::Ready(None));
-    assert!(rt; buffer.is_terminated());
-    Ok(())
+    let row = [
+        (Call::Hint, Answer::Hint(2, Some(2))),
+        (Call::Poll, Answer::Pending),
+        (Call::Send(0, 2), Answer::Sent),
+        (Call::IsWoken, Answer::Is(true)),
+        (Call::Poll, Answer::Pending),
+        (Call::Hint, Answer::Hint(2, Some(2))),
+        (Call::Send(1, 1), Answer::Sent),
+        (Call::Poll, Answer::Some(1)),
+        (Call::IsTerminated, Answer::Is(false)),
+        (Call::Poll, Answer::Some(2)),
+        (Call::Poll, Answer::None),
+        (Call::IsTerminated, Answer::Is(true)),
+    ];
+    try_row(&rt, 2, 10, &row)
 }
 
 #[test]
 fn outputs_that_wait_count_as_held(rt: HostRuntime) -> Result<(), Fail> {
-    let task = MockTask::new(&rt)?;
-    let Cells { senders, receivers } = new_cells(&rt, rt.alloc(), 3)?;
-    let drawn = Arc::new(rt.alloc(), AtomicU64::new(0))?;
-    let drops = Arc::new(rt.alloc(), AtomicU64::new(0))?;
-    let stream = Watched::new(receivers, Arc::try_clone(&drawn)?, drops);
-    let mut buffer = stream.buffered_ordered(rt.alloc(), 2)?;
-    assert!(rt; sent(&senders, 1, 2) && sent(&senders, 0, 3));
-    assert!(rt; poll_in_order(&task, &mut buffer).is_pending());
-    assert_same(&rt, drawn.load(SeqCst), 2);
-    assert!(rt; poll_in_order(&task, &mut buffer).is_pending());
-    assert_same(&rt, drawn.load(SeqCst), 2);
-    assert!(rt; sent(&senders, 2, 1));
-    assert_same(&rt, poll_in_order(&task, &mut buffer), Poll::Ready(Some(1)));
-    assert_same(&rt, poll_in_order(&task, &mut buffer), Poll::Ready(Some(2)));
-    assert_same(&rt, drawn.load(SeqCst), 3);
-    assert_same(&rt, poll_in_order(&task, &mut buffer), Poll::Ready(Some(3)));
-    assert_same(&rt, poll_in_order(&task, &mut buffer), Poll::Ready(None));
-    Ok(())
+    let row = [
+        (Call::Send(1, 2), Answer::Sent),
+        (Call::Send(0, 3), Answer::Sent),
+        (Call::Poll, Answer::Pending),
+        (Call::Drawn, Answer::Number(2)),
+        (Call::Poll, Answer::Pending),
+        (Call::Drawn, Answer::Number(2)),
+        (Call::Send(2, 1), Answer::Sent),
+        (Call::Poll, Answer::Some(1)),
+        (Call::Poll, Answer::Some(2)),
+        (Call::Drawn, Answer::Number(3)),
+        (Call::Poll, Answer::Some(3)),
+        (Call::Poll, Answer::None),
+    ];
+    try_observed(&rt, 3, &row)
 }
 
 #[test]
 fn a_stream_that_ended_is_dropped_at_once(rt: HostRuntime) -> Result<(), Fail> {
-    let task = MockTask::new(&rt)?;
-    let Cells { senders, receivers } = new_cells(&rt, rt.alloc(), 1)?;
-    let drawn = Arc::new(rt.alloc(), AtomicU64::new(0))?;
-    let drops = Arc::new(rt.alloc(), AtomicU64::new(0))?;
-    let stream = Watched::new(receivers, drawn, Arc::try_clone(&drops)?);
-    let mut buffer = stream.buffered_ordered(rt.alloc(), 2)?;
-    assert_same(&rt, drops.load(SeqCst), 0);
-    assert!(rt; poll_in_order(&task, &mut buffer).is_pending());
-    assert_same(&rt, drops.load(SeqCst), 1);
-    assert!(rt; !buffer.is_terminated());
-    assert!(rt; sent(&senders, 0, 7));
-    assert_same(&rt, poll_in_order(&task, &mut buffer), Poll::Ready(Some(7)));
-    assert_same(&rt, poll_in_order(&task, &mut buffer), Poll::Ready(None));
-    assert_same(&rt, drops.load(SeqCst), 1);
-    Ok(())
+    let row = [
+        (Call::Drops, Answer::Number(0)),
+        (Call::Poll, Answer::Pending),
+        (Call::Drops, Answer::Number(1)),
+        (Call::IsTerminated, Answer::Is(false)),
+        (Call::Send(0, 7), Answer::Sent),
+        (Call::Poll, Answer::Some(7)),
+        (Call::Poll, Answer::None),
+        (Call::Drops, Answer::Number(1)),
+    ];
+    try_observed(&rt, 1, &row)
 }
 
 // One name a poll, in the order of the slots.
 #[test]
 fn a_chosen_limit_counts_names(rt: HostRuntime) -> Result<(), Fail> {
-    let task = MockTask::new(&rt)?;
     let Cells { senders, receivers } = new_cells(&rt, rt.alloc(), 2)?;
     let stream = ListStream::new(receivers);
     let mut buffer = BufferedOrdered::with_limit(rt.alloc(), stream, 2, 1)?;
-    assert!(rt; poll_in_order(&task, &mut buffer).is_pending());
-    assert!(rt; task.is_woken());
-    assert!(rt; sent(&senders, 1, 7));
-    assert!(rt; poll_in_order(&task, &mut buffer).is_pending());
-    assert!(rt; task.is_woken());
-    assert_same(&rt, poll_in_order(&task, &mut buffer), Poll::Ready(Some(7)));
-    Ok(())
+    let row = [
+        (Call::Poll, Answer::Pending),
+        (Call::IsWoken, Answer::Is(true)),
+        (Call::Send(1, 7), Answer::Sent),
+        (Call::Poll, Answer::Pending),
+        (Call::IsWoken, Answer::Is(true)),
+        (Call::Poll, Answer::Some(7)),
+    ];
+    try_calls(&rt, &senders, &mut buffer, &row)
 }
 
 #[test]
 fn ends_with_a_stream_that_pauses(rt: HostRuntime) -> Result<(), Fail> {
-    let task = MockTask::new(&rt)?;
-    let stream: PausedEnd<Receiver<usize, HostRuntime>> = PausedEnd::new();
+    let stream: PausedEnd<Receiver<u64, HostRuntime>> = PausedEnd::new();
     let mut buffer = stream.buffered_ordered(rt.alloc(), 1)?;
-    assert!(rt; poll_in_order(&task, &mut buffer).is_pending());
-    assert!(rt; task.is_woken());
-    assert_same(&rt, poll_in_order(&task, &mut buffer), Poll::Ready(None));
-    assert_same(&rt, poll_in_order(&task, &mut buffer), Poll::Ready(None));
-    Ok(())
+    let row = [
+        (Call::Poll, Answer::Pending),
+        (Call::IsWoken, Answer::Is(true)),
+        (Call::Poll, Answer::None),
+        (Call::Poll, Answer::None),
+    ];
+    try_calls(&rt, &Vec::new(rt.alloc()), &mut buffer, &row)
 }
 
 #[test]
 fn a_hint_that_would_overflow_has_no_upper_part(rt: HostRuntime) -> Result<(), Fail> {
-    let task = MockTask::new(&rt)?;
-    let (_sender, receiver) = one_shot::<usize, HostRuntime>(&rt, rt.alloc())?;
+    let (_sender, receiver) = one_shot(&rt, rt.alloc())?;
     let mut buffer = UnboundedHint::new(receiver).buffered_ordered(rt.alloc(), 2)?;
-    assert_same(&rt, buffer.size_hint(), (usize::MAX, Some(usize::MAX)));
-    assert!(rt; poll_in_order(&task, &mut buffer).is_pending());
-    assert_same(&rt, buffer.size_hint(), (usize::MAX, None));
-    Ok(())
+    let row = [
+        (Call::Hint, Answer::Hint(usize::MAX, Some(usize::MAX))),
+        (Call::Poll, Answer::Pending),
+        (Call::Hint, Answer::Hint(usize::MAX, None)),
+    ];
+    try_calls(&rt, &Vec::new(rt.alloc()), &mut buffer, &row)
+}
+
+// How a buffer of `n` at a time is refused, if it is.
+fn fault<R>(rt: &R, n: usize) -> Result<Option<NewFault>, AllocError>
+where
+    R: Wait + AllocGlobal + Clone + Drop,
+    requires { 0 < n }
+{
+    let Cells {
+        senders: _senders,
+        receivers,
+    } = new_cells::<u64, R>(rt, rt.alloc(), 1)?;
+    let made = ListStream::new(receivers).buffered_ordered(rt.alloc(), n);
+    Ok(made.err())
 }
 
 #[test]
 fn too_many_at_a_time_are_refused(rt: HostRuntime) -> Result<(), Fail> {
-    let Cells {
-        senders: _,
-        receivers,
-    } = new_cells::<usize, HostRuntime>(&rt, rt.alloc(), 1)?;
-    let refused = ListStream::new(receivers).buffered_ordered(rt.alloc(), MAX_CAPACITY + 1);
-    assert_same(&rt, refused.err(), Some(NewFault::TooLarge));
-    let Cells {
-        senders: _,
-        receivers,
-    } = new_cells::<usize, HostRuntime>(&rt, rt.alloc(), 1)?;
-    let refused = ListStream::new(receivers).buffered_ordered(rt.alloc(), MAX_CAPACITY);
-    assert_same(&rt, refused.err(), Some(NewFault::Memory));
+    assert_same(&rt, fault(&rt, MAX_CAPACITY + 1)?, Some(NewFault::TooLarge));
+    assert_same(&rt, fault(&rt, MAX_CAPACITY)?, Some(NewFault::Memory));
     Ok(())
 }

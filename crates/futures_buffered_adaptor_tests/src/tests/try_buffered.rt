@@ -1,23 +1,45 @@
 // Outputs as the futures finish or in their order, and the errors of the stream at once.
-use crate::cells::{Cells, keep, new_cells, sent};
+use crate::cells::{Cells, new_cells};
 use crate::list_stream::ListStream;
-use crate::ordered_polling::poll_try_in_order;
-use crate::polling::poll_try_buffer;
+use crate::polling::{poll_try_buffer, poll_try_in_order};
 use crate::receiver::Receiver;
-use crate::same::assert_same;
-use futures::task::Poll;
+use crate::steps::{Answer, Call, Polled, answered, said, try_calls};
 use futures::test::MockTask;
-use futures_buffered::{BufferedTryStreamExt, FusedStream, SizeHint, TryBufferedOrdered};
+use futures_buffered::{BufferedTryStreamExt, TryBufferUnordered, TryBufferedOrdered};
+use futures_buffered_core::ready_shared::SharedReady;
 use std::alloc::{AllocError, Global};
+use std::sync::Wait;
 use std::test::Fail;
+use test_parts::keep::keep;
 
-type Output = Result<usize, usize>;
+type Output = Result<u64, u64>;
+
+type Held<R> = Receiver<Output, R>;
+
+type Items<R> = ListStream<Result<Held<R>, u64>>;
+
+impl<R: Wait + Drop> Polled<Output> for TryBufferUnordered<Items<R>, Held<R>, SharedReady> {
+    fn poll_once(&mut self, task: &MockTask) -> Answer<Output> {
+        answered(poll_try_buffer(task, self))
+    }
+
+    fn says(&self, call: Call<Output>) -> Answer<Output> {
+        said(self, call)
+    }
+}
+
+impl<R: Wait + Drop> Polled<Output> for TryBufferedOrdered<Items<R>, Held<R>, SharedReady> {
+    fn poll_once(&mut self, task: &MockTask) -> Answer<Output> {
+        answered(poll_try_in_order(task, self))
+    }
+
+    fn says(&self, call: Call<Output>) -> Answer<Output> {
+        said(self, call)
+    }
+}
 
 // A stream of two futures, with an error between them. The second of these futures comes first.
-fn with_an_error<R: Drop>(
-    alloc: Global,
-    receivers: Vec<Receiver<Output, R>>,
-) -> Result<ListStream<Result<Receiver<Output, R>, usize>>, AllocError> {
+fn with_an_error<R: Drop>(alloc: Global, receivers: Vec<Held<R>>) -> Result<Items<R>, AllocError> {
     let mut items = Vec::new(alloc);
     for receiver in receivers {
         if items.len() == 1 {
@@ -30,95 +52,62 @@ fn with_an_error<R: Drop>(
 
 #[test]
 fn an_error_of_the_stream_comes_at_once(rt: HostRuntime) -> Result<(), Fail> {
-    let task = MockTask::new(&rt)?;
     let Cells { senders, receivers } = new_cells(&rt, rt.alloc(), 2)?;
     let stream = with_an_error(rt.alloc(), receivers)?;
     let mut buffer = stream.try_buffered_unordered(rt.alloc(), 10)?;
-    assert_same(&rt, buffer.size_hint(), (3, Some(3)));
-    assert!(rt; sent(&senders, 1, Ok(5)));
-    assert_same(
-        &rt,
-        poll_try_buffer(&task, &mut buffer),
-        Poll::Ready(Some(Err(0))),
-    );
-    assert_same(&rt, buffer.size_hint(), (2, Some(2)));
-    assert_same(
-        &rt,
-        poll_try_buffer(&task, &mut buffer),
-        Poll::Ready(Some(Ok(5))),
-    );
-    assert!(rt; poll_try_buffer(&task, &mut buffer).is_pending());
-    assert_same(&rt, buffer.size_hint(), (1, Some(1)));
-    assert!(rt; sent(&senders, 0, Err(1)));
-    assert!(rt; task.is_woken());
-    assert!(rt; !buffer.is_terminated());
-    assert_same(
-        &rt,
-        poll_try_buffer(&task, &mut buffer),
-        Poll::Ready(Some(Err(1))),
-    );
-    assert_same(&rt, poll_try_buffer(&task, &mut buffer), Poll::Ready(None));
-    assert!(rt; buffer.is_terminated());
-    Ok(())
+    let row = [
+        (Call::Hint, Answer::Hint(3, Some(3))),
+        (Call::Send(1, Ok(5)), Answer::Sent),
+        (Call::Poll, Answer::Some(Err(0))),
+        (Call::Hint, Answer::Hint(2, Some(2))),
+        (Call::Poll, Answer::Some(Ok(5))),
+        (Call::Poll, Answer::Pending),
+        (Call::Hint, Answer::Hint(1, Some(1))),
+        (Call::Send(0, Err(1)), Answer::Sent),
+        (Call::IsWoken, Answer::Is(true)),
+        (Call::IsTerminated, Answer::Is(false)),
+        (Call::Poll, Answer::Some(Err(1))),
+        (Call::Poll, Answer::None),
+        (Call::IsTerminated, Answer::Is(true)),
+    ];
+    try_calls(&rt, &senders, &mut buffer, &row)
 }
 
 #[test]
 fn an_error_of_the_stream_comes_before_what_is_held(rt: HostRuntime) -> Result<(), Fail> {
-    let task = MockTask::new(&rt)?;
     let Cells { senders, receivers } = new_cells(&rt, rt.alloc(), 2)?;
     let stream = with_an_error(rt.alloc(), receivers)?;
     let mut buffer = stream.try_buffered_ordered(rt.alloc(), 10)?;
-    assert_same(&rt, buffer.size_hint(), (3, Some(3)));
-    assert_same(
-        &rt,
-        poll_try_in_order(&task, &mut buffer),
-        Poll::Ready(Some(Err(0))),
-    );
-    assert!(rt; poll_try_in_order(&task, &mut buffer).is_pending());
-    assert_same(&rt, buffer.size_hint(), (2, Some(2)));
-    assert!(rt; sent(&senders, 0, Ok(2)));
-    assert!(rt; task.is_woken());
-    assert!(rt; poll_try_in_order(&task, &mut buffer).is_pending());
-    assert!(rt; sent(&senders, 1, Err(1)));
-    assert_same(
-        &rt,
-        poll_try_in_order(&task, &mut buffer),
-        Poll::Ready(Some(Err(1))),
-    );
-    assert_same(
-        &rt,
-        poll_try_in_order(&task, &mut buffer),
-        Poll::Ready(Some(Ok(2))),
-    );
-    assert_same(
-        &rt,
-        poll_try_in_order(&task, &mut buffer),
-        Poll::Ready(None),
-    );
-    assert!(rt; buffer.is_terminated());
-    Ok(())
+    let row = [
+        (Call::Hint, Answer::Hint(3, Some(3))),
+        (Call::Poll, Answer::Some(Err(0))),
+        (Call::Poll, Answer::Pending),
+        (Call::Hint, Answer::Hint(2, Some(2))),
+        (Call::Send(0, Ok(2)), Answer::Sent),
+        (Call::IsWoken, Answer::Is(true)),
+        (Call::Poll, Answer::Pending),
+        (Call::Send(1, Err(1)), Answer::Sent),
+        (Call::Poll, Answer::Some(Err(1))),
+        (Call::Poll, Answer::Some(Ok(2))),
+        (Call::Poll, Answer::None),
+        (Call::IsTerminated, Answer::Is(true)),
+    ];
+    try_calls(&rt, &senders, &mut buffer, &row)
 }
 
 // With one slot, the error behind the first future is not drawn before that is done.
 #[test]
 fn an_error_is_not_drawn_where_all_slots_are_taken(rt: HostRuntime) -> Result<(), Fail> {
-    let task = MockTask::new(&rt)?;
     let Cells { senders, receivers } = new_cells(&rt, rt.alloc(), 2)?;
     let stream = with_an_error(rt.alloc(), receivers)?;
     let mut buffer = TryBufferedOrdered::with_limit(rt.alloc(), stream, 1, 1)?;
-    assert!(rt; poll_try_in_order(&task, &mut buffer).is_pending());
-    assert!(rt; sent(&senders, 1, Ok(5)));
-    assert_same(
-        &rt,
-        poll_try_in_order(&task, &mut buffer),
-        Poll::Ready(Some(Ok(5))),
-    );
-    assert_same(
-        &rt,
-        poll_try_in_order(&task, &mut buffer),
-        Poll::Ready(Some(Err(0))),
-    );
-    assert!(rt; poll_try_in_order(&task, &mut buffer).is_pending());
-    assert!(rt; !buffer.is_terminated());
-    Ok(())
+    let row = [
+        (Call::Poll, Answer::Pending),
+        (Call::Send(1, Ok(5)), Answer::Sent),
+        (Call::Poll, Answer::Some(Ok(5))),
+        (Call::Poll, Answer::Some(Err(0))),
+        (Call::Poll, Answer::Pending),
+        (Call::IsTerminated, Answer::Is(false)),
+    ];
+    try_calls(&rt, &senders, &mut buffer, &row)
 }
