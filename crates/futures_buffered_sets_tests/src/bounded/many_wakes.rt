@@ -8,10 +8,11 @@ use futures_buffered_core::ready_shared::{SharedReady, SlotWake};
 use futures_buffered_core::ready_source::SlotWaker;
 use futures_buffered_sets::futures_unordered_bounded::FuturesUnorderedBounded;
 use futures_buffered_sets::slot_future::SlotFuture;
-use std::alloc::{AllocError, Global};
+use std::alloc::{AllocError, AllocGlobal, Global};
+use std::random::RandomSource;
 use std::sync::atomic::AtomicU64;
 use std::sync::atomic::Ordering::SeqCst;
-use std::sync::{Arc, Mutex};
+use std::sync::{Arc, Mutex, Wait};
 use std::test::Fail;
 use std::thread::{self, Threads};
 use test_parts::keep::keep;
@@ -159,17 +160,41 @@ fn join_all<R: Threads>(rt: &R, started: Vec<thread::JoinHandle<()>>) {
     }
 }
 
+// A set and its bells.
+#[derive(Drop)]
+struct Tower {
+    set: Set,
+    bells: Arc<Vec<Bell>>,
+}
+
+fn new_tower(alloc: Global, task: &MockTask) -> Result<Tower, Fail> {
+    let mut set: Set = FuturesUnorderedBounded::new(alloc, SLOTS)?;
+    let bells = Arc::new(alloc, begin(alloc, task, &mut set)?)?;
+    Ok(Tower { set, bells })
+}
+
+fn count_of<R: Wait + RandomSource + AllocGlobal>(rt: &R, set: Set) -> Result<usize, Fail> {
+    Ok(block_on(rt, set.count())?)
+}
+
+// How many outputs the set gives while each thread rings all bells.
+fn rung<R>(rt: &R, alloc: Global, tower: Tower) -> Result<usize, Fail>
+where
+    R: Threads + Wait + RandomSource + AllocGlobal,
+{
+    let Tower { set, bells } = tower;
+    let started = start(rt, alloc, &bells)?;
+    let outputs = count_of(rt, set);
+    join_all(rt, started);
+    outputs
+}
+
 // Each future is polled once more after its last wake, so that all of them end.
 #[test]
 fn no_wake_of_ten_million_is_lost(rt: HostRuntime) -> Result<(), Fail> {
     let task = MockTask::new(&rt)?;
-    let mut set: Set = FuturesUnorderedBounded::new(rt.alloc(), SLOTS)?;
-    let bells = begin(rt.alloc(), &task, &mut set)?;
-    assert_same(&rt, bells.len(), SLOTS);
-    let bells = Arc::new(rt.alloc(), bells)?;
-    let started = start(&rt, rt.alloc(), &bells)?;
-    let outputs = block_on(&rt, set.count())?;
-    join_all(&rt, started);
-    assert_same(&rt, outputs, SLOTS);
+    let tower = new_tower(rt.alloc(), &task)?;
+    assert_same(&rt, tower.bells.len(), SLOTS);
+    assert_same(&rt, rung(&rt, rt.alloc(), tower)?, SLOTS);
     Ok(())
 }

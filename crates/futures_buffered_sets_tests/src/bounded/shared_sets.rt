@@ -5,11 +5,17 @@ use futures::test::MockTask;
 use futures_buffered_core::ready_core::Woke;
 use futures_buffered_core::ready_shared::SharedReady;
 use futures_buffered_sets::futures_unordered_bounded::FuturesUnorderedBounded;
+use std::alloc::Global;
 use std::test::Fail;
 use test_parts::polling::poll_set;
 use test_parts::timed::{Timed, ready_up_to};
 
 type Shared<F> = FuturesUnorderedBounded<F, SharedReady>;
+
+fn of_ready(alloc: Global, count: u64) -> Result<Shared<Timed>, Fail> {
+    let items = ready_up_to(alloc, count)?;
+    Ok(FuturesUnorderedBounded::from_iter(alloc, items)?)
+}
 
 // Whether a set of this many items gives each, in order, and then the end.
 fn gives_all(task: &MockTask, set: &mut Shared<Timed>, count: u64) -> bool {
@@ -24,7 +30,7 @@ fn gives_all(task: &MockTask, set: &mut Shared<Timed>, count: u64) -> bool {
 #[test]
 fn from_iter_marks_each_item(rt: HostRuntime) -> Result<(), Fail> {
     let task = MockTask::new(&rt)?;
-    let mut set = FuturesUnorderedBounded::from_iter(rt.alloc(), ready_up_to(rt.alloc(), 10)?)?;
+    let mut set = of_ready(rt.alloc(), 10)?;
     assert!(rt; gives_all(&task, &mut set, 10));
     Ok(())
 }
@@ -42,7 +48,7 @@ fn over_marks_each_item(rt: HostRuntime) -> Result<(), Fail> {
 #[test]
 fn names_each_of_300_slots(rt: HostRuntime) -> Result<(), Fail> {
     let task = MockTask::new(&rt)?;
-    let mut set = FuturesUnorderedBounded::from_iter(rt.alloc(), ready_up_to(rt.alloc(), 300)?)?;
+    let mut set = of_ready(rt.alloc(), 300)?;
     assert!(rt; gives_all(&task, &mut set, 300));
     Ok(())
 }
@@ -74,9 +80,10 @@ fn gives(task: &MockTask, set: &mut Shared<Timed>) -> (Poll<Option<u64>>, bool) 
 #[test]
 fn an_output_wakes_nobody(rt: HostRuntime) -> Result<(), Fail> {
     let task = MockTask::new(&rt)?;
-    let mut set = FuturesUnorderedBounded::from_iter(rt.alloc(), ready_up_to(rt.alloc(), 2)?)?;
-    assert_same(&rt, gives(&task, &mut set), (Poll::Ready(Some(0)), false));
-    assert_same(&rt, gives(&task, &mut set), (Poll::Ready(Some(1)), false));
+    let mut set = of_ready(rt.alloc(), 2)?;
+    let given = [gives(&task, &mut set), gives(&task, &mut set)];
+    let want = [(Poll::Ready(Some(0)), false), (Poll::Ready(Some(1)), false)];
+    assert_same(&rt, given, want);
     Ok(())
 }
 
@@ -93,7 +100,7 @@ fn an_end_wakes_nobody(rt: HostRuntime) -> Result<(), Fail> {
 
 #[test]
 fn prints_what_it_holds(rt: HostRuntime) -> Result<(), Fail> {
-    let set = FuturesUnorderedBounded::from_iter(rt.alloc(), ready_up_to(rt.alloc(), 2)?)?;
+    let set = of_ready(rt.alloc(), 2)?;
     let text = format!(in rt.alloc(); "{set:?}")?;
     assert_same(&rt, text.as_str(), "FuturesUnorderedBounded { len: 2, .. }");
     Ok(())

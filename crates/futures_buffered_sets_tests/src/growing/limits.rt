@@ -2,6 +2,7 @@
 ghost use Rattle.std.specs.Prelude.{◌≤◌};
 
 use crate::assert_same::assert_same;
+use futures_buffered_core::ready_shared::SharedReady;
 use futures_buffered_core::ready_source::{CoreSource, NewSource};
 use futures_buffered_sets::futures_unordered::FuturesUnordered;
 use futures_buffered_sets::futures_unordered_bounded::FuturesUnorderedBounded;
@@ -9,18 +10,26 @@ use std::alloc::Global;
 use std::test::Fail;
 use test_parts::timed::{Timed, ready_up_to};
 
+type Shared = FuturesUnorderedBounded<Timed, SharedReady>;
+
 type Bounded = FuturesUnorderedBounded<Timed, CoreSource>;
+
+// The limit and the capacity of a growing set that is made with the limit 5.
+fn growing_limit(alloc: Global) -> Result<(usize, usize), Fail> {
+    let set: FuturesUnordered<Timed, SharedReady> = FuturesUnordered::with_limit(alloc, 0, 5)?;
+    Ok((set.limit(), set.capacity()))
+}
+
+// The same of a bounded set of three slots.
+fn bounded_limit(alloc: Global) -> Result<(usize, usize), Fail> {
+    let set: Shared = FuturesUnorderedBounded::with_limit(alloc, 3, 5)?;
+    Ok((set.limit(), set.capacity()))
+}
 
 #[test]
 fn sets_over_shared_sources_have_the_limit(rt: HostRuntime) -> Result<(), Fail> {
-    let growing: FuturesUnordered<Timed, _> = FuturesUnordered::with_limit(rt.alloc(), 0, 5)?;
-    assert_eq!(rt; (growing.limit(), growing.capacity()), (5, 0));
-    let bounded: FuturesUnorderedBounded<Timed, _> = FuturesUnorderedBounded::with_limit(
-        rt.alloc(),
-        3,
-        5,
-    )?;
-    assert_eq!(rt; (bounded.limit(), bounded.capacity()), (5, 3));
+    assert_same(&rt, growing_limit(rt.alloc())?, (5, 0));
+    assert_same(&rt, bounded_limit(rt.alloc())?, (5, 3));
     Ok(())
 }
 
