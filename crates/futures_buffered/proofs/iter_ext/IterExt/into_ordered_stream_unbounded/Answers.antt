@@ -2,4 +2,4 @@ use Rattle.std.proofs.Common.{rules}
 use Rattle.futures_buffered.proofs.iter_ext.IterExt.into_ordered_stream_unbounded.Goals as goal
 
 pub returns : goal.returns
-returns g c = search rules
+returns g c = search rules steps 200000
