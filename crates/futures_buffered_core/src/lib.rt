@@ -11,7 +11,6 @@
 #![tactic(auto)]
 
 pub mod core_source;
-mod outer_place;
 pub mod ready_core;
 pub mod ready_shared;
 pub mod ready_source;

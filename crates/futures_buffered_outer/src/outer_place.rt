@@ -35,10 +35,11 @@ impl OuterWaker for Waker {
     }
 }
 
-// What sources that stand beside one another share with all their wakers. `is_kept` says whether a waker is kept, and changes under the lock alone.
+/// What sources that stand beside one another share with all their wakers. No call waits, and none takes memory.
 #[derive(Drop)]
-pub(crate) struct OuterPlace<O> {
+pub struct OuterPlace<O> {
     source: Source,
+    // Whether a waker is kept. It changes under the lock alone.
     is_kept: AtomicBool,
     kept: Mutex<Option<O>>,
 }
@@ -52,7 +53,8 @@ impl<O> Model for OuterPlace<O> {
 }
 
 impl<O: OuterWaker> OuterPlace<O> {
-    pub(crate) fn new() -> OuterPlace<O> {
+    /// Keeps no waker at first.
+    pub fn new() -> OuterPlace<O> {
         OuterPlace {
             source: Source::new(),
             is_kept: AtomicBool::new(false),
@@ -60,8 +62,8 @@ impl<O: OuterWaker> OuterPlace<O> {
         }
     }
 
-    // Of many wakes after one registration one pays for the lock.
-    pub(crate) fn wake(&self) {
+    /// Takes out the waker that is kept and wakes it, unless another call is at the place. Of many wakes after one registration one pays for the lock.
+    pub fn wake(&self) {
         if self.is_kept.load(SeqCst) {
             if let Some(outer) = self.take_out() {
                 outer.wake_outer();
@@ -75,8 +77,8 @@ impl<O: OuterWaker> OuterPlace<O> {
         kept.take()
     }
 
-    // The waker that was kept before is let go after the lock.
-    pub(crate) fn put_in(&self, outer: O) {
+    /// Keeps a waker in place of the one before, which is let go after the lock. Where another call is at the place, it wakes the waker at once.
+    pub fn put_in(&self, outer: O) {
         let _before = match self.kept.try_lock() {
             Some(mut kept) => {
                 let before = kept.take();
@@ -109,9 +111,11 @@ impl OuterPlace<Waker> {
     }
 }
 
-// The poller's side. Where no source stands beside this one and the shared place keeps no waker, the task's waker is kept here, and is put in there only before the poller can answer `Empty`. So a poll that ends with an output takes no lock, and nobody wakes a task that polls again by itself.
+/// The poller's side.
+///
+/// Where no source stands beside this one and the shared place keeps no waker, the task's waker is kept here, and is put in there only before the poller can answer `Empty`. So a poll that ends with an output takes no lock, and nobody wakes a task that polls again by itself.
 #[derive(Drop)]
-pub(crate) struct TaskPlace<O> {
+pub struct TaskPlace<O> {
     shared: Arc<OuterPlace<O>>,
     own: Option<O>,
     stands_alone: bool,
@@ -127,7 +131,8 @@ impl<O> Model for TaskPlace<O> {
 }
 
 impl<O: OuterWaker> TaskPlace<O> {
-    pub(crate) fn alone(alloc: Global) -> Result<TaskPlace<O>, AllocError> {
+    /// Makes the side of a source that stands alone. It takes memory for the place.
+    pub fn alone(alloc: Global) -> Result<TaskPlace<O>, AllocError> {
         Ok(TaskPlace {
             shared: Arc::new(alloc, OuterPlace::new())?,
             own: None,
@@ -135,8 +140,8 @@ impl<O: OuterWaker> TaskPlace<O> {
         })
     }
 
-    // The side of a source beside this one. What is kept here goes to the place that both share.
-    pub(crate) fn beside(&mut self) -> Result<TaskPlace<O>, AllocError>
+    /// Makes the side of a source beside this one. What is kept here goes to the place that both share.
+    pub fn beside(&mut self) -> Result<TaskPlace<O>, AllocError>
         ensures shared { IfOk result (λ place. place ≡ self.old) }
         ensures same { self.new ≡ self.old }
     {
@@ -150,20 +155,22 @@ impl<O: OuterWaker> TaskPlace<O> {
         })
     }
 
-    // The place in which wakes look.
-    pub(crate) fn shared(&self) -> Result<Arc<OuterPlace<O>>, AllocError>
+    /// Returns the place in which wakes look.
+    pub fn shared(&self) -> Result<Arc<OuterPlace<O>>, AllocError>
         ensures { IfOk result (λ shared. arc_value shared ≡ self.now) }
     {
         Arc::try_clone(&self.shared)
     }
 
-    pub(crate) fn put_in(&self, outer: O) {
+    /// Keeps a waker in the shared place, as [`OuterPlace::put_in`] does.
+    pub fn put_in(&self, outer: O) {
         self.shared.put_in(outer);
     }
 }
 
 impl TaskPlace<Waker> {
-    pub(crate) fn register(&mut self, cx: &mut Context<'_>)
+    /// Has the task heard by the next wake.
+    pub fn register(&mut self, cx: &mut Context<'_>)
         ensures same { self.new ≡ self.old }
         ensures armed { IsArmed cx.new }
         ensures heard { Hears cx.new self.old }
