@@ -7,6 +7,8 @@ mod assert_same;
 #[cfg(test)]
 mod bounded;
 #[cfg(test)]
+mod calls;
+#[cfg(test)]
 mod growing;
 #[cfg(test)]
 mod joins;

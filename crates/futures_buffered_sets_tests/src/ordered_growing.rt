@@ -3,4 +3,5 @@ mod kept_outputs;
 mod limits;
 mod refusals;
 mod rows;
+mod timed_queue;
 mod wakes;

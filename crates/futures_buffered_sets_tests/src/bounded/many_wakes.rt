@@ -79,11 +79,16 @@ fn add_seat(alloc: Global, set: &mut Set, seats: &mut Vec<Arc<Seat>>) -> Result<
     keep(seats, seat)
 }
 
+fn add_seats(alloc: Global, set: &mut Set, seats: &mut Vec<Arc<Seat>>) -> Result<(), AllocError> {
+    for _ in 0..SLOTS {
+        add_seat(alloc, set, seats)?;
+    }
+    Ok(())
+}
+
 fn seated(alloc: Global, set: &mut Set) -> Result<Vec<Arc<Seat>>, AllocError> {
     let mut seats = Vec::new(alloc);
-    for _ in 0..SLOTS {
-        add_seat(alloc, set, &mut seats)?;
-    }
+    add_seats(alloc, set, &mut seats)?;
     Ok(seats)
 }
 
@@ -103,11 +108,16 @@ fn add_bell(bells: &mut Vec<Bell>, seat: &Arc<Seat>) -> Result<(), AllocError> {
     }
 }
 
+fn add_bells(bells: &mut Vec<Bell>, seats: &[Arc<Seat>]) -> Result<(), AllocError> {
+    for seat in seats {
+        add_bell(bells, seat)?;
+    }
+    Ok(())
+}
+
 fn bells(alloc: Global, seats: &[Arc<Seat>]) -> Result<Vec<Bell>, AllocError> {
     let mut bells = Vec::new(alloc);
-    for seat in seats {
-        add_bell(&mut bells, seat)?;
-    }
+    add_bells(&mut bells, seats)?;
     Ok(bells)
 }
 
@@ -129,15 +139,34 @@ fn start_one<R: Threads>(rt: &R, bells: &Arc<Vec<Bell>>) -> Result<thread::JoinH
     Ok(thread::spawn(rt, move || ring_often(&bells))?)
 }
 
+// Starts one more thread.
+fn start_next<R: Threads>(
+    rt: &R,
+    bells: &Arc<Vec<Bell>>,
+    started: &mut Vec<thread::JoinHandle<()>>,
+) -> Result<(), Fail> {
+    let thread = start_one(rt, bells)?;
+    Ok(keep(started, thread)?)
+}
+
+fn start_all<R: Threads>(
+    rt: &R,
+    bells: &Arc<Vec<Bell>>,
+    started: &mut Vec<thread::JoinHandle<()>>,
+) -> Result<(), Fail> {
+    for _ in 0..THREADS {
+        start_next(rt, bells, started)?;
+    }
+    Ok(())
+}
+
 fn start<R: Threads>(
     rt: &R,
     alloc: Global,
     bells: &Arc<Vec<Bell>>,
 ) -> Result<Vec<thread::JoinHandle<()>>, Fail> {
     let mut started = Vec::new(alloc);
-    for _ in 0..THREADS {
-        keep(&mut started, start_one(rt, bells)?)?;
-    }
+    start_all(rt, bells, &mut started)?;
     Ok(started)
 }
 
@@ -167,14 +196,38 @@ struct Tower {
     bells: Arc<Vec<Bell>>,
 }
 
+// An error of `Arc::new` holds the bells, which are dropped here.
+fn shared(alloc: Global, bells: Vec<Bell>) -> Result<Arc<Vec<Bell>>, AllocError> {
+    Ok(Arc::new(alloc, bells)?)
+}
+
+fn begin_shared(
+    alloc: Global,
+    task: &MockTask,
+    set: &mut Set,
+) -> Result<Arc<Vec<Bell>>, AllocError> {
+    let bells = begin(alloc, task, set)?;
+    shared(alloc, bells)
+}
+
 fn new_tower(alloc: Global, task: &MockTask) -> Result<Tower, Fail> {
     let mut set: Set = FuturesUnorderedBounded::new(alloc, SLOTS)?;
-    let bells = Arc::new(alloc, begin(alloc, task, &mut set)?)?;
+    let bells = begin_shared(alloc, task, &mut set)?;
     Ok(Tower { set, bells })
 }
 
 fn count_of<R: Wait + RandomSource + AllocGlobal>(rt: &R, set: Set) -> Result<usize, Fail> {
     Ok(block_on(rt, set.count())?)
+}
+
+// How many outputs the set gives while the threads run.
+fn count_and_join<R>(rt: &R, set: Set, started: Vec<thread::JoinHandle<()>>) -> Result<usize, Fail>
+where
+    R: Threads + Wait + RandomSource + AllocGlobal,
+{
+    let outputs = count_of(rt, set);
+    join_all(rt, started);
+    outputs
 }
 
 // How many outputs the set gives while each thread rings all bells.
@@ -184,9 +237,7 @@ where
 {
     let Tower { set, bells } = tower;
     let started = start(rt, alloc, &bells)?;
-    let outputs = count_of(rt, set);
-    join_all(rt, started);
-    outputs
+    count_and_join(rt, set, started)
 }
 
 // Each future is polled once more after its last wake, so that all of them end.

@@ -1,10 +1,9 @@
 // 256 futures that wait for a value: how many names one poll takes, and in which order the values come.
-use crate::assert_same::assert_same;
-use futures::task::Poll;
+use crate::calls::{Answer, Call, Tried, answered_sent, send, try_row};
 use futures::test::MockTask;
 use futures_buffered_core::ready_shared::SharedReady;
 use futures_buffered_sets::futures_unordered_bounded::FuturesUnorderedBounded;
-use std::process::Abort;
+use std::alloc::{AllocError, Global};
 use std::sync::atomic::Ordering::SeqCst;
 use std::sync::{Arc, Wait};
 use std::test::Fail;
@@ -14,63 +13,93 @@ use test_parts::counter::{Counter, new_counter};
 use test_parts::polling::poll_set;
 use test_parts::receiver::{Receiver, Sender};
 
-type Set<R> = FuturesUnorderedBounded<Counted<Receiver<usize, R>>, SharedReady>;
+type Set<R> = FuturesUnorderedBounded<Counted<Receiver<u64, R>>, SharedReady>;
 
-fn pushes<R: Wait + Drop>(set: &mut Set<R>, receiver: Receiver<usize, R>, polls: &Counter) -> bool {
-    match Arc::try_clone(polls) {
-        Ok(polls) => set.try_push(Counted::new(receiver, polls)).is_ok(),
-        Err(_) => false,
-    }
+// A set of receivers, how often they were polled, and their senders.
+#[derive(Drop)]
+struct Held<R: Wait + Drop> {
+    set: Set<R>,
+    polls: Counter,
+    senders: Vec<Sender<u64, R>>,
 }
 
-// Whether the set took each receiver.
-fn pushes_all<R: Wait + Drop>(
+fn push<R: Wait + Drop>(
     set: &mut Set<R>,
-    receivers: Vec<Receiver<usize, R>>,
+    receiver: Receiver<u64, R>,
     polls: &Counter,
-) -> bool {
-    let mut all = true;
+) -> Result<(), AllocError> {
+    let polls = Arc::try_clone(polls)?;
+    let _ = set.try_push(Counted::new(receiver, polls));
+    Ok(())
+}
+
+// The set gives each receiver.
+fn push_all<R: Wait + Drop>(
+    set: &mut Set<R>,
+    receivers: Vec<Receiver<u64, R>>,
+    polls: &Counter,
+) -> Result<(), AllocError> {
     for receiver in receivers {
-        if !pushes(set, receiver, polls) {
-            all = false;
+        push(set, receiver, polls)?;
+    }
+    Ok(())
+}
+
+fn set_of<R: Wait + Drop>(
+    alloc: Global,
+    receivers: Vec<Receiver<u64, R>>,
+    polls: &Counter,
+) -> Result<Set<R>, Fail> {
+    let mut set = FuturesUnorderedBounded::new(alloc, receivers.len())?;
+    push_all(&mut set, receivers, polls)?;
+    Ok(set)
+}
+
+fn new_held<R: Wait + Clone + Drop>(rt: &R, alloc: Global, count: usize) -> Result<Held<R>, Fail> {
+    let polls = new_counter(alloc)?;
+    let Cells { senders, receivers } = new_cells(rt, alloc, count)?;
+    let set = set_of(alloc, receivers, &polls)?;
+    Ok(Held {
+        set,
+        polls,
+        senders,
+    })
+}
+
+impl<R: Wait + Drop> Tried for Held<R> {
+    fn gave(&mut self, task: &MockTask, call: Call) -> Answer {
+        match call {
+            Call::Poll => answered_sent(poll_set(task, &mut self.set)),
+            Call::Polls => Answer::Number(self.polls.load(SeqCst)),
+            Call::Send(place, value) => send(&self.senders, place, value),
+            Call::Len => Answer::Number(self.set.len() as u64),
+            _ => Answer::Unknown,
         }
     }
-    all
-}
-
-// Whether the set is pending, how often futures were polled by then, and whether the task is woken.
-fn polled<R: Wait + Drop>(task: &MockTask, set: &mut Set<R>, polls: &Counter) -> (bool, u64, bool) {
-    let is_pending = poll_set(task, set).is_pending();
-    (is_pending, polls.load(SeqCst), task.is_woken())
-}
-
-fn try_sends<R: Wait + Abort + Drop>(rt: &R, task: &MockTask, senders: &[Sender<usize, R>]) {
-    for (i, sender) in senders.iter().enumerate() {
-        sender.send(i);
-        assert!(rt; task.is_woken());
-    }
-}
-
-fn try_outputs<R: Wait + Abort + Drop>(rt: &R, task: &MockTask, set: &mut Set<R>) {
-    for i in 0..256 {
-        assert_eq!(rt; poll_set(task, set), Poll::Ready(Some(Ok(i))));
-    }
-    assert_eq!(rt; poll_set(task, set), Poll::Ready(None));
 }
 
 #[test]
 fn five_polls_name_all_256(rt: HostRuntime) -> Result<(), Fail> {
-    let task = MockTask::new(&rt)?;
-    let polls = new_counter(rt.alloc())?;
-    let Cells { senders, receivers } = new_cells(&rt, rt.alloc(), 256)?;
-    let mut set: Set<_> = FuturesUnorderedBounded::new(rt.alloc(), 256)?;
-    assert!(rt; pushes_all(&mut set, receivers, &polls));
-    assert_same(&rt, polled(&task, &mut set, &polls), (true, 61, true));
-    assert_same(&rt, polled(&task, &mut set, &polls), (true, 122, true));
-    assert_same(&rt, polled(&task, &mut set, &polls), (true, 183, true));
-    assert_same(&rt, polled(&task, &mut set, &polls), (true, 244, true));
-    assert_same(&rt, polled(&task, &mut set, &polls), (true, 256, false));
-    try_sends(&rt, &task, senders.as_slice());
-    try_outputs(&rt, &task, &mut set);
-    Ok(())
+    let row = [
+        (Call::Len, Answer::Number(256)),
+        (Call::Poll, Answer::Pending),
+        (Call::Polls, Answer::Number(61)),
+        (Call::IsWoken, Answer::Is(true)),
+        (Call::Poll, Answer::Pending),
+        (Call::Polls, Answer::Number(122)),
+        (Call::IsWoken, Answer::Is(true)),
+        (Call::Poll, Answer::Pending),
+        (Call::Polls, Answer::Number(183)),
+        (Call::IsWoken, Answer::Is(true)),
+        (Call::Poll, Answer::Pending),
+        (Call::Polls, Answer::Number(244)),
+        (Call::IsWoken, Answer::Is(true)),
+        (Call::Poll, Answer::Pending),
+        (Call::Polls, Answer::Number(256)),
+        (Call::IsWoken, Answer::Is(false)),
+        (Call::SendEach(256), Answer::Sent),
+        (Call::Outputs(256), Answer::InOrder),
+        (Call::Poll, Answer::None),
+    ];
+    try_row(&rt, new_held(&rt, rt.alloc(), 256)?, &row)
 }

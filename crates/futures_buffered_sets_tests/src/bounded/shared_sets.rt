@@ -1,107 +1,118 @@
 // Sets over the shared source, however they are made.
-use crate::assert_same::assert_same;
-use futures::task::Poll;
+use crate::assert_same::assert_text;
+use crate::calls::{Answer, Call, Tried, try_row};
 use futures::test::MockTask;
-use futures_buffered_core::ready_core::Woke;
 use futures_buffered_core::ready_shared::SharedReady;
 use futures_buffered_sets::futures_unordered_bounded::FuturesUnorderedBounded;
 use std::alloc::Global;
 use std::test::Fail;
-use test_parts::polling::poll_set;
 use test_parts::timed::{Timed, ready_up_to};
 
-type Shared<F> = FuturesUnorderedBounded<F, SharedReady>;
+type Shared = FuturesUnorderedBounded<Timed, SharedReady>;
 
-fn of_ready(alloc: Global, count: u64) -> Result<Shared<Timed>, Fail> {
+fn new_set(alloc: Global, capacity: usize) -> Result<Shared, Fail> {
+    Ok(FuturesUnorderedBounded::new(alloc, capacity)?)
+}
+
+fn of_ready(alloc: Global, count: u64) -> Result<Shared, Fail> {
     let items = ready_up_to(alloc, count)?;
     Ok(FuturesUnorderedBounded::from_iter(alloc, items)?)
 }
 
-// Whether a set of this many items gives each, in order, and then the end.
-fn gives_all(task: &MockTask, set: &mut Shared<Timed>, count: u64) -> bool {
-    for value in 0..count {
-        if poll_set(task, set) != Poll::Ready(Some(value)) {
-            return false;
-        }
-    }
-    poll_set(task, set) == Poll::Ready(None)
+fn over_ready(alloc: Global, count: u64) -> Result<Shared, Fail> {
+    let items = ready_up_to(alloc, count)?;
+    Ok(FuturesUnorderedBounded::over(&(), alloc, items)?)
 }
 
 #[test]
 fn from_iter_marks_each_item(rt: HostRuntime) -> Result<(), Fail> {
-    let task = MockTask::new(&rt)?;
-    let mut set = of_ready(rt.alloc(), 10)?;
-    assert!(rt; gives_all(&task, &mut set, 10));
-    Ok(())
+    let row = [
+        (Call::Outputs(10), Answer::InOrder),
+        (Call::Poll, Answer::None),
+    ];
+    try_row(&rt, of_ready(rt.alloc(), 10)?, &row)
 }
 
 #[test]
 fn over_marks_each_item(rt: HostRuntime) -> Result<(), Fail> {
-    let task = MockTask::new(&rt)?;
-    let items = ready_up_to(rt.alloc(), 10)?;
-    let mut set: Shared<Timed> = FuturesUnorderedBounded::over(&(), rt.alloc(), items)?;
-    assert!(rt; gives_all(&task, &mut set, 10));
-    Ok(())
+    let row = [
+        (Call::Outputs(10), Answer::InOrder),
+        (Call::Poll, Answer::None),
+    ];
+    try_row(&rt, over_ready(rt.alloc(), 10)?, &row)
 }
 
 // More slots than a byte can count.
 #[test]
 fn names_each_of_300_slots(rt: HostRuntime) -> Result<(), Fail> {
-    let task = MockTask::new(&rt)?;
-    let mut set = of_ready(rt.alloc(), 300)?;
-    assert!(rt; gives_all(&task, &mut set, 300));
-    Ok(())
-}
-
-// How many slots of the set are not marked. It marks each.
-fn marks_all(set: &mut Shared<Timed>) -> usize {
-    let mut fresh = 0usize;
-    for i in 0..set.capacity() {
-        if i < set.capacity() && set.mark_slot(i) == Woke::Fresh {
-            fresh = fresh.saturating_add(1);
-        }
-    }
-    fresh
+    let row = [
+        (Call::Outputs(300), Answer::InOrder),
+        (Call::Poll, Answer::None),
+    ];
+    try_row(&rt, of_ready(rt.alloc(), 300)?, &row)
 }
 
 #[test]
 fn a_new_set_has_no_mark(rt: HostRuntime) -> Result<(), Fail> {
-    let mut set = FuturesUnorderedBounded::new(rt.alloc(), 300)?;
-    assert_eq!(rt; (marks_all(&mut set), marks_all(&mut set)), (300, 0));
-    Ok(())
-}
-
-// What a poll gave, and whether the task is woken after it.
-fn gives(task: &MockTask, set: &mut Shared<Timed>) -> (Poll<Option<u64>>, bool) {
-    let given = poll_set(task, set);
-    (given, task.is_woken())
+    let row = [
+        (Call::Capacity, Answer::Number(300)),
+        (Call::MarkEach(300), Answer::Number(300)),
+        (Call::MarkEach(300), Answer::Number(0)),
+    ];
+    try_row(&rt, new_set(rt.alloc(), 300)?, &row)
 }
 
 #[test]
 fn an_output_wakes_nobody(rt: HostRuntime) -> Result<(), Fail> {
-    let task = MockTask::new(&rt)?;
-    let mut set = of_ready(rt.alloc(), 2)?;
-    let given = [gives(&task, &mut set), gives(&task, &mut set)];
-    let want = [(Poll::Ready(Some(0)), false), (Poll::Ready(Some(1)), false)];
-    assert_same(&rt, given, want);
-    Ok(())
+    let row = [
+        (Call::Poll, Answer::Some(0)),
+        (Call::IsWoken, Answer::Is(false)),
+        (Call::Poll, Answer::Some(1)),
+        (Call::IsWoken, Answer::Is(false)),
+    ];
+    try_row(&rt, of_ready(rt.alloc(), 2)?, &row)
+}
+
+// A set, while it is there.
+#[derive(Drop)]
+struct Held {
+    set: Option<Shared>,
+}
+
+impl Tried for Held {
+    fn gave(&mut self, task: &MockTask, call: Call) -> Answer {
+        match call {
+            Call::Drop => {
+                self.set = None;
+                Answer::Done
+            }
+            asked => match &mut self.set {
+                Some(set) => set.gave(task, asked),
+                None => Answer::Unknown,
+            },
+        }
+    }
+}
+
+fn new_held(alloc: Global) -> Result<Held, Fail> {
+    let set = new_set(alloc, 1)?;
+    Ok(Held { set: Some(set) })
 }
 
 // A set that holds nothing keeps no waker, so that its drop wakes nobody either.
 #[test]
 fn an_end_wakes_nobody(rt: HostRuntime) -> Result<(), Fail> {
-    let task = MockTask::new(&rt)?;
-    let mut set = FuturesUnorderedBounded::new(rt.alloc(), 1)?;
-    assert_eq!(rt; gives(&task, &mut set), (Poll::Ready(None), false));
-    drop(set);
-    assert!(rt; !task.is_woken());
-    Ok(())
+    let row = [
+        (Call::Poll, Answer::None),
+        (Call::IsWoken, Answer::Is(false)),
+        (Call::Drop, Answer::Done),
+        (Call::IsWoken, Answer::Is(false)),
+    ];
+    try_row(&rt, new_held(rt.alloc())?, &row)
 }
 
 #[test]
 fn prints_what_it_holds(rt: HostRuntime) -> Result<(), Fail> {
     let set = of_ready(rt.alloc(), 2)?;
-    let text = format!(in rt.alloc(); "{set:?}")?;
-    assert_same(&rt, text.as_str(), "FuturesUnorderedBounded { len: 2, .. }");
-    Ok(())
+    assert_text(&rt, &set, "FuturesUnorderedBounded { len: 2, .. }")
 }

@@ -4,7 +4,9 @@ use futures::executor::block_on;
 use futures::{StreamExt, future};
 use futures_buffered_core::ready_shared::SharedReady;
 use futures_buffered_sets::futures_unordered_bounded::FuturesUnorderedBounded;
-use std::alloc::Global;
+use std::alloc::{AllocError, AllocGlobal, Global};
+use std::io;
+use std::random::RandomSource;
 use std::sync::Wait;
 use std::test::Fail;
 use std::thread::{self, JoinHandle, Threads};
@@ -15,34 +17,75 @@ use test_parts::yields::Yield;
 
 type Shared<F> = FuturesUnorderedBounded<F, SharedReady>;
 
-// The set gives each receiver.
-fn push_all<R: Wait + Drop>(set: &mut Shared<Receiver<u64, R>>, receivers: Vec<Receiver<u64, R>>) {
-    for receiver in receivers {
-        let _ = set.try_push(receiver);
-    }
+// What the futures of a set gave, where there was memory for it.
+type Outputs<T> = io::Result<Result<Vec<T>, AllocError>>;
+
+fn new_timed(alloc: Global) -> Result<Shared<Timed>, Fail> {
+    Ok(FuturesUnorderedBounded::new(alloc, 2)?)
 }
 
-// Whether a future that is ready with this value was put in.
-fn pushes(set: &mut Shared<Timed>, value: u64) -> bool {
-    set.try_push(ready(value)).is_ok()
+// Whether futures that are ready with 1 and 2 were put in.
+fn takes_two(set: &mut Shared<Timed>) -> bool {
+    set.try_push(ready(1)).is_ok() && set.try_push(ready(2)).is_ok()
+}
+
+fn collected<R>(rt: &R, set: Shared<Timed>) -> Outputs<u64>
+where
+    R: Wait + RandomSource + AllocGlobal,
+{
+    block_on(rt, set.collect(rt.alloc()))
+}
+
+fn collecting<R>(rt: R, set: Shared<Timed>) -> Result<JoinHandle<Outputs<u64>>, Fail>
+where
+    R: Threads + Wait + RandomSource + AllocGlobal + Copy + Send + Sync + 'static,
+{
+    Ok(thread::spawn(&rt, move || collected(&rt, set))?)
+}
+
+// What the thread collected.
+fn outputs_of<R: Threads>(rt: &R, child: JoinHandle<Outputs<u64>>) -> Result<Vec<u64>, Fail> {
+    Ok(child.join(rt)??)
 }
 
 #[test]
 fn a_set_is_polled_on_another_thread(rt: HostRuntime) -> Result<(), Fail> {
-    let mut set: Shared<Timed> = FuturesUnorderedBounded::new(rt.alloc(), 2)?;
-    assert!(rt; pushes(&mut set, 1) && pushes(&mut set, 2));
-    let child = thread::spawn(&rt, move || block_on(&rt, set.collect(rt.alloc())))?;
-    let outputs = child.join(&rt)??;
-    assert_eq!(rt; outputs.as_slice(), [1, 2].as_slice());
+    let mut set = new_timed(rt.alloc())?;
+    assert!(rt; takes_two(&mut set));
+    let child = collecting(rt, set)?;
+    let outputs = outputs_of(&rt, child)?;
+    assert_same(&rt, outputs.as_slice(), [1, 2].as_slice());
     Ok(())
+}
+
+fn new_yielding(alloc: Global) -> Result<Shared<Yield>, Fail> {
+    Ok(FuturesUnorderedBounded::new(alloc, 2)?)
+}
+
+fn takes_two_yields(set: &mut Shared<Yield>) -> bool {
+    set.try_push(Yield::new()).is_ok() && set.try_push(Yield::new()).is_ok()
+}
+
+fn counted<R>(rt: &R, set: Shared<Yield>) -> io::Result<usize>
+where
+    R: Wait + RandomSource + AllocGlobal,
+{
+    block_on(rt, set.count())
+}
+
+fn counting<R>(rt: R, set: Shared<Yield>) -> Result<JoinHandle<io::Result<usize>>, Fail>
+where
+    R: Threads + Wait + RandomSource + AllocGlobal + Copy + Send + Sync + 'static,
+{
+    Ok(thread::spawn(&rt, move || counted(&rt, set))?)
 }
 
 #[test]
 fn a_set_that_yields_is_polled_on_another_thread(rt: HostRuntime) -> Result<(), Fail> {
-    let mut set: Shared<Yield> = FuturesUnorderedBounded::new(rt.alloc(), 2)?;
-    assert!(rt; set.try_push(Yield::new()).is_ok() && set.try_push(Yield::new()).is_ok());
-    let child = thread::spawn(&rt, move || block_on(&rt, set.count()))?;
-    assert_eq!(rt; child.join(&rt)?, 2);
+    let mut set = new_yielding(rt.alloc())?;
+    assert!(rt; takes_two_yields(&mut set));
+    let child = counting(rt, set)?;
+    assert_same(&rt, child.join(&rt)?, 2);
     Ok(())
 }
 
@@ -52,33 +95,77 @@ fn send_each<R: Wait + Drop>(senders: &Vec<Sender<u64, R>>, values: [u64; 4]) {
     }
 }
 
-// The set gives each of four receivers, and a thread sends them their values.
-fn sending<R: Threads + Wait + Copy + Send + Sync + 'static>(
-    rt: &R,
+// The set gives each receiver.
+fn push_all<R: Wait + Drop>(set: &mut Shared<Receiver<u64, R>>, receivers: Vec<Receiver<u64, R>>) {
+    for receiver in receivers {
+        let _ = set.try_push(receiver);
+    }
+}
+
+// A set of four receivers, and the thread that sends them their values.
+#[derive(Drop)]
+struct Sent<R: Wait + Drop> {
+    set: Shared<Receiver<u64, R>>,
+    child: JoinHandle<()>,
+}
+
+fn set_of<R: Wait + Drop>(
     alloc: Global,
-    set: &mut Shared<Receiver<u64, R>>,
+    receivers: Vec<Receiver<u64, R>>,
+) -> Result<Shared<Receiver<u64, R>>, Fail> {
+    let mut set = FuturesUnorderedBounded::new(alloc, 4)?;
+    push_all(&mut set, receivers);
+    Ok(set)
+}
+
+fn sending<R>(
+    rt: &R,
+    senders: Vec<Sender<u64, R>>,
     values: [u64; 4],
-) -> Result<JoinHandle<()>, Fail> {
-    let Cells { senders, receivers } = new_cells(rt, alloc, 4)?;
-    push_all(set, receivers);
+) -> Result<JoinHandle<()>, Fail>
+where
+    R: Threads + Wait + Send + Sync + Drop + 'static,
+{
     Ok(thread::spawn(rt, move || send_each(&senders, values))?)
+}
+
+fn new_sent<R>(rt: &R, alloc: Global, values: [u64; 4]) -> Result<Sent<R>, Fail>
+where
+    R: Threads + Wait + Copy + Send + Sync + 'static,
+{
+    let Cells { senders, receivers } = new_cells(rt, alloc, 4)?;
+    let set = set_of(alloc, receivers)?;
+    let child = sending(rt, senders, values)?;
+    Ok(Sent { set, child })
+}
+
+fn first_of<R>(rt: &R, set: &mut Shared<Receiver<u64, R>>) -> Result<u64, Fail>
+where
+    R: Wait + RandomSource + AllocGlobal + Drop,
+{
+    Ok(block_on(rt, set.next())?.ok_or("no first")??)
+}
+
+// The bits of all outputs.
+fn bits_of<R>(rt: &R, set: Shared<Receiver<u64, R>>) -> Result<u64, Fail>
+where
+    R: Wait + RandomSource + AllocGlobal + Drop,
+{
+    let all = set.fold(0, |sum, x| future::ready(sum | x.unwrap_or(0)));
+    Ok(block_on(rt, all)?)
 }
 
 #[test]
 fn next_and_fold_while_a_thread_wakes(rt: HostRuntime) -> Result<(), Fail> {
-    let mut set = FuturesUnorderedBounded::new(rt.alloc(), 4)?;
-    let child = sending(&rt, rt.alloc(), &mut set, [1, 2, 4, 8])?;
-    let first = block_on(&rt, set.next())?.ok_or("no first")??;
-    let others = block_on(
-        &rt,
-        set.fold(0, |sum, x| future::ready(sum | x.unwrap_or(0))),
-    )?;
+    let Sent { mut set, child } = new_sent(&rt, rt.alloc(), [1, 2, 4, 8])?;
+    let first = first_of(&rt, &mut set)?;
+    let others = bits_of(&rt, set)?;
     child.join(&rt);
     assert_same(&rt, (others & first, others | first), (0, 15));
     Ok(())
 }
 
-fn sum_of<E: Drop>(outputs: Vec<Result<u64, E>>) -> Result<u64, E> {
+fn sum<E: Drop>(outputs: Vec<Result<u64, E>>) -> Result<u64, E> {
     let mut sum = 0u64;
     for output in outputs {
         sum = sum.saturating_add(output?);
@@ -86,12 +173,19 @@ fn sum_of<E: Drop>(outputs: Vec<Result<u64, E>>) -> Result<u64, E> {
     Ok(sum)
 }
 
+fn sum_of<R>(rt: &R, set: Shared<Receiver<u64, R>>) -> Result<u64, Fail>
+where
+    R: Wait + RandomSource + AllocGlobal + Drop,
+{
+    let outputs = block_on(rt, set.collect(rt.alloc()))??;
+    Ok(sum(outputs)?)
+}
+
 #[test]
 fn collect_while_a_thread_wakes(rt: HostRuntime) -> Result<(), Fail> {
-    let mut set = FuturesUnorderedBounded::new(rt.alloc(), 4)?;
-    let child = sending(&rt, rt.alloc(), &mut set, [5, 6, 7, 8])?;
-    let outputs = block_on(&rt, set.collect(rt.alloc()))??;
+    let Sent { set, child } = new_sent(&rt, rt.alloc(), [5, 6, 7, 8])?;
+    let outputs = sum_of(&rt, set)?;
     child.join(&rt);
-    assert_same(&rt, sum_of(outputs)?, 26);
+    assert_same(&rt, outputs, 26);
     Ok(())
 }

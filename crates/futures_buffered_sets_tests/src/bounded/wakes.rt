@@ -1,175 +1,147 @@
 // Who is woken, and how often.
+use super::keepers::{Keepers, new_keepers};
 use crate::assert_same::assert_same;
+use crate::calls::{Answer, Call, try_calls, try_row};
 use futures::test::MockTask;
-use futures_buffered_core::ready_shared::{SharedReady, SlotWake};
-use futures_buffered_core::ready_source::SlotWaker;
-use futures_buffered_sets::futures_unordered_bounded::FuturesUnorderedBounded;
-use std::alloc::{AllocError, Global};
-use std::sync::atomic::Ordering::SeqCst;
-use std::sync::{Arc, Wait};
+use std::process::Abort;
+use std::sync::Wait;
 use std::test::Fail;
-use test_parts::counted::Counted;
-use test_parts::counter::{Counter, new_counter};
-use test_parts::kept::{Kept, WakerPlace, empty_place, taken_from};
-use test_parts::polling::{poll_nothing, poll_set};
-
-type Set<R> = FuturesUnorderedBounded<Counted<Kept<R>>, SharedReady>;
-
-// A set, the place of the waker that was kept last, and how often a future was polled.
-#[derive(Drop)]
-struct Row<R: Wait + Clone + Drop> {
-    set: Set<R>,
-    place: WakerPlace,
-    polls: Counter,
-}
-
-fn new_row<R>(rt: &R, alloc: Global, capacity: usize) -> Result<Row<R>, Fail>
-where
-    R: Wait + Clone + Drop + Send + Sync,
-{
-    let polls = new_counter(alloc)?;
-    let place = empty_place(alloc)?;
-    let set = FuturesUnorderedBounded::new(alloc, capacity)?;
-    Ok(Row { set, place, polls })
-}
-
-fn counted_kept<R: Wait + Clone + Drop>(
-    rt: &R,
-    row: &Row<R>,
-) -> Result<Counted<Kept<R>>, AllocError> {
-    let place = Arc::try_clone(&row.place)?;
-    let polls = Arc::try_clone(&row.polls)?;
-    Ok(Counted::new(Kept::new(rt.clone()?, place), polls))
-}
-
-// Whether one more future was put in.
-fn pushes<R: Wait + Clone + Drop>(rt: &R, row: &mut Row<R>) -> bool {
-    match counted_kept(rt, row) {
-        Ok(future) => row.set.try_push(future).is_ok(),
-        Err(_) => false,
-    }
-}
-
-// Whether the set is pending, and how often futures were polled by then.
-fn polled<R: Wait + Clone + Drop>(task: &MockTask, row: &mut Row<R>) -> (bool, u64) {
-    let is_pending = poll_set(task, &mut row.set).is_pending();
-    (is_pending, row.polls.load(SeqCst))
-}
-
-fn kept_waker<R: Wait + Clone + Drop>(rt: &R, row: &Row<R>) -> Result<SlotWake, Fail> {
-    Ok(taken_from(rt, &row.place).ok_or("kept")?)
-}
+use test_parts::polling::poll_nothing;
 
 #[test]
 fn two_wakes_of_a_slot_are_one(rt: HostRuntime) -> Result<(), Fail> {
-    let task = MockTask::new(&rt)?;
-    let mut row = new_row(&rt, rt.alloc(), 2)?;
-    assert!(rt; pushes(&rt, &mut row));
-    assert_same(
-        &rt,
-        (polled(&task, &mut row), task.is_woken()),
-        ((true, 1), false),
-    );
-    let waker = kept_waker(&rt, &row)?;
-    assert_same(&rt, waker.slot(), 0);
-    waker.wake();
-    assert!(rt; task.is_woken());
-    waker.wake();
-    assert_same(
-        &rt,
-        (polled(&task, &mut row), task.is_woken()),
-        ((true, 2), false),
-    );
-    // Nothing is marked now, so a further poll polls no future.
-    assert_same(&rt, polled(&task, &mut row), (true, 2));
-    Ok(())
-}
-
-// Whether the waker wakes the task, which is not woken before.
-fn is_woken_by<W: SlotWaker>(task: &MockTask, waker: &W) -> bool {
-    poll_nothing(task);
-    waker.wake();
-    task.is_woken()
+    let row = [
+        (Call::Push(0, 1), Answer::Pushed),
+        (Call::Poll, Answer::Pending),
+        (Call::Polls, Answer::Each([1, 0, 0])),
+        (Call::IsWoken, Answer::Is(false)),
+        (Call::Take, Answer::Number(0)),
+        (Call::Wake(0), Answer::Done),
+        (Call::IsWoken, Answer::Is(true)),
+        (Call::Wake(0), Answer::Done),
+        (Call::Poll, Answer::Pending),
+        (Call::Polls, Answer::Each([2, 0, 0])),
+        (Call::IsWoken, Answer::Is(false)),
+        // Nothing is marked now, so a further poll polls no future.
+        (Call::Poll, Answer::Pending),
+        (Call::Polls, Answer::Each([2, 0, 0])),
+    ];
+    try_row(&rt, new_keepers(&rt, rt.alloc(), 2)?, &row)
 }
 
 // The first fresh wake after a poll wakes the task; until the next poll no other does.
 #[test]
 fn a_task_is_woken_once(rt: HostRuntime) -> Result<(), Fail> {
-    let task = MockTask::new(&rt)?;
-    let mut row = new_row(&rt, rt.alloc(), 2)?;
-    assert!(rt; pushes(&rt, &mut row));
-    assert_same(&rt, polled(&task, &mut row), (true, 1));
-    let first = kept_waker(&rt, &row)?;
-    assert!(rt; pushes(&rt, &mut row));
-    assert_same(&rt, polled(&task, &mut row), (true, 2));
-    let second = kept_waker(&rt, &row)?;
-    let woken = [
-        is_woken_by(&task, &first),
-        is_woken_by(&task, &first),
-        is_woken_by(&task, &second),
+    let row = [
+        (Call::Push(0, 1), Answer::Pushed),
+        (Call::Poll, Answer::Pending),
+        (Call::Polls, Answer::Each([1, 0, 0])),
+        (Call::Take, Answer::Number(0)),
+        (Call::Push(1, 1), Answer::Pushed),
+        (Call::Poll, Answer::Pending),
+        (Call::Polls, Answer::Each([1, 1, 0])),
+        (Call::Take, Answer::Number(1)),
+        (Call::PollNothing, Answer::Done),
+        (Call::Wake(0), Answer::Done),
+        (Call::IsWoken, Answer::Is(true)),
+        (Call::PollNothing, Answer::Done),
+        (Call::Wake(0), Answer::Done),
+        (Call::IsWoken, Answer::Is(false)),
+        (Call::PollNothing, Answer::Done),
+        (Call::Wake(1), Answer::Done),
+        (Call::IsWoken, Answer::Is(false)),
+        (Call::Poll, Answer::Pending),
+        (Call::Polls, Answer::Each([2, 2, 0])),
+        (Call::PollNothing, Answer::Done),
+        (Call::Wake(1), Answer::Done),
+        (Call::IsWoken, Answer::Is(true)),
     ];
-    assert_same(&rt, woken, [true, false, false]);
-    assert_same(&rt, polled(&task, &mut row), (true, 4));
-    assert!(rt; is_woken_by(&task, &second));
-    Ok(())
+    try_row(&rt, new_keepers(&rt, rt.alloc(), 2)?, &row)
 }
 
 #[test]
 fn a_push_wakes_nobody(rt: HostRuntime) -> Result<(), Fail> {
-    let task = MockTask::new(&rt)?;
-    let mut row = new_row(&rt, rt.alloc(), 2)?;
-    assert!(rt; pushes(&rt, &mut row));
-    assert_same(&rt, polled(&task, &mut row), (true, 1));
-    assert_same(&rt, (pushes(&rt, &mut row), task.is_woken()), (true, false));
-    assert_same(&rt, polled(&task, &mut row), (true, 2));
-    assert_same(&rt, kept_waker(&rt, &row)?.slot(), 1);
-    Ok(())
+    let row = [
+        (Call::Push(0, 1), Answer::Pushed),
+        (Call::Poll, Answer::Pending),
+        (Call::Polls, Answer::Each([1, 0, 0])),
+        (Call::Push(1, 1), Answer::Pushed),
+        (Call::IsWoken, Answer::Is(false)),
+        (Call::Poll, Answer::Pending),
+        (Call::Polls, Answer::Each([1, 1, 0])),
+        (Call::Take, Answer::Number(1)),
+    ];
+    try_row(&rt, new_keepers(&rt, rt.alloc(), 2)?, &row)
 }
 
 #[test]
 fn a_waker_outlives_its_set(rt: HostRuntime) -> Result<(), Fail> {
-    let task = MockTask::new(&rt)?;
-    let mut row = new_row(&rt, rt.alloc(), 2)?;
-    assert!(rt; pushes(&rt, &mut row));
-    assert_same(&rt, polled(&task, &mut row), (true, 1));
-    let waker = kept_waker(&rt, &row)?;
-    drop(row);
-    assert!(rt; !task.is_woken());
-    waker.wake();
-    assert!(rt; task.is_woken());
-    poll_nothing(&task);
-    waker.wake();
-    assert!(rt; !task.is_woken());
-    Ok(())
+    let row = [
+        (Call::Push(0, 1), Answer::Pushed),
+        (Call::Poll, Answer::Pending),
+        (Call::Polls, Answer::Each([1, 0, 0])),
+        (Call::Take, Answer::Number(0)),
+        (Call::Drop, Answer::Done),
+        (Call::IsWoken, Answer::Is(false)),
+        (Call::Wake(0), Answer::Done),
+        (Call::IsWoken, Answer::Is(true)),
+        (Call::PollNothing, Answer::Done),
+        (Call::Wake(0), Answer::Done),
+        (Call::IsWoken, Answer::Is(false)),
+    ];
+    try_row(&rt, new_keepers(&rt, rt.alloc(), 2)?, &row)
 }
 
 // A waker of a task wakes when it is dropped, and the last owner of the list drops it.
 #[test]
 fn a_set_that_goes_wakes_its_task(rt: HostRuntime) -> Result<(), Fail> {
-    let task = MockTask::new(&rt)?;
-    let mut row = new_row(&rt, rt.alloc(), 2)?;
-    assert!(rt; pushes(&rt, &mut row));
-    assert_eq!(rt; polled(&task, &mut row), (true, 1));
-    drop(taken_from(&rt, &row.place));
-    assert!(rt; !task.is_woken());
-    drop(row);
-    assert!(rt; task.is_woken());
-    Ok(())
+    let row = [
+        (Call::Push(0, 1), Answer::Pushed),
+        (Call::Poll, Answer::Pending),
+        (Call::Polls, Answer::Each([1, 0, 0])),
+        (Call::Forget, Answer::Done),
+        (Call::IsWoken, Answer::Is(false)),
+        (Call::Drop, Answer::Done),
+        (Call::IsWoken, Answer::Is(true)),
+    ];
+    try_row(&rt, new_keepers(&rt, rt.alloc(), 2)?, &row)
+}
+
+// Polls of one set in two tasks.
+fn try_two_tasks<R: Wait + Abort + Clone + Drop>(
+    rt: &R,
+    first: &MockTask,
+    second: &MockTask,
+    keepers: &mut Keepers<R>,
+) {
+    let polled = [
+        (Call::Push(0, 1), Answer::Pushed),
+        (Call::Poll, Answer::Pending),
+        (Call::Polls, Answer::Each([1, 0, 0])),
+    ];
+    try_calls(rt, first, keepers, &polled);
+    poll_nothing(second);
+    assert_same(rt, (first.is_woken(), second.is_woken()), (false, false));
+    let polled_elsewhere = [
+        (Call::Poll, Answer::Pending),
+        (Call::Polls, Answer::Each([1, 0, 0])),
+    ];
+    try_calls(rt, second, keepers, &polled_elsewhere);
+    assert_same(rt, (first.is_woken(), second.is_woken()), (true, false));
+    let woken = [
+        (Call::PollNothing, Answer::Done),
+        (Call::Take, Answer::Number(0)),
+        (Call::Wake(0), Answer::Done),
+    ];
+    try_calls(rt, first, keepers, &woken);
+    assert_same(rt, (first.is_woken(), second.is_woken()), (false, true));
 }
 
 #[test]
 fn another_task_that_polls_wakes_the_one_before(rt: HostRuntime) -> Result<(), Fail> {
     let first = MockTask::new(&rt)?;
     let second = MockTask::new(&rt)?;
-    let mut row = new_row(&rt, rt.alloc(), 1)?;
-    assert!(rt; pushes(&rt, &mut row));
-    assert_same(&rt, polled(&first, &mut row), (true, 1));
-    poll_nothing(&second);
-    assert_same(&rt, (first.is_woken(), second.is_woken()), (false, false));
-    assert_same(&rt, polled(&second, &mut row), (true, 1));
-    assert_same(&rt, (first.is_woken(), second.is_woken()), (true, false));
-    poll_nothing(&first);
-    kept_waker(&rt, &row)?.wake();
-    assert_same(&rt, (first.is_woken(), second.is_woken()), (false, true));
+    let mut keepers = new_keepers(&rt, rt.alloc(), 1)?;
+    try_two_tasks(&rt, &first, &second, &mut keepers);
     Ok(())
 }

@@ -1,10 +1,9 @@
 // What is dropped, and how often.
-use crate::assert_same::assert_same;
-use futures::task::Poll;
+use crate::calls::{Answer, Call, Tried, answered_unit, try_row};
 use futures::test::MockTask;
 use futures_buffered_core::ready_source::CoreSource;
 use futures_buffered_sets::futures_unordered::FuturesUnordered;
-use std::alloc::AllocError;
+use std::alloc::{AllocError, Global};
 use std::sync::Arc;
 use std::sync::atomic::Ordering::SeqCst;
 use std::test::Fail;
@@ -14,48 +13,94 @@ use test_parts::polling::poll_growing_set;
 
 type Set = FuturesUnordered<Dropped, CoreSource>;
 
-// Whether `count` futures went in.
-fn pushed(set: &mut Set, drops: &Counter, count: u64) -> Result<bool, AllocError> {
-    let mut all = true;
-    for _ in 0..count {
-        let future = Dropped::new(Arc::try_clone(drops)?);
-        if set.push(future).is_err() {
-            all = false;
-        }
-    }
-    Ok(all)
+// A set, while it is there, and how often one of its futures was dropped.
+#[derive(Drop)]
+struct Watched {
+    set: Option<Set>,
+    drops: Counter,
 }
 
-// A poll, whether it gave an output, and how often a future was dropped by then.
-fn polled(task: &MockTask, set: &mut Set, drops: &Counter) -> (bool, u64) {
-    let given = poll_growing_set(task, set);
-    (given == Poll::Ready(Some(())), drops.load(SeqCst))
+// The first group has one slot.
+fn new_watched(alloc: Global) -> Result<Watched, Fail> {
+    let drops = new_counter(alloc)?;
+    let set: Set = FuturesUnordered::over((), alloc, 1)?;
+    Ok(Watched {
+        set: Some(set),
+        drops,
+    })
+}
+
+fn takes_one(set: &mut Set, drops: &Counter) -> Result<bool, AllocError> {
+    let future = Dropped::new(Arc::try_clone(drops)?);
+    Ok(set.push(future).is_ok())
+}
+
+// How many of so many futures went in.
+fn taken(set: &mut Set, drops: &Counter, count: u64) -> Result<u64, AllocError> {
+    let mut held = 0u64;
+    for _ in 0..count {
+        if takes_one(set, drops)? {
+            held = held.saturating_add(1);
+        }
+    }
+    Ok(held)
+}
+
+fn of_set(task: &MockTask, set: &mut Set, drops: &Counter, call: Call) -> Answer {
+    match call {
+        Call::Fill(count) => match taken(set, drops, count) {
+            Ok(held) => Answer::Number(held),
+            Err(_) => Answer::Unknown,
+        },
+        Call::Poll => answered_unit(poll_growing_set(task, set)),
+        _ => Answer::Unknown,
+    }
+}
+
+impl Tried for Watched {
+    fn gave(&mut self, task: &MockTask, call: Call) -> Answer {
+        match call {
+            Call::Drops => Answer::Number(self.drops.load(SeqCst)),
+            Call::Drop => {
+                self.set = None;
+                Answer::Done
+            }
+            asked => match &mut self.set {
+                Some(set) => of_set(task, set, &self.drops, asked),
+                None => Answer::Unknown,
+            },
+        }
+    }
 }
 
 #[test]
 fn each_future_is_dropped_once(rt: HostRuntime) -> Result<(), Fail> {
-    let task = MockTask::new(&rt)?;
-    let drops = new_counter(rt.alloc())?;
-    let mut set: Set = FuturesUnordered::over((), rt.alloc(), 1)?;
-    assert!(rt; pushed(&mut set, &drops, 5)?);
-    assert_same(&rt, polled(&task, &mut set, &drops), (true, 1));
-    assert_same(&rt, polled(&task, &mut set, &drops), (true, 2));
-    assert_same(&rt, polled(&task, &mut set, &drops), (true, 3));
-    drop(set);
-    assert_same(&rt, drops.load(SeqCst), 5);
-    Ok(())
+    let row = [
+        (Call::Fill(5), Answer::Number(5)),
+        (Call::Poll, Answer::Some(0)),
+        (Call::Drops, Answer::Number(1)),
+        (Call::Poll, Answer::Some(0)),
+        (Call::Drops, Answer::Number(2)),
+        (Call::Poll, Answer::Some(0)),
+        (Call::Drops, Answer::Number(3)),
+        (Call::Drop, Answer::Done),
+        (Call::Drops, Answer::Number(5)),
+    ];
+    try_row(&rt, new_watched(rt.alloc())?, &row)
 }
 
 #[test]
 fn a_group_that_leaves_drops_nothing_twice(rt: HostRuntime) -> Result<(), Fail> {
-    let task = MockTask::new(&rt)?;
-    let drops = new_counter(rt.alloc())?;
-    let mut set: Set = FuturesUnordered::over((), rt.alloc(), 1)?;
-    assert!(rt; pushed(&mut set, &drops, 2)?);
-    assert_same(&rt, polled(&task, &mut set, &drops), (true, 1));
-    assert_same(&rt, polled(&task, &mut set, &drops), (true, 2));
-    assert_same(&rt, polled(&task, &mut set, &drops), (false, 2));
-    drop(set);
-    assert_same(&rt, drops.load(SeqCst), 2);
-    Ok(())
+    let row = [
+        (Call::Fill(2), Answer::Number(2)),
+        (Call::Poll, Answer::Some(0)),
+        (Call::Drops, Answer::Number(1)),
+        (Call::Poll, Answer::Some(0)),
+        (Call::Drops, Answer::Number(2)),
+        (Call::Poll, Answer::None),
+        (Call::Drops, Answer::Number(2)),
+        (Call::Drop, Answer::Done),
+        (Call::Drops, Answer::Number(2)),
+    ];
+    try_row(&rt, new_watched(rt.alloc())?, &row)
 }

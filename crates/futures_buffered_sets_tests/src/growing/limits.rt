@@ -41,11 +41,16 @@ fn limit_of_source(alloc: Global, limit: usize) -> Result<usize, Fail>
     Ok(set.limit())
 }
 
+// The limit and the capacity of a set of one future that is made with the limit 9.
+fn limit_of_items(alloc: Global) -> Result<(usize, usize), Fail> {
+    let items = ready_up_to(alloc, 1)?;
+    let set: Bounded = FuturesUnorderedBounded::over_limit(&(), alloc, items, 9)?;
+    Ok((set.limit(), set.capacity()))
+}
+
 #[test]
 fn bounded_sets_have_the_limit(rt: HostRuntime) -> Result<(), Fail> {
     assert_same(&rt, limit_of_source(rt.alloc(), 7)?, 7);
-    let items = ready_up_to(rt.alloc(), 1)?;
-    let set: Bounded = FuturesUnorderedBounded::over_limit(&(), rt.alloc(), items, 9)?;
-    assert_same(&rt, (set.limit(), set.capacity()), (9, 1));
+    assert_same(&rt, limit_of_items(rt.alloc())?, (9, 1));
     Ok(())
 }

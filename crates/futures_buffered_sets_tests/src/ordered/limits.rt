@@ -1,44 +1,53 @@
 // The limit of a queue is the one that was chosen.
 use crate::assert_same::assert_same;
-use futures::task::Poll;
-use futures::test::MockTask;
+use crate::calls::{Answer, Call, try_row};
+use futures_buffered_core::ready_shared::SharedReady;
 use futures_buffered_core::ready_source::CoreSource;
 use futures_buffered_sets::futures_ordered_bounded::FuturesOrderedBounded;
 use futures_buffered_sets::futures_unordered_bounded::POLL_LIMIT;
+use std::alloc::Global;
 use std::test::Fail;
-use test_parts::polling::poll_queue;
-use test_parts::timed::{Timed, late};
+use test_parts::timed::Timed;
+
+type Shared = FuturesOrderedBounded<Timed, SharedReady>;
 
 type Queue = FuturesOrderedBounded<Timed, CoreSource>;
 
-// The answer of a poll, and whether the task is woken after it.
-fn polled(task: &MockTask, queue: &mut Queue) -> (Poll<Option<u64>>, bool) {
-    let answer = poll_queue(task, queue);
-    (answer, task.is_woken())
+// The limit and the capacity of a queue of three slots.
+fn usual_limit(alloc: Global) -> Result<(usize, usize), Fail> {
+    let queue: Shared = FuturesOrderedBounded::new(alloc, 3)?;
+    Ok((queue.limit(), queue.capacity()))
+}
+
+// The same of one that is made with the limit 5.
+fn chosen_limit(alloc: Global) -> Result<(usize, usize), Fail> {
+    let queue: Shared = FuturesOrderedBounded::with_limit(alloc, 3, 5)?;
+    Ok((queue.limit(), queue.capacity()))
 }
 
 #[test]
 fn queues_have_the_limit(rt: HostRuntime) -> Result<(), Fail> {
-    let usual: FuturesOrderedBounded<Timed, _> = FuturesOrderedBounded::new(rt.alloc(), 3)?;
-    assert_same(&rt, (usual.limit(), usual.capacity()), (POLL_LIMIT, 3));
-    let chosen: FuturesOrderedBounded<Timed, _> = FuturesOrderedBounded::with_limit(
-        rt.alloc(),
-        3,
-        5,
-    )?;
-    assert_same(&rt, (chosen.limit(), chosen.capacity()), (5, 3));
+    assert_same(&rt, usual_limit(rt.alloc())?, (POLL_LIMIT, 3));
+    assert_same(&rt, chosen_limit(rt.alloc())?, (5, 3));
     Ok(())
+}
+
+fn with_limit_of_one(alloc: Global) -> Result<Queue, Fail> {
+    Ok(FuturesOrderedBounded::over_limit(&(), alloc, 2, 1)?)
 }
 
 // A poll of the set ends at its limit, wakes the task, and goes on at the next poll.
 #[test]
 fn a_poll_ends_at_the_limit(rt: HostRuntime) -> Result<(), Fail> {
-    let task = MockTask::new(&rt)?;
-    let mut queue: Queue = FuturesOrderedBounded::over_limit(&(), rt.alloc(), 2, 1)?;
-    assert!(rt; queue.try_push_back(late(0)).is_ok());
-    assert!(rt; queue.try_push_back(late(1)).is_ok());
-    assert_same(&rt, polled(&task, &mut queue), (Poll::Pending, true));
-    assert_same(&rt, polled(&task, &mut queue), (Poll::Pending, true));
-    assert_same(&rt, polled(&task, &mut queue), (Poll::Pending, false));
-    Ok(())
+    let row = [
+        (Call::Back(0, 1), Answer::Pushed),
+        (Call::Back(1, 1), Answer::Pushed),
+        (Call::Poll, Answer::Pending),
+        (Call::IsWoken, Answer::Is(true)),
+        (Call::Poll, Answer::Pending),
+        (Call::IsWoken, Answer::Is(true)),
+        (Call::Poll, Answer::Pending),
+        (Call::IsWoken, Answer::Is(false)),
+    ];
+    try_row(&rt, with_limit_of_one(rt.alloc())?, &row)
 }

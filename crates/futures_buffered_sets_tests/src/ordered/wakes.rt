@@ -1,9 +1,9 @@
 // Futures of a queue over a shared source, woken from outside.
-use futures::task::Poll;
+use crate::calls::{Answer, Call, Tried, answered_sent, send, try_row};
 use futures::test::MockTask;
 use futures_buffered_core::ready_shared::SharedReady;
 use futures_buffered_sets::futures_ordered_bounded::FuturesOrderedBounded;
-use std::process::Abort;
+use std::alloc::Global;
 use std::sync::Wait;
 use std::test::Fail;
 use test_parts::cells::{Cells, new_cells};
@@ -12,41 +12,64 @@ use test_parts::receiver::{Receiver, Sender};
 
 type Queue<R> = FuturesOrderedBounded<Receiver<u64, R>, SharedReady>;
 
-// Whether the queue took each receiver.
-fn pushes_all<R: Wait + Drop>(queue: &mut Queue<R>, receivers: Vec<Receiver<u64, R>>) -> bool {
-    let mut all = true;
+// A queue of receivers, and their senders.
+#[derive(Drop)]
+struct Held<R: Wait + Drop> {
+    queue: Queue<R>,
+    senders: Vec<Sender<u64, R>>,
+}
+
+// The queue gives each receiver.
+fn push_all<R: Wait + Drop>(queue: &mut Queue<R>, receivers: Vec<Receiver<u64, R>>) {
     for receiver in receivers {
-        if queue.try_push_back(receiver).is_err() {
-            all = false;
+        let _ = queue.try_push_back(receiver);
+    }
+}
+
+fn queue_of<R: Wait + Drop>(
+    alloc: Global,
+    receivers: Vec<Receiver<u64, R>>,
+) -> Result<Queue<R>, Fail> {
+    let mut queue = FuturesOrderedBounded::new(alloc, receivers.len())?;
+    push_all(&mut queue, receivers);
+    Ok(queue)
+}
+
+fn new_held<R: Wait + Clone + Drop>(rt: &R, alloc: Global, count: usize) -> Result<Held<R>, Fail> {
+    let Cells { senders, receivers } = new_cells(rt, alloc, count)?;
+    let queue = queue_of(alloc, receivers)?;
+    Ok(Held { queue, senders })
+}
+
+impl<R: Wait + Drop> Tried for Held<R> {
+    fn gave(&mut self, task: &MockTask, call: Call) -> Answer {
+        match call {
+            Call::Poll => answered_sent(poll_queue(task, &mut self.queue)),
+            Call::Send(place, value) => send(&self.senders, place, value),
+            Call::Len => Answer::Number(self.queue.len() as u64),
+            _ => Answer::Unknown,
         }
     }
-    all
 }
 
 // Values are sent from the last to the first, and each wakes the task of a queue that is pending.
-fn try_sends<R: Wait + Abort + Drop>(
-    rt: &R,
-    task: &MockTask,
-    queue: &mut Queue<R>,
-    senders: &[Sender<u64, R>],
-) {
-    for (value, sender) in senders.iter().rev().enumerate() {
-        assert!(rt; poll_queue(task, queue) == Poll::Pending);
-        sender.send(value as u64);
-        assert!(rt; task.is_woken());
-    }
-}
-
 #[test]
 fn values_come_in_the_order_of_the_receivers(rt: HostRuntime) -> Result<(), Fail> {
-    let task = MockTask::new(&rt)?;
-    let Cells { senders, receivers } = new_cells(&rt, rt.alloc(), 3)?;
-    let mut queue = FuturesOrderedBounded::new(rt.alloc(), 3)?;
-    assert!(rt; pushes_all(&mut queue, receivers));
-    try_sends(&rt, &task, &mut queue, senders.as_slice());
-    assert!(rt; poll_queue(&task, &mut queue) == Poll::Ready(Some(Ok(2))));
-    assert!(rt; poll_queue(&task, &mut queue) == Poll::Ready(Some(Ok(1))));
-    assert!(rt; poll_queue(&task, &mut queue) == Poll::Ready(Some(Ok(0))));
-    assert!(rt; poll_queue(&task, &mut queue) == Poll::Ready(None));
-    Ok(())
+    let row = [
+        (Call::Len, Answer::Number(3)),
+        (Call::Poll, Answer::Pending),
+        (Call::Send(2, 0), Answer::Sent),
+        (Call::IsWoken, Answer::Is(true)),
+        (Call::Poll, Answer::Pending),
+        (Call::Send(1, 1), Answer::Sent),
+        (Call::IsWoken, Answer::Is(true)),
+        (Call::Poll, Answer::Pending),
+        (Call::Send(0, 2), Answer::Sent),
+        (Call::IsWoken, Answer::Is(true)),
+        (Call::Poll, Answer::Some(2)),
+        (Call::Poll, Answer::Some(1)),
+        (Call::Poll, Answer::Some(0)),
+        (Call::Poll, Answer::None),
+    ];
+    try_row(&rt, new_held(&rt, rt.alloc(), 3)?, &row)
 }
