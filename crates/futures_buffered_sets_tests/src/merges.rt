@@ -1,7 +1,10 @@
 mod bounded;
 mod drops;
+mod feeds;
 mod limits;
+mod pauses;
 mod refusals;
+mod steps;
 mod threads;
 mod unbounded;
 mod wakes;

@@ -1,20 +1,51 @@
 // Futures that are finished by hand, in another order than they stand in.
-use crate::assert_same::assert_same;
+use crate::joins::steps::{Answer, Call, Joined, of_result, try_row};
 use futures::task::Poll;
 use futures::test::MockTask;
+use futures_buffered_core::ready_core::NewFault;
+use futures_buffered_core::ready_shared::SharedReady;
 use futures_buffered_sets::join_all::join_all;
 use futures_buffered_sets::try_join_all::try_join_all;
-use std::alloc::{AllocError, Global};
+use futures_buffered_sets::{JoinAll, TryJoinAll};
+use std::alloc::{AllocError, AllocGlobal, Global};
+use std::process::Abort;
+use std::random::RandomSource;
+use std::sync::Wait;
 use std::test::Fail;
-use test_parts::cells::{Cells, new_cells, sent};
+use test_parts::cells::{Cells, new_cells};
 use test_parts::flat::Flat;
 use test_parts::keep::keep;
 use test_parts::polling::{poll_join, poll_try_join};
 use test_parts::receiver::Receiver;
 
+type Attempt = Result<u64, u64>;
+
+fn received(outputs: &[Result<u64, AllocError>]) -> Answer {
+    match outputs {
+        [] => Answer::Empty,
+        [Ok(first), Ok(second), Ok(third)] => Answer::Three(*first, *second, *third),
+        _ => Answer::Unknown,
+    }
+}
+
+impl<R: Wait + Drop> Joined for JoinAll<Receiver<u64, R>, SharedReady> {
+    fn poll_once(&mut self, task: &MockTask) -> Answer {
+        match poll_join(task, self) {
+            Poll::Ready(outputs) => received(outputs.as_slice()),
+            Poll::Pending => Answer::Pending,
+        }
+    }
+}
+
+impl<R: Wait + Drop> Joined for TryJoinAll<Flat<R>, SharedReady> {
+    fn poll_once(&mut self, task: &MockTask) -> Answer {
+        of_result(poll_try_join(task, self))
+    }
+}
+
 fn flattened<R: Drop>(
     alloc: Global,
-    receivers: Vec<Receiver<Result<u64, u64>, R>>,
+    receivers: Vec<Receiver<Attempt, R>>,
 ) -> Result<Vec<Flat<R>>, AllocError> {
     let mut items = Vec::new(alloc);
     for receiver in receivers {
@@ -23,64 +54,72 @@ fn flattened<R: Drop>(
     Ok(items)
 }
 
+fn flat_join<R: Wait + Drop>(
+    alloc: Global,
+    receivers: Vec<Receiver<Attempt, R>>,
+) -> Result<TryJoinAll<Flat<R>, SharedReady>, NewFault> {
+    try_join_all(alloc, flattened(alloc, receivers)?)
+}
+
+// The calls of a join of three cells.
+fn try_join<R>(rt: &R, row: &[(Call<u64>, Answer)]) -> Result<(), Fail>
+where
+    R: Abort + Wait + RandomSource + AllocGlobal + Clone + Drop,
+{
+    let Cells { senders, receivers } = new_cells(rt, rt.alloc(), 3)?;
+    try_row(rt, senders, join_all(rt.alloc(), receivers), row)
+}
+
+// The calls of a try join of three cells.
+fn try_flat_join<R>(rt: &R, row: &[(Call<Attempt>, Answer)]) -> Result<(), Fail>
+where
+    R: Abort + Wait + RandomSource + AllocGlobal + Clone + Drop,
+{
+    let Cells { senders, receivers } = new_cells(rt, rt.alloc(), 3)?;
+    try_row(rt, senders, flat_join(rt.alloc(), receivers), row)
+}
+
 #[test]
 fn outputs_stand_at_their_places_in_whatever_order_they_come(rt: HostRuntime) -> Result<(), Fail> {
-    let task = MockTask::new(&rt)?;
-    let Cells { senders, receivers } = new_cells(&rt, rt.alloc(), 3)?;
-    let mut join = join_all(rt.alloc(), receivers)?;
-    assert!(rt; poll_join(&task, &mut join).is_pending());
-    assert!(rt; !task.is_woken());
-    assert!(rt; sent(&senders, 2, 1));
-    assert!(rt; task.is_woken());
-    assert!(rt; poll_join(&task, &mut join).is_pending());
-    assert!(rt; sent(&senders, 1, 2));
-    assert!(rt; task.is_woken());
-    assert!(rt; poll_join(&task, &mut join).is_pending());
-    assert!(rt; sent(&senders, 0, 3));
-    let outputs = vec![in rt.alloc(); Ok(3), Ok(2), Ok(1)]?;
-    assert_same(&rt, poll_join(&task, &mut join), Poll::Ready(outputs));
-    assert_same(
-        &rt,
-        poll_join(&task, &mut join),
-        Poll::Ready(Vec::new(rt.alloc())),
-    );
-    Ok(())
+    let row = [
+        (Call::Poll, Answer::Pending),
+        (Call::IsWoken, Answer::Is(false)),
+        (Call::Send(2, 1), Answer::Sent),
+        (Call::IsWoken, Answer::Is(true)),
+        (Call::Poll, Answer::Pending),
+        (Call::Send(1, 2), Answer::Sent),
+        (Call::IsWoken, Answer::Is(true)),
+        (Call::Poll, Answer::Pending),
+        (Call::Send(0, 3), Answer::Sent),
+        (Call::Poll, Answer::Three(3, 2, 1)),
+        (Call::Poll, Answer::Empty),
+    ];
+    try_join(&rt, &row)
 }
 
 #[test]
 fn a_try_join_ends_at_the_error_that_comes_first(rt: HostRuntime) -> Result<(), Fail> {
-    let task = MockTask::new(&rt)?;
-    let Cells { senders, receivers } = new_cells(&rt, rt.alloc(), 3)?;
-    let mut join = try_join_all(rt.alloc(), flattened(rt.alloc(), receivers)?)?;
-    assert!(rt; poll_try_join(&task, &mut join).is_pending());
-    assert!(rt; sent(&senders, 2, Ok(1)));
-    assert!(rt; poll_try_join(&task, &mut join).is_pending());
-    assert!(rt; sent(&senders, 1, Err(2)));
-    assert!(rt; sent(&senders, 0, Ok(3)));
-    assert_same(&rt, poll_try_join(&task, &mut join), Poll::Ready(Err(2)));
-    assert_same(
-        &rt,
-        poll_try_join(&task, &mut join),
-        Poll::Ready(Ok(Vec::new(rt.alloc()))),
-    );
-    Ok(())
+    let row = [
+        (Call::Poll, Answer::Pending),
+        (Call::Send(2, Ok(1)), Answer::Sent),
+        (Call::Poll, Answer::Pending),
+        (Call::Send(1, Err(2)), Answer::Sent),
+        (Call::Send(0, Ok(3)), Answer::Sent),
+        (Call::Poll, Answer::Error(2)),
+        (Call::Poll, Answer::Empty),
+    ];
+    try_flat_join(&rt, &row)
 }
 
 #[test]
 fn a_try_join_gives_its_outputs_by_place(rt: HostRuntime) -> Result<(), Fail> {
-    let task = MockTask::new(&rt)?;
-    let Cells { senders, receivers } = new_cells(&rt, rt.alloc(), 3)?;
-    let mut join = try_join_all(rt.alloc(), flattened(rt.alloc(), receivers)?)?;
-    assert!(rt; sent(&senders, 2, Ok(1)));
-    assert!(rt; poll_try_join(&task, &mut join).is_pending());
-    assert!(rt; sent(&senders, 1, Ok(2)));
-    assert!(rt; poll_try_join(&task, &mut join).is_pending());
-    assert!(rt; sent(&senders, 0, Ok(3)));
-    let outputs = vec![in rt.alloc(); 3, 2, 1]?;
-    assert_same(
-        &rt,
-        poll_try_join(&task, &mut join),
-        Poll::Ready(Ok(outputs)),
-    );
-    Ok(())
+    let row = [
+        (Call::Send(2, Ok(1)), Answer::Sent),
+        (Call::Poll, Answer::Pending),
+        (Call::Send(1, Ok(2)), Answer::Sent),
+        (Call::Poll, Answer::Pending),
+        (Call::Send(0, Ok(3)), Answer::Sent),
+        (Call::Poll, Answer::Three(3, 2, 1)),
+    ];
+    try_flat_join(&rt, &row)
 }

@@ -21,12 +21,12 @@ fn a_join_while_a_thread_wakes(rt: HostRuntime) -> Result<(), Fail> {
     let Cells { senders, receivers } = new_cells(&rt, rt.alloc(), 4)?;
     let join = join_all(rt.alloc(), receivers)?;
     let child = thread::spawn(&rt, move || send_each(&senders))?;
-    let outputs = block_on(&rt, join)?;
+    let outputs = block_on(&rt, join);
     child.join(&rt);
     assert_same(
         &rt,
-        outputs,
-        vec![in rt.alloc(); Ok(5), Ok(6), Ok(7), Ok(8)]?,
+        outputs?.as_slice(),
+        [Ok(5), Ok(6), Ok(7), Ok(8)].as_slice(),
     );
     Ok(())
 }
@@ -36,8 +36,8 @@ fn a_try_join_while_a_thread_wakes(rt: HostRuntime) -> Result<(), Fail> {
     let Cells { senders, receivers } = new_cells(&rt, rt.alloc(), 4)?;
     let join = try_join_all(rt.alloc(), receivers)?;
     let child = thread::spawn(&rt, move || send_each(&senders))?;
-    let outputs = block_on(&rt, join)?;
+    let outputs = block_on(&rt, join);
     child.join(&rt);
-    assert_same(&rt, outputs?, vec![in rt.alloc(); 5, 6, 7, 8]?);
+    assert_same(&rt, outputs??.as_slice(), [5, 6, 7, 8].as_slice());
     Ok(())
 }

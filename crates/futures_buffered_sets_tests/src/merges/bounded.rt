@@ -1,22 +1,27 @@
 // Rows of the bounded merge over `CoreSource`s.
 use crate::assert_same::assert_same;
+use crate::merges::steps::{Answer, Call, try_row};
 use futures::task::Poll;
 use futures::test::MockTask;
+use futures_buffered_core::ready_core::NewFault;
 use futures_buffered_core::ready_source::CoreSource;
 use futures_buffered_sets::merge_bounded::{Merge, MergeBounded};
 use std::alloc::{AllocError, AllocGlobal, Global};
 use std::process::Abort;
 use std::random::RandomSource;
 use std::test::Fail;
-use test_parts::merge_answers::{answers, sum_of};
-use test_parts::polling::poll_merge;
+use test_parts::keep::keep;
+use test_parts::merge_answers::answers;
 use test_parts::stepped::{Stepped, from, same};
 
 // Through the short name, which is the same type.
-fn merge_of(alloc: Global, streams: &[Stepped]) -> Result<MergeBounded<Stepped, CoreSource>, Fail> {
+fn merge_of(
+    alloc: Global,
+    streams: &[Stepped],
+) -> Result<MergeBounded<Stepped, CoreSource>, NewFault> {
     let mut items = Vec::new(alloc);
     for stream in streams {
-        items.push(*stream)?;
+        keep(&mut items, *stream)?;
     }
     let merge: Merge<Stepped, CoreSource> = Merge::over(&(), alloc, items)?;
     Ok(merge)
@@ -38,7 +43,7 @@ fn expected(
 }
 
 // The items in order, and then the end three times.
-fn try_row<R>(rt: &R, streams: &[Stepped], items: &[u64]) -> Result<(), Fail>
+fn try_items<R>(rt: &R, streams: &[Stepped], items: &[u64]) -> Result<(), Fail>
 where
     R: Abort + RandomSource + AllocGlobal,
 {
@@ -52,67 +57,61 @@ where
 
 #[test]
 fn streams_take_turns(rt: HostRuntime) -> Result<(), Fail> {
-    try_row(&rt, &[from(10, 3), from(20, 2)], &[10, 20, 11, 21, 12])
+    try_items(&rt, &[from(10, 3), from(20, 2)], &[10, 20, 11, 21, 12])
 }
 
 #[test]
 fn streams_that_end_at_once(rt: HostRuntime) -> Result<(), Fail> {
-    try_row(&rt, &[], &[])?;
-    try_row(&rt, &[from(1, 0), from(1, 0), from(1, 0)], &[])?;
-    try_row(&rt, &[from(1, 0), from(5, 2), from(1, 0)], &[5, 6])
+    try_items(&rt, &[], &[])?;
+    try_items(&rt, &[from(1, 0), from(1, 0), from(1, 0)], &[])?;
+    try_items(&rt, &[from(1, 0), from(5, 2), from(1, 0)], &[5, 6])
+}
+
+// The calls of a merge of these streams.
+fn try_on<R>(rt: &R, streams: &[Stepped], row: &[(Call, Answer)]) -> Result<(), Fail>
+where
+    R: Abort + RandomSource + AllocGlobal,
+{
+    try_row(rt, merge_of(rt.alloc(), streams), row)
 }
 
 #[test]
 fn the_items_of_four_streams(rt: HostRuntime) -> Result<(), Fail> {
-    let task = MockTask::new(&rt)?;
     let streams = [same(2, 2), same(3, 3), same(5, 5), same(7, 7)];
-    let mut merge = merge_of(rt.alloc(), &streams)?;
-    assert_eq!(rt; sum_of(&task, &mut merge, 100), (87, 17, Poll::Ready(None)));
-    Ok(())
+    let row = [(Call::Sum(100), Answer::Sum(87, 17))];
+    try_on(&rt, &streams, &row)
 }
 
 #[test]
 fn a_thousand_streams(rt: HostRuntime) -> Result<(), Fail> {
-    let task = MockTask::new(&rt)?;
     let mut streams = Vec::new(rt.alloc());
     for value in 0..1000 {
         streams.push(same(value, 2))?;
     }
-    let mut merge: Merge<Stepped, CoreSource> = MergeBounded::over(&(), rt.alloc(), streams)?;
-    assert_eq!(rt;
-        sum_of(&task, &mut merge, 3000),
-        (999_000, 2000, Poll::Ready(None))
-    );
-    Ok(())
+    let row = [(Call::Sum(3000), Answer::Sum(999_000, 2000))];
+    try_on(&rt, streams.as_slice(), &row)
 }
 
 #[test]
 fn a_merge_of_none_is_full(rt: HostRuntime) -> Result<(), Fail> {
-    let mut merge = merge_of(rt.alloc(), &[])?;
-    assert!(rt; merge.is_full());
-    assert_eq!(rt; merge.try_push(from(1, 1)), Err(from(1, 1)));
-    Ok(())
+    let row = [
+        (Call::IsFull, Answer::Is(true)),
+        (Call::TryPush(from(1, 1)), Answer::Back(from(1, 1))),
+    ];
+    try_on(&rt, &[], &row)
 }
 
 #[test]
 fn a_stream_that_ended_leaves_room(rt: HostRuntime) -> Result<(), Fail> {
-    let task = MockTask::new(&rt)?;
-    let mut merge = merge_of(rt.alloc(), &[same(1, 0), same(2, 2)])?;
-    assert_same(&rt, merge.try_push(same(3, 1)), Err(same(3, 1)));
-    assert_same(&rt, poll_merge(&task, &mut merge), Poll::Ready(Some(2)));
-    assert!(rt; !merge.is_full());
-    merge.push(same(4, 1));
-    assert!(rt; merge.is_full());
-    assert_same(
-        &rt,
-        sum_of(&task, &mut merge, 100),
-        (6, 2, Poll::Ready(None)),
-    );
-    assert_same(&rt, merge.try_push(same(5, 1)), Ok(()));
-    assert_same(
-        &rt,
-        sum_of(&task, &mut merge, 100),
-        (5, 1, Poll::Ready(None)),
-    );
-    Ok(())
+    let row = [
+        (Call::TryPush(same(3, 1)), Answer::Back(same(3, 1))),
+        (Call::Poll, Answer::Item(2)),
+        (Call::IsFull, Answer::Is(false)),
+        (Call::Push(same(4, 1), 1), Answer::Done),
+        (Call::IsFull, Answer::Is(true)),
+        (Call::Sum(100), Answer::Sum(6, 2)),
+        (Call::TryPush(same(5, 1)), Answer::Done),
+        (Call::Sum(100), Answer::Sum(5, 1)),
+    ];
+    try_on(&rt, &[same(1, 0), same(2, 2)], &row)
 }

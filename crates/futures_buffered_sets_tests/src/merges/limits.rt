@@ -1,87 +1,87 @@
 // A count takes at most as many names as the limit, and an end begins a fresh one.
-use crate::assert_same::assert_same;
-use futures::task::Poll;
-use futures::test::MockTask;
-use futures_buffered_core::ready_shared::SharedReady;
-use futures_buffered_core::ready_source::{CoreSource, SlotWaker};
+use crate::merges::pauses::{Pausing, five, late_end};
+use crate::merges::steps::{Answer, Call, try_row};
+use futures_buffered_core::ready_core::NewFault;
+use futures_buffered_core::ready_source::CoreSource;
 use futures_buffered_sets::merge_bounded::MergeBounded;
-use std::alloc::{AllocGlobal, Global};
-use std::sync::{Arc, Wait};
+use std::alloc::{AllocError, Global};
+use std::sync::Wait;
 use std::test::Fail;
-use test_parts::kept::{WakerPlace, empty_place, taken_from};
-use test_parts::merge_answers::answers;
+use test_parts::keep::keep;
+use test_parts::kept::{WakerPlace, empty_place};
 use test_parts::paused::Paused;
-use test_parts::polling::poll_merge;
 use test_parts::stepped::{Stepped, from, same};
-
-type Merge<R> = MergeBounded<Paused<R>, SharedReady>;
 
 // One stream that is pending once, and one that gives 5.
 fn paused_and_five<R: Wait + Clone + Drop>(
     rt: &R,
     alloc: Global,
     place: &WakerPlace,
-) -> Result<Merge<R>, Fail> {
+) -> Result<Vec<Paused<R>>, AllocError> {
     let mut streams = Vec::new(alloc);
-    streams.push(Paused::end(rt.clone()?, Arc::try_clone(place)?))?;
-    streams.push(Paused::item(rt.clone()?, Arc::try_clone(place)?, 5))?;
-    Ok(MergeBounded::with_limit(alloc, streams, 1)?)
+    keep(&mut streams, late_end(rt, place)?)?;
+    keep(&mut streams, five(rt, place)?)?;
+    Ok(streams)
+}
+
+// Their merge, at a limit of one name.
+fn new_pausing<R: Wait + Clone + Drop>(rt: &R, alloc: Global) -> Result<Pausing<R>, NewFault> {
+    let place = empty_place(alloc)?;
+    let streams = paused_and_five(rt, alloc, &place)?;
+    let merge = MergeBounded::with_limit(alloc, streams, 1)?;
+    Ok(Pausing {
+        rt: rt.clone()?,
+        place,
+        merge,
+    })
 }
 
 #[test]
 fn one_name_a_count(rt: HostRuntime) -> Result<(), Fail> {
-    let task = MockTask::new(&rt)?;
-    let place = empty_place(rt.alloc())?;
-    let mut merge = paused_and_five(&rt, rt.alloc(), &place)?;
-    assert_same(&rt, poll_merge(&task, &mut merge), Poll::Pending);
-    assert!(rt; task.is_woken());
-    assert_same(&rt, poll_merge(&task, &mut merge), Poll::Ready(Some(5)));
-    assert_same(&rt, poll_merge(&task, &mut merge), Poll::Pending);
-    let waker = taken_from(&rt, &place).ok_or("no waker")?;
-    waker.wake();
-    assert!(rt; task.is_woken());
-    assert_same(&rt, poll_merge(&task, &mut merge), Poll::Ready(None));
-    Ok(())
+    let row = [
+        (Call::Poll, Answer::Pending),
+        (Call::IsWoken, Answer::Is(true)),
+        (Call::Poll, Answer::Item(5)),
+        (Call::Poll, Answer::Pending),
+        (Call::Wake, Answer::Is(true)),
+        (Call::IsWoken, Answer::Is(true)),
+        (Call::Poll, Answer::End),
+    ];
+    try_row(&rt, new_pausing(&rt, rt.alloc()), &row)
+}
+
+// A merge of two streams at a limit of one name.
+fn two_at_one(
+    alloc: Global,
+    first: Stepped,
+    second: Stepped,
+) -> Result<MergeBounded<Stepped, CoreSource>, NewFault> {
+    let mut streams = Vec::new(alloc);
+    keep(&mut streams, first)?;
+    keep(&mut streams, second)?;
+    MergeBounded::over_limit(&(), alloc, streams, 1)
 }
 
 // Each end begins a fresh count, so one poll passes both ends at a limit of one name.
 #[test]
 fn an_end_begins_a_fresh_count(rt: HostRuntime) -> Result<(), Fail> {
-    let task = MockTask::new(&rt)?;
-    let mut streams = Vec::new(rt.alloc());
-    streams.push(from(1, 0))?;
-    streams.push(from(1, 0))?;
-    let mut merge: MergeBounded<Stepped, CoreSource> = MergeBounded::over_limit(
-        &(),
-        rt.alloc(),
-        streams,
-        1,
-    )?;
-    assert_same(&rt, poll_merge(&task, &mut merge), Poll::Ready(None));
-    assert!(rt; !task.is_woken());
-    Ok(())
+    let made = two_at_one(rt.alloc(), from(1, 0), from(1, 0));
+    let row = [
+        (Call::Poll, Answer::End),
+        (Call::IsWoken, Answer::Is(false)),
+    ];
+    try_row(&rt, made, &row)
 }
 
 // An item ends a poll at any limit.
 #[test]
 fn items_come_at_a_limit_of_one(rt: HostRuntime) -> Result<(), Fail> {
-    let task = MockTask::new(&rt)?;
-    let mut streams = Vec::new(rt.alloc());
-    streams.push(same(1, 2))?;
-    streams.push(same(2, 1))?;
-    let mut merge: MergeBounded<Stepped, CoreSource> = MergeBounded::over_limit(
-        &(),
-        rt.alloc(),
-        streams,
-        1,
-    )?;
-    let got = answers(&task, &mut merge, 4, rt.alloc())?;
-    let want = [
-        Poll::Ready(Some(1)),
-        Poll::Ready(Some(2)),
-        Poll::Ready(Some(1)),
-        Poll::Ready(None),
+    let made = two_at_one(rt.alloc(), same(1, 2), same(2, 1));
+    let row = [
+        (Call::Poll, Answer::Item(1)),
+        (Call::Poll, Answer::Item(2)),
+        (Call::Poll, Answer::Item(1)),
+        (Call::Poll, Answer::End),
     ];
-    assert_same(&rt, got.as_slice(), want.as_slice());
-    Ok(())
+    try_row(&rt, made, &row)
 }

@@ -4,32 +4,39 @@ use futures_buffered_core::ready_core::NewFault;
 use futures_buffered_sets::merge_bounded::MergeBounded;
 use std::alloc::{AllocError, Global};
 use std::sync::Arc;
-use std::sync::atomic::AtomicU64;
 use std::sync::atomic::Ordering::SeqCst;
 use std::test::Fail;
+use test_parts::counter::{Counter, new_counter};
 use test_parts::dropped_streams::DroppedStream;
-use test_parts::rationed::Rationed;
+use test_parts::keep::keep;
+use test_parts::rationed::{Rationed, ration};
 
-// What a merge needs to make so many sources, and no more.
-fn ration(alloc: Global, sources: u64) -> Result<Arc<AtomicU64>, AllocError> {
-    Ok(Arc::new(alloc, AtomicU64::new(sources))?)
+fn streams(alloc: Global, drops: &Counter) -> Result<Vec<DroppedStream>, AllocError> {
+    let mut streams = Vec::new(alloc);
+    for left in 0..3 {
+        keep(
+            &mut streams,
+            DroppedStream::new(left, Arc::try_clone(drops)?),
+        )?;
+    }
+    Ok(streams)
+}
+
+// How a merge of three streams is refused, if it is.
+fn fault(alloc: Global, drops: &Counter) -> Result<Option<NewFault>, AllocError> {
+    let streams = streams(alloc, drops)?;
+    let env = ration(alloc, 0)?;
+    let made: Result<MergeBounded<DroppedStream, Rationed>, NewFault> = MergeBounded::over(
+        &env, alloc, streams,
+    );
+    Ok(made.err())
 }
 
 // A merge whose source is refused is not there, and its streams are dropped.
 #[test]
 fn a_refused_source(rt: HostRuntime) -> Result<(), Fail> {
-    let drops = Arc::new(rt.alloc(), AtomicU64::new(0))?;
-    let mut streams = Vec::new(rt.alloc());
-    for left in 0..3 {
-        streams.push(DroppedStream::new(left, Arc::try_clone(&drops)?))?;
-    }
-    let env = ration(rt.alloc(), 0)?;
-    let refused: Result<MergeBounded<DroppedStream, Rationed>, NewFault> = MergeBounded::over(
-        &env,
-        rt.alloc(),
-        streams,
-    );
-    assert_same(&rt, refused.err(), Some(NewFault::Memory));
+    let drops = new_counter(rt.alloc())?;
+    assert_same(&rt, fault(rt.alloc(), &drops)?, Some(NewFault::Memory));
     assert_same(&rt, drops.load(SeqCst), 3);
     Ok(())
 }

@@ -1,270 +1,231 @@
 // The merge that grows.
 use crate::assert_same::assert_same;
+use crate::merges::pauses::{GrowingPausing, five, late_end};
+use crate::merges::steps::{Answer, Call, try_row};
 use futures::task::Poll;
 use futures::test::MockTask;
 use futures_buffered_core::ready_core::NewFault;
 use futures_buffered_core::ready_shared::SharedReady;
-use futures_buffered_core::ready_source::{CoreSource, SlotWaker};
+use futures_buffered_core::ready_source::CoreSource;
 use futures_buffered_sets::merge_unbounded::MergeUnbounded;
 use std::alloc::{AllocError, Global};
-use std::sync::atomic::AtomicU64;
 use std::sync::atomic::Ordering::SeqCst;
 use std::sync::{Arc, Wait};
 use std::test::Fail;
+use test_parts::counter::{Counter, new_counter};
 use test_parts::dropped_streams::DroppedStream;
-use test_parts::kept::{WakerPlace, empty_place, taken_from};
-use test_parts::merge_answers::sum_of_growing;
+use test_parts::keep::keep;
+use test_parts::kept::empty_place;
 use test_parts::paused::Paused;
 use test_parts::polling::poll_growing_merge;
-use test_parts::rationed::Rationed;
+use test_parts::rationed::{Rationed, ration};
 use test_parts::stepped::{Stepped, from, same};
 
-type Shared<R> = MergeUnbounded<Paused<R>, SharedReady>;
-
-fn pushed(merge: &mut MergeUnbounded<Stepped, CoreSource>, stream: Stepped, times: usize) -> bool {
-    let mut all = true;
-    for _ in 0..times {
-        if merge.push(stream).is_err() {
-            all = false;
-        }
-    }
-    all
+fn empty(alloc: Global) -> Result<MergeUnbounded<Stepped, CoreSource>, NewFault> {
+    MergeUnbounded::over((), alloc, Vec::new(alloc))
 }
 
-fn empty(alloc: Global) -> Result<MergeUnbounded<Stepped, CoreSource>, Fail> {
-    Ok(MergeUnbounded::over((), alloc, Vec::new(alloc))?)
-}
-
-// 32 streams that are pending once and then end, and one that gives 5.
-fn paused<R: Wait + Clone + Drop>(
-    rt: &R,
+// Adds a stream that is pending once and then ends.
+fn add_pause<R: Wait + Clone + Drop>(
     alloc: Global,
-) -> Result<(Vec<WakerPlace>, Shared<R>), Fail> {
-    let mut places = Vec::new(alloc);
-    let mut merge = MergeUnbounded::new(alloc);
-    for _ in 0..32 {
-        let place = empty_place(alloc)?;
-        let _ = merge.push(Paused::end(rt.clone()?, Arc::try_clone(&place)?));
-        places.push(place)?;
-    }
-    let _ = merge.push(Paused::item(rt.clone()?, empty_place(alloc)?, 5));
-    Ok((places, merge))
+    pausing: &mut GrowingPausing<R>,
+) -> Result<(), AllocError> {
+    let place = empty_place(alloc)?;
+    let _ = pausing.merge.push(late_end(&pausing.rt, &place)?);
+    keep(&mut pausing.places, place)
 }
 
-fn wake_all<R: Wait + Drop>(rt: &R, places: &[WakerPlace]) -> usize {
-    let mut woken = 0usize;
-    for place in places {
-        if let Some(waker) = taken_from(rt, place) {
-            waker.wake();
-            woken = woken.wrapping_add(1);
-        }
+fn add_five<R: Wait + Clone + Drop>(
+    alloc: Global,
+    pausing: &mut GrowingPausing<R>,
+) -> Result<(), AllocError> {
+    let place = empty_place(alloc)?;
+    let _ = pausing.merge.push(five(&pausing.rt, &place)?);
+    Ok(())
+}
+
+// So many streams that are pending once and then end, and one that gives 5.
+fn new_pausing<R: Wait + Clone + Drop>(
+    rt: &R,
+    merge: MergeUnbounded<Paused<R>, SharedReady>,
+    alloc: Global,
+    pauses: usize,
+) -> Result<GrowingPausing<R>, NewFault> {
+    let mut pausing = GrowingPausing {
+        rt: rt.clone()?,
+        places: Vec::new(alloc),
+        merge,
+    };
+    for _ in 0..pauses {
+        add_pause(alloc, &mut pausing)?;
     }
-    woken
+    add_five(alloc, &mut pausing)?;
+    Ok(pausing)
 }
 
 #[test]
 fn all_streams_end_past_the_first_group(rt: HostRuntime) -> Result<(), Fail> {
-    let task = MockTask::new(&rt)?;
-    let (places, mut merge) = paused(&rt, rt.alloc())?;
-    assert_same(&rt, merge.len(), 33);
-    assert_same(
-        &rt,
-        poll_growing_merge(&task, &mut merge),
-        Poll::Ready(Some(5)),
-    );
-    assert_same(&rt, wake_all(&rt, places.as_slice()), 32);
-    assert_same(
-        &rt,
-        poll_growing_merge(&task, &mut merge),
-        Poll::Ready(None),
-    );
-    assert_same(&rt, merge.len(), 0);
-    Ok(())
+    let merge = MergeUnbounded::new(rt.alloc());
+    let made = new_pausing(&rt, merge, rt.alloc(), 32);
+    let row = [
+        (Call::Len, Answer::Number(33)),
+        (Call::Poll, Answer::Item(5)),
+        (Call::WakeAll, Answer::Number(32)),
+        (Call::Poll, Answer::End),
+        (Call::Len, Answer::Number(0)),
+    ];
+    try_row(&rt, made, &row)
 }
 
 #[test]
 fn pushes_and_drains(rt: HostRuntime) -> Result<(), Fail> {
-    let task = MockTask::new(&rt)?;
-    let mut merge = empty(rt.alloc())?;
-    assert_same(
-        &rt,
-        poll_growing_merge(&task, &mut merge),
-        Poll::Ready(None),
-    );
-    assert_same(&rt, (merge.len(), merge.is_empty()), (0, true));
-    assert!(rt; pushed(&mut merge, same(2, 2), 1));
-    assert!(rt; pushed(&mut merge, same(3, 3), 1));
-    assert_same(&rt, (merge.len(), merge.is_empty()), (2, false));
-    assert_same(
-        &rt,
-        sum_of_growing(&task, &mut merge, 100),
-        (13, 5, Poll::Ready(None)),
-    );
-    assert_same(&rt, merge.len(), 0);
-    assert!(rt; pushed(&mut merge, same(4, 4), 1));
-    assert_same(&rt, merge.len(), 1);
-    assert_same(
-        &rt,
-        sum_of_growing(&task, &mut merge, 100),
-        (16, 4, Poll::Ready(None)),
-    );
-    assert_same(&rt, merge.len(), 0);
-    assert_same(
-        &rt,
-        poll_growing_merge(&task, &mut merge),
-        Poll::Ready(None),
-    );
-    assert_same(
-        &rt,
-        poll_growing_merge(&task, &mut merge),
-        Poll::Ready(None),
-    );
-    Ok(())
+    let row = [
+        (Call::Poll, Answer::End),
+        (Call::Len, Answer::Number(0)),
+        (Call::IsEmpty, Answer::Is(true)),
+        (Call::Push(same(2, 2), 1), Answer::Done),
+        (Call::Push(same(3, 3), 1), Answer::Done),
+        (Call::Len, Answer::Number(2)),
+        (Call::IsEmpty, Answer::Is(false)),
+        (Call::Sum(100), Answer::Sum(13, 5)),
+        (Call::Len, Answer::Number(0)),
+        (Call::Push(same(4, 4), 1), Answer::Done),
+        (Call::Len, Answer::Number(1)),
+        (Call::Sum(100), Answer::Sum(16, 4)),
+        (Call::Len, Answer::Number(0)),
+        (Call::Poll, Answer::End),
+        (Call::Poll, Answer::End),
+    ];
+    try_row(&rt, empty(rt.alloc()), &row)
 }
 
 #[test]
 fn the_items_of_four_streams(rt: HostRuntime) -> Result<(), Fail> {
-    let task = MockTask::new(&rt)?;
-    let mut streams = Vec::new(rt.alloc());
-    streams.push(same(2, 2))?;
-    streams.push(same(3, 3))?;
-    streams.push(same(5, 5))?;
-    streams.push(same(7, 7))?;
-    let mut merge: MergeUnbounded<Stepped, SharedReady> = MergeUnbounded::from_iter(
+    let streams = vec![in rt.alloc(); same(2, 2), same(3, 3), same(5, 5), same(7, 7)]?;
+    let made: Result<MergeUnbounded<Stepped, SharedReady>, NewFault> = MergeUnbounded::from_iter(
         rt.alloc(),
         streams,
-    )?;
-    assert_same(
-        &rt,
-        sum_of_growing(&task, &mut merge, 100),
-        (87, 17, Poll::Ready(None)),
     );
-    Ok(())
+    let row = [(Call::Sum(100), Answer::Sum(87, 17))];
+    try_row(&rt, made, &row)
 }
 
 #[test]
 fn a_thousand_streams(rt: HostRuntime) -> Result<(), Fail> {
-    let task = MockTask::new(&rt)?;
-    let mut merge = empty(rt.alloc())?;
-    assert!(rt; pushed(&mut merge, same(3, 2), 1000));
-    assert!(rt; pushed(&mut merge, from(1, 0), 50));
-    assert_same(&rt, merge.len(), 1050);
-    assert_same(
-        &rt,
-        sum_of_growing(&task, &mut merge, 3000),
-        (6000, 2000, Poll::Ready(None)),
-    );
-    Ok(())
+    let row = [
+        (Call::Push(same(3, 2), 1000), Answer::Done),
+        (Call::Push(from(1, 0), 50), Answer::Done),
+        (Call::Len, Answer::Number(1050)),
+        (Call::Sum(3000), Answer::Sum(6000, 2000)),
+    ];
+    try_row(&rt, empty(rt.alloc()), &row)
 }
 
 #[test]
 fn an_end_begins_a_fresh_count(rt: HostRuntime) -> Result<(), Fail> {
-    let task = MockTask::new(&rt)?;
-    let mut merge: MergeUnbounded<Stepped, SharedReady> = MergeUnbounded::with_limit(rt.alloc(), 1);
-    assert!(rt; merge.push(from(1, 0)).is_ok());
-    assert!(rt; merge.push(from(1, 0)).is_ok());
-    assert_eq!(rt; poll_growing_merge(&task, &mut merge), Poll::Ready(None));
-    assert!(rt; !task.is_woken());
-    Ok(())
+    let merge: MergeUnbounded<Stepped, SharedReady> = MergeUnbounded::with_limit(rt.alloc(), 1);
+    let row = [
+        (Call::Push(from(1, 0), 2), Answer::Done),
+        (Call::Poll, Answer::End),
+        (Call::IsWoken, Answer::Is(false)),
+    ];
+    try_row(&rt, Ok(merge), &row)
 }
 
 // At a limit of one name the paused stream ends the first count, and the task is woken.
 #[test]
 fn one_name_a_count(rt: HostRuntime) -> Result<(), Fail> {
-    let task = MockTask::new(&rt)?;
-    let place = empty_place(rt.alloc())?;
-    let mut merge = MergeUnbounded::with_limit(rt.alloc(), 1);
-    let _ = merge.push(Paused::end(rt.clone()?, Arc::try_clone(&place)?));
-    let _ = merge.push(Paused::item(rt.clone()?, Arc::try_clone(&place)?, 5));
-    assert_same(&rt, poll_growing_merge(&task, &mut merge), Poll::Pending);
-    assert!(rt; task.is_woken());
-    assert_same(
-        &rt,
-        poll_growing_merge(&task, &mut merge),
-        Poll::Ready(Some(5)),
-    );
-    assert_same(&rt, poll_growing_merge(&task, &mut merge), Poll::Pending);
-    let waker = taken_from(&rt, &place).ok_or("no waker")?;
-    waker.wake();
-    assert!(rt; task.is_woken());
-    assert_same(
-        &rt,
-        poll_growing_merge(&task, &mut merge),
-        Poll::Ready(None),
-    );
-    Ok(())
+    let merge = MergeUnbounded::with_limit(rt.alloc(), 1);
+    let made = new_pausing(&rt, merge, rt.alloc(), 1);
+    let row = [
+        (Call::Poll, Answer::Pending),
+        (Call::IsWoken, Answer::Is(true)),
+        (Call::Poll, Answer::Item(5)),
+        (Call::Poll, Answer::Pending),
+        (Call::WakeAll, Answer::Number(1)),
+        (Call::IsWoken, Answer::Is(true)),
+        (Call::Poll, Answer::End),
+    ];
+    try_row(&rt, made, &row)
 }
 
-// With a ration of one source, the push that needs a second group is refused: the same stream comes back.
+// 32 streams fill the first group, and a ration of one source has none for a second.
+fn full_group(alloc: Global) -> Result<MergeUnbounded<Stepped, Rationed>, NewFault> {
+    let mut streams = Vec::new(alloc);
+    for _ in 0..32 {
+        keep(&mut streams, same(1, 1))?;
+    }
+    MergeUnbounded::over(ration(alloc, 1)?, alloc, streams)
+}
+
+// The push that needs a second group is refused: the same stream comes back.
 #[test]
 fn a_refused_push_changes_nothing(rt: HostRuntime) -> Result<(), Fail> {
-    let task = MockTask::new(&rt)?;
-    let env = Arc::new(rt.alloc(), AtomicU64::new(1))?;
-    let mut streams = Vec::new(rt.alloc());
-    for _ in 0..32 {
-        streams.push(same(1, 1))?;
-    }
-    let mut merge: MergeUnbounded<Stepped, Rationed> = MergeUnbounded::over(
-        env,
-        rt.alloc(),
-        streams,
-    )?;
-    assert_same(&rt, merge.push(same(9, 9)), Err(same(9, 9)));
-    assert_same(&rt, merge.len(), 32);
-    assert_same(
-        &rt,
-        sum_of_growing(&task, &mut merge, 100),
-        (32, 32, Poll::Ready(None)),
-    );
-    assert_same(&rt, merge.push(same(9, 2)), Ok(()));
-    assert_same(
-        &rt,
-        sum_of_growing(&task, &mut merge, 100),
-        (18, 2, Poll::Ready(None)),
-    );
-    Ok(())
+    let row = [
+        (Call::Push(same(9, 9), 1), Answer::Back(same(9, 9))),
+        (Call::Len, Answer::Number(32)),
+        (Call::Sum(100), Answer::Sum(32, 32)),
+        (Call::Push(same(9, 2), 1), Answer::Done),
+        (Call::Sum(100), Answer::Sum(18, 2)),
+    ];
+    try_row(&rt, full_group(rt.alloc()), &row)
 }
 
-fn dropped(alloc: Global, drops: &Arc<AtomicU64>) -> Result<Vec<DroppedStream>, AllocError> {
+fn dropped(alloc: Global, drops: &Counter) -> Result<Vec<DroppedStream>, AllocError> {
     let mut streams = Vec::new(alloc);
     for left in 0..40 {
-        streams.push(DroppedStream::new(left, Arc::try_clone(drops)?))?;
+        keep(
+            &mut streams,
+            DroppedStream::new(left, Arc::try_clone(drops)?),
+        )?;
     }
     Ok(streams)
+}
+
+fn merge_of_dropped(
+    alloc: Global,
+    drops: &Counter,
+) -> Result<MergeUnbounded<DroppedStream, CoreSource>, Fail> {
+    Ok(MergeUnbounded::over((), alloc, dropped(alloc, drops)?)?)
+}
+
+// What one poll answers, and the drops before and after that of the merge.
+fn polled_and_dropped(
+    task: &MockTask,
+    drops: &Counter,
+    merge: MergeUnbounded<DroppedStream, CoreSource>,
+) -> (Poll<Option<u64>>, u64, u64) {
+    let mut merge = merge;
+    let answer = poll_growing_merge(task, &mut merge);
+    let before = drops.load(SeqCst);
+    drop(merge);
+    (answer, before, drops.load(SeqCst))
 }
 
 #[test]
 fn an_early_drop_drops_each_stream_once(rt: HostRuntime) -> Result<(), Fail> {
     let task = MockTask::new(&rt)?;
-    let drops = Arc::new(rt.alloc(), AtomicU64::new(0))?;
-    let streams = dropped(rt.alloc(), &drops)?;
-    let mut merge: MergeUnbounded<DroppedStream, CoreSource> = MergeUnbounded::over(
-        (),
-        rt.alloc(),
-        streams,
-    )?;
-    assert_same(
-        &rt,
-        poll_growing_merge(&task, &mut merge),
-        Poll::Ready(Some(1)),
-    );
-    assert_same(&rt, drops.load(SeqCst), 1);
-    drop(merge);
-    assert_same(&rt, drops.load(SeqCst), 40);
+    let drops = new_counter(rt.alloc())?;
+    let merge = merge_of_dropped(rt.alloc(), &drops)?;
+    let seen = polled_and_dropped(&task, &drops, merge);
+    assert_same(&rt, seen, (Poll::Ready(Some(1)), 1, 40));
     Ok(())
+}
+
+// How a merge with leave for one source is refused, if it is.
+fn fault(alloc: Global, drops: &Counter) -> Result<Option<NewFault>, AllocError> {
+    let streams = dropped(alloc, drops)?;
+    let env = ration(alloc, 1)?;
+    let made: Result<MergeUnbounded<DroppedStream, Rationed>, NewFault> = MergeUnbounded::over(
+        env, alloc, streams,
+    );
+    Ok(made.err())
 }
 
 #[test]
 fn refused_sources_drop_the_streams(rt: HostRuntime) -> Result<(), Fail> {
-    let drops = Arc::new(rt.alloc(), AtomicU64::new(0))?;
-    let streams = dropped(rt.alloc(), &drops)?;
-    let env = Arc::new(rt.alloc(), AtomicU64::new(1))?;
-    let refused: Result<MergeUnbounded<DroppedStream, Rationed>, NewFault> = MergeUnbounded::over(
-        env,
-        rt.alloc(),
-        streams,
-    );
-    assert_same(&rt, refused.err(), Some(NewFault::Memory));
+    let drops = new_counter(rt.alloc())?;
+    assert_same(&rt, fault(rt.alloc(), &drops)?, Some(NewFault::Memory));
     assert_same(&rt, drops.load(SeqCst), 40);
     Ok(())
 }
