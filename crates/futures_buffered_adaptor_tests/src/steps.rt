@@ -4,6 +4,7 @@ use crate::receiver::Sender;
 use futures::task::Poll;
 use futures::test::MockTask;
 use futures_buffered::{FusedStream, SizeHint};
+use futures_buffered_core::ready_core::NewFault;
 use std::alloc::AllocGlobal;
 use std::fmt::Debug;
 use std::process::Abort;
@@ -112,8 +113,7 @@ where
     }
 }
 
-/// The row's calls in order in one task, each with its answer.
-pub fn try_calls<T, R, A: Polled<T>>(
+fn try_calls<T, R, A: Polled<T>>(
     rt: &R,
     senders: &Vec<Sender<T, R>>,
     adaptor: &mut A,
@@ -126,4 +126,19 @@ where
     let task = MockTask::new(rt)?;
     try_steps(rt, &task, senders, adaptor, row);
     Ok(())
+}
+
+/// The row's calls in order in one task, each with its answer, of what could be made.
+pub fn try_made<T, R, A: Polled<T>>(
+    rt: &R,
+    senders: Vec<Sender<T, R>>,
+    made: Result<A, NewFault>,
+    row: &[(Call<T>, Answer<T>)],
+) -> Result<(), Fail>
+where
+    T: Copy + Debug + PartialEq,
+    R: Abort + Wait + RandomSource + AllocGlobal + Drop,
+{
+    let mut adaptor = made?;
+    try_calls(rt, &senders, &mut adaptor, row)
 }

@@ -7,7 +7,7 @@ use crate::paused_end::PausedEnd;
 use crate::polling::poll_buffer;
 use crate::receiver::{Receiver, one_shot};
 use crate::same::assert_same;
-use crate::steps::{Answer, Call, Polled, answered, said, try_calls};
+use crate::steps::{Answer, Call, Polled, answered, said, try_made};
 use crate::unbounded_hint::UnboundedHint;
 use futures::test::MockTask;
 use futures_buffered::{BufferUnordered, BufferedStreamExt};
@@ -57,8 +57,8 @@ where
     requires { 0 < n }
 {
     let Cells { senders, receivers } = new_cells(rt, rt.alloc(), receivers)?;
-    let mut buffer = ListStream::new(receivers).buffered_unordered(rt.alloc(), n)?;
-    try_calls(rt, &senders, &mut buffer, row)
+    let made = ListStream::new(receivers).buffered_unordered(rt.alloc(), n);
+    try_made(rt, senders, made, row)
 }
 
 #[test]
@@ -98,38 +98,38 @@ fn a_chosen_limit_counts_names(rt: HostRuntime) -> Result<(), Fail> {
     let Cells { senders, receivers } = new_cells(&rt, rt.alloc(), 2)?;
     assert!(rt; sent(&senders, 0, 7));
     let stream = ListStream::new(receivers);
-    let mut buffer = BufferUnordered::with_limit(rt.alloc(), stream, 2, 1)?;
+    let made = BufferUnordered::with_limit(rt.alloc(), stream, 2, 1);
     let row = [
         (Call::Poll, Answer::Pending),
         (Call::IsWoken, Answer::Is(true)),
         (Call::Poll, Answer::Some(7)),
     ];
-    try_calls(&rt, &senders, &mut buffer, &row)
+    try_made(&rt, senders, made, &row)
 }
 
 #[test]
 fn ends_with_a_stream_that_pauses(rt: HostRuntime) -> Result<(), Fail> {
     let stream: PausedEnd<Receiver<u64, HostRuntime>> = PausedEnd::new();
-    let mut buffer = stream.buffered_unordered(rt.alloc(), 1)?;
+    let made = stream.buffered_unordered(rt.alloc(), 1);
     let row = [
         (Call::Poll, Answer::Pending),
         (Call::IsWoken, Answer::Is(true)),
         (Call::Poll, Answer::None),
         (Call::Poll, Answer::None),
     ];
-    try_calls(&rt, &Vec::new(rt.alloc()), &mut buffer, &row)
+    try_made(&rt, Vec::new(rt.alloc()), made, &row)
 }
 
 #[test]
 fn a_hint_that_would_overflow_has_no_upper_part(rt: HostRuntime) -> Result<(), Fail> {
     let (_sender, receiver) = one_shot(&rt, rt.alloc())?;
-    let mut buffer = UnboundedHint::new(receiver).buffered_unordered(rt.alloc(), 2)?;
+    let made = UnboundedHint::new(receiver).buffered_unordered(rt.alloc(), 2);
     let row = [
         (Call::Hint, Answer::Hint(usize::MAX, Some(usize::MAX))),
         (Call::Poll, Answer::Pending),
         (Call::Hint, Answer::Hint(usize::MAX, None)),
     ];
-    try_calls(&rt, &Vec::new(rt.alloc()), &mut buffer, &row)
+    try_made(&rt, Vec::new(rt.alloc()), made, &row)
 }
 
 // How a buffer of `n` at a time is refused, if it is.

@@ -7,7 +7,7 @@ use crate::paused_end::PausedEnd;
 use crate::polling::poll_in_order;
 use crate::receiver::{Receiver, one_shot};
 use crate::same::assert_same;
-use crate::steps::{Answer, Call, Polled, answered, said, try_calls};
+use crate::steps::{Answer, Call, Polled, answered, said, try_made};
 use crate::unbounded_hint::UnboundedHint;
 use crate::watched::Watched;
 use futures::test::MockTask;
@@ -52,6 +52,11 @@ impl<R: Wait + Drop> Polled<u64> for BufferedOrdered<UnboundedHint<Receiver<u64,
 #[derive(Drop)]
 struct Observed<R: Wait + Drop> {
     buffer: BufferedOrdered<Watched<Receiver<u64, R>>, SharedReady>,
+    seen: Seen,
+}
+
+#[derive(Drop)]
+struct Seen {
     drawn: Counter,
     drops: Counter,
 }
@@ -64,8 +69,8 @@ impl<R: Wait + Drop> Polled<u64> for Observed<R> {
     fn says(&self, call: Call<u64>) -> Answer<u64> {
         match call {
             Call::IsTerminated => Answer::Is(self.buffer.is_terminated()),
-            Call::Drawn => Answer::Number(self.drawn.load(SeqCst)),
-            Call::Drops => Answer::Number(self.drops.load(SeqCst)),
+            Call::Drawn => Answer::Number(self.seen.drawn.load(SeqCst)),
+            Call::Drops => Answer::Number(self.seen.drops.load(SeqCst)),
             _ => Answer::Unknown,
         }
     }
@@ -83,23 +88,33 @@ where
     requires { 0 < n }
 {
     let Cells { senders, receivers } = new_cells(rt, rt.alloc(), receivers)?;
-    let mut buffer = ListStream::new(receivers).buffered_ordered(rt.alloc(), n)?;
-    try_calls(rt, &senders, &mut buffer, row)
+    let made = ListStream::new(receivers).buffered_ordered(rt.alloc(), n);
+    try_made(rt, senders, made, row)
+}
+
+fn new_seen(alloc: Global) -> Result<Seen, AllocError> {
+    let drawn = new_counter(alloc)?;
+    let drops = new_counter(alloc)?;
+    Ok(Seen { drawn, drops })
+}
+
+fn watched<R: Drop>(
+    seen: &Seen,
+    receivers: Vec<Receiver<u64, R>>,
+) -> Result<Watched<Receiver<u64, R>>, AllocError> {
+    let drawn = Arc::try_clone(&seen.drawn)?;
+    let drops = Arc::try_clone(&seen.drops)?;
+    Ok(Watched::new(receivers, drawn, drops))
 }
 
 fn new_observed<R: Wait + Drop>(
     alloc: Global,
     receivers: Vec<Receiver<u64, R>>,
-) -> Result<Observed<R>, Fail> {
-    let drawn = new_counter(alloc)?;
-    let drops = new_counter(alloc)?;
-    let stream = Watched::new(receivers, Arc::try_clone(&drawn)?, Arc::try_clone(&drops)?);
+) -> Result<Observed<R>, NewFault> {
+    let seen = new_seen(alloc)?;
+    let stream = watched(&seen, receivers)?;
     let buffer = stream.buffered_ordered(alloc, 2)?;
-    Ok(Observed {
-        buffer,
-        drawn,
-        drops,
-    })
+    Ok(Observed { buffer, seen })
 }
 
 // The same of two at a time, over a watched stream.
@@ -108,8 +123,7 @@ where
     R: Abort + Wait + RandomSource + AllocGlobal + Clone + Drop,
 {
     let Cells { senders, receivers } = new_cells(rt, rt.alloc(), receivers)?;
-    let mut buffer = new_observed(rt.alloc(), receivers)?;
-    try_calls(rt, &senders, &mut buffer, row)
+    try_made(rt, senders, new_observed(rt.alloc(), receivers), row)
 }
 
 #[test]
@@ -170,7 +184,7 @@ fn a_stream_that_ended_is_dropped_at_once(rt: HostRuntime) -> Result<(), Fail> {
 fn a_chosen_limit_counts_names(rt: HostRuntime) -> Result<(), Fail> {
     let Cells { senders, receivers } = new_cells(&rt, rt.alloc(), 2)?;
     let stream = ListStream::new(receivers);
-    let mut buffer = BufferedOrdered::with_limit(rt.alloc(), stream, 2, 1)?;
+    let made = BufferedOrdered::with_limit(rt.alloc(), stream, 2, 1);
     let row = [
         (Call::Poll, Answer::Pending),
         (Call::IsWoken, Answer::Is(true)),
@@ -179,32 +193,32 @@ fn a_chosen_limit_counts_names(rt: HostRuntime) -> Result<(), Fail> {
         (Call::IsWoken, Answer::Is(true)),
         (Call::Poll, Answer::Some(7)),
     ];
-    try_calls(&rt, &senders, &mut buffer, &row)
+    try_made(&rt, senders, made, &row)
 }
 
 #[test]
 fn ends_with_a_stream_that_pauses(rt: HostRuntime) -> Result<(), Fail> {
     let stream: PausedEnd<Receiver<u64, HostRuntime>> = PausedEnd::new();
-    let mut buffer = stream.buffered_ordered(rt.alloc(), 1)?;
+    let made = stream.buffered_ordered(rt.alloc(), 1);
     let row = [
         (Call::Poll, Answer::Pending),
         (Call::IsWoken, Answer::Is(true)),
         (Call::Poll, Answer::None),
         (Call::Poll, Answer::None),
     ];
-    try_calls(&rt, &Vec::new(rt.alloc()), &mut buffer, &row)
+    try_made(&rt, Vec::new(rt.alloc()), made, &row)
 }
 
 #[test]
 fn a_hint_that_would_overflow_has_no_upper_part(rt: HostRuntime) -> Result<(), Fail> {
     let (_sender, receiver) = one_shot(&rt, rt.alloc())?;
-    let mut buffer = UnboundedHint::new(receiver).buffered_ordered(rt.alloc(), 2)?;
+    let made = UnboundedHint::new(receiver).buffered_ordered(rt.alloc(), 2);
     let row = [
         (Call::Hint, Answer::Hint(usize::MAX, Some(usize::MAX))),
         (Call::Poll, Answer::Pending),
         (Call::Hint, Answer::Hint(usize::MAX, None)),
     ];
-    try_calls(&rt, &Vec::new(rt.alloc()), &mut buffer, &row)
+    try_made(&rt, Vec::new(rt.alloc()), made, &row)
 }
 
 // How a buffer of `n` at a time is refused, if it is.

@@ -1,7 +1,7 @@
 // Sets, queues and joins made of what an iterator gives.
 use crate::cells::{Cells, new_cells};
 use crate::receiver::Receiver;
-use crate::steps::{Answer, Call, Polled, answered, said, try_calls};
+use crate::steps::{Answer, Call, Polled, answered, said, try_made};
 use futures::task::Poll;
 use futures::test::MockTask;
 use futures_buffered::{
@@ -77,7 +77,7 @@ impl<R: Wait + Drop> Polled<Attempt> for TryJoinAll<Receiver<Attempt, R>, Shared
 #[test]
 fn outputs_come_in_the_order_of_the_wakes(rt: HostRuntime) -> Result<(), Fail> {
     let Cells { senders, receivers } = new_cells(&rt, rt.alloc(), 3)?;
-    let mut set = receivers.into_unordered_stream(rt.alloc())?;
+    let made = receivers.into_unordered_stream(rt.alloc());
     let row = [
         (Call::Hint, Answer::Hint(3, Some(3))),
         (Call::Capacity, Answer::Number(3)),
@@ -90,13 +90,13 @@ fn outputs_come_in_the_order_of_the_wakes(rt: HostRuntime) -> Result<(), Fail> {
         (Call::Poll, Answer::Some(3)),
         (Call::Poll, Answer::None),
     ];
-    try_calls(&rt, &senders, &mut set, &row)
+    try_made(&rt, senders, made, &row)
 }
 
 #[test]
 fn a_queue_gives_outputs_in_the_order_of_the_futures(rt: HostRuntime) -> Result<(), Fail> {
     let Cells { senders, receivers } = new_cells(&rt, rt.alloc(), 2)?;
-    let mut queue = receivers.into_ordered_stream(rt.alloc())?;
+    let made = receivers.into_ordered_stream(rt.alloc());
     let row = [
         (Call::Send(1, 2), Answer::Sent),
         (Call::Poll, Answer::Pending),
@@ -105,13 +105,13 @@ fn a_queue_gives_outputs_in_the_order_of_the_futures(rt: HostRuntime) -> Result<
         (Call::Poll, Answer::Some(2)),
         (Call::Poll, Answer::None),
     ];
-    try_calls(&rt, &senders, &mut queue, &row)
+    try_made(&rt, senders, made, &row)
 }
 
 #[test]
 fn a_growing_set_has_a_first_group_of_32(rt: HostRuntime) -> Result<(), Fail> {
     let Cells { senders, receivers } = new_cells(&rt, rt.alloc(), 2)?;
-    let mut set = receivers.into_unordered_stream_unbounded(rt.alloc())?;
+    let made = receivers.into_unordered_stream_unbounded(rt.alloc());
     let row = [
         (Call::Len, Answer::Number(2)),
         (Call::Capacity, Answer::Number(32)),
@@ -119,30 +119,30 @@ fn a_growing_set_has_a_first_group_of_32(rt: HostRuntime) -> Result<(), Fail> {
         (Call::Poll, Answer::Some(2)),
         (Call::Poll, Answer::Pending),
     ];
-    try_calls(&rt, &senders, &mut set, &row)
+    try_made(&rt, senders, made, &row)
 }
 
 #[test]
 fn a_join_gives_outputs_by_place(rt: HostRuntime) -> Result<(), Fail> {
     let Cells { senders, receivers } = new_cells(&rt, rt.alloc(), 2)?;
-    let mut join = receivers.join_all(rt.alloc())?;
+    let made = receivers.join_all(rt.alloc());
     let row = [
         (Call::Poll, Answer::Pending),
         (Call::Send(1, 2), Answer::Sent),
         (Call::Send(0, 1), Answer::Sent),
         (Call::Poll, Answer::Both(1, 2)),
     ];
-    try_calls(&rt, &senders, &mut join, &row)
+    try_made(&rt, senders, made, &row)
 }
 
 #[test]
 fn a_try_join_gives_the_first_error(rt: HostRuntime) -> Result<(), Fail> {
     let Cells { senders, receivers } = new_cells(&rt, rt.alloc(), 2)?;
-    let mut join = receivers.try_join_all(rt.alloc())?;
+    let made = receivers.try_join_all(rt.alloc());
     let row = [
         (Call::Poll, Answer::Pending),
         (Call::Send(1, Err(2)), Answer::Sent),
         (Call::Poll, Answer::Some(Err(2))),
     ];
-    try_calls(&rt, &senders, &mut join, &row)
+    try_made(&rt, senders, made, &row)
 }

@@ -1,6 +1,6 @@
 // Merges made of what an iterator gives.
 use crate::countdown::Countdown;
-use crate::steps::{Answer, Call, Polled, answered, try_calls};
+use crate::steps::{Answer, Call, Polled, answered, try_made};
 use futures::test::MockTask;
 use futures_buffered::{IterExt, MergeBounded, MergeUnbounded};
 use futures_buffered_core::ready_shared::SharedReady;
@@ -30,20 +30,20 @@ impl Polled<u64> for MergeUnbounded<Countdown, SharedReady> {
 #[test]
 fn a_merge_gives_the_items_of_each_stream(rt: HostRuntime) -> Result<(), Fail> {
     let streams = vec![in rt.alloc(); Countdown { left: 2 }, Countdown { left: 1 }]?;
-    let mut merge = streams.merge(rt.alloc())?;
+    let made = streams.merge(rt.alloc());
     let row = [
         (Call::Poll, Answer::Some(2)),
         (Call::Poll, Answer::Some(1)),
         (Call::Poll, Answer::Some(1)),
         (Call::Poll, Answer::None),
     ];
-    try_calls(&rt, &Vec::new(rt.alloc()), &mut merge, &row)
+    try_made(&rt, Vec::new(rt.alloc()), made, &row)
 }
 
 #[test]
 fn a_growing_merge_gives_the_items_of_each_stream(rt: HostRuntime) -> Result<(), Fail> {
     let streams = vec![in rt.alloc(); Countdown { left: 2 }, Countdown { left: 1 }]?;
-    let mut merge = streams.merge_unbounded(rt.alloc())?;
+    let made = streams.merge_unbounded(rt.alloc());
     let row = [
         (Call::Len, Answer::Number(2)),
         (Call::Poll, Answer::Some(2)),
@@ -52,5 +52,5 @@ fn a_growing_merge_gives_the_items_of_each_stream(rt: HostRuntime) -> Result<(),
         (Call::Poll, Answer::None),
         (Call::IsEmpty, Answer::Is(true)),
     ];
-    try_calls(&rt, &Vec::new(rt.alloc()), &mut merge, &row)
+    try_made(&rt, Vec::new(rt.alloc()), made, &row)
 }

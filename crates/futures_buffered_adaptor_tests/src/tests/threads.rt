@@ -18,12 +18,12 @@ fn send_each<R: Wait + Drop>(senders: &Vec<Sender<u64, R>>) {
     }
 }
 
-fn sum(outputs: &[u64]) -> u64 {
+fn count_and_sum(outputs: &[u64]) -> (usize, u64) {
     let mut sum = 0u64;
     for output in outputs {
         sum = sum.wrapping_add(*output);
     }
-    sum
+    (outputs.len(), sum)
 }
 
 #[test]
@@ -31,9 +31,9 @@ fn outputs_as_they_finish_while_a_thread_wakes(rt: HostRuntime) -> Result<(), Fa
     let Cells { senders, receivers } = new_cells(&rt, rt.alloc(), 4)?;
     let buffer = ListStream::new(receivers).buffered_unordered(rt.alloc(), 2)?;
     let child = thread::spawn(&rt, move || send_each(&senders))?;
-    let outputs = block_on(&rt, buffer.collect(rt.alloc()))??;
+    let outputs = block_on(&rt, buffer.collect(rt.alloc()));
     child.join(&rt);
-    assert_same(&rt, (outputs.len(), sum(outputs.as_slice())), (4, 15));
+    assert_same(&rt, count_and_sum(outputs??.as_slice()), (4, 15));
     Ok(())
 }
 
@@ -43,9 +43,9 @@ fn outputs_in_order_while_a_thread_wakes(rt: HostRuntime) -> Result<(), Fail> {
     let Cells { senders, receivers } = new_cells(&rt, rt.alloc(), 4)?;
     let buffer = ListStream::new(receivers).buffered_ordered(rt.alloc(), 2)?;
     let child = thread::spawn(&rt, move || send_each(&senders))?;
-    let outputs = block_on(&rt, buffer.collect(rt.alloc()))??;
+    let outputs = block_on(&rt, buffer.collect(rt.alloc()));
     child.join(&rt);
-    assert_same(&rt, outputs.as_slice(), [8, 4, 2, 1].as_slice());
+    assert_same(&rt, outputs??.as_slice(), [8, 4, 2, 1].as_slice());
     Ok(())
 }
 

@@ -2,8 +2,8 @@
 use crate::cells::{Cells, new_cells};
 use crate::list_stream::ListStream;
 use crate::polling::{poll_try_buffer, poll_try_in_order};
-use crate::receiver::Receiver;
-use crate::steps::{Answer, Call, Polled, answered, said, try_calls};
+use crate::receiver::{Receiver, Sender};
+use crate::steps::{Answer, Call, Polled, answered, said, try_made};
 use futures::test::MockTask;
 use futures_buffered::{BufferedTryStreamExt, TryBufferUnordered, TryBufferedOrdered};
 use futures_buffered_core::ready_shared::SharedReady;
@@ -50,11 +50,18 @@ fn with_an_error<R: Drop>(alloc: Global, receivers: Vec<Held<R>>) -> Result<Item
     Ok(ListStream::new(items))
 }
 
+fn senders_and_stream<R: Clone + Drop>(
+    rt: &R,
+    alloc: Global,
+) -> Result<(Vec<Sender<Output, R>>, Items<R>), AllocError> {
+    let Cells { senders, receivers } = new_cells(rt, alloc, 2)?;
+    Ok((senders, with_an_error(alloc, receivers)?))
+}
+
 #[test]
 fn an_error_of_the_stream_comes_at_once(rt: HostRuntime) -> Result<(), Fail> {
-    let Cells { senders, receivers } = new_cells(&rt, rt.alloc(), 2)?;
-    let stream = with_an_error(rt.alloc(), receivers)?;
-    let mut buffer = stream.try_buffered_unordered(rt.alloc(), 10)?;
+    let (senders, stream) = senders_and_stream(&rt, rt.alloc())?;
+    let made = stream.try_buffered_unordered(rt.alloc(), 10);
     let row = [
         (Call::Hint, Answer::Hint(3, Some(3))),
         (Call::Send(1, Ok(5)), Answer::Sent),
@@ -70,14 +77,13 @@ fn an_error_of_the_stream_comes_at_once(rt: HostRuntime) -> Result<(), Fail> {
         (Call::Poll, Answer::None),
         (Call::IsTerminated, Answer::Is(true)),
     ];
-    try_calls(&rt, &senders, &mut buffer, &row)
+    try_made(&rt, senders, made, &row)
 }
 
 #[test]
 fn an_error_of_the_stream_comes_before_what_is_held(rt: HostRuntime) -> Result<(), Fail> {
-    let Cells { senders, receivers } = new_cells(&rt, rt.alloc(), 2)?;
-    let stream = with_an_error(rt.alloc(), receivers)?;
-    let mut buffer = stream.try_buffered_ordered(rt.alloc(), 10)?;
+    let (senders, stream) = senders_and_stream(&rt, rt.alloc())?;
+    let made = stream.try_buffered_ordered(rt.alloc(), 10);
     let row = [
         (Call::Hint, Answer::Hint(3, Some(3))),
         (Call::Poll, Answer::Some(Err(0))),
@@ -92,15 +98,14 @@ fn an_error_of_the_stream_comes_before_what_is_held(rt: HostRuntime) -> Result<(
         (Call::Poll, Answer::None),
         (Call::IsTerminated, Answer::Is(true)),
     ];
-    try_calls(&rt, &senders, &mut buffer, &row)
+    try_made(&rt, senders, made, &row)
 }
 
 // With one slot, the error behind the first future is not drawn before that is done.
 #[test]
 fn an_error_is_not_drawn_where_all_slots_are_taken(rt: HostRuntime) -> Result<(), Fail> {
-    let Cells { senders, receivers } = new_cells(&rt, rt.alloc(), 2)?;
-    let stream = with_an_error(rt.alloc(), receivers)?;
-    let mut buffer = TryBufferedOrdered::with_limit(rt.alloc(), stream, 1, 1)?;
+    let (senders, stream) = senders_and_stream(&rt, rt.alloc())?;
+    let made = TryBufferedOrdered::with_limit(rt.alloc(), stream, 1, 1);
     let row = [
         (Call::Poll, Answer::Pending),
         (Call::Send(1, Ok(5)), Answer::Sent),
@@ -109,5 +114,5 @@ fn an_error_is_not_drawn_where_all_slots_are_taken(rt: HostRuntime) -> Result<()
         (Call::Poll, Answer::Pending),
         (Call::IsTerminated, Answer::Is(false)),
     ];
-    try_calls(&rt, &senders, &mut buffer, &row)
+    try_made(&rt, senders, made, &row)
 }
