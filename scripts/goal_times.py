@@ -65,7 +65,6 @@ def give_each_a_file(crate, folder, path, head, goals, tactic):
             file.write(f"{IMPORTS}{head}\n\npub {goal} : goal.{goal}\n{goal}{words} = {tactic}\n")
     with open(f"{answers}.antt", "w", encoding="utf-8") as file:
         file.write(tops + (written or f"{head}\n") + ends)
-    return written
 
 
 def main():
