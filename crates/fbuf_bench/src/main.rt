@@ -11,7 +11,7 @@ mod sources;
 use clock::{Workload, least};
 use futures_buffered_core::ready_core::NewFault;
 use growing::LastWoken;
-use ordered::{Bounded, Buffered, Growing, InTurn, Overtaken};
+use ordered::{Bounded, Buffered, Drained, Growing, InTurn, Overtaken};
 use ready_list::{Already, Fresh, Listed};
 use sets::{Refilled, Woken};
 use sources::{Beside, four_wakers};
@@ -145,6 +145,11 @@ where
         let made = Bounded::new(rt.alloc(), held).map(|queue| Overtaken::new(queue, held, true));
         let name = "ordered queue: added at the front, kept and yielded, held";
         timed(rt, output, name, held, made)?;
+    }
+    for slots in SIZES {
+        let made = Bounded::new(rt.alloc(), slots).map(Drained);
+        let name = "ordered queue: added at the front, yielded, and found empty, slots";
+        timed(rt, output, name, slots, made)?;
     }
     Ok(())
 }

@@ -148,6 +148,24 @@ impl<Q: Queue> Workload for Overtaken<Q> {
     }
 }
 
+/// A queue that is fed at its front and drained. A call adds a ready future, takes its output, and finds nothing more.
+#[derive(Drop)]
+pub struct Drained<Q>(pub Q);
+
+impl<Q: Queue> Workload for Drained<Q> {
+    fn calls(&self) -> u64 {
+        12_800
+    }
+
+    fn run(&mut self, cx: &mut Context<'_>) {
+        for _ in 0..12_800 {
+            self.0.add_front(Yields { left: 0 });
+            let _ = self.0.gives(cx);
+            let _ = self.0.gives(cx);
+        }
+    }
+}
+
 /// A stream of ready futures that does not end.
 #[derive(Drop)]
 struct Ready;

@@ -13,10 +13,10 @@ use Rattle.futures.specs.declared.task.Poll.{Poll}
 use Rattle.futures.specs.declared.task.Poll.TheVariants.{Ready, Pending}
 use Rattle.futures_buffered_table.specs.declared.answer.Taken.{Taken}
 use Rattle.futures_buffered_ordered.specs.FuturesOrderedBounded.{OrderedBounded, Finishes, LastStep, EachHasOne, is_running}
-use Rattle.futures_buffered_ordered.specs.FuturesOrderedBoundedInvariant.{KeepsOrder, AreTurned, place_of}
+use Rattle.futures_buffered_ordered.specs.FuturesOrderedBoundedInvariant.{KeepsOrder, place_of}
 use Rattle.futures_buffered_ordered.specs.declared.futures_ordered_bounded.Entry.{Entry}
 use Rattle.futures_buffered_ordered.specs.declared.futures_ordered_bounded.Entry.TheVariants.{Running, Kept}
-use Rattle.futures_buffered_ordered.proofs.PlacesLemmas.{get-set_same, get-set_other, place-next, place-turn, word_next}
+use Rattle.futures_buffered_ordered.proofs.PlacesLemmas.{get-set_same, get-set_other, place-next, word_next}
 
 -- what holds of each value but one holds of each once that one has left
 pub AllHeld-freed : {F : Type 0} (P : F → Type 0) (m : Slots F) (i : ℕ) → AllHeldBut i P m → AllHeld P (with_slot_freed m i)
@@ -123,25 +123,6 @@ module _ {F A S : Type 0} where
         small = omega (arith, slots, keeps.small);
         short = keeps.short;
         word = keeps.word;
-      }
-
-  -- turning the top bit of every index moves no entry
-  pub KeepsOrder-turn : (b : Bounded F S) (indices indices' : List ℕ) (list : List (Entry A)) (o room : ℕ) → KeepsOrder b indices list o room → length indices' ≡ length indices → AreTurned indices indices'
-      → KeepsOrder b indices' list ((o + 2 ^ 63) % 2 ^ 64) room
-  KeepsOrder-turn b indices indices' list o room keeps same turned =
-      record {
-        each_slot = same ∙ keeps.each_slot;
-        placed = λ k i h.
-            let old = keeps.placed k i h in
-            let there : i < length indices = omega (arith, keeps.each_slot, value_below b.slots i old.0) in
-            let is = turned i there in
-            (old.0, rw is (omega arith), rw is (place-turn o (get_or indices i 0) keeps.word old.1 ∙ old.2));
-        found = keeps.found;
-        count = keeps.count;
-        fits = keeps.fits;
-        small = keeps.small;
-        short = keeps.short;
-        word = omega arith;
       }
 
   pub each_has_one : (b : Bounded F S) (indices : List ℕ) (list : List (Entry A)) (o room : ℕ) → KeepsOrder b indices list o room → EachHasOne (record { set = b; entries = list })

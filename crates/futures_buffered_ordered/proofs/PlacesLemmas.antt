@@ -42,7 +42,3 @@ place-before o x k low lx fits e = omega (arith, low, lx, fits, e)
 
 pub place-front : (o : ℕ) → o < 2 ^ 64 → place_of o o ≡ 0
 place-front o low = omega (arith, low)
-
--- the top bit of both is turned
-pub place-turn : (o x : ℕ) → o < 2 ^ 64 → x < 2 ^ 64 → place_of ((o + 2 ^ 63) % 2 ^ 64) ((x + 2 ^ 63) % 2 ^ 64) ≡ place_of o x
-place-turn o x low lx = omega (arith, low, lx)

@@ -11,10 +11,6 @@ use Rattle.futures_buffered_ordered.specs.declared.futures_ordered_bounded.Entry
 abbrev pub place_of : ℕ → ℕ → ℕ
 place_of outgoing index = (index + (2 ^ 64 - outgoing)) % 2 ^ 64
 
--- the top bit of each index is turned
-abbrev pub AreTurned : List ℕ → List ℕ → Type 0
-AreTurned old new = (i : ℕ) → i < length old → slice_index_or new i 0 ≡ (slice_index_or old i 0 + 2 ^ 63) % 2 ^ 64
-
 -- each slot has an index, and a slot that holds a future has that of its entry; the list has room for an output of each slot, and its length no more than 63 bits
 pub record KeepsOrder {F A S : Type 0} (set : Bounded F S) (indices : List ℕ) (entries : List (Entry A)) (outgoing room : ℕ) : Type 0 where
   pub each_slot : length indices ≡ slot_count set.slots

@@ -14,7 +14,6 @@ ghost use Rattle.futures_buffered_core.specs.SlotMap.{value_in, held_count, slot
 ghost use Rattle.futures_buffered_bounded.specs.Held.{AllHeld, AllHeldBut, EndsWith};
 ghost use Rattle.futures_buffered_bounded.specs.FuturesUnorderedBounded.{AsksUntil, SaidEmpty, IsWoken};
 ghost use Rattle.futures_buffered_ordered.specs.FuturesOrderedBounded.{IsFull, EachHasOne, IsNewQueue, HoldsInOrder, AddsBack, AddsFront, AddsEachBack, StopsAt, Finishes, OrderedGives, TakesFewNames, starts_running};
-ghost use Rattle.futures_buffered_ordered.specs.FuturesOrderedBoundedInvariant.{AreTurned};
 ghost use Rattle.futures_buffered_ordered.specs.declared.futures_ordered_bounded.Entry.TheVariants.{Running, Kept};
 
 use futures::task::{Context, Poll};
@@ -40,21 +39,9 @@ pub enum Entry<A> {
     Kept(A),
 }
 
-const TOP_BIT: usize = 1 << 63;
-
-// Turns the top bit of each index.
-fn turn_all(indices: &mut Vec<usize>)
-    ensures len { vec_len indices.new ≡ vec_len indices.old }
-    ensures turned { AreTurned indices.old.items indices.new.items }
-{
-    for i in 0..indices.len() {
-        indices[i] = indices[i].wrapping_add(TOP_BIT);
-    }
-}
-
 /// Futures whose outputs come in the order of a list, with additions at both ends.
 ///
-/// A contract sees the set that holds the futures in progress, and the entries from the front to the back. Outputs that are kept take no slot, so `len` may pass `capacity`. A push, the keeping of an output and its yielding take the same time at any length; where a push finds more entries than there was room for, the list grows, which over many pushes is the same time for each. Once in 2^63 pushes at the front a poll takes time in proportion to `capacity`. The calls wait for nobody where those of the source do not.
+/// A contract sees the set that holds the futures in progress, and the entries from the front to the back. Outputs that are kept take no slot, so `len` may pass `capacity`. A push, the keeping of an output and its yielding take the same time at any length; where a push finds more entries than there was room for, the list grows, which over many pushes is the same time for each. The calls wait for nobody where those of the source do not.
 #[derive(Drop)]
 pub struct FuturesOrderedBounded<T: SlotFuture<S::Waker>, S: ReadySource>
 where
@@ -303,16 +290,6 @@ where
         }
     }
 
-    // Where the front's index is large, makes all indices small.
-    fn rebase(&mut self)
-        ensures { self.new ≡ self.old }
-    {
-        if self.outgoing >= TOP_BIT {
-            turn_all(&mut self.indices);
-            self.outgoing = self.outgoing.wrapping_add(TOP_BIT);
-        }
-    }
-
     // One poll of the set, which empties no slot.
     fn poll_set<R: PollOne<T, S::Waker, Output = T::Output>>(
         &mut self,
@@ -361,7 +338,6 @@ where
         ensures untouched { starts_running self.old.entries ≡ false → cx.new ≡ cx.old }
         ensures kept { Keeps cx.old cx.new }
     {
-        self.rebase();
         while self.front_runs() {
             match self.poll_set(rule, cx) {
                 Poll::Ready((i, output)) => self.finish(i, output),

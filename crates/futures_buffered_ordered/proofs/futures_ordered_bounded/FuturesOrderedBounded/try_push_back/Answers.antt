@@ -18,3 +18,9 @@ invariant_of-self-2 g c =
 pub returns-clause-pushed : goal.returns-clause-pushed
 returns-clause-pushed g c =
     rw (← c.self.view_is) (c.push_at-i.result, c.push_at-i.ensures.pushed, c.push_back_reserved.ensures.items ∙ ap (λ (l : List (Entry g.row.T-Output.Denot)). l ++ Running c.push_at-i.result ∷ []) c.reserve.ensures.items)
+
+pub returns-then-is_full-clause-room : goal.returns-then-is_full-clause-room
+returns-then-is_full-clause-room g c = grind (arith, common_steps)
+
+pub push_at-i-requires : goal.push_at-i-requires
+push_at-i-requires g c = grind (arith, common_steps)

@@ -17,3 +17,9 @@ invariant_of-self-2 g c =
 pub returns-clause-pushed : goal.returns-clause-pushed
 returns-clause-pushed g c =
     rw (← c.self.view_is) (c.push_at-i.result, c.push_at-i.ensures.pushed, c.push_front_reserved.ensures.items ∙ ap (λ (l : List (Entry g.row.T-Output.Denot)). Running c.push_at-i.result ∷ l) c.reserve.ensures.items)
+
+pub returns-then-is_full-clause-room : goal.returns-then-is_full-clause-room
+returns-then-is_full-clause-room g c = grind (arith, common_steps)
+
+pub push_at-i-requires : goal.push_at-i-requires
+push_at-i-requires g c = grind (arith, common_steps)
