@@ -16,3 +16,6 @@ pub returns-in-Pending-clause-polled : goal.returns-in-Pending-clause-polled
 returns-in-Pending-clause-polled g c =
     let some_held : 0 < held_count c.args.self.now.slots = grind (arith, common_steps) in
     (some_held, c.in-Pending.ensures.polled c.args.self.now.source (g.met.S.NewSource.covered c.args.self.now.source))
+
+pub returns-in-Ready-clause-pollable : goal.returns-in-Ready-clause-pollable
+returns-in-Ready-clause-pollable g c = grind (arith, common_steps)

@@ -11,3 +11,6 @@ pub returns-in-Ready-clause-polled : goal.returns-in-Ready-clause-polled
 returns-in-Ready-clause-polled g c =
     let some_held : 0 < held_count c.args.self.now.slots = grind (arith, common_steps) in
     (some_held, (c.in-Ready.i, c.poll_first.new.self, c.in-Ready.ensures.polled, c.empty_slot.ensures.emptied))
+
+pub returns-in-Ready-clause-pollable : goal.returns-in-Ready-clause-pollable
+returns-in-Ready-clause-pollable g c = grind (arith, common_steps)

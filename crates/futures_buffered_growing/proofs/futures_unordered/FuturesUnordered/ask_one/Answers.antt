@@ -1,4 +1,5 @@
-use Rattle.std.proofs.Common.{rules, ◌≡◌, ◌<◌, length, sym, subst}
+use Rattle.std.proofs.Common.{rules, ◌≡◌, ◌<◌, length, sym, subst, arith}
+use Rattle.std.proofs.lemmas.Grind.{common_steps}
 use Rattle.std.proofs.lemmas.List.Elements.{All-set}
 use Rattle.futures.specs.Poll.{OnPending}
 use Rattle.futures.specs.Task.{Covers}
@@ -103,3 +104,21 @@ returns-else-place-len-clause-pollable g c =
     let all = subst (λ (v : Growing g.row.F.Denot g.row.S.Denot). EachHeld g.R.PollOne.can_poll v.groups.listed) (sym c.self.view_is) c.requires.pollable in
     let pollable = λ (x : Bounded g.row.F.Denot g.row.S.Denot). AllHeld g.R.PollOne.can_poll x.slots in
     rw c.remove-ended.ensures.by_index.2 (All-removed pollable _ c.next_place-place.result (All-set pollable _ _ _ c.ask_group-answer.ensures.pollable all))
+
+pub overflow_sub-self : goal.overflow_sub-self
+overflow_sub-self g c = grind (arith, common_steps)
+
+pub returns-in-Pending-clause-count : goal.returns-in-Pending-clause-count
+returns-in-Pending-clause-count g c = grind (arith, common_steps)
+
+pub returns-in-Pending-clause-pending : goal.returns-in-Pending-clause-pending
+returns-in-Pending-clause-pending g c = grind (arith, common_steps)
+
+pub returns-then-is_some-clause-count : goal.returns-then-is_some-clause-count
+returns-then-is_some-clause-count g c = grind (arith, common_steps)
+
+pub returns-then-place-len-clause-count : goal.returns-then-place-len-clause-count
+returns-then-place-len-clause-count g c = grind (arith, common_steps)
+
+pub returns-else-place-len-clause-count : goal.returns-else-place-len-clause-count
+returns-else-place-len-clause-count g c = grind (arith, common_steps)

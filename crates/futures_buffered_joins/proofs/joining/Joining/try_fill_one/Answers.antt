@@ -1,4 +1,5 @@
-use Rattle.std.proofs.Common.{Ok, sym}
+use Rattle.std.proofs.Common.{Ok, sym, arith}
+use Rattle.std.proofs.lemmas.Grind.{common_steps}
 use Rattle.futures_buffered_bounded.proofs.HeldLemmas.{some_from_end}
 use Rattle.futures_buffered_joins.proofs.JoiningLemmas.{fills_place, fails_place}
 use Rattle.futures_buffered_joins.proofs.joining.Joining.try_fill_one.Goals as goal
@@ -20,3 +21,6 @@ returns-in-Ready-default-Ok-clause-filled g c =
       (way.i, way.output),
       fills_place future.polled source.registers source.takes Ok c.args.self.now c.fill.new.self _ c.poll_first.new.self _ _ _ way.i way.output (sym c.self.view_is) c.self.invariant (rw way.field-0-1-is at way.ensures.polled) way.ensures.same_slots (some_from_end (future.polled way.i) _ _ way.ensures.last) c.fill.ensures.set c.fill.ensures.outputs,
     )
+
+pub returns-in-Ready-default-Ok-clause-goes_on : goal.returns-in-Ready-default-Ok-clause-goes_on
+returns-in-Ready-default-Ok-clause-goes_on g c = grind (arith, common_steps)

@@ -1,4 +1,5 @@
-use Rattle.std.proofs.Common.{rules, ◌≡◌, ◌<◌, length, refl, sym, subst}
+use Rattle.std.proofs.Common.{rules, ◌≡◌, ◌<◌, length, refl, sym, subst, arith}
+use Rattle.std.proofs.lemmas.Grind.{common_steps}
 use Rattle.std.proofs.lemmas.List.Elements.{All-set}
 use Rattle.futures.specs.Poll.{OnPending}
 use Rattle.futures.specs.Task.{Covers}
@@ -108,3 +109,9 @@ returns-then-is_some-clause-item g c =
     let here = subst (λ (v : Growing g.row.St.Denot g.row.S.Denot). c.next_place-place.result ≡ next_place v.groups) (sym c.self.view_is) c.next_place-place.ensures.value in
     let within = subst (λ (v : Growing g.row.St.Denot g.row.S.Denot). c.next_place-place.result < length v.groups.listed) (sym c.self.view_is) c.next_place-place.ensures.below in
     item_asked g.S.ReadySource.needs _ _ _ _ _ _ _ c.self.invariant here within c.index_mut.ensures.value c.ask_group-answer.ensures.keeps
+
+pub overflow_sub-self : goal.overflow_sub-self
+overflow_sub-self g c = grind (arith, common_steps)
+
+pub overflow_sub-self-2 : goal.overflow_sub-self-2
+overflow_sub-self-2 g c = grind (arith, common_steps)

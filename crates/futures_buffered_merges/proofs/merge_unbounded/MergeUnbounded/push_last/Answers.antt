@@ -1,4 +1,5 @@
 use Rattle.std.proofs.Common.{◌≡◌, ◌+◌, ◌-◌, ◌<◌, length, sym, ap, subst, arith}
+use Rattle.std.proofs.lemmas.Grind.{common_steps}
 use Rattle.futures_buffered_core.specs.SlotMap.{slot_count}
 use Rattle.futures_buffered_bounded.specs.FuturesUnorderedBounded.{Bounded}
 use Rattle.futures_buffered_growing.specs.FuturesUnordered.{Growing, held_in, all_held, spare_places}
@@ -28,3 +29,12 @@ returns-clause-pushed g c =
     let room = subst (λ (v : Growing g.row.St.Denot g.row.S.Denot). 0 < spare_places v.groups.listed) (sym c.self.view_is) c.requires.room in
     let last : c.len-last.result - 1 + 1 ≡ length c.self.inside.groups.items = omega (arith, spare_some c.self.inside.groups.items room, c.len-last.ensures) in
     rw (← c.self.view_is) (pushes_last g.S.ReadySource.marks _ (c.len-last.result - 1) _ _ _ last c.index_mut.ensures.value room c.push.ensures.pushed)
+
+pub overflow_sub-last : goal.overflow_sub-last
+overflow_sub-last g c = grind (arith, common_steps)
+
+pub index_mut-requires : goal.index_mut-requires
+index_mut-requires g c = grind (arith, common_steps)
+
+pub returns-clause-count : goal.returns-clause-count
+returns-clause-count g c = grind (arith, common_steps)
