@@ -1,4 +1,4 @@
-//! Tests of sets, queues, joins and merges, by their public calls alone.
+//! Tests of sets and queues, by their public calls alone.
 //! No crate stands on this one.
 #![tactic(auto)]
 
@@ -10,10 +10,6 @@ mod bounded;
 mod calls;
 #[cfg(test)]
 mod growing;
-#[cfg(test)]
-mod joins;
-#[cfg(test)]
-mod merges;
 #[cfg(test)]
 mod ordered;
 #[cfg(test)]
