@@ -4,8 +4,9 @@
 ghost use Rattle.std.specs.Prelude.{◌<◌, IfOk};
 ghost use Rattle.futures_buffered_core.specs.Answer.{RefusesTooLarge};
 ghost use Rattle.futures_buffered_core.specs.ReadyShared.{IsNewShared};
-ghost use Rattle.futures_buffered_buffers.specs.BufferUnordered.{IsNewBuffer};
-ghost use Rattle.futures_buffered_buffers.specs.BufferedOrdered.{IsNewOrdered};
+ghost use Rattle.futures_buffered_ordered.specs.FuturesOrderedBounded.{IsNewQueue};
+ghost use Rattle.futures_buffered_buffers.specs.Buffer.{IsNewBuffer};
+ghost use Rattle.futures_buffered_buffers.specs.BufferUnordered.{IsNewSet};
 ghost use Rattle.futures_buffered_for_each.specs.ForEachConcurrent.{IsNewForEach};
 
 use futures::Stream;
@@ -33,7 +34,8 @@ pub trait BufferedStreamExt: Stream {
         Self::Item: SlotFuture<SlotWake>,
         <Self::Item as SlotFuture<SlotWake>>::Output: Drop,
         requires { 0 < n }
-        ensures new { IfOk result (IsNewOrdered IsNewShared POLL_LIMIT self n) }
+        ensures new { IfOk result
+            (IsNewBuffer (IsNewQueue IsNewShared n POLL_LIMIT) self) }
         ensures refuses { RefusesTooLarge n result }
     {
         BufferedOrdered::over(&(), alloc, self, n)
@@ -51,7 +53,8 @@ pub trait BufferedStreamExt: Stream {
         Self: Sized,
         Self::Item: SlotFuture<SlotWake>,
         requires { 0 < n }
-        ensures new { IfOk result (IsNewBuffer IsNewShared POLL_LIMIT self n) }
+        ensures new { IfOk result
+            (IsNewBuffer (IsNewSet IsNewShared n POLL_LIMIT) self) }
         ensures refuses { RefusesTooLarge n result }
     {
         BufferUnordered::over(&(), alloc, self, n)

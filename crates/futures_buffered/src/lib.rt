@@ -4,10 +4,13 @@
 //!
 //! In the order in which to read them:
 //!
+//! - `future_queue`: `FutureQueue`, what an adaptor holds, and `NewQueue`.
+//! - `buffer`: `Buffer`, the adaptor over any such queue.
 //! - `buffer_unordered`: `BufferUnordered`, whose outputs come as the futures finish.
 //! - `buffered_ordered`: `BufferedOrdered`, whose outputs come in the order of the futures.
 //! - `for_each_concurrent`: `ForEachConcurrent`, which makes its futures of the items by a closure.
 //! - `buffered`: `BufferedStreamExt`, these adaptors as methods of a stream.
+//! - `try_buffer`: `TryBuffer`, as `Buffer`, over a stream that gives errors as well.
 //! - `try_buffer_unordered` and `try_buffered_ordered`: `TryBufferUnordered` and `TryBufferedOrdered`, whose stream gives errors as well.
 //! - `try_buffered`: `BufferedTryStreamExt`, these as methods of a stream.
 //! - `iter_ext`: `IterExt`, the constructors of sets, queues, joins and merges as methods of what gives the items.
@@ -18,7 +21,10 @@ pub mod iter_ext;
 pub mod try_buffered;
 
 pub use buffered::{BufferUnordered, BufferedOrdered, BufferedStreamExt, ForEachConcurrent};
-pub use futures_buffered_buffers::{buffer_unordered, buffered_ordered};
+pub use futures_buffered_buffers::{
+    Buffer, FutureQueue, NewQueue, OrderedQueue, UnorderedQueue, buffer, buffer_unordered,
+    buffered_ordered, future_queue,
+};
 pub use futures_buffered_core::core_source::CoreSource;
 pub use futures_buffered_core::ready_core::{
     Event, MAX_CAPACITY, NewFault, ReadyCore, Reply, RunFault, Taken, Woke, run,
@@ -38,6 +44,8 @@ pub use futures_buffered_sets::{
     futures_ordered, futures_ordered_bounded, futures_unordered, futures_unordered_bounded,
     join_all, merge_bounded, merge_unbounded, poll_one, slot_future, slot_stream, try_join_all,
 };
-pub use futures_buffered_try_buffers::{try_buffer_unordered, try_buffered_ordered};
+pub use futures_buffered_try_buffers::{
+    TryBuffer, try_buffer, try_buffer_unordered, try_buffered_ordered,
+};
 pub use iter_ext::IterExt;
 pub use try_buffered::{BufferedTryStreamExt, TryBufferUnordered, TryBufferedOrdered};

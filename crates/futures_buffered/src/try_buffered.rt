@@ -4,8 +4,9 @@
 ghost use Rattle.std.specs.Prelude.{◌<◌, IfOk};
 ghost use Rattle.futures_buffered_core.specs.Answer.{RefusesTooLarge};
 ghost use Rattle.futures_buffered_core.specs.ReadyShared.{IsNewShared};
-ghost use Rattle.futures_buffered_buffers.specs.BufferUnordered.{IsNewBuffer};
-ghost use Rattle.futures_buffered_buffers.specs.BufferedOrdered.{IsNewOrdered};
+ghost use Rattle.futures_buffered_ordered.specs.FuturesOrderedBounded.{IsNewQueue};
+ghost use Rattle.futures_buffered_buffers.specs.Buffer.{IsNewBuffer};
+ghost use Rattle.futures_buffered_buffers.specs.BufferUnordered.{IsNewSet};
 
 use futures::Stream;
 use futures_buffered_bounded::SlotFuture;
@@ -32,7 +33,8 @@ pub trait BufferedTryStreamExt: Stream {
         T: Drop,
         E: Drop,
         requires { 0 < n }
-        ensures new { IfOk result (IsNewOrdered IsNewShared POLL_LIMIT self n) }
+        ensures new { IfOk result
+            (IsNewBuffer (IsNewQueue IsNewShared n POLL_LIMIT) self) }
         ensures refuses { RefusesTooLarge n result }
     {
         TryBufferedOrdered::over(&(), alloc, self, n)
@@ -50,7 +52,8 @@ pub trait BufferedTryStreamExt: Stream {
         Self: Stream<Item = Result<F, E>> + Sized,
         F: SlotFuture<SlotWake, Output = Result<T, E>>,
         requires { 0 < n }
-        ensures new { IfOk result (IsNewBuffer IsNewShared POLL_LIMIT self n) }
+        ensures new { IfOk result
+            (IsNewBuffer (IsNewSet IsNewShared n POLL_LIMIT) self) }
         ensures refuses { RefusesTooLarge n result }
     {
         TryBufferUnordered::over(&(), alloc, self, n)

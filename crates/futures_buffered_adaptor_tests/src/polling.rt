@@ -51,15 +51,13 @@ where
 }
 
 /// One poll in a task.
-pub fn poll_try_in_order<St, F, T, E, S: ReadySource>(
+pub fn poll_try_in_order<St, F, S: ReadySource>(
     task: &MockTask,
     buffer: &mut TryBufferedOrdered<St, F, S>,
-) -> Poll<Option<Result<T, E>>>
+) -> Poll<Option<Result<u64, u64>>>
 where
-    St: Stream<Item = Result<F, E>>,
-    F: SlotFuture<S::Waker, Output = Result<T, E>>,
-    T: Drop,
-    E: Drop,
+    St: Stream<Item = Result<F, u64>>,
+    F: SlotFuture<S::Waker, Output = Result<u64, u64>>,
     requires streams { (stream : St) → St.can_poll stream }
     requires items { (future : F) → F.can_poll future }
 {

@@ -1,5 +1,6 @@
 mod buffered;
 mod buffered_ordered;
+mod closures;
 mod for_each;
 mod iter_ext;
 mod merges;

@@ -14,7 +14,7 @@ use Rattle.futures_buffered_table.specs.declared.answer.Taken.{Taken}
 use Rattle.futures_buffered_table.specs.declared.answer.Woke.{Woke}
 use Rattle.futures_buffered_bounded.specs.Held.{Passes, Yields}
 use Rattle.futures_buffered_bounded.specs.FuturesUnorderedBounded.{Bounded, Pushes, PollGives}
-use Rattle.futures_buffered_buffers.specs.Buffered.{Buffer, PollsStream, DrawsOne, DrawsNone, Calls, CallsInTurn, all_drawn, all_outputs, output_of, answer_from}
+use Rattle.futures_buffered_buffers.specs.Buffer.{Buffering, PollsStream, DrawsOne, DrawsNone, Calls, CallsInTurn, all_drawn, all_outputs, output_of, answer_from}
 use Rattle.futures_buffered_buffers.specs.BufferUnordered.{Waits, WaitsInSlot, MayGiveInSlot, LosesNothing, set_len}
 
 abbrev somes : {F : Type 0} → List (Option F) → List F
@@ -157,15 +157,15 @@ module _ {F A : Type 0} (polled : ℕ → F → Poll A → F → Type 0) where
       }
 
 module _ {St F A S : Type 0} (yields : St → Runs F) (polled : ℕ → F → Poll A → F → Type 0) (registers : S → S → Type 0) (takes : S → Taken → S → Type 0) (marks : S → ℕ → Woke → S → Type 0) (n : ℕ) where
-  abbrev So : List F → List A → Buffer St (Bounded F S) → Type 0
+  abbrev So : List F → List A → Buffering St (Bounded F S) → Type 0
   So drawn outputs b = SoFar polled drawn outputs b.queue.slots
 
-  drew_all : (items drawn : List F) (outputs : List A) (old full : Buffer St (Bounded F S)) → So drawn outputs old → FoldsTo (DrawsOne (PollsStream yields) set_len n (Pushes marks)) old items full → So (drawn ++ items) outputs full
+  drew_all : (items drawn : List F) (outputs : List A) (old full : Buffering St (Bounded F S)) → So drawn outputs old → FoldsTo (DrawsOne (PollsStream yields) set_len n (Pushes marks)) old items full → So (drawn ++ items) outputs full
   drew_all [] drawn outputs old full so ran = rw (append-nil drawn) (subst (So drawn outputs) ran so)
   drew_all (f ∷ items) drawn outputs old full so ran =
       rw (← append_assoc drawn (f ∷ []) items) (drew_all items (drawn ++ f ∷ []) outputs ran.0 full (drew polled drawn outputs old.queue.slots ran.0.queue.slots ran.1.pushed.0 f so ran.1.pushed.1.inserted) ran.2)
 
-  drew_none : (drawn : List F) (outputs : List A) (full new : Buffer St (Bounded F S)) → So drawn outputs full → DrawsNone (PollsStream yields) set_len n full new → So drawn outputs new
+  drew_none : (drawn : List F) (outputs : List A) (full new : Buffering St (Bounded F S)) → So drawn outputs full → DrawsNone (PollsStream yields) set_len n full new → So drawn outputs new
   drew_none drawn outputs full new so (inl h) = subst (So drawn outputs) (sym h.1) so
   drew_none drawn outputs full new so (inr (inl h)) = rw h.2 so
   drew_none drawn outputs full new so (inr (inr h)) = rw h.2 so
@@ -192,7 +192,7 @@ module _ {St F A S : Type 0} (yields : St → Runs F) (polled : ℕ → F → Po
   same_output (Some s) (Ready None) = refl
   same_output stream Pending = refl
 
-  one_call : (items drawn : List F) (outputs : List A) (answer : Poll (Option A)) (old new : Buffer St (Bounded F S)) → So drawn outputs old → Calls (PollsStream yields) set_len n (Pushes marks) (PollGives polled registers takes) old items answer new
+  one_call : (items drawn : List F) (outputs : List A) (answer : Poll (Option A)) (old new : Buffering St (Bounded F S)) → So drawn outputs old → Calls (PollsStream yields) set_len n (Pushes marks) (PollGives polled registers takes) old items answer new
       → So (drawn ++ items) (outputs ++ option_to_list (output_of answer)) new
   one_call items drawn outputs answer old new so call =
       let filled = drew_none (drawn ++ items) outputs call.draws.full call.filled (drew_all items drawn outputs old call.draws.full so call.draws.items) call.draws.last in
@@ -203,7 +203,7 @@ module _ {St F A S : Type 0} (yields : St → Runs F) (polled : ℕ → F → Po
   outputs_cons items (Ready (Some x)) calls = refl
   outputs_cons items Pending calls = refl
 
-  many_calls : (calls : List (List F × Poll (Option A))) (drawn : List F) (outputs : List A) (old new : Buffer St (Bounded F S)) → So drawn outputs old → CallsInTurn (PollsStream yields) set_len n (Pushes marks) (PollGives polled registers takes) old calls new
+  many_calls : (calls : List (List F × Poll (Option A))) (drawn : List F) (outputs : List A) (old new : Buffering St (Bounded F S)) → So drawn outputs old → CallsInTurn (PollsStream yields) set_len n (Pushes marks) (PollGives polled registers takes) old calls new
       → So (drawn ++ all_drawn calls) (outputs ++ all_outputs calls) new
   many_calls [] drawn outputs old new so ran = rw (append-nil drawn, append-nil outputs) (subst (So drawn outputs) ran so)
   many_calls ((items, answer) ∷ calls) drawn outputs old new so ran =

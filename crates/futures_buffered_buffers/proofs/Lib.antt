@@ -1,3 +1,4 @@
+pub mod BufferLemmas
 pub mod BufferUnorderedLemmas
 pub mod BufferedOrderedLemmas
 pub mod AccountLemmas

@@ -18,7 +18,7 @@ use Rattle.futures_buffered_ordered.specs.FuturesOrderedBounded.{OrderedBounded,
 use Rattle.futures_buffered_ordered.specs.declared.futures_ordered_bounded.Entry.{Entry}
 use Rattle.futures_buffered_ordered.specs.declared.futures_ordered_bounded.Entry.TheVariants.{Running, Kept}
 use Rattle.futures_buffered_ordered.proofs.PushLemmas.{value-inserted, value-inserted_other, apart}
-use Rattle.futures_buffered_buffers.specs.Buffered.{Buffer, PollsStream, DrawsOne, DrawsNone, Calls, CallsInTurn, all_drawn, all_outputs, output_of}
+use Rattle.futures_buffered_buffers.specs.Buffer.{Buffering, PollsStream, DrawsOne, DrawsNone, Calls, CallsInTurn, all_drawn, all_outputs, output_of}
 use Rattle.futures_buffered_buffers.specs.BufferUnordered.{Waits, MayGiveInSlot}
 use Rattle.futures_buffered_buffers.specs.BufferedOrdered.{BecomesEntry, GivesInOrder, queue_len}
 use Rattle.futures_buffered_buffers.proofs.AccountLemmas.{waits_more, outputs_cons, same_output}
@@ -243,26 +243,26 @@ module _ {F A S : Type 0} (polled : ℕ → F → Poll A → F → Type 0) (regi
           })
 
 module _ {St F A S : Type 0} (yields : St → Runs F) (polled : ℕ → F → Poll A → F → Type 0) (registers : S → S → Type 0) (takes : S → Taken → S → Type 0) (marks : S → ℕ → Woke → S → Type 0) (n : ℕ) where
-  abbrev So : List F → List A → Buffer St (OrderedBounded F A S) → Type 0
+  abbrev So : List F → List A → Buffering St (OrderedBounded F A S) → Type 0
   So drawn outputs b = SoFar polled drawn outputs b.queue
 
-  drew_all : (items drawn : List F) (outputs : List A) (old full : Buffer St (OrderedBounded F A S)) → So drawn outputs old → FoldsTo (DrawsOne (PollsStream yields) queue_len n (AddsBack marks)) old items full → So (drawn ++ items) outputs full
+  drew_all : (items drawn : List F) (outputs : List A) (old full : Buffering St (OrderedBounded F A S)) → So drawn outputs old → FoldsTo (DrawsOne (PollsStream yields) queue_len n (AddsBack marks)) old items full → So (drawn ++ items) outputs full
   drew_all [] drawn outputs old full so ran = rw (append-nil drawn) (subst (So drawn outputs) ran so)
   drew_all (f ∷ items) drawn outputs old full so ran =
       rw (← append_assoc drawn (f ∷ []) items) (drew_all items (drawn ++ f ∷ []) outputs ran.0 full (drew polled marks drawn outputs old.queue ran.0.queue f so ran.1.pushed) ran.2)
 
-  drew_none : (drawn : List F) (outputs : List A) (full new : Buffer St (OrderedBounded F A S)) → So drawn outputs full → DrawsNone (PollsStream yields) queue_len n full new → So drawn outputs new
+  drew_none : (drawn : List F) (outputs : List A) (full new : Buffering St (OrderedBounded F A S)) → So drawn outputs full → DrawsNone (PollsStream yields) queue_len n full new → So drawn outputs new
   drew_none drawn outputs full new so (inl h) = subst (So drawn outputs) (sym h.1) so
   drew_none drawn outputs full new so (inr (inl h)) = rw h.2 so
   drew_none drawn outputs full new so (inr (inr h)) = rw h.2 so
 
-  one_call : (items drawn : List F) (outputs : List A) (answer : Poll (Option A)) (old new : Buffer St (OrderedBounded F A S)) → So drawn outputs old → Calls (PollsStream yields) queue_len n (AddsBack marks) (OrderedGives polled registers takes) old items answer new
+  one_call : (items drawn : List F) (outputs : List A) (answer : Poll (Option A)) (old new : Buffering St (OrderedBounded F A S)) → So drawn outputs old → Calls (PollsStream yields) queue_len n (AddsBack marks) (OrderedGives polled registers takes) old items answer new
       → So (drawn ++ items) (outputs ++ option_to_list (output_of answer)) new
   one_call items drawn outputs answer old new so call =
       let filled = drew_none (drawn ++ items) outputs call.draws.full call.filled (drew_all items drawn outputs old call.draws.full so call.draws.items) call.draws.last in
       rw (call.gives, same_output yields polled registers takes marks n call.filled.stream call.queue_answer) (one_poll polled registers takes (drawn ++ items) outputs call.filled.queue new.queue call.queue_answer filled call.polls_queue)
 
-  many_calls : (calls : List (List F × Poll (Option A))) (drawn : List F) (outputs : List A) (old new : Buffer St (OrderedBounded F A S)) → So drawn outputs old → CallsInTurn (PollsStream yields) queue_len n (AddsBack marks) (OrderedGives polled registers takes) old calls new
+  many_calls : (calls : List (List F × Poll (Option A))) (drawn : List F) (outputs : List A) (old new : Buffering St (OrderedBounded F A S)) → So drawn outputs old → CallsInTurn (PollsStream yields) queue_len n (AddsBack marks) (OrderedGives polled registers takes) old calls new
       → So (drawn ++ all_drawn calls) (outputs ++ all_outputs calls) new
   many_calls [] drawn outputs old new so ran = rw (append-nil drawn, append-nil outputs) (subst (So drawn outputs) ran so)
   many_calls ((items, answer) ∷ calls) drawn outputs old new so ran =

@@ -1,3 +1,4 @@
-pub mod Buffered
+pub mod FutureQueue
+pub mod Buffer
 pub mod BufferUnordered
 pub mod BufferedOrdered

@@ -1,248 +1,108 @@
 //! Some futures of a stream at a time, whose outputs come as they finish.
-ghost use Rattle.std.specs.Prelude.{◌≡◌, ◌<◌, ◌≤◌, ◌+◌, [], ℕ, List, IfOk, IfSome, IfNone, OnSome, None, Some, true, false};
-ghost use Rattle.futures.specs.Task.{Covers, Keeps};
-ghost use Rattle.futures.specs.Runs.{After, Within};
-ghost use Rattle.futures.specs.Poll.{IfReady, OnPending};
+ghost use Rattle.std.specs.Prelude.{◌<◌, ◌≤◌, IfOk, false};
 ghost use Rattle.futures_buffered_core.specs.Answer.{RefusesTooLarge};
 ghost use Rattle.futures_buffered_core.specs.ReadyShared.{IsNewShared};
+ghost use Rattle.futures_buffered_bounded.specs.Held.{AllHeld, ComesFrom};
 ghost use Rattle.futures_buffered_bounded.specs.FuturesUnorderedBounded.{Pushes, PollGives};
-ghost use Rattle.futures_buffered_buffers.specs.Buffered.{PollsStream, Draws, DrawsOne, DrawsNone, hint_with, hint_ahead};
-ghost use Rattle.futures_buffered_buffers.specs.BufferUnordered.{BuffersCall, IsNewBuffer, LosesNothing, CanBuffer, WaitsAt, BufferGives, set_len, set_room};
+ghost use Rattle.futures_buffered_buffers.specs.Buffer.{IsNewBuffer};
+ghost use Rattle.futures_buffered_buffers.specs.BufferUnordered.{IsNewSet, LosesNothing, MayGiveInSlot, SetWaitsAt, set_len, set_room};
 
+use crate::buffer::Buffer;
+use crate::future_queue::{FutureQueue, NewQueue};
 use futures::Stream;
 use futures::task::{Context, Poll};
-use futures_buffered_bounded::futures_unordered_bounded::{FuturesUnorderedBounded, POLL_LIMIT};
-use futures_buffered_bounded::{FusedStream, SizeHint, SlotFuture};
+use futures_buffered_bounded::SlotFuture;
+use futures_buffered_bounded::futures_unordered_bounded::FuturesUnorderedBounded;
 use futures_buffered_core::ready_core::NewFault;
 use futures_buffered_core::ready_shared::{SharedReady, SlotWake};
 use futures_buffered_core::ready_source::{NewSource, ReadySource};
 use std::alloc::Global;
 use std::marker::Model;
 
-/// Futures of a stream, at most as many at a time as its set has slots, whose outputs come as they finish.
-///
-/// A contract sees the stream, or nothing once it has ended, and what it sees of the set. A poll takes no memory. A stream that ended is dropped at once.
+/// A bounded set of one slot at least, as what a buffer holds. A contract sees what it sees of the set.
 #[derive(Drop)]
-pub struct BufferUnordered<St: Stream, S: ReadySource>
-where
-    St::Item: Drop,
-{
-    stream: Option<St>,
-    queue: FuturesUnorderedBounded<St::Item, S>,
+pub struct UnorderedQueue<F: Drop, S: ReadySource> {
+    set: FuturesUnorderedBounded<F, S>,
 }
 
-impl<St: Stream, S: ReadySource> Model for BufferUnordered<St, S>
-where
-    St::Item: Drop,
-{
+impl<F: Drop, S: ReadySource> Model for UnorderedQueue<F, S> {
     ghost use Rattle.futures_buffered_bounded.specs.FuturesUnorderedBounded.{Bounded, bounded_code};
-    ghost use Rattle.futures_buffered_buffers.specs.Buffered.{Buffer, buffer_code};
 
-    ghost Value = { Buffer St (Bounded St.Item S) };
+    ghost Value = { Bounded F S };
 
-    ghost coded = { buffer_code St.code (bounded_code St.Item.code S.code) };
+    ghost coded = { bounded_code F.code S.code };
 
     ghost use Rattle.std.specs.Prelude.{◌<◌};
     ghost use Rattle.futures_buffered_core.specs.SlotMap.{slot_count};
 
-    ghost view = { λ s. record { stream = s.stream; queue = s.queue } };
+    ghost view = { λ s. s.set };
 
-    ghost invariant = { λ s. 0 < slot_count s.queue.slots };
+    ghost invariant = { λ s. 0 < slot_count s.set.slots };
 }
 
-impl<St: Stream, S: ReadySource> BufferUnordered<St, S>
-where
-    St::Item: Drop,
-{
-    /// Over this stream, with at most `n` futures at a time and a source made for them. Nothing is polled.
-    ///
-    /// Takes time and memory in proportion to `n`. The stream is dropped where it is refused: `TooLarge` where `n` is above `MAX_CAPACITY`, and `Memory` where a request for memory was refused.
-    pub fn over(env: &S::Env, alloc: Global, stream: St, n: usize) -> Result<Self, NewFault>
-    where
-        S: NewSource,
-        requires { 0 < n }
-        ensures new { IfOk result (IsNewBuffer S.made POLL_LIMIT stream n) }
-        ensures refuses { RefusesTooLarge n result }
-    {
-        Self::over_limit(env, alloc, stream, n, POLL_LIMIT)
-    }
+impl<F: Drop, S: NewSource> NewQueue for UnorderedQueue<F, S> {
+    type Env = S::Env;
 
-    /// As `over`, where one poll of the set takes at most `limit` names.
-    pub fn over_limit(
-        env: &S::Env,
-        alloc: Global,
-        stream: St,
-        n: usize,
-        limit: usize,
-    ) -> Result<Self, NewFault>
-    where
-        S: NewSource,
-        requires room { 0 < n }
-        requires some { 1 ≤ limit }
-        ensures new { IfOk result (IsNewBuffer S.made limit stream n) }
-        ensures refuses { RefusesTooLarge n result }
-    {
-        let queue = FuturesUnorderedBounded::with_new_source(env, alloc, n, limit)?;
-        Ok(BufferUnordered {
-            stream: Some(stream),
-            queue,
-        })
+    ghost made = { IsNewSet S.made };
+
+    fn make(env: &S::Env, alloc: Global, n: usize, limit: usize) -> Result<Self, NewFault> {
+        let set = FuturesUnorderedBounded::with_new_source(env, alloc, n, limit)?;
+        Ok(UnorderedQueue { set })
     }
 }
 
-impl<St: Stream> BufferUnordered<St, SharedReady>
-where
-    St::Item: SlotFuture<SlotWake>,
-{
+impl<F: SlotFuture<S::Waker>, S: ReadySource> FutureQueue<F> for UnorderedQueue<F, S> {
+    type Output = F::Output;
+
+    ghost count = { set_len };
+
+    ghost room = { set_room };
+
+    ghost pushes = { Pushes S.marks };
+
+    ghost polls = { PollGives F.polled S.registers S.takes };
+
+    ghost is_fit = { F.can_poll };
+
+    ghost can_poll = { λ set. AllHeld F.can_poll set.slots };
+
+    ghost gives = { MayGiveInSlot F.polled };
+
+    ghost yields = { λ set. ComesFrom F.polled set.slots };
+
+    ghost in_order = { false };
+
+    ghost needs = { SetWaitsAt S.needs };
+
+    fn len(&self) -> usize {
+        self.set.len()
+    }
+
+    fn capacity(&self) -> usize {
+        self.set.capacity()
+    }
+
+    fn push(&mut self, future: F) {
+        self.set.push(future);
+    }
+
+    fn poll_output(&mut self, cx: &mut Context<'_>) -> Poll<Option<F::Output>> {
+        self.set.poll_next(cx)
+    }
+}
+
+/// Futures of a stream, at most as many at a time as its set has slots, whose outputs come as they finish.
+pub type BufferUnordered<St, S> = Buffer<St, UnorderedQueue<<St as Stream>::Item, S>>;
+
+impl<St: Drop, F: Drop> Buffer<St, UnorderedQueue<F, SharedReady>> {
     /// As `over_limit`, with a shared source, whose futures are woken from any thread.
     pub fn with_limit(alloc: Global, stream: St, n: usize, limit: usize) -> Result<Self, NewFault>
         requires room { 0 < n }
         requires some { 1 ≤ limit }
-        ensures new { IfOk result (IsNewBuffer IsNewShared limit stream n) }
+        ensures new { IfOk result (IsNewBuffer (IsNewSet IsNewShared n limit) stream) }
         ensures refuses { RefusesTooLarge n result }
     {
         Self::over_limit(&(), alloc, stream, n, limit)
-    }
-}
-
-impl<St: Stream, S: ReadySource> BufferUnordered<St, S>
-where
-    St::Item: SlotFuture<S::Waker>,
-{
-    // Draws one item, if the stream has not ended, there is room, and an item comes. Says whether one was drawn.
-    fn draw_one(&mut self, cx: &mut Context<'_>) -> bool
-        requires { CanBuffer St.can_poll St.yields St.Item.can_poll self.old }
-        ensures one { result ≡ true → (item : St.Item) × DrawsOne (PollsStream St.yields)
-            set_len (set_room self.old.queue) (Pushes S.marks) self.old item self.new }
-        ensures none { result ≡ false → DrawsNone (PollsStream St.yields)
-            set_len (set_room self.old.queue) self.old self.new }
-        ensures count { result ≡ true → set_len self.new.queue ≡ set_len self.old.queue + 1 }
-        ensures room { result ≡ true → set_len self.old.queue < set_room self.old.queue }
-        ensures capacity { set_room self.new.queue ≡ set_room self.old.queue }
-        ensures again { CanBuffer St.can_poll St.yields St.Item.can_poll self.new }
-        ensures within { Within (BufferGives St.yields St.Item.polled self.old)
-            (BufferGives St.yields St.Item.polled self.new) }
-        ensures covered { result ≡ false → set_len self.new.queue < set_room self.new.queue
-            → IfSome self.new.stream (λ stream. Covers cx.new (St.needs stream)) }
-        ensures kept { Keeps cx.old cx.new }
-    {
-        if self.queue.len() >= self.queue.capacity() {
-            return false;
-        }
-        let Some(stream) = &mut self.stream else {
-            return false;
-        };
-        match stream.poll_next(cx) {
-            Poll::Ready(Some(item)) => {
-                self.queue.push(item);
-                true
-            }
-            Poll::Ready(None) => {
-                self.stream = None;
-                false
-            }
-            Poll::Pending => false,
-        }
-    }
-
-    // Draws while the stream has not ended, there is room, and an item comes.
-    fn fill(&mut self, cx: &mut Context<'_>)
-        requires { CanBuffer St.can_poll St.yields St.Item.can_poll self.old }
-        ensures draws { (drawn : List St.Item) × Draws (PollsStream St.yields)
-            set_len (set_room self.old.queue) (Pushes S.marks) self.old drawn self.new }
-        ensures capacity { set_room self.new.queue ≡ set_room self.old.queue }
-        ensures again { CanBuffer St.can_poll St.yields St.Item.can_poll self.new }
-        ensures within { Within (BufferGives St.yields St.Item.polled self.old)
-            (BufferGives St.yields St.Item.polled self.new) }
-        ensures covered { set_len self.new.queue < set_room self.new.queue
-            → IfSome self.new.stream (λ stream. Covers cx.new (St.needs stream)) }
-        ensures kept { Keeps cx.old cx.new }
-    {
-        'draws: while self.draw_one(cx) {}
-    }
-}
-
-impl<St: Stream, S: ReadySource> Stream for BufferUnordered<St, S>
-where
-    St::Item: SlotFuture<S::Waker>,
-{
-    type Item = <St::Item as SlotFuture<S::Waker>>::Output;
-
-    ghost can_poll = { CanBuffer St.can_poll St.yields St.Item.can_poll };
-
-    ghost needs = { WaitsAt St.needs S.needs };
-
-    ghost yields = { BufferGives St.yields St.Item.polled };
-
-    /// Draws items while fewer are held than the set has slots, the stream has not ended, and an item comes at once; then polls the set once. `Ready(None)` where the stream has ended and nothing is held, and then again.
-    ///
-    /// Takes no memory, and waits for nobody where the source's calls do not. Takes time in proportion to the items drawn and the names that one poll of the set takes, besides the polls.
-    fn poll_next(&mut self, cx: &mut Context<'_>) -> Poll<Option<Self::Item>>
-        requires { CanBuffer St.can_poll St.yields St.Item.can_poll self.old }
-        ensures called { BuffersCall St.yields St.Item.polled S.registers S.takes S.marks
-            self.old result self.new }
-        ensures ended { IfReady result (λ o. IfNone o
-            ((self.new.stream ≡ None) × (set_len self.new.queue ≡ 0))) }
-        ensures capacity { set_room self.new.queue ≡ set_room self.old.queue }
-        ensures bound { set_len self.new.queue ≤ set_room self.new.queue }
-        ensures value { IfReady result (BufferGives St.yields St.Item.polled self.old []) }
-        ensures rest { IfReady result (λ o. IfSome o (λ x.
-            After (BufferGives St.yields St.Item.polled self.old) x
-            (BufferGives St.yields St.Item.polled self.new))) }
-        ensures same { OnPending result
-            (Within (BufferGives St.yields St.Item.polled self.old)
-            (BufferGives St.yields St.Item.polled self.new)) }
-        ensures goes { IfReady result (λ o. OnSome o
-            (CanBuffer St.can_poll St.yields St.Item.can_poll self.new)) }
-        ensures again { OnPending result
-            (CanBuffer St.can_poll St.yields St.Item.can_poll self.new) }
-        ensures registered { OnPending result (Covers cx.new (WaitsAt St.needs S.needs self.new)) }
-        ensures kept { Keeps cx.old cx.new }
-    {
-        self.fill(cx);
-        match self.queue.poll_next(cx) {
-            Poll::Ready(Some(output)) => return Poll::Ready(Some(output)),
-            Poll::Ready(None) => {}
-            Poll::Pending => return Poll::Pending,
-        }
-        if self.stream.is_some() {
-            return Poll::Pending;
-        }
-        Poll::Ready(None)
-    }
-}
-
-/// Whether the stream has ended and nothing is held. Takes the same time at any capacity.
-impl<St: Stream, S: ReadySource> FusedStream for BufferUnordered<St, S>
-where
-    St::Item: SlotFuture<S::Waker>,
-{
-    ghost use Rattle.std.specs.Prelude.{◌≡◌, None};
-
-    ghost is_over = { λ b. (b.stream ≡ None) × (set_len b.queue ≡ 0) };
-
-    fn is_terminated(&self) -> bool {
-        self.stream.is_none() && self.queue.is_empty()
-    }
-}
-
-/// What the stream says of itself, or nothing once it has ended, and as many more as are held.
-impl<St: Stream + SizeHint, S: ReadySource> SizeHint for BufferUnordered<St, S>
-where
-    St::Item: Drop,
-{
-    ghost items_left = { λ b. hint_with (set_len b.queue) (hint_ahead St.items_left b.stream) };
-
-    fn size_hint(&self) -> (usize, Option<usize>) {
-        let held = self.queue.len();
-        let (least, most) = match &self.stream {
-            Some(stream) => stream.size_hint(),
-            None => (0, Some(0)),
-        };
-        (
-            least.saturating_add(held),
-            most.and_then(|most| most.checked_add(held)),
-        )
     }
 }
 

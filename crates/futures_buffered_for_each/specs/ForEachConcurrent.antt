@@ -7,12 +7,12 @@ use Rattle.futures.specs.declared.task.Poll.TheVariants.{Ready, Pending}
 use Rattle.futures.specs.Runs.{Runs, AtEachItem}
 use Rattle.futures_buffered_bounded.specs.Held.{AllHeld}
 use Rattle.futures_buffered_bounded.specs.FuturesUnorderedBounded.{Bounded}
-use Rattle.futures_buffered_buffers.specs.Buffered.{Buffer, buffer_code, Ahead, AsksStream, HasNoTurn}
-use Rattle.futures_buffered_buffers.specs.BufferUnordered.{IsNewBuffer}
+use Rattle.futures_buffered_buffers.specs.Buffer.{Buffering, buffer_code, Ahead, AsksStream, HasNoTurn, IsNewBuffer}
+use Rattle.futures_buffered_buffers.specs.BufferUnordered.{IsNewSet}
 
 -- the stream and the set, and the closure
 pub record ForEach (St Fn Q : Type 0) : Type 0 where
-  pub buffer : Buffer St Q
+  pub buffer : Buffering St Q
   pub closure : Fn
 
 -- its code, made of those of its parts
@@ -20,7 +20,7 @@ abbrev pub for_each_code : {St Fn Q : Type 0}
     → Coded St → Coded Fn → Coded Q → Coded (ForEach St Fn Q)
 for_each_code {St} {Fn} {Q} stream_code closure_code queue_code =
     code_by
-    (Buffer St Q × Fn)
+    (Buffering St Q × Fn)
     (coded× (buffer_code stream_code queue_code) closure_code)
     (λ b. (b.buffer, b.closure))
     (λ p. record { buffer = p.0; closure = p.1 })
@@ -30,7 +30,7 @@ for_each_code {St} {Fn} {Q} stream_code closure_code queue_code =
 abbrev pub IsNewForEach : {St Fn F S : Type 0}
     → (ℕ → S → Type 0) → ℕ → St → Fn → ℕ → ForEach St Fn (Bounded F S) → Type 0
 IsNewForEach made names stream closure n b =
-    IsNewBuffer made names stream n b.buffer × (b.closure ≡ closure)
+    IsNewBuffer (IsNewSet made n names) stream b.buffer × (b.closure ≡ closure)
 
 -- the stream has ended and nothing is held
 abbrev pub IsDone : {St Fn Q : Type 0} → (Q → ℕ) → ForEach St Fn Q → Type 0

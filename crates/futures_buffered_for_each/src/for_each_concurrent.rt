@@ -7,8 +7,8 @@ ghost use Rattle.futures.specs.declared.task.Poll.{Poll};
 ghost use Rattle.futures_buffered_core.specs.Answer.{RefusesTooLarge};
 ghost use Rattle.futures_buffered_core.specs.ReadyShared.{IsNewShared};
 ghost use Rattle.futures_buffered_bounded.specs.FuturesUnorderedBounded.{Pushes, PollGives, IsWoken};
-ghost use Rattle.futures_buffered_buffers.specs.Buffered.{PollsStream};
-ghost use Rattle.futures_buffered_buffers.specs.BufferUnordered.{WaitsAt, set_len, set_room};
+ghost use Rattle.futures_buffered_buffers.specs.Buffer.{PollsStream, WaitsAt};
+ghost use Rattle.futures_buffered_buffers.specs.BufferUnordered.{SetWaitsAt, set_len, set_room};
 ghost use Rattle.futures_buffered_for_each.specs.ForEachConcurrent.{IsNewForEach, IsDone, DrawsOnce, ForEachCall, CanForEach, ForEachGives, drew_one};
 
 use futures::task::{Context, Poll};
@@ -25,13 +25,13 @@ use std::marker::Model;
 ///
 /// A contract sees the stream, or nothing once it has ended, what it sees of the set, and the closure. A poll takes no memory of its own. A stream that ended is dropped at once.
 #[derive(Drop)]
-pub struct ForEachConcurrent<St: Stream, F: Drop, Fut: Drop, S: ReadySource> {
+pub struct ForEachConcurrent<St: Drop, F: Drop, Fut: Drop, S: ReadySource> {
     stream: Option<St>,
     closure: F,
     queue: FuturesUnorderedBounded<Fut, S>,
 }
 
-impl<St: Stream, F: Drop, Fut: Drop, S: ReadySource> Model for ForEachConcurrent<St, F, Fut, S> {
+impl<St: Drop, F: Drop, Fut: Drop, S: ReadySource> Model for ForEachConcurrent<St, F, Fut, S> {
     ghost use Rattle.futures_buffered_bounded.specs.FuturesUnorderedBounded.{Bounded, bounded_code};
     ghost use Rattle.futures_buffered_for_each.specs.ForEachConcurrent.{ForEach, for_each_code};
 
@@ -50,7 +50,7 @@ impl<St: Stream, F: Drop, Fut: Drop, S: ReadySource> Model for ForEachConcurrent
     ghost invariant = { λ s. (0 < slot_count s.queue.slots) × (1 ≤ s.queue.limit) };
 }
 
-impl<St: Stream, F: Drop, Fut: Drop, S: ReadySource> ForEachConcurrent<St, F, Fut, S> {
+impl<St: Drop, F: Drop, Fut: Drop, S: ReadySource> ForEachConcurrent<St, F, Fut, S> {
     /// Over this stream and closure, with at most `n` futures at a time and a source made for them. Nothing is polled.
     ///
     /// Takes time and memory in proportion to `n`. Stream and closure are dropped where they are refused: `TooLarge` where `n` is above `MAX_CAPACITY`, and `Memory` where a request for memory was refused.
@@ -95,7 +95,7 @@ impl<St: Stream, F: Drop, Fut: Drop, S: ReadySource> ForEachConcurrent<St, F, Fu
     }
 }
 
-impl<St: Stream, F: Drop, Fut: Drop> ForEachConcurrent<St, F, Fut, SharedReady> {
+impl<St: Drop, F: Drop, Fut: Drop> ForEachConcurrent<St, F, Fut, SharedReady> {
     /// As `over_limit`, with a shared source, whose futures are woken from any thread.
     pub fn with_limit(
         alloc: Global,
@@ -175,7 +175,7 @@ impl<
 
     ghost can_poll = { CanForEach St.can_poll St.yields F.pre (Calls F.FnMut) Fut.can_poll };
 
-    ghost needs = { λ b. WaitsAt St.needs S.needs b.buffer };
+    ghost needs = { λ b. WaitsAt St.needs (SetWaitsAt S.needs) set_len set_room b.buffer };
 
     ghost gives = { ForEachGives St.yields };
 
@@ -198,7 +198,8 @@ impl<
         ensures same { OnPending result
             (ForEachGives St.yields self.new tt → ForEachGives St.yields self.old tt) }
         ensures registered { OnPending result
-            (Covers cx.new (WaitsAt St.needs S.needs self.new.buffer)) }
+            (Covers cx.new
+            (WaitsAt St.needs (SetWaitsAt S.needs) set_len set_room self.new.buffer)) }
         ensures kept { Keeps cx.old cx.new }
     {
         'turns: for _turn in 0..self.turn_limit() {

@@ -1,2 +1,1 @@
-pub mod TryBufferUnorderedLemmas
-pub mod TryBufferedOrderedLemmas
+pub mod TryBufferLemmas

@@ -1,3 +1,1 @@
-pub mod TryBuffered
-pub mod TryBufferUnordered
-pub mod TryBufferedOrdered
+pub mod TryBuffer

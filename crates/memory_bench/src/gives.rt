@@ -195,18 +195,10 @@ impl<S: ReadySource> Gives for TryBufferUnordered<Listed<Result<Attempt, u64>>, 
     }
 }
 
-fn poll_ordered_try_buffer<St, F, T, E, S: ReadySource>(
+fn poll_ordered_try_buffer<S: ReadySource>(
     task: &MockTask,
-    buffer: &mut TryBufferedOrdered<St, F, S>,
-) -> Poll<Option<Result<T, E>>>
-where
-    St: Stream<Item = Result<F, E>>,
-    F: SlotFuture<S::Waker, Output = Result<T, E>>,
-    T: Drop,
-    E: Drop,
-    requires streams { (stream : St) → St.can_poll stream }
-    requires items { (future : F) → F.can_poll future }
-{
+    buffer: &mut TryBufferedOrdered<Listed<Result<Attempt, u64>>, Attempt, S>,
+) -> Poll<Option<Result<u64, u64>>> {
     task.enter(|cx| buffer.poll_next(cx))
 }
 

@@ -1,7 +1,7 @@
 use Rattle.std.proofs.Common.{rules, ◌≡◌, ◌<◌, Option, Some, None, [], refl}
 use Rattle.futures.specs.Runs.{Calls}
 use Rattle.futures_buffered_bounded.specs.FuturesUnorderedBounded.{Pushes}
-use Rattle.futures_buffered_buffers.specs.Buffered.{PollsStream}
+use Rattle.futures_buffered_buffers.specs.Buffer.{PollsStream}
 use Rattle.futures_buffered_buffers.specs.BufferUnordered.{set_len, set_room}
 use Rattle.futures_buffered_for_each.proofs.ForEachConcurrentLemmas.{draws_item, draws_end, draws_pending, each_item_can, each_pending_can, item_ends}
 use Rattle.futures_buffered_for_each.proofs.for_each_concurrent.ForEachConcurrent.draw.Goals as goal

@@ -1,12 +1,12 @@
 use Rattle.std.proofs.Common.{rules, ◌≡◌, ◌<◌, Option, Some, None, List, [], ◌∷◌, ◌++◌, length, true, false, refl, sym, inl, inr, ◌∙◌, ap, arith}
 use Rattle.futures.specs.declared.task.Poll.TheVariants.{Ready, Pending}
-use Rattle.futures_buffered_buffers.proofs.BufferUnorderedLemmas.{none_is}
+use Rattle.futures_buffered_buffers.proofs.BufferLemmas.{none_is}
 use Rattle.std.proofs.lemmas.Fn.{FoldsTo-push}
 use Rattle.std.proofs.lemmas.List.{length_push}
 use Rattle.futures.proofs.SentLemmas.{AllByRecursion-push}
 use Rattle.futures.specs.Runs.{Calls}
 use Rattle.futures_buffered_bounded.specs.FuturesUnorderedBounded.{Bounded, IsWoken, Pushes, PollGives}
-use Rattle.futures_buffered_buffers.specs.Buffered.{PollsStream}
+use Rattle.futures_buffered_buffers.specs.Buffer.{PollsStream}
 use Rattle.futures_buffered_buffers.specs.BufferUnordered.{set_len, set_room}
 use Rattle.futures_buffered_for_each.specs.ForEachConcurrent.{ForEach, TurnGives, goes_on, gave_one}
 use Rattle.futures_buffered_for_each.proofs.ForEachConcurrentLemmas.{still_held, none_drew, some_not_none, goes_if_drew, goes_if_gave, stops, turn_of, last_call, full_call}

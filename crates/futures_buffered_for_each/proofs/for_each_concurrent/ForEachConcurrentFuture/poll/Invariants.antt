@@ -3,7 +3,7 @@ use Rattle.std.specs.List.{FoldsTo, AllByRecursion}
 use Rattle.futures.specs.Task.{Keeps}
 use Rattle.futures.specs.Runs.{Calls}
 use Rattle.futures_buffered_bounded.specs.FuturesUnorderedBounded.{Pushes, PollGives}
-use Rattle.futures_buffered_buffers.specs.Buffered.{PollsStream}
+use Rattle.futures_buffered_buffers.specs.Buffer.{PollsStream}
 use Rattle.futures_buffered_buffers.specs.BufferUnordered.{set_len, set_room}
 use Rattle.futures_buffered_for_each.specs.ForEachConcurrent.{Turn, TurnGives, CanForEach, ForEachGives, goes_on}
 use Rattle.futures_buffered_for_each.proofs.for_each_concurrent.ForEachConcurrentFuture.poll.Given as goal

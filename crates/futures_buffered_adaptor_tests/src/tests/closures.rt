@@ -1,0 +1,99 @@
+// Streams that contain a closure, under each adaptor.
+use crate::ready_at_once::ReadyAtOnce;
+use crate::same::assert_same;
+use futures::executor::block_on;
+use futures::task::Poll;
+use futures::{StreamExt, stream};
+use futures_buffered::{BufferedStreamExt, BufferedTryStreamExt, SlotFuture, WakesSlot};
+use std::sync::Arc;
+use std::sync::atomic::AtomicU64;
+use std::sync::atomic::Ordering::SeqCst;
+use std::test::Fail;
+
+// Gives the double of its number at its first poll.
+#[derive(Drop)]
+struct Double(u64);
+
+impl<W: WakesSlot> SlotFuture<W> for Double {
+    type Output = u64;
+
+    fn poll(&mut self, _waker: &W) -> Poll<u64> {
+        Poll::Ready(self.0.wrapping_mul(2))
+    }
+}
+
+// The same, as a result.
+#[derive(Drop)]
+struct TryDouble(u64);
+
+impl<W: WakesSlot> SlotFuture<W> for TryDouble {
+    type Output = Result<u64, u64>;
+
+    fn poll(&mut self, _waker: &W) -> Poll<Result<u64, u64>> {
+        Poll::Ready(Ok(self.0.wrapping_mul(2)))
+    }
+}
+
+// The error of two, and a future of each other number.
+fn fails_at_two(number: u64) -> Result<TryDouble, u64> {
+    if number == 2 {
+        return Err(number);
+    }
+    Ok(TryDouble(number))
+}
+
+#[test]
+fn a_map_under_buffered_ordered(rt: HostRuntime) -> Result<(), Fail> {
+    let numbers = vec![in rt.alloc(); 1, 2, 3]?;
+    let futures = stream::iter(numbers).map(|number| Double(number));
+    let outputs = futures.buffered_ordered(rt.alloc(), 2)?;
+    let outputs = block_on(&rt, outputs.collect(rt.alloc()))??;
+    assert_same(&rt, outputs.as_slice(), [2, 4, 6].as_slice());
+    Ok(())
+}
+
+#[test]
+fn a_map_under_buffered_unordered(rt: HostRuntime) -> Result<(), Fail> {
+    let numbers = vec![in rt.alloc(); 1, 2, 3]?;
+    let futures = stream::iter(numbers).map(|number| Double(number));
+    let outputs = futures.buffered_unordered(rt.alloc(), 2)?;
+    let outputs = block_on(&rt, outputs.collect(rt.alloc()))??;
+    assert_same(&rt, outputs.as_slice(), [2, 4, 6].as_slice());
+    Ok(())
+}
+
+#[test]
+fn a_map_under_try_buffered_ordered(rt: HostRuntime) -> Result<(), Fail> {
+    let numbers = vec![in rt.alloc(); 1, 2, 3]?;
+    let futures = stream::iter(numbers).map(|number| fails_at_two(number));
+    let outputs = futures.try_buffered_ordered(rt.alloc(), 2)?;
+    let outputs = block_on(&rt, outputs.collect(rt.alloc()))??;
+    assert_same(&rt, outputs.as_slice(), [Err(2), Ok(2), Ok(6)].as_slice());
+    Ok(())
+}
+
+#[test]
+fn a_map_under_try_buffered_unordered(rt: HostRuntime) -> Result<(), Fail> {
+    let numbers = vec![in rt.alloc(); 1, 2, 3]?;
+    let futures = stream::iter(numbers).map(|number| fails_at_two(number));
+    let outputs = futures.try_buffered_unordered(rt.alloc(), 2)?;
+    let outputs = block_on(&rt, outputs.collect(rt.alloc()))??;
+    assert_same(&rt, outputs.as_slice(), [Err(2), Ok(2), Ok(6)].as_slice());
+    Ok(())
+}
+
+#[test]
+fn a_map_under_for_each_concurrent(rt: HostRuntime) -> Result<(), Fail> {
+    let sum = Arc::new(rt.alloc(), AtomicU64::new(0))?;
+    let summed = Arc::try_clone(&sum)?;
+    let numbers = vec![in rt.alloc(); 1, 2, 3]?;
+    let doubles = stream::iter(numbers).map(|number: u64| number.wrapping_mul(2));
+    let call = move |double: u64| {
+        summed.fetch_add(double, SeqCst);
+        ReadyAtOnce
+    };
+    let each = BufferedStreamExt::for_each_concurrent(doubles, rt.alloc(), 2, call)?;
+    block_on(&rt, each)?;
+    assert_same(&rt, sum.load(SeqCst), 12);
+    Ok(())
+}
