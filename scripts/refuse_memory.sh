@@ -13,7 +13,7 @@
 set -u
 cd "$(dirname "$0")/../crates/refused_memory" || exit 2
 own=8
-requests=1164
+requests=1148
 beyond=6
 runs=$((requests + beyond))
 work=$(mktemp -d) || exit 2

@@ -1,6 +1,6 @@
 //! A file whose lines a thread counts.
 use futures::task::Poll;
-use futures_buffered::{SlotFuture, SlotWake, SlotWaker};
+use futures_buffered::{SharedWaker, SlotFuture, SlotWaker};
 use std::rt::Files;
 use std::thread::{JoinHandle, Threads};
 use std::{fs, io, thread};
@@ -31,7 +31,7 @@ impl<T: Threads + Drop> Counting<T> {
     }
 
     // The thread wakes the slot as the last thing that it does, so the join of the next poll is short.
-    fn start(&self, waker: &SlotWake) -> io::Result<JoinHandle<io::Result<usize>>> {
+    fn start(&self, waker: &SharedWaker) -> io::Result<JoinHandle<io::Result<usize>>> {
         let files = self.files;
         let path = self.path.clone()?;
         let waker = waker.try_clone()?;
@@ -43,10 +43,10 @@ impl<T: Threads + Drop> Counting<T> {
     }
 }
 
-impl<T: Threads + Drop> SlotFuture<SlotWake> for Counting<T> {
+impl<T: Threads + Drop> SlotFuture<SharedWaker> for Counting<T> {
     type Output = io::Result<usize>;
 
-    fn poll(&mut self, waker: &SlotWake) -> Poll<io::Result<usize>> {
+    fn poll(&mut self, waker: &SharedWaker) -> Poll<io::Result<usize>> {
         if let Some(thread) = self.thread.take() {
             return Poll::Ready(thread.join(&self.threads));
         }

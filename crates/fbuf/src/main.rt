@@ -1,11 +1,11 @@
 //! `fbuf` answers scripts over the sets of futures_buffered, or runs threads that wake the slots of
 //! one set.
 //!
-//! [`fbuf_calls::program_words`] is the program as a function of its words.
+//! [`fbuf_program::program_words`] is the program as a function of its words.
 #![tactic(auto)]
 
-use fbuf_calls::program_words::run_words;
-use fbuf_calls::watched::Watched;
+use fbuf_program::program_words::run_words;
+use fbuf_program::watched::Watched;
 use std::env;
 use std::process::ExitCode;
 

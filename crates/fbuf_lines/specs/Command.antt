@@ -5,25 +5,27 @@ use Rattle.std.specs.Borrow.{Bor}
 use Rattle.std.specs.List.{AllByRecursion, flat_map, list_any}
 use Rattle.std.specs.Fmt.{decimal}
 use Rattle.fbuf_lines.specs.declared.command.Command.{Command}
-use Rattle.fbuf_lines.specs.declared.command.Command.TheVariants.{Unordered, Ordered, Growing, Steps, Limit}
-use Rattle.fbuf_lines.specs.declared.command.Command.TheVariants.{Push, Back, Front, Wake, Poll, Len, Mark, Go, Step}
+use Rattle.fbuf_lines.specs.declared.command.Command.TheVariants.{Unordered, Ordered, Growing}
+use Rattle.fbuf_lines.specs.declared.command.Command.TheVariants.{Steps, Limit}
+use Rattle.fbuf_lines.specs.declared.command.Command.TheVariants.{Push, Back, Front, Wake, Poll}
+use Rattle.fbuf_lines.specs.declared.command.Command.TheVariants.{Len, Mark, Go, Step}
 
 -- the word that a command begins with
-abbrev pub word_of : Command → List ℕ
-word_of (Unordered capacity) = codes "unordered"
-word_of (Ordered capacity) = codes "ordered"
-word_of (Growing capacity) = codes "growing"
-word_of (Steps capacity) = codes "steps"
-word_of (Limit limit) = codes "limit"
-word_of (Push future) = codes "push"
-word_of (Back future) = codes "back"
-word_of (Front future) = codes "front"
-word_of (Wake slot) = codes "wake"
-word_of Poll = codes "poll"
-word_of Len = codes "len"
-word_of (Mark seat slot) = codes "mark"
-word_of (Go seat) = codes "go"
-word_of Step = codes "step"
+abbrev pub command_word : Command → List ℕ
+command_word (Unordered capacity) = codes "unordered"
+command_word (Ordered capacity) = codes "ordered"
+command_word (Growing capacity) = codes "growing"
+command_word (Steps capacity) = codes "steps"
+command_word (Limit limit) = codes "limit"
+command_word (Push future) = codes "push"
+command_word (Back future) = codes "back"
+command_word (Front future) = codes "front"
+command_word (Wake slot) = codes "wake"
+command_word Poll = codes "poll"
+command_word Len = codes "len"
+command_word (Mark seat slot) = codes "mark"
+command_word (Go seat) = codes "go"
+command_word Step = codes "step"
 
 -- its numbers, in the order in which they are written
 abbrev pub numbers_of : Command → List ℕ
@@ -48,7 +50,7 @@ spaced_number n = 32 ∷ decimal n
 
 -- a word, and for each number one space and the number
 abbrev pub text_of : Command → List ℕ
-text_of command = word_of command ++ flat_map spaced_number (numbers_of command)
+text_of command = command_word command ++ flat_map spaced_number (numbers_of command)
 
 -- each number has at most 64 bits
 abbrev pub IsWritable : Command → Type 0

@@ -2,4 +2,8 @@ pub mod Lines
 pub mod Timed
 pub mod Command
 pub mod Reply
+pub mod BoundedLines
+pub mod OrderedLines
+pub mod GrowingLines
+pub mod MachineLines
 pub mod Object

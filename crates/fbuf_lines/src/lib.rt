@@ -8,11 +8,16 @@
 //! - `timed`: `Timed`, the future of a script, pending a number of times and then a number.
 //! - `command`: `Command`, what a line asks for, and `parse`, which reads it.
 //! - `reply`: `Reply`, what a line is answered, and how it is written.
+//! - `bounded_lines`, `ordered_lines`, `growing_lines`, `machine_lines`: commands to an object of each kind.
 //! - `object`: `Stage`, how far a script has come, and `answer`, what one line does to it.
 #![tactic(auto)]
 
+pub mod bounded_lines;
 pub mod command;
+pub mod growing_lines;
 pub mod lines;
+mod machine_lines;
 pub mod object;
+pub mod ordered_lines;
 pub mod reply;
 pub mod timed;

@@ -1,8 +1,8 @@
 //! Calls of the program by their words, and what each reads, writes and ends with.
 use crate::fakes::{Sink, Source};
 use crate::same::assert_same;
-use fbuf_calls::program_words::run_words;
-use fbuf_calls::watched::Watched;
+use fbuf_program::program_words::run_words;
+use fbuf_program::watched::Watched;
 use std::alloc::{AllocError, AllocGlobal, Global};
 use std::env::Args;
 use std::io;

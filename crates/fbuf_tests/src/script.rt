@@ -1,8 +1,8 @@
 //! Scripts and their replies, and readers and writers that fail.
 use crate::fakes::{Sink, Source};
 use crate::same::assert_same;
-use fbuf_calls::script::{ScriptFault, script};
-use fbuf_calls::watched::Watched;
+use fbuf_program::script::{ScriptFault, script};
+use fbuf_program::watched::Watched;
 use futures::test::MockTask;
 use std::alloc::AllocGlobal;
 use std::process::Abort;

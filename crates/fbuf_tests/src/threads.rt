@@ -2,7 +2,7 @@
 ghost use Rattle.std.specs.Prelude.{◌<◌};
 
 use crate::same::assert_same;
-use fbuf_calls::threads::{Gate, OpenGate, threads_run};
+use fbuf_program::threads::{Gate, OpenGate, threads_run};
 use std::alloc::{AllocError, Global};
 use std::sync::Arc;
 use std::sync::atomic::AtomicU64;

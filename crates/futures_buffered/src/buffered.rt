@@ -1,22 +1,22 @@
 //! Adaptors of a stream of futures, as methods of the stream.
 //!
 //! Each is its type's `over` with a shared source, so that what it holds is woken from any thread.
+ghost use Rattle.futures_buffered_unordered_bounded.specs.FuturesUnorderedBounded.{IsNewSet};
 ghost use Rattle.std.specs.Prelude.{◌<◌, IfOk};
 ghost use Rattle.futures_buffered_core.specs.Answer.{RefusesTooLarge};
 ghost use Rattle.futures_buffered_core.specs.ReadyShared.{IsNewShared};
-ghost use Rattle.futures_buffered_ordered.specs.FuturesOrderedBounded.{IsNewQueue};
-ghost use Rattle.futures_buffered_buffers.specs.Buffer.{IsNewBuffer};
-ghost use Rattle.futures_buffered_buffers.specs.BufferUnordered.{IsNewSet};
-ghost use Rattle.futures_buffered_for_each.specs.ForEachConcurrent.{IsNewForEach};
+ghost use Rattle.futures_buffered_adaptors.specs.Buffer.{IsNewBuffer};
+ghost use Rattle.futures_buffered_ordered.specs.FuturesOrderedBounded.{IsNewBoundedQueue};
+ghost use Rattle.futures_buffered_adaptors.specs.ForEachConcurrent.{IsNewForEach};
 
 use futures::Stream;
-use futures_buffered_bounded::SlotFuture;
-use futures_buffered_bounded::futures_unordered_bounded::POLL_LIMIT;
-pub use futures_buffered_buffers::buffer_unordered::BufferUnordered;
-pub use futures_buffered_buffers::buffered_ordered::BufferedOrdered;
+pub use futures_buffered_adaptors::buffer_unordered::BufferUnordered;
+pub use futures_buffered_adaptors::buffered_ordered::BufferedOrdered;
+pub use futures_buffered_adaptors::for_each_concurrent::ForEachConcurrent;
 use futures_buffered_core::ready_core::NewFault;
-use futures_buffered_core::ready_shared::{SharedReady, SlotWake};
-pub use futures_buffered_for_each::for_each_concurrent::ForEachConcurrent;
+use futures_buffered_core::ready_shared::{SharedReady, SharedWaker};
+use futures_buffered_unordered_bounded::SlotFuture;
+use futures_buffered_unordered_bounded::futures_unordered_bounded::POLL_LIMIT;
 use std::alloc::Global;
 
 /// Adaptors that keep some futures of a stream in progress.
@@ -31,11 +31,11 @@ pub trait BufferedStreamExt: Stream {
     ) -> Result<BufferedOrdered<Self, SharedReady>, NewFault>
     where
         Self: Sized,
-        Self::Item: SlotFuture<SlotWake>,
-        <Self::Item as SlotFuture<SlotWake>>::Output: Drop,
+        Self::Item: SlotFuture<SharedWaker>,
+        <Self::Item as SlotFuture<SharedWaker>>::Output: Drop,
         requires { 0 < n }
         ensures new { IfOk result
-            (IsNewBuffer (IsNewQueue IsNewShared n POLL_LIMIT) self) }
+            (IsNewBuffer (IsNewBoundedQueue IsNewShared n POLL_LIMIT) self) }
         ensures refuses { RefusesTooLarge n result }
     {
         BufferedOrdered::over(&(), alloc, self, n)
@@ -51,7 +51,7 @@ pub trait BufferedStreamExt: Stream {
     ) -> Result<BufferUnordered<Self, SharedReady>, NewFault>
     where
         Self: Sized,
-        Self::Item: SlotFuture<SlotWake>,
+        Self::Item: SlotFuture<SharedWaker>,
         requires { 0 < n }
         ensures new { IfOk result
             (IsNewBuffer (IsNewSet IsNewShared n POLL_LIMIT) self) }
@@ -74,7 +74,7 @@ pub trait BufferedStreamExt: Stream {
     where
         Self: Sized,
         F: FnMut(Self::Item) -> Fut + Drop,
-        Fut: SlotFuture<SlotWake, Output = ()>,
+        Fut: SlotFuture<SharedWaker, Output = ()>,
         requires { 0 < limit }
         ensures new { IfOk result (IsNewForEach IsNewShared POLL_LIMIT self f limit) }
         ensures refuses { RefusesTooLarge limit result }

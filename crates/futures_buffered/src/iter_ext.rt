@@ -4,21 +4,23 @@ ghost use Rattle.std.specs.Iterator.{IsFiniteIterable};
 ghost use Rattle.futures_buffered_core.specs.Drawn.{Draws, DrawsMoreThan};
 ghost use Rattle.futures_buffered_core.specs.ReadyShared.{IsNewShared, MarksShared, Shared};
 ghost use Rattle.futures_buffered_core.specs.SlotMap.{slot_count};
-ghost use Rattle.futures_buffered_bounded.specs.FuturesUnorderedBounded.{HoldsEach};
-ghost use Rattle.futures_buffered_growing.specs.FuturesUnordered.{Growing, IsNewGrowing, PushesEach, no_groups};
+ghost use Rattle.futures_buffered_unordered_bounded.specs.FuturesUnorderedBounded.{HoldsEach};
+ghost use Rattle.futures_buffered_unordered.specs.SlotGroups.{Growing, IsNewGrowing, PushesEach, no_groups};
 ghost use Rattle.futures_buffered_joins.specs.Joining.{IsNewJoin};
+ghost use Rattle.futures_buffered_ordered.specs.OrderedEntries.{AddsEachBack};
 ghost use Rattle.futures_buffered_ordered.specs.FuturesOrderedBounded.{HoldsInOrder};
-ghost use Rattle.futures_buffered_ordered_growing.specs.FuturesOrdered.{AddsEachBack, IsNewQueue, Ordered};
+ghost use Rattle.futures_buffered_ordered.specs.FuturesOrdered.{IsNewGrowingQueue, OrderedGrowing, GrowingPushesNumber};
 
-use futures_buffered_bounded::SlotFuture;
-use futures_buffered_bounded::futures_unordered_bounded::{FuturesUnorderedBounded, POLL_LIMIT};
 use futures_buffered_core::ready_core::{MAX_CAPACITY, NewFault};
-use futures_buffered_core::ready_shared::{SharedReady, SlotWake};
-use futures_buffered_growing::futures_unordered::{FIRST_GROUP, FuturesUnordered};
+use futures_buffered_core::ready_shared::{SharedReady, SharedWaker};
 use futures_buffered_joins::{JoinAll, TryJoinAll};
 use futures_buffered_merges::{MergeBounded, MergeUnbounded, SlotStream};
-use futures_buffered_ordered::futures_ordered_bounded::FuturesOrderedBounded;
-use futures_buffered_ordered_growing::FuturesOrdered;
+use futures_buffered_ordered::{FuturesOrdered, FuturesOrderedBounded};
+use futures_buffered_unordered::futures_unordered::{FIRST_GROUP, FuturesUnordered};
+use futures_buffered_unordered_bounded::SlotFuture;
+use futures_buffered_unordered_bounded::futures_unordered_bounded::{
+    FuturesUnorderedBounded, POLL_LIMIT,
+};
 use std::alloc::Global;
 
 /// Sets, joins and merges of what an iterator gives, where it ends.
@@ -32,7 +34,7 @@ pub trait IterExt: IntoIterator {
     ) -> Result<FuturesUnorderedBounded<Self::Item, SharedReady>, NewFault>
     where
         Self: Sized,
-        Self::Item: SlotFuture<SlotWake>,
+        Self::Item: SlotFuture<SharedWaker>,
         requires { IsFiniteIterable Self.into_iter_gives Self.IntoIter.can_next
             Self.IntoIter.remaining self }
         ensures holds { IfOk result (λ set. (items : List Self.Item)
@@ -54,7 +56,7 @@ pub trait IterExt: IntoIterator {
     ) -> Result<FuturesUnordered<Self::Item, SharedReady>, NewFault>
     where
         Self: Sized,
-        Self::Item: SlotFuture<SlotWake>,
+        Self::Item: SlotFuture<SharedWaker>,
         requires { IsFiniteIterable Self.into_iter_gives Self.IntoIter.can_next
             Self.IntoIter.remaining self }
         ensures holds { IfOk result (λ set. (items : List Self.Item) × (least : ℕ)
@@ -75,8 +77,8 @@ pub trait IterExt: IntoIterator {
     ) -> Result<FuturesOrderedBounded<Self::Item, SharedReady>, NewFault>
     where
         Self: Sized,
-        Self::Item: SlotFuture<SlotWake>,
-        <Self::Item as SlotFuture<SlotWake>>::Output: Drop,
+        Self::Item: SlotFuture<SharedWaker>,
+        <Self::Item as SlotFuture<SharedWaker>>::Output: Drop,
         requires { IsFiniteIterable Self.into_iter_gives Self.IntoIter.can_next
             Self.IntoIter.remaining self }
         ensures holds { IfOk result (λ q. (items : List Self.Item)
@@ -98,15 +100,15 @@ pub trait IterExt: IntoIterator {
     ) -> Result<FuturesOrdered<Self::Item, SharedReady>, NewFault>
     where
         Self: Sized,
-        Self::Item: SlotFuture<SlotWake>,
-        <Self::Item as SlotFuture<SlotWake>>::Output: Drop,
+        Self::Item: SlotFuture<SharedWaker>,
+        <Self::Item as SlotFuture<SharedWaker>>::Output: Drop,
         requires { IsFiniteIterable Self.into_iter_gives Self.IntoIter.can_next
             Self.IntoIter.remaining self }
         ensures holds { IfOk result (λ q. (items : List Self.Item) × (least : ℕ)
-            × ((start : Ordered Self.Item Self.Item.Output Shared)
+            × ((start : OrderedGrowing Self.Item Self.Item.Output Shared)
             × Draws Self.into_iter_gives Self.IntoIter.next_gives self items
-            × IsNewQueue IsNewShared (max least FIRST_GROUP) POLL_LIMIT start
-            × AddsEachBack MarksShared IsNewShared start items q)) }
+            × IsNewGrowingQueue IsNewShared (max least FIRST_GROUP) POLL_LIMIT start
+            × AddsEachBack (GrowingPushesNumber MarksShared IsNewShared) start items q)) }
     {
         FuturesOrdered::from_iter(alloc, self)
     }
@@ -117,8 +119,8 @@ pub trait IterExt: IntoIterator {
     final fn join_all(self, alloc: Global) -> Result<JoinAll<Self::Item, SharedReady>, NewFault>
     where
         Self: Sized,
-        Self::Item: SlotFuture<SlotWake>,
-        <Self::Item as SlotFuture<SlotWake>>::Output: Drop,
+        Self::Item: SlotFuture<SharedWaker>,
+        <Self::Item as SlotFuture<SharedWaker>>::Output: Drop,
         requires { IsFiniteIterable Self.into_iter_gives Self.IntoIter.can_next
             Self.IntoIter.remaining self }
         ensures waits_for { IfOk result (λ join. (items : List Self.Item)
@@ -141,7 +143,7 @@ pub trait IterExt: IntoIterator {
     ) -> Result<TryJoinAll<Self::Item, SharedReady>, NewFault>
     where
         Self: Sized,
-        Self::Item: SlotFuture<SlotWake, Output = Result<T, E>>,
+        Self::Item: SlotFuture<SharedWaker, Output = Result<T, E>>,
         T: Drop,
         requires { IsFiniteIterable Self.into_iter_gives Self.IntoIter.can_next
             Self.IntoIter.remaining self }
@@ -162,7 +164,7 @@ pub trait IterExt: IntoIterator {
     final fn merge(self, alloc: Global) -> Result<MergeBounded<Self::Item, SharedReady>, NewFault>
     where
         Self: Sized,
-        Self::Item: SlotStream<SlotWake>,
+        Self::Item: SlotStream<SharedWaker>,
         requires { IsFiniteIterable Self.into_iter_gives Self.IntoIter.can_next
             Self.IntoIter.remaining self }
         ensures holds { IfOk result (λ merge. (streams : List Self.Item)
@@ -184,7 +186,7 @@ pub trait IterExt: IntoIterator {
     ) -> Result<MergeUnbounded<Self::Item, SharedReady>, NewFault>
     where
         Self: Sized,
-        Self::Item: SlotStream<SlotWake>,
+        Self::Item: SlotStream<SharedWaker>,
         requires { IsFiniteIterable Self.into_iter_gives Self.IntoIter.can_next
             Self.IntoIter.remaining self }
         ensures holds { IfOk result (λ merge. (streams : List Self.Item)

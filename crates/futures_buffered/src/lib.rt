@@ -21,31 +21,28 @@ pub mod iter_ext;
 pub mod try_buffered;
 
 pub use buffered::{BufferUnordered, BufferedOrdered, BufferedStreamExt, ForEachConcurrent};
-pub use futures_buffered_buffers::{
-    Buffer, FutureQueue, NewQueue, OrderedQueue, UnorderedQueue, buffer, buffer_unordered,
-    buffered_ordered, future_queue,
+pub use futures_buffered_adaptors::{
+    Buffer, FutureQueue, NewQueue, OrderedQueue, TryBuffer, UnorderedQueue, buffer,
+    buffer_unordered, buffered_ordered, for_each_concurrent, future_queue, try_buffer,
+    try_buffer_unordered, try_buffered_ordered,
 };
 pub use futures_buffered_core::core_source::CoreSource;
 pub use futures_buffered_core::ready_core::{
     Event, MAX_CAPACITY, NewFault, ReadyCore, Reply, RunFault, Taken, Woke, run,
 };
-pub use futures_buffered_core::ready_shared::{SharedReady, SlotWake};
+pub use futures_buffered_core::ready_shared::{SharedReady, SharedWaker};
 pub use futures_buffered_core::ready_source::{NewSource, ReadySource};
 pub use futures_buffered_core::script_source::ScriptSource;
 pub use futures_buffered_core::slot_map::PinSlotMap;
 pub use futures_buffered_core::{
     core_source, ready_core, ready_shared, ready_source, ready_table, script_source, slot_map,
 };
-pub use futures_buffered_for_each::for_each_concurrent;
 pub use futures_buffered_sets::{
     FusedFuture, FusedStream, FuturesOrdered, FuturesOrderedBounded, FuturesUnordered,
-    FuturesUnorderedBounded, JoinAll, Merge, MergeBounded, MergeUnbounded, PollFuture, PollOne,
-    PollStream, SizeHint, SlotFuture, SlotStream, SlotWaker, TryJoinAll, WakesSlot, fused,
+    FuturesUnorderedBounded, JoinAll, Merge, MergeBounded, MergeUnbounded, NamesSlot, PollFuture,
+    PollOne, PollStream, SizeHint, SlotFuture, SlotStream, SlotWaker, TryJoinAll, fused,
     futures_ordered, futures_ordered_bounded, futures_unordered, futures_unordered_bounded,
     join_all, merge_bounded, merge_unbounded, poll_one, slot_future, slot_stream, try_join_all,
-};
-pub use futures_buffered_try_buffers::{
-    TryBuffer, try_buffer, try_buffer_unordered, try_buffered_ordered,
 };
 pub use iter_ext::IterExt;
 pub use try_buffered::{BufferedTryStreamExt, TryBufferUnordered, TryBufferedOrdered};

@@ -1,20 +1,20 @@
 //! Adaptors of a stream of futures and errors, as methods of the stream.
 //!
 //! Each is its type's `over` with a shared source, so that what it holds is woken from any thread.
+ghost use Rattle.futures_buffered_unordered_bounded.specs.FuturesUnorderedBounded.{IsNewSet};
 ghost use Rattle.std.specs.Prelude.{◌<◌, IfOk};
 ghost use Rattle.futures_buffered_core.specs.Answer.{RefusesTooLarge};
 ghost use Rattle.futures_buffered_core.specs.ReadyShared.{IsNewShared};
-ghost use Rattle.futures_buffered_ordered.specs.FuturesOrderedBounded.{IsNewQueue};
-ghost use Rattle.futures_buffered_buffers.specs.Buffer.{IsNewBuffer};
-ghost use Rattle.futures_buffered_buffers.specs.BufferUnordered.{IsNewSet};
+ghost use Rattle.futures_buffered_adaptors.specs.Buffer.{IsNewBuffer};
+ghost use Rattle.futures_buffered_ordered.specs.FuturesOrderedBounded.{IsNewBoundedQueue};
 
 use futures::Stream;
-use futures_buffered_bounded::SlotFuture;
-use futures_buffered_bounded::futures_unordered_bounded::POLL_LIMIT;
+pub use futures_buffered_adaptors::try_buffer_unordered::TryBufferUnordered;
+pub use futures_buffered_adaptors::try_buffered_ordered::TryBufferedOrdered;
 use futures_buffered_core::ready_core::NewFault;
-use futures_buffered_core::ready_shared::{SharedReady, SlotWake};
-pub use futures_buffered_try_buffers::try_buffer_unordered::TryBufferUnordered;
-pub use futures_buffered_try_buffers::try_buffered_ordered::TryBufferedOrdered;
+use futures_buffered_core::ready_shared::{SharedReady, SharedWaker};
+use futures_buffered_unordered_bounded::SlotFuture;
+use futures_buffered_unordered_bounded::futures_unordered_bounded::POLL_LIMIT;
 use std::alloc::Global;
 
 /// Adaptors that keep some futures of a stream in progress, where the stream gives errors as well.
@@ -29,12 +29,12 @@ pub trait BufferedTryStreamExt: Stream {
     ) -> Result<TryBufferedOrdered<Self, F, SharedReady>, NewFault>
     where
         Self: Stream<Item = Result<F, E>> + Sized,
-        F: SlotFuture<SlotWake, Output = Result<T, E>>,
+        F: SlotFuture<SharedWaker, Output = Result<T, E>>,
         T: Drop,
         E: Drop,
         requires { 0 < n }
         ensures new { IfOk result
-            (IsNewBuffer (IsNewQueue IsNewShared n POLL_LIMIT) self) }
+            (IsNewBuffer (IsNewBoundedQueue IsNewShared n POLL_LIMIT) self) }
         ensures refuses { RefusesTooLarge n result }
     {
         TryBufferedOrdered::over(&(), alloc, self, n)
@@ -50,7 +50,7 @@ pub trait BufferedTryStreamExt: Stream {
     ) -> Result<TryBufferUnordered<Self, F, SharedReady>, NewFault>
     where
         Self: Stream<Item = Result<F, E>> + Sized,
-        F: SlotFuture<SlotWake, Output = Result<T, E>>,
+        F: SlotFuture<SharedWaker, Output = Result<T, E>>,
         requires { 0 < n }
         ensures new { IfOk result
             (IsNewBuffer (IsNewSet IsNewShared n POLL_LIMIT) self) }

@@ -1,6 +1,6 @@
 //! A stream of numbers, to be held by a merge.
 use futures::task::Poll;
-use futures_buffered::{SlotStream, WakesSlot};
+use futures_buffered::{NamesSlot, SlotStream};
 
 /// Gives `left`, and each number below it down to one, each at once. Then it ends.
 #[derive(Clone, Copy, Debug, PartialEq, Eq)]
@@ -8,7 +8,7 @@ pub struct Countdown {
     pub left: u64,
 }
 
-impl<W: WakesSlot> SlotStream<W> for Countdown {
+impl<W: NamesSlot> SlotStream<W> for Countdown {
     type Item = u64;
 
     fn poll_next(&mut self, _waker: &W) -> Poll<Option<u64>> {

@@ -3,8 +3,6 @@
 #![tactic(auto)]
 
 #[cfg(test)]
-mod cells;
-#[cfg(test)]
 mod countdown;
 #[cfg(test)]
 mod list_stream;
@@ -14,10 +12,6 @@ mod paused_end;
 mod polling;
 #[cfg(test)]
 mod ready_at_once;
-#[cfg(test)]
-mod receiver;
-#[cfg(test)]
-mod same;
 #[cfg(test)]
 mod steps;
 #[cfg(test)]

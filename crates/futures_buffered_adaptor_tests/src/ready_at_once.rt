@@ -1,11 +1,11 @@
 //! A future that is ready at its first poll.
 use futures::task::Poll;
-use futures_buffered::{SlotFuture, WakesSlot};
+use futures_buffered::{NamesSlot, SlotFuture};
 
 #[derive(Drop)]
 pub struct ReadyAtOnce;
 
-impl<W: WakesSlot> SlotFuture<W> for ReadyAtOnce {
+impl<W: NamesSlot> SlotFuture<W> for ReadyAtOnce {
     type Output = ();
 
     fn poll(&mut self, _waker: &W) -> Poll<()> {

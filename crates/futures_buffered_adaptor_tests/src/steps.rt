@@ -1,6 +1,4 @@
 //! The words of a test: what is done in each step of a row, and what that answers.
-use crate::cells::sent;
-use crate::receiver::Sender;
 use futures::task::Poll;
 use futures::test::MockTask;
 use futures_buffered::{FusedStream, SizeHint};
@@ -11,6 +9,8 @@ use std::process::Abort;
 use std::random::RandomSource;
 use std::sync::Wait;
 use std::test::Fail;
+use test_parts::cells::sent;
+use test_parts::receiver::Sender;
 
 #[derive(Clone, Copy, Debug)]
 pub enum Call<T> {

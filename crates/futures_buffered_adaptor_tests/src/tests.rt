@@ -6,3 +6,4 @@ mod iter_ext;
 mod merges;
 mod threads;
 mod try_buffered;
+mod words;

@@ -7,15 +7,15 @@ use Rattle.futures_buffered_table.specs.declared.answer.Taken.{Taken}
 use Rattle.futures_buffered_table.specs.declared.answer.Taken.TheVariants.{Slot, Empty, Pause}
 use Rattle.futures_buffered_table.specs.Taking.{CallsAtStub}
 use Rattle.futures_buffered_core.specs.ReadyCore.{IsNameBelow}
-use Rattle.futures_buffered_core.specs.ReadyShared.{SharedWaker, waker_at}
+use Rattle.futures_buffered_core.specs.ReadyShared.{WakerOfShared, waker_at}
 
 -- as many wakers as slots
-pub wakers_count : (wakers : List SharedWaker) (awaited count cap : ℕ) → count ≡ length wakers → wakers ≡ map (waker_at awaited) (range_with_len 0 cap) → count ≡ cap
+pub wakers_count : (wakers : List WakerOfShared) (awaited count cap : ℕ) → count ≡ length wakers → wakers ≡ map (waker_at awaited) (range_with_len 0 cap) → count ≡ cap
 wakers_count wakers awaited count cap counted all = counted ∙ (ap length all ∙ (length-map (range_with_len 0 cap) (waker_at awaited) ∙ length-range_with_len 0 cap))
 
 -- the waker at place i of those of the slots from 0 on
-pub waker_at_place : (wakers : List SharedWaker) (awaited n i : ℕ) (waker : SharedWaker) → wakers ≡ map (waker_at awaited) (range_with_len 0 n) → i < n → waker ≡ get_or wakers i waker → waker ≡ waker_at awaited i
-waker_at_place wakers awaited n i waker all below is = is ∙ (ap (λ (l : List SharedWaker). get_or l i waker) all ∙ get_or-map-range_with_len (waker_at awaited) 0 n i i waker below (zero-add i))
+pub waker_at_place : (wakers : List WakerOfShared) (awaited n i : ℕ) (waker : WakerOfShared) → wakers ≡ map (waker_at awaited) (range_with_len 0 n) → i < n → waker ≡ get_or wakers i waker → waker ≡ waker_at awaited i
+waker_at_place wakers awaited n i waker all below is = is ∙ (ap (λ (l : List WakerOfShared). get_or l i waker) all ∙ get_or-map-range_with_len (waker_at awaited) 0 n i i waker below (zero-add i))
 
 -- a taking that names only slots below n
 pub name_below : (n : ℕ) (taken : Taken) → ((slot : ℕ) → taken ≡ Slot slot → slot < n) → IsNameBelow n taken

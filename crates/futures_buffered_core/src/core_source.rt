@@ -3,7 +3,7 @@ ghost use Rattle.std.specs.Prelude.{◌≡◌};
 ghost use Rattle.futures_buffered_core.specs.ReadyCore.{Marks, Takes};
 
 use crate::ready_core::{NewFault, ReadyCore, Taken, Woke};
-use crate::ready_source::{NewSource, ReadySource, SlotWaker, WakesSlot};
+use crate::ready_source::{NamesSlot, NewSource, ReadySource, SlotWaker};
 use futures::task::{Context, Poll, Source, Waker};
 use std::alloc::Global;
 use std::marker::Model;
@@ -12,7 +12,7 @@ use std::marker::Model;
 #[derive(Drop)]
 pub struct Silent;
 
-impl WakesSlot for Silent {
+impl NamesSlot for Silent {
     ghost use Rattle.std.specs.Prelude.{⊤};
 
     ghost wakes = { λ _ _. ⊤ };
@@ -50,9 +50,7 @@ impl ReadySource for CoreSource {
 
     ghost marks = { Marks };
 
-    ghost takes = { Takes };
-
-    ghost registers = { λ old new. new ≡ old };
+    ghost steps = { record { registers = λ old new. new ≡ old; takes = Takes } };
 
     ghost registers_poll = { λ _ old new. IsArmed new × Keeps old new };
 

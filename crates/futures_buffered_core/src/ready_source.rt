@@ -8,7 +8,7 @@ ghost use Rattle.futures_buffered_table.specs.declared.answer.Woke.{Woke};
 ghost use Rattle.futures_buffered_table.specs.declared.answer.Taken.{Taken};
 ghost use Rattle.futures_buffered_table.specs.declared.answer.Taken.TheVariants.{Slot};
 ghost use Rattle.futures_buffered_table.specs.Answer.{RefusesTooLarge};
-ghost use Rattle.futures_buffered_core.specs.ReadySource.{WaitsAlike};
+ghost use Rattle.futures_buffered_core.specs.ReadySource.{SourceSteps, WaitsAlike};
 
 pub use crate::core_source::{CoreSource, Silent};
 use crate::ready_core::{NewFault, Taken, Woke};
@@ -17,13 +17,13 @@ use futures::task::Context;
 use std::alloc::Global;
 
 /// What a set sees of a slot's waker: which slot it wakes, and no call that wakes it. So a set can hand a waker on, and cannot use it.
-pub trait WakesSlot {
+pub trait NamesSlot {
     // The slots of which it is a waker: the one that a wake marks. A waker that does nothing is one of each slot.
     ghost wakes: { Self → ℕ → Type 0 };
 }
 
 /// Wakes one slot, any number of times, also once the set that it came from is gone.
-pub trait SlotWaker: WakesSlot {
+pub trait SlotWaker: NamesSlot {
     /// Marks the slot; where that mark was fresh, wakes the task that registered last.
     fn wake(&self);
 }
@@ -33,7 +33,7 @@ pub trait SlotWaker: WakesSlot {
 /// Beside the calls a source states what they may do: relations between its content before, the answer, and its content after. Each named slot is below the capacity, and the capacity stays: these are laws below.
 pub trait ReadySource: Drop {
     /// What wakes one slot.
-    type Waker: WakesSlot;
+    type Waker: NamesSlot;
 
     // The capacity: how many slots it has.
     ghost slots: { Self → ℕ };
@@ -41,11 +41,8 @@ pub trait ReadySource: Drop {
     // What a mark of a slot may answer, and make of the content.
     ghost marks: { Self → ℕ → Woke → Self → Type 0 };
 
-    // What a taking may answer, and make of the content.
-    ghost takes: { Self → Taken → Self → Type 0 };
-
-    // What a registration may make of the content.
-    ghost registers: { Self → Self → Type 0 };
+    // What a registration may make of the content, and what a taking may answer and make of it.
+    ghost steps: { SourceSteps Self };
 
     // What a registration may make of the context of the poll that registers.
     ghost registers_poll: { Self → Context → Context → Type 0 };
@@ -64,7 +61,7 @@ pub trait ReadySource: Drop {
 
     /// Asks for a name. Takes no memory.
     fn take(&mut self) -> Taken
-        ensures { takes self.old result self.new };
+        ensures { steps.takes self.old result self.new };
 
     /// The waker of a slot, made when the source was. Takes no memory.
     fn waker(&self, i: usize) -> &Self::Waker
@@ -73,30 +70,30 @@ pub trait ReadySource: Drop {
 
     /// Keeps the waker of the task that polls, in place of the one kept before.
     fn register(&mut self, cx: &mut Context<'_>)
-        ensures registered { registers self.old self.new }
+        ensures registered { steps.registers self.old self.new }
         ensures poll { registers_poll self.old cx.old cx.new }
         ensures covered { Covers cx.new (needs self.old) }
         ensures kept { Keeps cx.old cx.new };
 
     // A slot that is named is below the capacity.
     ghost names_below: { (old : Self) (i : ℕ) (new : Self) →
-        takes old (Slot i) new → i < slots old };
+        steps.takes old (Slot i) new → i < slots old };
 
     // The capacity stays.
     ghost mark_keeps: { (old : Self) (i : ℕ) (woke : Woke) (new : Self) →
         marks old i woke new → slots new ≡ slots old };
 
     ghost take_keeps: { (old : Self) (taken : Taken) (new : Self) →
-        takes old taken new → slots new ≡ slots old };
+        steps.takes old taken new → slots new ≡ slots old };
 
-    ghost register_keeps: { (old new : Self) → registers old new → slots new ≡ slots old };
+    ghost register_keeps: { (old new : Self) → steps.registers old new → slots new ≡ slots old };
 
     // A registration waits no longer at more places than before.
     ghost take_needs: { (old : Self) (taken : Taken) (new : Self) →
-        takes old taken new → (n : ℕ) → needs new n → needs old n };
+        steps.takes old taken new → (n : ℕ) → needs new n → needs old n };
 
     ghost register_needs: { (old new : Self) →
-        registers old new → (n : ℕ) → needs new n → needs old n };
+        steps.registers old new → (n : ℕ) → needs new n → needs old n };
 }
 
 /// A source that a set can make for itself, and to which it can add others beside it.
@@ -125,14 +122,14 @@ pub trait NewSource: ReadySource {
     ghost made_slots: { (cap : ℕ) (new : Self) → made cap new → Self.slots new ≡ cap };
 
     // A source at which nobody registers, since a source beside it did, is as after a registration.
-    ghost covered: { (s : Self) → Self.registers s s };
+    ghost covered: { (s : Self) → Self.steps.registers s s };
 
     // It waits at the same places for good, so sources that stand beside one another stay so.
     ghost mark_waits: { (old : Self) (i : ℕ) (woke : Woke) (new : Self) →
         Self.marks old i woke new → WaitsAlike Self.needs old new };
 
     ghost take_waits: { (old : Self) (taken : Taken) (new : Self) →
-        Self.takes old taken new → WaitsAlike Self.needs old new };
+        Self.steps.takes old taken new → WaitsAlike Self.needs old new };
 
-    ghost register_waits: { (old new : Self) → Self.registers old new → WaitsAlike Self.needs old new };
+    ghost register_waits: { (old new : Self) → Self.steps.registers old new → WaitsAlike Self.needs old new };
 }

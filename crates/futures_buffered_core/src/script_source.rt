@@ -74,9 +74,7 @@ impl ReadySource for ScriptSource {
 
     ghost marks = { MarksNothing };
 
-    ghost takes = { TakesNext };
-
-    ghost registers = { λ old new. new ≡ old };
+    ghost steps = { record { registers = λ old new. new ≡ old; takes = TakesNext } };
 
     ghost registers_poll = { λ _ old new. IsArmed new × Keeps old new };
 

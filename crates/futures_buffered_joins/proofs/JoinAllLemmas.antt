@@ -5,30 +5,30 @@ use Rattle.std.specs.declared.alloc.Global.{Global}
 use Rattle.futures.specs.declared.task.Poll.{Poll}
 use Rattle.futures.specs.declared.task.Poll.TheVariants.{Ready, Pending}
 use Rattle.futures.specs.Poll.{IfReady, OnPending}
-use Rattle.futures_buffered_table.specs.declared.answer.Taken.{Taken}
 use Rattle.futures_buffered_table.specs.declared.answer.Woke.{Woke}
+use Rattle.futures_buffered_core.specs.ReadySource.{SourceSteps}
 use Rattle.futures_buffered_joins.specs.Joining.{Places, MayBeAll}
 use Rattle.futures_buffered_joins.specs.JoinAll.{JoinGives, JoinMayGive, JoinsByPlace}
-use Rattle.futures_buffered_joins.proofs.GivenLemmas.{all_back, all_now, waits_back, by_place}
+use Rattle.futures_buffered_joins.proofs.JoiningGivenLemmas.{all_back, all_now, waits_back, by_place}
 
-module _ {F A S : Type 0} (polled : ℕ → F → Poll A → F → Type 0) (registers : S → S → Type 0) (takes : S → Taken → S → Type 0) where
-  pub ready_value : (old new : Option (Places F A S)) (answer : Poll (Vec A Global)) → JoinGives polled registers takes old answer new → IfReady answer (λ outputs. JoinMayGive polled old outputs.items)
+module _ {F A S : Type 0} (polled : ℕ → F → Poll A → F → Type 0) (steps : SourceSteps S) where
+  pub ready_value : (old new : Option (Places F A S)) (answer : Poll (Vec A Global)) → JoinGives polled steps old answer new → IfReady answer (λ outputs. JoinMayGive polled old outputs.items)
   ready_value None new (Ready outputs) h = h.0
   ready_value None new Pending h = absurd h
-  ready_value (Some old) new (Ready outputs) h = all_back polled registers takes (λ x. x) h.0 old h.1 outputs.items h.2 (all_now polled registers takes (λ x. x) h.1 outputs.items h.3.1)
+  ready_value (Some old) new (Ready outputs) h = all_back polled steps (λ x. x) h.0 old h.1 outputs.items h.2 (all_now polled steps (λ x. x) h.1 outputs.items h.3.1)
   ready_value (Some old) new Pending h = tt
 
-  pub pending_same : (old new : Option (Places F A S)) (answer : Poll (Vec A Global)) → JoinGives polled registers takes old answer new → OnPending answer ((outputs : List A) → JoinMayGive polled new outputs → JoinMayGive polled old outputs)
+  pub pending_same : (old new : Option (Places F A S)) (answer : Poll (Vec A Global)) → JoinGives polled steps old answer new → OnPending answer ((outputs : List A) → JoinMayGive polled new outputs → JoinMayGive polled old outputs)
   pending_same old new (Ready outputs) h = tt
   pending_same None new Pending h = absurd h
   pending_same (Some old) None Pending h = absurd h.3
-  pending_same (Some old) (Some new) Pending h = λ outputs all. all_back polled registers takes (λ x. x) h.0 old h.1 outputs h.2 (waits_back polled registers takes (λ x. x) h.1 new outputs h.3 all)
+  pending_same (Some old) (Some new) Pending h = λ outputs all. all_back polled steps (λ x. x) h.0 old h.1 outputs h.2 (waits_back polled steps (λ x. x) h.1 new outputs h.3 all)
 
-  later_back : (later : List (Places F A S)) (first last : Places F A S) (outputs : List A) → FoldsTo (λ old left new. JoinGives polled registers takes (Some old) Pending (Some left) × (new ≡ left)) first later last → MayBeAll polled (λ x. x) last outputs → MayBeAll polled (λ x. x) first outputs
+  later_back : (later : List (Places F A S)) (first last : Places F A S) (outputs : List A) → FoldsTo (λ old left new. JoinGives polled steps (Some old) Pending (Some left) × (new ≡ left)) first later last → MayBeAll polled (λ x. x) last outputs → MayBeAll polled (λ x. x) first outputs
   later_back [] first last outputs ran all = subst (λ (w : Places F A S). MayBeAll polled (λ x. x) w outputs) (sym ran) all
   later_back (left ∷ later) first last outputs ran all =
       pending_same (Some first) (Some left) Pending ran.1.0 outputs (subst (λ (w : Places F A S). MayBeAll polled (λ x. x) w outputs) ran.1.1 (later_back later ran.0 last outputs ran.2 all))
 
-  pub joins_by_place : (made : ℕ → S → Type 0) (marks : S → ℕ → Woke → S → Type 0) (names : ℕ) → JoinsByPlace polled registers takes made marks names
+  pub joins_by_place : (made : ℕ → S → Type 0) (marks : S → ℕ → Woke → S → Type 0) (names : ℕ) → JoinsByPlace polled steps made marks names
   joins_by_place made marks names items first last later outputs after new ran gives =
-      by_place polled registers takes (λ x. x) made marks names items first outputs.items new (later_back later first last outputs.items ran (ready_value (Some last) after (Ready outputs) gives))
+      by_place polled steps (λ x. x) made marks names items first outputs.items new (later_back later first last outputs.items ran (ready_value (Some last) after (Ready outputs) gives))

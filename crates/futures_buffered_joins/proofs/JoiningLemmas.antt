@@ -8,11 +8,11 @@ use Rattle.std.specs.Prelude.{replicate}
 use Rattle.futures.specs.declared.task.Poll.{Poll}
 use Rattle.futures.specs.declared.task.Poll.TheVariants.{Ready}
 use Rattle.futures_buffered_core.specs.SlotMap.{value_in, held_count, slot_count}
-use Rattle.futures_buffered_table.specs.declared.answer.Taken.{Taken}
 use Rattle.futures_buffered_table.specs.declared.answer.Woke.{Woke}
-use Rattle.futures_buffered_bounded.specs.FuturesUnorderedBounded.{Bounded, HoldsEach, AsksUntil, with_empty_slot}
+use Rattle.futures_buffered_core.specs.ReadySource.{SourceSteps}
+use Rattle.futures_buffered_unordered_bounded.specs.FuturesUnorderedBounded.{Bounded, HoldsEach, AsksUntil, with_empty_slot}
 use Rattle.futures_buffered_joins.specs.Joining.{Places, Fills, output_at}
-use Rattle.futures_buffered_joins.specs.JoiningInvariant.{KeepsPlaces}
+use Rattle.futures_buffered_joins.specs.JoiningInvariant.{KeepsJoinPlaces}
 use Rattle.futures_buffered_joins.specs.TryJoinAll.{Fails}
 
 pub none_from : {A : Type 0} (o : Option A) → is_some o ≡ false → o ≡ None
@@ -34,23 +34,23 @@ none_counted (None ∷ xs) zero e = refl
 none_counted (None ∷ xs) (suc i) e = none_counted xs i e
 none_counted {F} (Some f ∷ xs) i e = absurd (omega (arith, e, sum_by-cons (λ (o : Option F). cond (is_some o) 1 0) (Some f) xs))
 
-module _ {F R A S : Type 0} (polled : ℕ → F → Poll R → F → Type 0) (registers : S → S → Type 0) (takes : S → Taken → S → Type 0) (as_output : A → R) where
-  pub fills_place : (old new : Places F A S) (held mid : Bounded F S) (outputs : List (Option A)) (gathered : List A) (room i : ℕ) (x : A) → old ≡ record { set = held; outputs = outputs } → KeepsPlaces {F = F} {A = A} {S = S} (record { set = held; outputs = outputs }) gathered room
-      → AsksUntil polled registers takes held (Ready (i, as_output x)) mid → ((j : ℕ) → is_some (value_in mid.slots j) ≡ is_some (value_in held.slots j)) → IsSome (value_in mid.slots i)
-      → new.set ≡ with_empty_slot mid i → new.outputs ≡ set outputs i (Some x) → Fills polled registers takes as_output old (i, x) new
+module _ {F R A S : Type 0} (polled : ℕ → F → Poll R → F → Type 0) (steps : SourceSteps S) (as_output : A → R) where
+  pub fills_place : (old new : Places F A S) (held mid : Bounded F S) (outputs : List (Option A)) (gathered : List A) (room i : ℕ) (x : A) → old ≡ record { set = held; outputs = outputs } → KeepsJoinPlaces {F = F} {A = A} {S = S} (record { set = held; outputs = outputs }) gathered room
+      → AsksUntil polled steps held (Ready (i, as_output x)) mid → ((j : ℕ) → is_some (value_in mid.slots j) ≡ is_some (value_in held.slots j)) → IsSome (value_in mid.slots i)
+      → new.set ≡ with_empty_slot mid i → new.outputs ≡ set outputs i (Some x) → Fills polled steps as_output old (i, x) new
   fills_place old new held mid outputs gathered room i x is keeps gave same some gone done =
       let was : is_some (value_in held.slots i) ≡ true = sym (same i) ∙ some in
       let below : i < length outputs = omega (arith, below_from_some held.slots.places i was, keeps.same_size) in
       let waited : get_or outputs i None ≡ None = none_from (get_or outputs i None) (keeps.either i below ∙ ap not was) in
       rw is (record { left = mid; gave = gave; future_gone = gone; was_waiting = waited; now_done = done })
 
-pub fails_place : {F T E S : Type 0} (polled : ℕ → F → Poll (Result T E) → F → Type 0) (registers : S → S → Type 0) (takes : S → Taken → S → Type 0) (old : Places F T S) (held mid : Bounded F S) (outputs : List (Option T)) (i : ℕ) (r : Result T E) (e : E) → old ≡ record { set = held; outputs = outputs } → r ≡ Err e
-    → AsksUntil polled registers takes held (Ready (i, r)) mid → Fails polled registers takes old e
-fails_place {F} {T} {E} {S} polled registers takes old held mid outputs i r e is was gave = rw is (i, mid, subst (λ (a : Result T E). AsksUntil polled registers takes held (Ready (i, a)) mid) was gave)
+pub fails_place : {F T E S : Type 0} (polled : ℕ → F → Poll (Result T E) → F → Type 0) (steps : SourceSteps S) (old : Places F T S) (held mid : Bounded F S) (outputs : List (Option T)) (i : ℕ) (r : Result T E) (e : E) → old ≡ record { set = held; outputs = outputs } → r ≡ Err e
+    → AsksUntil polled steps held (Ready (i, r)) mid → Fails polled steps old e
+fails_place {F} {T} {E} {S} polled steps old held mid outputs i r e is was gave = rw is (i, mid, subst (λ (a : Result T E). AsksUntil polled steps held (Ready (i, a)) mid) was gave)
 
 -- a new join keeps itself
 pub keeps_new : {F A S : Type 0} (made : ℕ → S → Type 0) (marks : S → ℕ → Woke → S → Type 0) (names : ℕ) (items : List F) (held : Bounded F S) (outputs : List (Option A)) (gathered : List A) (room : ℕ) → HoldsEach made marks names items held → outputs ≡ replicate (slot_count held.slots) None → gathered ≡ [] → room ≡ slot_count held.slots
-    → KeepsPlaces {F = F} {A = A} {S = S} (record { set = held; outputs = outputs }) gathered room
+    → KeepsJoinPlaces {F = F} {A = A} {S = S} (record { set = held; outputs = outputs }) gathered room
 keeps_new {F} {A} made marks names items held outputs gathered room new is empty enough =
     let size : length outputs ≡ slot_count held.slots = ap length is ∙ length-replicate (slot_count held.slots) None in
     let count : slot_count held.slots ≡ length items = ap slot_count new.slots_hold ∙ length-map items Some in
@@ -69,5 +69,5 @@ keeps_new {F} {A} made marks names items held outputs gathered room new is empty
     there (x ∷ xs) (suc k) below = there xs k (omega arith)
 
 -- once no future is waited for, each output has come
-pub all_come : {F A S : Type 0} (places : Places F A S) (gathered : List A) (room : ℕ) → KeepsPlaces places gathered room → held_count places.set.slots ≡ 0 → (k : ℕ) → k < length places.outputs → is_some (output_at places k) ≡ true
+pub all_come : {F A S : Type 0} (places : Places F A S) (gathered : List A) (room : ℕ) → KeepsJoinPlaces places gathered room → held_count places.set.slots ≡ 0 → (k : ℕ) → k < length places.outputs → is_some (output_at places k) ≡ true
 all_come places gathered room keeps none k below = keeps.either k below ∙ ap not (none_counted places.set.slots.places k none)

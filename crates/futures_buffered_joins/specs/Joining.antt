@@ -1,15 +1,18 @@
 -- What a contract sees of a join, and what the polls of its set make of it.
-use Rattle.std.specs.Prelude.{◌≡◌, ℕ, ◌<◌, List, length, Option, Some, None, MatchOption, slice_get, slice_index_or, slice_set, replicate, refl}
+use Rattle.std.specs.Prelude.{◌≡◌, ℕ, ◌<◌, List, length, Option, Some, None, MatchOption, slice_get}
+use Rattle.std.specs.Prelude.{slice_index_or, slice_set, replicate, refl}
 use Rattle.std.specs.Coded.{Coded, code_by, coded×, coded_list, coded_option}
 use Rattle.futures.specs.declared.task.Poll.{Poll}
 use Rattle.futures.specs.declared.task.Poll.TheVariants.{Ready, Pending}
 use Rattle.futures_buffered_core.specs.SlotMap.{Slots, value_in, held_count}
-use Rattle.futures_buffered_table.specs.declared.answer.Taken.{Taken}
 use Rattle.futures_buffered_table.specs.declared.answer.Woke.{Woke}
-use Rattle.futures_buffered_bounded.specs.Held.{MayGive}
-use Rattle.futures_buffered_bounded.specs.FuturesUnorderedBounded.{Bounded, HoldsEach, AsksUntil, with_empty_slot}
+use Rattle.futures_buffered_core.specs.ReadySource.{SourceSteps}
+use Rattle.futures_buffered_unordered_bounded.specs.Held.{MayGive}
+use Rattle.futures_buffered_unordered_bounded.specs.FuturesUnorderedBounded.{Bounded, HoldsEach, AsksUntil}
+use Rattle.futures_buffered_unordered_bounded.specs.FuturesUnorderedBounded.{with_empty_slot}
 
--- the places of a join that has not ended: a set of the futures that it waits for, each in the slot of its place, and at each place the output that has come, or nothing
+-- the places of a join that has not ended: a set of the futures that it waits for, each in the slot
+-- of its place, and at each place the output that has come, or nothing
 pub record Places (F A S : Type 0) : Type 0 where
   pub set : Bounded F S
   pub outputs : List (Option A)
@@ -44,22 +47,23 @@ pub record IsNewJoin
 module _
     {F R A S : Type 0}
     (polled : ℕ → F → Poll R → F → Type 0)
-    (registers : S → S → Type 0)
-    (takes : S → Taken → S → Type 0)
+    (steps : SourceSteps S)
     (as_output : A → R)
   where
-    -- One poll of the set gave the output of the future at this place. That future is gone, and what it gave fills its place, where nothing had come. The other places stay.
+    -- One poll of the set gave the output of the future at this place. That future is gone, and
+    -- what it gave fills its place, where nothing had come. The other places stay.
     pub record Fills (old : Places F A S) (filled : ℕ × A) (new : Places F A S) : Type 0 where
       pub left : Bounded F S
-      pub gave : AsksUntil polled registers takes old.set (Ready (filled.0, as_output filled.1)) left
+      pub gave : AsksUntil polled steps old.set
+          (Ready (filled.0, as_output filled.1)) left
       pub future_gone : new.set ≡ with_empty_slot left filled.0
       pub was_waiting : output_at old filled.0 ≡ None
       pub now_done : new.outputs ≡ slice_set old.outputs filled.0 (Some filled.1)
 
     -- a future is waited for, and one poll of the set was Pending
-    pub record Waits (old new : Places F A S) : Type 0 where
+    pub record PollsPending (old new : Places F A S) : Type 0 where
       pub some_waiting : 0 < held_count old.set.slots
-      pub is_pending : AsksUntil polled registers takes old.set Pending new.set
+      pub is_pending : AsksUntil polled steps old.set Pending new.set
       pub same_outputs : new.outputs ≡ old.outputs
 
 -- the future that is held in this slot may give x, polled with the waker of the slot
@@ -85,7 +89,8 @@ pub record MayBeAll
   pub as_many : length outputs ≡ length places.outputs
   pub each : (k : ℕ) (x : A) → slice_get outputs k ≡ Some x → MayBeAt polled as_output places k x
 
--- there are as many outputs as items, and the output at place k is one that item k may give, polled with the waker of slot k
+-- there are as many outputs as items, and the output at place k is one that item k may give, polled
+-- with the waker of slot k
 pub record CameByPlace
     {F R A : Type 0}
     (polled : ℕ → F → Poll R → F → Type 0)

@@ -6,19 +6,19 @@ ghost use Rattle.futures.specs.Poll.{IfReady, OnPending};
 ghost use Rattle.futures_buffered_core.specs.Drawn.{Draws, DrawsMoreThan};
 ghost use Rattle.futures_buffered_core.specs.ReadyShared.{IsNewShared, MarksShared};
 ghost use Rattle.futures_buffered_core.specs.SlotMap.{slot_count};
-ghost use Rattle.futures_buffered_bounded.specs.Held.{AllHeld};
-ghost use Rattle.futures_buffered_bounded.specs.FuturesUnorderedBounded.{IsWoken, SaidEmpty};
+ghost use Rattle.futures_buffered_unordered_bounded.specs.Held.{AllHeld};
+ghost use Rattle.futures_buffered_unordered_bounded.specs.FuturesUnorderedBounded.{IsWoken, SaidEmpty};
 ghost use Rattle.futures_buffered_joins.specs.Joining.{Places, IsNewJoin};
 ghost use Rattle.futures_buffered_joins.specs.JoinAll.{JoinGives, JoinMayGive, JoinsByPlace};
 
 use crate::joining::Joining;
 use futures::Future;
 use futures::task::{Context, Poll};
-use futures_buffered_bounded::SlotFuture;
-use futures_buffered_bounded::futures_unordered_bounded::POLL_LIMIT;
 use futures_buffered_core::ready_core::{MAX_CAPACITY, NewFault};
-use futures_buffered_core::ready_shared::{SharedReady, SlotWake};
+use futures_buffered_core::ready_shared::{SharedReady, SharedWaker};
 use futures_buffered_core::ready_source::{NewSource, ReadySource};
+use futures_buffered_unordered_bounded::SlotFuture;
+use futures_buffered_unordered_bounded::futures_unordered_bounded::POLL_LIMIT;
 use std::alloc::Global;
 use std::marker::Model;
 
@@ -26,33 +26,32 @@ use std::marker::Model;
 ///
 /// A contract sees the places, or nothing once the join has ended: a set of the futures that are waited for, each in the slot of its place, and the outputs that have come. A poll takes no memory. Once the join has ended it holds nothing, and further polls give an empty vector.
 #[derive(Drop)]
-pub struct JoinAll<F: SlotFuture<S::Waker>, S: ReadySource>
-where
-    F::Output: Drop,
-{
-    joining: Option<Joining<F, F::Output, S>>,
+pub struct Join<F: Drop, A: Drop, S: ReadySource> {
+    joining: Option<Joining<F, A, S>>,
     alloc: Global,
 }
 
-impl<F: SlotFuture<S::Waker>, S: ReadySource> Model for JoinAll<F, S>
-where
-    F::Output: Drop,
-{
+/// The join with the outputs of its futures. It is the name that a caller writes.
+pub type JoinAll<F, S> = Join<F, <F as SlotFuture<<S as ReadySource>::Waker>>::Output, S>;
+
+impl<F: Drop, A: Drop, S: ReadySource> Model for Join<F, A, S> {
     ghost use Rattle.std.specs.Prelude.{Option};
     ghost use Rattle.std.specs.Coded.{coded_option};
-    ghost use Rattle.futures_buffered_bounded.specs.FuturesUnorderedBounded.{bounded_code};
+    ghost use Rattle.futures_buffered_unordered_bounded.specs.FuturesUnorderedBounded.{bounded_code};
     ghost use Rattle.futures_buffered_joins.specs.Joining.{Places, places_code};
 
-    ghost Value = { Option (Places F F.Output S) };
+    ghost Value = { Option (Places F A S) };
 
-    ghost coded = { coded_option (places_code F.Output.code (bounded_code F.code S.code)) };
+    ghost coded = { coded_option (places_code A.code (bounded_code F.code S.code)) };
 
     ghost view = { λ s. s.joining };
 }
 
-impl<F: SlotFuture<S::Waker>, S: ReadySource> JoinAll<F, S>
+impl<F, A, S> Join<F, A, S>
 where
-    F::Output: Drop,
+    F: SlotFuture<S::Waker, Output = A>,
+    A: Drop,
+    S: ReadySource,
 {
     /// A join of these futures, in their order, over a source made for them. Nothing is polled.
     ///
@@ -75,18 +74,20 @@ where
             → DrawsMoreThan I.into_iter_gives I.IntoIter.next_gives iter MAX_CAPACITY }
     {
         let joining = Joining::over(env, alloc, iter)?;
-        Ok(JoinAll {
+        Ok(Join {
             joining: Some(joining),
             alloc,
         })
     }
 }
 
-impl<F: SlotFuture<S::Waker>, S: ReadySource> Future for JoinAll<F, S>
+impl<F, A, S> Future for Join<F, A, S>
 where
-    F::Output: Drop,
+    F: SlotFuture<S::Waker, Output = A>,
+    A: Drop,
+    S: ReadySource,
 {
-    type Output = Vec<F::Output>;
+    type Output = Vec<A>;
 
     ghost can_poll = { λ join. IfSome join (λ places. AllHeld F.can_poll places.set.slots) };
 
@@ -97,20 +98,20 @@ where
     /// Polls the set of the futures again and again, each output filling its place, until that is Pending or no future is left: then it is ready with all outputs, and holds nothing more. Later polls give an empty vector, and poll nothing.
     ///
     /// Takes no memory, and waits for nobody where the source's calls do not. Takes time in proportion to the names that its polls of the set take, and at the end to the number of places, besides the polls.
-    fn poll(&mut self, cx: &mut Context<'_>) -> Poll<Vec<F::Output>>
+    fn poll(&mut self, cx: &mut Context<'_>) -> Poll<Vec<A>>
         requires { IfSome self.old (λ places. AllHeld F.can_poll places.set.slots) }
-        ensures polled { JoinGives F.polled S.registers S.takes self.old result self.new }
+        ensures polled { JoinGives F.polled S.steps self.old result self.new }
         ensures value { IfReady result (λ outputs. JoinMayGive F.polled self.old outputs.items) }
         ensures again { OnPending result
             (IfSome self.new (λ places. AllHeld F.can_poll places.set.slots)) }
-        ensures same { OnPending result ((outputs : List F.Output)
+        ensures same { OnPending result ((outputs : List A)
             → JoinMayGive F.polled self.new outputs → JoinMayGive F.polled self.old outputs) }
         ensures ended { IfReady result (λ _. self.new ≡ None) }
         ensures untouched { self.old ≡ None → cx.new ≡ cx.old }
         ensures registered { OnPending result (Covers cx.new
             (λ n. IsSomeAnd self.new (λ places. S.needs places.set.source n))) }
         ensures woken { OnPending result (IsWoken cx.new
-            ⊎ IsSomeAnd self.new (λ places. SaidEmpty S.takes places.set.source)) }
+            ⊎ IsSomeAnd self.new (λ places. SaidEmpty S.steps places.set.source)) }
         ensures kept { Keeps cx.old cx.new }
     {
         let Some(mut joining) = self.joining.take() else {
@@ -132,8 +133,8 @@ pub fn join_all<I: IntoIterator>(
     iter: I,
 ) -> Result<JoinAll<I::Item, SharedReady>, NewFault>
 where
-    I::Item: SlotFuture<SlotWake>,
-    <I::Item as SlotFuture<SlotWake>>::Output: Drop,
+    I::Item: SlotFuture<SharedWaker>,
+    <I::Item as SlotFuture<SharedWaker>>::Output: Drop,
     requires { IsFiniteIterable I.into_iter_gives I.IntoIter.can_next
         I.IntoIter.remaining iter }
     ensures waits_for { IfOk result (λ join. (items : List I.Item)
@@ -144,12 +145,12 @@ where
     ensures large { result ≡ Err NewFault.TooLarge
         → DrawsMoreThan I.into_iter_gives I.IntoIter.next_gives iter MAX_CAPACITY }
 {
-    JoinAll::over(&(), alloc, iter)
+    Join::over(&(), alloc, iter)
 }
 
 /// Of a join over these items, after any pending polls: the vector that it is ready with has as many outputs as there were items, and the output at place k is one that item k may give.
 ///
 /// This is of the words that the contracts of `over` and of a poll say. Nothing is done.
 pub fn outputs_come_by_place<F: SlotFuture<S::Waker>, S: NewSource>()
-    ensures { JoinsByPlace F.polled S.registers S.takes S.made S.marks POLL_LIMIT }
+    ensures { JoinsByPlace F.polled S.steps S.made S.marks POLL_LIMIT }
 {}

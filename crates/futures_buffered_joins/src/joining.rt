@@ -7,17 +7,19 @@ ghost use Rattle.futures.specs.Poll.{IfReady, OnPending};
 ghost use Rattle.futures.specs.declared.task.context.Context.{Context};
 ghost use Rattle.futures_buffered_core.specs.Drawn.{Draws, DrawsMoreThan};
 ghost use Rattle.futures_buffered_core.specs.SlotMap.{value_in, held_count, slot_count};
-ghost use Rattle.futures_buffered_bounded.specs.Held.{AllHeld};
-ghost use Rattle.futures_buffered_bounded.specs.FuturesUnorderedBounded.{IsWoken, SaidEmpty, with_empty_slot};
-ghost use Rattle.futures_buffered_joins.specs.Joining.{Places, IsNewJoin, Fills, Waits};
+ghost use Rattle.futures_buffered_unordered_bounded.specs.Held.{AllHeld};
+ghost use Rattle.futures_buffered_unordered_bounded.specs.FuturesUnorderedBounded.{IsWoken, SaidEmpty, with_empty_slot};
+ghost use Rattle.futures_buffered_joins.specs.Joining.{Places, IsNewJoin, Fills, PollsPending};
 ghost use Rattle.futures_buffered_joins.specs.TryJoinAll.{Fails};
 
 use futures::task::{Context, Poll};
-use futures_buffered_bounded::futures_unordered_bounded::{FuturesUnorderedBounded, POLL_LIMIT};
-use futures_buffered_bounded::{PollFuture, SlotFuture};
 use futures_buffered_core::ready_core::{MAX_CAPACITY, NewFault};
 use futures_buffered_core::ready_source::{NewSource, ReadySource};
 use futures_buffered_core::slot_map::empty_places;
+use futures_buffered_unordered_bounded::futures_unordered_bounded::{
+    FuturesUnorderedBounded, POLL_LIMIT,
+};
+use futures_buffered_unordered_bounded::{PollFuture, SlotFuture};
 use std::alloc::Global;
 use std::marker::Model;
 
@@ -30,7 +32,7 @@ pub struct Joining<F: Drop, A: Drop, S: ReadySource> {
 }
 
 impl<F: Drop, A: Drop, S: ReadySource> Model for Joining<F, A, S> {
-    ghost use Rattle.futures_buffered_bounded.specs.FuturesUnorderedBounded.{bounded_code};
+    ghost use Rattle.futures_buffered_unordered_bounded.specs.FuturesUnorderedBounded.{bounded_code};
     ghost use Rattle.futures_buffered_joins.specs.Joining.{Places, places_code};
 
     ghost Value = { Places F A S };
@@ -38,11 +40,11 @@ impl<F: Drop, A: Drop, S: ReadySource> Model for Joining<F, A, S> {
     ghost coded = { places_code A.code (bounded_code F.code S.code) };
 
     ghost use Rattle.std.specs.Prelude.{vec_capacity};
-    ghost use Rattle.futures_buffered_joins.specs.JoiningInvariant.{KeepsPlaces};
+    ghost use Rattle.futures_buffered_joins.specs.JoiningInvariant.{KeepsJoinPlaces};
 
     ghost view = { λ s. record { set = s.set; outputs = s.outputs.items } };
 
-    ghost invariant = { λ s. KeepsPlaces (record { set = s.set; outputs = s.outputs.items })
+    ghost invariant = { λ s. KeepsJoinPlaces (record { set = s.set; outputs = s.outputs.items })
         s.gathered.items (vec_capacity s.gathered) };
 }
 
@@ -121,15 +123,15 @@ where
         requires some { 0 < held_count self.old.set.slots }
         requires held { AllHeld F.can_poll self.old.set.slots }
         ensures filled { IfReady result (λ _. (filled : ℕ × F.Output)
-            × Fills F.polled S.registers S.takes (λ x. x) self.old filled self.new) }
+            × Fills F.polled S.steps (λ x. x) self.old filled self.new) }
         ensures waits { OnPending result
-            (Waits F.polled S.registers S.takes (λ x. x) self.old self.new) }
+            (PollsPending F.polled S.steps (λ x. x) self.old self.new) }
         ensures again { AllHeld F.can_poll self.new.set.slots }
         ensures fewer { IfReady result (λ _.
             held_count self.new.set.slots + 1 ≡ held_count self.old.set.slots) }
         ensures covered { OnPending result (Covers cx.new (S.needs self.new.set.source)) }
         ensures woken { OnPending result (IsWoken cx.new
-            ⊎ (SaidEmpty S.takes self.new.set.source
+            ⊎ (SaidEmpty S.steps self.new.set.source
             × S.registers_poll self.old.set.source cx.old cx.new)) }
         ensures kept { Keeps cx.old cx.new }
     {
@@ -147,15 +149,15 @@ where
         requires { AllHeld F.can_poll self.old.set.slots }
         ensures done { IfReady result (λ _. held_count self.new.set.slots ≡ 0) }
         ensures filled { IfReady result (λ _. (row : List (ℕ × F.Output))
-            × FoldsTo (Fills F.polled S.registers S.takes (λ x. x)) self.old row self.new) }
+            × FoldsTo (Fills F.polled S.steps (λ x. x)) self.old row self.new) }
         ensures waits { OnPending result ((row : List (ℕ × F.Output))
             × (before : Places F F.Output S)
-            × FoldsTo (Fills F.polled S.registers S.takes (λ x. x)) self.old row before
-            × Waits F.polled S.registers S.takes (λ x. x) before self.new) }
+            × FoldsTo (Fills F.polled S.steps (λ x. x)) self.old row before
+            × PollsPending F.polled S.steps (λ x. x) before self.new) }
         ensures again { AllHeld F.can_poll self.new.set.slots }
         ensures covered { OnPending result (Covers cx.new (S.needs self.new.set.source)) }
         ensures woken { OnPending result (IsWoken cx.new
-            ⊎ SaidEmpty S.takes self.new.set.source) }
+            ⊎ SaidEmpty S.steps self.new.set.source) }
         ensures kept { Keeps cx.old cx.new }
     {
         'places: while !self.is_done() {
@@ -178,17 +180,18 @@ where
         requires some { 0 < held_count self.old.set.slots }
         requires held { AllHeld F.can_poll self.old.set.slots }
         ensures filled { IfReady result (λ r. OnOk r ((filled : ℕ × T)
-            × Fills F.polled S.registers S.takes Ok self.old filled self.new)) }
+            × Fills F.polled S.steps Ok self.old filled self.new)) }
         ensures fails { IfReady result (λ r. IfErr r
-            (Fails F.polled S.registers S.takes self.old)) }
-        ensures waits { OnPending result (Waits F.polled S.registers S.takes Ok self.old self.new) }
+            (Fails F.polled S.steps self.old)) }
+        ensures waits { OnPending result
+            (PollsPending F.polled S.steps Ok self.old self.new) }
         ensures again { OnPending result (AllHeld F.can_poll self.new.set.slots) }
         ensures goes_on { IfReady result (λ r. OnOk r (AllHeld F.can_poll self.new.set.slots)) }
         ensures fewer { IfReady result (λ r. OnOk r
             (held_count self.new.set.slots + 1 ≡ held_count self.old.set.slots)) }
         ensures covered { OnPending result (Covers cx.new (S.needs self.new.set.source)) }
         ensures woken { OnPending result (IsWoken cx.new
-            ⊎ (SaidEmpty S.takes self.new.set.source
+            ⊎ (SaidEmpty S.steps self.new.set.source
             × S.registers_poll self.old.set.source cx.old cx.new)) }
         ensures kept { Keeps cx.old cx.new }
     {
@@ -207,18 +210,18 @@ where
         requires { AllHeld F.can_poll self.old.set.slots }
         ensures done { IfReady result (λ r. OnOk r (held_count self.new.set.slots ≡ 0)) }
         ensures filled { IfReady result (λ r. OnOk r ((row : List (ℕ × T))
-            × FoldsTo (Fills F.polled S.registers S.takes Ok) self.old row self.new)) }
+            × FoldsTo (Fills F.polled S.steps Ok) self.old row self.new)) }
         ensures fails { IfReady result (λ r. IfErr r (λ e. (row : List (ℕ × T))
             × (before : Places F T S)
-            × FoldsTo (Fills F.polled S.registers S.takes Ok) self.old row before
-            × Fails F.polled S.registers S.takes before e)) }
+            × FoldsTo (Fills F.polled S.steps Ok) self.old row before
+            × Fails F.polled S.steps before e)) }
         ensures waits { OnPending result ((row : List (ℕ × T)) × (before : Places F T S)
-            × FoldsTo (Fills F.polled S.registers S.takes Ok) self.old row before
-            × Waits F.polled S.registers S.takes Ok before self.new) }
+            × FoldsTo (Fills F.polled S.steps Ok) self.old row before
+            × PollsPending F.polled S.steps Ok before self.new) }
         ensures again { OnPending result (AllHeld F.can_poll self.new.set.slots) }
         ensures covered { OnPending result (Covers cx.new (S.needs self.new.set.source)) }
         ensures woken { OnPending result (IsWoken cx.new
-            ⊎ SaidEmpty S.takes self.new.set.source) }
+            ⊎ SaidEmpty S.steps self.new.set.source) }
         ensures kept { Keeps cx.old cx.new }
     {
         'places: while !self.is_done() {

@@ -11,5 +11,5 @@ pub mod join_all;
 mod joining;
 pub mod try_join_all;
 
-pub use join_all::JoinAll;
-pub use try_join_all::TryJoinAll;
+pub use join_all::{Join, JoinAll};
+pub use try_join_all::{TryJoin, TryJoinAll};

@@ -7,8 +7,8 @@ ghost use Rattle.futures.specs.Poll.{IfReady, OnPending};
 ghost use Rattle.futures_buffered_core.specs.Drawn.{Draws, DrawsMoreThan};
 ghost use Rattle.futures_buffered_core.specs.ReadyShared.{IsNewShared, MarksShared};
 ghost use Rattle.futures_buffered_core.specs.SlotMap.{slot_count};
-ghost use Rattle.futures_buffered_bounded.specs.Held.{AllHeld};
-ghost use Rattle.futures_buffered_bounded.specs.FuturesUnorderedBounded.{IsWoken, SaidEmpty};
+ghost use Rattle.futures_buffered_unordered_bounded.specs.Held.{AllHeld};
+ghost use Rattle.futures_buffered_unordered_bounded.specs.FuturesUnorderedBounded.{IsWoken, SaidEmpty};
 ghost use Rattle.futures_buffered_joins.specs.Joining.{IsNewJoin};
 ghost use Rattle.futures_buffered_joins.specs.TryJoinAll.{TryJoinGives, TryJoinMayGive, TryJoinsByPlace};
 
@@ -16,11 +16,11 @@ use crate::joining::Joining;
 use futures::Future;
 use futures::future::TryOutput;
 use futures::task::{Context, Poll};
-use futures_buffered_bounded::SlotFuture;
-use futures_buffered_bounded::futures_unordered_bounded::POLL_LIMIT;
 use futures_buffered_core::ready_core::{MAX_CAPACITY, NewFault};
-use futures_buffered_core::ready_shared::{SharedReady, SlotWake};
+use futures_buffered_core::ready_shared::{SharedReady, SharedWaker};
 use futures_buffered_core::ready_source::{NewSource, ReadySource};
+use futures_buffered_unordered_bounded::SlotFuture;
+use futures_buffered_unordered_bounded::futures_unordered_bounded::POLL_LIMIT;
 use std::alloc::Global;
 use std::marker::Model;
 
@@ -28,33 +28,32 @@ use std::marker::Model;
 ///
 /// A contract sees the places, or nothing once the join has ended: a set of the futures that are waited for, each in the slot of its place, and the outputs that have come. A poll takes no memory. Once the join has ended, by an error too, it holds nothing, and further polls give `Ok` of an empty vector.
 #[derive(Drop)]
-pub struct TryJoinAll<F: SlotFuture<S::Waker>, S: ReadySource>
-where
-    F::Output: TryOutput,
-    <F::Output as TryOutput>::Ok: Drop,
-{
-    joining: Option<Joining<F, <F::Output as TryOutput>::Ok, S>>,
+pub struct TryJoin<F: Drop, T: Drop, S: ReadySource> {
+    joining: Option<Joining<F, T, S>>,
     alloc: Global,
 }
 
-impl<F: SlotFuture<S::Waker>, S: ReadySource> Model for TryJoinAll<F, S>
-where
-    F::Output: TryOutput,
-    <F::Output as TryOutput>::Ok: Drop,
-{
+/// The join with the values that its futures give where they succeed. It is the name that a caller writes.
+pub type TryJoinAll<F, S> = TryJoin<
+    F,
+    <<F as SlotFuture<<S as ReadySource>::Waker>>::Output as TryOutput>::Ok,
+    S,
+>;
+
+impl<F: Drop, T: Drop, S: ReadySource> Model for TryJoin<F, T, S> {
     ghost use Rattle.std.specs.Prelude.{Option};
     ghost use Rattle.std.specs.Coded.{coded_option};
-    ghost use Rattle.futures_buffered_bounded.specs.FuturesUnorderedBounded.{bounded_code};
+    ghost use Rattle.futures_buffered_unordered_bounded.specs.FuturesUnorderedBounded.{bounded_code};
     ghost use Rattle.futures_buffered_joins.specs.Joining.{Places, places_code};
 
-    ghost Value = { Option (Places F F.Output.Ok S) };
+    ghost Value = { Option (Places F T S) };
 
-    ghost coded = { coded_option (places_code F.Output.Ok.code (bounded_code F.code S.code)) };
+    ghost coded = { coded_option (places_code T.code (bounded_code F.code S.code)) };
 
     ghost view = { λ s. s.joining };
 }
 
-impl<F, T, E, S: ReadySource> TryJoinAll<F, S>
+impl<F, T, E, S: ReadySource> TryJoin<F, T, S>
 where
     F: SlotFuture<S::Waker, Output = Result<T, E>>,
     T: Drop,
@@ -80,14 +79,14 @@ where
             → DrawsMoreThan I.into_iter_gives I.IntoIter.next_gives iter MAX_CAPACITY }
     {
         let joining = Joining::over(env, alloc, iter)?;
-        Ok(TryJoinAll {
+        Ok(TryJoin {
             joining: Some(joining),
             alloc,
         })
     }
 }
 
-impl<F, T, E, S: ReadySource> Future for TryJoinAll<F, S>
+impl<F, T, E, S: ReadySource> Future for TryJoin<F, T, S>
 where
     F: SlotFuture<S::Waker, Output = Result<T, E>>,
     T: Drop,
@@ -105,7 +104,7 @@ where
     /// Takes no memory, and waits for nobody where the source's calls do not. Takes time in proportion to the names that its polls of the set take, and at the end to the number of places, besides the polls.
     fn poll(&mut self, cx: &mut Context<'_>) -> Poll<Result<Vec<T>, E>>
         requires { IfSome self.old (λ places. AllHeld F.can_poll places.set.slots) }
-        ensures polled { TryJoinGives F.polled S.registers S.takes self.old result self.new }
+        ensures polled { TryJoinGives F.polled S.steps self.old result self.new }
         ensures value { IfReady result (TryJoinMayGive F.polled self.old) }
         ensures again { OnPending result
             (IfSome self.new (λ places. AllHeld F.can_poll places.set.slots)) }
@@ -116,7 +115,7 @@ where
         ensures registered { OnPending result (Covers cx.new
             (λ n. IsSomeAnd self.new (λ places. S.needs places.set.source n))) }
         ensures woken { OnPending result (IsWoken cx.new
-            ⊎ IsSomeAnd self.new (λ places. SaidEmpty S.takes places.set.source)) }
+            ⊎ IsSomeAnd self.new (λ places. SaidEmpty S.steps places.set.source)) }
         ensures kept { Keeps cx.old cx.new }
     {
         let Some(mut joining) = self.joining.take() else {
@@ -139,7 +138,7 @@ pub fn try_join_all<I: IntoIterator, T, E>(
     iter: I,
 ) -> Result<TryJoinAll<I::Item, SharedReady>, NewFault>
 where
-    I::Item: SlotFuture<SlotWake, Output = Result<T, E>>,
+    I::Item: SlotFuture<SharedWaker, Output = Result<T, E>>,
     T: Drop,
     requires { IsFiniteIterable I.into_iter_gives I.IntoIter.can_next
         I.IntoIter.remaining iter }
@@ -151,7 +150,7 @@ where
     ensures large { result ≡ Err NewFault.TooLarge
         → DrawsMoreThan I.into_iter_gives I.IntoIter.next_gives iter MAX_CAPACITY }
 {
-    TryJoinAll::over(&(), alloc, iter)
+    TryJoin::over(&(), alloc, iter)
 }
 
 /// Of a join over these items, after any pending polls: where it is ready with a vector, that has as many outputs as there were items, and the output at place k is one that item k may give.
@@ -160,5 +159,5 @@ where
 pub fn outputs_come_by_place<F, T, E, S: NewSource>()
 where
     F: SlotFuture<S::Waker, Output = Result<T, E>>,
-    ensures { TryJoinsByPlace F.polled S.registers S.takes S.made S.marks POLL_LIMIT }
+    ensures { TryJoinsByPlace F.polled S.steps S.made S.marks POLL_LIMIT }
 {}

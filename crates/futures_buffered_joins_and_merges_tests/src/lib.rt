@@ -3,7 +3,7 @@
 #![tactic(auto)]
 
 #[cfg(test)]
-mod assert_same;
+mod closures;
 #[cfg(test)]
 mod joins;
 #[cfg(test)]

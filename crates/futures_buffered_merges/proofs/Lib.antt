@@ -2,4 +2,4 @@ pub mod SlotStreamLemmas
 pub mod MergeBoundedLemmas
 pub mod MergingLemmas
 pub mod MergeUnboundedLemmas
-pub mod GroupsGaveLemmas
+pub mod MergeUnboundedGaveLemmas

@@ -10,12 +10,12 @@ use Rattle.futures.specs.Runs.{After, Within, seconds}
 use Rattle.futures.specs.declared.task.Poll.{Poll}
 use Rattle.futures.specs.declared.task.Poll.TheVariants.{Ready, Pending}
 use Rattle.futures_buffered_core.specs.SlotMap.{Slots, value_in, held_count, with_value, with_slot_freed}
-use Rattle.futures_buffered_table.specs.declared.answer.Taken.{Taken}
 use Rattle.futures_buffered_table.specs.declared.answer.Woke.{Woke}
-use Rattle.futures_buffered_bounded.specs.Held.{Passes}
-use Rattle.futures_buffered_bounded.specs.FuturesUnorderedBounded.{Bounded}
-use Rattle.futures_buffered_bounded.proofs.HeldLemmas.{value_in-with_value}
-use Rattle.futures_buffered_bounded.proofs.GivingLemmas.{value_in-with_slot_freed, value_in-with_slot_freed_other}
+use Rattle.futures_buffered_core.specs.ReadySource.{SourceSteps}
+use Rattle.futures_buffered_unordered_bounded.specs.Held.{Passes}
+use Rattle.futures_buffered_unordered_bounded.specs.FuturesUnorderedBounded.{Bounded}
+use Rattle.futures_buffered_unordered_bounded.proofs.HeldLemmas.{value_in-with_value}
+use Rattle.futures_buffered_unordered_bounded.proofs.HeldGivesLemmas.{value_in-with_slot_freed, value_in-with_slot_freed_other}
 use Rattle.futures_buffered_merges.specs.SlotStream.{items_in, Gave}
 use Rattle.futures_buffered_merges.specs.Merging.{CountEnds, MergeGives}
 use Rattle.futures_buffered_merges.specs.MergeBounded.{items_at, StreamsGave, ComesFromStreams}
@@ -80,20 +80,20 @@ module _ {F A : Type 0} (polled : ℕ → F → Poll (Option A) → F → Type 0
   within_of old new gave items (Some y) run = (run.0, run.1, run.2, run.3, streams_on old new run.2 [] (run.0 ++ (run.1, y) ∷ []) gave run.4)
   within_of old new gave items None run = (run.0, run.1, run.2, run.3, streams_on old new run.1 [] run.0 gave run.4)
 
-  module _ {S : Type 0} (registers : S → S → Type 0) (marks : S → ℕ → Woke → S → Type 0) (takes : S → Taken → S → Type 0) where
-    count_gave : (old new : Bounded F S) (i : ℕ) → CountEnds polled registers marks takes old i new → StreamsGave polled old.slots [] new.slots
+  module _ {S : Type 0} (steps : SourceSteps S) (marks : S → ℕ → Woke → S → Type 0) where
+    count_gave : (old new : Bounded F S) (i : ℕ) → CountEnds polled steps marks old i new → StreamsGave polled old.slots [] new.slots
     count_gave old new i h =
         let asks = h.1.1 in
         let at_end = asks.4 in
         let freed = ap (λ (b : Bounded F S). b.slots) h.1.2 ∙ ap (λ (m : Slots F). with_slot_freed m i) at_end.now_holds in
         rw freed (streams_on old.slots asks.2 (with_slot_freed (with_value asks.2 i at_end.left) i) [] [] (passed_gave asks.0 old.slots asks.2 asks.3.passes) (ended_gave asks.2 i at_end.value at_end.left at_end.held at_end.gave))
 
-    counts_gave : (ended : List ℕ) (old new : Bounded F S) → FoldsTo (CountEnds polled registers marks takes) old ended new → StreamsGave polled old.slots [] new.slots
+    counts_gave : (ended : List ℕ) (old new : Bounded F S) → FoldsTo (CountEnds polled steps marks) old ended new → StreamsGave polled old.slots [] new.slots
     counts_gave [] old new h = subst (λ (b : Bounded F S). StreamsGave polled old.slots [] b.slots) h (streams_none old.slots)
     counts_gave (i ∷ ended) old new h = streams_on old.slots h.0.slots new.slots [] [] (count_gave old h.0 i h.1) (counts_gave ended h.0 new h.2)
 
     -- one poll
-    pub item_gave : (old new : Bounded F S) (x : A) → MergeGives polled registers marks takes old (Ready (Some x)) new → (i : ℕ) × StreamsGave polled old.slots ((i, x) ∷ []) new.slots
+    pub item_gave : (old new : Bounded F S) (x : A) → MergeGives polled steps marks old (Ready (Some x)) new → (i : ℕ) × StreamsGave polled old.slots ((i, x) ∷ []) new.slots
     item_gave old new x h =
         let last = h.last_count.1 in
         let i = last.0 in
@@ -106,24 +106,24 @@ module _ {F A : Type 0} (polled : ℕ → F → Poll (Option A) → F → Type 0
           rw stays (streams_on old.slots asks.2 (with_value asks.2 i gives.left) [] ((i, x) ∷ []) passed (at_slot asks.2 i gives.value gives.left ((i, x) ∷ []) gives.held (λ j other. items_elsewhere i j x other) (rw here (gave_item (polled i) gives.value gives.left x gives.gave)))),
         )
 
-    pub pending_gave : (old new : Bounded F S) → MergeGives polled registers marks takes old Pending new → StreamsGave polled old.slots [] new.slots
+    pub pending_gave : (old new : Bounded F S) → MergeGives polled steps marks old Pending new → StreamsGave polled old.slots [] new.slots
     pending_gave old new h =
         let asks = h.last_count.1 in
         streams_on old.slots h.before.slots new.slots [] [] (counts_gave h.ended old h.before h.counts) (passed_gave asks.0 h.before.slots new.slots asks.3.passes)
 
-    pub end_gave : (old new : Bounded F S) → MergeGives polled registers marks takes old (Ready None) new → ((j : ℕ) → value_in new.slots j ≡ None) × StreamsGave polled old.slots [] new.slots
+    pub end_gave : (old new : Bounded F S) → MergeGives polled steps marks old (Ready None) new → ((j : ℕ) → value_in new.slots j ≡ None) × StreamsGave polled old.slots [] new.slots
     end_gave old new h =
         let same = h.last_count.1 in (
           rw same (none_held h.before.slots h.last_count.0),
           rw same (counts_gave h.ended old h.before h.counts),
         )
 
-    pub value_of : (old new : Bounded F S) (answer : Poll (Option A)) → MergeGives polled registers marks takes old answer new → IfReady answer (ComesFromStreams polled old.slots [])
+    pub value_of : (old new : Bounded F S) (answer : Poll (Option A)) → MergeGives polled steps marks old answer new → IfReady answer (ComesFromStreams polled old.slots [])
     value_of old new (Ready (Some x)) h = let gave = item_gave old new x h in ([], gave.0, new.slots, refl, gave.1)
     value_of old new (Ready None) h = let gave = end_gave old new h in ([], new.slots, refl, gave.0, gave.1)
     value_of old new Pending h = tt
 
-    pub rest_of : (old new : Bounded F S) (answer : Poll (Option A)) → MergeGives polled registers marks takes old answer new → IfReady answer (λ o. IfSome o (λ x. After (ComesFromStreams polled old.slots) x (ComesFromStreams polled new.slots)))
+    pub rest_of : (old new : Bounded F S) (answer : Poll (Option A)) → MergeGives polled steps marks old answer new → IfReady answer (λ o. IfSome o (λ x. After (ComesFromStreams polled old.slots) x (ComesFromStreams polled new.slots)))
     rest_of old new (Ready (Some x)) h = after
       where
         after : After (ComesFromStreams polled old.slots) x (ComesFromStreams polled new.slots)
@@ -136,16 +136,16 @@ module _ {F A : Type 0} (polled : ℕ → F → Poll (Option A) → F → Type 0
     rest_of old new (Ready None) h = tt
     rest_of old new Pending h = tt
 
-    pub same_of : (old new : Bounded F S) (answer : Poll (Option A)) → MergeGives polled registers marks takes old answer new → OnPending answer (Within (ComesFromStreams polled old.slots) (ComesFromStreams polled new.slots))
+    pub same_of : (old new : Bounded F S) (answer : Poll (Option A)) → MergeGives polled steps marks old answer new → OnPending answer (Within (ComesFromStreams polled old.slots) (ComesFromStreams polled new.slots))
     same_of old new (Ready o) h = tt
     same_of old new Pending h = within_of old.slots new.slots (pending_gave old new h)
 
     -- a poll that ended the last stream adds nothing to what may come
-    pub ended_of : (old new : Bounded F S) → MergeGives polled registers marks takes old (Ready None) new → Within (ComesFromStreams polled old.slots) (ComesFromStreams polled new.slots)
+    pub ended_of : (old new : Bounded F S) → MergeGives polled steps marks old (Ready None) new → Within (ComesFromStreams polled old.slots) (ComesFromStreams polled new.slots)
     ended_of old new h = within_of old.slots new.slots (end_gave old new h).1
 
     -- many polls
-    one_first : (old mid new : Bounded F S) (answer : Poll (Option A)) (answers : List (Poll (Option A))) → MergeGives polled registers marks takes old answer mid → (given : List (ℕ × A)) × (items_in answers ≡ seconds given) × StreamsGave polled mid.slots given new.slots
+    one_first : (old mid new : Bounded F S) (answer : Poll (Option A)) (answers : List (Poll (Option A))) → MergeGives polled steps marks old answer mid → (given : List (ℕ × A)) × (items_in answers ≡ seconds given) × StreamsGave polled mid.slots given new.slots
         → (given : List (ℕ × A)) × (items_in (answer ∷ answers) ≡ seconds given) × StreamsGave polled old.slots given new.slots
     one_first old mid new (Ready (Some x)) answers h rest =
         let gave = item_gave old mid x h in
@@ -153,6 +153,6 @@ module _ {F A : Type 0} (polled : ℕ → F → Poll (Option A) → F → Type 0
     one_first old mid new (Ready None) answers h rest = (rest.0, rest.1, streams_on old.slots mid.slots new.slots [] rest.0 (end_gave old mid h).1 rest.2)
     one_first old mid new Pending answers h rest = (rest.0, rest.1, streams_on old.slots mid.slots new.slots [] rest.0 (pending_gave old mid h) rest.2)
 
-    pub keeps_order : (old new : Bounded F S) (answers : List (Poll (Option A))) → FoldsTo (MergeGives polled registers marks takes) old answers new → (given : List (ℕ × A)) × (items_in answers ≡ seconds given) × StreamsGave polled old.slots given new.slots
+    pub keeps_order : (old new : Bounded F S) (answers : List (Poll (Option A))) → FoldsTo (MergeGives polled steps marks) old answers new → (given : List (ℕ × A)) × (items_in answers ≡ seconds given) × StreamsGave polled old.slots given new.slots
     keeps_order old new [] h = ([], refl, subst (λ (b : Bounded F S). StreamsGave polled old.slots [] b.slots) h (streams_none old.slots))
     keeps_order old new (answer ∷ answers) h = one_first old h.0 new answer answers h.1 (keeps_order h.0 new answers h.2)

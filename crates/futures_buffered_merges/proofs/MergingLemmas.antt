@@ -4,14 +4,14 @@ use Rattle.std.proofs.lemmas.Fn.{FoldsTo-push}
 use Rattle.futures.specs.declared.task.context.Context.{Context}
 use Rattle.futures.specs.declared.task.Poll.{Poll}
 use Rattle.futures.specs.declared.task.Poll.TheVariants.{Ready}
-use Rattle.futures_buffered_table.specs.declared.answer.Taken.{Taken}
 use Rattle.futures_buffered_table.specs.declared.answer.Woke.{Woke}
 use Rattle.futures_buffered_merges.specs.Merging.{OnlyRegisters, CountGives}
 use Rattle.std.proofs.lemmas.Bool.{cases_eq}
 use Rattle.futures_buffered_core.specs.SlotMap.{Slots, held_count, with_slot_freed}
-use Rattle.futures_buffered_bounded.specs.Held.{AllHeld, AllHeldBut}
-use Rattle.futures_buffered_bounded.specs.FuturesUnorderedBounded.{Bounded, AsksUntil, MarksSlot, with_empty_slot, with_source}
-use Rattle.futures_buffered_bounded.proofs.GivingLemmas.{value_in-with_slot_freed, value_in-with_slot_freed_other}
+use Rattle.futures_buffered_core.specs.ReadySource.{SourceSteps}
+use Rattle.futures_buffered_unordered_bounded.specs.Held.{AllHeld, AllHeldBut}
+use Rattle.futures_buffered_unordered_bounded.specs.FuturesUnorderedBounded.{Bounded, AsksUntil, MarksSlot, with_empty_slot, with_source}
+use Rattle.futures_buffered_unordered_bounded.proofs.HeldGivesLemmas.{value_in-with_slot_freed, value_in-with_slot_freed_other}
 
 -- what holds of all but one value holds of all once that slot is empty
 pub AllHeld-without : {F : Type 0} (P : F → Type 0) (m : Slots F) (i : ℕ) → AllHeldBut i P m → AllHeld P (with_slot_freed m i)
@@ -31,10 +31,10 @@ pub registers_once_more : {S : Type 0} (registers_poll : S → Context → Conte
 registers_once_more registers_poll old mid new source before once =
     (before.0 ++ source ∷ [], FoldsTo-push (λ cx s next. registers_poll s cx next) old before.0 mid source new before.1 once)
 
-module _ {F A S : Type 0} (polled : ℕ → F → Poll (Option A) → F → Type 0) (registers : S → S → Type 0) (marks : S → ℕ → Woke → S → Type 0) (takes : S → Taken → S → Type 0) where
+module _ {F A S : Type 0} (polled : ℕ → F → Poll (Option A) → F → Type 0) (steps : SourceSteps S) (marks : S → ℕ → Woke → S → Type 0) where
   -- one count, by what the set's calls leave
-  pub count_item : (old left new : Bounded F S) (i : ℕ) (o : Option A) (x : A) → 0 < held_count old.slots → AsksUntil polled registers takes old (Ready (i, o)) left → o ≡ Some x → MarksSlot marks left.source i new.source → new.slots ≡ left.slots → new.limit ≡ left.limit → CountGives polled registers marks takes old (Ready (Some x)) new
+  pub count_item : (old left new : Bounded F S) (i : ℕ) (o : Option A) (x : A) → 0 < held_count old.slots → AsksUntil polled steps old (Ready (i, o)) left → o ≡ Some x → MarksSlot marks left.source i new.source → new.slots ≡ left.slots → new.limit ≡ left.limit → CountGives polled steps marks old (Ready (Some x)) new
   count_item old left new i o x some asks is marked slots limit = (some, (i, left, rw is at asks, marked, same_but_source left new slots limit))
 
-  pub count_end : (old left new : Bounded F S) (i : ℕ) (o : Option A) → 0 < held_count old.slots → AsksUntil polled registers takes old (Ready (i, o)) left → o ≡ None → new ≡ with_empty_slot left i → CountGives polled registers marks takes old (Ready None) new
+  pub count_end : (old left new : Bounded F S) (i : ℕ) (o : Option A) → 0 < held_count old.slots → AsksUntil polled steps old (Ready (i, o)) left → o ≡ None → new ≡ with_empty_slot left i → CountGives polled steps marks old (Ready None) new
   count_end old left new i o some asks is emptied = (i, (some, (left, rw is at asks, emptied)))

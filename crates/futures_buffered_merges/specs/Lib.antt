@@ -2,4 +2,3 @@ pub mod SlotStream
 pub mod Merging
 pub mod MergeBounded
 pub mod MergeUnbounded
-pub mod MergeUnboundedInvariant

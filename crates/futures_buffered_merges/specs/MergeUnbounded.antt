@@ -4,11 +4,11 @@ use Rattle.std.specs.List.{FoldsTo}
 use Rattle.futures.specs.declared.task.Poll.{Poll}
 use Rattle.futures.specs.Runs.{Runs, ItemsWhere, seconds}
 use Rattle.futures_buffered_core.specs.SlotMap.{Slots, value_in}
-use Rattle.futures_buffered_table.specs.declared.answer.Taken.{Taken}
 use Rattle.futures_buffered_table.specs.declared.answer.Woke.{Woke}
-use Rattle.futures_buffered_bounded.specs.FuturesUnorderedBounded.{Bounded}
-use Rattle.futures_buffered_bounded.specs.Groups.{Groups, GroupsGive}
-use Rattle.futures_buffered_growing.specs.FuturesUnordered.{AnyOf}
+use Rattle.futures_buffered_core.specs.ReadySource.{SourceSteps}
+use Rattle.futures_buffered_unordered_bounded.specs.FuturesUnorderedBounded.{Bounded}
+use Rattle.futures_buffered_unordered_bounded.specs.Groups.{Groups, GroupsGive}
+use Rattle.futures_buffered_unordered.specs.SlotGroups.{AnyOf}
 use Rattle.futures_buffered_merges.specs.SlotStream.{items_in}
 use Rattle.futures_buffered_merges.specs.Merging.{MergeGives}
 use Rattle.futures_buffered_merges.specs.MergeBounded.{StreamsGave, ComesFromStreams}
@@ -30,10 +30,12 @@ module _ {F A S : Type 0} (polled : ℕ → F → Poll (Option A) → F → Type
   GroupMayGive group x = (items : List A) × ComesFromStreams polled group.slots items (Some x)
 
   -- what may come from the groups: items that each may come from one of them
-  abbrev pub ComesFromGroups : List (Bounded F S) → Runs A
-  ComesFromGroups groups = ItemsWhere (λ x. AnyOf (λ group. GroupMayGive group x) groups)
+  abbrev pub ItemsComeFromGroups : List (Bounded F S) → Runs A
+  ItemsComeFromGroups groups = ItemsWhere (λ x. AnyOf (λ group. GroupMayGive group x) groups)
 
-  -- These items are all that the streams of the old groups gave, of each stream in its order: those of the first group, interleaved with those of the others. A group that is no longer listed holds no stream.
+  -- These items are all that the streams of the old groups gave, of each stream in its order: those
+  -- of the first group, interleaved with those of the others. A group that is no longer listed
+  -- holds no stream.
   abbrev pub GroupsGave : List (Bounded F S) → List A → List (Bounded F S) → Type 0
   GroupsGave [] items new = (items ≡ []) × (new ≡ [])
   GroupsGave (group ∷ groups) items new = (left : Bounded F S) × (given : List (ℕ × A))
@@ -45,8 +47,8 @@ module _ {F A S : Type 0} (polled : ℕ → F → Poll (Option A) → F → Type
 
 -- After any polls the items of the answers are all that the streams gave.
 abbrev pub KeepsOrderInGroups : {F A S : Type 0} → (ℕ → F → Poll (Option A) → F → Type 0)
-    → (S → S → Type 0) → (S → ℕ → Woke → S → Type 0) → (S → Taken → S → Type 0) → Type 0
-KeepsOrderInGroups {F} {A} {S} polled registers marks takes = (old new : Groups (Bounded F S))
+    → SourceSteps S → (S → ℕ → Woke → S → Type 0) → Type 0
+KeepsOrderInGroups {F} {A} {S} polled steps marks = (old new : Groups (Bounded F S))
     (answers : List (Poll (Option A)))
-    → FoldsTo (GroupsGive (MergeGives polled registers marks takes)) old answers new
+    → FoldsTo (GroupsGive (MergeGives polled steps marks)) old answers new
     → GroupsGave polled old.listed (items_in answers) new.listed

@@ -5,9 +5,10 @@ use Rattle.futures.specs.declared.task.context.Context.{Context}
 use Rattle.futures.specs.declared.task.Poll.{Poll}
 use Rattle.futures.specs.declared.task.Poll.TheVariants.{Ready, Pending}
 use Rattle.futures_buffered_core.specs.SlotMap.{held_count}
-use Rattle.futures_buffered_table.specs.declared.answer.Taken.{Taken}
 use Rattle.futures_buffered_table.specs.declared.answer.Woke.{Woke}
-use Rattle.futures_buffered_bounded.specs.FuturesUnorderedBounded.{Bounded, AsksUntil, MarksSlot, with_empty_slot, with_source}
+use Rattle.futures_buffered_core.specs.ReadySource.{SourceSteps}
+use Rattle.futures_buffered_unordered_bounded.specs.FuturesUnorderedBounded.{Bounded, AsksUntil, MarksSlot}
+use Rattle.futures_buffered_unordered_bounded.specs.FuturesUnorderedBounded.{with_empty_slot, with_source}
 
 -- a poll's context was changed by registrations with a source alone, or not at all
 abbrev pub OnlyRegisters : {S : Type 0} → (S → Context → Context → Type 0)
@@ -18,25 +19,28 @@ OnlyRegisters {S} registers_poll old new = (sources : List S)
 module _
     {F A S : Type 0}
     (polled : ℕ → F → Poll (Option A) → F → Type 0)
-    (registers : S → S → Type 0)
+    (steps : SourceSteps S)
     (marks : S → ℕ → Woke → S → Type 0)
-    (takes : S → Taken → S → Type 0)
   where
-    -- one count of names, which began with a registration and ended with the end of the stream of slot i: that stream is dropped, and its slot is the first free one
+    -- one count of names, which began with a registration and ended with the end of the stream of
+    -- slot i: that stream is dropped, and its slot is the first free one
     abbrev pub CountEnds : Bounded F S → ℕ → Bounded F S → Type 0
     CountEnds old i new = (0 < held_count old.slots)
         × ((left : Bounded F S)
-        × AsksUntil polled registers takes old (Ready (i, None)) left
+        × AsksUntil polled steps old (Ready (i, None)) left
         × (new ≡ with_empty_slot left i))
 
-    -- The last count. An item: its stream stays as the poll left it, and its slot is marked. Pending: no further name came, or the limit was reached. None: no stream is held, and nothing was asked.
+    -- The last count. An item: its stream stays as the poll left it, and its slot is marked.
+    -- Pending: no further name came, or the limit was reached. None: no stream is held, and nothing
+    -- was asked.
     abbrev pub LastCount : Bounded F S → Poll (Option A) → Bounded F S → Type 0
     LastCount old (Ready (Some x)) new = (0 < held_count old.slots)
         × ((i : ℕ) × (left : Bounded F S)
-        × AsksUntil polled registers takes old (Ready (i, Some x)) left
+        × AsksUntil polled steps old (Ready (i, Some x)) left
         × MarksSlot marks left.source i new.source
         × (new ≡ with_source left new.source))
-    LastCount old Pending new = (0 < held_count old.slots) × AsksUntil polled registers takes old Pending new
+    LastCount old Pending new =
+        (0 < held_count old.slots) × AsksUntil polled steps old Pending new
     LastCount old (Ready None) new = (held_count old.slots ≡ 0) × (new ≡ old)
 
     -- what one count gives, where a stream is held: as the last count does, or the end of a stream
@@ -46,7 +50,8 @@ module _
     CountGives old Pending new = LastCount old Pending new
 
     -- one poll: counts that ended the streams of these slots, and then the last count
-    pub record MergeGives (old : Bounded F S) (answer : Poll (Option A)) (new : Bounded F S) : Type 0 where
+    pub record MergeGives (old : Bounded F S) (answer : Poll (Option A))
+        (new : Bounded F S) : Type 0 where
       pub ended : List ℕ
       pub before : Bounded F S
       pub counts : FoldsTo CountEnds old ended before

@@ -1,7 +1,7 @@
 //! As many streams as it has slots, polled as one.
 //!
 //! Each stream stands in a slot, and a poll asks the source which slots to poll, as a set of futures does. A stream that gives an item stays, and its slot is marked, so that a later poll polls it again behind the others that were marked before. A stream that ends leaves its slot to the next push.
-ghost use Rattle.std.specs.Prelude.{◌≡◌, ◌<◌, ◌≤◌, ◌+◌, ◌↔◌, [], List, IfOk, IfErr, OnOk, IfSome, IfNone, OnSome, IsTrue, ◌⊎◌};
+ghost use Rattle.std.specs.Prelude.{◌≡◌, ◌<◌, ◌≤◌, ◌+◌, ◌↔◌, [], List, IfOk, IfErr, OnOk, IfSome, IfNone, IsTrue, ◌⊎◌};
 ghost use Rattle.std.specs.Iterator.{IsFiniteIterable};
 ghost use Rattle.futures.specs.Poll.{IfReady, OnPending};
 ghost use Rattle.futures.specs.Runs.{After, Within};
@@ -9,8 +9,8 @@ ghost use Rattle.futures.specs.Task.{Covers, Keeps};
 ghost use Rattle.futures_buffered_core.specs.Drawn.{Draws, DrawsMoreThan};
 ghost use Rattle.futures_buffered_core.specs.ReadyShared.{IsNewShared, MarksShared};
 ghost use Rattle.futures_buffered_core.specs.SlotMap.{held_count, slot_count, IsFull};
-ghost use Rattle.futures_buffered_bounded.specs.Held.{AllHeld};
-ghost use Rattle.futures_buffered_bounded.specs.FuturesUnorderedBounded.{HoldsEach, Pushes, SaidEmpty, IsWoken};
+ghost use Rattle.futures_buffered_unordered_bounded.specs.Held.{AllHeld};
+ghost use Rattle.futures_buffered_unordered_bounded.specs.FuturesUnorderedBounded.{HoldsEach, Pushes, SaidEmpty, IsWoken};
 ghost use Rattle.futures_buffered_merges.specs.Merging.{MergeGives, OnlyRegisters};
 ghost use Rattle.futures_buffered_merges.specs.MergeBounded.{KeepsOrder, ComesFromStreams};
 
@@ -18,10 +18,12 @@ use crate::merging::poll_streams;
 use crate::slot_stream::SlotStream;
 use futures::Stream;
 use futures::task::{Context, Poll};
-use futures_buffered_bounded::futures_unordered_bounded::{FuturesUnorderedBounded, POLL_LIMIT};
 use futures_buffered_core::ready_core::{MAX_CAPACITY, NewFault};
 use futures_buffered_core::ready_shared::SharedReady;
 use futures_buffered_core::ready_source::{NewSource, ReadySource};
+use futures_buffered_unordered_bounded::futures_unordered_bounded::{
+    FuturesUnorderedBounded, POLL_LIMIT,
+};
 use std::alloc::Global;
 use std::marker::Model;
 
@@ -37,7 +39,7 @@ pub struct MergeBounded<St: Drop, S: ReadySource> {
 pub type Merge<St, S> = MergeBounded<St, S>;
 
 impl<St: Drop, S: ReadySource> Model for MergeBounded<St, S> {
-    ghost use Rattle.futures_buffered_bounded.specs.FuturesUnorderedBounded.{Bounded, bounded_code};
+    ghost use Rattle.futures_buffered_unordered_bounded.specs.FuturesUnorderedBounded.{Bounded, bounded_code};
 
     ghost Value = { Bounded St S };
 
@@ -174,7 +176,7 @@ impl<St: SlotStream<S::Waker>, S: ReadySource> Stream for MergeBounded<St, S> {
     /// A stream that gives an item stays, and its slot is marked. A stream that ends is dropped, and where another is still held a new count begins. `Ready(None)` at once where no stream is held, and only there. `Pending` where no further name came or a count reached the limit; where the source paused and at the limit the task is woken at once. Takes no memory, and time in proportion to the names taken, besides the polls.
     fn poll_next(&mut self, cx: &mut Context<'_>) -> Poll<Option<St::Item>>
         requires { AllHeld St.can_poll self.old.slots }
-        ensures polled { MergeGives St.polled S.registers S.marks S.takes
+        ensures polled { MergeGives St.polled S.steps S.marks
             self.old result self.new }
         ensures value { IfReady result (ComesFromStreams St.polled self.old.slots []) }
         ensures rest { IfReady result (λ o. IfSome o (λ x.
@@ -188,7 +190,7 @@ impl<St: SlotStream<S::Waker>, S: ReadySource> Stream for MergeBounded<St, S> {
         ensures limit { self.new.limit ≡ self.old.limit }
         ensures covered { OnPending result (Covers cx.new (S.needs self.new.source)) }
         ensures woken { OnPending result (IsWoken cx.new
-            ⊎ (SaidEmpty S.takes self.new.source × OnlyRegisters S.registers_poll cx.old cx.new)) }
+            ⊎ (SaidEmpty S.steps self.new.source × OnlyRegisters S.registers_poll cx.old cx.new)) }
         ensures only_registered { IfReady result (λ _.
             OnlyRegisters S.registers_poll cx.old cx.new) }
         ensures untouched { held_count self.old.slots ≡ 0 → cx.new ≡ cx.old }
@@ -202,5 +204,5 @@ impl<St: SlotStream<S::Waker>, S: ReadySource> Stream for MergeBounded<St, S> {
 ///
 /// This is of the words that a poll's contract says of each poll. Nothing is done.
 pub fn polls_keep_order<St: SlotStream<S::Waker>, S: ReadySource>()
-    ensures { KeepsOrder St.polled S.registers S.marks S.takes }
+    ensures { KeepsOrder St.polled S.steps S.marks }
 {}

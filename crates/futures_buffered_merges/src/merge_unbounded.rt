@@ -1,34 +1,29 @@
 //! Streams in groups of slots, polled as one: a merge that grows.
 //!
-//! Each group is a set of as many streams as it has slots. A push goes into the last group, and makes one of twice its slots where it is full. A poll asks each group in turn, from the place where the poll before ended, until one gives an item. Each group that is asked registers the task, and a registration with one does for those beside it.
-ghost use Rattle.std.specs.Prelude.{◌≡◌, ◌↔◌, ◌<◌, ◌≤◌, ◌+◌, ◌⊎◌, List, [], length, IsTrue, OnOk, OnErr, IsErr, IfOk, IfErr, IfNone, IfSome, OnSome};
-ghost use Rattle.std.specs.List.{All};
+//! Each group is a set of as many streams as it has slots, and is asked as a bounded merge is polled. Each group that is asked registers the task, and a registration with one does for those beside it.
+ghost use Rattle.std.specs.Prelude.{◌≡◌, ◌↔◌, ◌<◌, ◌≤◌, ◌+◌, ◌⊎◌, List, [], IsTrue, OnOk, OnErr, IsErr, IfOk, IfErr, IfSome};
 ghost use Rattle.std.specs.Iterator.{IsFiniteIterable};
 ghost use Rattle.futures.specs.Poll.{IfReady, OnPending};
 ghost use Rattle.futures.specs.Runs.{After, Within};
 ghost use Rattle.futures.specs.Task.{Covers, Keeps};
-ghost use Rattle.futures_buffered_core.specs.Answer.{RefusesTooLarge};
 ghost use Rattle.futures_buffered_core.specs.Drawn.{Draws};
 ghost use Rattle.futures_buffered_core.specs.ReadyShared.{IsNewShared, MarksShared};
-ghost use Rattle.futures_buffered_core.specs.ReadySource.{WaitsAlike};
-ghost use Rattle.futures_buffered_bounded.specs.Held.{AllHeld};
-ghost use Rattle.futures_buffered_bounded.specs.Groups.{GroupsGive};
-ghost use Rattle.futures_buffered_bounded.specs.GroupsStep.{AsksOne, next_place};
-ghost use Rattle.futures_buffered_growing.specs.FuturesUnordered.{EachHeld, EachCovered, AnyNeeds, GrowingPushes, IsAtBound, IsNewGroup, LastIsFull, PushesEach, no_groups, all_held, next_capacity, spare_places};
-ghost use Rattle.futures_buffered_growing.specs.FuturesUnorderedInvariant.{AddsGroup, PushesLast};
+ghost use Rattle.futures_buffered_unordered_bounded.specs.Groups.{GroupsGive};
+ghost use Rattle.futures_buffered_unordered.specs.SlotGroups.{EachHeld, EachCovered, AnyNeeds, GrowingPushes, IsAtBound, LastIsFull, PushesEach, no_groups, all_held};
 ghost use Rattle.futures_buffered_merges.specs.Merging.{MergeGives};
-ghost use Rattle.futures_buffered_merges.specs.MergeUnbounded.{ComesFromGroups, KeepsOrderInGroups};
-ghost use Rattle.futures_buffered_merges.specs.MergeUnboundedInvariant.{KeepsStreams};
+ghost use Rattle.futures_buffered_merges.specs.MergeUnbounded.{ItemsComeFromGroups, KeepsOrderInGroups};
 
 use crate::merging::poll_streams;
 use crate::slot_stream::SlotStream;
 use futures::Stream;
 use futures::task::{Context, Poll};
-use futures_buffered_bounded::futures_unordered_bounded::{FuturesUnorderedBounded, POLL_LIMIT};
-use futures_buffered_core::ready_core::{MAX_CAPACITY, NewFault};
+use futures_buffered_core::ready_core::NewFault;
 use futures_buffered_core::ready_shared::SharedReady;
 use futures_buffered_core::ready_source::NewSource;
-use futures_buffered_growing::futures_unordered::{FIRST_GROUP, MAX_HELD};
+use futures_buffered_unordered::slot_groups::{AskGroup, FIRST_GROUP, MAX_HELD, SlotGroups};
+use futures_buffered_unordered_bounded::futures_unordered_bounded::{
+    FuturesUnorderedBounded, POLL_LIMIT,
+};
 use std::alloc::Global;
 use std::marker::Model;
 
@@ -37,45 +32,46 @@ use std::marker::Model;
 /// A contract sees the groups, each with what its slots hold, the content of its source and its limit; the place where the next poll begins; and the limit of names of one count. Only a push that makes a group, and a constructor that pushes, take memory. The calls wait for nobody where those of the source do not.
 #[derive(Drop)]
 pub struct MergeUnbounded<St: Drop, S: NewSource> {
-    groups: Vec<FuturesUnorderedBounded<St, S>>,
-    place: usize,
-    held: usize,
-    limit: usize,
-    env: S::Env,
-    alloc: Global,
+    groups: SlotGroups<St, S>,
 }
 
 impl<St: Drop, S: NewSource> Model for MergeUnbounded<St, S> {
-    ghost use Rattle.futures_buffered_growing.specs.FuturesUnordered.{Growing, growing_code};
+    ghost use Rattle.futures_buffered_unordered.specs.SlotGroups.{Growing, growing_code};
 
     ghost Value = { Growing St S };
 
     ghost coded = { growing_code St.code S.code };
 
-    ghost use Rattle.futures_buffered_growing.specs.FuturesUnorderedInvariant.{KeepsGroups};
-
-    ghost view = { λ m. record {
-      groups = record { listed = m.groups.items; place = m.place };
-      limit = m.limit;
-    } };
-
-    ghost invariant = { λ m. KeepsGroups S.needs
-        (record { listed = m.groups.items; place = m.place }) m.limit m.held };
+    ghost view = { λ m. m.groups };
 }
 
-// One poll of a group, which stays of its kind.
-fn ask_group<St: SlotStream<S::Waker>, S: NewSource>(
-    group: &mut FuturesUnorderedBounded<St, S>,
-    cx: &mut Context<'_>,
-) -> Poll<Option<St::Item>>
-    requires { AllHeld St.can_poll group.old.slots }
-    ensures polled { MergeGives St.polled S.registers S.marks S.takes group.old result group.new }
-    ensures keeps { KeepsStreams S.needs group.old result group.new }
-    ensures pollable { AllHeld St.can_poll group.new.slots }
-    ensures covered { OnPending result (Covers cx.new (S.needs group.new.source)) }
-    ensures kept { Keeps cx.old cx.new }
-{
-    poll_streams(group, cx)
+// Asks a group as a bounded merge is polled.
+#[derive(Drop)]
+struct AsMerge;
+
+impl<St: SlotStream<S::Waker>, S: NewSource> AskGroup<St, S> for AsMerge {
+    ghost use Rattle.std.specs.Prelude.{⊤};
+
+    type Output = St::Item;
+
+    ghost can_poll = { St.can_poll };
+
+    ghost asks = { MergeGives St.polled S.steps S.marks };
+
+    ghost passes = { λ _ _. ⊤ };
+
+    fn ask(
+        &self,
+        group: &mut FuturesUnorderedBounded<St, S>,
+        cx: &mut Context<'_>,
+        _is_registered: bool,
+    ) -> Poll<Option<St::Item>> {
+        poll_streams(group, cx)
+    }
+
+    ghost passes_none = { λ cx. tt };
+
+    ghost passes_more = { λ a b c first then. tt };
 }
 
 impl<St: Drop, S: NewSource> MergeUnbounded<St, S> {
@@ -85,12 +81,7 @@ impl<St: Drop, S: NewSource> MergeUnbounded<St, S> {
         ensures { result ≡ no_groups limit }
     {
         MergeUnbounded {
-            groups: Vec::new(alloc),
-            place: 0,
-            held: 0,
-            limit,
-            env,
-            alloc,
+            groups: SlotGroups::without_groups(env, alloc, limit),
         }
     }
 
@@ -130,7 +121,7 @@ impl<St: Drop, S: NewSource> MergeUnbounded<St, S> {
         let mut merge = Self::without_groups(env, alloc, limit);
         for stream in iter {
             let Ok(()) = merge.push(stream) else {
-                return Err(merge.refusal());
+                return Err(merge.groups.refusal());
             };
         }
         Ok(merge)
@@ -140,97 +131,14 @@ impl<St: Drop, S: NewSource> MergeUnbounded<St, S> {
     pub fn len(&self) -> usize
         ensures { result ≡ all_held self.now.groups.listed }
     {
-        self.held
+        self.groups.len()
     }
 
     /// Whether no stream is held. Takes the same time at any number of groups.
     pub fn is_empty(&self) -> bool
         ensures { IsTrue result ↔ (all_held self.now.groups.listed ≡ 0) }
     {
-        self.held == 0
-    }
-
-    // The free places of the last group, where a push goes.
-    fn spare_places(&self) -> usize
-        ensures value { result ≡ spare_places self.now.groups.listed }
-        ensures few { result ≤ MAX_CAPACITY }
-    {
-        let groups = self.groups.len();
-        if groups == 0 {
-            return 0;
-        }
-        let last = &self.groups[groups - 1];
-        last.capacity() - last.len()
-    }
-
-    // The number of slots of the group that a push makes.
-    fn next_capacity(&self) -> usize
-        ensures value { result ≡ next_capacity FIRST_GROUP self.now.groups.listed }
-        ensures some { 0 < result }
-    {
-        let groups = self.groups.len();
-        if groups == 0 {
-            return FIRST_GROUP;
-        }
-        2 * self.groups[groups - 1].capacity()
-    }
-
-    // An empty group beside the others.
-    fn make_group(&mut self, capacity: usize) -> Result<FuturesUnorderedBounded<St, S>, NewFault>
-        ensures new { IfOk result (IsNewGroup S.made capacity self.old.limit) }
-        ensures beside { IfOk result (λ group.
-            All (λ other. WaitsAlike S.needs other.source group.source)
-            self.old.groups.listed) }
-        ensures same { self.new ≡ self.old }
-        ensures refuses { RefusesTooLarge capacity result }
-    {
-        let groups = self.groups.len();
-        if groups == 0 {
-            return FuturesUnorderedBounded::with_new_source(
-                &self.env, self.alloc, capacity, self.limit,
-            );
-        }
-        self.groups[groups - 1].new_beside(self.alloc, capacity)
-    }
-
-    // Adds an empty group behind all others. Both growths are made before the list changes.
-    fn add_group(&mut self, capacity: usize) -> Result<(), NewFault>
-        requires some { 0 < capacity }
-        requires full { LastIsFull self.old.groups.listed }
-        ensures added { OnOk result (AddsGroup S.made capacity self.old self.new) }
-        ensures same { OnErr result (self.new ≡ self.old) }
-        ensures refuses { RefusesTooLarge capacity result }
-    {
-        let group = self.make_group(capacity)?;
-        if self.groups.reserve(1).is_err() {
-            return Err(NewFault::Memory);
-        }
-        self.groups.push_reserved(group);
-        Ok(())
-    }
-
-    // Puts the stream into the last group, which has a free place.
-    fn push_last(&mut self, stream: St)
-        requires room { 0 < spare_places self.old.groups.listed }
-        requires few { all_held self.old.groups.listed < MAX_HELD }
-        ensures pushed { PushesLast S.marks self.old stream self.new }
-        ensures count { all_held self.new.groups.listed ≡ all_held self.old.groups.listed + 1 }
-    {
-        let last = self.groups.len() - 1;
-        self.groups[last].push(stream);
-        self.held += 1;
-    }
-
-    // Why a push was refused.
-    fn refusal(&self) -> NewFault
-        ensures { (result ≡ NewFault.TooLarge) ↔ IsAtBound self.now.groups.listed }
-    {
-        let is_full = self.spare_places() == 0;
-        if self.held == MAX_HELD || (is_full && self.next_capacity() > MAX_CAPACITY) {
-            NewFault::TooLarge
-        } else {
-            NewFault::Memory
-        }
+        self.groups.is_empty()
     }
 
     /// Puts the stream into the last group. Where that is full, or there is none, a group is made behind it: of twice as many slots, or of `FIRST_GROUP`.
@@ -246,95 +154,7 @@ impl<St: Drop, S: NewSource> MergeUnbounded<St, S> {
             ⊎ LastIsFull self.old.groups.listed) }
         ensures large { IsAtBound self.old.groups.listed → IsErr result }
     {
-        if self.held == MAX_HELD {
-            return Err(stream);
-        }
-        if self.spare_places() == 0 {
-            let capacity = self.next_capacity();
-            let Ok(()) = self.add_group(capacity) else {
-                return Err(stream);
-            };
-        }
-        self.push_last(stream);
-        Ok(())
-    }
-
-    // The place of the group that is asked next.
-    fn next_place(&self) -> usize
-        requires { 0 < length self.now.groups.listed }
-        ensures value { result ≡ next_place self.now.groups }
-        ensures below { result < length self.now.groups.listed }
-    {
-        if self.place < self.groups.len() {
-            self.place
-        } else {
-            0
-        }
-    }
-}
-
-impl<St: SlotStream<S::Waker>, S: NewSource> MergeUnbounded<St, S> {
-    // Asks the group at the place, and goes on to the next: a group that has ended leaves, unless it is the last.
-    fn ask_one(&mut self, cx: &mut Context<'_>) -> Poll<Option<St::Item>>
-        requires some { 0 < length self.old.groups.listed }
-        requires pollable { EachHeld St.can_poll self.old.groups.listed }
-        ensures asked { AsksOne (MergeGives St.polled S.registers S.marks S.takes)
-            self.old.groups result self.new.groups }
-        ensures item { IfReady result (λ o. OnSome o (0 < all_held self.new.groups.listed)) }
-        ensures limit { self.new.limit ≡ self.old.limit }
-        ensures pollable { EachHeld St.can_poll self.new.groups.listed }
-        ensures covered { OnPending result (EachCovered S.needs cx.new self.new.groups.listed) }
-        ensures still_covered { EachCovered S.needs cx.old self.old.groups.listed →
-            EachCovered S.needs cx.new self.new.groups.listed }
-        ensures kept { Keeps cx.old cx.new }
-    {
-        let place = self.next_place();
-        let before = self.groups[place].len();
-        let answer = ask_group(&mut self.groups[place], cx);
-        self.held -= before - self.groups[place].len();
-        match &answer {
-            Poll::Pending => self.place = place + 1,
-            Poll::Ready(item) => {
-                if item.is_some() {
-                    self.place = place;
-                } else if place + 1 == self.groups.len() {
-                    self.place = 0;
-                } else {
-                    let _ended = self.groups.remove(place);
-                    self.place = place;
-                }
-            }
-        }
-        answer
-    }
-
-    // One poll, as `poll_next`.
-    fn poll_groups(&mut self, cx: &mut Context<'_>) -> Poll<Option<St::Item>>
-        requires { EachHeld St.can_poll self.old.groups.listed }
-        ensures polled { GroupsGive (MergeGives St.polled S.registers S.marks S.takes)
-            self.old.groups result self.new.groups }
-        ensures ends { (result ≡ Poll.Ready None) ↔ (all_held self.new.groups.listed ≡ 0) }
-        ensures limit { self.new.limit ≡ self.old.limit }
-        ensures pollable { EachHeld St.can_poll self.new.groups.listed }
-        ensures covered { OnPending result (EachCovered S.needs cx.new self.new.groups.listed) }
-        ensures kept { Keeps cx.old cx.new }
-    {
-        let mut is_pending = false;
-        for _asked in 0..self.groups.len() {
-            match self.ask_one(cx) {
-                Poll::Pending => is_pending = true,
-                Poll::Ready(answer) => {
-                    if let Some(item) = answer {
-                        return Poll::Ready(Some(item));
-                    }
-                }
-            }
-        }
-        if is_pending {
-            Poll::Pending
-        } else {
-            Poll::Ready(None)
-        }
+        self.groups.push(stream)
     }
 }
 
@@ -345,31 +165,31 @@ impl<St: SlotStream<S::Waker>, S: NewSource> Stream for MergeUnbounded<St, S> {
 
     ghost needs = { λ merge. AnyNeeds S.needs merge.groups.listed };
 
-    ghost yields = { λ merge. ComesFromGroups St.polled merge.groups.listed };
+    ghost yields = { λ merge. ItemsComeFromGroups St.polled merge.groups.listed };
 
     /// One poll: each group that stands as the poll begins is asked once, in turn, until one gives an item.
     ///
     /// A stream that gives an item stays, and its slot is marked. A stream that ends is dropped. A group that holds nothing leaves, unless it is the last. `Ready(None)` where no stream is held any more. Each count begins with a registration of the task. Takes no memory. Takes time in proportion to the number of groups and to the names taken, besides the polls.
     fn poll_next(&mut self, cx: &mut Context<'_>) -> Poll<Option<St::Item>>
         requires { EachHeld St.can_poll self.old.groups.listed }
-        ensures polled { GroupsGive (MergeGives St.polled S.registers S.marks S.takes)
+        ensures polled { GroupsGive (MergeGives St.polled S.steps S.marks)
             self.old.groups result self.new.groups }
         ensures ends { (result ≡ Poll.Ready None) ↔ (all_held self.new.groups.listed ≡ 0) }
         ensures limit { self.new.limit ≡ self.old.limit }
-        ensures value { IfReady result (ComesFromGroups St.polled self.old.groups.listed []) }
+        ensures value { IfReady result (ItemsComeFromGroups St.polled self.old.groups.listed []) }
         ensures rest { IfReady result (λ o. IfSome o (λ x.
-            After (ComesFromGroups St.polled self.old.groups.listed) x
-            (ComesFromGroups St.polled self.new.groups.listed))) }
+            After (ItemsComeFromGroups St.polled self.old.groups.listed) x
+            (ItemsComeFromGroups St.polled self.new.groups.listed))) }
         ensures same { OnPending result
-            (Within (ComesFromGroups St.polled self.old.groups.listed)
-            (ComesFromGroups St.polled self.new.groups.listed)) }
+            (Within (ItemsComeFromGroups St.polled self.old.groups.listed)
+            (ItemsComeFromGroups St.polled self.new.groups.listed)) }
         ensures pollable { EachHeld St.can_poll self.new.groups.listed }
         ensures covered { OnPending result (EachCovered S.needs cx.new self.new.groups.listed) }
         ensures registered { OnPending result
             (Covers cx.new (AnyNeeds S.needs self.new.groups.listed)) }
         ensures kept { Keeps cx.old cx.new }
     {
-        self.poll_groups(cx)
+        self.groups.poll_groups(&AsMerge, cx)
     }
 }
 
@@ -377,7 +197,7 @@ impl<St: SlotStream<S::Waker>, S: NewSource> Stream for MergeUnbounded<St, S> {
 ///
 /// This is of the words that a poll's contract says of each poll. Nothing is done.
 pub fn polls_keep_order<St: SlotStream<S::Waker>, S: NewSource>()
-    ensures { KeepsOrderInGroups St.polled S.registers S.marks S.takes }
+    ensures { KeepsOrderInGroups St.polled S.steps S.marks }
 {}
 
 impl<St: Drop> MergeUnbounded<St, SharedReady> {

@@ -3,14 +3,14 @@ ghost use Rattle.std.specs.Prelude.{◌≡◌, ◌<◌, ◌+◌, ◌≤◌, ◌�
 ghost use Rattle.futures.specs.Poll.{IfReady, OnPending};
 ghost use Rattle.futures.specs.Task.{Covers, Keeps};
 ghost use Rattle.futures_buffered_core.specs.SlotMap.{held_count, slot_count};
-ghost use Rattle.futures_buffered_bounded.specs.Held.{AllHeld};
-ghost use Rattle.futures_buffered_bounded.specs.FuturesUnorderedBounded.{SaidEmpty, IsWoken};
+ghost use Rattle.futures_buffered_unordered_bounded.specs.Held.{AllHeld};
+ghost use Rattle.futures_buffered_unordered_bounded.specs.FuturesUnorderedBounded.{SaidEmpty, IsWoken};
 ghost use Rattle.futures_buffered_merges.specs.Merging.{CountGives, MergeGives, OnlyRegisters};
 
 use crate::slot_stream::{PollStream, SlotStream};
 use futures::task::{Context, Poll};
-use futures_buffered_bounded::futures_unordered_bounded::FuturesUnorderedBounded;
 use futures_buffered_core::ready_source::ReadySource;
+use futures_buffered_unordered_bounded::futures_unordered_bounded::FuturesUnorderedBounded;
 
 // One count of names: an item, whose stream stays and is marked; the end of a stream, which is dropped; or Pending.
 fn poll_count<St: SlotStream<S::Waker>, S: ReadySource>(
@@ -19,16 +19,18 @@ fn poll_count<St: SlotStream<S::Waker>, S: ReadySource>(
 ) -> Poll<Option<St::Item>>
     requires held { AllHeld St.can_poll set.old.slots }
     requires some { 0 < held_count set.old.slots }
-    ensures counted { CountGives St.polled S.registers S.marks S.takes set.old result set.new }
-    ensures count { IfReady result (λ o. OnSome o (held_count set.new.slots ≡ held_count set.old.slots)) }
+    ensures counted { CountGives St.polled S.steps S.marks set.old result set.new }
+    ensures count { IfReady result (λ o.
+        OnSome o (held_count set.new.slots ≡ held_count set.old.slots)) }
     ensures same { OnPending result (held_count set.new.slots ≡ held_count set.old.slots) }
-    ensures fewer { IfReady result (λ o. IfNone o (held_count set.new.slots + 1 ≡ held_count set.old.slots)) }
+    ensures fewer { IfReady result (λ o.
+        IfNone o (held_count set.new.slots + 1 ≡ held_count set.old.slots)) }
     ensures pollable { AllHeld St.can_poll set.new.slots }
     ensures capacity { slot_count set.new.slots ≡ slot_count set.old.slots }
     ensures limit { set.new.limit ≡ set.old.limit }
     ensures covered { OnPending result (Covers cx.new (S.needs set.new.source)) }
     ensures woken { OnPending result (IsWoken cx.new
-        ⊎ (SaidEmpty S.takes set.new.source × S.registers_poll set.old.source cx.old cx.new)) }
+        ⊎ (SaidEmpty S.steps set.new.source × S.registers_poll set.old.source cx.old cx.new)) }
     ensures only_registered { IfReady result (λ _. S.registers_poll set.old.source cx.old cx.new) }
     ensures kept { Keeps cx.old cx.new }
 {
@@ -51,7 +53,7 @@ pub(crate) fn poll_streams<St: SlotStream<S::Waker>, S: ReadySource>(
     cx: &mut Context<'_>,
 ) -> Poll<Option<St::Item>>
     requires { AllHeld St.can_poll set.old.slots }
-    ensures polled { MergeGives St.polled S.registers S.marks S.takes set.old result set.new }
+    ensures polled { MergeGives St.polled S.steps S.marks set.old result set.new }
     ensures fewer { held_count set.new.slots ≤ held_count set.old.slots }
     ensures item { IfReady result (λ o. OnSome o (0 < held_count set.new.slots)) }
     ensures pending { OnPending result (0 < held_count set.new.slots) }
@@ -61,7 +63,7 @@ pub(crate) fn poll_streams<St: SlotStream<S::Waker>, S: ReadySource>(
     ensures limit { set.new.limit ≡ set.old.limit }
     ensures covered { OnPending result (Covers cx.new (S.needs set.new.source)) }
     ensures woken { OnPending result (IsWoken cx.new
-        ⊎ (SaidEmpty S.takes set.new.source × OnlyRegisters S.registers_poll cx.old cx.new)) }
+        ⊎ (SaidEmpty S.steps set.new.source × OnlyRegisters S.registers_poll cx.old cx.new)) }
     ensures only_registered { IfReady result (λ _. OnlyRegisters S.registers_poll cx.old cx.new) }
     ensures untouched { held_count set.old.slots ≡ 0 → cx.new ≡ cx.old }
     ensures kept { Keeps cx.old cx.new }

@@ -1,5 +1,5 @@
-pub mod PlacesLemmas
+pub mod NumberedLemmas
+pub mod OrderedEntriesInvariantLemmas
+pub mod OrderedEntriesLemmas
 pub mod FuturesOrderedBoundedLemmas
-pub mod PushLemmas
-pub mod YieldsLemmas
-pub mod NamesLemmas
+pub mod FuturesOrderedLemmas

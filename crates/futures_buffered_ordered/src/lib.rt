@@ -1,12 +1,23 @@
-//! Queues of futures: an output comes when it is its future's turn, and not before.
+//! Ordered queues: an output comes when it is its future's turn, and not before.
 //!
 //! In the order in which to read them:
 //!
-//! - `futures_ordered_bounded`: `FuturesOrderedBounded`, as many futures in progress as it has slots, with additions at both ends.
+//! - `numbered`: a future with the number of its entry, and the rule by which it is polled.
+//! - `numbered_set`: `NumberedSet`, what a queue asks of the set that holds its futures in progress.
+//! - `ordered_entries`: `OrderedEntries`, the entries of a queue over any such set.
+//! - `futures_ordered_bounded`: `FuturesOrderedBounded`, a queue over a bounded set, with additions at both ends.
 //! - `ordered_stream`: the same queue as a stream.
+//! - `futures_ordered`: `FuturesOrdered`, a queue over a set that grows.
+//! - `ordered_growing_stream`: the same queue as a stream.
 #![tactic(auto)]
 
+pub mod futures_ordered;
 pub mod futures_ordered_bounded;
+pub mod numbered;
+pub mod numbered_set;
+pub mod ordered_entries;
+mod ordered_growing_stream;
 mod ordered_stream;
 
-pub use futures_ordered_bounded::FuturesOrderedBounded;
+pub use futures_ordered::{FuturesOrdered, GrowingQueue};
+pub use futures_ordered_bounded::{BoundedQueue, FuturesOrderedBounded};

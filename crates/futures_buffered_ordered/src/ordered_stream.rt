@@ -3,48 +3,54 @@ ghost use Rattle.std.specs.Prelude.{◌≡◌, ◌<◌, ◌⊎◌, [], false, le
 ghost use Rattle.futures.specs.Task.{Covers, Keeps};
 ghost use Rattle.futures.specs.Runs.{After, Within};
 ghost use Rattle.futures.specs.Poll.{IfReady, OnPending};
-ghost use Rattle.futures_buffered_core.specs.SlotMap.{held_count, slot_count};
-ghost use Rattle.futures_buffered_bounded.specs.Held.{AllHeld};
-ghost use Rattle.futures_buffered_bounded.specs.FuturesUnorderedBounded.{SaidEmpty, IsWoken};
-ghost use Rattle.futures_buffered_ordered.specs.FuturesOrderedBounded.{ComesInOrder, OrderedGives, starts_running};
+ghost use Rattle.futures_buffered_core.specs.SlotMap.{slot_count};
+ghost use Rattle.futures_buffered_unordered_bounded.specs.FuturesUnorderedBounded.{SaidEmpty, IsWoken, held_in};
+ghost use Rattle.futures_buffered_ordered.specs.OrderedEntries.{ComesInOrder, OrderedGives, starts_running};
+ghost use Rattle.futures_buffered_ordered.specs.FuturesOrderedBounded.{EachRunning, SetGives, SetMayGive};
 
-use crate::futures_ordered_bounded::FuturesOrderedBounded;
+use crate::futures_ordered_bounded::BoundedQueue;
 use futures::Stream;
 use futures::task::{Context, Poll};
-use futures_buffered_bounded::fused::{FusedStream, SizeHint};
-use futures_buffered_bounded::poll_one::PollFuture;
-use futures_buffered_bounded::slot_future::SlotFuture;
 use futures_buffered_core::ready_source::ReadySource;
+use futures_buffered_unordered_bounded::fused::{FusedStream, SizeHint};
+use futures_buffered_unordered_bounded::poll_one::PollFuture;
+use futures_buffered_unordered_bounded::slot_future::SlotFuture;
 use std::fmt;
 
-impl<T: SlotFuture<S::Waker>, S: ReadySource> Stream for FuturesOrderedBounded<T, S>
+impl<T, A, S> Stream for BoundedQueue<T, A, S>
 where
-    T::Output: Drop,
+    T: SlotFuture<S::Waker, Output = A>,
+    A: Drop,
+    S: ReadySource,
 {
-    type Item = T::Output;
+    type Item = A;
 
-    ghost can_poll = { λ q. AllHeld T.can_poll q.set.slots };
+    ghost can_poll = { λ q. EachRunning T.can_poll q.set };
 
-    ghost needs = { λ q n. (0 < held_count q.set.slots) × S.needs q.set.source n };
+    ghost needs = { λ q n. (0 < held_in q.set) × S.needs q.set.source n };
 
-    ghost yields = { λ q. ComesInOrder T.polled q };
+    ghost yields = { ComesInOrder (SetMayGive T.polled) };
 
     /// One poll, as `poll_with` by the rule that polls the future itself.
-    fn poll_next(&mut self, cx: &mut Context<'_>) -> Poll<Option<T::Output>>
-        requires { AllHeld T.can_poll self.old.set.slots }
-        ensures polled { OrderedGives T.polled S.registers S.takes self.old result self.new }
-        ensures value { IfReady result (ComesInOrder T.polled self.old []) }
+    fn poll_next(&mut self, cx: &mut Context<'_>) -> Poll<Option<A>>
+        requires { EachRunning T.can_poll self.old.set }
+        ensures polled { OrderedGives (SetGives T.polled S.steps) held_in
+            self.old result self.new }
+        ensures value { IfReady result (ComesInOrder (SetMayGive T.polled) self.old []) }
         ensures rest { IfReady result (λ o. IfSome o (λ x.
-            After (ComesInOrder T.polled self.old) x (ComesInOrder T.polled self.new))) }
+            After (ComesInOrder (SetMayGive T.polled) self.old) x
+            (ComesInOrder (SetMayGive T.polled) self.new))) }
         ensures same { OnPending result
-            (Within (ComesInOrder T.polled self.old) (ComesInOrder T.polled self.new)) }
+            (Within (ComesInOrder (SetMayGive T.polled) self.old)
+            (ComesInOrder (SetMayGive T.polled) self.new)) }
         ensures capacity { slot_count self.new.set.slots ≡ slot_count self.old.set.slots }
         ensures limit { self.new.set.limit ≡ self.old.set.limit }
-        ensures goes { IfReady result (λ o. OnSome o (AllHeld T.can_poll self.new.set.slots)) }
-        ensures again { OnPending result (AllHeld T.can_poll self.new.set.slots) }
+        ensures room { self.new.room ≡ self.old.room }
+        ensures goes { IfReady result (λ o. OnSome o (EachRunning T.can_poll self.new.set)) }
+        ensures again { OnPending result (EachRunning T.can_poll self.new.set) }
         ensures registered { OnPending result (Covers cx.new (S.needs self.new.set.source)) }
         ensures woken { OnPending result
-            (IsWoken cx.new ⊎ SaidEmpty S.takes self.new.set.source) }
+            (IsWoken cx.new ⊎ SaidEmpty S.steps self.new.set.source) }
         ensures untouched { starts_running self.old.entries ≡ false → cx.new ≡ cx.old }
         ensures kept { Keeps cx.old cx.new }
     {
@@ -52,9 +58,11 @@ where
     }
 }
 
-impl<T: SlotFuture<S::Waker>, S: ReadySource> FusedStream for FuturesOrderedBounded<T, S>
+impl<T, A, S> FusedStream for BoundedQueue<T, A, S>
 where
-    T::Output: Drop,
+    T: SlotFuture<S::Waker, Output = A>,
+    A: Drop,
+    S: ReadySource,
 {
     ghost use Rattle.std.specs.Prelude.{◌≡◌};
 
@@ -65,10 +73,7 @@ where
     }
 }
 
-impl<T: SlotFuture<S::Waker>, S: ReadySource> SizeHint for FuturesOrderedBounded<T, S>
-where
-    T::Output: Drop,
-{
+impl<T: Drop, A: Drop, S: ReadySource> SizeHint for BoundedQueue<T, A, S> {
     ghost use Rattle.std.specs.Prelude.{Some};
 
     ghost items_left = { λ q. (length q.entries, Some (length q.entries)) };
@@ -79,10 +84,7 @@ where
 }
 
 /// Prints the name alone.
-impl<T: SlotFuture<S::Waker>, S: ReadySource> fmt::Debug for FuturesOrderedBounded<T, S>
-where
-    T::Output: Drop,
-{
+impl<T: Drop, A: Drop, S: ReadySource> fmt::Debug for BoundedQueue<T, A, S> {
     fn fmt<W: fmt::Write>(&self, f: &mut fmt::Formatter<W>) -> fmt::Result {
         f.write_str("FuturesOrderedBounded { ... }")
     }

@@ -18,13 +18,6 @@
 //! - `merge_unbounded`: `MergeUnbounded`, any number of streams, in groups of slots.
 #![tactic(auto)]
 
-pub use futures_buffered_bounded::fused::{FusedFuture, FusedStream, SizeHint};
-pub use futures_buffered_bounded::futures_unordered_bounded::FuturesUnorderedBounded;
-pub use futures_buffered_bounded::poll_one::{PollFuture, PollOne};
-pub use futures_buffered_bounded::slot_future::{SlotFuture, SlotWaker, WakesSlot};
-pub use futures_buffered_bounded::{fused, futures_unordered_bounded, poll_one, slot_future};
-pub use futures_buffered_growing::futures_unordered;
-pub use futures_buffered_growing::futures_unordered::FuturesUnordered;
 pub use futures_buffered_joins::join_all::JoinAll;
 pub use futures_buffered_joins::try_join_all::TryJoinAll;
 pub use futures_buffered_joins::{join_all, try_join_all};
@@ -32,7 +25,15 @@ pub use futures_buffered_merges::merge_bounded::{Merge, MergeBounded};
 pub use futures_buffered_merges::merge_unbounded::MergeUnbounded;
 pub use futures_buffered_merges::slot_stream::{PollStream, SlotStream};
 pub use futures_buffered_merges::{merge_bounded, merge_unbounded, slot_stream};
-pub use futures_buffered_ordered::futures_ordered_bounded;
+pub use futures_buffered_ordered::futures_ordered::FuturesOrdered;
 pub use futures_buffered_ordered::futures_ordered_bounded::FuturesOrderedBounded;
-pub use futures_buffered_ordered_growing::futures_ordered;
-pub use futures_buffered_ordered_growing::futures_ordered::FuturesOrdered;
+pub use futures_buffered_ordered::{futures_ordered, futures_ordered_bounded};
+pub use futures_buffered_unordered::futures_unordered;
+pub use futures_buffered_unordered::futures_unordered::FuturesUnordered;
+pub use futures_buffered_unordered_bounded::fused::{FusedFuture, FusedStream, SizeHint};
+pub use futures_buffered_unordered_bounded::futures_unordered_bounded::FuturesUnorderedBounded;
+pub use futures_buffered_unordered_bounded::poll_one::{PollFuture, PollOne};
+pub use futures_buffered_unordered_bounded::slot_future::{NamesSlot, SlotFuture, SlotWaker};
+pub use futures_buffered_unordered_bounded::{
+    fused, futures_unordered_bounded, poll_one, slot_future,
+};

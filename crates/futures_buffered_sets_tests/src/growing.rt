@@ -2,5 +2,4 @@ mod drops;
 mod limits;
 mod refusals;
 mod rows;
-mod timed_set;
 mod wakes;

@@ -1,16 +1,10 @@
-//! Tests of sets and queues, by their public calls alone.
+//! Tests of sets, by their public calls alone.
 //! No crate stands on this one.
 #![tactic(auto)]
 
 #[cfg(test)]
-mod assert_same;
-#[cfg(test)]
 mod bounded;
 #[cfg(test)]
-mod calls;
+mod closures;
 #[cfg(test)]
 mod growing;
-#[cfg(test)]
-mod ordered;
-#[cfg(test)]
-mod ordered_growing;

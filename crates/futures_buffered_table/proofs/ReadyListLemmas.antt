@@ -8,10 +8,10 @@ use Rattle.futures_buffered_table.specs.declared.view.View.{View}
 use Rattle.atomic_table.specs.Seated.{TableId}
 use Rattle.atomic_table.specs.declared.shared.Seat.{Seat}
 use Rattle.futures_buffered_table.specs.ReadyListInvariant.{KeepsList, KeepsSeat}
-use Rattle.futures_buffered_table.specs.ReadyList.{Adds, IsInRole, ListIdentity}
+use Rattle.futures_buffered_table.specs.ReadyList.{AddsSteps, IsInRole, ListIdentity}
 use Rattle.futures_buffered_table.specs.Rule.{HoldsRow, MayFind, PlaysRole}
 use Rattle.futures_buffered_table.specs.Effect.{next_view, put_by_role, word_of_role}
-use Rattle.futures_buffered_table.proofs.RuleLemmas.{WakesSlot, seated, is_seated, allows_step, allows_store}
+use Rattle.futures_buffered_table.proofs.RuleLemmas.{NamesSlot, seated, is_seated, allows_step, allows_store}
 
 module _ (table : TableId) (key n : ℕ) (L : KeepsList table key n) (seen : ListIdentity)
     (view_is : record { list = table; capacity = n } ≡ seen) where
@@ -40,7 +40,7 @@ module _ (table : TableId) (key n : ℕ) (L : KeepsList table key n) (seen : Lis
   -- its step is at the word i
   module _ (seat : Seat ℕ View) (role : Role) (sits : IsInRole seen role seat)
       (i : ℕ) (lt : n ≡ seen.capacity →
-      WakesSlot n seat.id i seat.me.0.steps role) (there : i ≡ word_of_role n i role) (low : n ≡ seen.capacity → i < n + n + 2) where
+      NamesSlot n seat.id i seat.me.0.steps role) (there : i ≡ word_of_role n i role) (low : n ≡ seen.capacity → i < n + n + 2) where
     in_words : i < table.words
     in_words = let a = L.words in let b = low cap in omega arith
 
@@ -70,5 +70,5 @@ module _ (table : TableId) (key n : ℕ) (L : KeepsList table key n) (seen : Lis
           new put blind told,
     )
 
-pub adds_more : (a b c : Seat ℕ View) (s t : List AtomicStep) → Adds a b s → Adds b c t → Adds a c (s ++ t)
+pub adds_more : (a b c : Seat ℕ View) (s t : List AtomicStep) → AddsSteps a b s → AddsSteps b c t → AddsSteps a c (s ++ t)
 adds_more a b c s t one two = two ∙ (ap (λ (l : List AtomicStep). l ++ t) one ∙ append_assoc a.me.0.steps s t)

@@ -17,7 +17,7 @@ use Rattle.futures_buffered_table.specs.declared.step.Step.{Step}
 use Rattle.futures_buffered_table.specs.declared.step.Step.TheVariants.{Mark, Go, Poll}
 use Rattle.futures_buffered_table.specs.declared.step.StepReply.{StepReply}
 use Rattle.futures_buffered_table.specs.declared.step.StepReply.TheVariants.{More, Woke, Taken}
-use Rattle.futures_buffered_table.specs.ScheduleLaw.{AfterEach, AnswersInOrder, EmptyIsTrue, IsUnderWay, PauseHasCause, Turn, Wake, WakerStands, WakerStood, answered, put_in, put_in_by, slot_named, wake_after, wake_of}
+use Rattle.futures_buffered_table.specs.ScheduleLaw.{AfterEach, AnswersInOrder, EmptyIsTrue, IsUnderWay, PauseHasCause, Made, Wake, WakerStands, WakerStood, answered, put_in, put_in_by, slot_named, wake_after, wake_of}
 use Rattle.futures_buffered_table.proofs.ScheduleLemmas.{IsReachable, pending, reachable_start, step_reaches}
 use Rattle.futures_buffered_table.specs.Schedule.{Legal, Moment, after_step, at_start, found_at, replies_of, view_at}
 use Rattle.futures_buffered_table.specs.Words.{link, tail}
@@ -44,37 +44,37 @@ ShowsWake w (Swapped e p) = (w.slot ≡ e) × (w.made ≡ 3)
 ShowsWake w (Polls h phase) = Unit {0}
 
 -- what is told of the taking under way; the tail is t
-abbrev TellsPhase : List Turn → ℕ → ℕ → Phase → Type 0
+abbrev TellsPhase : List Made → ℕ → ℕ → Phase → Type 0
 TellsPhase past t h Start = Unit {0}
 TellsPhase past t h AtStub = IsUnderWay past × (WakerStood past ⊎ (t ≡ h))
 TellsPhase past t h NoNext = IsUnderWay past × (WakerStood past ⊎ (t ≡ h))
 TellsPhase past t h _ = IsUnderWay past
 
 -- the same of what seat 64 does
-abbrev TellsRole : List Turn → ℕ → Role → Type 0
+abbrev TellsRole : List Made → ℕ → Role → Type 0
 TellsRole past t (Polls h phase) = TellsPhase past t h phase
 TellsRole past t _ = Unit {0}
 
-record IsTold (n : ℕ) (past : List Turn) (c : Moment) (good : IsReachable n c) : Type 0 where
+record IsTold (n : ℕ) (past : List Made) (c : Moment) (good : IsReachable n c) : Type 0 where
   wakes : (seat : ℕ) → seat < WAKE_SEATS → (v : View) → get_elem? c.views seat ≡ some v → ShowsWake (wake_of seat past) v.role
   flow : put_in past ≡ answered past ++ pending n c good
   takes : (v : View) → get_elem? c.views WAKE_SEATS ≡ some v → TellsRole past (tail n c.words) v.role
 
 -- what a reply says of the history before it
-abbrev IsRight : StepReply → List Turn → Type 0
+abbrev IsRight : StepReply → List Made → Type 0
 IsRight (Taken Empty) past = put_in past ≡ answered past
 IsRight (Taken Pause) past = WakerStands past ⊎ WakerStood past
 IsRight _ past = Unit {0}
 
-wake_same : (seat : ℕ) (e : Turn) (past : List Turn) → seat_of e.step ≡ seat →
+wake_same : (seat : ℕ) (e : Made) (past : List Made) → seat_of e.step ≡ seat →
     wake_of seat (e ∷ past) ≡ wake_after e.step e.reply (wake_of seat past)
 wake_same seat e past is = if_yes (seat_of e.step == seat) _ _ (grind (arith, nat_tests))
 
-wake_else : (seat : ℕ) (e : Turn) (past : List Turn) → seat_of e.step ≢ seat → wake_of seat (e ∷ past) ≡ wake_of seat past
+wake_else : (seat : ℕ) (e : Made) (past : List Made) → seat_of e.step ≢ seat → wake_of seat (e ∷ past) ≡ wake_of seat past
 wake_else seat e past ne = if_no (seat_of e.step == seat) _ _ (grind (arith, nat_tests))
 
 -- a waker that stands so is told of
-stands_told : (n : ℕ) (past : List Turn) (c : Moment) (good : IsReachable n c) → IsTold n past c good → SomeWakerStands c.views →
+stands_told : (n : ℕ) (past : List Made) (c : Moment) (good : IsReachable n c) → IsTold n past c good → SomeWakerStands c.views →
     WakerStands past
 stands_told n past c good tells waits =
     let j = waits.0 in let u = waits.1.2 in let at = waits.1.3 in let is = waits.1.4 in let polls = good.2.3 in
@@ -84,10 +84,10 @@ stands_told n past c good tells waits =
     let low : j < WAKE_SEATS = let a = place_low c.views j u at in let b = good.1 in grind arith in
     (j, low, (subst (ShowsWake (wake_of j past)) is (tells.wakes j low u at)).1)
 
-abbrev event : (n : ℕ) (c : Moment) → Step → Turn
+abbrev event : (n : ℕ) (c : Moment) → Step → Made
 event n c s = record { step = s; reply = reply_of_role n (view_at c s).role (found_at n c s) }
 
-abbrev StaysTold : (n : ℕ) (past : List Turn) (c : Moment) (good : IsReachable n c) → Step → Type 0
+abbrev StaysTold : (n : ℕ) (past : List Made) (c : Moment) (good : IsReachable n c) → Step → Type 0
 StaysTold n past c good s = IsRight (event n c s).reply past
     × ((on : IsReachable n (after_step n c s)) × IsTold n (event n c s ∷ past) (after_step n c s) on)
 
@@ -153,7 +153,7 @@ put_poll More w = refl
 put_poll (Woke x) w = refl
 put_poll (Taken x) w = refl
 
-right_wake : (n : ℕ) (role : Role) (found : ℕ) (past : List Turn) → (IsPolls role → ⊥) → IsRight (reply_of_role n role found) past
+right_wake : (n : ℕ) (role : Role) (found : ℕ) (past : List Made) → (IsPolls role → ⊥) → IsRight (reply_of_role n role found) past
 right_wake n Idle zero past wakes = tt
 right_wake n Idle (suc k) past wakes = tt
 right_wake n (Won e) found past wakes = tt
@@ -162,13 +162,13 @@ right_wake n (Swapped e p) found past wakes = tt
 right_wake n (Polls h phase) found past wakes = absurd (wakes tt)
 
 -- a step of a wake leaves a taking under way
-stays_under_way : (s : Step) (r : StepReply) (past : List Turn) → seat_of s < WAKE_SEATS → IsUnderWay past →
+stays_under_way : (s : Step) (r : StepReply) (past : List Made) → seat_of s < WAKE_SEATS → IsUnderWay past →
     IsUnderWay (record { step = s; reply = r } ∷ past)
 stays_under_way (Mark seat slot) r past low is = is
 stays_under_way (Go seat) r past low is = is
 stays_under_way Poll r past low is = absurd (omega arith)
 
-stood_by_then : (s : Step) (r : StepReply) (past : List Turn) → seat_of s < WAKE_SEATS →
+stood_by_then : (s : Step) (r : StepReply) (past : List Made) → seat_of s < WAKE_SEATS →
     (IsUnderWay past × WakerStands (record { step = s; reply = r } ∷ past)) ⊎ WakerStood past →
     WakerStood (record { step = s; reply = r } ∷ past)
 stood_by_then (Mark seat slot) r past low is = is
@@ -176,7 +176,7 @@ stood_by_then (Go seat) r past low is = is
 stood_by_then Poll r past low is = absurd (omega arith)
 
 -- and leaves the tail, or its waker stands so after it
-stood_or_last : (s : Step) (r : StepReply) (past : List Turn) (t now h : ℕ) → seat_of s < WAKE_SEATS → (now ≡ t)
+stood_or_last : (s : Step) (r : StepReply) (past : List Made) (t now h : ℕ) → seat_of s < WAKE_SEATS → (now ≡ t)
     ⊎ WakerStands (record { step = s; reply = r } ∷ past)
     → IsUnderWay past × (WakerStood past ⊎ (t ≡ h)) → IsUnderWay (record { step = s; reply = r } ∷ past)
     × (WakerStood (record { step = s; reply = r } ∷ past) ⊎ (now ≡ h))
@@ -186,7 +186,7 @@ stood_or_last s r past t now h low or takes = (
       (λ (z : WakerStands (record { step = s; reply = r } ∷ past)). inl (stood_by_then s r past low (inl (takes.0, z)))) or,
 )
 
-takes_on : (s : Step) (r : StepReply) (past : List Turn) (t now h : ℕ) (phase : Phase) → seat_of s < WAKE_SEATS → (now ≡ t)
+takes_on : (s : Step) (r : StepReply) (past : List Made) (t now h : ℕ) (phase : Phase) → seat_of s < WAKE_SEATS → (now ≡ t)
     ⊎ WakerStands (record { step = s; reply = r } ∷ past) → TellsPhase past t h phase →
     TellsPhase (record { step = s; reply = r } ∷ past) now h phase
 takes_on s r past t now h Start low or takes = tt
@@ -199,7 +199,7 @@ takes_on s r past t now h (StubPut p) low or takes = stays_under_way s r past lo
 takes_on s r past t now h StubLinked low or takes = stays_under_way s r past low takes
 takes_on s r past t now h (InHand i) low or takes = stays_under_way s r past low takes
 
-takes_as : (s : Step) (r : StepReply) (past : List Turn) (t now : ℕ) (role : Role) → seat_of s < WAKE_SEATS → (now ≡ t)
+takes_as : (s : Step) (r : StepReply) (past : List Made) (t now : ℕ) (role : Role) → seat_of s < WAKE_SEATS → (now ≡ t)
     ⊎ WakerStands (record { step = s; reply = r } ∷ past) → TellsRole past t role →
     TellsRole (record { step = s; reply = r } ∷ past) now role
 takes_as s r past t now Idle low or takes = tt
@@ -231,7 +231,7 @@ role_polls (Cleared e) is = absurd is
 role_polls (Swapped e p) is = absurd is
 role_polls (Polls h phase) is = (h, phase, refl)
 
-wake_next : (n : ℕ) (past : List Turn) (c : Moment) (good : IsReachable n c) → IsTold n past c good → (s : Step) →
+wake_next : (n : ℕ) (past : List Made) (c : Moment) (good : IsReachable n c) → IsTold n past c good → (s : Step) →
     CanStep n (map role_of c.views) s → seat_of s < WAKE_SEATS → ((IsPolls (view_at c s).role → ⊥) → MayMake s (view_at c s).role) →
     ((view_at c s).role ≡ Idle → slot_of s < n) → StaysTold n past c good s
 wake_next n past c good tells s can low may_of lt =
@@ -243,7 +243,7 @@ wake_next n past c good tells s can low may_of lt =
     let may = may_of wakes in
     let stub : v.stub ≡ n = good.0 seat v there in
     let goes_there = step_reaches n c good s can in
-    let e : Turn = event n c s in
+    let e : Made = event n c s in
     let shows = tells.wakes seat low v there in
     let mine : wake_of seat (e ∷ past) ≡ wake_after s e.reply (wake_of seat past) = wake_same seat e past refl in
     let shows_now = shows_on n n s v.role found (wake_of seat past) may shows in
@@ -281,11 +281,11 @@ both_test P false r q x y f g = g refl
 
 -- a step of the poller
 module _ (n h : ℕ) (rest : List ℕ) (words : List ℕ) (views : List View) (R : KeepsRow n h rest WAKE_SEATS words views)
-    (steps : List AtomicStep) (past : List Turn) (stands : SomeWakerStands views → WakerStands past) where
+    (steps : List AtomicStep) (past : List Made) (stands : SomeWakerStands views → WakerStands past) where
   abbrev now_tail : Phase → ℕ → ℕ
   now_tail phase f = tail n (set words (word_of_role n 0 (Polls h phase)) (put_by_role n (Polls h phase) f))
 
-  abbrev made : Phase → ℕ → Turn
+  abbrev made : Phase → ℕ → Made
   made phase f = record { step = Poll; reply = reply_of_role n (Polls h phase) f }
 
   abbrev Case : Phase → ℕ → Type 0
@@ -354,7 +354,7 @@ module _ (n h : ℕ) (rest : List ℕ) (words : List ℕ) (views : List View) (R
   poll_case StubLinked at takes flow (suc q) is = (tt, tt)
   poll_case (InHand i) at takes flow f is = (tt, tt)
 
-poll_next : (n : ℕ) (past : List Turn) (c : Moment) (good : IsReachable n c) → IsTold n past c good → StaysTold n past c good Poll
+poll_next : (n : ℕ) (past : List Made) (c : Moment) (good : IsReachable n c) → IsTold n past c good → StaysTold n past c good Poll
 poll_next n past c good tells =
     let h = good.2.0 in let polls = good.2.3 in let phase = polls.0 in
     let v = view_at c Poll in
@@ -372,7 +372,7 @@ poll_next n past c good tells =
     let right : Right v = subst Right same_v case in
     let stub : n ≡ v.stub = ap (λ (u : View). u.stub) same_v in
     let found = found_at n c Poll in
-    let e : Turn = event n c Poll in
+    let e : Made = event n c Poll in
     let no_put : put_by v.role ≡ [] = ap (λ (u : View). put_by u.role) (sym same_v) in (
       right.0,
       (
@@ -392,7 +392,7 @@ poll_next n past c good tells =
       ),
     )
 
-next_here : (n : ℕ) (past : List Turn) (c : Moment) (good : IsReachable n c) → IsTold n past c good → (s : Step) →
+next_here : (n : ℕ) (past : List Made) (c : Moment) (good : IsReachable n c) → IsTold n past c good → (s : Step) →
     CanStep n (map role_of c.views) s → StaysTold n past c good s
 next_here n past c good tells (Mark seat slot) can = wake_next n past c good tells (Mark seat slot) can can.0
     (λ wakes. sym (get_or-map role_of c.views seat spent_view) ∙ can.2) (λ _. can.1)
@@ -402,22 +402,22 @@ next_here n past c good tells (Go seat) can = wake_next n past c good tells (Go 
 next_here n past c good tells Poll can = poll_next n past c good tells
 
 -- what is right of a step, by its reply, follows of the turn
-empty_true : (t : Turn) (past : List Turn) → IsRight t.reply past → EmptyIsTrue (t ∷ past)
+empty_true : (t : Made) (past : List Made) → IsRight t.reply past → EmptyIsTrue (t ∷ past)
 empty_true t past right = λ is. subst (λ (r : StepReply). IsRight r past) is right
 
-pause_caused : (t : Turn) (past : List Turn) → IsRight t.reply past → PauseHasCause (t ∷ past)
+pause_caused : (t : Made) (past : List Made) → IsRight t.reply past → PauseHasCause (t ∷ past)
 pause_caused t past right = λ is. subst (λ (r : StepReply). IsRight r past) is right
 
 -- each turn is lawful
-abbrev Lawful : List Turn → Type 0
+abbrev Lawful : List Made → Type 0
 Lawful history = AnswersInOrder history × EmptyIsTrue history × PauseHasCause history
 
-lawful_from : (n : ℕ) (past : List Turn) (c : Moment) (good : IsReachable n c) → IsTold n past c good → (ss : List Step) → Legal n c ss →
+lawful_from : (n : ℕ) (past : List Made) (c : Moment) (good : IsReachable n c) → IsTold n past c good → (ss : List Step) → Legal n c ss →
     AfterEach Lawful past ss (replies_of n c ss)
 lawful_from n past c good tells [] legal = tt
 lawful_from n past c good tells (s ∷ ss) legal =
     let one = next_here n past c good tells s legal.0 in
-    let t : Turn = event n c s in (
+    let t : Made = event n c s in (
       ((pending n (after_step n c s) one.1.0, one.1.1.flow), empty_true t past one.0, pause_caused t past one.0),
       lawful_from n (t ∷ past)
           (after_step n c s) one.1.0 one.1.1 ss legal.1,
@@ -430,8 +430,8 @@ lawful n ss legal = lawful_from n [] (at_start n) (reachable_start n) (record {
   takes = each_first WAKE_SEATS n (λ j v. TellsRole [] (tail n (at_start n).words) v.role) (λ j l. tt) tt WAKE_SEATS;
 }) ss legal
 
-each_of : (P Q : List Turn → Type 0) → ((history : List Turn) → P history → Q history) →
-    (past : List Turn) (ss : List Step) (rs : List StepReply) → AfterEach P past ss rs → AfterEach Q past ss rs
+each_of : (P Q : List Made → Type 0) → ((history : List Made) → P history → Q history) →
+    (past : List Made) (ss : List Step) (rs : List StepReply) → AfterEach P past ss rs → AfterEach Q past ss rs
 each_of P Q f past [] [] all = tt
 each_of P Q f past [] (r ∷ rs) all = all
 each_of P Q f past (s ∷ ss) [] all = all

@@ -9,7 +9,7 @@ use Rattle.futures_buffered_table.specs.declared.view.Role.TheVariants.{Idle}
 use Rattle.futures_buffered_table.specs.declared.view.View.{View}
 use Rattle.futures_buffered_table.specs.Waking.{IsWake}
 use Rattle.futures_buffered_table.specs.Tally.{unmarks}
-use Rattle.futures_buffered_table.specs.ReadyList.{Adds}
+use Rattle.futures_buffered_table.specs.ReadyList.{AddsSteps}
 use Rattle.futures_buffered_table.proofs.ReadyListLemmas.{adds_more}
 use Rattle.futures_buffered_table.specs.ReadyListInvariant.{KeepsWaker, KeepsSeat}
 use Rattle.futures_buffered_table.proofs.TallyLemmas.{unmarks-append}
@@ -21,20 +21,20 @@ no_unmark e i shape Already is = ap (unmarks e) is
 no_unmark e i shape Fresh is = ap (unmarks e) is.1
 
 -- a mark swap that found the mark clear, and the steps that put the slot in
-pub adds_fresh : (a b c : Seat ℕ View) (i found : ℕ) → found ≡ 0 → Adds a b (MarkSwap i found ∷ []) →
-    ((p : ℕ) × Adds b c (LinkClear i ∷ TailSwap i p ∷ LinkWrite p i ∷ [])) → (shape : List AtomicStep) × Adds a c shape
+pub adds_fresh : (a b c : Seat ℕ View) (i found : ℕ) → found ≡ 0 → AddsSteps a b (MarkSwap i found ∷ []) →
+    ((p : ℕ) × AddsSteps b c (LinkClear i ∷ TailSwap i p ∷ LinkWrite p i ∷ [])) → (shape : List AtomicStep) × AddsSteps a c shape
     × IsWake i shape Fresh
 adds_fresh a b c i found clear one (p, two) =
     let shape = MarkSwap i 0 ∷ LinkClear i ∷ TailSwap i p ∷ LinkWrite p i ∷ [] in (
       shape,
       adds_more a b c (MarkSwap i 0 ∷ []) (LinkClear i ∷ TailSwap i p ∷ LinkWrite p i ∷ [])
-          (subst (λ (k : ℕ). Adds a b (MarkSwap i k ∷ [])) clear one) two,
+          (subst (λ (k : ℕ). AddsSteps a b (MarkSwap i k ∷ [])) clear one) two,
       (p, refl),
     )
 
 -- a wake seat after a wake
 pub woken : (before now : Seat ℕ View) (i : ℕ) (shape : List AtomicStep) (woke : Woke) → KeepsWaker before.table_id before.me →
-    KeepsSeat now.table_id now.me Idle → Adds before now shape → IsWake i shape woke → KeepsWaker now.table_id now.me
+    KeepsSeat now.table_id now.me Idle → AddsSteps before now shape → IsWake i shape woke → KeepsWaker now.table_id now.me
 woken before now i shape woke K seat adds is = record {
   seat = seat;
   wakes = λ e. ap (unmarks e) adds ∙ (unmarks-append e before.me.0.steps shape ∙ (let a = K.wakes e in

@@ -6,11 +6,18 @@ use Rattle.std.specs.Prelude.{ℕ, zero, suc, ◌+◌, ◌≤◌, ◌==◌, [], 
 use Rattle.futures_buffered_table.specs.declared.answer.Woke.TheVariants.{Fresh, Already}
 use Rattle.futures_buffered_table.specs.declared.answer.Taken.TheVariants.{Slot, Empty, Pause}
 use Rattle.futures_buffered_table.specs.declared.view.AtomicStep.{AtomicStep}
-use Rattle.futures_buffered_table.specs.declared.view.AtomicStep.TheVariants.{MarkSwap, LinkClear, TailSwap, LinkWrite, LinkRead, TailRead, Unmark}
+use Rattle.futures_buffered_table.specs.declared.view.AtomicStep.TheVariants.{MarkSwap, LinkClear}
+use Rattle.futures_buffered_table.specs.declared.view.AtomicStep.TheVariants.{TailSwap, LinkWrite}
+use Rattle.futures_buffered_table.specs.declared.view.AtomicStep.TheVariants.{LinkRead, TailRead}
+use Rattle.futures_buffered_table.specs.declared.view.AtomicStep.TheVariants.{Unmark}
 use Rattle.futures_buffered_table.specs.declared.view.Phase.{Phase}
-use Rattle.futures_buffered_table.specs.declared.view.Phase.TheVariants.{Start, AtStub, Moved, NoNext, Last, StubCleared, StubPut, StubLinked, InHand}
+use Rattle.futures_buffered_table.specs.declared.view.Phase.TheVariants.{Start, AtStub, Moved}
+use Rattle.futures_buffered_table.specs.declared.view.Phase.TheVariants.{NoNext, Last, StubCleared}
+use Rattle.futures_buffered_table.specs.declared.view.Phase.TheVariants.{StubPut, StubLinked}
+use Rattle.futures_buffered_table.specs.declared.view.Phase.TheVariants.{InHand}
 use Rattle.futures_buffered_table.specs.declared.view.Role.{Role}
-use Rattle.futures_buffered_table.specs.declared.view.Role.TheVariants.{Idle, Won, Cleared, Swapped, Polls}
+use Rattle.futures_buffered_table.specs.declared.view.Role.TheVariants.{Idle, Won, Cleared, Swapped}
+use Rattle.futures_buffered_table.specs.declared.view.Role.TheVariants.{Polls}
 use Rattle.futures_buffered_table.specs.declared.step.StepReply.{StepReply}
 use Rattle.futures_buffered_table.specs.declared.step.StepReply.TheVariants.{More, Woke, Taken}
 use Rattle.futures_buffered_table.specs.declared.view.View.{View}

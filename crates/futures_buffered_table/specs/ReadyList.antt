@@ -28,5 +28,5 @@ IsInRole list role seat = (seat.table_id ≡ list.list) × (seat.me.0.stub ≡ l
     × (seat.me.0.role ≡ role) × (seat.me.1 ≡ [])
 
 -- the seat has made these steps more
-abbrev pub Adds : Seat ℕ View → Seat ℕ View → List AtomicStep → Type 0
-Adds before now shape = now.me.0.steps ≡ before.me.0.steps ++ shape
+abbrev pub AddsSteps : Seat ℕ View → Seat ℕ View → List AtomicStep → Type 0
+AddsSteps before now shape = now.me.0.steps ≡ before.me.0.steps ++ shape

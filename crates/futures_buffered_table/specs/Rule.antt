@@ -2,7 +2,8 @@
 -- what a step tells the seat that makes it (`PlaysRole`) or is made with it (`PlaysNewWaker`).
 use Rattle.std.specs.Prelude.{◌≡◌, ℕ, suc, ◌≤◌, List, []}
 use Rattle.atomic_table.specs.Table.{State, Me, Step as TableStep}
-use Rattle.futures_buffered_table.specs.declared.view.Phase.TheVariants.{Start, Moved, StubCleared, StubLinked}
+use Rattle.futures_buffered_table.specs.declared.view.Phase.TheVariants.{Start, Moved, StubCleared}
+use Rattle.futures_buffered_table.specs.declared.view.Phase.TheVariants.{StubLinked}
 use Rattle.futures_buffered_table.specs.declared.view.Role.{Role}
 use Rattle.futures_buffered_table.specs.declared.view.Role.TheVariants.{Idle, Cleared, Polls}
 use Rattle.futures_buffered_table.specs.declared.view.View.{View}

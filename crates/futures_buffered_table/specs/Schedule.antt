@@ -1,6 +1,7 @@
 -- A schedule: which steps of the wake seats and one poll seat, the seat after them, are made in
 -- which order. It determines every word, every view and every reply.
-use Rattle.std.specs.Prelude.{◌≡◌, ℕ, List, [], ◌∷◌, map, slice_index, slice_index_or, slice_set, take}
+use Rattle.std.specs.Prelude.{◌≡◌, ℕ, List, [], ◌∷◌, map, slice_index, slice_index_or, slice_set}
+use Rattle.std.specs.Prelude.{take}
 use mathlib.Core.Option.{some}
 use lib.ListN.{get_elem?}
 use Rattle.futures_buffered_table.specs.declared.step.Step.{Step}

@@ -10,7 +10,7 @@ use Rattle.futures_buffered_table.specs.declared.step.TheConstants.{WAKE_SEATS}
 use Rattle.futures_buffered_table.specs.Step.{seat_of}
 
 -- a step that was made, with its reply; of a history the newest stands first
-pub record Turn : Type 0 where
+pub record Made : Type 0 where
   pub step : Step
   pub reply : StepReply
 
@@ -27,7 +27,7 @@ wake_after (Go seat) More w = record { slot = w.slot; made = suc w.made }
 wake_after _ _ w = record { slot = 0; made = 0 }
 
 -- the wake that this seat has under way
-abbrev pub wake_of : ℕ → List Turn → Wake
+abbrev pub wake_of : ℕ → List Made → Wake
 wake_of seat [] = record { slot = 0; made = 0 }
 wake_of seat (t ∷ past) =
     if seat_of t.step == seat then wake_after t.step t.reply (wake_of seat past)
@@ -39,7 +39,7 @@ put_in_by (Go seat) More w = if w.made == 2 then w.slot ∷ [] else []
 put_in_by _ _ w = []
 
 -- the slots put in, in order
-abbrev pub put_in : List Turn → List ℕ
+abbrev pub put_in : List Made → List ℕ
 put_in [] = []
 put_in (t ∷ past) = put_in past ++ put_in_by t.step t.reply (wake_of (seat_of t.step) past)
 
@@ -49,12 +49,12 @@ slot_named (Taken (Slot i)) = i ∷ []
 slot_named _ = []
 
 -- the slots answered, in order
-abbrev pub answered : List Turn → List ℕ
+abbrev pub answered : List Made → List ℕ
 answered [] = []
 answered (t ∷ past) = answered past ++ slot_named t.reply
 
 -- some waker stands between its tail swap, its third step, and its link write, its fourth
-abbrev pub WakerStands : List Turn → Type 0
+abbrev pub WakerStands : List Made → Type 0
 WakerStands past = (seat : ℕ) × (seat < WAKE_SEATS) × ((wake_of seat past).made ≡ 3)
 
 -- by the kind of step: a poll's that ends no taking, a poll's that ends one, or a wake's
@@ -64,33 +64,33 @@ by_kind goes_on ends wakes Poll _ = ends
 by_kind goes_on ends wakes _ _ = wakes
 
 -- a taking is under way
-abbrev pub IsUnderWay : List Turn → Type 0
+abbrev pub IsUnderWay : List Made → Type 0
 IsUnderWay [] = ⊥
 IsUnderWay (t ∷ past) = by_kind (Unit {0}) ⊥ (IsUnderWay past) t.step t.reply
 
 -- a taking is under way, and some waker stood so when a step of it was made, or since
-abbrev pub WakerStood : List Turn → Type 0
+abbrev pub WakerStood : List Made → Type 0
 WakerStood [] = ⊥
 WakerStood (t ∷ past) = by_kind (WakerStands past ⊎ WakerStood past) ⊥
     ((IsUnderWay past × WakerStands (t ∷ past)) ⊎ WakerStood past) t.step t.reply
 
 -- the slots answered are a beginning of those put in
-abbrev pub AnswersInOrder : List Turn → Type 0
+abbrev pub AnswersInOrder : List Made → Type 0
 AnswersInOrder history = (rest : List ℕ) × (put_in history ≡ answered history ++ rest)
 
 -- where a taking has just answered Empty, by its tail read, all slots put in had been answered
-abbrev pub EmptyIsTrue : List Turn → Type 0
+abbrev pub EmptyIsTrue : List Made → Type 0
 EmptyIsTrue [] = Unit {0}
 EmptyIsTrue (t ∷ past) = t.reply ≡ Taken Empty → put_in past ≡ answered past
 
 -- where a taking has just answered Pause, some waker stood between its tail swap and its link write
 -- at some moment of that taking
-abbrev pub PauseHasCause : List Turn → Type 0
+abbrev pub PauseHasCause : List Made → Type 0
 PauseHasCause [] = Unit {0}
 PauseHasCause (t ∷ past) = t.reply ≡ Taken Pause → WakerStands past ⊎ WakerStood past
 
 -- each step has one reply, and the fact holds of the history after each of them
-abbrev pub AfterEach : (List Turn → Type 0) → List Turn → List Step → List StepReply → Type 0
+abbrev pub AfterEach : (List Made → Type 0) → List Made → List Step → List StepReply → Type 0
 AfterEach Holds past [] [] = Unit {0}
 AfterEach Holds past (s ∷ ss) (r ∷ rs) = Holds (record { step = s; reply = r } ∷ past)
     × AfterEach Holds (record { step = s; reply = r } ∷ past) ss rs

@@ -5,7 +5,9 @@ use Rattle.std.specs.Prelude.{◌≡◌, ◌≢◌, ◌⊎◌, ℕ, suc, List, [
 use Rattle.futures_buffered_table.specs.declared.answer.Taken.{Taken}
 use Rattle.futures_buffered_table.specs.declared.answer.Taken.TheVariants.{Slot, Empty, Pause}
 use Rattle.futures_buffered_table.specs.declared.view.AtomicStep.{AtomicStep}
-use Rattle.futures_buffered_table.specs.declared.view.AtomicStep.TheVariants.{LinkClear, TailSwap, LinkWrite, LinkRead, TailRead, Unmark}
+use Rattle.futures_buffered_table.specs.declared.view.AtomicStep.TheVariants.{LinkClear, TailSwap}
+use Rattle.futures_buffered_table.specs.declared.view.AtomicStep.TheVariants.{LinkWrite, LinkRead}
+use Rattle.futures_buffered_table.specs.declared.view.AtomicStep.TheVariants.{TailRead, Unmark}
 
 -- the link of h names the entry `head`: the slot h is answered, its unmark the last step
 abbrev pub IsHanded : ℕ → List AtomicStep → Taken → ℕ → Type 0

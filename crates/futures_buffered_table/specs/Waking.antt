@@ -4,7 +4,8 @@ use Rattle.std.specs.Prelude.{◌≡◌, ℕ, List, [], ◌∷◌}
 use Rattle.futures_buffered_table.specs.declared.answer.Woke.{Woke}
 use Rattle.futures_buffered_table.specs.declared.answer.Woke.TheVariants.{Fresh, Already}
 use Rattle.futures_buffered_table.specs.declared.view.AtomicStep.{AtomicStep}
-use Rattle.futures_buffered_table.specs.declared.view.AtomicStep.TheVariants.{MarkSwap, LinkClear, TailSwap, LinkWrite}
+use Rattle.futures_buffered_table.specs.declared.view.AtomicStep.TheVariants.{MarkSwap, LinkClear}
+use Rattle.futures_buffered_table.specs.declared.view.AtomicStep.TheVariants.{TailSwap, LinkWrite}
 
 -- a wake of the slot i: one step where its mark was set, four where it was clear
 abbrev pub IsWake : ℕ → List AtomicStep → Woke → Type 0

@@ -35,7 +35,7 @@ impl BeforeEmpty for () {
 }
 
 impl ReadyList {
-    ghost use Rattle.futures_buffered_table.specs.ReadyList.{IsInRole, Adds};
+    ghost use Rattle.futures_buffered_table.specs.ReadyList.{IsInRole, AddsSteps};
 
     // Reads the link of the head, as a taking begins.
     fn read_first(&self, seat: &mut Seat<u8, View>, head: usize) -> usize
@@ -45,7 +45,7 @@ impl ReadyList {
             × (head ≡ self.now.capacity → result ≤ self.now.capacity) }
         ensures role { IsInRole self.now
             (next_role self.now.capacity 0 (Polls head Start) result) seat.new }
-        ensures adds { Adds seat.old seat.new (LinkRead head result ∷ []) }
+        ensures adds { AddsSteps seat.old seat.new (LinkRead head result ∷ []) }
     {
         self.table
             .shared
@@ -57,7 +57,7 @@ impl ReadyList {
         requires role { IsInRole self.now (Polls head NoNext) seat.old }
         ensures role { IsInRole self.now
             (next_role self.now.capacity 0 (Polls head NoNext) result) seat.new }
-        ensures adds { Adds seat.old seat.new (TailRead result ∷ []) }
+        ensures adds { AddsSteps seat.old seat.new (TailRead result ∷ []) }
     {
         self.table
             .shared
@@ -68,7 +68,7 @@ impl ReadyList {
     fn clear_stub(&self, seat: &mut Seat<u8, View>, head: usize)
         requires role { IsInRole self.now (Polls head Last) seat.old }
         ensures role { IsInRole self.now (Polls head StubCleared) seat.new }
-        ensures adds { Adds seat.old seat.new (LinkClear self.now.capacity ∷ []) }
+        ensures adds { AddsSteps seat.old seat.new (LinkClear self.now.capacity ∷ []) }
     {
         self.table
             .shared
@@ -80,7 +80,7 @@ impl ReadyList {
         requires role { IsInRole self.now (Polls head StubCleared) seat.old }
         ensures low { result ≤ self.now.capacity }
         ensures role { IsInRole self.now (Polls head (StubPut result)) seat.new }
-        ensures adds { Adds seat.old seat.new (TailSwap self.now.capacity result ∷ []) }
+        ensures adds { AddsSteps seat.old seat.new (TailSwap self.now.capacity result ∷ []) }
     {
         self.table.shared.swap::<SeatStep>(
             seat,
@@ -94,7 +94,7 @@ impl ReadyList {
         requires role { IsInRole self.now (Polls head (StubPut before)) seat.old
             × (before ≤ self.now.capacity) }
         ensures role { IsInRole self.now (Polls head StubLinked) seat.new }
-        ensures adds { Adds seat.old seat.new (LinkWrite before self.now.capacity ∷ []) }
+        ensures adds { AddsSteps seat.old seat.new (LinkWrite before self.now.capacity ∷ []) }
     {
         self.table
             .shared
@@ -108,7 +108,7 @@ impl ReadyList {
         ensures low { result ≤ self.now.capacity + 1 }
         ensures role { IsInRole self.now
             (next_role self.now.capacity 0 (Polls head Moved) result) seat.new }
-        ensures adds { Adds seat.old seat.new (LinkRead head result ∷ []) }
+        ensures adds { AddsSteps seat.old seat.new (LinkRead head result ∷ []) }
     {
         self.table
             .shared
@@ -122,7 +122,7 @@ impl ReadyList {
         ensures low { result ≤ self.now.capacity + 1 }
         ensures role { IsInRole self.now
             (next_role self.now.capacity 0 (Polls head StubLinked) result) seat.new }
-        ensures adds { Adds seat.old seat.new (LinkRead head result ∷ []) }
+        ensures adds { AddsSteps seat.old seat.new (LinkRead head result ∷ []) }
     {
         self.table
             .shared
@@ -133,7 +133,7 @@ impl ReadyList {
     fn read_tail_first(&self, seat: &mut Seat<u8, View>, head: usize) -> usize
         requires role { IsInRole self.now (Polls head AtStub) seat.old }
         ensures role { IsInRole self.now (Polls head Start) seat.new }
-        ensures adds { Adds seat.old seat.new (TailRead result ∷ []) }
+        ensures adds { AddsSteps seat.old seat.new (TailRead result ∷ []) }
     {
         self.table
             .shared
@@ -145,7 +145,7 @@ impl ReadyList {
         requires role { IsInRole self.now (Polls head (InHand slot)) seat.old
             × (slot ≤ self.now.capacity) }
         ensures role { IsInRole self.now (Polls head Start) seat.new }
-        ensures adds { Adds seat.old seat.new (Unmark slot ∷ []) }
+        ensures adds { AddsSteps seat.old seat.new (Unmark slot ∷ []) }
     {
         self.table.shared.store::<SeatStep>(seat, slot, 0);
     }
@@ -159,7 +159,7 @@ impl ReadyList {
         ensures never { result.1 ≢ Empty }
         ensures stays { result.1 ≡ Pause → result.0 ≡ head }
         ensures named { (slot : ℕ) → result.1 ≡ Slot slot → slot < self.now.capacity }
-        ensures shape { (shape : List AtomicStep) × Adds seat.old seat.new shape
+        ensures shape { (shape : List AtomicStep) × AddsSteps seat.old seat.new shape
             × IsAtLast self.now.capacity head shape result.1 result.0 }
     {
         if self.read_tail(seat, head) != head {
@@ -185,7 +185,7 @@ impl ReadyList {
         ensures never { result.1 ≢ Empty }
         ensures stays { result.1 ≡ Pause → result.0 ≡ head }
         ensures named { (slot : ℕ) → result.1 ≡ Slot slot → slot < self.now.capacity }
-        ensures shape { (shape : List AtomicStep) × Adds seat.old seat.new shape
+        ensures shape { (shape : List AtomicStep) × AddsSteps seat.old seat.new shape
             × IsFromSlot self.now.capacity head shape result.1 result.0 }
     {
         let found = self.read_slot(seat, head);
@@ -208,7 +208,7 @@ impl ReadyList {
         ensures role { IsInRole self.now (Polls result.0 Start) seat.new
             × (result.0 ≤ self.now.capacity) }
         ensures named { (slot : ℕ) → result.1 ≡ Slot slot → slot < self.now.capacity }
-        ensures shape { (shape : List AtomicStep) × Adds seat.old seat.new shape
+        ensures shape { (shape : List AtomicStep) × AddsSteps seat.old seat.new shape
             × IsTaking self.now.capacity head shape result.1 result.0 }
         ensures calls { CallsAtStub B.leaves self.now.capacity result.1 result.0
             before.old before.new }

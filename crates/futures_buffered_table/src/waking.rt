@@ -13,14 +13,14 @@ use crate::view::View;
 use atomic_table::Seat;
 
 impl ReadyList {
-    ghost use Rattle.futures_buffered_table.specs.ReadyList.{IsInRole, Adds};
+    ghost use Rattle.futures_buffered_table.specs.ReadyList.{IsInRole, AddsSteps};
 
     // Sets the slot's mark, and answers what it was.
     fn swap_mark(&self, seat: &mut Seat<u8, View>, slot: usize) -> u64
         requires role { IsInRole self.now Idle seat.old × (slot < self.now.capacity) }
         ensures low { result ≤ 1 }
         ensures role { IsInRole self.now (next_role self.now.capacity slot Idle result) seat.new }
-        ensures adds { Adds seat.old seat.new (MarkSwap slot result ∷ []) }
+        ensures adds { AddsSteps seat.old seat.new (MarkSwap slot result ∷ []) }
     {
         self.table.shared.swap::<SeatStep>(seat, slot, 1)
     }
@@ -29,7 +29,7 @@ impl ReadyList {
     fn clear_link(&self, seat: &mut Seat<u8, View>, slot: usize)
         requires role { IsInRole self.now (Won slot) seat.old × (slot < self.now.capacity) }
         ensures role { IsInRole self.now (Cleared slot) seat.new }
-        ensures adds { Adds seat.old seat.new (LinkClear slot ∷ []) }
+        ensures adds { AddsSteps seat.old seat.new (LinkClear slot ∷ []) }
     {
         self.table
             .shared
@@ -41,7 +41,7 @@ impl ReadyList {
         requires role { IsInRole self.now (Cleared slot) seat.old × (slot < self.now.capacity) }
         ensures low { result ≤ self.now.capacity }
         ensures role { IsInRole self.now (Swapped slot result) seat.new }
-        ensures adds { Adds seat.old seat.new (TailSwap slot result ∷ []) }
+        ensures adds { AddsSteps seat.old seat.new (TailSwap slot result ∷ []) }
     {
         self.table
             .shared
@@ -53,7 +53,7 @@ impl ReadyList {
         requires role { IsInRole self.now (Swapped slot before) seat.old
             × (slot < self.now.capacity) × (before ≤ self.now.capacity) }
         ensures role { IsInRole self.now Idle seat.new }
-        ensures adds { Adds seat.old seat.new (LinkWrite before slot ∷ []) }
+        ensures adds { AddsSteps seat.old seat.new (LinkWrite before slot ∷ []) }
     {
         self.table
             .shared
@@ -64,7 +64,7 @@ impl ReadyList {
     fn put_in(&self, seat: &mut Seat<u8, View>, slot: usize)
         requires role { IsInRole self.now (Won slot) seat.old × (slot < self.now.capacity) }
         ensures role { IsInRole self.now Idle seat.new }
-        ensures adds { (p : ℕ) × Adds seat.old seat.new
+        ensures adds { (p : ℕ) × AddsSteps seat.old seat.new
             (LinkClear slot ∷ TailSwap slot p ∷ LinkWrite p slot ∷ []) }
     {
         self.clear_link(seat, slot);

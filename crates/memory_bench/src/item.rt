@@ -1,6 +1,6 @@
 //! What the rows hold: a number whose drop is counted.
 use futures::task::Poll;
-use futures_buffered::{SlotFuture, SlotStream, WakesSlot};
+use futures_buffered::{NamesSlot, SlotFuture, SlotStream};
 use std::sync::Arc;
 use std::sync::atomic::AtomicU64;
 use std::sync::atomic::Ordering::SeqCst;
@@ -50,7 +50,7 @@ impl Drop for Item {
     }
 }
 
-impl<W: WakesSlot> SlotFuture<W> for Item {
+impl<W: NamesSlot> SlotFuture<W> for Item {
     type Output = u64;
 
     fn poll(&mut self, _waker: &W) -> Poll<u64> {
@@ -62,7 +62,7 @@ impl<W: WakesSlot> SlotFuture<W> for Item {
     }
 }
 
-impl<W: WakesSlot> SlotStream<W> for Item {
+impl<W: NamesSlot> SlotStream<W> for Item {
     type Item = u64;
 
     fn poll_next(&mut self, _waker: &W) -> Poll<Option<u64>> {
@@ -78,7 +78,7 @@ impl<W: WakesSlot> SlotStream<W> for Item {
 #[derive(Drop)]
 pub struct Attempt(pub Item);
 
-impl<W: WakesSlot> SlotFuture<W> for Attempt {
+impl<W: NamesSlot> SlotFuture<W> for Attempt {
     type Output = Result<u64, u64>;
 
     fn poll(&mut self, _waker: &W) -> Poll<Result<u64, u64>> {
@@ -90,7 +90,7 @@ impl<W: WakesSlot> SlotFuture<W> for Attempt {
 #[derive(Drop)]
 pub struct Quiet(pub Item);
 
-impl<W: WakesSlot> SlotFuture<W> for Quiet {
+impl<W: NamesSlot> SlotFuture<W> for Quiet {
     type Output = ();
 
     fn poll(&mut self, _waker: &W) -> Poll<()> {

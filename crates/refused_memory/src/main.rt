@@ -3,9 +3,9 @@
 
 use memory_bench::early::early_requests;
 use memory_bench::{Bench, Finding};
-use memory_rows::{growing, joins, lists, merges, ordered, ordered_growing, sets};
-use memory_rows_adaptors::{buffered, for_each, try_buffered};
-use memory_rows_script::scripts;
+use refusal_rows::{growing, joins, lists, merges, ordered, ordered_growing, sets};
+use refusal_rows_adaptors::{buffered, for_each, try_buffered};
+use refusal_rows_script::scripts;
 use std::io;
 use std::io::Write;
 use std::process::ExitCode;

@@ -1,6 +1,6 @@
 //! A stream whose drops are counted.
 use futures::task::Poll;
-use futures_buffered_core::ready_source::WakesSlot;
+use futures_buffered_core::ready_source::NamesSlot;
 use futures_buffered_sets::slot_stream::SlotStream;
 use std::sync::Arc;
 use std::sync::atomic::AtomicU64;
@@ -25,7 +25,7 @@ impl Drop for DroppedStream {
     }
 }
 
-impl<W: WakesSlot> SlotStream<W> for DroppedStream {
+impl<W: NamesSlot> SlotStream<W> for DroppedStream {
     type Item = u64;
 
     fn poll_next(&mut self, _waker: &W) -> Poll<Option<u64>> {

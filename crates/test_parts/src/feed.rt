@@ -1,6 +1,6 @@
 //! A stream that is fed from elsewhere, as from another thread.
 use futures::task::Poll;
-use futures_buffered_core::ready_shared::SlotWake;
+use futures_buffered_core::ready_shared::SharedWaker;
 use futures_buffered_core::ready_source::SlotWaker;
 use futures_buffered_sets::slot_stream::SlotStream;
 use std::alloc::{AllocError, Global};
@@ -10,7 +10,7 @@ use std::sync::{Arc, Mutex, Wait};
 struct Cell {
     value: Option<u64>,
     is_closed: bool,
-    waker: Option<SlotWake>,
+    waker: Option<SharedWaker>,
 }
 
 /// Gives a stream its items, one at a time.
@@ -72,10 +72,10 @@ impl<R: Wait + Drop> Feeder<R> {
     }
 }
 
-impl<R: Wait + Drop> SlotStream<SlotWake> for Fed<R> {
+impl<R: Wait + Drop> SlotStream<SharedWaker> for Fed<R> {
     type Item = u64;
 
-    fn poll_next(&mut self, waker: &SlotWake) -> Poll<Option<u64>> {
+    fn poll_next(&mut self, waker: &SharedWaker) -> Poll<Option<u64>> {
         let mut guard = self.cell.lock(&self.rt);
         let cell = &mut *guard;
         if let Some(value) = cell.value.take() {

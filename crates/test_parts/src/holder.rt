@@ -1,7 +1,7 @@
 //! A future whose drops are counted, and those of its output.
 use crate::dropped::Dropped;
 use futures::task::Poll;
-use futures_buffered_core::ready_source::WakesSlot;
+use futures_buffered_core::ready_source::NamesSlot;
 use futures_buffered_sets::slot_future::SlotFuture;
 
 /// Counts its own drop, and gives a value that counts its drop, or an error; or it is pending for good.
@@ -18,7 +18,7 @@ impl Holder {
     }
 }
 
-impl<W: WakesSlot> SlotFuture<W> for Holder {
+impl<W: NamesSlot> SlotFuture<W> for Holder {
     type Output = Result<Dropped, u64>;
 
     fn poll(&mut self, _waker: &W) -> Poll<Result<Dropped, u64>> {

@@ -1,12 +1,12 @@
 //! A future that hands its waker to the test.
 use futures::task::Poll;
-use futures_buffered_core::ready_shared::SlotWake;
+use futures_buffered_core::ready_shared::SharedWaker;
 use futures_buffered_sets::slot_future::SlotFuture;
 use std::alloc::{AllocError, Global};
 use std::sync::{Arc, Mutex, Wait};
 
 /// Where a waker is kept. It is empty where none could be made.
-pub type WakerPlace = Arc<Mutex<Option<SlotWake>>>;
+pub type WakerPlace = Arc<Mutex<Option<SharedWaker>>>;
 
 /// Pending for good. Each poll keeps the waker in place of the one before.
 #[derive(Drop)]
@@ -21,10 +21,10 @@ impl<R> Kept<R> {
     }
 }
 
-impl<R: Wait + Drop> SlotFuture<SlotWake> for Kept<R> {
+impl<R: Wait + Drop> SlotFuture<SharedWaker> for Kept<R> {
     type Output = ();
 
-    fn poll(&mut self, waker: &SlotWake) -> Poll<()> {
+    fn poll(&mut self, waker: &SharedWaker) -> Poll<()> {
         *self.place.lock(&self.rt) = waker.try_clone().ok();
         Poll::Pending
     }
@@ -35,6 +35,6 @@ pub fn empty_place(alloc: Global) -> Result<WakerPlace, AllocError> {
 }
 
 /// Takes out the waker that was kept last.
-pub fn taken_from<R: Wait + Drop>(rt: &R, place: &WakerPlace) -> Option<SlotWake> {
+pub fn taken_from<R: Wait + Drop>(rt: &R, place: &WakerPlace) -> Option<SharedWaker> {
     place.lock(rt).take()
 }

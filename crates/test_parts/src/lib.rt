@@ -2,14 +2,16 @@
 //! Only crates of tests stand on this one.
 #![tactic(auto)]
 
+pub mod assert_same;
 pub mod attempt;
+pub mod called;
+pub mod calls;
 pub mod cells;
 pub mod counted;
 pub mod counter;
 pub mod dropped;
 pub mod dropped_streams;
 pub mod feed;
-pub mod flat;
 pub mod holder;
 pub mod keep;
 pub mod kept;
@@ -20,5 +22,9 @@ pub mod rationed;
 pub mod receiver;
 pub mod stepped;
 pub mod timed;
+mod timed_growing_queue;
+mod timed_growing_set;
+mod timed_queue;
+mod timed_set;
 pub mod which_slot;
 pub mod yields;

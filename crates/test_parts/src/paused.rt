@@ -1,7 +1,7 @@
 //! A stream that is pending once and hands its waker to the test.
 use crate::kept::WakerPlace;
 use futures::task::Poll;
-use futures_buffered_core::ready_shared::SlotWake;
+use futures_buffered_core::ready_shared::SharedWaker;
 use futures_buffered_sets::slot_stream::SlotStream;
 use std::sync::Wait;
 
@@ -39,10 +39,10 @@ impl<R> Paused<R> {
     }
 }
 
-impl<R: Wait + Drop> SlotStream<SlotWake> for Paused<R> {
+impl<R: Wait + Drop> SlotStream<SharedWaker> for Paused<R> {
     type Item = u64;
 
-    fn poll_next(&mut self, waker: &SlotWake) -> Poll<Option<u64>> {
+    fn poll_next(&mut self, waker: &SharedWaker) -> Poll<Option<u64>> {
         if self.pauses {
             self.pauses = false;
             *self.place.lock(&self.rt) = waker.try_clone().ok();

@@ -36,9 +36,7 @@ impl ReadySource for Rationed {
 
     ghost marks = { Marks };
 
-    ghost takes = { Takes };
-
-    ghost registers = { λ old new. new ≡ old };
+    ghost steps = { record { registers = λ old new. new ≡ old; takes = Takes } };
 
     ghost registers_poll = { λ _ old new. IsArmed new × Keeps old new };
 

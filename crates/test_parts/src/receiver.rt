@@ -1,6 +1,6 @@
 //! A cell that is sent one value.
 use futures::task::Poll;
-use futures_buffered_core::ready_shared::SlotWake;
+use futures_buffered_core::ready_shared::SharedWaker;
 use futures_buffered_core::ready_source::SlotWaker;
 use futures_buffered_sets::slot_future::SlotFuture;
 use std::alloc::{AllocError, Global};
@@ -9,7 +9,7 @@ use std::sync::{Arc, Mutex, Wait};
 #[derive(Drop)]
 struct Cell<T> {
     value: Option<T>,
-    waker: Option<SlotWake>,
+    waker: Option<SharedWaker>,
 }
 
 #[derive(Drop)]
@@ -18,7 +18,7 @@ pub struct Sender<T, R> {
     cell: Arc<Mutex<Cell<T>>>,
 }
 
-/// Pending until a value is sent, then ready with `Ok` of it. It is an error where its waker can't be kept.
+/// Pending until a value is sent, then ready with it. It is not woken where its waker can't be kept.
 #[derive(Drop)]
 pub struct Receiver<T, R> {
     rt: R,
@@ -57,21 +57,16 @@ impl<T: Drop, R: Wait + Drop> Sender<T, R> {
     }
 }
 
-impl<T: Drop, R: Wait + Drop> SlotFuture<SlotWake> for Receiver<T, R> {
-    type Output = Result<T, AllocError>;
+impl<T: Drop, R: Wait + Drop> SlotFuture<SharedWaker> for Receiver<T, R> {
+    type Output = T;
 
-    fn poll(&mut self, waker: &SlotWake) -> Poll<Result<T, AllocError>> {
+    fn poll(&mut self, waker: &SharedWaker) -> Poll<T> {
         let mut guard = self.cell.lock(&self.rt);
         let cell = &mut *guard;
         if let Some(value) = cell.value.take() {
-            return Poll::Ready(Ok(value));
+            return Poll::Ready(value);
         }
-        match waker.try_clone() {
-            Ok(kept) => {
-                cell.waker = Some(kept);
-                Poll::Pending
-            }
-            Err(error) => Poll::Ready(Err(error)),
-        }
+        cell.waker = waker.try_clone().ok();
+        Poll::Pending
     }
 }

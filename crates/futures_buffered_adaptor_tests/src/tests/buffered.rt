@@ -1,12 +1,9 @@
 // Outputs as the futures finish, of at most so many at a time.
 ghost use Rattle.std.specs.Prelude.{◌<◌};
 
-use crate::cells::{Cells, new_cells, sent};
 use crate::list_stream::ListStream;
 use crate::paused_end::PausedEnd;
 use crate::polling::poll_buffer;
-use crate::receiver::{Receiver, one_shot};
-use crate::same::assert_same;
 use crate::steps::{Answer, Call, Polled, answered, said, try_made};
 use crate::unbounded_hint::UnboundedHint;
 use futures::test::MockTask;
@@ -18,6 +15,9 @@ use std::process::Abort;
 use std::random::RandomSource;
 use std::sync::Wait;
 use std::test::Fail;
+use test_parts::assert_same::assert_same;
+use test_parts::cells::{Cells, new_cells, sent};
+use test_parts::receiver::{Receiver, one_shot};
 
 impl<R: Wait + Drop> Polled<u64> for BufferUnordered<ListStream<Receiver<u64, R>>, SharedReady> {
     fn poll_once(&mut self, task: &MockTask) -> Answer<u64> {

@@ -1,12 +1,9 @@
 // Outputs in the order of the items, of at most so many held at a time.
 ghost use Rattle.std.specs.Prelude.{◌<◌};
 
-use crate::cells::{Cells, new_cells};
 use crate::list_stream::ListStream;
 use crate::paused_end::PausedEnd;
 use crate::polling::poll_in_order;
-use crate::receiver::{Receiver, one_shot};
-use crate::same::assert_same;
 use crate::steps::{Answer, Call, Polled, answered, said, try_made};
 use crate::unbounded_hint::UnboundedHint;
 use crate::watched::Watched;
@@ -20,7 +17,10 @@ use std::random::RandomSource;
 use std::sync::atomic::Ordering::SeqCst;
 use std::sync::{Arc, Wait};
 use std::test::Fail;
+use test_parts::assert_same::assert_same;
+use test_parts::cells::{Cells, new_cells};
 use test_parts::counter::{Counter, new_counter};
+use test_parts::receiver::{Receiver, one_shot};
 
 impl<R: Wait + Drop> Polled<u64> for BufferedOrdered<ListStream<Receiver<u64, R>>, SharedReady> {
     fn poll_once(&mut self, task: &MockTask) -> Answer<u64> {

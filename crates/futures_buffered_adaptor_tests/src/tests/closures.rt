@@ -1,20 +1,20 @@
 // Streams that contain a closure, under each adaptor.
 use crate::ready_at_once::ReadyAtOnce;
-use crate::same::assert_same;
 use futures::executor::block_on;
 use futures::task::Poll;
 use futures::{StreamExt, stream};
-use futures_buffered::{BufferedStreamExt, BufferedTryStreamExt, SlotFuture, WakesSlot};
+use futures_buffered::{BufferedStreamExt, BufferedTryStreamExt, NamesSlot, SlotFuture};
 use std::sync::Arc;
 use std::sync::atomic::AtomicU64;
 use std::sync::atomic::Ordering::SeqCst;
 use std::test::Fail;
+use test_parts::assert_same::assert_same;
 
 // Gives the double of its number at its first poll.
 #[derive(Drop)]
 struct Double(u64);
 
-impl<W: WakesSlot> SlotFuture<W> for Double {
+impl<W: NamesSlot> SlotFuture<W> for Double {
     type Output = u64;
 
     fn poll(&mut self, _waker: &W) -> Poll<u64> {
@@ -26,7 +26,7 @@ impl<W: WakesSlot> SlotFuture<W> for Double {
 #[derive(Drop)]
 struct TryDouble(u64);
 
-impl<W: WakesSlot> SlotFuture<W> for TryDouble {
+impl<W: NamesSlot> SlotFuture<W> for TryDouble {
     type Output = Result<u64, u64>;
 
     fn poll(&mut self, _waker: &W) -> Poll<Result<u64, u64>> {

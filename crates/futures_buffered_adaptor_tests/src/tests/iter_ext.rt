@@ -1,6 +1,4 @@
 // Sets, queues and joins made of what an iterator gives.
-use crate::cells::{Cells, new_cells};
-use crate::receiver::Receiver;
 use crate::steps::{Answer, Call, Polled, answered, said, try_made};
 use futures::task::Poll;
 use futures::test::MockTask;
@@ -10,7 +8,9 @@ use futures_buffered::{
 use futures_buffered_core::ready_shared::SharedReady;
 use std::sync::Wait;
 use std::test::Fail;
+use test_parts::cells::{Cells, new_cells};
 use test_parts::polling::{poll_growing_set, poll_join, poll_queue, poll_set, poll_try_join};
+use test_parts::receiver::Receiver;
 
 type Attempt = Result<u64, u64>;
 

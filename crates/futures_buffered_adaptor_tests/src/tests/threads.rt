@@ -1,8 +1,5 @@
 // Adaptors under `block_on`, whose futures another thread wakes.
-use crate::cells::{Cells, new_cells};
 use crate::list_stream::ListStream;
-use crate::receiver::{Receiver, Sender};
-use crate::same::assert_same;
 use futures::StreamExt;
 use futures::executor::block_on;
 use futures_buffered::BufferedStreamExt;
@@ -11,6 +8,9 @@ use std::sync::atomic::Ordering::SeqCst;
 use std::sync::{Arc, Wait};
 use std::test::Fail;
 use std::thread;
+use test_parts::assert_same::assert_same;
+use test_parts::cells::{Cells, new_cells};
+use test_parts::receiver::{Receiver, Sender};
 
 fn send_each<R: Wait + Drop>(senders: &Vec<Sender<u64, R>>) {
     for (value, sender) in [1, 2, 4, 8].iter().zip(senders) {

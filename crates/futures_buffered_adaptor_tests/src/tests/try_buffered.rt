@@ -1,8 +1,6 @@
 // Outputs as the futures finish or in their order, and the errors of the stream at once.
-use crate::cells::{Cells, new_cells};
 use crate::list_stream::ListStream;
 use crate::polling::{poll_try_buffer, poll_try_in_order};
-use crate::receiver::{Receiver, Sender};
 use crate::steps::{Answer, Call, Polled, answered, said, try_made};
 use futures::test::MockTask;
 use futures_buffered::{BufferedTryStreamExt, TryBufferUnordered, TryBufferedOrdered};
@@ -10,7 +8,9 @@ use futures_buffered_core::ready_shared::SharedReady;
 use std::alloc::{AllocError, Global};
 use std::sync::Wait;
 use std::test::Fail;
+use test_parts::cells::{Cells, new_cells};
 use test_parts::keep::keep;
+use test_parts::receiver::{Receiver, Sender};
 
 type Output = Result<u64, u64>;
 

@@ -2,7 +2,7 @@
 use crate::parts::outer::{AskingWaker, CountingWaker, Either, is_set_within};
 use crate::same::assert_same;
 use futures_buffered_core::ready_core::{MAX_CAPACITY, NewFault, Taken, Woke};
-use futures_buffered_core::ready_shared::{OuterWaker, SharedReady, SlotWake};
+use futures_buffered_core::ready_shared::{OuterWaker, SharedReady, SharedWaker};
 use futures_buffered_core::ready_source::SlotWaker;
 use std::alloc::{AllocError, Global};
 use std::process::Abort;
@@ -108,7 +108,7 @@ fn wakes_both_when_asked<W: SlotWaker>(
     }
 }
 
-fn waker_of<O: OuterWaker>(source: &SharedReady<O>, slot: usize) -> Result<SlotWake<O>, Fail> {
+fn waker_of<O: OuterWaker>(source: &SharedReady<O>, slot: usize) -> Result<SharedWaker<O>, Fail> {
     if slot < source.capacity() {
         Ok(source.waker(slot).try_clone()?)
     } else {

@@ -1,64 +1,31 @@
 // Futures that are finished by hand, in another order than they stand in.
-use crate::joins::steps::{Answer, Call, Joined, of_result, try_row};
-use futures::task::Poll;
+use crate::joins::steps::{Answer, Call, Joined, of_outputs, of_result, try_row};
 use futures::test::MockTask;
-use futures_buffered_core::ready_core::NewFault;
 use futures_buffered_core::ready_shared::SharedReady;
 use futures_buffered_sets::join_all::join_all;
 use futures_buffered_sets::try_join_all::try_join_all;
 use futures_buffered_sets::{JoinAll, TryJoinAll};
-use std::alloc::{AllocError, AllocGlobal, Global};
+use std::alloc::AllocGlobal;
 use std::process::Abort;
 use std::random::RandomSource;
 use std::sync::Wait;
 use std::test::Fail;
 use test_parts::cells::{Cells, new_cells};
-use test_parts::flat::Flat;
-use test_parts::keep::keep;
 use test_parts::polling::{poll_join, poll_try_join};
 use test_parts::receiver::Receiver;
 
 type Attempt = Result<u64, u64>;
 
-fn received(outputs: &[Result<u64, AllocError>]) -> Answer {
-    match outputs {
-        [] => Answer::Empty,
-        [Ok(first), Ok(second), Ok(third)] => Answer::Three(*first, *second, *third),
-        _ => Answer::Unknown,
-    }
-}
-
 impl<R: Wait + Drop> Joined for JoinAll<Receiver<u64, R>, SharedReady> {
     fn poll_once(&mut self, task: &MockTask) -> Answer {
-        match poll_join(task, self) {
-            Poll::Ready(outputs) => received(outputs.as_slice()),
-            Poll::Pending => Answer::Pending,
-        }
+        of_outputs(poll_join(task, self))
     }
 }
 
-impl<R: Wait + Drop> Joined for TryJoinAll<Flat<R>, SharedReady> {
+impl<R: Wait + Drop> Joined for TryJoinAll<Receiver<Attempt, R>, SharedReady> {
     fn poll_once(&mut self, task: &MockTask) -> Answer {
         of_result(poll_try_join(task, self))
     }
-}
-
-fn flattened<R: Drop>(
-    alloc: Global,
-    receivers: Vec<Receiver<Attempt, R>>,
-) -> Result<Vec<Flat<R>>, AllocError> {
-    let mut items = Vec::new(alloc);
-    for receiver in receivers {
-        keep(&mut items, Flat::new(receiver))?;
-    }
-    Ok(items)
-}
-
-fn flat_join<R: Wait + Drop>(
-    alloc: Global,
-    receivers: Vec<Receiver<Attempt, R>>,
-) -> Result<TryJoinAll<Flat<R>, SharedReady>, NewFault> {
-    try_join_all(alloc, flattened(alloc, receivers)?)
 }
 
 // The calls of a join of three cells.
@@ -71,12 +38,12 @@ where
 }
 
 // The calls of a try join of three cells.
-fn try_flat_join<R>(rt: &R, row: &[(Call<Attempt>, Answer)]) -> Result<(), Fail>
+fn try_attempts<R>(rt: &R, row: &[(Call<Attempt>, Answer)]) -> Result<(), Fail>
 where
     R: Abort + Wait + RandomSource + AllocGlobal + Clone + Drop,
 {
     let Cells { senders, receivers } = new_cells(rt, rt.alloc(), 3)?;
-    try_row(rt, senders, flat_join(rt.alloc(), receivers), row)
+    try_row(rt, senders, try_join_all(rt.alloc(), receivers), row)
 }
 
 #[test]
@@ -108,7 +75,7 @@ fn a_try_join_ends_at_the_error_that_comes_first(rt: HostRuntime) -> Result<(), 
         (Call::Poll, Answer::Error(2)),
         (Call::Poll, Answer::Empty),
     ];
-    try_flat_join(&rt, &row)
+    try_attempts(&rt, &row)
 }
 
 #[test]
@@ -121,5 +88,5 @@ fn a_try_join_gives_its_outputs_by_place(rt: HostRuntime) -> Result<(), Fail> {
         (Call::Send(0, Ok(3)), Answer::Sent),
         (Call::Poll, Answer::Three(3, 2, 1)),
     ];
-    try_flat_join(&rt, &row)
+    try_attempts(&rt, &row)
 }

@@ -1,17 +1,17 @@
 // Joins under `block_on`, whose futures another thread wakes.
-use crate::assert_same::assert_same;
 use futures::executor::block_on;
 use futures_buffered_sets::join_all::join_all;
 use futures_buffered_sets::try_join_all::try_join_all;
 use std::sync::Wait;
 use std::test::Fail;
 use std::thread;
+use test_parts::assert_same::assert_same;
 use test_parts::cells::{Cells, new_cells};
 use test_parts::receiver::Sender;
 
 // Each sender in turn sends its value.
-fn send_each<R: Wait + Drop>(senders: &Vec<Sender<u64, R>>) {
-    for (value, sender) in [5, 6, 7, 8].iter().zip(senders) {
+fn send_each<T: Copy + Drop, R: Wait + Drop>(senders: &Vec<Sender<T, R>>, values: [T; 4]) {
+    for (value, sender) in values.iter().zip(senders) {
         sender.send(*value);
     }
 }
@@ -20,14 +20,10 @@ fn send_each<R: Wait + Drop>(senders: &Vec<Sender<u64, R>>) {
 fn a_join_while_a_thread_wakes(rt: HostRuntime) -> Result<(), Fail> {
     let Cells { senders, receivers } = new_cells(&rt, rt.alloc(), 4)?;
     let join = join_all(rt.alloc(), receivers)?;
-    let child = thread::spawn(&rt, move || send_each(&senders))?;
+    let child = thread::spawn(&rt, move || send_each(&senders, [5, 6, 7, 8]))?;
     let outputs = block_on(&rt, join);
     child.join(&rt);
-    assert_same(
-        &rt,
-        outputs?.as_slice(),
-        [Ok(5), Ok(6), Ok(7), Ok(8)].as_slice(),
-    );
+    assert_same(&rt, outputs?.as_slice(), [5, 6, 7, 8].as_slice());
     Ok(())
 }
 
@@ -35,7 +31,8 @@ fn a_join_while_a_thread_wakes(rt: HostRuntime) -> Result<(), Fail> {
 fn a_try_join_while_a_thread_wakes(rt: HostRuntime) -> Result<(), Fail> {
     let Cells { senders, receivers } = new_cells(&rt, rt.alloc(), 4)?;
     let join = try_join_all(rt.alloc(), receivers)?;
-    let child = thread::spawn(&rt, move || send_each(&senders))?;
+    let values = [Ok::<u64, u64>(5), Ok(6), Ok(7), Ok(8)];
+    let child = thread::spawn(&rt, move || send_each(&senders, values))?;
     let outputs = block_on(&rt, join);
     child.join(&rt);
     assert_same(&rt, outputs??.as_slice(), [5, 6, 7, 8].as_slice());

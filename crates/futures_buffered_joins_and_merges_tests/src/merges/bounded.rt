@@ -1,5 +1,4 @@
 // Rows of the bounded merge over `CoreSource`s.
-use crate::assert_same::assert_same;
 use crate::merges::steps::{Answer, Call, try_row};
 use futures::task::Poll;
 use futures::test::MockTask;
@@ -10,6 +9,7 @@ use std::alloc::{AllocError, AllocGlobal, Global};
 use std::process::Abort;
 use std::random::RandomSource;
 use std::test::Fail;
+use test_parts::assert_same::assert_same;
 use test_parts::keep::keep;
 use test_parts::merge_answers::answers;
 use test_parts::stepped::{Stepped, from, same};

@@ -1,5 +1,4 @@
 // The merge that grows.
-use crate::assert_same::assert_same;
 use crate::merges::pauses::{GrowingPausing, five, late_end};
 use crate::merges::steps::{Answer, Call, try_row};
 use futures::task::Poll;
@@ -12,6 +11,7 @@ use std::alloc::{AllocError, Global};
 use std::sync::atomic::Ordering::SeqCst;
 use std::sync::{Arc, Wait};
 use std::test::Fail;
+use test_parts::assert_same::assert_same;
 use test_parts::counter::{Counter, new_counter};
 use test_parts::dropped_streams::DroppedStream;
 use test_parts::keep::keep;

@@ -1,8 +1,7 @@
 // A set of futures that hand their wakers to the test.
-use crate::calls::{Answer, Call, Tried, answered_unit};
 use futures::task::Poll;
 use futures::test::MockTask;
-use futures_buffered_core::ready_shared::{SharedReady, SlotWake};
+use futures_buffered_core::ready_shared::{SharedReady, SharedWaker};
 use futures_buffered_core::ready_source::SlotWaker;
 use futures_buffered_sets::futures_unordered_bounded::FuturesUnorderedBounded;
 use futures_buffered_sets::slot_future::SlotFuture;
@@ -10,6 +9,7 @@ use std::alloc::{AllocError, Global};
 use std::sync::atomic::Ordering::SeqCst;
 use std::sync::{Arc, Wait};
 use std::test::Fail;
+use test_parts::calls::{Answer, Call, Tried, answered_unit};
 use test_parts::counted::Counted;
 use test_parts::counter::{Counter, new_counter};
 use test_parts::keep::keep;
@@ -23,10 +23,10 @@ pub struct Keeper<R> {
     ends: bool,
 }
 
-impl<R: Wait + Drop> SlotFuture<SlotWake> for Keeper<R> {
+impl<R: Wait + Drop> SlotFuture<SharedWaker> for Keeper<R> {
     type Output = ();
 
-    fn poll(&mut self, waker: &SlotWake) -> Poll<()> {
+    fn poll(&mut self, waker: &SharedWaker) -> Poll<()> {
         let polled = self.kept.poll(waker);
         if self.ends {
             return Poll::Ready(());
@@ -81,7 +81,7 @@ pub struct Keepers<R: Wait + Clone + Drop> {
     set: Option<Set<R>>,
     polls: Polls,
     place: WakerPlace,
-    wakers: Vec<SlotWake>,
+    wakers: Vec<SharedWaker>,
 }
 
 // What is held beside a set without futures.
@@ -119,14 +119,14 @@ fn push<R: Wait + Clone + Drop>(set: &mut Set<R>, future: Counted<Keeper<R>>) ->
     }
 }
 
-fn slot_of(waker: Option<&SlotWake>) -> Answer {
+fn slot_of(waker: Option<&SharedWaker>) -> Answer {
     match waker {
         Some(waker) => Answer::Number(waker.slot() as u64),
         None => Answer::Unknown,
     }
 }
 
-fn wake(waker: Option<&SlotWake>) -> Answer {
+fn wake(waker: Option<&SharedWaker>) -> Answer {
     match waker {
         Some(waker) => {
             waker.wake();

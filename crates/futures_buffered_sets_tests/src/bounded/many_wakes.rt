@@ -1,10 +1,9 @@
 // Ten million wakes from eight threads.
-use crate::assert_same::assert_same;
 use futures::StreamExt;
 use futures::executor::block_on;
 use futures::task::Poll;
 use futures::test::MockTask;
-use futures_buffered_core::ready_shared::{SharedReady, SlotWake};
+use futures_buffered_core::ready_shared::{SharedReady, SharedWaker};
 use futures_buffered_core::ready_source::SlotWaker;
 use futures_buffered_sets::futures_unordered_bounded::FuturesUnorderedBounded;
 use futures_buffered_sets::slot_future::SlotFuture;
@@ -15,6 +14,7 @@ use std::sync::atomic::Ordering::SeqCst;
 use std::sync::{Arc, Mutex, Wait};
 use std::test::Fail;
 use std::thread::{self, Threads};
+use test_parts::assert_same::assert_same;
 use test_parts::keep::keep;
 use test_parts::polling::poll_set;
 
@@ -27,7 +27,7 @@ const ROUNDS: u64 = 4_883;
 #[derive(Drop)]
 struct Seat {
     wakes: AtomicU64,
-    waker: Mutex<Option<SlotWake>>,
+    waker: Mutex<Option<SharedWaker>>,
 }
 
 // Ready once its seat has counted all wakes. It keeps its waker at its first poll.
@@ -36,10 +36,10 @@ struct AllWakes {
     seat: Arc<Seat>,
 }
 
-impl SlotFuture<SlotWake> for AllWakes {
+impl SlotFuture<SharedWaker> for AllWakes {
     type Output = ();
 
-    fn poll(&mut self, waker: &SlotWake) -> Poll<()> {
+    fn poll(&mut self, waker: &SharedWaker) -> Poll<()> {
         if self.seat.wakes.load(SeqCst) == THREADS * ROUNDS {
             return Poll::Ready(());
         }
@@ -58,7 +58,7 @@ type Set = FuturesUnorderedBounded<AllWakes, SharedReady>;
 #[derive(Drop)]
 struct Bell {
     seat: Arc<Seat>,
-    waker: SlotWake,
+    waker: SharedWaker,
 }
 
 fn new_seat(alloc: Global) -> Result<Arc<Seat>, AllocError> {
@@ -92,7 +92,7 @@ fn seated(alloc: Global, set: &mut Set) -> Result<Vec<Arc<Seat>>, AllocError> {
     Ok(seats)
 }
 
-fn waker_of(seat: &Seat) -> Option<SlotWake> {
+fn waker_of(seat: &Seat) -> Option<SharedWaker> {
     match seat.waker.try_lock() {
         Some(mut kept) => kept.take(),
         None => None,

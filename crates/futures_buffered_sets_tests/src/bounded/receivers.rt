@@ -1,5 +1,4 @@
 // 256 futures that wait for a value: how many names one poll takes, and in which order the values come.
-use crate::calls::{Answer, Call, Tried, answered_sent, send, try_row};
 use futures::test::MockTask;
 use futures_buffered_core::ready_shared::SharedReady;
 use futures_buffered_sets::futures_unordered_bounded::FuturesUnorderedBounded;
@@ -7,6 +6,7 @@ use std::alloc::{AllocError, Global};
 use std::sync::atomic::Ordering::SeqCst;
 use std::sync::{Arc, Wait};
 use std::test::Fail;
+use test_parts::calls::{Answer, Call, Tried, answered, send, try_row};
 use test_parts::cells::{Cells, new_cells};
 use test_parts::counted::Counted;
 use test_parts::counter::{Counter, new_counter};
@@ -69,7 +69,7 @@ fn new_held<R: Wait + Clone + Drop>(rt: &R, alloc: Global, count: usize) -> Resu
 impl<R: Wait + Drop> Tried for Held<R> {
     fn gave(&mut self, task: &MockTask, call: Call) -> Answer {
         match call {
-            Call::Poll => answered_sent(poll_set(task, &mut self.set)),
+            Call::Poll => answered(poll_set(task, &mut self.set)),
             Call::Polls => Answer::Number(self.polls.load(SeqCst)),
             Call::Send(place, value) => send(&self.senders, place, value),
             Call::Len => Answer::Number(self.set.len() as u64),

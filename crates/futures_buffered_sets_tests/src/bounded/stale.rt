@@ -1,7 +1,7 @@
 // Wakers whose future has ended.
 use super::keepers::new_keepers;
-use crate::calls::{Answer, Call, try_row};
 use std::test::Fail;
+use test_parts::calls::{Answer, Call, try_row};
 
 // The first future ends at once, and the others stay.
 #[test]

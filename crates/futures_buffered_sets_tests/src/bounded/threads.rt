@@ -1,5 +1,4 @@
 // Sets that move to another thread, or are woken from one.
-use crate::assert_same::assert_same;
 use futures::executor::block_on;
 use futures::{StreamExt, future};
 use futures_buffered_core::ready_shared::SharedReady;
@@ -10,6 +9,7 @@ use std::random::RandomSource;
 use std::sync::Wait;
 use std::test::Fail;
 use std::thread::{self, JoinHandle, Threads};
+use test_parts::assert_same::assert_same;
 use test_parts::cells::{Cells, new_cells};
 use test_parts::receiver::{Receiver, Sender};
 use test_parts::timed::{Timed, ready};
@@ -143,7 +143,7 @@ fn first_of<R>(rt: &R, set: &mut Shared<Receiver<u64, R>>) -> Result<u64, Fail>
 where
     R: Wait + RandomSource + AllocGlobal + Drop,
 {
-    Ok(block_on(rt, set.next())?.ok_or("no first")??)
+    Ok(block_on(rt, set.next())?.ok_or("no first")?)
 }
 
 // The bits of all outputs.
@@ -151,7 +151,7 @@ fn bits_of<R>(rt: &R, set: Shared<Receiver<u64, R>>) -> Result<u64, Fail>
 where
     R: Wait + RandomSource + AllocGlobal + Drop,
 {
-    let all = set.fold(0, |sum, x| future::ready(sum | x.unwrap_or(0)));
+    let all = set.fold(0, |sum, x| future::ready(sum | x));
     Ok(block_on(rt, all)?)
 }
 
@@ -165,12 +165,12 @@ fn next_and_fold_while_a_thread_wakes(rt: HostRuntime) -> Result<(), Fail> {
     Ok(())
 }
 
-fn sum<E: Drop>(outputs: Vec<Result<u64, E>>) -> Result<u64, E> {
+fn sum(outputs: &[u64]) -> u64 {
     let mut sum = 0u64;
     for output in outputs {
-        sum = sum.saturating_add(output?);
+        sum = sum.saturating_add(*output);
     }
-    Ok(sum)
+    sum
 }
 
 fn sum_of<R>(rt: &R, set: Shared<Receiver<u64, R>>) -> Result<u64, Fail>
@@ -178,7 +178,7 @@ where
     R: Wait + RandomSource + AllocGlobal + Drop,
 {
     let outputs = block_on(rt, set.collect(rt.alloc()))??;
-    Ok(sum(outputs)?)
+    Ok(sum(outputs.as_slice()))
 }
 
 #[test]

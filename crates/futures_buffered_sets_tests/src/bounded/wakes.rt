@@ -1,11 +1,11 @@
 // Who is woken, and how often.
 use super::keepers::{Keepers, new_keepers};
-use crate::assert_same::assert_same;
-use crate::calls::{Answer, Call, try_calls, try_row};
 use futures::test::MockTask;
 use std::process::Abort;
 use std::sync::Wait;
 use std::test::Fail;
+use test_parts::assert_same::assert_same;
+use test_parts::calls::{Answer, Call, try_calls, try_row};
 use test_parts::polling::poll_nothing;
 
 #[test]

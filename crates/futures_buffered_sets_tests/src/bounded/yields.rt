@@ -1,5 +1,4 @@
 // Futures that wake themselves.
-use crate::assert_same::assert_same;
 use futures::task::Poll;
 use futures::test::MockTask;
 use futures_buffered_core::ready_shared::SharedReady;
@@ -8,6 +7,7 @@ use std::alloc::AllocError;
 use std::sync::Arc;
 use std::sync::atomic::Ordering::SeqCst;
 use std::test::Fail;
+use test_parts::assert_same::assert_same;
 use test_parts::counted::Counted;
 use test_parts::counter::{Counter, new_counter};
 use test_parts::polling::poll_set;

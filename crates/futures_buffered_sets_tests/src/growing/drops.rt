@@ -1,5 +1,4 @@
 // What is dropped, and how often.
-use crate::calls::{Answer, Call, Tried, answered_unit, try_row};
 use futures::test::MockTask;
 use futures_buffered_core::ready_source::CoreSource;
 use futures_buffered_sets::futures_unordered::FuturesUnordered;
@@ -7,6 +6,7 @@ use std::alloc::{AllocError, Global};
 use std::sync::Arc;
 use std::sync::atomic::Ordering::SeqCst;
 use std::test::Fail;
+use test_parts::calls::{Answer, Call, Tried, answered_unit, try_row};
 use test_parts::counter::{Counter, new_counter};
 use test_parts::dropped::Dropped;
 use test_parts::polling::poll_growing_set;

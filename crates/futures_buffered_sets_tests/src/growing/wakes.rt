@@ -1,11 +1,11 @@
 // One registration serves all groups.
-use crate::calls::{Answer, Call, Tried, answered_sent, send, try_row};
 use futures::test::MockTask;
 use futures_buffered_core::ready_shared::SharedReady;
 use futures_buffered_sets::futures_unordered::FuturesUnordered;
 use std::alloc::Global;
 use std::sync::Wait;
 use std::test::Fail;
+use test_parts::calls::{Answer, Call, Tried, answered, send, try_row};
 use test_parts::cells::{Cells, new_cells};
 use test_parts::polling::poll_growing_set;
 use test_parts::receiver::{Receiver, Sender};
@@ -42,7 +42,7 @@ fn new_held<R: Wait + Clone + Drop>(rt: &R, alloc: Global, count: usize) -> Resu
 impl<R: Wait + Drop> Tried for Held<R> {
     fn gave(&mut self, task: &MockTask, call: Call) -> Answer {
         match call {
-            Call::Poll => answered_sent(poll_growing_set(task, &mut self.set)),
+            Call::Poll => answered(poll_growing_set(task, &mut self.set)),
             Call::Send(place, value) => send(&self.senders, place, value),
             Call::Len => Answer::Number(self.set.len() as u64),
             _ => Answer::Unknown,

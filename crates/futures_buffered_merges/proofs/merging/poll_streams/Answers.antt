@@ -1,7 +1,7 @@
 use Rattle.std.proofs.Common.{[], ◌∷◌, ◌++◌, inl, inr, refl, ap, arith, rules}
 use Rattle.std.proofs.lemmas.Fn.{FoldsTo-push}
 use Rattle.futures_buffered_core.specs.SlotMap.{held_count}
-use Rattle.futures_buffered_bounded.specs.FuturesUnorderedBounded.{Bounded}
+use Rattle.futures_buffered_unordered_bounded.specs.FuturesUnorderedBounded.{Bounded}
 use Rattle.futures_buffered_merges.specs.Merging.{CountEnds}
 use Rattle.futures_buffered_merges.proofs.MergingLemmas.{registers_once_more}
 use Rattle.futures_buffered_merges.proofs.merging.poll_streams.Goals as goal
@@ -28,7 +28,7 @@ counts-preserved g c =
     record {
       counts = (
         so_far.0 ++ one.0 ∷ [],
-        FoldsTo-push (CountEnds g.St.SlotStream.polled source.registers source.marks source.takes) c.args.set.now so_far.0 c.counts.set one.0 c.poll_count.new.set so_far.1 one.1,
+        FoldsTo-push (CountEnds g.St.SlotStream.polled source.steps source.marks) c.args.set.now so_far.0 c.counts.set one.0 c.poll_count.new.set so_far.1 one.1,
       );
       pollable = c.poll_count.ensures.pollable;
       capacity = search rules;

@@ -2,7 +2,7 @@ use Rattle.std.proofs.Common.{◌≡◌, ◌≤◌, ℕ, List}
 use Rattle.std.specs.List.{FoldsTo}
 use Rattle.futures.specs.Task.{Keeps}
 use Rattle.futures_buffered_core.specs.SlotMap.{held_count, slot_count}
-use Rattle.futures_buffered_bounded.specs.Held.{AllHeld}
+use Rattle.futures_buffered_unordered_bounded.specs.Held.{AllHeld}
 use Rattle.futures_buffered_merges.specs.Merging.{CountEnds, OnlyRegisters}
 use Rattle.futures_buffered_merges.proofs.merging.poll_streams.Given as goal
 
@@ -11,7 +11,7 @@ invariant-counts g l =
     let source = g.S.ReadySource in
     let stream = g.St.SlotStream in
     record {
-      counts : (ended : List ℕ) × FoldsTo (CountEnds stream.polled source.registers source.marks source.takes) l.fn.set ended l.set;
+      counts : (ended : List ℕ) × FoldsTo (CountEnds stream.polled source.steps source.marks) l.fn.set ended l.set;
       pollable : AllHeld stream.can_poll l.set.slots;
       capacity : slot_count l.set.slots ≡ slot_count l.fn.set.slots;
       limit : l.set.limit ≡ l.fn.set.limit;

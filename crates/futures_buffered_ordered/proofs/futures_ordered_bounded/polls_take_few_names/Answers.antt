@@ -1,5 +1,5 @@
-use Rattle.futures_buffered_ordered.proofs.NamesLemmas.{takes_few_names}
+use Rattle.futures_buffered_ordered.proofs.FuturesOrderedBoundedLemmas.{takes_few_names}
 use Rattle.futures_buffered_ordered.proofs.futures_ordered_bounded.polls_take_few_names.Goals as goal
 
 pub returns : goal.returns
-returns g c = takes_few_names g.R.PollOne.polled g.S.ReadySource.registers g.S.ReadySource.takes
+returns g c = takes_few_names g.R.PollOne.polled g.S.ReadySource.steps

@@ -11,7 +11,7 @@ places-preserved g c =
     let filled = c.in-Ready.ensures.filled in
     record {
       row = so.row ++ filled.0 ∷ [];
-      filled = FoldsTo-push (Fills future.polled source.registers source.takes (λ x. x)) c.args.self.now so.row c.places.self filled.0 c.fill_one.new.self so.filled filled.1;
+      filled = FoldsTo-push (Fills future.polled source.steps (λ x. x)) c.args.self.now so.row c.places.self filled.0 c.fill_one.new.self so.filled filled.1;
       held = c.in-Ready.ensures.again;
       kept = λ fact h. c.fill_one.ensures.kept fact (so.kept fact h);
     }

@@ -2,7 +2,7 @@ use Rattle.std.proofs.Common.{ℕ, List}
 use Rattle.std.specs.List.{FoldsTo}
 use Rattle.futures.specs.Task.{Keeps}
 use Rattle.futures_buffered_core.specs.SlotMap.{held_count}
-use Rattle.futures_buffered_bounded.specs.Held.{AllHeld}
+use Rattle.futures_buffered_unordered_bounded.specs.Held.{AllHeld}
 use Rattle.futures_buffered_joins.specs.Joining.{Fills}
 use Rattle.futures_buffered_joins.proofs.joining.Joining+F+F+Output+S.fill_all.Given as goal
 
@@ -12,7 +12,7 @@ invariant-places g l =
     let source = g.S.ReadySource in
     record {
       row : List (ℕ × g.row.F-Output.Denot);
-      filled : FoldsTo (Fills future.polled source.registers source.takes (λ x. x)) l.fn.self row l.self;
+      filled : FoldsTo (Fills future.polled source.steps (λ x. x)) l.fn.self row l.self;
       held : AllHeld future.can_poll l.self.set.slots;
       kept : Keeps l.fn.cx l.cx;
     }

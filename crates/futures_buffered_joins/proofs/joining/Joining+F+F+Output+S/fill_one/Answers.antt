@@ -1,5 +1,5 @@
 use Rattle.std.proofs.Common.{sym}
-use Rattle.futures_buffered_bounded.proofs.HeldLemmas.{some_from_end}
+use Rattle.futures_buffered_unordered_bounded.proofs.HeldLemmas.{some_from_end}
 use Rattle.futures_buffered_joins.proofs.JoiningLemmas.{fills_place}
 use Rattle.futures_buffered_joins.proofs.joining.Joining+F+F+Output+S.fill_one.Goals as goal
 
@@ -8,5 +8,5 @@ returns-in-Ready-clause-filled g c =
     let future = g.F.SlotFuture in
     let source = g.S.ReadySource in (
       (c.in-Ready.i, c.in-Ready.output),
-      fills_place future.polled source.registers source.takes (λ x. x) c.args.self.now c.fill.new.self _ c.poll_first.new.self _ _ _ c.in-Ready.i c.in-Ready.output (sym c.self.view_is) c.self.invariant c.in-Ready.ensures.polled c.in-Ready.ensures.same_slots (some_from_end (future.polled c.in-Ready.i) _ _ c.in-Ready.ensures.last) c.fill.ensures.set c.fill.ensures.outputs,
+      fills_place future.polled source.steps (λ x. x) c.args.self.now c.fill.new.self _ c.poll_first.new.self _ _ _ c.in-Ready.i c.in-Ready.output (sym c.self.view_is) c.self.invariant c.in-Ready.ensures.polled c.in-Ready.ensures.same_slots (some_from_end (future.polled c.in-Ready.i) _ _ c.in-Ready.ensures.last) c.fill.ensures.set c.fill.ensures.outputs,
     )

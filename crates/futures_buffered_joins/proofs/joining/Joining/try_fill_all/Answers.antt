@@ -11,7 +11,7 @@ places-preserved g c =
     let filled = rw c.in-Ready-Ok.field-0-is at c.in-Ready-Ok.ensures.filled in
     record {
       row = so.row ++ filled.0 ∷ [];
-      filled = FoldsTo-push (Fills future.polled source.registers source.takes Ok) c.args.self.now so.row c.places.self filled.0 c.try_fill_one.new.self so.filled filled.1;
+      filled = FoldsTo-push (Fills future.polled source.steps Ok) c.args.self.now so.row c.places.self filled.0 c.try_fill_one.new.self so.filled filled.1;
       held = rw c.in-Ready-Ok.field-0-is at c.in-Ready-Ok.ensures.goes_on;
       kept = λ fact h. c.try_fill_one.ensures.kept fact (so.kept fact h);
     }

@@ -1,6 +1,6 @@
 use Rattle.std.proofs.Common.{Ok, sym, arith}
 use Rattle.std.proofs.lemmas.Grind.{common_steps}
-use Rattle.futures_buffered_bounded.proofs.HeldLemmas.{some_from_end}
+use Rattle.futures_buffered_unordered_bounded.proofs.HeldLemmas.{some_from_end}
 use Rattle.futures_buffered_joins.proofs.JoiningLemmas.{fills_place, fails_place}
 use Rattle.futures_buffered_joins.proofs.joining.Joining.try_fill_one.Goals as goal
 
@@ -8,7 +8,7 @@ pub returns-in-Ready-default-Err-clause-fails : goal.returns-in-Ready-default-Er
 returns-in-Ready-default-Err-clause-fails g c =
     let future = g.F.SlotFuture in
     let source = g.S.ReadySource in
-    fails_place future.polled source.registers source.takes c.args.self.now _ c.poll_first.new.self _ c.in-Ready-default-Err.field-0-0 c.in-Ready-default-Err.field-0-1 c.in-Ready-default-Err.error (sym c.self.view_is) c.in-Ready-default-Err.field-0-1-is c.in-Ready-default-Err.ensures.polled
+    fails_place future.polled source.steps c.args.self.now _ c.poll_first.new.self _ c.in-Ready-default-Err.field-0-0 c.in-Ready-default-Err.field-0-1 c.in-Ready-default-Err.error (sym c.self.view_is) c.in-Ready-default-Err.field-0-1-is c.in-Ready-default-Err.ensures.polled
 
 pub returns-in-Pending-clause-woken : goal.returns-in-Pending-clause-woken
 returns-in-Pending-clause-woken g c = rw (← c.self.view_is) c.in-Pending.ensures.woken
@@ -19,7 +19,7 @@ returns-in-Ready-default-Ok-clause-filled g c =
     let source = g.S.ReadySource in
     let way = c.in-Ready-default-Ok in (
       (way.i, way.output),
-      fills_place future.polled source.registers source.takes Ok c.args.self.now c.fill.new.self _ c.poll_first.new.self _ _ _ way.i way.output (sym c.self.view_is) c.self.invariant (rw way.field-0-1-is at way.ensures.polled) way.ensures.same_slots (some_from_end (future.polled way.i) _ _ way.ensures.last) c.fill.ensures.set c.fill.ensures.outputs,
+      fills_place future.polled source.steps Ok c.args.self.now c.fill.new.self _ c.poll_first.new.self _ _ _ way.i way.output (sym c.self.view_is) c.self.invariant (rw way.field-0-1-is at way.ensures.polled) way.ensures.same_slots (some_from_end (future.polled way.i) _ _ way.ensures.last) c.fill.ensures.set c.fill.ensures.outputs,
     )
 
 pub returns-in-Ready-default-Ok-clause-goes_on : goal.returns-in-Ready-default-Ok-clause-goes_on

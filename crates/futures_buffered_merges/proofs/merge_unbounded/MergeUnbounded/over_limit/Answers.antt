@@ -1,7 +1,7 @@
 use Rattle.std.proofs.Common.{rules, subst}
 use Rattle.std.proofs.lemmas.Fn.{FoldsTo-push}
 use Rattle.futures_buffered_core.specs.Drawn.{Draws}
-use Rattle.futures_buffered_growing.specs.FuturesUnordered.{Growing, GrowingPushes, PushesEach}
+use Rattle.futures_buffered_unordered.specs.SlotGroups.{Growing, GrowingPushes, PushesEach}
 use Rattle.futures_buffered_merges.proofs.merge_unbounded.MergeUnbounded.over_limit.Goals as goal
 
 pub loop-stream-preserved : goal.loop-stream-preserved

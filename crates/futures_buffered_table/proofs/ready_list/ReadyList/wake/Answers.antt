@@ -2,7 +2,7 @@ use Rattle.std.proofs.Common.{ℕ, [], ◌∷◌, ◌++◌, refl, ap, ◌∙◌,
 use Rattle.futures_buffered_table.specs.declared.answer.Woke.TheVariants.{Fresh, Already}
 use Rattle.futures_buffered_table.specs.declared.view.AtomicStep.TheVariants.{MarkSwap}
 use Rattle.futures_buffered_table.specs.declared.view.Role.{Role}
-use Rattle.futures_buffered_table.specs.ReadyList.{Waker, IsInRole, Adds}
+use Rattle.futures_buffered_table.specs.ReadyList.{Waker, IsInRole, AddsSteps}
 use Rattle.futures_buffered_table.proofs.ReadyListLemmas.{in_role, seat_kept}
 use Rattle.futures_buffered_table.proofs.WakingLemmas.{adds_fresh, woken, still_idle, one_found}
 use Rattle.futures_buffered_table.proofs.ready_list.ReadyList.wake.Goals as goal
@@ -21,7 +21,7 @@ invariant_of-seat c =
     let mine = c.seat.inside.seat in let now = c.swap_mark.new.seat in let i : ℕ = c.args.slot in
     let sits = subst (λ (r : Role). IsInRole c.args.self.now r now)
     (still_idle c.args.self.now.capacity i c.swap_mark.result c.if-swap_mark-ne0.true) c.swap_mark.ensures.role in
-    let adds : Adds mine now (MarkSwap i 1 ∷ []) = subst (λ (k : ℕ). Adds mine now (MarkSwap i k ∷ []))
+    let adds : AddsSteps mine now (MarkSwap i 1 ∷ []) = subst (λ (k : ℕ). AddsSteps mine now (MarkSwap i k ∷ []))
     (one_found c.swap_mark.result c.if-swap_mark-ne0.true c.swap_mark.ensures.low) c.swap_mark.ensures.adds in
     woken mine now i (MarkSwap i 1 ∷ []) Already c.seat.invariant (seat_kept _ _ _ c.self.invariant _ c.self.view_is now _ sits) adds refl
 

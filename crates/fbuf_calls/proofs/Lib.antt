@@ -1,2 +1,0 @@
-pub mod ThreadsLemmas
-pub mod ProgramWordsLemmas

@@ -1,9 +1,0 @@
-pub use Rattle.fbuf_lines.specs.Lines
-pub use Rattle.fbuf_lines.specs.Timed
-pub use Rattle.fbuf_lines.specs.Command
-pub use Rattle.fbuf_lines.specs.Reply
-pub use Rattle.fbuf_lines.specs.Object
-pub use Rattle.fbuf_script.specs.Watched
-pub use Rattle.fbuf_script.specs.Script
-pub mod Threads
-pub mod ProgramWords

@@ -1,0 +1,68 @@
+-- What a command to a bounded set is answered, and what it leaves of it.
+use Rattle.std.specs.Prelude.{◌≡◌, ℕ, ◌<◌, ◌≤◌, [], Option, ◌⊎◌}
+use Rattle.futures.specs.declared.task.Poll.{Poll as PollAnswer}
+use Rattle.futures_buffered_table.specs.declared.answer.Woke.{Woke}
+use Rattle.futures_buffered_core.specs.ReadyCore.{Standing, Marks, Takes}
+use Rattle.futures_buffered_core.specs.ReadySource.{SourceSteps}
+use Rattle.futures_buffered_core.specs.SlotMap.{no_slots, slot_count, held_count}
+use Rattle.futures_buffered_unordered_bounded.specs.FuturesUnorderedBounded.{Bounded, Pushes}
+use Rattle.futures_buffered_unordered_bounded.specs.FuturesUnorderedBounded.{PollGives}
+use Rattle.fbuf_lines.specs.Timed.{PollsTimed}
+use Rattle.fbuf_lines.specs.Reply.{woke_reply, poll_reply}
+use Rattle.fbuf_lines.specs.declared.timed.Timed.{Timed}
+use Rattle.fbuf_lines.specs.declared.command.Command.{Command}
+use Rattle.fbuf_lines.specs.declared.command.Command.TheVariants.{Push, Wake, Poll, Len}
+use Rattle.fbuf_lines.specs.declared.reply.Reply.{Reply}
+use Rattle.fbuf_lines.specs.declared.reply.Reply.TheVariants.{Done, Full, Count, Bad}
+
+-- the bounded set of a script: the futures held, and the standing of a ready core
+abbrev pub TimedBounded : Type 0
+TimedBounded = Bounded Timed Standing
+
+-- no slot is marked
+abbrev pub new_standing : ℕ → Standing
+new_standing capacity = record { capacity = capacity; marked = [] }
+
+-- no future, every place free, no slot marked
+abbrev pub new_bounded : ℕ → ℕ → TimedBounded
+new_bounded capacity limit =
+    record { slots = no_slots capacity; source = new_standing capacity; limit = limit }
+
+-- a ready core that was just made
+abbrev pub IsNewStanding : ℕ → Standing → Type 0
+IsNewStanding capacity standing = standing ≡ new_standing capacity
+
+-- what a poll may make of a ready core; registering leaves the standing as it is
+abbrev pub core_steps : SourceSteps Standing
+core_steps = record { registers = λ before after. after ≡ before; takes = Takes }
+
+-- one poll of the set
+abbrev pub PollsSet : TimedBounded → PollAnswer (Option ℕ) → TimedBounded → Type 0
+PollsSet old answer new =
+    PollGives (λ _. PollsTimed) core_steps old answer new
+
+-- one mark of a slot that is there
+pub record MarksSlotThere
+    {F : Type 0}
+    (old : Bounded F Standing)
+    (slot : ℕ)
+    (woke : Woke)
+    (new : Bounded F Standing)
+    : Type 0 where
+  pub there : slot < slot_count old.slots
+  pub marked : Marks old.source slot woke new.source
+  pub slots : new.slots ≡ old.slots
+  pub limit : new.limit ≡ old.limit
+
+-- the last line says that no other command stands
+abbrev pub BoundedGives : TimedBounded → Command → Reply → TimedBounded → Type 0
+BoundedGives old (Push future) reply new =
+    ((reply ≡ Done) × Pushes Marks old future new)
+    ⊎ ((reply ≡ Full) × (old.slots.free ≡ []) × (new ≡ old))
+BoundedGives old (Wake slot) reply new =
+    ((woke : Woke) × (reply ≡ woke_reply woke) × MarksSlotThere old slot woke new)
+    ⊎ ((reply ≡ Bad) × (slot_count old.slots ≤ slot) × (new ≡ old))
+BoundedGives old Poll reply new =
+    (answer : PollAnswer (Option ℕ)) × (reply ≡ poll_reply answer) × PollsSet old answer new
+BoundedGives old Len reply new = (reply ≡ Count (held_count old.slots)) × (new ≡ old)
+BoundedGives old command reply new = (reply ≡ Bad) × (new ≡ old)

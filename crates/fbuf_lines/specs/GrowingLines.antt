@@ -1,0 +1,46 @@
+-- What a command to a growing set is answered, and what it leaves of it.
+use Rattle.std.specs.Prelude.{◌≡◌, ◌⊎◌, ℕ, Option}
+use Rattle.futures.specs.declared.task.Poll.{Poll as PollAnswer}
+use Rattle.futures_buffered_core.specs.ReadyCore.{Standing, Marks}
+use Rattle.futures_buffered_unordered_bounded.specs.Groups.{GroupsGive}
+use Rattle.futures_buffered_unordered.specs.SlotGroups.{Growing, GrowingPushes, IsAtBound}
+use Rattle.futures_buffered_unordered.specs.SlotGroups.{LastIsFull, all_held}
+use Rattle.futures_buffered_unordered.specs.declared.slot_groups.TheConstants.{FIRST_GROUP}
+use Rattle.futures_buffered_unordered.specs.declared.slot_groups.TheConstants.{MAX_HELD}
+use Rattle.fbuf_lines.specs.Reply.{poll_reply}
+use Rattle.fbuf_lines.specs.BoundedLines.{IsNewStanding, PollsSet}
+use Rattle.fbuf_lines.specs.declared.timed.Timed.{Timed}
+use Rattle.fbuf_lines.specs.declared.command.Command.{Command}
+use Rattle.fbuf_lines.specs.declared.command.Command.TheVariants.{Push, Poll, Len}
+use Rattle.fbuf_lines.specs.declared.reply.Reply.{Reply}
+use Rattle.fbuf_lines.specs.declared.reply.Reply.TheVariants.{Done, Count, Bad}
+
+-- the growing set of a script: its groups are bounded sets
+abbrev pub TimedGrowing : Type 0
+TimedGrowing = Growing Timed Standing
+
+-- one poll of the groups of a growing set, each polled as a bounded set is; the limit stays
+abbrev pub PollsGrowing : TimedGrowing → PollAnswer (Option ℕ) → TimedGrowing → Type 0
+PollsGrowing old answer new =
+    GroupsGive PollsSet old.groups answer new.groups × (new.limit ≡ old.limit)
+
+-- one push into a growing set that can take more
+abbrev pub PushesGrowing : TimedGrowing → Timed → TimedGrowing → Type 0
+PushesGrowing old future new = (IsAtBound old.groups.listed → ⊥)
+    × GrowingPushes Marks IsNewStanding FIRST_GROUP old future new
+
+-- the last line says that no other command stands
+abbrev pub GrowingGives : TimedGrowing → Command → Reply → TimedGrowing → Type 0
+GrowingGives old (Push future) reply new = (reply ≡ Done) × PushesGrowing old future new
+GrowingGives old Poll reply new =
+    (answer : PollAnswer (Option ℕ)) × (reply ≡ poll_reply answer) × PollsGrowing old answer new
+GrowingGives old Len reply new = (reply ≡ Count (all_held old.groups.listed)) × (new ≡ old)
+GrowingGives old command reply new = (reply ≡ Bad) × (new ≡ old)
+
+-- a command that may lack memory is a push where as many futures are held as a set may hold, or
+-- where
+-- the last group is full
+abbrev pub GrowingMayLack : TimedGrowing → Command → Type 0
+GrowingMayLack old (Push future) =
+    (all_held old.groups.listed ≡ MAX_HELD) ⊎ LastIsFull old.groups.listed
+GrowingMayLack old command = ⊥

@@ -1,0 +1,37 @@
+//! Commands to a growing set.
+ghost use Rattle.std.specs.Prelude.{◌≡◌, IfOk, OnErr};
+ghost use Rattle.futures.specs.Task.{Keeps};
+ghost use Rattle.fbuf_lines.specs.GrowingLines.{GrowingGives, GrowingMayLack};
+
+use crate::command::Command;
+use crate::reply::Reply;
+use crate::timed::{PollTimed, Timed};
+use futures::task::Context;
+use futures_buffered_core::ready_source::CoreSource;
+use futures_buffered_unordered::futures_unordered::FuturesUnordered;
+use std::alloc::AllocError;
+
+/// A growing set of them, each group over a ready core.
+pub type TimedGrowing = FuturesUnordered<Timed, CoreSource>;
+
+// A command to a growing set. A push that is refused changes nothing.
+pub(crate) fn growing_reply(
+    set: &mut TimedGrowing,
+    command: Command,
+    cx: &mut Context<'_>,
+) -> Result<Reply, AllocError>
+    ensures reply { IfOk result (λ reply. GrowingGives set.old command reply set.new) }
+    ensures memory { OnErr result (set.new ≡ set.old) }
+    ensures refused { OnErr result (GrowingMayLack set.old command) }
+    ensures kept { Keeps cx.old cx.new }
+{
+    match command {
+        Command::Push(future) => match set.push(future) {
+            Ok(()) => Ok(Reply::Done),
+            Err(_) => Err(AllocError),
+        },
+        Command::Poll => Ok(Reply::of_poll(set.poll_with(&PollTimed, cx))),
+        Command::Len => Ok(Reply::Count(set.len())),
+        _ => Ok(Reply::Bad),
+    }
+}

@@ -1,0 +1,70 @@
+//! Commands to an ordered queue.
+ghost use Rattle.std.specs.Prelude.{◌≡◌, IfOk, OnErr};
+ghost use Rattle.futures.specs.Task.{Keeps};
+ghost use Rattle.futures_buffered_ordered.specs.OrderedEntries.{Stays};
+ghost use Rattle.fbuf_lines.specs.OrderedLines.{BackGives, FrontGives, PushMayLack};
+ghost use Rattle.fbuf_lines.specs.OrderedLines.{QueueGives, QueueMayLack};
+
+use crate::command::Command;
+use crate::reply::Reply;
+use crate::timed::{PollTimed, Timed};
+use futures::task::Context;
+use futures_buffered_core::ready_source::CoreSource;
+use futures_buffered_sets::futures_ordered_bounded::FuturesOrderedBounded;
+use std::alloc::AllocError;
+
+/// An ordered queue of them, over a ready core.
+pub type TimedQueue = FuturesOrderedBounded<Timed, CoreSource>;
+
+// A future to the back of an ordered queue. One that is refused changes nothing.
+fn back_reply(queue: &mut TimedQueue, future: Timed) -> Result<Reply, AllocError>
+    ensures reply { IfOk result (λ reply. BackGives queue.old future reply queue.new) }
+    ensures memory { OnErr result (Stays queue.old queue.new) }
+    ensures refused { OnErr result (PushMayLack queue.old) }
+{
+    if queue.is_full() {
+        return Ok(Reply::Full);
+    }
+    match queue.try_push_back(future) {
+        Ok(()) => Ok(Reply::Done),
+        Err(_) => Err(AllocError),
+    }
+}
+
+// The same, to its front.
+fn front_reply(queue: &mut TimedQueue, future: Timed) -> Result<Reply, AllocError>
+    ensures reply { IfOk result (λ reply. FrontGives queue.old future reply queue.new) }
+    ensures memory { OnErr result (Stays queue.old queue.new) }
+    ensures refused { OnErr result (PushMayLack queue.old) }
+{
+    if queue.is_full() {
+        return Ok(Reply::Full);
+    }
+    match queue.try_push_front(future) {
+        Ok(()) => Ok(Reply::Done),
+        Err(_) => Err(AllocError),
+    }
+}
+
+// A command to an ordered queue.
+pub(crate) fn queue_reply(
+    queue: &mut TimedQueue,
+    command: Command,
+    cx: &mut Context<'_>,
+) -> Result<Reply, AllocError>
+    ensures reply { IfOk result (λ reply. QueueGives queue.old command reply queue.new) }
+    ensures memory { OnErr result (Stays queue.old queue.new) }
+    ensures refused { OnErr result (QueueMayLack queue.old command) }
+    ensures kept { Keeps cx.old cx.new }
+{
+    match command {
+        Command::Back(future) => back_reply(queue, future),
+        Command::Front(future) => front_reply(queue, future),
+        Command::Wake(slot) if slot < queue.capacity() => {
+            Ok(Reply::of_woke(queue.mark_slot(slot)))
+        }
+        Command::Poll => Ok(Reply::of_poll(queue.poll_with(&PollTimed, cx))),
+        Command::Len => Ok(Reply::Count(queue.len())),
+        _ => Ok(Reply::Bad),
+    }
+}

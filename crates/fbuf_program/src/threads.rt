@@ -1,0 +1,393 @@
+//! A run in which threads wake the slots of one set.
+ghost use Rattle.std.specs.Prelude.{◌≡◌, ◌≢◌, ℕ, ◌+◌, ◌<◌, ◌≤◌, ⊤};
+ghost use Rattle.std.specs.Prelude.{IfOk, IfErr, OnOk, length, vec_len, vec_capacity};
+ghost use Rattle.std.specs.Arc.{arc_value};
+ghost use Rattle.std.specs.IoError.{error_kind};
+ghost use Rattle.std.specs.declared.io.ErrorKind.TheVariants.{OutOfMemory};
+ghost use Rattle.std.specs.Io.KnownBytes.{Appends};
+ghost use Rattle.futures_buffered_core.specs.SlotMap.{no_slots, held_count};
+ghost use Rattle.futures_buffered_unordered_bounded.specs.Held.{AllHeld};
+ghost use Rattle.fbuf_program.specs.Threads.{AppendsThreadsLine, threads_line, output_count};
+
+use futures::StreamExt;
+use futures::executor::block_on;
+use futures::task::{Doorbell, Poll, Solo};
+use futures_buffered_core::ready_core::NewFault;
+use futures_buffered_core::ready_shared::{SharedReady, SharedWaker};
+use futures_buffered_core::ready_source::SlotWaker;
+use futures_buffered_sets::futures_unordered_bounded::FuturesUnorderedBounded;
+use futures_buffered_sets::poll_one::PollFuture;
+use futures_buffered_sets::slot_future::SlotFuture;
+use std::alloc::{AllocError, AllocFailed, AllocGlobal, Global};
+use std::random::RandomSource;
+use std::sync::atomic::AtomicU64;
+use std::sync::atomic::Ordering::SeqCst;
+use std::sync::{Arc, Mutex, Wait};
+use std::thread::{JoinHandle, Threads};
+use std::{io, thread};
+use thiserror::Error;
+
+/// How many threads a run has at most.
+pub const MAX_THREADS: usize = 32;
+
+/// How many wakes each of its threads makes at most.
+pub const MAX_WAKES: usize = 1000000;
+
+const _: () = prove!(MAX_THREADS == 32);
+
+const _: () = prove!(MAX_WAKES == 1000000);
+
+/// Why a run printed nothing, or not all of its line.
+#[derive(Clone, Copy, Debug, PartialEq, Eq, Error)]
+pub enum ThreadsFault {
+    /// Memory was refused: nothing was written.
+    #[error("out of memory")]
+    Memory,
+    /// A thread, or the run itself, could not be started: nothing was written.
+    #[error("thread failed")]
+    Thread,
+    /// A write failed: a beginning of the line was written.
+    #[error("write failed")]
+    Write,
+}
+
+impl From<AllocError> for ThreadsFault {
+    ghost use Rattle.fbuf_program.specs.declared.threads.ThreadsFault.TheVariants.{Memory};
+
+    ghost from_gives = { λ _ fault. fault ≡ Memory };
+
+    fn from(_error: AllocError) -> ThreadsFault {
+        ThreadsFault::Memory
+    }
+}
+
+impl<T: Drop> From<AllocFailed<T>> for ThreadsFault {
+    ghost use Rattle.std.specs.Prelude.{◌≡◌};
+    ghost use Rattle.fbuf_program.specs.declared.threads.ThreadsFault.TheVariants.{Memory};
+
+    ghost from_gives = { λ _ fault. fault ≡ Memory };
+
+    fn from(_failed: AllocFailed<T>) -> ThreadsFault {
+        ThreadsFault::Memory
+    }
+}
+
+/// What a thread passes before and after each of its wakes.
+pub trait Gate {
+    // The wakes of a thread at which it may be passed.
+    ghost opens: { Self → ℕ → ℕ → Type 0 } = { λ _ _ _. ⊤ };
+
+    fn before(&self, thread: usize, wake: usize)
+        requires { opens self.now thread wake };
+
+    fn after(&self, thread: usize, wake: usize)
+        requires { opens self.now thread wake };
+}
+
+/// Lets each wake pass at once.
+#[derive(Drop)]
+pub struct OpenGate;
+
+impl Gate for OpenGate {
+    fn before(&self, _thread: usize, _wake: usize) {}
+
+    fn after(&self, _thread: usize, _wake: usize) {}
+}
+
+// What a future and the thread that wakes it share.
+#[derive(Drop)]
+struct Seat {
+    wakes: AtomicU64,
+    waker: Mutex<Option<SharedWaker>>,
+}
+
+// Answers its number once its seat has counted all wakes.
+#[derive(Drop)]
+struct AllWakes<R> {
+    rt: R,
+    number: usize,
+    goal: u64,
+    seat: Arc<Seat>,
+}
+
+impl<R: Wait + Drop> SlotFuture<SharedWaker> for AllWakes<R> {
+    ghost use Rattle.std.specs.Prelude.{◌≡◌};
+    ghost use Rattle.futures.specs.Poll.{IfReady};
+
+    type Output = usize;
+
+    ghost polled = { λ _ old answer new. IfReady answer (λ number. number ≡ old.number) };
+
+    fn poll(&mut self, waker: &SharedWaker) -> Poll<usize> {
+        if self.seat.wakes.load(SeqCst) >= self.goal {
+            return Poll::Ready(self.number);
+        }
+        let mut kept = self.seat.waker.lock(&self.rt);
+        if kept.is_none() {
+            *kept = waker.try_clone().ok();
+        }
+        Poll::Pending
+    }
+}
+
+type Set<R> = FuturesUnorderedBounded<AllWakes<R>, SharedReady>;
+
+// One thread's wakes.
+fn wake_slot<G: Gate>(gate: &G, thread: usize, m: usize, seat: &Seat, waker: &SharedWaker)
+    requires { (wake : ℕ) → wake < m → G.opens gate.now thread wake }
+{
+    for wake in 0..m {
+        gate.before(thread, wake);
+        seat.wakes.fetch_add(1, SeqCst);
+        waker.wake();
+        gate.after(thread, wake);
+    }
+}
+
+// A seat for each future, in order. The set then holds them all.
+fn seated<R: Wait + Clone + Drop>(
+    rt: &R,
+    alloc: Global,
+    n: usize,
+    m: usize,
+    set: &mut Set<R>,
+) -> Result<Vec<Arc<Seat>>, ThreadsFault>
+    requires { set.old.slots ≡ no_slots n }
+    ensures seats { IfOk result (λ seats. vec_len seats ≡ n) }
+    ensures held { OnOk result (held_count set.new.slots ≡ n) }
+    ensures goals { OnOk result (AllHeld (λ future. future.goal ≡ m) set.new.slots) }
+    ensures fault { IfErr result (λ fault. fault ≡ ThreadsFault.Memory) }
+{
+    let mut seats = Vec::with_capacity(alloc, n)?;
+    for number in 0..n {
+        let seat = Seat {
+            wakes: AtomicU64::new(0),
+            waker: Mutex::new(None),
+        };
+        let seat = Arc::new(alloc, seat)?;
+        let future = AllWakes {
+            rt: rt.clone()?,
+            number,
+            goal: m as u64,
+            seat: Arc::try_clone(&seat)?,
+        };
+        seats.push_reserved(seat);
+        match set.try_push(future) {
+            Ok(()) => {}
+            Err(_) => unreachable!(),
+        }
+    }
+    Ok(seats)
+}
+
+// Starts a thread for each seat. Those that did start are in `started`, also at a fault.
+fn start<R, G>(
+    rt: R,
+    m: usize,
+    gate: &Arc<G>,
+    seats: &[Arc<Seat>],
+    started: &mut Vec<JoinHandle<()>>,
+) -> Result<(), ThreadsFault>
+where
+    R: Threads + Wait + Copy + Send + Sync + 'static,
+    G: Gate + Drop + Send + Sync + 'static,
+    requires room { vec_len started.old + length seats.now ≤ vec_capacity started.old }
+    requires opens { (thread wake : ℕ) → thread < length seats.now → wake < m →
+        G.opens (arc_value gate.now) thread wake }
+    ensures fault { IfErr result (λ fault. fault ≢ ThreadsFault.Write) }
+{
+    for (thread, seat) in seats.iter().enumerate() {
+        let Some(waker) = seat.waker.lock(&rt).take() else {
+            return Err(ThreadsFault::Memory);
+        };
+        let gate = Arc::try_clone(gate)?;
+        let seat = Arc::try_clone(seat)?;
+        let wakes = move ||
+            requires { (wake : ℕ) → wake < m → G.opens (arc_value gate) thread wake }
+        { wake_slot(&*gate, thread, m, &*seat, &waker) };
+        let Ok(handle) = thread::spawn(&rt, wakes) else {
+            return Err(ThreadsFault::Thread);
+        };
+        started.push_reserved(handle);
+    }
+    Ok(())
+}
+
+fn new_set<R: Wait + Drop>(alloc: Global, n: usize) -> Result<Set<R>, ThreadsFault>
+    requires { n ≤ MAX_THREADS }
+    ensures set { IfOk result (λ set. set.slots ≡ no_slots n) }
+    ensures fault { IfErr result (λ fault. fault ≡ ThreadsFault.Memory) }
+{
+    match FuturesUnorderedBounded::new(alloc, n) {
+        Ok(set) => Ok(set),
+        Err(NewFault::Memory) => Err(ThreadsFault::Memory),
+        Err(NewFault::TooLarge) => unreachable!(),
+    }
+}
+
+// Why a task of the run could not be begun.
+fn fault_of(error: io::Error) -> ThreadsFault
+    ensures memory { error_kind error ≡ OutOfMemory → result ≡ ThreadsFault.Memory }
+    ensures other { error_kind error ≢ OutOfMemory → result ≡ ThreadsFault.Thread }
+{
+    match error.kind() {
+        io::ErrorKind::OutOfMemory => ThreadsFault::Memory,
+        _ => ThreadsFault::Thread,
+    }
+}
+
+// One poll names each future, and each keeps its waker. It may answer what one of them gave.
+fn poll_once<R: Wait + RandomSource + AllocGlobal + Drop>(
+    rt: &R,
+    set: &mut Set<R>,
+) -> Result<Option<usize>, ThreadsFault>
+    ensures count { IfOk result (λ first.
+        held_count set.new.slots + output_count first ≡ held_count set.old.slots) }
+    ensures fault { IfErr result (λ fault. fault ≢ ThreadsFault.Write) }
+{
+    let solo = match Solo::new(rt, Doorbell::spinning()) {
+        Ok(solo) => solo,
+        Err(error) => return Err(fault_of(error)),
+    };
+    let mut cx = solo.begin();
+    let polled = set.poll_with(&PollFuture, &mut cx);
+    cx.cancel();
+    match polled {
+        Poll::Ready(first) => Ok(first),
+        Poll::Pending => Ok(None),
+    }
+}
+
+// What the futures answer until the set holds none.
+fn outputs_of<R: Wait + RandomSource + AllocGlobal + Drop>(
+    rt: &R,
+    alloc: Global,
+    set: Set<R>,
+) -> Result<Vec<usize>, ThreadsFault>
+    ensures count { IfOk result (λ outputs. vec_len outputs ≡ held_count set.slots) }
+    ensures fault { IfErr result (λ fault. fault ≢ ThreadsFault.Write) }
+{
+    match block_on(rt, set.collect(alloc)) {
+        Ok(Ok(outputs)) => Ok(outputs),
+        Ok(Err(_)) => Err(ThreadsFault::Memory),
+        Err(error) => Err(fault_of(error)),
+    }
+}
+
+// Starts the threads, and answers what the futures give until the set holds none.
+fn run_started<R, G>(
+    rt: R,
+    alloc: Global,
+    m: usize,
+    gate: &Arc<G>,
+    seats: &[Arc<Seat>],
+    set: Set<R>,
+    started: &mut Vec<JoinHandle<()>>,
+) -> Result<Vec<usize>, ThreadsFault>
+where
+    R: Threads + Wait + RandomSource + AllocGlobal + Copy + Send + Sync + 'static,
+    G: Gate + Drop + Send + Sync + 'static,
+    requires room { vec_len started.old + length seats.now ≤ vec_capacity started.old }
+    requires opens { (thread wake : ℕ) → thread < length seats.now → wake < m →
+        G.opens (arc_value gate.now) thread wake }
+    ensures count { IfOk result (λ outputs. vec_len outputs ≡ held_count set.slots) }
+    ensures fault { IfErr result (λ fault. fault ≢ ThreadsFault.Write) }
+{
+    start(rt, m, gate, seats, started)?;
+    outputs_of(&rt, alloc, set)
+}
+
+// All outputs in rising order: those of the threads, and that of the first poll if there was one.
+fn in_rising_order(outputs: Vec<usize>, first: Option<usize>) -> Result<Vec<usize>, ThreadsFault>
+    ensures count { IfOk result (λ all. vec_len all ≡ vec_len outputs + output_count first) }
+    ensures fault { IfErr result (λ fault. fault ≡ ThreadsFault.Memory) }
+{
+    let mut all = outputs;
+    if let Some(number) = first {
+        all.push(number)?;
+    }
+    all.sort_unstable();
+    Ok(all)
+}
+
+// Waits until each thread has ended.
+fn join_each<R: Threads + Wait>(rt: &R, started: Vec<JoinHandle<()>>) {
+    for handle in started {
+        handle.join(rt);
+    }
+}
+
+// Runs the threads to their end, and answers what the futures gave.
+fn outputs_after_all<R, G>(
+    rt: R,
+    alloc: Global,
+    n: usize,
+    m: usize,
+    gate: G,
+) -> Result<Vec<usize>, ThreadsFault>
+where
+    R: Threads + Wait + RandomSource + AllocGlobal + Copy + Send + Sync + 'static,
+    G: Gate + Drop + Send + Sync + 'static,
+    requires threads { n ≤ MAX_THREADS }
+    requires opens { (thread wake : ℕ) → thread < n → wake < m → G.opens gate thread wake }
+    ensures count { IfOk result (λ outputs. vec_len outputs ≡ n) }
+    ensures fault { IfErr result (λ fault. fault ≢ ThreadsFault.Write) }
+{
+    let mut set = new_set(alloc, n)?;
+    let seats = seated(&rt, alloc, n, m, &mut set)?;
+    let gate = Arc::new(alloc, gate)?;
+    let mut started = Vec::with_capacity(alloc, n)?;
+    let first = poll_once(&rt, &mut set)?;
+    let outputs = run_started(rt, alloc, m, &gate, &seats, set, &mut started);
+    join_each(&rt, started);
+    in_rising_order(outputs?, first)
+}
+
+fn write_line<W: io::Write>(output: &mut W, n: usize, m: usize, outputs: &[usize]) -> io::Result<()>
+    requires threads { n ≤ MAX_THREADS }
+    requires wakes { m ≤ MAX_WAKES }
+    ensures { OnOk result (Appends (W.contents output.old) (W.contents output.new)
+        (threads_line n m outputs.now)) }
+{
+    write!(output, "threads {n} wakes {} outputs", n * m)?;
+    for number in outputs {
+        write!(output, " {number}")?;
+    }
+    writeln!(output)?;
+    output.flush()?;
+    Ok(())
+}
+
+/// Holds `n` futures in a set, and starts as many threads. Thread i adds one to the counter of
+/// future i and wakes its slot, `m` times, and passes the gate before and after each of these
+/// wakes. Future i answers i once its counter is `m`. The line that is written has the numbers that
+/// were answered, in rising order, and is flushed.
+///
+/// Each thread that was started has ended when this returns, also at a fault. The memory is that of
+/// `n` threads, slots and counters. A wake waits for nobody.
+pub fn threads_run<R, G, W>(
+    rt: R,
+    alloc: Global,
+    n: usize,
+    m: usize,
+    gate: G,
+    output: &mut W,
+) -> Result<(), ThreadsFault>
+where
+    R: Threads + Wait + RandomSource + AllocGlobal + Copy + Send + Sync + 'static,
+    G: Gate + Drop + Send + Sync + 'static,
+    W: io::Write,
+    requires threads { n ≤ MAX_THREADS }
+    requires wakes { m ≤ MAX_WAKES }
+    requires opens { (thread wake : ℕ) → thread < n → wake < m → G.opens gate thread wake }
+    ensures ok { OnOk result
+        (AppendsThreadsLine n m (W.contents output.old) (W.contents output.new)) }
+    ensures unwritten { IfErr result (λ fault.
+        fault ≢ ThreadsFault.Write → output.new ≡ output.old) }
+{
+    let outputs = outputs_after_all(rt, alloc, n, m, gate)?;
+    match write_line(output, n, m, &outputs) {
+        Ok(()) => Ok(()),
+        Err(_) => Err(ThreadsFault::Write),
+    }
+}

@@ -1,0 +1,7 @@
+pub mod BufferLemmas
+pub mod BufferUnorderedLemmas
+pub mod BufferedOrderedLemmas
+pub mod BufferUnorderedAccountLemmas
+pub mod BufferedOrderedAccountLemmas
+pub mod TryBufferLemmas
+pub mod ForEachConcurrentLemmas

@@ -1,0 +1,49 @@
+use Rattle.std.proofs.Common.{rules, [], ◌∷◌, ◌++◌, Err, Some, refl, ◌∙◌}
+use Rattle.std.proofs.lemmas.Fn.{FoldsTo-push}
+use Rattle.futures_buffered_adaptors.specs.Buffer.{PollsStream, DrawsOne}
+use Rattle.futures_buffered_adaptors.specs.TryBuffer.{PushesOk}
+use Rattle.futures_buffered_adaptors.proofs.TryBufferLemmas.{error_after}
+use Rattle.futures_buffered_adaptors.proofs.try_buffer.TryBuffer.fill.Goals as goal
+
+pub draws-init : goal.draws-init
+draws-init g c = record { drawn = []; items = refl; room = refl; again = c.requires; within = λ xs last h. h; kept = λ fact h. h }
+
+pub draws-preserved : goal.draws-preserved
+draws-preserved g c =
+    let queue = g.Q.FutureQueue in
+    let draws = DrawsOne (PollsStream g.St.Stream.yields) queue.count (queue.room c.args.self.now.queue) (PushesOk queue.pushes) in
+    let so = c.draws.invariant in
+    let drew = c.in-Ok.ensures.one (let e = c.if-not-drew.false in search rules) in
+    record {
+      drawn = so.drawn ++ drew.0 ∷ [];
+      items = FoldsTo-push draws c.args.self.now so.drawn c.draws.self drew.0 c.draw_one.new.self so.items (rw (← so.room) drew.1);
+      room = c.draw_one.ensures.room ∙ so.room;
+      again = c.draw_one.ensures.again;
+      within = λ xs last h. so.within xs last (c.in-Ok.ensures.within xs last h);
+      kept = λ fact h. c.draw_one.ensures.kept fact (so.kept fact h);
+    }
+
+pub returns-in-Err-clause-error : goal.returns-in-Err-clause-error
+returns-in-Err-clause-error g c =
+    let queue = g.Q.FutureQueue in
+    let so = c.draws.invariant in
+    (so.drawn, error_after (PollsStream g.St.Stream.yields) queue.count (queue.room c.args.self.now.queue) queue.pushes c.args.self.now c.draws.self c.draw_one.new.self so.drawn _ so.items (rw (← so.room) c.in-Err.ensures.error))
+
+pub returns-in-Err-clause-value : goal.returns-in-Err-clause-value
+returns-in-Err-clause-value g c = c.draws.invariant.within [] (Some (Err c.in-Err.error)) c.in-Err.ensures.value
+
+pub returns-in-Err-clause-after : goal.returns-in-Err-clause-after
+returns-in-Err-clause-after g c = λ xs last h. c.draws.invariant.within (Err c.in-Err.error ∷ xs) last (c.in-Err.ensures.after xs last h)
+
+pub returns-then-not-drew-clause-draws : goal.returns-then-not-drew-clause-draws
+returns-then-not-drew-clause-draws g c = (
+  c.draws.invariant.drawn,
+  record {
+    full = c.draws.self;
+    items = c.draws.invariant.items;
+    last = rw (← c.draws.invariant.room) (c.in-Ok.ensures.none (let e = c.if-not-drew.true in search rules));
+  },
+)
+
+pub returns-then-not-drew-clause-within : goal.returns-then-not-drew-clause-within
+returns-then-not-drew-clause-within g c = λ xs last h. c.draws.invariant.within xs last (c.in-Ok.ensures.within xs last h)

@@ -1,0 +1,6 @@
+pub mod FutureQueue
+pub mod Buffer
+pub mod BufferUnordered
+pub mod BufferedOrdered
+pub mod TryBuffer
+pub mod ForEachConcurrent

@@ -1,0 +1,27 @@
+//! Some futures of a stream at a time, where the stream gives errors as well, whose outputs come as they finish.
+ghost use Rattle.futures_buffered_unordered_bounded.specs.FuturesUnorderedBounded.{IsNewSet};
+ghost use Rattle.std.specs.Prelude.{◌<◌, ◌≤◌, IfOk};
+ghost use Rattle.futures_buffered_core.specs.Answer.{RefusesTooLarge};
+ghost use Rattle.futures_buffered_core.specs.ReadyShared.{IsNewShared};
+ghost use Rattle.futures_buffered_adaptors.specs.Buffer.{IsNewBuffer};
+
+use crate::buffer_unordered::UnorderedQueue;
+use crate::try_buffer::TryBuffer;
+use futures_buffered_core::ready_core::NewFault;
+use futures_buffered_core::ready_shared::SharedReady;
+use std::alloc::Global;
+
+/// Futures of a stream that gives errors as well, at most as many at a time as its set has slots, whose outputs come as they finish. An error of the stream comes as soon as it is met, and ends nothing.
+pub type TryBufferUnordered<St, F, S> = TryBuffer<St, UnorderedQueue<F, S>>;
+
+impl<St: Drop, F: Drop> TryBuffer<St, UnorderedQueue<F, SharedReady>> {
+    /// As `over_limit`, with a shared source, whose futures are woken from any thread.
+    pub fn with_limit(alloc: Global, stream: St, n: usize, limit: usize) -> Result<Self, NewFault>
+        requires room { 0 < n }
+        requires some { 1 ≤ limit }
+        ensures new { IfOk result (IsNewBuffer (IsNewSet IsNewShared n limit) stream) }
+        ensures refuses { RefusesTooLarge n result }
+    {
+        Self::over_limit(&(), alloc, stream, n, limit)
+    }
+}

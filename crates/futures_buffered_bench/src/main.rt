@@ -1,0 +1,231 @@
+//! What calls of the ready list, of shared sources, of sets, of queues and of a buffer cost: run it with the argument `ns`.
+#![tactic(auto)]
+
+mod clock;
+mod growing;
+mod ordered;
+mod ready_list;
+mod sets;
+mod sources;
+
+use clock::{Workload, least};
+use futures_buffered_core::ready_core::NewFault;
+use growing::LastWoken;
+use ordered::{Bounded, Buffered, Drained, Growing, InTurn, Overtaken};
+use ready_list::{Already, Fresh, Listed};
+use sets::{Refilled, Woken};
+use sources::{Beside, four_wakers};
+use std::alloc::AllocGlobal;
+use std::io::Write;
+use std::random::RandomSource;
+use std::thread::Threads;
+use std::time::Clock;
+use std::{env, io};
+
+// One line: the name, and the time of a call in nanoseconds.
+fn line<W: io::Write>(output: &mut W, name: &str, slots: usize, tenths: u128) -> io::Result<()> {
+    let whole = tenths.checked_div(10).unwrap_or(0);
+    let tenth = tenths.checked_rem(10).unwrap_or(0);
+    writeln!(output, "{whole:>6}.{tenth} ns  {name}, {slots}")?;
+    output.flush()?;
+    Ok(())
+}
+
+fn timed<R, O, W>(
+    rt: &R,
+    output: &mut O,
+    name: &str,
+    slots: usize,
+    made: Result<W, NewFault>,
+) -> io::Result<()>
+where
+    R: Clock + RandomSource + AllocGlobal,
+    O: io::Write,
+    W: Workload + Drop,
+{
+    let Ok(mut work) = made else {
+        return Ok(());
+    };
+    let tenths = least(rt, &mut work)?;
+    line(output, name, slots, tenths)
+}
+
+const SIZES: [usize; 4] = [16, 256, 4_096, 65_536];
+
+fn list_lines<R, O>(rt: &R, output: &mut O) -> io::Result<()>
+where
+    R: Clock + RandomSource + AllocGlobal,
+    O: io::Write,
+{
+    for slots in SIZES {
+        let made = Listed::new(rt.alloc(), slots).map(Fresh);
+        timed(
+            rt,
+            output,
+            "list: a Fresh wake and its taking, slots",
+            slots,
+            made,
+        )?;
+    }
+    let made = Listed::new(rt.alloc(), 16).map(Already);
+    timed(rt, output, "list: an Already wake, slots", 16, made)
+}
+
+fn set_lines<R, O>(rt: &R, output: &mut O) -> io::Result<()>
+where
+    R: Clock + RandomSource + AllocGlobal,
+    O: io::Write,
+{
+    let ready = Refilled::new(rt.alloc(), 256, 0);
+    timed(
+        rt,
+        output,
+        "set: a ready future, replaced, held",
+        256,
+        ready,
+    )?;
+    let yields = Refilled::new(rt.alloc(), 256, 1);
+    timed(
+        rt,
+        output,
+        "set: a future that wakes itself once, replaced, held",
+        256,
+        yields,
+    )?;
+    let random = Woken::new(rt.alloc(), 256, true);
+    timed(
+        rt,
+        output,
+        "set: a random wake, its output, replaced, held",
+        256,
+        random,
+    )?;
+    for slots in SIZES {
+        let waits = Woken::new(rt.alloc(), slots, false);
+        timed(
+            rt,
+            output,
+            "set: a wake and a pending poll, held",
+            slots,
+            waits,
+        )?;
+    }
+    Ok(())
+}
+
+fn growing_lines<R, O>(rt: &R, output: &mut O) -> io::Result<()>
+where
+    R: Clock + RandomSource + AllocGlobal,
+    O: io::Write,
+{
+    for (groups, first, held) in [(1_usize, 16, 16), (11, 33, 65_536)] {
+        let waits = LastWoken::new(rt.alloc(), first, held);
+        let name = "growing set: a wake in the last group and a pending poll, groups";
+        timed(rt, output, name, groups, waits)?;
+    }
+    Ok(())
+}
+
+fn bounded_queue_lines<R, O>(rt: &R, output: &mut O) -> io::Result<()>
+where
+    R: Clock + RandomSource + AllocGlobal,
+    O: io::Write,
+{
+    for held in SIZES {
+        let made = Bounded::new(rt.alloc(), held).map(|queue| InTurn::new(queue, held));
+        let name = "ordered queue: a ready front, replaced at the back, held";
+        timed(rt, output, name, held, made)?;
+    }
+    for held in SIZES {
+        let made = Bounded::new(rt.alloc(), held).map(|queue| Overtaken::new(queue, held, false));
+        let name = "ordered queue: added at the back, kept and yielded, held";
+        timed(rt, output, name, held, made)?;
+    }
+    for held in SIZES {
+        let made = Bounded::new(rt.alloc(), held).map(|queue| Overtaken::new(queue, held, true));
+        let name = "ordered queue: added at the front, kept and yielded, held";
+        timed(rt, output, name, held, made)?;
+    }
+    for slots in SIZES {
+        let made = Bounded::new(rt.alloc(), slots).map(Drained);
+        let name = "ordered queue: added at the front, yielded, and found empty, slots";
+        timed(rt, output, name, slots, made)?;
+    }
+    Ok(())
+}
+
+fn growing_queue_lines<R, O>(rt: &R, output: &mut O) -> io::Result<()>
+where
+    R: Clock + RandomSource + AllocGlobal,
+    O: io::Write,
+{
+    for held in SIZES {
+        let made = Growing::with_capacity(rt.alloc(), held).map(|queue| InTurn::new(queue, held));
+        let name = "growing ordered queue: a ready front, replaced at the back, held";
+        timed(rt, output, name, held, made)?;
+    }
+    for held in SIZES {
+        let made = Growing::with_capacity(rt.alloc(), held).map(|queue| Overtaken::new(
+            queue, held, false,
+        ));
+        let name = "growing ordered queue: added at the back, kept and yielded, held";
+        timed(rt, output, name, held, made)?;
+    }
+    Ok(())
+}
+
+fn buffer_lines<R, O>(rt: &R, output: &mut O) -> io::Result<()>
+where
+    R: Clock + RandomSource + AllocGlobal,
+    O: io::Write,
+{
+    for n in SIZES {
+        let made = Buffered::new(rt.alloc(), n);
+        let name = "buffered_ordered: an output of a ready future, at most held";
+        timed(rt, output, name, n, made)?;
+    }
+    Ok(())
+}
+
+fn source_lines<R, O>(rt: &R, output: &mut O) -> io::Result<()>
+where
+    R: Clock + RandomSource + AllocGlobal + Threads + Sync,
+    O: io::Write,
+{
+    for count in [1usize, 2, 11] {
+        let sources = Beside::new(rt.alloc(), count);
+        timed(
+            rt,
+            output,
+            "sources: a wake of the last of those beside",
+            count,
+            sources,
+        )?;
+    }
+    for slots in [16usize, 256, 4_096] {
+        if let Some(tenths) = four_wakers(rt, rt.alloc(), slots)? {
+            line(
+                output,
+                "source: a taking beside four wakers, slots",
+                slots,
+                tenths,
+            )?;
+        }
+    }
+    Ok(())
+}
+
+fn main(rt: HostRuntime) -> io::Result<()> {
+    let mut output = rt.stdout();
+    if env::args(&rt)?.len() < 2 {
+        writeln!(output, "usage: futures_buffered_bench ns")?;
+        return Ok(());
+    }
+    list_lines(&rt, &mut output)?;
+    set_lines(&rt, &mut output)?;
+    growing_lines(&rt, &mut output)?;
+    bounded_queue_lines(&rt, &mut output)?;
+    growing_queue_lines(&rt, &mut output)?;
+    buffer_lines(&rt, &mut output)?;
+    source_lines(&rt, &mut output)
+}

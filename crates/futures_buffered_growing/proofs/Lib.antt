@@ -1,3 +1,0 @@
-pub mod FuturesUnorderedLemmas
-pub mod PushLemmas
-pub mod YieldsLemmas

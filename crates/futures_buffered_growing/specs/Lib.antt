@@ -1,2 +1,0 @@
-pub mod FuturesUnordered
-pub mod FuturesUnorderedInvariant

@@ -1,0 +1,64 @@
+-- How many futures with a number a set that grows holds, before and after its calls.
+use Rattle.std.proofs.Common.{◌≡◌, ℕ, ◌+◌, ◌<◌, List, [], Option, Some, ap, inl, inr, arith, ◌∙◌}
+use Rattle.std.specs.List.{sum_by}
+use Rattle.std.proofs.lemmas.List.Sums.{sum_by-cons, sum_by_push}
+use Rattle.futures.specs.Task.{Covers}
+use Rattle.futures.specs.Poll.{OnPending}
+use Rattle.futures.specs.declared.task.context.Context.{Context}
+use Rattle.futures.specs.declared.task.Poll.{Poll}
+use Rattle.futures.specs.declared.task.Poll.TheVariants.{Ready, Pending}
+use Rattle.futures_buffered_table.specs.declared.answer.Woke.{Woke}
+use Rattle.futures_buffered_core.specs.ReadySource.{SourceSteps}
+use Rattle.futures_buffered_unordered_bounded.specs.FuturesUnorderedBounded.{Bounded, PollGives, held_in}
+use Rattle.futures_buffered_unordered_bounded.specs.Groups.{Groups, GroupsGive}
+use Rattle.futures_buffered_unordered.specs.SlotGroups.{AnyNeeds, EachCovered, Growing, GrowingPushes, IsNewGrowing, all_held}
+use Rattle.futures_buffered_unordered.proofs.SlotGroupsLemmas.{covered_of, new_holds_none}
+use Rattle.futures_buffered_unordered.proofs.FuturesUnorderedLemmas.{gave, still}
+use Rattle.futures_buffered_unordered.proofs.SlotGroupsPollLemmas.{sum_left}
+use Rattle.futures_buffered_ordered.specs.Numbered.{PollsNumbered, held_with, one_at, outputs_with}
+use Rattle.futures_buffered_ordered.specs.declared.numbered.Numbered.{Numbered}
+use Rattle.futures_buffered_ordered.proofs.NumberedLemmas.{numbers_polled, numbers_ended, numbers_inserted, numbers_none, brings_none}
+use Rattle.futures_buffered_ordered.specs.FuturesOrdered.{held_in_groups, held_in_groups_with, GroupsGiveNumbered, GrowingMayGive}
+
+module _ {F A S : Type 0} (i : ℕ) (polled : ℕ → F → Poll A → F → Type 0) (steps : SourceSteps S) where
+  -- one poll of all groups
+  pub numbers_left : (old new : Groups (Bounded (Numbered F) S)) (answer : Poll (Option (ℕ × A))) → GroupsGive (PollGives (PollsNumbered polled) steps) old answer new → sum_by (held_with i) new.listed + outputs_with i answer ≡ sum_by (held_with i) old.listed
+  numbers_left old new answer h = sum_left (PollGives (PollsNumbered polled) steps) (held_with i) (outputs_with i) (numbers_polled i polled steps) (numbers_ended i polled steps) (brings_none i polled steps) old new answer h
+
+module _ {F S : Type 0} (i : ℕ) (marks : S → ℕ → Woke → S → Type 0) (made : ℕ → S → Type 0) (first : ℕ) where
+  -- one push
+  pub numbers_pushed : (old new : Growing (Numbered F) S) (value : Numbered F) → GrowingPushes marks made first old value new → held_in_groups_with i new ≡ held_in_groups_with i old + one_at i value.number
+  numbers_pushed old new value h =
+      let one : held_with i h.pushed_into ≡ held_with i h.into + one_at i value.number = numbers_inserted i marks h.into h.pushed_into value h.pushed in
+      let now : held_in_groups_with i new ≡ sum_by (held_with i) h.before + held_with i h.pushed_into = ap (λ (l : List (Bounded (Numbered F) S)). sum_by (held_with i) l) h.now_listed ∙ sum_by_push (held_with i) h.before h.pushed_into in
+      elim h.goes_into [
+        | inl stood ↦
+            let was : held_in_groups_with i old ≡ sum_by (held_with i) h.before + held_with i h.into = ap (λ (l : List (Bounded (Numbered F) S)). sum_by (held_with i) l) stood.0 ∙ sum_by_push (held_with i) h.before h.into in
+            omega (arith, one, now, was)
+        | inr made_new ↦
+            let was : held_in_groups_with i old ≡ sum_by (held_with i) h.before = ap (λ (l : List (Bounded (Numbered F) S)). sum_by (held_with i) l) made_new.0 in
+            omega (arith, one, now, was, numbers_none i h.into _ made_new.2.none_held)
+      ]
+
+module _ {F S : Type 0} (made : ℕ → S → Type 0) (n limit : ℕ) (start : Growing (Numbered F) S) where
+  -- a new set holds nothing
+  pub new_numbers : IsNewGrowing made n limit start → (i : ℕ) → held_in_groups_with i start ≡ 0
+  new_numbers (inl h) i = ap (λ (g : Growing (Numbered F) S). held_in_groups_with i g) h.1
+  new_numbers (inr h) i = ap (λ (g : Growing (Numbered F) S). held_in_groups_with i g) h.1.2 ∙ omega (arith, sum_by-cons (held_with i) h.1.0 [], numbers_none i h.1.0 n h.1.1.none_held)
+
+  pub new_held : IsNewGrowing made n limit start → all_held start.groups.listed ≡ 0
+  new_held (inl h) = ap (λ (g : Growing (Numbered F) S). all_held g.groups.listed) h.1
+  new_held (inr h) = ap (λ (g : Growing (Numbered F) S). all_held g.groups.listed) h.1.2 ∙ omega (arith, sum_by-cons held_in h.1.0 [], (new_holds_none made n limit h.1.0 h.1.1).0)
+
+module _ {F A S : Type 0} (polled : ℕ → F → Poll A → F → Type 0) (steps : SourceSteps S) where
+  -- what the set gave it might give, and what it may still give it might give before
+  pub groups_gave : (old new : Growing (Numbered F) S) (out : ℕ × A) → GroupsGiveNumbered polled steps old (Ready (Some out)) new → GrowingMayGive polled old out
+  groups_gave old new out h = gave (PollsNumbered polled) steps old.groups new.groups out h.gives
+
+  pub groups_still : (old new : Growing (Numbered F) S) (answer : Poll (Option (ℕ × A))) → GroupsGiveNumbered polled steps old answer new → (z : ℕ × A) → GrowingMayGive polled new z → GrowingMayGive polled old z
+  groups_still old new answer h z = still (PollsNumbered polled) steps old.groups new.groups answer h.gives z
+
+-- a task that is registered with each group, where one holds a future, hears of what any needs
+pub registered_of : {F A S : Type 0} (needs : S → ℕ → Type 0) (cx : Context) (answer : Poll (Option A)) (set : Growing (Numbered F) S) → OnPending answer (EachCovered needs cx set.groups.listed) → OnPending answer (0 < held_in_groups set) → OnPending answer (Covers cx (AnyNeeds needs set.groups.listed))
+registered_of needs cx (Ready o) set covered some = tt
+registered_of {A = A} needs cx Pending set covered some = covered_of needs cx {A = A} Pending set.groups.listed set.groups.listed covered (λ none. absurd (omega (arith, none, some))) (omega arith)

@@ -1,0 +1,11 @@
+use Rattle.std.proofs.Common.{◌∙◌, ap, arith}
+use Rattle.futures_buffered_unordered_bounded.specs.FuturesUnorderedBounded.{Bounded}
+use Rattle.futures_buffered_ordered.specs.declared.numbered.Numbered.{Numbered}
+use Rattle.futures_buffered_ordered.proofs.FuturesOrderedBoundedLemmas.{new_keeps}
+use Rattle.futures_buffered_ordered.proofs.futures_ordered_bounded.BoundedQueue.over_limit.Goals as goal
+
+pub invariant_of-result : goal.invariant_of-result
+invariant_of-result g c =
+    let made = c.in_ok-queue.ensures in
+    let free = ap (λ (set : Bounded (Numbered g.row.T.Denot) g.row.S.Denot). set.slots) made.set ∙ c.in_ok-set.ensures.empty in
+    new_keeps c.in_ok-queue.queue c.args.capacity free made.entries made.room made.first (omega (arith, c.in_ok-set.ensures.refuses.fits))

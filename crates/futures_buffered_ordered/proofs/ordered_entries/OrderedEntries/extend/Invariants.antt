@@ -1,0 +1,14 @@
+use Rattle.std.proofs.Common.{◌≤◌}
+use Rattle.futures_buffered_ordered.specs.OrderedEntries.{AddsEachBack}
+use Rattle.futures_buffered_ordered.specs.OrderedEntriesInvariant.{IsNumbered}
+use Rattle.futures_buffered_ordered.proofs.ordered_entries.OrderedEntries.extend.Given as goal
+
+abbrev pub invariant-loop-item : goal.invariant-loop-item
+invariant-loop-item g l =
+    let set = g.Q.NumberedSet in
+    (goal.iterator-loop-item g).can_next l.item-iterator
+    × (goal.iterator-loop-item g).is_finite l.item-iterator
+    × AddsEachBack set.pushes l.fn.self.queue l.yielded l.self.queue
+    × set.keeps l.fn.self.queue.set l.self.queue.set
+    × (l.fn.self.queue.room ≤ l.self.queue.room)
+    × IsNumbered set.with_number set.count l.self

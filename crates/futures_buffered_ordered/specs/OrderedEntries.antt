@@ -1,0 +1,163 @@
+-- What a contract sees of an ordered queue, and what its calls make of it. The set that holds the
+-- futures in progress may be any that takes a number with a future and gives it back with the
+-- output.
+use Rattle.std.specs.Prelude.{◌≡◌, ◌≢◌, ◌⊎◌, ℕ, ◌+◌, ◌≤◌, ◌==◌, Bool, true, false, List, []}
+use Rattle.std.specs.Prelude.{◌∷◌, ◌++◌, length, Option, Some, None, count_by, slice_set}
+use Rattle.std.specs.List.{FoldsTo, slice_get}
+use Rattle.std.specs.Iterator.{YieldsThen}
+use Rattle.futures.specs.declared.task.Poll.{Poll}
+use Rattle.futures.specs.declared.task.Poll.TheVariants.{Ready, Pending}
+use Rattle.futures.specs.Runs.{Runs, Leads, Ends}
+use Rattle.futures_buffered_ordered.specs.declared.ordered_entries.Entry.{Entry}
+use Rattle.futures_buffered_ordered.specs.declared.ordered_entries.Entry.TheVariants.{Running, Kept}
+use Rattle.futures_buffered_ordered.specs.declared.ordered_entries.TheConstants.{MAX_LEN}
+
+-- the set that holds the futures in progress, each with a number; the entries from the front to the
+-- back, where one in progress has the number of its future; and how many entries there is a place
+-- for
+pub record Ordered (Q A : Type 0) : Type 0 where
+  pub set : Q
+  pub entries : List (Entry A)
+  pub room : ℕ
+
+module _ {A : Type 0} where
+  -- the entry's future is in progress
+  abbrev pub is_running : Entry A → Bool
+  is_running (Running _) = true
+  is_running (Kept _) = false
+
+  -- there is a front, and its future is in progress
+  abbrev pub starts_running : List (Entry A) → Bool
+  starts_running [] = false
+  starts_running (front ∷ _) = is_running front
+
+  -- whether an entry is in progress with number i
+  abbrev pub runs_with : ℕ → Entry A → Bool
+  runs_with i (Running j) = j == i
+  runs_with i (Kept x) = false
+
+  -- no entry in progress has number i
+  abbrev pub IsUnused : ℕ → List (Entry A) → Type 0
+  IsUnused i entries = (k : ℕ) → slice_get entries k ≢ Some (Running i)
+
+module _ {Q A : Type 0} where
+  -- each entry in progress has a future of its own in the set, which has its number, and the set
+  -- holds no other future
+  pub record EachHasOne (with_number : ℕ → Q → ℕ) (q : Ordered Q A) : Type 0 where
+    pub as_many : (i : ℕ) → with_number i q.set ≡ count_by (runs_with i) q.entries
+    pub once : (j k i : ℕ) → slice_get q.entries j ≡ Some (Running i)
+        → slice_get q.entries k ≡ Some (Running i) → j ≡ k
+
+  -- the set is new; there is no entry, and a place for so many at least
+  pub record IsNewQueue (is_new : Q → Type 0) (n : ℕ) (q : Ordered Q A) : Type 0 where
+    pub new_set : is_new q.set
+    pub no_entries : q.entries ≡ []
+    pub has_room : n ≤ q.room
+
+  -- all is as it was, but that there may be a place for more entries
+  pub record Stays (old new : Ordered Q A) : Type 0 where
+    pub set : new.set ≡ old.set
+    pub entries : new.entries ≡ old.entries
+    pub room : old.room ≤ new.room
+
+  -- a push asks for memory for its entry, or the set may refuse it, or the queue is as long as it
+  -- may be
+  abbrev pub MayRefuse : (Q → Type 0) → Ordered Q A → Type 0
+  MayRefuse set_may_refuse q =
+      (q.room ≤ length q.entries) ⊎ set_may_refuse q.set ⊎ (length q.entries ≡ MAX_LEN)
+
+  -- nothing more goes in: the queue is as long as it may be, or its set refuses
+  abbrev pub IsAtEnd : (Q → Type 0) → Ordered Q A → Type 0
+  IsAtEnd set_refuses q = (length q.entries ≡ MAX_LEN) ⊎ set_refuses q.set
+
+module _ {F Q A : Type 0} (pushes : Q → F → ℕ → Q → Type 0) where
+  -- the future went into the set, with a number that no entry in progress had
+  pub record PushesNumbered (old : Ordered Q A) (future : F) (i : ℕ)
+      (new : Ordered Q A) : Type 0 where
+    pub unused : IsUnused i old.entries
+    pub pushed : pushes old.set future i new.set
+    pub room : old.room ≤ new.room
+
+  -- the future went into the set, and its entry behind all others
+  abbrev pub AddsBack : Ordered Q A → F → Ordered Q A → Type 0
+  AddsBack old future new =
+      (i : ℕ) × PushesNumbered old future i new × (new.entries ≡ old.entries ++ Running i ∷ [])
+
+  -- the future went into the set, and its entry before all others
+  abbrev pub AddsFront : Ordered Q A → F → Ordered Q A → Type 0
+  AddsFront old future new =
+      (i : ℕ) × PushesNumbered old future i new × (new.entries ≡ Running i ∷ old.entries)
+
+  -- these futures were added at the back, one after another
+  abbrev pub AddsEachBack : Ordered Q A → List F → Ordered Q A → Type 0
+  AddsEachBack = FoldsTo AddsBack
+
+  -- These items came and were added at the back. The next one came, might be refused, and had to go
+  -- back. No further one was asked for.
+  pub record StopsAt
+      {U I : Type 0}
+      (set_may_refuse : Q → Type 0)
+      (becomes : U → I → Type 0)
+      (steps : I → Option F → I → Type 0)
+      (source : U)
+      (old : Ordered Q A)
+      (back : F)
+      (new : Ordered Q A)
+      : Type 0 where
+    pub items : List F
+    pub it : I
+    pub rest : I
+    pub begins : becomes source it
+    pub came : YieldsThen steps it items (Some back) rest
+    pub stopped : Ordered Q A
+    pub added : AddsEachBack old items stopped
+    pub may_refuse : MayRefuse set_may_refuse stopped
+    pub stays : Stays stopped new
+
+module _ {Q A : Type 0} (gives : Q → Poll (Option (ℕ × A)) → Q → Type 0) where
+  -- while the front is in progress, the set is polled; the future with number i gives x, and its
+  -- entry, the one at this place, keeps it
+  pub record SetYields (old : Ordered Q A) (out : ℕ × A) (new : Ordered Q A) : Type 0 where
+    pub front_runs : starts_running old.entries ≡ true
+    pub gave : gives old.set (Ready (Some out)) new.set
+    pub at : ℕ
+    pub was_running : slice_get old.entries at ≡ Some (Running out.0)
+    pub entries : new.entries ≡ slice_set old.entries at (Kept out.1)
+    pub room : new.room ≡ old.room
+
+  -- how a poll ends: there is no entry; the front is an output and leaves, with no name asked for;
+  -- or the front is in progress, the set is polled, and answers Pending
+  abbrev pub LastStep : Ordered Q A → Poll (Option A) → Ordered Q A → Type 0
+  LastStep old (Ready None) new = (old.entries ≡ []) × (new ≡ old)
+  LastStep old (Ready (Some x)) new =
+      (old.entries ≡ Kept x ∷ new.entries) × (new.set ≡ old.set) × (new.room ≡ old.room)
+  LastStep old Pending new =
+      (starts_running old.entries ≡ true) × gives old.set Pending new.set
+      × (new.entries ≡ old.entries) × (new.room ≡ old.room)
+
+  -- One poll: polls of the set that each gave an output, and then the last step. Each output is a
+  -- future less in progress.
+  pub record OrderedGives (count : Q → ℕ) (old : Ordered Q A) (answer : Poll (Option A))
+      (new : Ordered Q A) : Type 0 where
+    pub yielded : List (ℕ × A)
+    pub before : Ordered Q A
+    pub row : FoldsTo SetYields old yielded before
+    pub count_left : length yielded + count before.set ≡ count old.set
+    pub last_step : LastStep before answer new
+
+-- an output of each, in order, and then the end
+abbrev pub InTurn : {E A : Type 0} → (E → A → Type 0) → List E → Runs A
+InTurn gives [] = Ends
+InTurn gives (e ∷ es) = Leads (gives e) (InTurn gives es)
+
+module _ {Q A : Type 0} (may_give : Q → ℕ × A → Type 0) where
+  -- an entry in progress may give what the future with its number may give, and one that keeps an
+  -- output gives that
+  abbrev pub EntryGives : Q → Entry A → A → Type 0
+  EntryGives set (Running i) y = may_give set (i, y)
+  EntryGives set (Kept x) y = y ≡ x
+
+  -- what may come from a queue: an output of each entry, from the front to the back, and then the
+  -- end
+  abbrev pub ComesInOrder : Ordered Q A → Runs A
+  ComesInOrder q = InTurn (EntryGives q.set) q.entries

@@ -1,0 +1,36 @@
+-- How an ordered queue finds the entry of a future. No public clause cites it.
+use Rattle.std.specs.Prelude.{◌≡◌, ℕ, ◌+◌, ◌-◌, ◌^◌, ◌%◌, ◌<◌, List, length, Some, count_by}
+use Rattle.std.specs.List.{slice_get}
+use Rattle.futures_buffered_ordered.specs.declared.ordered_entries.Entry.{Entry}
+use Rattle.futures_buffered_ordered.specs.declared.ordered_entries.Entry.TheVariants.{Running}
+use Rattle.futures_buffered_ordered.specs.OrderedEntries.{Ordered, is_running, runs_with}
+
+-- the place of the entry with this number, where the front has the number outgoing and numbers wrap
+abbrev pub place_of : ℕ → ℕ → ℕ
+place_of outgoing number = (number + (2 ^ 64 - outgoing)) % 2 ^ 64
+
+-- a queue, and the number of its front
+pub record Numbering (Q A : Type 0) : Type 0 where
+  pub queue : Ordered Q A
+  pub outgoing : ℕ
+
+-- Numbers rise by one from entry to entry, and wrap. The set holds as many futures of each number
+-- as entries in progress have it. The length has no more than 63 bits, so no number comes twice.
+pub record KeepsNumbers
+    {Q A : Type 0}
+    (with_number : ℕ → Q → ℕ)
+    (count : Q → ℕ)
+    (set : Q)
+    (entries : List (Entry A))
+    (outgoing : ℕ)
+    : Type 0 where
+  pub placed : (k i : ℕ) → slice_get entries k ≡ Some (Running i) → i ≡ (outgoing + k) % 2 ^ 64
+  pub as_many : (i : ℕ) → with_number i set ≡ count_by (runs_with i) entries
+  pub counted : count set ≡ count_by is_running entries
+  pub short : length entries < 2 ^ 63
+  pub word : outgoing < 2 ^ 64
+
+-- the queue is numbered in this way
+abbrev pub IsNumbered : {Q A : Type 0} → (ℕ → Q → ℕ) → (Q → ℕ) → Numbering Q A → Type 0
+IsNumbered with_number count n =
+    KeepsNumbers with_number count n.queue.set n.queue.entries n.outgoing

@@ -1,0 +1,298 @@
+//! A queue of any number of futures in progress, which yields outputs in the order of its entries.
+//!
+//! The futures stand in a set that grows by groups. Each has an entry in a list, to which pushes add at either end. A poll yields the front alone: an output that comes before its turn is kept in its entry.
+ghost use Rattle.std.specs.Prelude.{◌≡◌, ◌↔◌, ◌<◌, ◌≤◌, ◌+◌, ◌⊎◌, ℕ, List, [], length, max, false, IfOk, IfErr, OnOk, OnErr, IsOk, IsErr, IsTrue};
+ghost use Rattle.std.specs.Iterator.{IsFiniteIterable};
+ghost use Rattle.futures.specs.Task.{Keeps};
+ghost use Rattle.futures.specs.Poll.{OnPending};
+ghost use Rattle.futures_buffered_core.specs.Answer.{RefusesTooLarge};
+ghost use Rattle.futures_buffered_core.specs.Drawn.{Draws};
+ghost use Rattle.futures_buffered_core.specs.ReadyShared.{IsNewShared, MarksShared, Shared};
+ghost use Rattle.futures_buffered_unordered.specs.SlotGroups.{EachCovered, no_groups};
+ghost use Rattle.futures_buffered_ordered.specs.OrderedEntries.{AddsBack, AddsEachBack, AddsFront, EachHasOne, IsAtEnd, MayRefuse, OrderedGives, Stays, StopsAt, starts_running};
+ghost use Rattle.futures_buffered_ordered.specs.FuturesOrdered.{EachInProgress, IsNewGrowingQueue, OrderedGrowing, GrowingPushesNumber, GroupsGiveNumbered, SetMayRefuse, SetRefuses, held_in_groups, held_in_groups_with};
+
+use crate::numbered::{Numbered, PollNumbered};
+use crate::numbered_set::{NumberedSet, PollNumberedSet};
+use crate::ordered_entries::{MAX_LEN, OrderedEntries};
+use futures::task::{Context, Poll};
+use futures_buffered_core::ready_core::NewFault;
+use futures_buffered_core::ready_shared::{SharedReady, SharedWaker};
+use futures_buffered_core::ready_source::{NewSource, ReadySource};
+use futures_buffered_unordered::futures_unordered::{FIRST_GROUP, FuturesUnordered};
+use futures_buffered_unordered_bounded::futures_unordered_bounded::POLL_LIMIT;
+use futures_buffered_unordered_bounded::poll_one::PollOne;
+use futures_buffered_unordered_bounded::slot_future::SlotFuture;
+use std::alloc::Global;
+use std::marker::Model;
+
+impl<T: Drop, S: NewSource> NumberedSet for FuturesUnordered<Numbered<T>, S> {
+    ghost use Rattle.std.proofs.Common.{◌≡◌, ℕ, ◌+◌, OnOk, OnErr, IfErr, IsErr, refl, ◌∙◌};
+    ghost use Rattle.futures_buffered_ordered.specs.Numbered.{one_at};
+    ghost use Rattle.futures_buffered_ordered.specs.FuturesOrdered.{GrowingPushesNumber, SetMayRefuse, SetRefuses, held_in_groups, held_in_groups_with};
+
+    type Future = T;
+
+    ghost count = { held_in_groups };
+
+    ghost with_number = { held_in_groups_with };
+
+    ghost pushes = { GrowingPushesNumber S.marks S.made };
+
+    ghost may_refuse = { SetMayRefuse };
+
+    ghost refuses = { SetRefuses };
+
+    ghost keeps = { λ old new. new.limit ≡ old.limit };
+
+    fn refuses_all(&self) -> bool {
+        self.refusal() == NewFault::TooLarge
+    }
+
+    fn push_numbered(&mut self, value: Numbered<T>) -> Result<(), Numbered<T>>
+        ensures pushed { OnOk result
+            (GrowingPushesNumber S.marks S.made self.old value.future value.number self.new) }
+        ensures count { OnOk result (held_in_groups self.new ≡ held_in_groups self.old + 1) }
+        ensures numbers { OnOk result ((i : ℕ) → held_in_groups_with i self.new
+            ≡ held_in_groups_with i self.old + one_at i value.number) }
+        ensures keeps { OnOk result (self.new.limit ≡ self.old.limit) }
+        ensures back { IfErr result (λ back. (back ≡ value) × (self.new ≡ self.old)) }
+        ensures room { OnErr result (SetMayRefuse self.old) }
+        ensures full { SetRefuses self.old → IsErr result }
+    {
+        self.push(value)
+    }
+
+    ghost keeps_self = { λ a. refl };
+
+    ghost keeps_on = { λ a b c first then. then ∙ first };
+}
+
+impl<T: Drop, S: NewSource, R: PollOne<T, S::Waker>> PollNumberedSet<R>
+    for FuturesUnordered<Numbered<T>, S> {
+    type Output = R::Output;
+
+    ghost can_poll = { EachInProgress R.can_poll };
+
+    ghost gives = { GroupsGiveNumbered R.polled S.steps };
+
+    ghost pends = { λ cx set. EachCovered S.needs cx set.groups.listed };
+
+    fn poll_numbered(
+        &mut self,
+        rule: &R,
+        cx: &mut Context<'_>,
+    ) -> Poll<Option<(usize, R::Output)>> {
+        self.poll_with(&PollNumbered::new(rule), cx)
+    }
+}
+
+/// Any number of futures, whose outputs come in the order of a list, with additions at both ends.
+///
+/// A contract sees the set that holds the futures in progress, each with a number, the entries from the front to the back, where one in progress has the number of its future, and how many entries there is a place for. Of a number it says no more than which entry and which future have it. A push, the keeping of an output and its yielding take the same time at any length; where a push finds more entries than there was room for, the list grows, and where the last group is full, the set does, which over many pushes is the same time for each. The calls wait for nobody where those of the source do not.
+#[derive(Drop)]
+pub struct GrowingQueue<T: Drop, A: Drop, S: NewSource> {
+    queue: OrderedEntries<FuturesUnordered<Numbered<T>, S>, A>,
+}
+
+/// The queue with the outputs of its futures. It is the name that a caller writes.
+pub type FuturesOrdered<T, S> = GrowingQueue<
+    T,
+    <T as SlotFuture<<S as ReadySource>::Waker>>::Output,
+    S,
+>;
+
+impl<T: Drop, A: Drop, S: NewSource> Model for GrowingQueue<T, A, S> {
+    ghost use Rattle.futures_buffered_ordered.specs.OrderedEntriesInvariant.{IsNumbered};
+    ghost use Rattle.futures_buffered_ordered.specs.FuturesOrdered.{OrderedGrowing, held_in_groups, held_in_groups_with};
+
+    ghost Value = { OrderedGrowing T A S };
+
+    ghost view = { λ q. q.queue.queue };
+
+    ghost invariant = { λ q. IsNumbered held_in_groups_with held_in_groups q.queue };
+}
+
+impl<T: Drop, A: Drop, S: NewSource> GrowingQueue<T, A, S> {
+    /// The number of entries, in progress and kept. Takes the same time at any length.
+    pub fn len(&self) -> usize
+        ensures value { result ≡ length self.now.entries }
+        ensures each { EachHasOne held_in_groups_with self.now }
+        ensures in_progress { held_in_groups self.now.set ≤ length self.now.entries }
+    {
+        self.queue.len()
+    }
+
+    /// Whether there is no entry. Takes the same time at any length.
+    pub fn is_empty(&self) -> bool
+        ensures { IsTrue result ↔ (length self.now.entries ≡ 0) }
+    {
+        self.queue.is_empty()
+    }
+
+    /// How many names one poll of the set takes from each group, at most. It never changes.
+    pub fn limit(&self) -> usize
+        ensures { result ≡ self.now.set.limit }
+    {
+        self.queue.set.limit()
+    }
+
+    /// Adds the future behind all others, in progress. It goes into the set as its `push` does, so that a later poll polls it.
+    ///
+    /// The future comes back where the queue has `MAX_LEN` entries, where the set refuses it, and where a request for memory was refused; no entry and no future has changed then. Asks for memory only where there are as many entries as places for them, and where the last group is full. Polls nothing, and wakes nobody.
+    pub fn push_back(&mut self, future: T) -> Result<(), T>
+        ensures pushed { OnOk result
+            (AddsBack (GrowingPushesNumber S.marks S.made) self.old future self.new) }
+        ensures back { IfErr result (λ back. (back ≡ future) × Stays self.old self.new) }
+        ensures room { OnErr result (MayRefuse SetMayRefuse self.old) }
+        ensures large { IsAtEnd SetRefuses self.old → IsErr result }
+        ensures limit { self.new.set.limit ≡ self.old.set.limit }
+    {
+        self.queue.add_back(future)
+    }
+
+    /// As `push_back`, before all others: its output is the next to be yielded.
+    pub fn push_front(&mut self, future: T) -> Result<(), T>
+        ensures pushed { OnOk result
+            (AddsFront (GrowingPushesNumber S.marks S.made) self.old future self.new) }
+        ensures back { IfErr result (λ back. (back ≡ future) × Stays self.old self.new) }
+        ensures room { OnErr result (MayRefuse SetMayRefuse self.old) }
+        ensures large { IsAtEnd SetRefuses self.old → IsErr result }
+        ensures limit { self.new.set.limit ≡ self.old.set.limit }
+    {
+        self.queue.add_front(future)
+    }
+
+    /// Adds each item at the back, in order, as `push_back` does. The first that is refused comes back; those before it stay, and the iterator is asked for no further one.
+    pub fn extend<I: IntoIterator<Item = T>>(&mut self, iter: I) -> Result<(), T>
+    where
+        requires { IsFiniteIterable I.into_iter_gives I.IntoIter.can_next
+            I.IntoIter.remaining iter }
+        ensures all { OnOk result ((items : List T)
+            × Draws I.into_iter_gives I.IntoIter.next_gives iter items
+            × AddsEachBack (GrowingPushesNumber S.marks S.made) self.old items self.new) }
+        ensures stops { IfErr result (λ back. StopsAt (GrowingPushesNumber S.marks S.made) SetMayRefuse
+            I.into_iter_gives I.IntoIter.next_gives iter self.old back self.new) }
+    {
+        self.queue.extend(iter)
+    }
+
+    /// One poll of the queue, where `rule` says how one held future is polled.
+    ///
+    /// `Ready(None)` where there is no entry. A front whose output is kept leaves with it, and the set is not asked. Else the set is polled again and again: each output that it gives is kept in its entry, until the front's has come and is yielded, or the set answers `Pending`. Takes no memory. Takes the time of the set's polls, of which there is at most one more than outputs came.
+    pub fn poll_with<R: PollOne<T, S::Waker, Output = A>>(
+        &mut self,
+        rule: &R,
+        cx: &mut Context<'_>,
+    ) -> Poll<Option<A>>
+        requires { EachInProgress R.can_poll self.old.set }
+        ensures polled { OrderedGives (GroupsGiveNumbered R.polled S.steps) held_in_groups
+            self.old result self.new }
+        ensures pollable { EachInProgress R.can_poll self.new.set }
+        ensures limit { self.new.set.limit ≡ self.old.set.limit }
+        ensures room { self.new.room ≡ self.old.room }
+        ensures holds { OnPending result (0 < held_in_groups self.new.set) }
+        ensures covered { OnPending result
+            (EachCovered S.needs cx.new self.new.set.groups.listed) }
+        ensures untouched { starts_running self.old.entries ≡ false → cx.new ≡ cx.old }
+        ensures kept { Keeps cx.old cx.new }
+    {
+        self.queue.poll_entries(rule, cx)
+    }
+
+    // Why a push was refused.
+    fn refusal(&self) -> NewFault
+        ensures { (result ≡ NewFault.TooLarge) ↔ IsAtEnd SetRefuses self.now }
+    {
+        if self.queue.len() == MAX_LEN {
+            NewFault::TooLarge
+        } else {
+            self.queue.set.refusal()
+        }
+    }
+}
+
+impl<T: SlotFuture<S::Waker, Output = A>, A: Drop, S: NewSource> GrowingQueue<T, A, S> {
+    /// An empty queue over sources that are made by `env`, which it keeps. It has one group of `n` slots, or none where `n` is 0, and a place for `n` entries.
+    ///
+    /// Takes time and memory in proportion to `n`. `TooLarge` where `n` is above `MAX_CAPACITY`, and `Memory` where a request for memory was refused.
+    pub fn over(env: S::Env, alloc: Global, n: usize) -> Result<Self, NewFault>
+        ensures empty { IfOk result (IsNewGrowingQueue S.made n POLL_LIMIT) }
+        ensures refuses { RefusesTooLarge n result }
+        ensures none { n ≡ 0 → IsOk result }
+    {
+        Self::over_limit(env, alloc, n, POLL_LIMIT)
+    }
+
+    /// As `over`, where one poll of the set takes at most `limit` names from each group, also from those that are made later.
+    pub fn over_limit(env: S::Env, alloc: Global, n: usize, limit: usize) -> Result<Self, NewFault>
+        requires { 1 ≤ limit }
+        ensures empty { IfOk result (IsNewGrowingQueue S.made n limit) }
+        ensures refuses { RefusesTooLarge n result }
+        ensures none { n ≡ 0 → IsOk result }
+    {
+        let set = FuturesUnordered::over_limit(env, alloc, n, limit)?;
+        let queue = OrderedEntries::with_room(alloc, set, n)?;
+        Ok(GrowingQueue { queue })
+    }
+}
+
+impl<T: SlotFuture<SharedWaker, Output = A>, A: Drop> GrowingQueue<T, A, SharedReady> {
+    /// An empty queue without a group, whose futures are woken from any thread. Takes no memory.
+    pub fn new(alloc: Global) -> Self
+        ensures set { result.set ≡ no_groups POLL_LIMIT }
+        ensures entries { result.entries ≡ [] }
+    {
+        GrowingQueue {
+            queue: OrderedEntries::new(alloc, FuturesUnordered::new(alloc)),
+        }
+    }
+
+    /// An empty queue with one group of `n` slots, or none where `n` is 0, and a place for `n` entries, whose futures are woken from any thread. It is `over` with shared sources, and refuses as `over` does.
+    pub fn with_capacity(alloc: Global, n: usize) -> Result<Self, NewFault>
+        ensures empty { IfOk result (IsNewGrowingQueue IsNewShared n POLL_LIMIT) }
+        ensures refuses { RefusesTooLarge n result }
+        ensures none { n ≡ 0 → IsOk result }
+    {
+        Self::with_limit(alloc, n, POLL_LIMIT)
+    }
+
+    /// As `with_capacity`, where one poll of the set takes at most `limit` names from each group, also from those that are made later.
+    pub fn with_limit(alloc: Global, n: usize, limit: usize) -> Result<Self, NewFault>
+        requires { 1 ≤ limit }
+        ensures empty { IfOk result (IsNewGrowingQueue IsNewShared n limit) }
+        ensures refuses { RefusesTooLarge n result }
+        ensures none { n ≡ 0 → IsOk result }
+    {
+        Self::over_limit((), alloc, n, limit)
+    }
+
+    /// A queue of the items, each added at the back, in order. Its first group has as many slots as the iterator says that it has items at least, and not fewer than `FIRST_GROUP`.
+    ///
+    /// Takes time and memory in proportion to the number of items and to that first number. Where it is refused, the items that came are dropped: `TooLarge` where that number or a later group is too large, or more than `MAX_LEN` came, and `Memory` where a request for memory was refused.
+    pub fn from_iter<I: IntoIterator<Item = T>>(alloc: Global, iter: I) -> Result<Self, NewFault>
+    where
+        requires { IsFiniteIterable I.into_iter_gives I.IntoIter.can_next
+            I.IntoIter.remaining iter }
+        ensures holds { IfOk result (λ q. (items : List T) × (least : ℕ)
+            × ((start : OrderedGrowing T A Shared)
+            × Draws I.into_iter_gives I.IntoIter.next_gives iter items
+            × IsNewGrowingQueue IsNewShared (max least FIRST_GROUP) POLL_LIMIT start
+            × AddsEachBack (GrowingPushesNumber MarksShared IsNewShared) start items q)) }
+    {
+        let iter = iter.into_iter();
+        let (least, _most) = iter.size_hint();
+        let first = if least > FIRST_GROUP {
+            least
+        } else {
+            FIRST_GROUP
+        };
+        let mut queue = Self::with_capacity(alloc, first)?;
+        for item in iter {
+            let Ok(()) = queue.push_back(item) else {
+                return Err(queue.refusal());
+            };
+        }
+        Ok(queue)
+    }
+}

@@ -1,0 +1,89 @@
+//! What an ordered queue asks of the set that holds its futures in progress.
+ghost use Rattle.std.specs.Prelude.{◌≡◌, ◌+◌, ℕ, Option, OnOk, OnErr, IfOk, IfErr, IfNone, IsErr, IsTrue};
+ghost use Rattle.futures.specs.Task.{Keeps};
+ghost use Rattle.futures.specs.Poll.{IfReady, OnPending};
+ghost use Rattle.futures_buffered_unordered_bounded.specs.Groups.{outputs_in};
+ghost use Rattle.futures_buffered_ordered.specs.Numbered.{one_at, outputs_with};
+
+use crate::numbered::Numbered;
+use futures::task::{Context, Poll};
+
+/// A set that takes a number with each future.
+///
+/// An impl states, beside the calls, what they may do: relations between what it holds before and after.
+pub trait NumberedSet: Drop {
+    /// What it holds.
+    type Future: Drop;
+
+    // How many futures are held.
+    ghost count: { Self → ℕ };
+
+    // How many futures with this number are held.
+    ghost with_number: { ℕ → Self → ℕ };
+
+    // What a push of a future with a number makes of it.
+    ghost pushes: { Self → Self.Future → ℕ → Self → Type 0 };
+
+    // It may refuse a push.
+    ghost may_refuse: { Self → Type 0 };
+
+    // It refuses each push, whether there is memory or not.
+    ghost refuses: { Self → Type 0 };
+
+    // What each call keeps of it.
+    ghost keeps: { Self → Self → Type 0 };
+
+    /// Whether it refuses each push, whether there is memory or not. Takes the same time at any number of futures.
+    fn refuses_all(&self) -> bool
+        ensures { IsTrue result → refuses self.now };
+
+    /// Puts the future in, with its number. It comes back, and nothing has changed, where it is refused.
+    fn push_numbered(&mut self, value: Numbered<Self::Future>) -> Result<(), Numbered<Self::Future>>
+        ensures pushed { OnOk result (pushes self.old value.future value.number self.new) }
+        ensures count { OnOk result (count self.new ≡ count self.old + 1) }
+        ensures numbers { OnOk result ((i : ℕ) →
+            with_number i self.new ≡ with_number i self.old + one_at i value.number) }
+        ensures keeps { OnOk result (keeps self.old self.new) }
+        ensures back { IfErr result (λ back. (back ≡ value) × (self.new ≡ self.old)) }
+        ensures room { OnErr result (may_refuse self.old) }
+        ensures full { refuses self.old → IsErr result };
+
+    ghost keeps_self: { (a : Self) → keeps a a };
+
+    ghost keeps_on: { (a b c : Self) → keeps a b → keeps b c → keeps a c };
+}
+
+/// A numbered set under a rule by which one held future is polled. Its output comes with its number.
+pub trait PollNumberedSet<R>: NumberedSet {
+    ghost use Rattle.futures.specs.declared.task.Poll.{Poll};
+    ghost use Rattle.futures.specs.declared.task.context.Context.{Context};
+
+    /// What a future gives when it is done.
+    type Output;
+
+    // Each future that is held may be polled.
+    ghost can_poll: { Self → Type 0 };
+
+    // One poll, that finds the set, gives an answer and leaves it.
+    ghost gives: { Self → Poll (Option (ℕ × Self.Output)) → Self → Type 0 };
+
+    // What a pending poll leaves of the task and the set.
+    ghost pends: { Context → Self → Type 0 };
+
+    /// One poll of the set. `Ready(None)` where nothing is held. Takes no memory.
+    fn poll_numbered(
+        &mut self,
+        rule: &R,
+        cx: &mut Context<'_>,
+    ) -> Poll<Option<(usize, Self::Output)>>
+        requires { can_poll self.old }
+        ensures gave { gives self.old result self.new }
+        ensures empty { IfReady result (λ o. IfNone o (Self.count self.old ≡ 0)) }
+        ensures count { Self.count self.new + outputs_in result ≡ Self.count self.old }
+        ensures numbers { (i : ℕ) →
+            Self.with_number i self.new + outputs_with i result ≡ Self.with_number i self.old }
+        ensures keeps { Self.keeps self.old self.new }
+        ensures again { can_poll self.new }
+        ensures pends { OnPending result (pends cx.new self.new) }
+        ensures kept { Keeps cx.old cx.new };
+}

@@ -1,0 +1,283 @@
+//! The entries of an ordered queue, over any set that takes a number with each future.
+//!
+//! Pushes add an entry at either end. A poll yields the front alone: an output that comes before its turn is kept in its entry.
+ghost use Rattle.std.specs.Prelude.{◌≡◌, ◌↔◌, ◌<◌, ◌≤◌, ◌+◌, ◌⊎◌, ℕ, List, [], ◌∷◌, length, true, false, IfOk, IfErr, OnOk, OnErr, IsOk, IsErr, IsTrue, MatchOption};
+ghost use Rattle.std.specs.Iterator.{IsFiniteIterable};
+ghost use Rattle.futures.specs.Task.{Keeps};
+ghost use Rattle.futures.specs.Poll.{IfReady, OnPending};
+ghost use Rattle.futures_buffered_core.specs.Drawn.{Draws};
+ghost use Rattle.futures_buffered_ordered.specs.declared.ordered_entries.Entry.TheVariants.{Kept};
+ghost use Rattle.futures_buffered_ordered.specs.OrderedEntries.{AddsBack, AddsEachBack, AddsFront, EachHasOne, IsAtEnd, LastStep, MayRefuse, OrderedGives, SetYields, Stays, StopsAt, starts_running};
+ghost use Rattle.futures_buffered_ordered.specs.OrderedEntriesInvariant.{IsNumbered};
+
+use crate::numbered::Numbered;
+use crate::numbered_set::{NumberedSet, PollNumberedSet};
+use futures::task::{Context, Poll};
+use std::alloc::{AllocError, Global};
+use std::collections::VecDeque;
+use std::marker::Model;
+
+/// How many entries a queue has, at most.
+pub const MAX_LEN: usize = usize::MAX / 2;
+
+/// An entry of a queue: its future is in progress, or it is done and its output is kept.
+#[derive(Drop)]
+pub enum Entry<A> {
+    /// Its future is in progress, and has this number.
+    Running(usize),
+    /// Its output, which waits for its turn.
+    Kept(A),
+}
+
+/// A set of numbered futures and the list of entries over it.
+///
+/// A contract sees the set, the entries from the front to the back, how many there is a place for, and the number of the front. It is what the queues are made of: each call asks that the numbers are in order, and leaves them so.
+#[derive(Drop)]
+pub struct OrderedEntries<Q: Drop, A: Drop> {
+    pub(crate) set: Q,
+    entries: VecDeque<Entry<A>>,
+    // The number of the front. Numbers rise by one from entry to entry, and wrap: only their differences count, and there are fewer entries than half the numbers, so none ever changes.
+    outgoing: usize,
+}
+
+impl<Q: Drop, A: Drop> Model for OrderedEntries<Q, A> {
+    ghost use Rattle.std.specs.VecDeque.{deque_capacity};
+    ghost use Rattle.futures_buffered_ordered.specs.OrderedEntriesInvariant.{Numbering};
+
+    ghost Value = { Numbering Q A };
+
+    ghost view = { λ q. record {
+      queue = record {
+        set = q.set;
+        entries = q.entries.items;
+        room = deque_capacity q.entries;
+      };
+      outgoing = q.outgoing;
+    } };
+}
+
+impl<Q: Drop, A: Drop> OrderedEntries<Q, A> {
+    /// No entry over this set. Takes no memory.
+    pub fn new(alloc: Global, set: Q) -> Self
+        ensures set { result.queue.set ≡ set }
+        ensures entries { result.queue.entries ≡ [] }
+        ensures first { result.outgoing ≡ 0 }
+    {
+        OrderedEntries {
+            set,
+            entries: VecDeque::new(alloc),
+            outgoing: 0,
+        }
+    }
+
+    /// As `new`, with a place for `room` entries. Takes memory in proportion to that number, and none where it is 0.
+    pub fn with_room(alloc: Global, set: Q, room: usize) -> Result<Self, AllocError>
+        ensures set { IfOk result (λ made. made.queue.set ≡ set) }
+        ensures entries { IfOk result (λ made. made.queue.entries ≡ []) }
+        ensures room { IfOk result (λ made. room ≤ made.queue.room) }
+        ensures first { IfOk result (λ made. made.outgoing ≡ 0) }
+        ensures none { room ≡ 0 → IsOk result }
+    {
+        let entries = VecDeque::with_capacity(alloc, room)?;
+        Ok(OrderedEntries {
+            set,
+            entries,
+            outgoing: 0,
+        })
+    }
+
+    /// The number of entries, in progress and kept. Takes the same time at any length.
+    pub fn len(&self) -> usize
+        ensures { result ≡ length self.now.queue.entries }
+    {
+        self.entries.len()
+    }
+
+    /// Whether there is no entry. Takes the same time at any length.
+    pub fn is_empty(&self) -> bool
+        ensures { IsTrue result ↔ (length self.now.queue.entries ≡ 0) }
+    {
+        self.entries.is_empty()
+    }
+
+    fn front_runs(&self) -> bool
+        ensures { result ≡ starts_running self.now.queue.entries }
+    {
+        match self.entries.front() {
+            Some(Entry::Running(_)) => true,
+            _ => false,
+        }
+    }
+}
+
+impl<Q: NumberedSet, A: Drop> OrderedEntries<Q, A> {
+    // Makes a place for one entry more, and says whether there is one. Asks for no memory where the set would refuse all the same.
+    fn reserve_entry(&mut self) -> bool
+        ensures stays { Stays self.old.queue self.new.queue }
+        ensures same { self.new.outgoing ≡ self.old.outgoing }
+        ensures room { result ≡ true → length self.old.queue.entries < self.new.queue.room }
+        ensures short { result ≡ true → length self.old.queue.entries < MAX_LEN }
+        ensures none { result ≡ false → MayRefuse Q.may_refuse self.old.queue }
+    {
+        let len = self.entries.len();
+        if len == MAX_LEN || (len == self.entries.capacity() && self.set.refuses_all()) {
+            return false;
+        }
+        self.entries.reserve(1).is_ok()
+    }
+
+    /// Adds the future behind all others, in progress, with the next number.
+    ///
+    /// The future comes back where the queue has `MAX_LEN` entries, where the set refuses it, and where a request for memory was refused; no entry and no future has changed then. Asks for memory only where there are as many entries as places for them, and where the set does.
+    pub fn add_back(&mut self, future: Q::Future) -> Result<(), Q::Future>
+        requires { IsNumbered Q.with_number Q.count self.old }
+        ensures pushed { OnOk result (AddsBack Q.pushes self.old.queue future self.new.queue) }
+        ensures back { IfErr result (λ back. (back ≡ future)
+            × Stays self.old.queue self.new.queue) }
+        ensures room { OnErr result (MayRefuse Q.may_refuse self.old.queue) }
+        ensures large { IsAtEnd Q.refuses self.old.queue → IsErr result }
+        ensures keeps { Q.keeps self.old.queue.set self.new.queue.set }
+        ensures more { self.old.queue.room ≤ self.new.queue.room }
+        ensures numbered { IsNumbered Q.with_number Q.count self.new }
+    {
+        if !self.reserve_entry() {
+            return Err(future);
+        }
+        let number = self.outgoing.wrapping_add(self.entries.len());
+        match self.set.push_numbered(Numbered { future, number }) {
+            Ok(()) => {
+                self.entries.push_back_reserved(Entry::Running(number));
+                Ok(())
+            }
+            Err(back) => Err(back.future),
+        }
+    }
+
+    /// As `add_back`, before all others: its output is the next to be yielded.
+    pub fn add_front(&mut self, future: Q::Future) -> Result<(), Q::Future>
+        requires { IsNumbered Q.with_number Q.count self.old }
+        ensures pushed { OnOk result (AddsFront Q.pushes self.old.queue future self.new.queue) }
+        ensures back { IfErr result (λ back. (back ≡ future)
+            × Stays self.old.queue self.new.queue) }
+        ensures room { OnErr result (MayRefuse Q.may_refuse self.old.queue) }
+        ensures large { IsAtEnd Q.refuses self.old.queue → IsErr result }
+        ensures keeps { Q.keeps self.old.queue.set self.new.queue.set }
+        ensures more { self.old.queue.room ≤ self.new.queue.room }
+        ensures numbered { IsNumbered Q.with_number Q.count self.new }
+    {
+        if !self.reserve_entry() {
+            return Err(future);
+        }
+        let number = self.outgoing.wrapping_sub(1);
+        match self.set.push_numbered(Numbered { future, number }) {
+            Ok(()) => {
+                self.outgoing = number;
+                self.entries.push_front_reserved(Entry::Running(number));
+                Ok(())
+            }
+            Err(back) => Err(back.future),
+        }
+    }
+
+    #[tactic(auto, using(crate::proofs::OrderedEntriesLemmas::adds_one_more))]
+    /// Adds each item at the back, in order, as `add_back` does. The first that is refused comes back; those before it stay, and the iterator is asked for no further one.
+    pub fn extend<I: IntoIterator<Item = Q::Future>>(&mut self, iter: I) -> Result<(), Q::Future>
+    where
+        requires finite { IsFiniteIterable I.into_iter_gives I.IntoIter.can_next
+            I.IntoIter.remaining iter }
+        requires numbered { IsNumbered Q.with_number Q.count self.old }
+        ensures all { OnOk result ((items : List Q.Future)
+            × Draws I.into_iter_gives I.IntoIter.next_gives iter items
+            × AddsEachBack Q.pushes self.old.queue items self.new.queue) }
+        ensures stops { IfErr result (λ back. StopsAt Q.pushes Q.may_refuse I.into_iter_gives
+            I.IntoIter.next_gives iter self.old.queue back self.new.queue) }
+        ensures keeps { Q.keeps self.old.queue.set self.new.queue.set }
+        ensures more { self.old.queue.room ≤ self.new.queue.room }
+        ensures numbered { IsNumbered Q.with_number Q.count self.new }
+    {
+        for item in iter {
+            self.add_back(item)?;
+        }
+        Ok(())
+    }
+
+    // The output of the front, which leaves.
+    fn pop_kept(&mut self) -> Option<A>
+        requires kept { starts_running self.old.queue.entries ≡ false }
+        requires numbered { IsNumbered Q.with_number Q.count self.old }
+        ensures front { MatchOption result
+            ((self.old.queue.entries ≡ []) × (self.new.queue ≡ self.old.queue))
+            (λ x. (self.old.queue.entries ≡ Kept x ∷ self.new.queue.entries)
+            × (self.new.queue.room ≡ self.old.queue.room)) }
+        ensures set { self.new.queue.set ≡ self.old.queue.set }
+        ensures numbered { IsNumbered Q.with_number Q.count self.new }
+    {
+        match self.entries.pop_front() {
+            None => None,
+            Some(Entry::Kept(output)) => {
+                self.outgoing = self.outgoing.wrapping_add(1);
+                Some(output)
+            }
+            Some(Entry::Running(_)) => unreachable!(),
+        }
+    }
+
+    // One poll of the set. Its output goes into the entry that has its number.
+    fn keep_next<R>(&mut self, rule: &R, cx: &mut Context<'_>) -> Poll<()>
+    where
+        Q: PollNumberedSet<R, Output = A>,
+        requires can { Q.can_poll self.old.queue.set }
+        requires runs { starts_running self.old.queue.entries ≡ true }
+        requires numbered { IsNumbered Q.with_number Q.count self.old }
+        ensures gave { IfReady result (λ _. (out : ℕ × A)
+            × SetYields Q.gives self.old.queue out self.new.queue) }
+        ensures waits { OnPending result
+            (LastStep Q.gives self.old.queue Poll.Pending self.new.queue) }
+        ensures fewer { IfReady result (λ _.
+            Q.count self.new.queue.set + 1 ≡ Q.count self.old.queue.set) }
+        ensures holds { OnPending result (0 < Q.count self.new.queue.set) }
+        ensures pollable { Q.can_poll self.new.queue.set }
+        ensures keeps { Q.keeps self.old.queue.set self.new.queue.set }
+        ensures same_room { self.new.queue.room ≡ self.old.queue.room }
+        ensures pends { OnPending result (Q.pends cx.new self.new.queue.set) }
+        ensures kept { Keeps cx.old cx.new }
+        ensures numbered { IsNumbered Q.with_number Q.count self.new }
+    {
+        match self.set.poll_numbered(rule, cx) {
+            Poll::Pending => Poll::Pending,
+            Poll::Ready(None) => unreachable!(),
+            Poll::Ready(Some((number, output))) => {
+                let place = number.wrapping_sub(self.outgoing);
+                self.entries[place] = Entry::Kept(output);
+                Poll::Ready(())
+            }
+        }
+    }
+
+    /// One poll of the queue, where `rule` says how one held future is polled.
+    ///
+    /// `Ready(None)` where there is no entry. A front whose output is kept leaves with it, and the set is not asked. Else the set is polled again and again: each output that it gives is kept in its entry, until the front's has come and is yielded, or the set answers `Pending`. Takes no memory. Takes the time of the set's polls, of which there is at most one more than outputs came.
+    pub fn poll_entries<R>(&mut self, rule: &R, cx: &mut Context<'_>) -> Poll<Option<A>>
+    where
+        Q: PollNumberedSet<R, Output = A>,
+        requires can { Q.can_poll self.old.queue.set }
+        requires numbered { IsNumbered Q.with_number Q.count self.old }
+        ensures polled { OrderedGives Q.gives Q.count self.old.queue result self.new.queue }
+        ensures pollable { Q.can_poll self.new.queue.set }
+        ensures keeps { Q.keeps self.old.queue.set self.new.queue.set }
+        ensures same_room { self.new.queue.room ≡ self.old.queue.room }
+        ensures holds { OnPending result (0 < Q.count self.new.queue.set) }
+        ensures pends { OnPending result (Q.pends cx.new self.new.queue.set) }
+        ensures untouched { starts_running self.old.queue.entries ≡ false → cx.new ≡ cx.old }
+        ensures kept { Keeps cx.old cx.new }
+        ensures numbered { IsNumbered Q.with_number Q.count self.new }
+    {
+        while self.front_runs() {
+            match self.keep_next(rule, cx) {
+                Poll::Ready(()) => {}
+                Poll::Pending => return Poll::Pending,
+            }
+        }
+        Poll::Ready(self.pop_kept())
+    }
+}

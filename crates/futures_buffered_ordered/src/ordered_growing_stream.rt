@@ -1,0 +1,88 @@
+//! The ordered queue that grows as a stream, which says how much is left and whether it has ended.
+ghost use Rattle.std.specs.Prelude.{◌≡◌, [], false, length, OnSome, IfSome};
+ghost use Rattle.futures.specs.Task.{Covers, Keeps};
+ghost use Rattle.futures.specs.Runs.{After, Within};
+ghost use Rattle.futures.specs.Poll.{IfReady, OnPending};
+ghost use Rattle.futures_buffered_unordered.specs.SlotGroups.{AnyNeeds};
+ghost use Rattle.futures_buffered_ordered.specs.OrderedEntries.{ComesInOrder, OrderedGives, starts_running};
+ghost use Rattle.futures_buffered_ordered.specs.FuturesOrdered.{EachInProgress, GroupsGiveNumbered, GrowingMayGive, held_in_groups};
+
+use crate::futures_ordered::GrowingQueue;
+use futures::Stream;
+use futures::task::{Context, Poll};
+use futures_buffered_core::ready_source::NewSource;
+use futures_buffered_unordered_bounded::fused::{FusedStream, SizeHint};
+use futures_buffered_unordered_bounded::poll_one::PollFuture;
+use futures_buffered_unordered_bounded::slot_future::SlotFuture;
+use std::fmt;
+
+impl<T, A, S> Stream for GrowingQueue<T, A, S>
+where
+    T: SlotFuture<S::Waker, Output = A>,
+    A: Drop,
+    S: NewSource,
+{
+    type Item = A;
+
+    ghost can_poll = { λ q. EachInProgress T.can_poll q.set };
+
+    ghost needs = { λ q. AnyNeeds S.needs q.set.groups.listed };
+
+    ghost yields = { ComesInOrder (GrowingMayGive T.polled) };
+
+    /// One poll, as `poll_with` by the rule that polls the future itself.
+    fn poll_next(&mut self, cx: &mut Context<'_>) -> Poll<Option<A>>
+        requires { EachInProgress T.can_poll self.old.set }
+        ensures polled { OrderedGives (GroupsGiveNumbered T.polled S.steps) held_in_groups
+            self.old result self.new }
+        ensures value { IfReady result (ComesInOrder (GrowingMayGive T.polled) self.old []) }
+        ensures rest { IfReady result (λ o. IfSome o (λ x.
+            After (ComesInOrder (GrowingMayGive T.polled) self.old) x
+            (ComesInOrder (GrowingMayGive T.polled) self.new))) }
+        ensures same { OnPending result
+            (Within (ComesInOrder (GrowingMayGive T.polled) self.old)
+            (ComesInOrder (GrowingMayGive T.polled) self.new)) }
+        ensures limit { self.new.set.limit ≡ self.old.set.limit }
+        ensures room { self.new.room ≡ self.old.room }
+        ensures goes { IfReady result (λ o. OnSome o (EachInProgress T.can_poll self.new.set)) }
+        ensures again { OnPending result (EachInProgress T.can_poll self.new.set) }
+        ensures registered { OnPending result
+            (Covers cx.new (AnyNeeds S.needs self.new.set.groups.listed)) }
+        ensures untouched { starts_running self.old.entries ≡ false → cx.new ≡ cx.old }
+        ensures kept { Keeps cx.old cx.new }
+    {
+        self.poll_with(&PollFuture, cx)
+    }
+}
+
+impl<T, A, S> FusedStream for GrowingQueue<T, A, S>
+where
+    T: SlotFuture<S::Waker, Output = A>,
+    A: Drop,
+    S: NewSource,
+{
+    ghost use Rattle.std.specs.Prelude.{◌≡◌};
+
+    ghost is_over = { λ q. length q.entries ≡ 0 };
+
+    fn is_terminated(&self) -> bool {
+        self.is_empty()
+    }
+}
+
+impl<T: Drop, A: Drop, S: NewSource> SizeHint for GrowingQueue<T, A, S> {
+    ghost use Rattle.std.specs.Prelude.{Some};
+
+    ghost items_left = { λ q. (length q.entries, Some (length q.entries)) };
+
+    fn size_hint(&self) -> (usize, Option<usize>) {
+        (self.len(), Some(self.len()))
+    }
+}
+
+/// Prints the name alone.
+impl<T: Drop, A: Drop, S: NewSource> fmt::Debug for GrowingQueue<T, A, S> {
+    fn fmt<W: fmt::Write>(&self, f: &mut fmt::Formatter<W>) -> fmt::Result {
+        f.write_str("FuturesOrdered { ... }")
+    }
+}

@@ -1,3 +1,0 @@
-pub mod NumbersLemmas
-pub mod OrderLemmas
-pub mod YieldsLemmas

@@ -1,0 +1,6 @@
+mod drops;
+mod kept_outputs;
+mod limits;
+mod refusals;
+mod rows;
+mod wakes;

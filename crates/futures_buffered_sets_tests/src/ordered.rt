@@ -1,7 +1,0 @@
-mod drops;
-mod kept_outputs;
-mod limits;
-mod refusals;
-mod rows;
-mod timed_queue;
-mod wakes;

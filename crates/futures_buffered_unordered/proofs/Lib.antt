@@ -1,0 +1,4 @@
+pub mod SlotGroupsInvariantLemmas
+pub mod SlotGroupsLemmas
+pub mod SlotGroupsPollLemmas
+pub mod FuturesUnorderedLemmas

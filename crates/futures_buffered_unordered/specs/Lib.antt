@@ -1,0 +1,3 @@
+pub mod SlotGroups
+pub mod SlotGroupsInvariant
+pub mod FuturesUnordered

@@ -1,0 +1,177 @@
+-- What a poll of a bounded set has asked so far, and what it makes of what the set holds and may give.
+use Rattle.std.proofs.Common.{◌≡◌, ◌⊎◌, ℕ, ◌+◌, ◌<◌, MatchOption, List, [], ◌∷◌, ◌++◌, map, length, Option, Some, None, IfSome, OnSome, is_some, cond, refl, sym, ap, subst, inl, inr, arith, append-nil, ◌∙◌}
+use Rattle.std.specs.List.{FoldsTo}
+use Rattle.std.proofs.lemmas.Fn.{FoldsTo-push}
+use Rattle.std.proofs.lemmas.Bool.{cases_lt}
+use Rattle.std.proofs.lemmas.List.{get_or_past, length_push, map_push}
+use Rattle.std.proofs.lemmas.List.Sums.{sum_by-set}
+use Rattle.futures.specs.declared.task.Poll.{Poll}
+use Rattle.futures.specs.declared.task.Poll.TheVariants.{Ready, Pending}
+use Rattle.futures.specs.Poll.{IfReady, OnPending}
+use Rattle.futures.specs.Runs.{After, Within}
+use Rattle.futures_buffered_core.specs.SlotMap.{Slots, value_in, held_count, with_value, with_slot_freed}
+use Rattle.futures_buffered_table.specs.declared.answer.Taken.{Taken}
+use Rattle.futures_buffered_table.specs.declared.answer.Taken.TheVariants.{Slot, Empty, Pause}
+use Rattle.futures_buffered_core.specs.ReadySource.{SourceSteps}
+use Rattle.futures_buffered_unordered_bounded.specs.Held.{AllHeld, AnyMayGive, ComesFrom, Passes, Yields}
+use Rattle.futures_buffered_unordered_bounded.specs.Groups.{outputs_in}
+use Rattle.futures_buffered_unordered_bounded.specs.FuturesUnorderedBounded.{Bounded, Asks, AsksUntil, EndsWaiting, PollGives, held_in, with_source}
+use Rattle.futures_buffered_unordered_bounded.proofs.HeldLemmas.{AllHeld-with, count-with, passes_free, passes_pending, value_in-with_value}
+use Rattle.futures_buffered_unordered_bounded.proofs.HeldGivesLemmas.{Gathers-Within, Gathers-After, gives_passed, gives_output, gives_others}
+
+module _ {F A S : Type 0} (can_poll : F → Type 0) (polled : ℕ → F → Poll A → F → Type 0) (steps : SourceSteps S) where
+  -- so many names came, and each value that was polled is pending
+  pub record SoFar (old : Bounded F S) (count : ℕ) (slots : Slots F) (source : S) : Type 0 where
+    pub names : List ℕ
+    pub counted : length names ≡ count
+    pub answers : FoldsTo steps.takes old.source (map Slot names) source
+    pub passes : FoldsTo (Passes polled) old.slots names slots
+    pub pollable : AllHeld can_poll slots
+
+  pub SoFar-none : (old : Bounded F S) → AllHeld can_poll old.slots → SoFar old 0 old.slots old.source
+  SoFar-none old all = record { names = []; counted = refl; answers = refl; passes = refl; pollable = all }
+
+  pub SoFar-skip : (old : Bounded F S) (count i : ℕ) (slots : Slots F) (source left : S) → SoFar old count slots source → steps.takes source (Slot i) left → value_in slots i ≡ None → SoFar old (count + 1) slots left
+  SoFar-skip old count i slots source left so taken e =
+      record {
+        names = so.names ++ i ∷ [];
+        counted = omega (arith, length_push so.names i, so.counted);
+        answers = rw (map_push Slot so.names i) (FoldsTo-push steps.takes old.source (map Slot so.names) source (Slot i) left so.answers taken);
+        passes = FoldsTo-push (Passes polled) old.slots so.names slots i slots so.passes (passes_free polled slots i e);
+        pollable = so.pollable;
+      }
+
+  pub SoFar-pending : (old : Bounded F S) (count i : ℕ) (slots : Slots F) (source left : S) (f f2 : F) → SoFar old count slots source → steps.takes source (Slot i) left → value_in slots i ≡ Some f → polled i f Pending f2 → can_poll f2 → SoFar old (count + 1) (with_value slots i f2) left
+  SoFar-pending old count i slots source left f f2 so taken e h again =
+      record {
+        names = so.names ++ i ∷ [];
+        counted = omega (arith, length_push so.names i, so.counted);
+        answers = rw (map_push Slot so.names i) (FoldsTo-push steps.takes old.source (map Slot so.names) source (Slot i) left so.answers taken);
+        passes = FoldsTo-push (Passes polled) old.slots so.names slots i (with_value slots i f2) so.passes (passes_pending polled slots i f f2 e h);
+        pollable = AllHeld-with can_poll slots i f2 so.pollable again;
+      }
+
+  module _ (old : Bounded F S) (before : S) (first : steps.registers before old.source) where
+    -- one more answer
+    asked : (count : ℕ) (last : Taken) (slots : Slots F) (source left : S) (so : SoFar old count slots source) → steps.takes source last left → Asks polled steps (with_source old before) so.names (Some last) slots left
+    asked count last slots source left so taken =
+        record {
+          registered = old.source;
+          registers_first = first;
+          answers = FoldsTo-push steps.takes old.source (map Slot so.names) source last left so.answers taken;
+          passes = so.passes;
+        }
+
+    pub ready_after : (count limit i : ℕ) (slots : Slots F) (source left : S) (f f2 : F) (x : A) → SoFar old count slots source → limit ≡ old.limit → count < old.limit → steps.takes source (Slot i) left → value_in slots i ≡ Some f → polled i f (Ready x) f2
+        → AsksUntil polled steps (with_source old before) (Ready (i, x)) (record { slots = with_value slots i f2; source = left; limit = limit })
+    ready_after count limit i slots source left f f2 x so same below taken e h = (
+      so.names,
+      omega (arith, so.counted),
+      slots,
+      asked count (Slot i) slots source left so taken,
+      record { value = f; held = e; left = f2; gave = h; now_holds = refl },
+      same,
+    )
+
+    pub ended_after : (count limit : ℕ) (slots : Slots F) (source left : S) (last : Taken) → SoFar old count slots source → limit ≡ old.limit → count < old.limit → steps.takes source last left → (last ≡ Empty) ⊎ (last ≡ Pause)
+        → AsksUntil polled steps (with_source old before) Pending (record { slots = slots; source = left; limit = limit })
+    ended_after count limit slots source left last so same below taken which =
+        (so.names, Some last, ending which, asked count last slots source left so taken, same)
+      where
+        ending : (last ≡ Empty) ⊎ (last ≡ Pause) → EndsWaiting old.limit so.names (Some last)
+        ending (inl e) = rw e (omega (arith, so.counted))
+        ending (inr e) = rw e (omega (arith, so.counted))
+
+    pub limit_after : (count limit : ℕ) (slots : Slots F) (source : S) → SoFar old count slots source → limit ≡ old.limit → count ≡ old.limit
+        → AsksUntil polled steps (with_source old before) Pending (record { slots = slots; source = source; limit = limit })
+    limit_after count limit slots source so same all = (
+      so.names,
+      None,
+      omega (arith, so.counted, all),
+      record {
+        registered = old.source;
+        registers_first = first;
+        answers = subst (λ (given : List Taken). FoldsTo steps.takes old.source given source) (sym (append-nil (map Slot so.names))) so.answers;
+        passes = so.passes;
+      },
+      same,
+    )
+
+module _ {F A S : Type 0} (polled : ℕ → F → Poll A → F → Type 0) where
+  -- one poll
+  pub value_of : (steps : SourceSteps S) (old new : Bounded F S) (answer : Poll (Option A)) → PollGives polled steps old answer new → IfReady answer (ComesFrom polled old.slots [])
+  value_of steps old new (Ready None) h = record { each = tt; ends = sym h.0 }
+  value_of steps old new (Ready (Some x)) h =
+      let asks = h.1.2 in
+      record { each = tt; ends = (gives_passed polled asks.0 _ _ x asks.3.passes (gives_output polled _ _ _ x asks.4), h.0) }
+  value_of steps old new Pending h = tt
+
+  pub rest_of : (steps : SourceSteps S) (old new : Bounded F S) (answer : Poll (Option A)) → PollGives polled steps old answer new
+      → IfReady answer (λ o. OnSome o (held_count new.slots + 1 ≡ held_count old.slots)) → IfReady answer (λ o. IfSome o (λ x. After (ComesFrom polled old.slots) x (ComesFrom polled new.slots)))
+  rest_of steps old new (Ready None) h fewer = tt
+  rest_of steps old new (Ready (Some x)) h fewer =
+      let asks = h.1.2 in
+      let passed = λ (y : A). gives_passed polled asks.0 old.slots asks.2 y asks.3.passes in
+      Gathers-After {A = A} {P = AnyMayGive polled old.slots} {Q = AnyMayGive polled new.slots} (λ (y : A) (any : AnyMayGive polled new.slots y). passed y (gives_others polled _ _ _ x y asks.4 (subst (λ (b : Bounded F S). AnyMayGive polled b.slots y) h.1.3 any))) _ _ x fewer (passed x (gives_output polled _ _ _ x asks.4))
+  rest_of steps old new Pending h fewer = tt
+
+  pub same_of : (steps : SourceSteps S) (old new : Bounded F S) (answer : Poll (Option A)) → PollGives polled steps old answer new
+      → OnPending answer (held_count new.slots ≡ held_count old.slots) → OnPending answer (Within (ComesFrom polled old.slots) (ComesFrom polled new.slots))
+  same_of steps old new (Ready o) h same = tt
+  same_of steps old new Pending h same =
+      let asks = h.1 in
+      Gathers-Within {A = A} {P = AnyMayGive polled old.slots} {Q = AnyMayGive polled new.slots} (λ (y : A) (any : AnyMayGive polled new.slots y). gives_passed polled asks.0 _ _ y asks.3.passes any) _ _ same
+
+-- one value fewer, once a slot that held one is free
+count-freed : {F : Type 0} (m : Slots F) (i : ℕ) (f : F) → Some f ≡ value_in m i → held_count (with_slot_freed m i) + 1 ≡ held_count m
+count-freed {F} m i f found =
+    let within : i < length m.places = elim (cases_lt i (length m.places)) [
+      | inl below ↦ below
+      | inr past ↦ let none : value_in m i ≡ None = get_or_past m.places i None past in cc
+    ] in
+    omega (arith, rw (← found) at (sum_by-set (λ (o : Option F). cond (is_some o) 1 0) m.places i None None within))
+
+-- names without an output leave as many values as before
+pub passed_held : {F A : Type 0} (polled : ℕ → F → Poll A → F → Type 0) (names : List ℕ) (m new : Slots F) → FoldsTo (Passes polled) m names new → held_count new ≡ held_count m
+passed_held polled [] m new h = ap held_count (sym h)
+passed_held {F} polled (i ∷ names) m new h = passed_held polled names h.0 new h.2 ∙ by_value (value_in m i) refl h.1
+  where
+    by_value : (o : Option F) → value_in m i ≡ o → MatchOption o (h.0 ≡ m) (λ f. (left : F) × polled i f Pending left × (h.0 ≡ with_value m i left)) → held_count h.0 ≡ held_count m
+    by_value None e p = ap held_count p
+    by_value (Some f) e p = ap held_count p.2 ∙ count-with m i f p.0 (sym e)
+
+module _ {F A S : Type 0} (polled : ℕ → F → Poll A → F → Type 0) (steps : SourceSteps S) where
+  -- a poll of a group leaves as many values as before, but for that of the output
+  pub poll_counted : (old new : Bounded F S) (answer : Poll (Option A)) → PollGives polled steps old answer new → held_in new + outputs_in answer ≡ held_in old
+  poll_counted old new (Ready None) h = omega (arith, ap (λ (b : Bounded F S). held_in b) h.1)
+  poll_counted old new (Ready (Some x)) h =
+      let i = h.1.0 in
+      let left = h.1.1 in
+      let asks = h.1.2 in
+      let gave = asks.4 in
+      let held : value_in left.slots i ≡ Some gave.left = rw gave.now_holds (value_in-with_value asks.2 i gave.value gave.left (sym gave.held)) in
+      let same : held_count left.slots ≡ held_count asks.2 = ap held_count gave.now_holds ∙ count-with asks.2 i gave.value gave.left (sym gave.held) in
+      omega (arith, ap (λ (b : Bounded F S). held_in b) h.1.3, count-freed left.slots i gave.left (sym held), same, passed_held polled asks.0 old.slots asks.2 asks.3.passes)
+  poll_counted old new Pending h = let asks = h.1 in omega (arith, passed_held polled asks.0 old.slots new.slots asks.3.passes)
+
+  pub poll_pending_holds : (old new : Bounded F S) → PollGives polled steps old Pending new → 0 < held_in new
+  poll_pending_holds old new h = omega (arith, h.0, poll_counted old new Pending h)
+
+  pub poll_end_is_empty : (old new : Bounded F S) → PollGives polled steps old (Ready None) new → held_in new ≡ 0
+  poll_end_is_empty old new h = ap (λ (b : Bounded F S). held_in b) h.1 ∙ h.0
+
+  -- an output is one that the set might give
+  pub poll_gave : (x : A) (group left : Bounded F S) → PollGives polled steps group (Ready (Some x)) left → AnyMayGive polled group.slots x
+  poll_gave x group left h =
+      let asks = h.1.2 in
+      gives_passed polled asks.0 group.slots asks.2 x asks.3.passes (gives_output polled _ _ _ x asks.4)
+
+  -- what a set may give after a poll it might give before
+  pub poll_still : (y : A) (group left : Bounded F S) (answer : Poll (Option A)) → PollGives polled steps group answer left → AnyMayGive polled left.slots y → AnyMayGive polled group.slots y
+  poll_still y group left (Ready None) h any = subst (λ (b : Bounded F S). AnyMayGive polled b.slots y) h.1 any
+  poll_still y group left (Ready (Some x)) h any =
+      let asks = h.1.2 in
+      gives_passed polled asks.0 group.slots asks.2 y asks.3.passes (gives_others polled _ _ _ x y asks.4 (subst (λ (b : Bounded F S). AnyMayGive polled b.slots y) h.1.3 any))
+  poll_still y group left Pending h any =
+      let asks = h.1 in
+      gives_passed polled asks.0 _ _ y asks.3.passes any
