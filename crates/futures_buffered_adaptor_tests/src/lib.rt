@@ -13,6 +13,8 @@ mod polling;
 #[cfg(test)]
 mod ready_at_once;
 #[cfg(test)]
+mod same;
+#[cfg(test)]
 mod steps;
 #[cfg(test)]
 mod tests;

@@ -1,4 +1,5 @@
 // Futures and streams that contain a closure, in each join and merge.
+use crate::same::assert_same;
 use futures::task::Poll;
 use futures::test::MockTask;
 use futures_buffered_core::ready_shared::SharedReady;
@@ -7,7 +8,6 @@ use futures_buffered_sets::merge_bounded::MergeBounded;
 use futures_buffered_sets::merge_unbounded::MergeUnbounded;
 use futures_buffered_sets::try_join_all::try_join_all;
 use std::test::Fail;
-use test_parts::assert_same::assert_same;
 use test_parts::called::Called;
 use test_parts::polling::{poll_growing_merge, poll_join, poll_merge, poll_try_join};
 

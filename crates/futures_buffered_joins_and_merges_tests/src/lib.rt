@@ -8,3 +8,5 @@ mod closures;
 mod joins;
 #[cfg(test)]
 mod merges;
+#[cfg(test)]
+mod same;

@@ -1,11 +1,11 @@
 // Futures that contain a closure, in each queue.
+use crate::same::assert_same;
 use futures::task::Poll;
 use futures::test::MockTask;
 use futures_buffered_core::ready_shared::SharedReady;
 use futures_buffered_sets::futures_ordered::FuturesOrdered;
 use futures_buffered_sets::futures_ordered_bounded::FuturesOrderedBounded;
 use std::test::Fail;
-use test_parts::assert_same::assert_same;
 use test_parts::called::Called;
 use test_parts::polling::{poll_growing_queue, poll_queue};
 

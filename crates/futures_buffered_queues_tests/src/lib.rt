@@ -8,3 +8,5 @@ mod closures;
 mod ordered;
 #[cfg(test)]
 mod ordered_growing;
+#[cfg(test)]
+mod same;

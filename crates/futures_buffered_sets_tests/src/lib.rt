@@ -8,3 +8,5 @@ mod bounded;
 mod closures;
 #[cfg(test)]
 mod growing;
+#[cfg(test)]
+mod same;

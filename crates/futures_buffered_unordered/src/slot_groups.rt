@@ -240,7 +240,7 @@ impl<F: Drop, S: NewSource> SlotGroups<F, S> {
         self.held += 1;
     }
 
-    /// Why a push that was refused just now was refused: `TooLarge` where nothing more goes in, and else `Memory`.
+    /// Why a push that was refused just now was refused: `TooLarge` where nothing more goes in, and else `Memory`. It is public for what stands on groups.
     ///
     /// Takes the same time at any number of groups.
     pub fn refusal(&self) -> NewFault

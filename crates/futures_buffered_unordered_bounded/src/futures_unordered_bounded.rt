@@ -11,7 +11,7 @@ ghost use Rattle.futures_buffered_core.specs.ReadyShared.{IsNewShared, MarksShar
 ghost use Rattle.futures_buffered_core.specs.ReadySource.{WaitsAlike};
 ghost use Rattle.futures_buffered_core.specs.SlotMap.{value_in, held_count, slot_count, no_slots, IsFull};
 ghost use Rattle.futures_buffered_unordered_bounded.specs.Held.{AllHeld, AllHeldBut, EndsWith};
-ghost use Rattle.futures_buffered_unordered_bounded.specs.FuturesUnorderedBounded.{HoldsEach, Pushes, PushesAt, AsksUntil, PollGives, SaidEmpty, IsWoken, with_empty_slot, with_source};
+ghost use Rattle.futures_buffered_unordered_bounded.specs.FuturesUnorderedBounded.{HoldsEach, Pushes, AsksUntil, PollGives, SaidEmpty, IsWoken, with_empty_slot, with_source};
 
 use crate::poll_one::PollOne;
 use futures::task::{Context, Poll};
@@ -100,7 +100,7 @@ impl<F: Drop, S: ReadySource> FuturesUnorderedBounded<F, S> {
         Self::with_source_limit(alloc, source, limit)
     }
 
-    /// An empty set of `cap` slots beside this one, with the same limit: a task that registers with either set is woken by the futures of both.
+    /// An empty set of `cap` slots beside this one, with the same limit: a task that registers with either set is woken by the futures of both. It is public for sets that grow.
     ///
     /// Takes time and memory, and refuses, as `with_new_source` does. This set stays as it is.
     pub fn new_beside(&mut self, alloc: Global, cap: usize) -> Result<Self, NewFault>
@@ -214,21 +214,9 @@ impl<F: Drop, S: ReadySource> FuturesUnorderedBounded<F, S> {
             × IsFull self.old.slots) }
         ensures capacity { slot_count self.new.slots ≡ slot_count self.old.slots }
     {
-        let _i = self.try_push_at(value)?;
-        Ok(())
-    }
-
-    /// As `try_push`, and answers the slot.
-    pub fn try_push_at(&mut self, value: F) -> Result<usize, F>
-        ensures ok { IfOk result (λ i. PushesAt S.marks self.old i value self.new) }
-        ensures count { OnOk result (held_count self.new.slots ≡ held_count self.old.slots + 1) }
-        ensures full { IfErr result (λ back. (back ≡ value) × (self.new ≡ self.old)
-            × IsFull self.old.slots) }
-        ensures capacity { slot_count self.new.slots ≡ slot_count self.old.slots }
-    {
         let i = self.slots.insert_with(value, |value| value)?;
         let _woke = self.source.mark(i);
-        Ok(i)
+        Ok(())
     }
 
     /// As `try_push`, for a set that is not full: `len` is below `capacity`.
@@ -240,19 +228,6 @@ impl<F: Drop, S: ReadySource> FuturesUnorderedBounded<F, S> {
     {
         match self.try_push(value) {
             Ok(()) => {}
-            Err(_) => unreachable!(),
-        }
-    }
-
-    /// As `push`, and answers the slot.
-    pub fn push_at(&mut self, value: F) -> usize
-        requires { held_count self.old.slots < slot_count self.old.slots }
-        ensures pushed { PushesAt S.marks self.old result value self.new }
-        ensures count { held_count self.new.slots ≡ held_count self.old.slots + 1 }
-        ensures capacity { slot_count self.new.slots ≡ slot_count self.old.slots }
-    {
-        match self.try_push_at(value) {
-            Ok(i) => i,
             Err(_) => unreachable!(),
         }
     }
@@ -389,7 +364,7 @@ impl<F: Drop, S: ReadySource> FuturesUnorderedBounded<F, S> {
         }
     }
 
-    /// As `poll_with`, for a task that is registered already, with this set or with one beside it. Registers nothing.
+    /// As `poll_with`, for a task that is registered already, with this set or with one beside it. Registers nothing. It is public for sets that grow.
     pub fn poll_covered<R: PollOne<F, S::Waker>>(
         &mut self,
         rule: &R,

@@ -8,7 +8,6 @@ use futures::test::MockTask;
 use futures_buffered_core::ready_core::Woke;
 use futures_buffered_sets::fused::{FusedStream, SizeHint};
 use std::alloc::AllocGlobal;
-use std::process::Abort;
 use std::random::RandomSource;
 use std::sync::Wait;
 use std::test::Fail;
@@ -203,32 +202,54 @@ fn answer_of<T: Tried>(task: &MockTask, tried: &mut T, call: Call) -> Answer {
     }
 }
 
-// The row's calls in order, each with its answer.
-pub fn try_calls<R: Abort, T: Tried>(
-    rt: &R,
+// The first call of a row that was answered otherwise.
+#[derive(Clone, Copy, Debug)]
+struct Difference {
+    call: Call,
+    gave: Answer,
+    want: Answer,
+}
+
+fn first_difference<T: Tried>(
     task: &MockTask,
     tried: &mut T,
     row: &[(Call, Answer)],
-) {
+) -> Result<(), Difference> {
     for (call, want) in row {
-        assert_eq!(rt; answer_of(task, tried, *call), *want, "at {call:?}");
+        let gave = answer_of(task, tried, *call);
+        if gave != *want {
+            return Err(Difference {
+                call: *call,
+                gave,
+                want: *want,
+            });
+        }
     }
+    Ok(())
+}
+
+// The row's calls in order, each with its answer. It stops at the first other answer, and the failure says which.
+pub fn try_calls<T: Tried>(
+    task: &MockTask,
+    tried: &mut T,
+    row: &[(Call, Answer)],
+) -> Result<(), Fail> {
+    Ok(first_difference(task, tried, row)?)
 }
 
 // The same in a new task.
 pub fn try_on<R, T: Tried>(rt: &R, tried: &mut T, row: &[(Call, Answer)]) -> Result<(), Fail>
 where
-    R: Abort + RandomSource + AllocGlobal,
+    R: RandomSource + AllocGlobal,
 {
     let task = MockTask::new(rt)?;
-    try_calls(rt, &task, tried, row);
-    Ok(())
+    try_calls(&task, tried, row)
 }
 
 // The same, where nothing is left to try afterwards.
 pub fn try_row<R, T: Tried>(rt: &R, tried: T, row: &[(Call, Answer)]) -> Result<(), Fail>
 where
-    R: Abort + RandomSource + AllocGlobal,
+    R: RandomSource + AllocGlobal,
 {
     let mut tried = tried;
     try_on(rt, &mut tried, row)

@@ -2,7 +2,6 @@
 //! Only crates of tests stand on this one.
 #![tactic(auto)]
 
-pub mod assert_same;
 pub mod attempt;
 pub mod called;
 pub mod calls;

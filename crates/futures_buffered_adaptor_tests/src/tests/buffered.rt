@@ -4,6 +4,7 @@ ghost use Rattle.std.specs.Prelude.{◌<◌};
 use crate::list_stream::ListStream;
 use crate::paused_end::PausedEnd;
 use crate::polling::poll_buffer;
+use crate::same::assert_same;
 use crate::steps::{Answer, Call, Polled, answered, said, try_made};
 use crate::unbounded_hint::UnboundedHint;
 use futures::test::MockTask;
@@ -15,7 +16,6 @@ use std::process::Abort;
 use std::random::RandomSource;
 use std::sync::Wait;
 use std::test::Fail;
-use test_parts::assert_same::assert_same;
 use test_parts::cells::{Cells, new_cells, sent};
 use test_parts::receiver::{Receiver, one_shot};
 

@@ -1,5 +1,6 @@
 // Streams that contain a closure, under each adaptor.
 use crate::ready_at_once::ReadyAtOnce;
+use crate::same::assert_same;
 use futures::executor::block_on;
 use futures::task::Poll;
 use futures::{StreamExt, stream};
@@ -8,7 +9,6 @@ use std::sync::Arc;
 use std::sync::atomic::AtomicU64;
 use std::sync::atomic::Ordering::SeqCst;
 use std::test::Fail;
-use test_parts::assert_same::assert_same;
 
 // Gives the double of its number at its first poll.
 #[derive(Drop)]

@@ -1,5 +1,6 @@
 // Adaptors under `block_on`, whose futures another thread wakes.
 use crate::list_stream::ListStream;
+use crate::same::assert_same;
 use futures::StreamExt;
 use futures::executor::block_on;
 use futures_buffered::BufferedStreamExt;
@@ -8,7 +9,6 @@ use std::sync::atomic::Ordering::SeqCst;
 use std::sync::{Arc, Wait};
 use std::test::Fail;
 use std::thread;
-use test_parts::assert_same::assert_same;
 use test_parts::cells::{Cells, new_cells};
 use test_parts::receiver::{Receiver, Sender};
 

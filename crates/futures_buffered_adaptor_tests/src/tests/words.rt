@@ -3,9 +3,9 @@ ghost use Rattle.std.specs.Prelude.{◌≡◌, ◌+◌, ◌≤◌};
 ghost use Rattle.futures_buffered.specs.FuturesUnorderedBounded.{held_in, slots_in};
 
 use crate::ready_at_once::ReadyAtOnce;
+use crate::same::assert_same;
 use futures_buffered::{FuturesUnorderedBounded, SharedReady};
 use std::test::Fail;
-use test_parts::assert_same::assert_same;
 
 fn push_four(set: &mut FuturesUnorderedBounded<ReadyAtOnce, SharedReady>)
     requires { held_in set.old + 4 ≤ slots_in set.old }

@@ -1,4 +1,5 @@
 // What is dropped, and how often: futures, and the outputs that have come.
+use crate::same::assert_same;
 use futures::task::Poll;
 use futures::test::MockTask;
 use futures_buffered_core::ready_shared::SharedReady;
@@ -9,7 +10,6 @@ use std::sync::Arc;
 use std::sync::atomic::AtomicU64;
 use std::sync::atomic::Ordering::SeqCst;
 use std::test::Fail;
-use test_parts::assert_same::assert_same;
 use test_parts::dropped::Dropped;
 use test_parts::holder::Holder;
 use test_parts::keep::keep;

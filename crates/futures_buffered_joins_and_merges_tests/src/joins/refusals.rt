@@ -1,11 +1,11 @@
 // Which constructors are refused, and what is dropped then.
+use crate::same::assert_same;
 use futures_buffered_core::ready_core::{MAX_CAPACITY, NewFault};
 use futures_buffered_sets::{JoinAll, TryJoinAll};
 use std::alloc::{AllocError, Global};
 use std::sync::Arc;
 use std::sync::atomic::Ordering::SeqCst;
 use std::test::Fail;
-use test_parts::assert_same::assert_same;
 use test_parts::counter::{Counter, new_counter};
 use test_parts::dropped::Dropped;
 use test_parts::holder::Holder;

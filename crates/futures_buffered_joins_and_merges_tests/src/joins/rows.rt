@@ -1,5 +1,6 @@
 // What joins of few and of many futures are ready with, at the end and after it.
 use crate::joins::steps::{Answer, Call, Joined, of_outputs, of_result, try_row};
+use crate::same::assert_same;
 use futures::task::Poll;
 use futures::test::MockTask;
 use futures_buffered_core::ready_core::NewFault;
@@ -14,7 +15,6 @@ use std::random::RandomSource;
 use std::sync::atomic::Ordering::SeqCst;
 use std::sync::{Arc, Wait};
 use std::test::Fail;
-use test_parts::assert_same::assert_same;
 use test_parts::attempt::{Attempt, at_once};
 use test_parts::counted::Counted;
 use test_parts::counter::{Counter, new_counter};

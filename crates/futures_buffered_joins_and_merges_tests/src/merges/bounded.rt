@@ -1,5 +1,6 @@
 // Rows of the bounded merge over `CoreSource`s.
 use crate::merges::steps::{Answer, Call, try_row};
+use crate::same::assert_same;
 use futures::task::Poll;
 use futures::test::MockTask;
 use futures_buffered_core::ready_core::NewFault;
@@ -9,7 +10,6 @@ use std::alloc::{AllocError, AllocGlobal, Global};
 use std::process::Abort;
 use std::random::RandomSource;
 use std::test::Fail;
-use test_parts::assert_same::assert_same;
 use test_parts::keep::keep;
 use test_parts::merge_answers::answers;
 use test_parts::stepped::{Stepped, from, same};

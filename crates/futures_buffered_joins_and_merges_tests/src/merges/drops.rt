@@ -1,4 +1,5 @@
 // What is dropped, and how often.
+use crate::same::assert_same;
 use futures::task::Poll;
 use futures::test::MockTask;
 use futures_buffered_core::ready_source::CoreSource;
@@ -8,7 +9,6 @@ use std::process::Abort;
 use std::sync::Arc;
 use std::sync::atomic::Ordering::SeqCst;
 use std::test::Fail;
-use test_parts::assert_same::assert_same;
 use test_parts::counter::{Counter, new_counter};
 use test_parts::dropped_streams::DroppedStream;
 use test_parts::keep::keep;

@@ -1,11 +1,11 @@
 // Which request is refused, and what is then left.
+use crate::same::assert_same;
 use futures_buffered_core::ready_core::NewFault;
 use futures_buffered_sets::merge_bounded::MergeBounded;
 use std::alloc::{AllocError, Global};
 use std::sync::Arc;
 use std::sync::atomic::Ordering::SeqCst;
 use std::test::Fail;
-use test_parts::assert_same::assert_same;
 use test_parts::counter::{Counter, new_counter};
 use test_parts::dropped_streams::DroppedStream;
 use test_parts::keep::keep;

@@ -1,5 +1,6 @@
 // Merges that run while other threads wake their streams.
 use crate::merges::feeds::{Feeds, new_feeds};
+use crate::same::assert_same;
 use futures::StreamExt;
 use futures::executor::block_on;
 use futures_buffered_core::ready_shared::SharedReady;
@@ -8,7 +9,6 @@ use futures_buffered_sets::merge_unbounded::MergeUnbounded;
 use std::sync::Wait;
 use std::test::Fail;
 use std::thread;
-use test_parts::assert_same::assert_same;
 use test_parts::feed::{Fed, Feeder};
 
 // Each stream is given one value and closed.

@@ -1,6 +1,7 @@
 // The merge that grows.
 use crate::merges::pauses::{GrowingPausing, five, late_end};
 use crate::merges::steps::{Answer, Call, try_row};
+use crate::same::assert_same;
 use futures::task::Poll;
 use futures::test::MockTask;
 use futures_buffered_core::ready_core::NewFault;
@@ -11,7 +12,6 @@ use std::alloc::{AllocError, Global};
 use std::sync::atomic::Ordering::SeqCst;
 use std::sync::{Arc, Wait};
 use std::test::Fail;
-use test_parts::assert_same::assert_same;
 use test_parts::counter::{Counter, new_counter};
 use test_parts::dropped_streams::DroppedStream;
 use test_parts::keep::keep;

@@ -1,11 +1,11 @@
 // The limit of a queue is the one that was chosen.
+use crate::same::assert_same;
 use futures_buffered_core::ready_shared::SharedReady;
 use futures_buffered_core::ready_source::CoreSource;
 use futures_buffered_sets::futures_ordered_bounded::FuturesOrderedBounded;
 use futures_buffered_sets::futures_unordered_bounded::POLL_LIMIT;
 use std::alloc::Global;
 use std::test::Fail;
-use test_parts::assert_same::assert_same;
 use test_parts::calls::{Answer, Call, try_row};
 use test_parts::timed::Timed;
 

@@ -1,10 +1,10 @@
 // Which request is refused, and what is then left.
+use crate::same::assert_same;
 use futures_buffered_core::ready_core::{MAX_CAPACITY, NewFault};
 use futures_buffered_core::ready_shared::SharedReady;
 use futures_buffered_sets::futures_ordered_bounded::FuturesOrderedBounded;
 use std::alloc::Global;
 use std::test::Fail;
-use test_parts::assert_same::assert_same;
 use test_parts::counter::Counter;
 use test_parts::rationed::{Rationed, ration};
 use test_parts::timed::Timed;

@@ -1,9 +1,9 @@
 // Rows of calls of a queue over `CoreSource`s, and what each call answers.
+use crate::same::assert_text;
 use futures_buffered_core::ready_source::CoreSource;
 use futures_buffered_sets::futures_ordered::FuturesOrdered;
 use std::alloc::Global;
 use std::test::Fail;
-use test_parts::assert_same::assert_text;
 use test_parts::calls::{Answer, Call, try_on, try_row};
 use test_parts::timed::Timed;
 

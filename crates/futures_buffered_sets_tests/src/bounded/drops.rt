@@ -1,4 +1,5 @@
 // What is dropped, and how often.
+use crate::same::assert_same;
 use futures::test::MockTask;
 use futures_buffered_core::ready_core::NewFault;
 use futures_buffered_core::ready_source::{CoreSource, NewSource};
@@ -7,7 +8,6 @@ use std::alloc::{AllocError, Global};
 use std::sync::Arc;
 use std::sync::atomic::Ordering::SeqCst;
 use std::test::Fail;
-use test_parts::assert_same::assert_same;
 use test_parts::calls::{Answer, Call, Tried, answered_unit, try_row};
 use test_parts::counter::{Counter, new_counter};
 use test_parts::dropped::Dropped;

@@ -1,4 +1,5 @@
 // Ten million wakes from eight threads.
+use crate::same::assert_same;
 use futures::StreamExt;
 use futures::executor::block_on;
 use futures::task::Poll;
@@ -14,7 +15,6 @@ use std::sync::atomic::Ordering::SeqCst;
 use std::sync::{Arc, Mutex, Wait};
 use std::test::Fail;
 use std::thread::{self, Threads};
-use test_parts::assert_same::assert_same;
 use test_parts::keep::keep;
 use test_parts::polling::poll_set;
 

@@ -1,10 +1,10 @@
 // Sets over the shared source, however they are made.
+use crate::same::assert_text;
 use futures::test::MockTask;
 use futures_buffered_core::ready_shared::SharedReady;
 use futures_buffered_sets::futures_unordered_bounded::FuturesUnorderedBounded;
 use std::alloc::Global;
 use std::test::Fail;
-use test_parts::assert_same::assert_text;
 use test_parts::calls::{Answer, Call, Tried, try_row};
 use test_parts::timed::{Timed, ready_up_to};
 

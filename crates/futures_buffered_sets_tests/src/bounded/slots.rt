@@ -1,11 +1,11 @@
 // Each future is polled with the waker of its own slot.
+use crate::same::assert_same;
 use futures::task::Poll;
 use futures::test::MockTask;
 use futures_buffered_core::ready_shared::SharedReady;
 use futures_buffered_sets::futures_unordered_bounded::FuturesUnorderedBounded;
 use std::alloc::Global;
 use std::test::Fail;
-use test_parts::assert_same::assert_same;
 use test_parts::which_slot::{WhichSlot, first_slot};
 
 type Set = FuturesUnorderedBounded<WhichSlot, SharedReady>;

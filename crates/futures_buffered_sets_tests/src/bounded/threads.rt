@@ -1,4 +1,5 @@
 // Sets that move to another thread, or are woken from one.
+use crate::same::assert_same;
 use futures::executor::block_on;
 use futures::{StreamExt, future};
 use futures_buffered_core::ready_shared::SharedReady;
@@ -9,7 +10,6 @@ use std::random::RandomSource;
 use std::sync::Wait;
 use std::test::Fail;
 use std::thread::{self, JoinHandle, Threads};
-use test_parts::assert_same::assert_same;
 use test_parts::cells::{Cells, new_cells};
 use test_parts::receiver::{Receiver, Sender};
 use test_parts::timed::{Timed, ready};

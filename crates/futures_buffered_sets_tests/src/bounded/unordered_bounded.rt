@@ -1,10 +1,10 @@
 // Rows of calls of a set, and what each call answers.
+use crate::same::{assert_same, assert_text};
 use futures_buffered_core::ready_core::{MAX_CAPACITY, NewFault, Taken};
 use futures_buffered_core::ready_source::{CoreSource, NewSource, ScriptSource};
 use futures_buffered_sets::futures_unordered_bounded::{FuturesUnorderedBounded, POLL_LIMIT};
 use std::alloc::Global;
 use std::test::Fail;
-use test_parts::assert_same::{assert_same, assert_text};
 use test_parts::calls::{Answer, Call, try_on, try_row};
 use test_parts::timed::{Timed, ready, ready_up_to};
 

@@ -1,10 +1,10 @@
 // Who is woken, and how often.
 use super::keepers::{Keepers, new_keepers};
+use crate::same::assert_same;
 use futures::test::MockTask;
 use std::process::Abort;
 use std::sync::Wait;
 use std::test::Fail;
-use test_parts::assert_same::assert_same;
 use test_parts::calls::{Answer, Call, try_calls, try_row};
 use test_parts::polling::poll_nothing;
 
@@ -113,28 +113,29 @@ fn try_two_tasks<R: Wait + Abort + Clone + Drop>(
     first: &MockTask,
     second: &MockTask,
     keepers: &mut Keepers<R>,
-) {
+) -> Result<(), Fail> {
     let polled = [
         (Call::Push(0, 1), Answer::Pushed),
         (Call::Poll, Answer::Pending),
         (Call::Polls, Answer::Each([1, 0, 0])),
     ];
-    try_calls(rt, first, keepers, &polled);
+    try_calls(first, keepers, &polled)?;
     poll_nothing(second);
     assert_same(rt, (first.is_woken(), second.is_woken()), (false, false));
     let polled_elsewhere = [
         (Call::Poll, Answer::Pending),
         (Call::Polls, Answer::Each([1, 0, 0])),
     ];
-    try_calls(rt, second, keepers, &polled_elsewhere);
+    try_calls(second, keepers, &polled_elsewhere)?;
     assert_same(rt, (first.is_woken(), second.is_woken()), (true, false));
     let woken = [
         (Call::PollNothing, Answer::Done),
         (Call::Take, Answer::Number(0)),
         (Call::Wake(0), Answer::Done),
     ];
-    try_calls(rt, first, keepers, &woken);
+    try_calls(first, keepers, &woken)?;
     assert_same(rt, (first.is_woken(), second.is_woken()), (false, true));
+    Ok(())
 }
 
 #[test]
@@ -142,6 +143,5 @@ fn another_task_that_polls_wakes_the_one_before(rt: HostRuntime) -> Result<(), F
     let first = MockTask::new(&rt)?;
     let second = MockTask::new(&rt)?;
     let mut keepers = new_keepers(&rt, rt.alloc(), 1)?;
-    try_two_tasks(&rt, &first, &second, &mut keepers);
-    Ok(())
+    try_two_tasks(&rt, &first, &second, &mut keepers)
 }

@@ -1,4 +1,5 @@
 // Futures that wake themselves.
+use crate::same::assert_same;
 use futures::task::Poll;
 use futures::test::MockTask;
 use futures_buffered_core::ready_shared::SharedReady;
@@ -7,7 +8,6 @@ use std::alloc::AllocError;
 use std::sync::Arc;
 use std::sync::atomic::Ordering::SeqCst;
 use std::test::Fail;
-use test_parts::assert_same::assert_same;
 use test_parts::counted::Counted;
 use test_parts::counter::{Counter, new_counter};
 use test_parts::polling::poll_set;

@@ -1,13 +1,13 @@
 // The limit of a set is the one that was chosen.
 ghost use Rattle.std.specs.Prelude.{◌≤◌};
 
+use crate::same::assert_same;
 use futures_buffered_core::ready_shared::SharedReady;
 use futures_buffered_core::ready_source::{CoreSource, NewSource};
 use futures_buffered_sets::futures_unordered::FuturesUnordered;
 use futures_buffered_sets::futures_unordered_bounded::FuturesUnorderedBounded;
 use std::alloc::Global;
 use std::test::Fail;
-use test_parts::assert_same::assert_same;
 use test_parts::timed::{Timed, ready_up_to};
 
 type Shared = FuturesUnorderedBounded<Timed, SharedReady>;

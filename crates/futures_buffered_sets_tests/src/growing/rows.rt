@@ -1,11 +1,11 @@
 // Rows of calls of a set, and what each call answers.
+use crate::same::assert_text;
 use futures_buffered_core::ready_shared::SharedReady;
 use futures_buffered_core::ready_source::CoreSource;
 use futures_buffered_sets::futures_unordered::{FIRST_GROUP, FuturesUnordered};
 use futures_buffered_sets::futures_unordered_bounded::{FuturesUnorderedBounded, POLL_LIMIT};
 use std::alloc::Global;
 use std::test::Fail;
-use test_parts::assert_same::assert_text;
 use test_parts::calls::{Answer, Call, try_on, try_row};
 use test_parts::timed::{Timed, ready_up_to};
 
