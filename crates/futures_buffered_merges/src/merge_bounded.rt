@@ -196,7 +196,7 @@ impl<St: SlotStream<S::Waker>, S: ReadySource> Stream for MergeBounded<St, S> {
         ensures untouched { held_count self.old.slots ≡ 0 → cx.new ≡ cx.old }
         ensures kept { Keeps cx.old cx.new }
     {
-        poll_streams(&mut self.set, cx)
+        poll_streams(&mut self.set, cx, false)
     }
 }
 

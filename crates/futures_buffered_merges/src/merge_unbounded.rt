@@ -1,6 +1,6 @@
 //! Streams in groups of slots, polled as one: a merge that grows.
 //!
-//! Each group is a set of as many streams as it has slots, and is asked as a bounded merge is polled. Each group that is asked registers the task, and a registration with one does for those beside it.
+//! Each group is a set of as many streams as it has slots, and is asked as a bounded merge is polled. The first group that holds a stream registers the task, which does for those beside it.
 ghost use Rattle.std.specs.Prelude.{◌≡◌, ◌↔◌, ◌<◌, ◌≤◌, ◌+◌, ◌⊎◌, List, [], IsTrue, OnOk, OnErr, IsErr, IfOk, IfErr, IfSome};
 ghost use Rattle.std.specs.Iterator.{IsFiniteIterable};
 ghost use Rattle.futures.specs.Poll.{IfReady, OnPending};
@@ -64,9 +64,9 @@ impl<St: SlotStream<S::Waker>, S: NewSource> AskGroup<St, S> for AsMerge {
         &self,
         group: &mut FuturesUnorderedBounded<St, S>,
         cx: &mut Context<'_>,
-        _is_registered: bool,
+        is_registered: bool,
     ) -> Poll<Option<St::Item>> {
-        poll_streams(group, cx)
+        poll_streams(group, cx, is_registered)
     }
 
     ghost passes_none = { λ cx. tt };

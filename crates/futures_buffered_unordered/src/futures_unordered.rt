@@ -129,6 +129,11 @@ impl<F: Drop, S: NewSource> FuturesUnordered<F, S> {
         self.groups.capacity()
     }
 
+    // The groups, oldest first.
+    pub(crate) fn queues(&self) -> &Vec<FuturesUnorderedBounded<F, S>> {
+        self.groups.queues()
+    }
+
     /// Why a push that was refused just now was refused: `TooLarge` where nothing more goes in, and else `Memory`.
     ///
     /// Takes the same time at any number of groups.

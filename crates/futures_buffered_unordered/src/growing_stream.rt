@@ -76,10 +76,11 @@ impl<F: Drop, S: NewSource> SizeHint for FuturesUnordered<F, S> {
     }
 }
 
-/// Prints the number of futures held.
+/// Prints the groups, and the number of futures held.
 impl<F: Drop, S: NewSource> fmt::Debug for FuturesUnordered<F, S> {
     fn fmt<W: fmt::Write>(&self, f: &mut fmt::Formatter<W>) -> fmt::Result {
         f.debug_struct("FuturesUnordered")
+            .field("queues", self.queues())
             .field("len", &self.len())
             .finish_non_exhaustive()
     }

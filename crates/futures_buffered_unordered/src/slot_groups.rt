@@ -240,6 +240,11 @@ impl<F: Drop, S: NewSource> SlotGroups<F, S> {
         self.held += 1;
     }
 
+    // The groups, oldest first.
+    pub(crate) fn queues(&self) -> &Vec<FuturesUnorderedBounded<F, S>> {
+        &self.groups
+    }
+
     /// Why a push that was refused just now was refused: `TooLarge` where nothing more goes in, and else `Memory`. It is public for what stands on groups.
     ///
     /// Takes the same time at any number of groups.

@@ -15,7 +15,7 @@ use Rattle.futures_buffered_table.specs.declared.answer.Taken.TheVariants.{Slot,
 use Rattle.futures_buffered_core.specs.ReadySource.{SourceSteps}
 use Rattle.futures_buffered_unordered_bounded.specs.Held.{AllHeld, AnyMayGive, ComesFrom, Passes, Yields}
 use Rattle.futures_buffered_unordered_bounded.specs.Groups.{outputs_in}
-use Rattle.futures_buffered_unordered_bounded.specs.FuturesUnorderedBounded.{Bounded, Asks, AsksUntil, EndsWaiting, PollGives, held_in, with_source}
+use Rattle.futures_buffered_unordered_bounded.specs.FuturesUnorderedBounded.{Bounded, Asks, AsksInPart, AsksToEmpty, AsksUntil, EndsWaiting, PollGives, held_in, with_source}
 use Rattle.futures_buffered_unordered_bounded.proofs.HeldLemmas.{AllHeld-with, count-with, passes_free, passes_pending, value_in-with_value}
 use Rattle.futures_buffered_unordered_bounded.proofs.HeldGivesLemmas.{Gathers-Within, Gathers-After, gives_passed, gives_output, gives_others}
 
@@ -62,6 +62,16 @@ module _ {F A S : Type 0} (can_poll : F → Type 0) (polled : ℕ → F → Poll
           passes = so.passes;
         }
 
+    -- no further answer
+    asked_names : (count : ℕ) (slots : Slots F) (source : S) (so : SoFar old count slots source) → Asks polled steps (with_source old before) so.names None slots source
+    asked_names count slots source so =
+        record {
+          registered = old.source;
+          registers_first = first;
+          answers = subst (λ (given : List Taken). FoldsTo steps.takes old.source given source) (sym (append-nil (map Slot so.names))) so.answers;
+          passes = so.passes;
+        }
+
     pub ready_after : (count limit i : ℕ) (slots : Slots F) (source left : S) (f f2 : F) (x : A) → SoFar old count slots source → limit ≡ old.limit → count < old.limit → steps.takes source (Slot i) left → value_in slots i ≡ Some f → polled i f (Ready x) f2
         → AsksUntil polled steps (with_source old before) (Ready (i, x)) (record { slots = with_value slots i f2; source = left; limit = limit })
     ready_after count limit i slots source left f f2 x so same below taken e h = (
@@ -88,13 +98,28 @@ module _ {F A S : Type 0} (can_poll : F → Type 0) (polled : ℕ → F → Poll
       so.names,
       None,
       omega (arith, so.counted, all),
-      record {
-        registered = old.source;
-        registers_first = first;
-        answers = subst (λ (given : List Taken). FoldsTo steps.takes old.source given source) (sym (append-nil (map Slot so.names))) so.answers;
-        passes = so.passes;
-      },
+      asked_names count slots source so,
       same,
+    )
+
+    -- how the asking ended where no value was ready
+    pub emptied_after : (count : ℕ) (slots : Slots F) (source left : S) → SoFar old count slots source → count < old.limit → steps.takes source Empty left
+        → AsksToEmpty polled steps (with_source old before) (record { slots = slots; source = left; limit = old.limit })
+    emptied_after count slots source left so below taken =
+        (so.names, omega (arith, so.counted), asked count Empty slots source left so taken)
+
+    pub paused_after : (count : ℕ) (slots : Slots F) (source left : S) → SoFar old count slots source → count < old.limit → steps.takes source Pause left
+        → AsksInPart polled steps (with_source old before) (record { slots = slots; source = left; limit = old.limit })
+    paused_after count slots source left so below taken =
+        (so.names, Some Pause, omega (arith, so.counted), asked count Pause slots source left so taken)
+
+    pub limited_after : (count : ℕ) (slots : Slots F) (source : S) → SoFar old count slots source → count ≡ old.limit
+        → AsksInPart polled steps (with_source old before) (record { slots = slots; source = source; limit = old.limit })
+    limited_after count slots source so all = (
+      so.names,
+      None,
+      omega (arith, so.counted, all),
+      asked_names count slots source so,
     )
 
 module _ {F A S : Type 0} (polled : ℕ → F → Poll A → F → Type 0) where

@@ -1,5 +1,6 @@
 -- What a contract sees of a bounded set, and what its calls make of it.
-use Rattle.std.specs.Prelude.{◌≡◌, ℕ, ◌+◌, ◌<◌, List, ◌++◌, map, length, Option, Some, None, refl}
+use Rattle.std.specs.Prelude.{◌≡◌, ◌⊎◌, ℕ, ◌+◌, ◌<◌, List, ◌++◌, map, length, Option, Some, None}
+use Rattle.std.specs.Prelude.{refl}
 use Rattle.std.specs.List.{FoldsTo, range_with_len}
 use Rattle.std.specs.Option.{option_to_list}
 use Rattle.std.specs.Coded.{Coded, code_by, coded×, coded_ℕ}
@@ -106,6 +107,13 @@ EndsWaiting limit names (Some Pause) = length names < limit
 EndsWaiting limit names (Some (Slot i)) = ⊥
 EndsWaiting limit names None = length names ≡ limit
 
+-- the same but for Empty: further names may come
+abbrev pub StopsEarly : ℕ → List ℕ → Option Taken → Type 0
+StopsEarly limit names (Some Empty) = ⊥
+StopsEarly limit names (Some Pause) = length names < limit
+StopsEarly limit names (Some (Slot i)) = ⊥
+StopsEarly limit names None = length names ≡ limit
+
 -- the last answer of a source with this content was Empty
 abbrev pub SaidEmpty : {S : Type 0} → SourceSteps S → S → Type 0
 SaidEmpty {S} steps new = (before : S) × steps.takes before Empty new
@@ -148,6 +156,27 @@ module _
         × EndsWaiting old.limit names last
         × Asks old names last new.slots new.source
         × (new.limit ≡ old.limit)
+
+    -- one count of names that gave no output and ended at Empty: no further name came
+    abbrev pub AsksToEmpty : Bounded F S → Bounded F S → Type 0
+    AsksToEmpty old new = (names : List ℕ)
+        × (length names < old.limit)
+        × Asks old names (Some Empty) new.slots new.source
+
+    -- one that gave no output and stopped though a further name may come
+    abbrev pub AsksInPart : Bounded F S → Bounded F S → Type 0
+    AsksInPart old new = (names : List ℕ)
+        × (last : Option Taken)
+        × StopsEarly old.limit names last
+        × Asks old names last new.slots new.source
+
+    -- What a pending poll leaves of its task. At Empty the task is as the registration left it;
+    -- where the asking stopped earlier, the task is asked to poll again.
+    abbrev pub LeavesTask : (S → Context → Context → Type 0)
+        → Bounded F S → Bounded F S → Context → Context → Type 0
+    LeavesTask registers_poll old new cx left =
+        (AsksToEmpty old new × registers_poll old.source cx left)
+        ⊎ (AsksInPart old new × IsWoken left)
 
     -- one poll: the end exactly where nothing is held, and then nothing changes; the output of the
     -- last name, whose slot is emptied; or Pending, where the asking ended without an output

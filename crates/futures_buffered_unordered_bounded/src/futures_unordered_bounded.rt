@@ -11,7 +11,7 @@ ghost use Rattle.futures_buffered_core.specs.ReadyShared.{IsNewShared, MarksShar
 ghost use Rattle.futures_buffered_core.specs.ReadySource.{WaitsAlike};
 ghost use Rattle.futures_buffered_core.specs.SlotMap.{value_in, held_count, slot_count, no_slots, IsFull};
 ghost use Rattle.futures_buffered_unordered_bounded.specs.Held.{AllHeld, AllHeldBut, EndsWith};
-ghost use Rattle.futures_buffered_unordered_bounded.specs.FuturesUnorderedBounded.{HoldsEach, Pushes, AsksUntil, PollGives, SaidEmpty, IsWoken, with_empty_slot, with_source};
+ghost use Rattle.futures_buffered_unordered_bounded.specs.FuturesUnorderedBounded.{HoldsEach, Pushes, AsksUntil, LeavesTask, PollGives, SaidEmpty, IsWoken, with_empty_slot, with_source};
 
 use crate::poll_one::PollOne;
 use futures::task::{Context, Poll};
@@ -264,18 +264,23 @@ impl<F: Drop, S: ReadySource> FuturesUnorderedBounded<F, S> {
         ensures same_slots { (j : ℕ)
             → is_some (value_in self.new.slots j) ≡ is_some (value_in self.old.slots j) }
         ensures covered { OnPending result (Covers cx.new (S.needs self.new.source)) }
+        ensures still_covered { IfReady result (λ _. Covers cx.new (S.needs self.new.source)) }
         ensures woken { OnPending result (IsWoken cx.new
             ⊎ (SaidEmpty S.steps self.new.source × S.registers_poll self.old.source cx.old cx.new)) }
+        ensures leaves { OnPending result
+            (LeavesTask R.polled S.steps S.registers_poll self.old self.new cx.old cx.new) }
         ensures only_registered { IfReady result (λ _.
             S.registers_poll self.old.source cx.old cx.new) }
         ensures kept { Keeps cx.old cx.new }
     {
         self.source.register(cx);
-        self.ask(rule, cx)
+        self.poll_first_covered(rule, cx)
     }
 
-    // The takings and polls of `poll_first`, by a task that is registered already. The source is as a registration may have left it.
-    fn ask<R: PollOne<F, S::Waker>>(
+    /// As `poll_first`, for a task that is registered already, with this set or with one beside it. Registers nothing. It is public for merges that grow.
+    ///
+    /// The source is as a registration may have left it.
+    pub fn poll_first_covered<R: PollOne<F, S::Waker>>(
         &mut self,
         rule: &R,
         cx: &mut Context<'_>,
@@ -297,8 +302,12 @@ impl<F: Drop, S: ReadySource> FuturesUnorderedBounded<F, S> {
         ensures same_slots { (j : ℕ)
             → is_some (value_in self.new.slots j) ≡ is_some (value_in self.old.slots j) }
         ensures covered { OnPending result (Covers cx.new (S.needs self.new.source)) }
+        ensures still_covered { IfReady result (λ _. Covers cx.new (S.needs self.new.source)) }
         ensures woken { OnPending result (IsWoken cx.new
             ⊎ (SaidEmpty S.steps self.new.source × (cx.new ≡ cx.old))) }
+        ensures leaves { OnPending result ((before : S) → S.steps.registers before self.old.source
+            → LeavesTask R.polled S.steps (λ _ cx left. left ≡ cx)
+            (with_source self.old before) self.new cx.old cx.new) }
         ensures untouched { IfReady result (λ _. cx.new ≡ cx.old) }
         ensures kept { Keeps cx.old cx.new }
     {
@@ -347,6 +356,8 @@ impl<F: Drop, S: ReadySource> FuturesUnorderedBounded<F, S> {
         ensures covered { OnPending result (Covers cx.new (S.needs self.new.source)) }
         ensures woken { OnPending result (IsWoken cx.new
             ⊎ (SaidEmpty S.steps self.new.source × S.registers_poll self.old.source cx.old cx.new)) }
+        ensures leaves { OnPending result
+            (LeavesTask R.polled S.steps S.registers_poll self.old self.new cx.old cx.new) }
         ensures untouched { IfReady result (λ o. IfNone o (cx.new ≡ cx.old)) }
         ensures only_registered { IfReady result (λ o. OnSome o
             (S.registers_poll self.old.source cx.old cx.new)) }
@@ -384,13 +395,16 @@ impl<F: Drop, S: ReadySource> FuturesUnorderedBounded<F, S> {
         ensures covered { OnPending result (Covers cx.new (S.needs self.new.source)) }
         ensures woken { OnPending result (IsWoken cx.new
             ⊎ (SaidEmpty S.steps self.new.source × (cx.new ≡ cx.old))) }
+        ensures leaves { OnPending result
+            (LeavesTask R.polled S.steps (λ _ cx left. left ≡ cx)
+            self.old self.new cx.old cx.new) }
         ensures untouched { IfReady result (λ _. cx.new ≡ cx.old) }
         ensures kept { Keeps cx.old cx.new }
     {
         if self.is_empty() {
             return Poll::Ready(None);
         }
-        match self.ask(rule, cx) {
+        match self.poll_first_covered(rule, cx) {
             Poll::Ready((i, output)) => {
                 self.empty_slot(i);
                 Poll::Ready(Some(output))

@@ -111,5 +111,9 @@ fn begins_with_a_group_for_all_items(rt: HostRuntime) -> Result<(), Fail> {
 fn prints_how_many_it_holds(rt: HostRuntime) -> Result<(), Fail> {
     let mut set = new_set(rt.alloc(), 2)?;
     try_on(&rt, &mut set, &[(Call::Push(1, 0), Answer::Pushed)])?;
-    assert_text(&rt, &set, "FuturesUnordered { len: 1, .. }")
+    assert_text(
+        &rt,
+        &set,
+        "FuturesUnordered { queues: [FuturesUnorderedBounded { len: 1, .. }], len: 1, .. }",
+    )
 }

@@ -3,7 +3,7 @@ use Rattle.std.proofs.lemmas.Fn.{FoldsTo-push}
 use Rattle.futures_buffered_core.specs.SlotMap.{held_count}
 use Rattle.futures_buffered_unordered_bounded.specs.FuturesUnorderedBounded.{Bounded}
 use Rattle.futures_buffered_merges.specs.Merging.{CountEnds}
-use Rattle.futures_buffered_merges.proofs.MergingLemmas.{registers_once_more}
+use Rattle.futures_buffered_merges.proofs.MergingLemmas.{registers_more}
 use Rattle.futures_buffered_merges.proofs.merging.poll_streams.Goals as goal
 
 pub returns-in-Ready-Some-clause-polled : goal.returns-in-Ready-Some-clause-polled
@@ -17,7 +17,7 @@ returns-in-Ready-Some-clause-polled g c =
 
 pub returns-in-Ready-Some-clause-only_registered : goal.returns-in-Ready-Some-clause-only_registered
 returns-in-Ready-Some-clause-only_registered g c =
-    registers_once_more g.S.ReadySource.registers_poll _ _ _ _ c.counts.invariant.only_registered c.in-Ready-Some.ensures.only_registered
+    registers_more g.S.ReadySource.registers_poll _ _ _ c.counts.invariant.only_registered c.in-Ready-Some.ensures.only_registered
 
 pub counts-preserved : goal.counts-preserved
 counts-preserved g c =
@@ -33,9 +33,10 @@ counts-preserved g c =
       pollable = c.poll_count.ensures.pollable;
       capacity = search rules;
       limit = search rules;
-      only_registered = registers_once_more source.registers_poll _ _ _ _ c.counts.invariant.only_registered c.in-Ready-None.ensures.only_registered;
+      only_registered = registers_more source.registers_poll _ _ _ c.counts.invariant.only_registered c.in-Ready-None.ensures.only_registered;
       fewer = omega (arith, fewer, c.counts.invariant.fewer);
       untouched = λ none. let same = c.counts.invariant.untouched none in absurd (omega (arith, one.1.0, none, ap (λ (b : Bounded g.row.St.Denot g.row.S.Denot). held_count b.slots) same.0));
+      registered = λ _. rw c.in-Ready-None.field-0-is at c.in-Ready-None.ensures.still_covered;
       kept = λ fact h. c.poll_count.ensures.kept fact (c.counts.invariant.kept fact h);
     }
 
@@ -52,7 +53,7 @@ pub returns-in-Pending-clause-woken : goal.returns-in-Pending-clause-woken
 returns-in-Pending-clause-woken g c =
     elim c.in-Pending.ensures.woken [
       | inl woken ↦ inl woken
-      | inr empty ↦ inr (empty.0, registers_once_more g.S.ReadySource.registers_poll _ _ _ _ c.counts.invariant.only_registered empty.1)
+      | inr empty ↦ inr (empty.0, registers_more g.S.ReadySource.registers_poll _ _ _ c.counts.invariant.only_registered empty.1)
     ]
 
 pub returns-clause-polled : goal.returns-clause-polled

@@ -1,6 +1,6 @@
-use Rattle.std.proofs.Common.{◌≡◌, ◌≤◌, ℕ, List}
+use Rattle.std.proofs.Common.{◌≡◌, ◌≤◌, ℕ, List, IsTrue}
 use Rattle.std.specs.List.{FoldsTo}
-use Rattle.futures.specs.Task.{Keeps}
+use Rattle.futures.specs.Task.{Covers, Keeps}
 use Rattle.futures_buffered_core.specs.SlotMap.{held_count, slot_count}
 use Rattle.futures_buffered_unordered_bounded.specs.Held.{AllHeld}
 use Rattle.futures_buffered_merges.specs.Merging.{CountEnds, OnlyRegisters}
@@ -18,6 +18,7 @@ invariant-counts g l =
       only_registered : OnlyRegisters source.registers_poll l.fn.cx l.cx;
       fewer : held_count l.set.slots ≤ held_count l.fn.set.slots;
       untouched : held_count l.fn.set.slots ≡ 0 → (l.set ≡ l.fn.set) × (l.cx ≡ l.fn.cx);
+      registered : IsTrue l.fn.is_registered → Covers l.cx (source.needs l.set.source);
       kept : Keeps l.fn.cx l.cx;
     }
 

@@ -10,3 +10,6 @@ returns-in-Ready-clause-filled g c =
       (c.in-Ready.i, c.in-Ready.output),
       fills_place future.polled source.steps (λ x. x) c.args.self.now c.fill.new.self _ c.poll_first.new.self _ _ _ c.in-Ready.i c.in-Ready.output (sym c.self.view_is) c.self.invariant c.in-Ready.ensures.polled c.in-Ready.ensures.same_slots (some_from_end (future.polled c.in-Ready.i) _ _ c.in-Ready.ensures.last) c.fill.ensures.set c.fill.ensures.outputs,
     )
+
+pub returns-in-Pending-clause-woken : goal.returns-in-Pending-clause-woken
+returns-in-Pending-clause-woken g c = rw (← c.self.view_is) c.in-Pending.ensures.woken

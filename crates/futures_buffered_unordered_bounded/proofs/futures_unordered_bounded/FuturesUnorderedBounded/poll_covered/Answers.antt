@@ -10,7 +10,7 @@ empty_slot-requires g c = some_from_end (g.R.PollOne.polled c.in-Ready.i) _ _ c.
 pub returns-in-Ready-clause-polled : goal.returns-in-Ready-clause-polled
 returns-in-Ready-clause-polled g c =
     let some_held : 0 < held_count c.args.self.now.slots = grind (arith, common_steps) in
-    (some_held, (c.in-Ready.i, c.ask.new.self, c.in-Ready.ensures.polled c.args.self.now.source (g.met.S.NewSource.covered c.args.self.now.source), c.empty_slot.ensures.emptied))
+    (some_held, (c.in-Ready.i, c.poll_first_covered.new.self, c.in-Ready.ensures.polled c.args.self.now.source (g.met.S.NewSource.covered c.args.self.now.source), c.empty_slot.ensures.emptied))
 
 pub returns-in-Pending-clause-polled : goal.returns-in-Pending-clause-polled
 returns-in-Pending-clause-polled g c =
@@ -19,3 +19,6 @@ returns-in-Pending-clause-polled g c =
 
 pub returns-in-Ready-clause-pollable : goal.returns-in-Ready-clause-pollable
 returns-in-Ready-clause-pollable g c = grind (arith, common_steps)
+
+pub returns-in-Pending-clause-leaves : goal.returns-in-Pending-clause-leaves
+returns-in-Pending-clause-leaves g c = c.in-Pending.ensures.leaves c.args.self.now.source (g.met.S.NewSource.covered c.args.self.now.source)

@@ -2,7 +2,7 @@ use Rattle.std.proofs.Common.{◌≡◌, ℕ, is_some}
 use Rattle.futures.specs.Task.{Covers}
 use Rattle.futures_buffered_core.specs.SlotMap.{value_in, held_count, slot_count}
 use Rattle.futures_buffered_unordered_bounded.proofs.FuturesUnorderedBoundedLemmas.{SoFar}
-use Rattle.futures_buffered_unordered_bounded.proofs.futures_unordered_bounded.FuturesUnorderedBounded.ask.Given as goal
+use Rattle.futures_buffered_unordered_bounded.proofs.futures_unordered_bounded.FuturesUnorderedBounded.poll_first_covered.Given as goal
 
 abbrev pub invariant-names : goal.invariant-names
 invariant-names g l =

@@ -1,9 +1,9 @@
 use Rattle.futures_buffered_unordered_bounded.specs.FuturesUnorderedBounded.{Bounded}
 use Rattle.std.proofs.Common.{Some, refl, sym, inl, inr, arith, ◌∙◌, length-set, ap}
 use Rattle.futures_buffered_unordered_bounded.proofs.HeldLemmas.{AllHeld-with, count-with, same-with}
-use Rattle.futures_buffered_unordered_bounded.proofs.FuturesUnorderedBoundedLemmas.{SoFar-skip, SoFar-pending, ready_after, ended_after}
-use Rattle.futures_buffered_unordered_bounded.proofs.futures_unordered_bounded.FuturesUnorderedBounded.ask.Goals.{in-Some+in_default-poll_one, in_default}
-use Rattle.futures_buffered_unordered_bounded.proofs.futures_unordered_bounded.FuturesUnorderedBounded.ask.Goals as goal
+use Rattle.futures_buffered_unordered_bounded.proofs.FuturesUnorderedBoundedLemmas.{SoFar-skip, SoFar-pending, emptied_after, ended_after, limited_after, paused_after, ready_after}
+use Rattle.futures_buffered_unordered_bounded.proofs.futures_unordered_bounded.FuturesUnorderedBounded.poll_first_covered.Goals.{in-Some+in_default-poll_one, in_default}
+use Rattle.futures_buffered_unordered_bounded.proofs.futures_unordered_bounded.FuturesUnorderedBounded.poll_first_covered.Goals as goal
 
 pub returns-in-Empty-clause-polled : goal.returns-in-Empty-clause-polled
 returns-in-Empty-clause-polled g c =
@@ -18,12 +18,35 @@ returns-in-Pause-clause-polled g c =
     rw c.yield_now.ensures.pending
     (λ before first. ended_after rule.can_poll rule.polled source.steps c.args.self.now before first _ _ _ _ _ _ c.names.invariant.so_far c.names.invariant.same_limit (omega (arith, ap (λ (v : Bounded g.row.F.Denot g.row.S.Denot). v.limit) c.self.view_is)) c.in-Pause.ensures (inr refl))
 
+pub returns-in-Empty-clause-leaves : goal.returns-in-Empty-clause-leaves
+returns-in-Empty-clause-leaves g c =
+    let source = g.S.ReadySource in
+    let rule = g.R.PollOne in
+    λ before first. inl (emptied_after rule.can_poll rule.polled source.steps c.args.self.now before first _ _ _ _ c.names.invariant.so_far (omega (arith, c.names.invariant.same_limit, ap (λ (v : Bounded g.row.F.Denot g.row.S.Denot). v.limit) c.self.view_is)) c.in-Empty.ensures, c.names.invariant.same_context)
+
+pub returns-in-Pause-clause-leaves : goal.returns-in-Pause-clause-leaves
+returns-in-Pause-clause-leaves g c =
+    let source = g.S.ReadySource in
+    let rule = g.R.PollOne in
+    rw c.yield_now.ensures.pending
+    (λ before first. inr (paused_after rule.can_poll rule.polled source.steps c.args.self.now before first _ _ _ _ c.names.invariant.so_far (omega (arith, c.names.invariant.same_limit, ap (λ (v : Bounded g.row.F.Denot g.row.S.Denot). v.limit) c.self.view_is)) c.in-Pause.ensures, c.yield_now.ensures.heard))
+
+pub returns-clause-leaves : goal.returns-clause-leaves
+returns-clause-leaves g c =
+    let source = g.S.ReadySource in
+    let rule = g.R.PollOne in
+    rw c.yield_now-2.ensures.pending
+    (λ before first. inr (limited_after rule.can_poll rule.polled source.steps c.args.self.now before first _ _ _ c.names.invariant.so_far (omega (arith, c.names.invariant.same_limit, ap (λ (v : Bounded g.row.F.Denot g.row.S.Denot). v.limit) c.self.view_is)), c.yield_now-2.ensures.heard))
+
 pub returns-in-Ready-clause-polled : goal.returns-in-Ready-clause-polled
 returns-in-Ready-clause-polled g c =
     let source = g.S.ReadySource in
     let rule = g.R.PollOne in
     let slots = c.names.self-inside.slots in
     λ before first. ready_after rule.can_poll rule.polled source.steps c.args.self.now before first _ _ c.in-Slot.i slots _ _ _ c.poll_one.new.held c.in-Ready.output c.names.invariant.so_far c.names.invariant.same_limit (omega (arith, ap (λ (v : Bounded g.row.F.Denot g.row.S.Denot). v.limit) c.self.view_is)) c.in-Slot.ensures (sym c.in-Some.ensures.value) (c.in-Ready.ensures.polled c.in-Slot.i c.waker-waker.ensures)
+
+pub returns-in-Ready-clause-still_covered : goal.returns-in-Ready-clause-still_covered
+returns-in-Ready-clause-still_covered g c = (c.names.invariant.covers.0, λ n h. c.names.invariant.covers.1 n (g.met.S.ReadySource.take_needs _ _ _ c.in-Slot.ensures n h))
 
 pub names-preserved : goal.names-preserved
 names-preserved g c =
