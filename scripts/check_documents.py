@@ -3,10 +3,11 @@
 
     scripts/check_documents.py
 
+Each block of Rust code in a document stands, line by line but for its indent and empty lines, in a source that the gate proves.
 A path with a folder in capitals, as `crates/CRATE/src`, stands for any, and is passed over. A name is a word in backquotes with an
 underscore or an inner capital. It has to stand in a source, a proof, a refused body or a script,
 as a word of its text or as a file's name. Names of the Rust crate, of the kit and of the system alone are listed below.
-The last line is 'N names and M paths, K faults', and the status is 0 where there is none.
+The last line is 'N names, M paths and L blocks, K faults', and the status is 0 where there is none.
 """
 import pathlib
 import re
@@ -39,6 +40,15 @@ def words_of_sources():
     return words
 
 
+def lines_of(text):
+    return [line.strip() for line in text.splitlines() if line.strip()]
+
+
+def stands_together(block, source):
+    """Whether the lines of the block stand one after another in the source."""
+    return any(source[at : at + len(block)] == block for at in range(len(source) - len(block) + 1))
+
+
 def is_name(word):
     return len(word) > 2 and not word[0].isdigit() and ("_" in word.strip("_") or re.search(r"[a-z][A-Z]", word))
 
@@ -55,8 +65,12 @@ def leads_somewhere(path, document):
     return any((place / path).exists() for place in places)
 
 
-def faults_of(document, words, count):
+def faults_of(document, words, sources, count):
     text = document.read_text(encoding="utf-8")
+    for block in re.findall(r"^```rust\n(.*?)^```", text, re.M | re.S):
+        count["blocks"] += 1
+        if not any(stands_together(lines_of(block), source) for source in sources):
+            yield f"no source has the code that begins with {lines_of(block)[0]!r}"
     for link in re.findall(r"\]\(([^)#:]+)\)", text):
         count["paths"] += 1
         if not leads_somewhere(link, document):
@@ -75,13 +89,14 @@ def faults_of(document, words, count):
 
 def main():
     words = words_of_sources()
-    count = {"names": 0, "paths": 0}
+    sources = [lines_of(path.read_text(encoding="utf-8")) for path in tracked() if path.suffix == ".rt"]
+    count = {"names": 0, "paths": 0, "blocks": 0}
     faults = 0
     for document in DOCUMENTS:
-        for fault in faults_of(document, words, count):
+        for fault in faults_of(document, words, sources, count):
             faults += 1
             print(f"{document.relative_to(ROOT)}: {fault}")
-    print(f"{count['names']} names and {count['paths']} paths, {faults} faults")
+    print(f"{count['names']} names, {count['paths']} paths and {count['blocks']} blocks, {faults} faults")
     sys.exit(1 if faults else 0)
 
 

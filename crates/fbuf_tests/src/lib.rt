@@ -4,6 +4,10 @@
 #[cfg(test)]
 mod fakes;
 #[cfg(test)]
+mod fault_texts;
+#[cfg(test)]
+mod long_scripts;
+#[cfg(test)]
 mod program_words;
 #[cfg(test)]
 mod same;

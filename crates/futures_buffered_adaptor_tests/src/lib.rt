@@ -7,6 +7,8 @@ mod countdown;
 #[cfg(test)]
 mod list_stream;
 #[cfg(test)]
+mod paced;
+#[cfg(test)]
 mod paused_end;
 #[cfg(test)]
 mod polling;
@@ -16,6 +18,8 @@ mod ready_at_once;
 mod same;
 #[cfg(test)]
 mod steps;
+#[cfg(test)]
+mod still;
 #[cfg(test)]
 mod tests;
 #[cfg(test)]

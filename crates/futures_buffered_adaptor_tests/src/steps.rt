@@ -29,6 +29,8 @@ pub enum Call<T> {
     Drops,
     /// How often the closure was called.
     Calls,
+    /// How often the stream was polled.
+    Polls,
 }
 
 #[derive(Clone, Copy, Debug, PartialEq, Eq)]

@@ -5,6 +5,7 @@
 //! - `wake_anew`, `before_empty`: wakes by new seats, and what a taking calls.
 //! - `machine`, `schedules`, `faults`: worked schedules, whole schedules against `plain`, a slow
 //!   model of the list, and what is refused.
+//! - `sizes`: lists of many slots, and schedules of many steps.
 mod alone;
 mod before_empty;
 mod faults;
@@ -13,5 +14,6 @@ mod long_list;
 mod machine;
 mod plain;
 mod schedules;
+mod sizes;
 mod threads;
 mod wake_anew;

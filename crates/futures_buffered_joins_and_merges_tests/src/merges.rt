@@ -1,9 +1,11 @@
 mod bounded;
 mod drops;
 mod feeds;
+mod groups;
 mod limits;
 mod pauses;
 mod refusals;
+mod sizes;
 mod steps;
 mod threads;
 mod unbounded;

@@ -3,4 +3,6 @@ mod kept_outputs;
 mod limits;
 mod refusals;
 mod rows;
+mod sizes;
+mod unwoken;
 mod wakes;

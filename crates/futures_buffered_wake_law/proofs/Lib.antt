@@ -1,2 +1,4 @@
 pub mod SceneLemmas
+pub mod SceneInvariantLemmas
+pub mod PlaceLemmas
 pub mod LostWakeLemmas

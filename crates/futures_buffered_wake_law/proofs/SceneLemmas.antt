@@ -1,11 +1,10 @@
 -- Errands by their seats, and what a poller's role and its replies say of the row.
-use Rattle.std.proofs.Common.{◌≡◌, ◌≢◌, ◌⊎◌, ℕ, zero, suc, ◌+◌, ◌<◌, ◌≤◌, List, [], ◌∷◌, ◌++◌, Bool, true, false, ltb, get_or, refl, sym, ap, ◌∙◌, subst, inl, inr, arith}
+use Rattle.std.proofs.Common.{◌≡◌, ◌≢◌, ℕ, zero, suc, ◌<◌, ◌≤◌, List, [], ◌∷◌, ◌++◌, Bool, true, false, ltb, get_or, refl, sym, ap, ◌∙◌, subst, inl, inr, arith}
 use Rattle.std.specs.Prelude.{◌==◌, if◌then◌else◌}
-use Rattle.std.proofs.lemmas.Bool.{cases_eq, cases_lt, eqb-true}
+use Rattle.std.proofs.lemmas.Bool.{cases_lt, eqb-true}
 use Rattle.std.proofs.lemmas.Bool.Decides.{nat_tests}
 use mathlib.Core.Option.{some}
 use lib.ListN.{get_elem?}
-use Rattle.futures_buffered_table.specs.declared.answer.Taken.{Taken as TakenAnswer}
 use Rattle.futures_buffered_table.specs.declared.answer.Taken.TheVariants.{Empty, Pause}
 use Rattle.futures_buffered_table.specs.declared.step.StepReply.{StepReply}
 use Rattle.futures_buffered_table.specs.declared.step.StepReply.TheVariants.{More, Woke, Taken}
@@ -17,7 +16,7 @@ use Rattle.futures_buffered_table.specs.declared.view.Role.{Role}
 use Rattle.futures_buffered_table.specs.declared.view.Role.TheVariants.{Idle, Won, Cleared, Swapped, Polls}
 use Rattle.futures_buffered_table.specs.declared.view.View.{View}
 use Rattle.futures_buffered_table.specs.Effect.{next_role, reply_of_role, word_of_role}
-use Rattle.futures_buffered_table.specs.Row.{last_entry, same, times}
+use Rattle.futures_buffered_table.specs.Row.{last_entry, times}
 use Rattle.futures_buffered_table.specs.RowInvariant.{KeepsRow}
 use Rattle.futures_buffered_table.proofs.ListLemmas.{by_test, if_no, if_yes}
 use Rattle.futures_buffered_table.proofs.RowLemmas.{alone, answered_by, in_hand, put_by, row_slots, same_else, slots_slot, slots_stub}

@@ -1,5 +1,5 @@
 -- The steps of a scene, and the law on them.
-use Rattle.std.specs.Prelude.{◌≡◌, ◌≢◌, ℕ, ◌<◌, ◌≤◌, ◌==◌, Bool, false, true, if◌then◌else◌}
+use Rattle.std.specs.Prelude.{◌≡◌, ◌≢◌, ℕ, ◌<◌, ◌≤◌, ◌==◌, false, true, if◌then◌else◌}
 use Rattle.std.specs.Prelude.{List, [], ◌∷◌, map}
 use Rattle.futures_buffered_table.specs.declared.answer.Taken.TheVariants.{Empty, Pause}
 use Rattle.futures_buffered_table.specs.declared.answer.Woke.TheVariants.{Fresh}
@@ -18,10 +18,10 @@ use Rattle.futures_buffered_table.specs.View.{role_of}
 use Rattle.futures_buffered_table.specs.Words.{mark}
 use Rattle.futures_buffered_wake_law.specs.Scene.{Scene, at_first, with_errand}
 use Rattle.futures_buffered_wake_law.specs.Scene.{Errand, Rests, Looks, Tries, Inside, Wakes}
-use Rattle.futures_buffered_wake_law.specs.Scene.{WakeStage, Clears, TakesOut, LetsGo}
-use Rattle.futures_buffered_wake_law.specs.Scene.{PollerStage, PutsIn, RaisesFlag, Leaves}
+use Rattle.futures_buffered_wake_law.specs.Scene.{Clears, TakesOut, LetsGo}
+use Rattle.futures_buffered_wake_law.specs.Scene.{PutsIn, RaisesFlag, Leaves}
 use Rattle.futures_buffered_wake_law.specs.Scene.{Lock, Free, WakeHas, PollerHas}
-use Rattle.futures_buffered_wake_law.specs.Scene.{Turn, Parked, Registers, AtPlace, Asks}
+use Rattle.futures_buffered_wake_law.specs.Scene.{Parked, Registers, AtPlace, Asks}
 
 -- the seat by which whoever holds the source marks slots itself, between polls
 abbrev pub owner_seat : ℕ
@@ -42,6 +42,9 @@ pub data Event : Type 0 where
   KeepOwn : Event
   -- or it goes to the place
   KeepShared : Event
+  -- the registration lacks memory, with the poller or at the place: the task is woken
+  LacksOwn : Event
+  LacksShared : Event
   -- the poller lays its waker out at the place, before the read of the tail that can answer Empty
   LayOut : Event
   -- the poll ends with its task woken
@@ -84,6 +87,8 @@ CanDo n s (FromBeside seat) = (WAKE_SEATS ≤ seat) × (s.errands seat ≡ Rests
 CanDo n s Begin = s.turn ≡ Parked
 CanDo n s KeepOwn = s.turn ≡ Registers
 CanDo n s KeepShared = s.turn ≡ Registers
+CanDo n s LacksOwn = s.turn ≡ Registers
+CanDo n s LacksShared = s.lock ≡ PollerHas PutsIn
 CanDo n s LayOut = (s.turn ≡ Asks) × (s.own ≡ true) × IsAtStub (poller_role s)
 CanDo n s Stop = (s.turn ≡ Asks) × IsAtStart (poller_role s)
 
@@ -141,6 +146,8 @@ after n s (FromBeside seat) = with_errand s seat Looks
 after n s Begin = record s { turn = Registers; woken = false }
 after n s KeepOwn = record s { own = true; turn = Asks }
 after n s KeepShared = to_place s.lock s
+after n s LacksOwn = record s { turn = Asks; woken = true }
+after n s LacksShared = record s { lock = PollerHas RaisesFlag; woken = true }
 after n s LayOut = to_place s.lock (record s { own = false })
 after n s Stop = record s { turn = Parked; woken = true }
 

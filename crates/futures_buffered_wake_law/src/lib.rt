@@ -7,8 +7,11 @@
 //! | `Looks`, `Tries`, and under the lock `Clears`, `TakesOut`, `LetsGo`; then `Wakes` | `OuterPlace::wake`: the load of `is_kept`; in `take_out` `try_lock`, the store, `take`, and the drop of the guard; then `wake_outer` |
 //! | `KeepOwn` | `TaskPlace::register` that keeps the waker with the poller |
 //! | `KeepShared`, and under the lock `PutsIn`, `RaisesFlag`, `Leaves` | `OuterPlace::register`: `try_lock`, `Context::register`, the store, and the drop of the guard |
+//! | `LacksOwn`, `LacksShared` | `Context::register` that finds no memory for the waker, and has the task woken |
 //! | `LayOut`, and the same three under the lock | `before_empty`, which calls `OuterPlace::put_in`, between the link read and the tail read of a taking |
 //! | `Stop` | a poll that ends with its task woken: by an output, after which the task polls again by itself, or at its limit |
+//! | `Stop`, `Begin` | the same poll registers once more, before it asks the list again |
+//! | `FromBeside` | a wake of a source beside this one, whose list stands for itself |
 #![tactic(auto)]
 
 ghost use Rattle.futures_buffered_wake_law.specs.LostWake.{NoWakeIsLost};

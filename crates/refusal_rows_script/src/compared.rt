@@ -7,6 +7,9 @@ use std::io::Write;
 pub struct Compared {
     rest: &'static [u8],
     differs: bool,
+    // How many line feeds were written, and whether one was written last, or nothing at all.
+    lines: usize,
+    is_at_line: bool,
 }
 
 impl Compared {
@@ -15,17 +18,29 @@ impl Compared {
         Compared {
             rest: text,
             differs: false,
+            lines: 0,
+            is_at_line: true,
         }
     }
 
-    /// Whether a beginning of the text was written, or all of it.
-    pub fn is_beginning(&self) -> bool {
-        !self.differs
+    /// How many lines were written, where they are the first ones of the text, and each of them whole.
+    pub fn first_lines(&self) -> Option<usize> {
+        if self.differs || !self.is_at_line {
+            return None;
+        }
+        Some(self.lines)
     }
 
     /// Whether the text was written, and nothing else.
     pub fn is_whole(&self) -> bool {
         !self.differs && self.rest.is_empty()
+    }
+
+    fn count(&mut self, byte: u8) {
+        self.is_at_line = byte == b'\n';
+        if self.is_at_line {
+            self.lines = self.lines.saturating_add(1);
+        }
     }
 }
 
@@ -34,6 +49,9 @@ impl Write for Compared {
         match self.rest.strip_prefix(buf) {
             Some(rest) => self.rest = rest,
             None => self.differs = true,
+        }
+        for byte in buf {
+            self.count(*byte);
         }
         Ok(buf.len())
     }

@@ -20,6 +20,12 @@ pub enum Call {
     Front(u64, u64),
     // Pushes so many futures.
     Fill(u64),
+    // Pushes a future for each number below this one, in order, ready at once.
+    PushEach(u64),
+    // The same at the back.
+    BackEach(u64),
+    // The same at the front, from the last number to 0.
+    FrontEach(u64),
     Mark(usize),
     // Marks each slot below this number.
     MarkEach(usize),
@@ -72,7 +78,7 @@ pub enum Answer {
     Done,
     Hint(usize, Option<usize>),
     Number(u64),
-    // Of the first, the second and the third future.
+    // Of the first, the second and the third future, or of three counts.
     Each([u64; 3]),
     Is(bool),
     // There is no such slot, sender, waker or call.
@@ -116,6 +122,15 @@ pub fn answered_unit(polled: Poll<Option<()>>) -> Answer {
     }
 }
 
+// The same of an output that is a slot.
+pub fn answered_slot(polled: Poll<Option<usize>>) -> Answer {
+    match polled {
+        Poll::Ready(Some(slot)) => Answer::Some(slot as u64),
+        Poll::Ready(None) => Answer::None,
+        Poll::Pending => Answer::Pending,
+    }
+}
+
 pub fn send<R: Wait + Drop>(senders: &Vec<Sender<u64, R>>, place: usize, value: u64) -> Answer {
     if sent(senders, place, value) {
         Answer::Sent
@@ -145,6 +160,26 @@ fn outputs<T: Tried>(task: &MockTask, tried: &mut T, count: u64) -> Answer {
         }
     }
     Answer::InOrder
+}
+
+// One call of those that add a future for each number.
+fn addition(call: Call, value: u64) -> Call {
+    match call {
+        Call::BackEach(_) => Call::Back(value, 0),
+        Call::FrontEach(count) => Call::Front(count.wrapping_sub(value).wrapping_sub(1), 0),
+        _ => Call::Push(value, 0),
+    }
+}
+
+// The first answer that is not `Pushed`.
+fn additions<T: Tried>(task: &MockTask, tried: &mut T, count: u64, call: Call) -> Answer {
+    for value in 0..count {
+        let added = tried.gave(task, addition(call, value));
+        if added != Answer::Pushed {
+            return added;
+        }
+    }
+    Answer::Pushed
 }
 
 // The first addition that is refused or followed by an output.
@@ -189,6 +224,9 @@ fn sends<T: Tried>(task: &MockTask, tried: &mut T, count: usize) -> Answer {
 
 fn answer_of<T: Tried>(task: &MockTask, tried: &mut T, call: Call) -> Answer {
     match call {
+        Call::PushEach(count) | Call::BackEach(count) | Call::FrontEach(count) => {
+            additions(task, tried, count, call)
+        }
         Call::Outputs(count) => outputs(task, tried, count),
         Call::EarlyOutputs(last) => early_outputs(task, tried, last),
         Call::MarkEach(count) => fresh_marks(task, tried, count),

@@ -90,3 +90,18 @@ fn a_try_join_gives_its_outputs_by_place(rt: HostRuntime) -> Result<(), Fail> {
     ];
     try_attempts(&rt, &row)
 }
+
+#[test]
+fn a_try_join_that_waits_wakes_nobody(rt: HostRuntime) -> Result<(), Fail> {
+    let row = [
+        (Call::Poll, Answer::Pending),
+        (Call::IsWoken, Answer::Is(false)),
+        (Call::Send(2, Ok(1)), Answer::Sent),
+        (Call::IsWoken, Answer::Is(true)),
+        (Call::Poll, Answer::Pending),
+        (Call::IsWoken, Answer::Is(false)),
+        (Call::Poll, Answer::Pending),
+        (Call::IsWoken, Answer::Is(false)),
+    ];
+    try_attempts(&rt, &row)
+}

@@ -19,6 +19,8 @@ pub enum Call<T> {
     IsWoken,
     /// How often the futures were polled.
     Polls,
+    /// How often a source was dropped.
+    SourceDrops,
 }
 
 #[derive(Clone, Copy, Debug, PartialEq, Eq)]
@@ -44,6 +46,11 @@ pub trait Joined: Drop {
 
     /// How often its futures were polled, where it knows.
     fn polls(&self) -> Answer {
+        Answer::Unknown
+    }
+
+    /// How often a source was dropped, where it knows.
+    fn source_drops(&self) -> Answer {
         Answer::Unknown
     }
 }
@@ -88,6 +95,7 @@ fn gave<T: Copy, R: Wait + Drop, J: Joined>(
         Call::Poll => join.poll_once(task),
         Call::IsWoken => Answer::Is(task.is_woken()),
         Call::Polls => join.polls(),
+        Call::SourceDrops => join.source_drops(),
     }
 }
 

@@ -32,6 +32,12 @@ pub enum Call {
     /// The feeder at this place gives the value.
     Give(usize, u64),
     CloseAll,
+    /// So many polls, each of which gives an item.
+    Items(usize),
+    /// How often streams were dropped, and sources.
+    Drops,
+    /// Drops the merge, but for what counts.
+    Drop,
 }
 
 #[derive(Clone, Copy, Debug, PartialEq, Eq)]
@@ -46,6 +52,7 @@ pub enum Answer {
     /// The stream came back.
     Back(Stepped),
     Number(usize),
+    Both(u64, u64),
     Is(bool),
     /// There is no such feeder or no such call.
     Unknown,
@@ -126,9 +133,21 @@ impl<S: ReadySource> Merged for MergeBounded<Stepped, S> {
     }
 }
 
+// The first answer that is no item.
+fn items<M: Merged>(task: &MockTask, merge: &mut M, count: usize) -> Answer {
+    for _ in 0..count {
+        match merge.answer(task, Call::Poll) {
+            Answer::Item(_) => {}
+            other => return other,
+        }
+    }
+    Answer::Done
+}
+
 fn gave<M: Merged>(task: &MockTask, merge: &mut M, call: Call) -> Answer {
     match call {
         Call::IsWoken => Answer::Is(task.is_woken()),
+        Call::Items(count) => items(task, merge, count),
         other => merge.answer(task, other),
     }
 }

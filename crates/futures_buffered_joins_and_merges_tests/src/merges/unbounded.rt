@@ -77,6 +77,32 @@ fn all_streams_end_past_the_first_group(rt: HostRuntime) -> Result<(), Fail> {
     try_row(&rt, made, &row)
 }
 
+// 32 streams that pause fill the first group, and the one that gives 5 stands in the second.
+#[test]
+fn a_poll_wakes_nobody(rt: HostRuntime) -> Result<(), Fail> {
+    let merge = MergeUnbounded::new(rt.alloc());
+    let made = new_pausing(&rt, merge, rt.alloc(), 32);
+    let row = [
+        (Call::Poll, Answer::Item(5)),
+        (Call::IsWoken, Answer::Is(false)),
+        (Call::Poll, Answer::Pending),
+        (Call::IsWoken, Answer::Is(false)),
+        (Call::Poll, Answer::Pending),
+        (Call::IsWoken, Answer::Is(false)),
+        (Call::WakeAll, Answer::Number(32)),
+        (Call::IsWoken, Answer::Is(true)),
+        (Call::Poll, Answer::End),
+        (Call::IsWoken, Answer::Is(false)),
+        (Call::Poll, Answer::End),
+        (Call::IsWoken, Answer::Is(false)),
+        (Call::Poll, Answer::End),
+        (Call::IsWoken, Answer::Is(false)),
+        (Call::Poll, Answer::End),
+        (Call::IsWoken, Answer::Is(false)),
+    ];
+    try_row(&rt, made, &row)
+}
+
 #[test]
 fn pushes_and_drains(rt: HostRuntime) -> Result<(), Fail> {
     let row = [

@@ -91,3 +91,23 @@ fn the_last_end_gives_none(rt: HostRuntime) -> Result<(), Fail> {
     ];
     try_row(&rt, new_feeding(&rt, rt.alloc(), 2), &row)
 }
+
+#[test]
+fn an_item_and_the_end_wake_nobody(rt: HostRuntime) -> Result<(), Fail> {
+    let row = [
+        (Call::Poll, Answer::Pending),
+        (Call::Give(0, 7), Answer::Done),
+        (Call::Poll, Answer::Item(7)),
+        (Call::IsWoken, Answer::Is(false)),
+        (Call::Poll, Answer::Pending),
+        (Call::IsWoken, Answer::Is(false)),
+        (Call::CloseAll, Answer::Done),
+        (Call::Poll, Answer::End),
+        (Call::IsWoken, Answer::Is(false)),
+        (Call::Poll, Answer::End),
+        (Call::IsWoken, Answer::Is(false)),
+        (Call::Poll, Answer::End),
+        (Call::IsWoken, Answer::Is(false)),
+    ];
+    try_row(&rt, new_feeding(&rt, rt.alloc(), 2), &row)
+}

@@ -8,7 +8,7 @@ use std::alloc::{AllocError, AllocGlobal, Global};
 use std::random::RandomSource;
 use std::sync::Wait;
 use std::test::Fail;
-use test_parts::calls::{Answer, Call, Tried, answered, send, try_row};
+use test_parts::calls::{Answer, Call, Tried, answered, send, try_calls, try_row};
 use test_parts::cells::{Cells, new_cells};
 use test_parts::polling::poll_growing_queue;
 use test_parts::receiver::{Receiver, Sender};
@@ -103,4 +103,38 @@ fn collects_in_order(rt: HostRuntime) -> Result<(), Fail> {
     let outputs = collected(&rt, queue)?;
     assert!(rt; outputs.as_slice() == [3, 2, 1, 0].as_slice());
     Ok(())
+}
+
+// A value is sent to a receiver behind the front: it wakes the task, and the poll keeps it.
+fn keep_one<T: Tried>(task: &MockTask, tried: &mut T, place: usize) -> Result<(), Fail> {
+    let row = [
+        (Call::Send(place, place as u64), Answer::Sent),
+        (Call::IsWoken, Answer::Is(true)),
+        (Call::Poll, Answer::Pending),
+        (Call::IsWoken, Answer::Is(false)),
+    ];
+    try_calls(task, tried, &row)
+}
+
+fn keep_each<T: Tried>(task: &MockTask, tried: &mut T, last: usize) -> Result<(), Fail> {
+    for place in 1..=last {
+        keep_one(task, tried, place)?;
+    }
+    Ok(())
+}
+
+// 2,001 receivers stand in groups of up to 1,024 slots, and a poll takes at most 61 names from each.
+#[test]
+fn keeps_2_000_outputs(rt: HostRuntime) -> Result<(), Fail> {
+    let task = MockTask::new(&rt)?;
+    let mut held = new_held(&rt, rt.alloc(), 2_001)?;
+    try_calls(&task, &mut held, &[(Call::Poll, Answer::Pending); 20])?;
+    keep_each(&task, &mut held, 2_000)?;
+    let row = [
+        (Call::Len, Answer::Number(2_001)),
+        (Call::Send(0, 0), Answer::Sent),
+        (Call::Outputs(2_001), Answer::InOrder),
+        (Call::Poll, Answer::None),
+    ];
+    try_calls(&task, &mut held, &row)
 }

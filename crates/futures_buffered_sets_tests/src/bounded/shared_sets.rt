@@ -112,6 +112,34 @@ fn an_end_wakes_nobody(rt: HostRuntime) -> Result<(), Fail> {
 }
 
 #[test]
+fn each_poll_after_the_end_wakes_nobody(rt: HostRuntime) -> Result<(), Fail> {
+    let row = [
+        (Call::Outputs(2), Answer::InOrder),
+        (Call::Poll, Answer::None),
+        (Call::IsWoken, Answer::Is(false)),
+        (Call::Poll, Answer::None),
+        (Call::IsWoken, Answer::Is(false)),
+        (Call::Poll, Answer::None),
+        (Call::IsWoken, Answer::Is(false)),
+    ];
+    try_row(&rt, of_ready(rt.alloc(), 2)?, &row)
+}
+
+#[test]
+fn a_set_without_slots_is_full_and_ended(rt: HostRuntime) -> Result<(), Fail> {
+    let row = [
+        (Call::Capacity, Answer::Number(0)),
+        (Call::Len, Answer::Number(0)),
+        (Call::Poll, Answer::None),
+        (Call::IsWoken, Answer::Is(false)),
+        (Call::Push(1, 0), Answer::Refused(1, 0)),
+        (Call::Poll, Answer::None),
+        (Call::IsTerminated, Answer::Is(true)),
+    ];
+    try_row(&rt, new_set(rt.alloc(), 0)?, &row)
+}
+
+#[test]
 fn prints_what_it_holds(rt: HostRuntime) -> Result<(), Fail> {
     let set = of_ready(rt.alloc(), 2)?;
     assert_text(&rt, &set, "FuturesUnorderedBounded { len: 2, .. }")

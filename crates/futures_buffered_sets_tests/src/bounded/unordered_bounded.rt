@@ -192,3 +192,13 @@ fn prints_its_length(rt: HostRuntime) -> Result<(), Fail> {
     let set = new_set(rt.alloc(), 3)?;
     assert_text(&rt, &set, "FuturesUnorderedBounded { len: 0, .. }")
 }
+
+#[test]
+fn prints_its_length_as_it_changes(rt: HostRuntime) -> Result<(), Fail> {
+    let mut set = new_set(rt.alloc(), 3)?;
+    assert_text(&rt, &set, "FuturesUnorderedBounded { len: 0, .. }")?;
+    try_on(&rt, &mut set, &[(Call::Push(7, 0), Answer::Pushed)])?;
+    assert_text(&rt, &set, "FuturesUnorderedBounded { len: 1, .. }")?;
+    try_on(&rt, &mut set, &[(Call::Push(8, 0), Answer::Pushed)])?;
+    assert_text(&rt, &set, "FuturesUnorderedBounded { len: 2, .. }")
+}

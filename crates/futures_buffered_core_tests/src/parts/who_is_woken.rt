@@ -1,0 +1,193 @@
+// Which task a wake finds, and where its waker lies, on one thread.
+use crate::same::assert_same;
+use futures::test::MockTask;
+use futures_buffered_core::ready_core::{Taken, Woke};
+use futures_buffered_core::ready_shared::SharedReady;
+use futures_buffered_core::ready_source::{NewSource, ReadySource, SlotWaker};
+use std::process::Abort;
+use std::test::Fail;
+
+// Registers the task, and nothing else.
+fn register(task: &MockTask, source: &mut SharedReady) {
+    task.enter(|cx| source.register(cx));
+}
+
+// Registers the task and takes once: the answer, and whether the task is woken by then.
+fn poll(task: &MockTask, source: &mut SharedReady) -> (Taken, bool) {
+    register(task, source);
+    let taken = source.take();
+    (taken, task.is_woken())
+}
+
+fn wake(source: &SharedReady, slot: usize) {
+    if slot < source.capacity() {
+        source.waker(slot).wake();
+    }
+}
+
+// Whether the task is woken once this slot was.
+fn is_woken_by(task: &MockTask, source: &SharedReady, slot: usize) -> bool {
+    wake(source, slot);
+    task.is_woken()
+}
+
+fn mark(source: &mut SharedReady, slot: usize) -> Option<Woke> {
+    if slot < source.capacity() {
+        Some(source.mark(slot))
+    } else {
+        None
+    }
+}
+
+// A poll that ends with a name leaves the task's waker with the poller, where no wake finds it: that task polls again by itself.
+#[test]
+fn a_wake_after_a_name_wakes_nobody(rt: HostRuntime) -> Result<(), Fail> {
+    let task = MockTask::new(&rt)?;
+    let mut source: SharedReady = SharedReady::new(rt.alloc(), 2)?;
+    assert_same(&rt, mark(&mut source, 0), Some(Woke::Fresh));
+    assert_same(&rt, poll(&task, &mut source), (Taken::Slot(0), false));
+    assert_same(&rt, is_woken_by(&task, &source, 1), false);
+    assert_same(&rt, poll(&task, &mut source), (Taken::Slot(1), false));
+    assert_same(&rt, is_woken_by(&task, &source, 0), false);
+    assert_same(&rt, poll(&task, &mut source), (Taken::Slot(0), false));
+    assert_same(&rt, poll(&task, &mut source), (Taken::Empty, false));
+    assert_same(&rt, is_woken_by(&task, &source, 1), true);
+    // That wake took the waker out, so it is with the poller again.
+    assert_same(&rt, poll(&task, &mut source), (Taken::Slot(1), false));
+    assert_same(&rt, is_woken_by(&task, &source, 0), false);
+    assert_same(&rt, poll(&task, &mut source), (Taken::Slot(0), false));
+    assert_same(&rt, poll(&task, &mut source), (Taken::Empty, false));
+    assert_same(&rt, is_woken_by(&task, &source, 0), true);
+    Ok(())
+}
+
+// Whether each of the two is woken.
+fn are_woken(one: &MockTask, two: &MockTask) -> (bool, bool) {
+    (one.is_woken(), two.is_woken())
+}
+
+fn poll_nothing(task: &MockTask) {
+    task.enter(|_cx| ());
+}
+
+// A second task that is given a name takes the place of the first, which is woken by that, and then the next wake finds the second.
+#[test]
+fn a_second_task_that_is_given_a_name_takes_the_place(rt: HostRuntime) -> Result<(), Fail> {
+    let one = MockTask::new(&rt)?;
+    let two = MockTask::new(&rt)?;
+    let mut source: SharedReady = SharedReady::new(rt.alloc(), 2)?;
+    poll_nothing(&two);
+    assert_same(&rt, poll(&one, &mut source), (Taken::Empty, false));
+    assert_same(&rt, mark(&mut source, 0), Some(Woke::Fresh));
+    assert_same(&rt, are_woken(&one, &two), (false, false));
+    assert_same(&rt, poll(&two, &mut source), (Taken::Slot(0), false));
+    assert_same(&rt, are_woken(&one, &two), (true, false));
+    poll_nothing(&one);
+    wake(&source, 1);
+    assert_same(&rt, are_woken(&one, &two), (false, true));
+    Ok(())
+}
+
+#[test]
+fn a_second_task_that_finds_nothing_takes_the_place(rt: HostRuntime) -> Result<(), Fail> {
+    let one = MockTask::new(&rt)?;
+    let two = MockTask::new(&rt)?;
+    let mut source: SharedReady = SharedReady::new(rt.alloc(), 2)?;
+    assert_same(&rt, poll(&one, &mut source), (Taken::Empty, false));
+    assert_same(&rt, poll(&two, &mut source), (Taken::Empty, false));
+    assert_same(&rt, are_woken(&one, &two), (true, false));
+    poll_nothing(&one);
+    wake(&source, 0);
+    assert_same(&rt, are_woken(&one, &two), (false, true));
+    Ok(())
+}
+
+// A second task finds the first's waker with the poller, lets it go there, and is found in its stead.
+#[test]
+fn a_second_task_takes_the_place_with_the_poller(rt: HostRuntime) -> Result<(), Fail> {
+    let one = MockTask::new(&rt)?;
+    let two = MockTask::new(&rt)?;
+    let mut source: SharedReady = SharedReady::new(rt.alloc(), 2)?;
+    assert_same(&rt, mark(&mut source, 0), Some(Woke::Fresh));
+    assert_same(&rt, poll(&one, &mut source), (Taken::Slot(0), false));
+    assert_same(&rt, poll(&two, &mut source), (Taken::Empty, false));
+    assert_same(&rt, are_woken(&one, &two), (true, false));
+    poll_nothing(&one);
+    wake(&source, 0);
+    assert_same(&rt, are_woken(&one, &two), (false, true));
+    Ok(())
+}
+
+// The task's waker is with the poller of the first source as the second is made, and a wake of the second finds it. The making wakes nobody.
+#[test]
+fn a_source_made_beside_finds_the_task_that_waits(rt: HostRuntime) -> Result<(), Fail> {
+    let task = MockTask::new(&rt)?;
+    let mut first: SharedReady = SharedReady::new(rt.alloc(), 1)?;
+    assert_same(&rt, mark(&mut first, 0), Some(Woke::Fresh));
+    assert_same(&rt, poll(&task, &mut first), (Taken::Slot(0), false));
+    let mut second = first.make_beside(rt.alloc(), 2)?;
+    assert_same(&rt, task.is_woken(), false);
+    assert_same(&rt, is_woken_by(&task, &second, 1), true);
+    assert_same(
+        &rt,
+        (second.take(), second.take()),
+        (Taken::Slot(1), Taken::Empty),
+    );
+    assert_same(&rt, first.take(), Taken::Empty);
+    Ok(())
+}
+
+// Registers at one source and asks the other alone, which has nothing. A wake of either then finds the task, and the next one does not.
+fn try_pair(
+    rt: &impl Abort,
+    task: &MockTask,
+    registered: &mut SharedReady,
+    asked: &mut SharedReady,
+) {
+    register(task, registered);
+    assert_same(rt, (asked.take(), task.is_woken()), (Taken::Empty, false));
+    assert_same(rt, is_woken_by(task, asked, 0), true);
+    poll_nothing(task);
+    assert_same(rt, is_woken_by(task, registered, 0), false);
+    assert_same(
+        rt,
+        (asked.take(), registered.take()),
+        (Taken::Slot(0), Taken::Slot(0)),
+    );
+    register(task, registered);
+    assert_same(rt, (asked.take(), task.is_woken()), (Taken::Empty, false));
+    assert_same(rt, is_woken_by(task, registered, 0), true);
+    assert_same(
+        rt,
+        (registered.take(), registered.take()),
+        (Taken::Slot(0), Taken::Empty),
+    );
+}
+
+// One registration covers all sources that stand beside one another.
+#[test]
+fn sources_beside_one_another_wake_one_task(rt: HostRuntime) -> Result<(), Fail> {
+    let task = MockTask::new(&rt)?;
+    let mut first: SharedReady = SharedReady::new(rt.alloc(), 1)?;
+    let mut second = first.make_beside(rt.alloc(), 1)?;
+    let mut third = second.make_beside(rt.alloc(), 1)?;
+    try_pair(&rt, &task, &mut first, &mut second);
+    try_pair(&rt, &task, &mut second, &mut first);
+    try_pair(&rt, &task, &mut first, &mut third);
+    try_pair(&rt, &task, &mut third, &mut second);
+    Ok(())
+}
+
+// Where sources stand beside one another, wakes find the task from its registration on, also after a name.
+#[test]
+fn a_wake_beside_finds_the_task_after_a_name(rt: HostRuntime) -> Result<(), Fail> {
+    let task = MockTask::new(&rt)?;
+    let mut first: SharedReady = SharedReady::new(rt.alloc(), 1)?;
+    let mut second = first.make_beside(rt.alloc(), 1)?;
+    assert_same(&rt, mark(&mut first, 0), Some(Woke::Fresh));
+    assert_same(&rt, poll(&task, &mut first), (Taken::Slot(0), false));
+    assert_same(&rt, is_woken_by(&task, &second, 0), true);
+    assert_same(&rt, poll(&task, &mut second), (Taken::Slot(0), false));
+    assert_same(&rt, is_woken_by(&task, &first, 0), true);
+    Ok(())
+}

@@ -1,0 +1,61 @@
+//! Adaptors of a stream.
+use crate::checked::{Half, Odd};
+use crate::countdown::{Pause, after};
+use futures::executor::block_on;
+use futures::{StreamExt, stream};
+use futures_buffered::{BufferedStreamExt, BufferedTryStreamExt};
+use std::alloc::AllocGlobal;
+use std::io::Print;
+use std::random::RandomSource;
+use std::sync::Wait;
+
+pub fn as_they_finish<R>(rt: &R) -> Result<(), anyhow::Error>
+where
+    R: Wait + RandomSource + AllocGlobal + Print,
+{
+    let jobs = vec![in rt.alloc(); after(3, 1), after(0, 2), after(0, 3)]?;
+    let outputs = stream::iter(jobs).buffered_unordered(rt.alloc(), 2)?;
+    let outputs = block_on(rt, outputs.collect(rt.alloc()))??;
+    println!(rt; "{outputs:?}")?;
+    Ok(())
+}
+
+pub fn in_order<R>(rt: &R) -> Result<(), anyhow::Error>
+where
+    R: Wait + RandomSource + AllocGlobal + Print,
+{
+    let numbers = vec![in rt.alloc(); 3, 2, 1]?;
+    let outputs = stream::iter(numbers)
+        .map(|n| after(n, n))
+        .buffered_ordered(rt.alloc(), 2)?;
+    let outputs = block_on(rt, outputs.collect(rt.alloc()))??;
+    println!(rt; "{outputs:?}")?;
+    Ok(())
+}
+
+pub fn up_to_an_error<R>(rt: &R) -> Result<(), anyhow::Error>
+where
+    R: Wait + RandomSource + AllocGlobal + Print,
+{
+    let jobs = vec![in rt.alloc(); Ok(Half(2)), Err(Odd(9)), Ok(Half(4))]?;
+    let outputs = stream::iter(jobs).try_buffered_ordered(rt.alloc(), 2)?;
+    let outputs = block_on(rt, outputs.collect(rt.alloc()))??;
+    println!(rt; "{outputs:?}")?;
+    Ok(())
+}
+
+pub fn for_each<R>(rt: &R) -> Result<(), anyhow::Error>
+where
+    R: Wait + RandomSource + AllocGlobal + Print,
+{
+    let numbers = vec![in rt.alloc(); 3, 2, 1]?;
+    let pauses = BufferedStreamExt::for_each_concurrent(
+        stream::iter(numbers),
+        rt.alloc(),
+        2,
+        |n| Pause(after(n, n)),
+    )?;
+    block_on(rt, pauses)?;
+    println!(rt; "done")?;
+    Ok(())
+}

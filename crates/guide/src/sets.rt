@@ -1,0 +1,52 @@
+//! Sets.
+use crate::countdown::after;
+use anyhow::bail;
+use futures::executor::block_on;
+use futures::{StreamExt, future};
+use futures_buffered::{FuturesUnordered, FuturesUnorderedBounded};
+use std::alloc::AllocGlobal;
+use std::io::Print;
+use std::random::RandomSource;
+use std::sync::Wait;
+
+pub fn bounded_set<R>(rt: &R) -> Result<(), anyhow::Error>
+where
+    R: Wait + RandomSource + AllocGlobal + Print,
+{
+    let mut set = FuturesUnorderedBounded::new(rt.alloc(), 2)?;
+    set.push(after(2, 1));
+    set.push(after(0, 2));
+    if let Err(back) = set.try_push(after(0, 3)) {
+        println!(rt; "full: {} is back", back.value)?;
+    }
+    let outputs = block_on(rt, set.collect(rt.alloc()))??;
+    println!(rt; "{outputs:?}")?;
+    Ok(())
+}
+
+pub fn work_list<R>(rt: &R) -> Result<(), anyhow::Error>
+where
+    R: Wait + RandomSource + AllocGlobal + Print,
+{
+    let mut work = FuturesUnordered::new(rt.alloc());
+    for value in 0..100 {
+        if work.push(after(1, value)).is_err() {
+            bail!("out of memory");
+        }
+    }
+    println!(rt; "{} held, room for {}", work.len(), work.capacity())?;
+    let sum = work.fold(0u64, |sum, value| future::ready(sum.wrapping_add(value)));
+    println!(rt; "sum {}", block_on(rt, sum)?)?;
+    Ok(())
+}
+
+pub fn one_name_a_poll<R>(rt: &R) -> Result<(), anyhow::Error>
+where
+    R: Wait + RandomSource + AllocGlobal + Print,
+{
+    let mut set = FuturesUnorderedBounded::with_limit(rt.alloc(), 8, 1)?;
+    set.push(after(3, 7));
+    let output = block_on(rt, set.next())?;
+    println!(rt; "{output:?}")?;
+    Ok(())
+}
