@@ -169,7 +169,7 @@ impl<St: SlotStream<S::Waker>, S: NewSource> Stream for MergeUnbounded<St, S> {
 
     /// One poll: each group that stands as the poll begins is asked once, in turn, until one gives an item.
     ///
-    /// A stream that gives an item stays, and its slot is marked. A stream that ends is dropped. A group that holds nothing leaves, unless it is the last. `Ready(None)` where no stream is held any more. Each count begins with a registration of the task. Takes no memory. Takes time in proportion to the number of groups and to the names taken, besides the polls.
+    /// A stream that gives an item stays, and its slot is marked. A stream that ends is dropped. A group that holds nothing leaves, unless it is the last. `Ready(None)` where no stream is held any more. The first group that holds a stream registers the task, at each of its counts. Takes no memory. Takes time in proportion to the number of groups and to the names taken, besides the polls.
     fn poll_next(&mut self, cx: &mut Context<'_>) -> Poll<Option<St::Item>>
         requires { EachHeld St.can_poll self.old.groups.listed }
         ensures polled { GroupsGive (MergeGives St.polled S.steps S.marks)
