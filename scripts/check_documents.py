@@ -3,7 +3,8 @@
 
     scripts/check_documents.py
 
-Each block of Rust code in a document stands, line by line but for its indent and empty lines, in a source that the gate proves.
+Each block of Rust code in a document, and each of definitions or proofs (`antt`), stands in a file that the gate proves, line by line
+but for its indent and empty lines.
 A path with a folder in capitals, as `crates/CRATE/src`, stands for any, and is passed over. A name is a word in backquotes with an
 underscore or an inner capital. It has to stand in a source, a proof, a refused body or a script,
 as a word of its text or as a file's name. Names of the Rust crate, of the kit and of the system alone are listed below.
@@ -67,7 +68,7 @@ def leads_somewhere(path, document):
 
 def faults_of(document, words, sources, count):
     text = document.read_text(encoding="utf-8")
-    for block in re.findall(r"^```rust\n(.*?)^```", text, re.M | re.S):
+    for block in re.findall(r"^```(?:rust|antt)\n(.*?)^```", text, re.M | re.S):
         count["blocks"] += 1
         if not any(stands_together(lines_of(block), source) for source in sources):
             yield f"no source has the code that begins with {lines_of(block)[0]!r}"
@@ -89,7 +90,7 @@ def faults_of(document, words, sources, count):
 
 def main():
     words = words_of_sources()
-    sources = [lines_of(path.read_text(encoding="utf-8")) for path in tracked() if path.suffix == ".rt"]
+    sources = [lines_of(path.read_text(encoding="utf-8")) for path in tracked() if path.suffix in {".rt", ".antt"}]
     count = {"names": 0, "paths": 0, "blocks": 0}
     faults = 0
     for document in DOCUMENTS:

@@ -1,5 +1,5 @@
 //! Readers and writers that a test can foresee.
-use std::alloc::{AllocError, Global};
+use std::alloc::Global;
 use std::io;
 use std::io::{ErrorKind, Read, Write};
 

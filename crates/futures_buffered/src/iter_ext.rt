@@ -1,15 +1,15 @@
 //! Constructors of sets, joins and merges as methods of what gives the items.
-ghost use Rattle.std.specs.Prelude.{◌≡◌, ◌≤◌, ℕ, List, IfOk, IsSomeAnd, max};
+ghost use Rattle.std.specs.Prelude.{◌≡◌, ◌≤◌, ◌<◌, ◌⊎◌, ℕ, List, IfOk, IsSomeAnd, max};
 ghost use Rattle.std.specs.Iterator.{IsFiniteIterable};
-ghost use Rattle.futures_buffered_core.specs.Drawn.{Draws, DrawsMoreThan};
+ghost use Rattle.futures_buffered_core.specs.Drawn.{Draws, DrawsMoreThan, SaysAtLeast};
 ghost use Rattle.futures_buffered_core.specs.ReadyShared.{IsNewShared, MarksShared, Shared};
 ghost use Rattle.futures_buffered_core.specs.SlotMap.{slot_count};
 ghost use Rattle.futures_buffered_unordered_bounded.specs.FuturesUnorderedBounded.{HoldsEach};
-ghost use Rattle.futures_buffered_unordered.specs.SlotGroups.{Growing, IsNewGrowing, PushesEach, no_groups};
+ghost use Rattle.futures_buffered_unordered.specs.SlotGroups.{Growing, IsNewGrowing, PushesEach, StopsAtBound, no_groups};
 ghost use Rattle.futures_buffered_joins.specs.Joining.{IsNewJoin};
 ghost use Rattle.futures_buffered_ordered.specs.OrderedEntries.{AddsEachBack};
 ghost use Rattle.futures_buffered_ordered.specs.FuturesOrderedBounded.{HoldsInOrder};
-ghost use Rattle.futures_buffered_ordered.specs.FuturesOrdered.{IsNewGrowingQueue, OrderedGrowing, GrowingPushesNumber};
+ghost use Rattle.futures_buffered_ordered.specs.FuturesOrdered.{IsNewGrowingQueue, OrderedGrowing, GrowingPushesNumber, QueueStopsAtBound};
 
 use futures_buffered_core::ready_core::{MAX_CAPACITY, NewFault};
 use futures_buffered_core::ready_shared::{SharedReady, SharedWaker};
@@ -62,8 +62,15 @@ pub trait IterExt: IntoIterator {
         ensures holds { IfOk result (λ set. (items : List Self.Item) × (least : ℕ)
             × ((start : Growing Self.Item Shared)
             × Draws Self.into_iter_gives Self.IntoIter.next_gives self items
+            × SaysAtLeast Self.into_iter_gives Self.IntoIter.remaining self least
             × IsNewGrowing IsNewShared (max least FIRST_GROUP) POLL_LIMIT start
             × PushesEach MarksShared IsNewShared start items set)) }
+        ensures large { result ≡ Err NewFault.TooLarge → (least : ℕ)
+            × SaysAtLeast Self.into_iter_gives Self.IntoIter.remaining self least
+            × ((MAX_CAPACITY < max least FIRST_GROUP) ⊎ ((start : Growing Self.Item Shared)
+            × IsNewGrowing IsNewShared (max least FIRST_GROUP) POLL_LIMIT start
+            × StopsAtBound Self.into_iter_gives Self.IntoIter.next_gives self
+            MarksShared IsNewShared start)) }
     {
         FuturesUnordered::from_iter(alloc, self)
     }
@@ -107,8 +114,16 @@ pub trait IterExt: IntoIterator {
         ensures holds { IfOk result (λ q. (items : List Self.Item) × (least : ℕ)
             × ((start : OrderedGrowing Self.Item Self.Item.Output Shared)
             × Draws Self.into_iter_gives Self.IntoIter.next_gives self items
+            × SaysAtLeast Self.into_iter_gives Self.IntoIter.remaining self least
             × IsNewGrowingQueue IsNewShared (max least FIRST_GROUP) POLL_LIMIT start
             × AddsEachBack (GrowingPushesNumber MarksShared IsNewShared) start items q)) }
+        ensures large { result ≡ Err NewFault.TooLarge → (least : ℕ)
+            × SaysAtLeast Self.into_iter_gives Self.IntoIter.remaining self least
+            × ((MAX_CAPACITY < max least FIRST_GROUP)
+            ⊎ ((start : OrderedGrowing Self.Item Self.Item.Output Shared)
+            × IsNewGrowingQueue IsNewShared (max least FIRST_GROUP) POLL_LIMIT start
+            × QueueStopsAtBound Self.into_iter_gives Self.IntoIter.next_gives self
+            MarksShared IsNewShared start)) }
     {
         FuturesOrdered::from_iter(alloc, self)
     }
@@ -192,6 +207,9 @@ pub trait IterExt: IntoIterator {
         ensures holds { IfOk result (λ merge. (streams : List Self.Item)
             × Draws Self.into_iter_gives Self.IntoIter.next_gives self streams
             × PushesEach MarksShared IsNewShared (no_groups POLL_LIMIT) streams merge) }
+        ensures large { result ≡ Err NewFault.TooLarge
+            → StopsAtBound Self.into_iter_gives Self.IntoIter.next_gives self MarksShared
+            IsNewShared (no_groups POLL_LIMIT) }
     {
         MergeUnbounded::from_iter(alloc, self)
     }

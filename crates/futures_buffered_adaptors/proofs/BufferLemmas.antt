@@ -8,7 +8,7 @@ use Rattle.futures.specs.Task.{Lasting, Covers, Keeps, Hears}
 use Rattle.futures.specs.Runs.{Runs, After, Within, Ends, Leads, Chains, Resolves, firsts}
 use Rattle.futures.specs.Buffered.{GathersWith}
 use Rattle.futures_buffered_adaptors.specs.FutureQueue.{MayCome, AddsOutput}
-use Rattle.futures_buffered_adaptors.specs.Buffer.{Buffering, Ahead, DrawsAll, Calls, CanDraw, WaitsAt, OneComes, Comes, BufferGives, answer_from, answer_of_none}
+use Rattle.futures_buffered_adaptors.specs.Buffer.{Buffering, Ahead, AsksStream, DrawsAll, HasNoTurn, Calls, CanDraw, WaitsAt, OneComes, Comes, BufferGives, answer_from, answer_of_none}
 
 None-Some : {X F : Type 0} {f : F} → None ≡ Some f → X
 None-Some e = cc
@@ -318,3 +318,15 @@ module _ {St Q : Type 0} (stream_needs : St → ℕ → Type 0) (queue_needs : Q
       by_place : (place : ℕ) → WaitsAt stream_needs queue_needs count room (record { stream = stream; queue = new }) place → Hears after place
       by_place place (inl waits) = let more = waits.0 in let e = ap count same in absurd (omega (arith, more, none, e))
       by_place place (inr waits) = by_stream place stream (drawn below) waits.1
+
+-- a stream that was polled had its turn
+pub had_turn : {St X Q : Type 0} (next : St → Poll (Option X) → St → Type 0) (count : Q → ℕ) (n : ℕ) (old : Buffering St Q) (s : St) (q : Q) → old ≡ record { stream = Some s; queue = q } → count q < n → HasNoTurn next count n old → ⊥
+had_turn {St} {X} {Q} next count n old s q is room none = by_turn (subst (HasNoTurn next count n) is none)
+  where
+    by_turn : HasNoTurn next count n (record { stream = Some s; queue = q }) → ⊥
+    by_turn (inl ended) = None-Some (sym ended)
+    by_turn (inr full) = absurd (omega (arith, full, room))
+
+pub asked_had_turn : {St X Q : Type 0} (next : St → Poll (Option X) → St → Type 0) (count : Q → ℕ) (n : ℕ) (old : Buffering St Q) (answer : Poll (Option X)) (left : St) → AsksStream next count n old answer left → HasNoTurn next count n old → ⊥
+asked_had_turn next count n old answer left asks (inl ended) = None-Some (sym ended ∙ asks.not_ended)
+asked_had_turn next count n old answer left asks (inr full) = absurd (omega (arith, full, asks.has_room))

@@ -1,5 +1,5 @@
 -- Where each value held came from, and that no item drawn is lost or counted twice.
-use Rattle.std.proofs.Common.{◌≡◌, ℕ, zero, suc, ◌<◌, List, [], ◌∷◌, ◌++◌, length, set, get_or, filter_map, Option, Some, None, MatchOption, is_some, count_by, cond, refl, sym, subst, inl, inr, arith, append-nil, append_assoc}
+use Rattle.std.proofs.Common.{◌≡◌, ℕ, zero, suc, ◌<◌, List, [], ◌∷◌, ◌++◌, length, set, get_or, filter_map, Option, Some, None, Result, MatchOption, is_some, count_by, cond, refl, sym, subst, inl, inr, arith, append-nil, append_assoc}
 use Rattle.std.specs.Prelude.{IsPermutation, ⊤}
 use Rattle.std.specs.Option.{option_to_list}
 use Rattle.std.specs.List.{FoldsTo, AllZip}
@@ -14,10 +14,11 @@ use Rattle.futures_buffered_table.specs.declared.answer.Woke.{Woke}
 use Rattle.futures_buffered_core.specs.ReadySource.{SourceSteps}
 use Rattle.futures_buffered_unordered_bounded.specs.Held.{Passes, Yields}
 use Rattle.futures_buffered_unordered_bounded.specs.FuturesUnorderedBounded.{Bounded, Pushes, PollGives, held_in}
+use Rattle.futures_buffered_adaptors.proofs.TryBufferAccountLemmas.{many_calls_with_errors}
 use Rattle.futures_buffered_adaptors.specs.Buffer.{Buffering, PollsStream, DrawsOne, DrawsNone, Calls, CallsInTurn, all_drawn, all_outputs, output_of, answer_from}
-use Rattle.futures_buffered_adaptors.specs.BufferUnordered.{PendsTo, WaitsInSlot, MayGiveInSlot, LosesNothing}
+use Rattle.futures_buffered_adaptors.specs.BufferUnordered.{PendsTo, WaitsInSlot, MayGiveInSlot, LosesNothing, TryLosesNothing}
 
-abbrev somes : {F : Type 0} → List (Option F) → List F
+abbrev pub somes : {F : Type 0} → List (Option F) → List F
 somes = filter_map (λ o. o)
 
 None-Some : {X : Type 0} {F : Type 0} {f : F} → None ≡ Some f → X
@@ -95,13 +96,13 @@ module _ {F A : Type 0} where
       let more = taken_out (from_next polled) os ps i f g h x came.1 found p in
       (more.0, Some o ∷ more.1, (suc more.2.0, more.2.1), (came.0, more.3), IsPermutation-trans _ _ _ (IsPermutation-cons o _ _ more.4) (IsPermutation-middle (o ∷ []) more.0 (somes more.1)))
 
-  nothing : (polled : ℕ → F → Poll A → F → Type 0) (os : List (Option F)) → count_by is_some os ≡ 0 → Origins polled os os × (somes os ≡ [])
+  pub nothing : (polled : ℕ → F → Poll A → F → Type 0) (os : List (Option F)) → count_by is_some os ≡ 0 → Origins polled os os × (somes os ≡ [])
   nothing polled [] e = (tt, refl)
   nothing polled (None ∷ os) e = let more = nothing (from_next polled) os e in ((tt, more.0), more.1)
   nothing polled (Some f ∷ os) e = absurd (omega (arith, e, sum_by-cons (λ (o : Option F). cond (is_some o) 1 0) (Some f) os))
 
   -- what is held came from what it came from, in order
-  kept_came : (polled whole : ℕ → F → Poll A → F → Type 0) (shift : (f g : F) → WaitsInSlot polled f g → WaitsInSlot whole f g) (os ps : List (Option F)) → Origins polled os ps → AllZip (WaitsInSlot whole) (somes os) (somes ps)
+  pub kept_came : (polled whole : ℕ → F → Poll A → F → Type 0) (shift : (f g : F) → WaitsInSlot polled f g → WaitsInSlot whole f g) (os ps : List (Option F)) → Origins polled os ps → AllZip (WaitsInSlot whole) (somes os) (somes ps)
   kept_came polled whole shift [] [] came = tt
   kept_came polled whole shift [] (p ∷ ps) came = absurd came
   kept_came polled whole shift (o ∷ os) [] came = absurd came
@@ -132,12 +133,12 @@ module _ {F A : Type 0} (polled : ℕ → F → Poll A → F → Type 0) where
       (out.0, out.1, out.2, subst (λ (w : Slots F). Origins polled out.1 (with_slot_freed w i).places) (sym yields.now_holds) out.3, out.4)
 
   -- the items whose outputs were given, the items of what is held, and the items drawn
-  record SoFar (drawn : List F) (outputs : List A) (m : Slots F) : Type 0 where
-    gone : List F
-    origins : List (Option F)
-    all : IsPermutation drawn (gone ++ somes origins)
-    gave : AllZip (MayGiveInSlot polled) gone outputs
-    came : Origins polled origins m.places
+  pub record SoFar (drawn : List F) (outputs : List A) (m : Slots F) : Type 0 where
+    pub gone : List F
+    pub origins : List (Option F)
+    pub all : IsPermutation drawn (gone ++ somes origins)
+    pub gave : AllZip (MayGiveInSlot polled) gone outputs
+    pub came : Origins polled origins m.places
 
   zip-push : (fs : List F) (xs : List A) (f : F) (x : A) → AllZip (MayGiveInSlot polled) fs xs → MayGiveInSlot polled f x → AllZip (MayGiveInSlot polled) (fs ++ f ∷ []) (xs ++ x ∷ [])
   zip-push [] [] f x zip may = (may, tt)
@@ -145,7 +146,7 @@ module _ {F A : Type 0} (polled : ℕ → F → Poll A → F → Type 0) where
   zip-push (g ∷ fs) [] f x zip may = absurd zip
   zip-push (g ∷ fs) (y ∷ xs) f x zip may = (zip.0, zip-push fs xs f x zip.1 may)
 
-  drew : (drawn : List F) (outputs : List A) (old new : Slots F) (i : ℕ) (f : F) → SoFar drawn outputs old → Inserts old i f new → SoFar (drawn ++ f ∷ []) outputs new
+  pub drew : (drawn : List F) (outputs : List A) (old new : Slots F) (i : ℕ) (f : F) → SoFar drawn outputs old → Inserts old i f new → SoFar (drawn ++ f ∷ []) outputs new
   drew drawn outputs old new i f so into =
       let put = put_in polled so.origins old.places i f so.came into.within into.was_empty in
       record {
@@ -156,21 +157,8 @@ module _ {F A : Type 0} (polled : ℕ → F → Poll A → F → Type 0) where
         came = rw into.now_held put.1;
       }
 
-module _ {St F A S : Type 0} (yields : St → Runs F) (polled : ℕ → F → Poll A → F → Type 0) (steps : SourceSteps S) (marks : S → ℕ → Woke → S → Type 0) (n : ℕ) where
-  abbrev So : List F → List A → Buffering St (Bounded F S) → Type 0
-  So drawn outputs b = SoFar polled drawn outputs b.queue.slots
-
-  drew_all : (items drawn : List F) (outputs : List A) (old full : Buffering St (Bounded F S)) → So drawn outputs old → FoldsTo (DrawsOne (PollsStream yields) held_in n (Pushes marks)) old items full → So (drawn ++ items) outputs full
-  drew_all [] drawn outputs old full so ran = rw (append-nil drawn) (subst (So drawn outputs) ran so)
-  drew_all (f ∷ items) drawn outputs old full so ran =
-      rw (← append_assoc drawn (f ∷ []) items) (drew_all items (drawn ++ f ∷ []) outputs ran.0 full (drew polled drawn outputs old.queue.slots ran.0.queue.slots ran.1.pushed.0 f so ran.1.pushed.1.inserted) ran.2)
-
-  drew_none : (drawn : List F) (outputs : List A) (full new : Buffering St (Bounded F S)) → So drawn outputs full → DrawsNone (PollsStream yields) held_in n full new → So drawn outputs new
-  drew_none drawn outputs full new so (inl h) = subst (So drawn outputs) (sym h.1) so
-  drew_none drawn outputs full new so (inr (inl h)) = rw h.2 so
-  drew_none drawn outputs full new so (inr (inr h)) = rw h.2 so
-
-  gave_one : (drawn : List F) (outputs : List A) (old new : Bounded F S) (answer : Poll (Option A)) → SoFar polled drawn outputs old.slots → PollGives polled steps old answer new → SoFar polled drawn (outputs ++ option_to_list (output_of answer)) new.slots
+module _ {F A S : Type 0} (polled : ℕ → F → Poll A → F → Type 0) (steps : SourceSteps S) where
+  pub gave_one : (drawn : List F) (outputs : List A) (old new : Bounded F S) (answer : Poll (Option A)) → SoFar polled drawn outputs old.slots → PollGives polled steps old answer new → SoFar polled drawn (outputs ++ option_to_list (output_of answer)) new.slots
   gave_one drawn outputs old new (Ready None) so h = rw (append-nil outputs) (subst (λ (b : Bounded F S). SoFar polled drawn outputs b.slots) (sym h.1) so)
   gave_one drawn outputs old new (Ready (Some x)) so h =
       let asks = h.1.2 in
@@ -186,6 +174,20 @@ module _ {St F A S : Type 0} (yields : St → Runs F) (polled : ℕ → F → Po
   gave_one drawn outputs old new Pending so h =
       rw (append-nil outputs) (record { gone = so.gone; origins = so.origins; all = so.all; gave = so.gave; came = ran_on polled so.origins h.1.0 old.slots new.slots so.came h.1.3.passes })
 
+module _ {St F A S : Type 0} (yields : St → Runs F) (polled : ℕ → F → Poll A → F → Type 0) (steps : SourceSteps S) (marks : S → ℕ → Woke → S → Type 0) (n : ℕ) where
+  abbrev So : List F → List A → Buffering St (Bounded F S) → Type 0
+  So drawn outputs b = SoFar polled drawn outputs b.queue.slots
+
+  drew_all : (items drawn : List F) (outputs : List A) (old full : Buffering St (Bounded F S)) → So drawn outputs old → FoldsTo (DrawsOne (PollsStream yields) held_in n (Pushes marks)) old items full → So (drawn ++ items) outputs full
+  drew_all [] drawn outputs old full so ran = rw (append-nil drawn) (subst (So drawn outputs) ran so)
+  drew_all (f ∷ items) drawn outputs old full so ran =
+      rw (← append_assoc drawn (f ∷ []) items) (drew_all items (drawn ++ f ∷ []) outputs ran.0 full (drew polled drawn outputs old.queue.slots ran.0.queue.slots ran.1.pushed.0 f so ran.1.pushed.1.inserted) ran.2)
+
+  drew_none : (drawn : List F) (outputs : List A) (full new : Buffering St (Bounded F S)) → So drawn outputs full → DrawsNone (PollsStream yields) held_in n full new → So drawn outputs new
+  drew_none drawn outputs full new so (inl h) = subst (So drawn outputs) (sym h.1) so
+  drew_none drawn outputs full new so (inr (inl h)) = rw h.2 so
+  drew_none drawn outputs full new so (inr (inr h)) = rw h.2 so
+
   pub same_output : (stream : Option St) (queue_answer : Poll (Option A)) → output_of (answer_from stream queue_answer) ≡ output_of queue_answer
   same_output stream (Ready (Some x)) = refl
   same_output None (Ready None) = refl
@@ -196,7 +198,7 @@ module _ {St F A S : Type 0} (yields : St → Runs F) (polled : ℕ → F → Po
       → So (drawn ++ items) (outputs ++ option_to_list (output_of answer)) new
   one_call items drawn outputs answer old new so call =
       let filled = drew_none (drawn ++ items) outputs call.draws.full call.filled (drew_all items drawn outputs old call.draws.full so call.draws.items) call.draws.last in
-      rw (call.gives, same_output call.filled.stream call.queue_answer) (gave_one (drawn ++ items) outputs call.filled.queue new.queue call.queue_answer filled call.polls_queue)
+      rw (call.gives, same_output call.filled.stream call.queue_answer) (gave_one polled steps (drawn ++ items) outputs call.filled.queue new.queue call.queue_answer filled call.polls_queue)
 
   pub outputs_cons : (items : List F) (answer : Poll (Option A)) (calls : List (List F × Poll (Option A))) → all_outputs ((items, answer) ∷ calls) ≡ option_to_list (output_of answer) ++ all_outputs calls
   outputs_cons items (Ready None) calls = refl
@@ -215,3 +217,14 @@ loses_nothing yields polled steps marks n old new calls empty ran =
     let none = nothing polled old.queue.slots.places empty in
     let so = many_calls yields polled steps marks n calls [] [] old new (record { gone = []; origins = old.queue.slots.places; all = rw none.1 (IsPermutation-refl []); gave = tt; came = none.0 }) ran in
     record { gone = so.gone; kept = somes so.origins; all = so.all; gave = so.gave; became = kept_came polled polled (λ f g w. w) so.origins new.queue.slots.places so.came }
+
+-- the same where the stream gives errors as well
+pub try_loses_nothing : {St F T E S : Type 0} (yields : St → Runs (Result F E)) (polled : ℕ → F → Poll (Result T E) → F → Type 0) (steps : SourceSteps S) (marks : S → ℕ → Woke → S → Type 0) → TryLosesNothing yields polled steps marks
+try_loses_nothing {St} {F} {T} {E} {S} yields polled steps marks n old new calls empty ran =
+    let none = nothing polled old.queue.slots.places empty in
+    let start : SoFar polled [] [] old.queue.slots = record { gone = []; origins = old.queue.slots.places; all = rw none.1 (IsPermutation-refl []); gave = tt; came = none.0 } in
+    let so = many_calls_with_errors (PollsStream yields) held_in n (Pushes marks) (PollGives polled steps) (λ drawn outputs (b : Bounded F S). SoFar polled drawn outputs b.slots)
+    (λ drawn outputs before after f so push. drew polled drawn outputs before.slots after.slots push.0 f so push.1.inserted)
+    (λ drawn outputs before after answer so gives. gave_one polled steps drawn outputs before after answer so gives)
+    calls [] [] old new ([], start, ([], (refl, refl))) ran in
+    (so.0, so.2, record { gone = so.1.gone; kept = somes so.1.origins; all = so.1.all; gave = so.1.gave; became = kept_came polled polled (λ f g w. w) so.1.origins new.queue.slots.places so.1.came })

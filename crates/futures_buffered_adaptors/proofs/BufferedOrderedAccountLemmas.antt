@@ -1,5 +1,5 @@
 -- That the outputs of an ordered buffer are those of the first items drawn, in order, and that no item drawn is lost.
-use Rattle.std.proofs.Common.{◌≡◌, ◌≢◌, ℕ, zero, suc, ◌+◌, ◌≤◌, Bool, List, [], ◌∷◌, ◌++◌, set, Option, Some, None, MatchOption, cond, count_by, refl, sym, ap, subst, inl, inr, ◌∙◌, append-nil, append_assoc, length, arith}
+use Rattle.std.proofs.Common.{◌≡◌, ◌≢◌, ℕ, zero, suc, ◌+◌, ◌≤◌, Bool, List, [], ◌∷◌, ◌++◌, set, Option, Some, None, Result, MatchOption, cond, count_by, refl, sym, ap, subst, inl, inr, ◌∙◌, append-nil, append_assoc, length, arith}
 use Rattle.std.specs.Prelude.{⊤}
 use Rattle.std.specs.Option.{option_to_list}
 use Rattle.std.specs.List.{FoldsTo, AllZip, slice_get}
@@ -25,9 +25,10 @@ use Rattle.futures_buffered_ordered.specs.declared.ordered_entries.Entry.{Entry}
 use Rattle.futures_buffered_ordered.specs.declared.ordered_entries.Entry.TheVariants.{Running, Kept}
 use Rattle.futures_buffered_ordered.proofs.NumberedLemmas.{count-names, in_slots, none_held, numbers_inserted, numbers_polled}
 use Rattle.futures_buffered_ordered.proofs.OrderedEntriesInvariantLemmas.{runs-set}
+use Rattle.futures_buffered_adaptors.proofs.TryBufferAccountLemmas.{many_calls_with_errors}
 use Rattle.futures_buffered_adaptors.specs.Buffer.{Buffering, PollsStream, DrawsOne, DrawsNone, Calls, CallsInTurn, all_drawn, all_outputs, output_of}
 use Rattle.futures_buffered_adaptors.specs.BufferUnordered.{PendsTo, MayGiveInSlot}
-use Rattle.futures_buffered_adaptors.specs.BufferedOrdered.{BecomesEntry, GivesInOrder, queue_len}
+use Rattle.futures_buffered_adaptors.specs.BufferedOrdered.{BecomesEntry, GivesInOrder, TryGivesInOrder, queue_len}
 use Rattle.futures_buffered_adaptors.proofs.BufferedOrderedLemmas.{one_slot}
 use Rattle.futures_buffered_adaptors.proofs.BufferUnorderedAccountLemmas.{waits_more, outputs_cons, same_output}
 
@@ -200,16 +201,16 @@ module _ {F A : Type 0} (polled : ℕ → F → Poll A → F → Type 0) where
 
 module _ {F A S : Type 0} (polled : ℕ → F → Poll A → F → Type 0) where
   -- the items whose outputs were given, and the items of the entries
-  record SoFar (drawn : List F) (outputs : List A) (q : OrderedBounded F A S) : Type 0 where
-    gone : List F
-    kept : List F
-    all : drawn ≡ gone ++ kept
-    gave : AllZip (MayGiveInSlot polled) gone outputs
-    came : AllZip (BecomesEntry polled q.set.slots) kept q.entries
-    each : Apart q.entries
-    as_many : (n : ℕ) → held_with n q.set ≡ count_by (runs_with n) q.entries
+  pub record SoFar (drawn : List F) (outputs : List A) (q : OrderedBounded F A S) : Type 0 where
+    pub gone : List F
+    pub kept : List F
+    pub all : drawn ≡ gone ++ kept
+    pub gave : AllZip (MayGiveInSlot polled) gone outputs
+    pub came : AllZip (BecomesEntry polled q.set.slots) kept q.entries
+    pub each : Apart q.entries
+    pub as_many : (n : ℕ) → held_with n q.set ≡ count_by (runs_with n) q.entries
 
-  drew : (marks : S → ℕ → Woke → S → Type 0) (drawn : List F) (outputs : List A) (old new : OrderedBounded F A S) (f : F) → SoFar drawn outputs old → AddsBack (PushesNumber marks) old f new → SoFar (drawn ++ f ∷ []) outputs new
+  pub drew : (marks : S → ℕ → Woke → S → Type 0) (drawn : List F) (outputs : List A) (old new : OrderedBounded F A S) (f : F) → SoFar drawn outputs old → AddsBack (PushesNumber marks) old f new → SoFar (drawn ++ f ∷ []) outputs new
   drew marks drawn outputs old new f so added =
       let i = added.0 in
       let put : Numbered F = record { future = f; number = i } in
@@ -272,7 +273,7 @@ module _ {F A S : Type 0} (polled : ℕ → F → Poll A → F → Type 0) (step
             as_many = λ n. rw same (so.as_many n ∙ ap (λ (l : List (Entry A)). count_by (runs_with n) l) front);
           }
 
-  one_poll : (drawn : List F) (outputs : List A) (old new : OrderedBounded F A S) (answer : Poll (Option A)) → SoFar polled drawn outputs old → OrderedGives (SetGives polled steps) held_in old answer new → SoFar polled drawn (outputs ++ option_to_list (output_of answer)) new
+  pub one_poll : (drawn : List F) (outputs : List A) (old new : OrderedBounded F A S) (answer : Poll (Option A)) → SoFar polled drawn outputs old → OrderedGives (SetGives polled steps) held_in old answer new → SoFar polled drawn (outputs ++ option_to_list (output_of answer)) new
   one_poll drawn outputs old new answer so h = last_one answer h.last_step
     where
       then : SoFar polled drawn outputs h.before
@@ -321,7 +322,7 @@ module _ {St F A S : Type 0} (yields : St → Runs F) (polled : ℕ → F → Po
       rw (outputs_cons yields polled steps marks n items answer calls, ← append_assoc drawn items (all_drawn calls), ← append_assoc outputs (option_to_list (output_of answer)) (all_outputs calls))
       (many_calls calls (drawn ++ items) (outputs ++ option_to_list (output_of answer)) ran.0 new (one_call items drawn outputs answer old ran.0 so ran.1) ran.2)
 
-nil_of : {X : Type 0} (xs : List X) → length xs ≡ 0 → xs ≡ []
+pub nil_of : {X : Type 0} (xs : List X) → length xs ≡ 0 → xs ≡ []
 nil_of [] none = refl
 nil_of (x ∷ xs) none = absurd (omega (arith, none))
 
@@ -330,3 +331,14 @@ gives_in_order yields polled steps marks n old new calls empty none_in ran =
     let none = nil_of old.queue.entries empty in
     let so = many_calls yields polled steps marks n calls [] [] old new (record { gone = []; kept = []; all = refl; gave = tt; came = rw none tt; each = rw none tt; as_many = λ i. rw none (none_held i old.queue.set.slots none_in) }) ran in
     record { gone = so.gone; kept = so.kept; all = so.all; gave = so.gave; became = so.came }
+
+-- the same where the stream gives errors as well
+pub try_gives_in_order : {St F T E S : Type 0} (yields : St → Runs (Result F E)) (polled : ℕ → F → Poll (Result T E) → F → Type 0) (steps : SourceSteps S) (marks : S → ℕ → Woke → S → Type 0) → TryGivesInOrder yields polled steps marks
+try_gives_in_order {St} {F} {T} {E} {S} yields polled steps marks n old new calls empty none_in ran =
+    let none = nil_of old.queue.entries empty in
+    let start : SoFar polled [] [] old.queue = record { gone = []; kept = []; all = refl; gave = tt; came = rw none tt; each = rw none tt; as_many = λ i. rw none (none_held i old.queue.set.slots none_in) } in
+    let so = many_calls_with_errors (PollsStream yields) queue_len n (AddsBack (PushesNumber marks)) (OrderedGives (SetGives polled steps) held_in) (λ drawn outputs q. SoFar polled drawn outputs q)
+    (λ drawn outputs before after f so added. drew polled marks drawn outputs before after f so added)
+    (λ drawn outputs before after answer so gives. one_poll polled steps drawn outputs before after answer so gives)
+    calls [] [] old new ([], start, ([], (refl, refl))) ran in
+    (so.0, so.2, record { gone = so.1.gone; kept = so.1.kept; all = so.1.all; gave = so.1.gave; became = so.1.came })

@@ -66,9 +66,9 @@ module _ {St X F Fn Q A : Type 0} (next : St → Poll (Option X) → St → Type
       → TurnGives next count n pushes calls polls old (asked, answer) (record { buffer = record { stream = stream; queue = left }; closure = f })
   turn_of old mid stream q left f asked answer is draws polled = record { drawn = mid; draws = draws; polls_set = rw is polled; same_stream = rw is refl; same_closure = rw is refl }
 
-  pub last_call : (woken : Type 0) (limit : ℕ) (old now new : ForEach St Fn Q) (done : List (DrawAndPoll X A)) (last : DrawAndPoll X A) (answer : Poll (Unit {0})) → FoldsTo (TurnGives next count n pushes calls polls) old done now → TurnGives next count n pushes calls polls now last new
-      → AllByRecursion (λ turn. goes_on turn ≡ true) done → length done < limit → EndsAfter next count n pushes calls polls woken limit (length done) last answer new → ForEachCall next count n pushes calls polls woken limit old answer new
-  last_call woken limit old now new done last answer row turn went_on below ends =
+  pub last_call : (left_by : Poll (Option A) → Q → Type 0) (woken : Type 0) (limit : ℕ) (old now new : ForEach St Fn Q) (done : List (DrawAndPoll X A)) (last : DrawAndPoll X A) (answer : Poll (Unit {0})) → FoldsTo (TurnGives next count n pushes calls polls) old done now → TurnGives next count n pushes calls polls now last new
+      → AllByRecursion (λ turn. goes_on turn ≡ true) done → length done < limit → EndsAfter next count n pushes calls polls left_by woken limit (length done) last answer new → ForEachCall next count n pushes calls polls left_by woken limit old answer new
+  last_call left_by woken limit old now new done last answer row turn went_on below ends =
       record { turns = done; last = last; row = FoldsTo-push (TurnGives next count n pushes calls polls) old done now last new row turn; went_on = went_on; at_most = below; ends = ends }
 
   split_last : (turn : DrawAndPoll X A) (turns : List (DrawAndPoll X A)) → AllByRecursion (λ turn. goes_on turn ≡ true) (turn ∷ turns)
@@ -78,10 +78,10 @@ module _ {St X F Fn Q A : Type 0} (next : St → Poll (Option X) → St → Type
       let more = split_last next_turn turns all.1 in
       (turn ∷ more.0, more.1, ap (λ (l : List (DrawAndPoll X A)). turn ∷ l) more.2, (all.0, more.3), more.4, omega (arith, more.5))
 
-  pub full_call : (woken : Type 0) (limit : ℕ) (old new : ForEach St Fn Q) (done : List (DrawAndPoll X A)) (answer : Poll (Unit {0})) → FoldsTo (TurnGives next count n pushes calls polls) old done new → AllByRecursion (λ turn. goes_on turn ≡ true) done → length done ≡ limit → 0 < limit → answer ≡ Pending → woken
-      → ForEachCall next count n pushes calls polls woken limit old answer new
-  full_call woken limit old new [] answer row all full some is wakes = absurd (omega (arith, full))
-  full_call woken limit old new (turn ∷ turns) answer row all full some is wakes =
+  pub full_call : (left_by : Poll (Option A) → Q → Type 0) (woken : Type 0) (limit : ℕ) (old new : ForEach St Fn Q) (done : List (DrawAndPoll X A)) (answer : Poll (Unit {0})) → FoldsTo (TurnGives next count n pushes calls polls) old done new → AllByRecursion (λ turn. goes_on turn ≡ true) done → length done ≡ limit → 0 < limit → answer ≡ Pending → woken
+      → ForEachCall next count n pushes calls polls left_by woken limit old answer new
+  full_call left_by woken limit old new [] answer row all full some is wakes = absurd (omega (arith, full))
+  full_call left_by woken limit old new (turn ∷ turns) answer row all full some is wakes =
       let split = split_last turn turns all in
       record { turns = split.0; last = split.1; row = subst (λ (l : List (DrawAndPoll X A)). FoldsTo (TurnGives next count n pushes calls polls) old l new) split.2 row; went_on = split.3; at_most = omega (arith, split.5, full); ends = rw is (inr (split.4, split.5 ∙ full, wakes)) }
 

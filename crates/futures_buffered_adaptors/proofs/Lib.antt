@@ -5,3 +5,4 @@ pub mod BufferUnorderedAccountLemmas
 pub mod BufferedOrderedAccountLemmas
 pub mod TryBufferLemmas
 pub mod ForEachConcurrentLemmas
+pub mod TryBufferAccountLemmas

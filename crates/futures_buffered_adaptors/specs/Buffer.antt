@@ -7,6 +7,8 @@ use Rattle.std.specs.Prelude.{filter_map, flat_map}
 use Rattle.std.specs.Option.{option_and_then}
 use Rattle.std.specs.List.{FoldsTo, AllZip}
 use Rattle.std.specs.Coded.{Coded, code_by, coded×, coded_option}
+use Rattle.futures.specs.Task.{Keeps}
+use Rattle.futures.specs.declared.task.context.Context.{Context}
 use Rattle.futures.specs.declared.task.Poll.{Poll}
 use Rattle.futures.specs.declared.task.Poll.TheVariants.{Ready, Pending}
 use Rattle.futures.specs.Poll.{IfReady, OnPending}
@@ -111,6 +113,30 @@ module _ {St X Q : Type 0} (next : St → Poll (Option X) → St → Type 0) (co
       abbrev pub CallsInTurn : Buffering St Q → List (List X × Poll (Option A)) → Buffering St Q
           → Type 0
       CallsInTurn = FoldsTo (λ old call new. Calls old call.0 call.1 new)
+
+-- a poll of the queue that takes the task from one context to another, as the queue leaves it
+abbrev pub PollsWithTask : {Q A : Type 0}
+    → (Q → Poll (Option A) → Q → Type 0)
+    → (Q → Poll (Option A) → Q → Context → Context → Type 0)
+    → Context → Context → Q → Poll (Option A) → Q → Type 0
+PollsWithTask polls leaves cx left old answer new =
+    polls old answer new × leaves old answer new cx left
+
+-- What a call leaves of its task. The polls of the stream took the task to a context of which it is
+-- known that nothing was lost, and which is the first one where the stream had no turn. From there
+-- the poll of the queue left it as that poll does.
+pub record CallLeavesTask
+    {Q A : Type 0}
+    (call : (Q → Poll (Option A) → Q → Type 0) → Type 0)
+    (no_turn : Type 0)
+    (polls : Q → Poll (Option A) → Q → Type 0)
+    (leaves : Q → Poll (Option A) → Q → Context → Context → Type 0)
+    (cx left : Context)
+    : Type 0 where
+  pub drawn : Context
+  pub kept : Keeps cx drawn
+  pub not_polled : no_turn → drawn ≡ cx
+  pub called : call (PollsWithTask polls leaves drawn left)
 
 -- the items that these calls drew, in order, and the outputs that they gave
 abbrev pub all_drawn : {F A : Type 0} → List (List F × Poll (Option A)) → List F

@@ -1,5 +1,5 @@
 -- What a contract sees of a `BufferUnordered`: the words on buffers at a bounded set.
-use Rattle.std.specs.Prelude.{◌≡◌, ℕ, List, Option, IsPermutation, filter_map}
+use Rattle.std.specs.Prelude.{◌≡◌, ℕ, List, Option, Result, IsPermutation, filter_map}
 use Rattle.std.specs.List.{FoldsTo}
 use Rattle.futures.specs.declared.task.Poll.{Poll}
 use Rattle.futures.specs.declared.task.Poll.TheVariants.{Pending}
@@ -12,6 +12,7 @@ use Rattle.futures_buffered_unordered_bounded.specs.FuturesUnorderedBounded.{Bou
 use Rattle.futures_buffered_unordered_bounded.specs.FuturesUnorderedBounded.{held_in}
 use Rattle.futures_buffered_adaptors.specs.Buffer.{Buffering, PollsStream, CallsInTurn, Accounts}
 use Rattle.futures_buffered_adaptors.specs.Buffer.{all_drawn, all_outputs}
+use Rattle.futures_buffered_adaptors.specs.TryBuffer.{TryCallsInTurn, WithErrors, futures_of}
 
 -- a pending poll of a set waits with its source
 abbrev pub SetWaitsAt : {F S : Type 0} → (S → ℕ → Type 0) → Bounded F S → ℕ → Type 0
@@ -50,3 +51,20 @@ LosesNothing {St} {F} {A} {S} yields polled steps marks =
     (PollGives polled steps) old calls new
     → Accounts IsPermutation (MayGiveInSlot polled) (WaitsInSlot polled)
     (all_drawn calls) (all_outputs calls) (held_values new.queue.slots)
+
+-- The same where the stream gives errors as well: these come among the outputs, and of the futures
+-- drawn none is lost.
+abbrev pub TryLosesNothing : {St F T E S : Type 0}
+    → (St → Runs (Result F E))
+    → (ℕ → F → Poll (Result T E) → F → Type 0)
+    → SourceSteps S
+    → (S → ℕ → Woke → S → Type 0)
+    → Type 0
+TryLosesNothing {St} {F} {T} {E} {S} yields polled steps marks =
+    (n : ℕ) (old new : Buffering St (Bounded F S))
+    (calls : List (List (Result F E) × Poll (Option (Result T E)))) → held_in old.queue ≡ 0
+    → TryCallsInTurn (PollsStream yields) held_in n (Pushes marks)
+    (PollGives polled steps) old calls new
+    → (outputs : List (Result T E)) × WithErrors outputs (all_outputs calls)
+    × Accounts IsPermutation (MayGiveInSlot polled) (WaitsInSlot polled)
+    (futures_of (all_drawn calls)) outputs (held_values new.queue.slots)

@@ -1,5 +1,5 @@
 -- What a contract sees of a `BufferedOrdered`: the words on buffers at a bounded ordered queue.
-use Rattle.std.specs.Prelude.{◌≡◌, ℕ, List, length, Option, Some}
+use Rattle.std.specs.Prelude.{◌≡◌, ℕ, List, length, Option, Some, Result}
 use Rattle.futures.specs.declared.task.Poll.{Poll}
 use Rattle.futures.specs.Runs.{Runs}
 use Rattle.futures_buffered_core.specs.SlotMap.{Slots, value_in, slot_count}
@@ -15,6 +15,7 @@ use Rattle.futures_buffered_ordered.specs.declared.ordered_entries.Entry.TheVari
 use Rattle.futures_buffered_adaptors.specs.Buffer.{Buffering, PollsStream, CallsInTurn, Accounts}
 use Rattle.futures_buffered_adaptors.specs.Buffer.{all_drawn, all_outputs}
 use Rattle.futures_buffered_adaptors.specs.BufferUnordered.{PendsTo, MayGiveInSlot, SetWaitsAt}
+use Rattle.futures_buffered_adaptors.specs.TryBuffer.{TryCallsInTurn, WithErrors, futures_of}
 
 -- how many entries a queue has, futures in progress and outputs that are kept
 abbrev pub queue_len : {F A S : Type 0} → OrderedBounded F A S → ℕ
@@ -54,3 +55,21 @@ GivesInOrder {St} {F} {A} {S} yields polled steps marks =
     → Accounts (λ drawn items. drawn ≡ items) (MayGiveInSlot polled)
     (BecomesEntry polled new.queue.set.slots)
     (all_drawn calls) (all_outputs calls) new.queue.entries
+
+-- The same where the stream gives errors as well: these come among the outputs.
+abbrev pub TryGivesInOrder : {St F T E S : Type 0}
+    → (St → Runs (Result F E))
+    → (ℕ → F → Poll (Result T E) → F → Type 0)
+    → SourceSteps S
+    → (S → ℕ → Woke → S → Type 0)
+    → Type 0
+TryGivesInOrder {St} {F} {T} {E} {S} yields polled steps marks =
+    (n : ℕ) (old new : Buffering St (OrderedBounded F (Result T E) S))
+    (calls : List (List (Result F E) × Poll (Option (Result T E)))) → queue_len old.queue ≡ 0
+    → held_in old.queue.set ≡ 0
+    → TryCallsInTurn (PollsStream yields) queue_len n (AddsBack (PushesNumber marks))
+    (OrderedGives (SetGives polled steps) held_in) old calls new
+    → (outputs : List (Result T E)) × WithErrors outputs (all_outputs calls)
+    × Accounts (λ drawn items. drawn ≡ items) (MayGiveInSlot polled)
+    (BecomesEntry polled new.queue.set.slots)
+    (futures_of (all_drawn calls)) outputs new.queue.entries

@@ -4,6 +4,8 @@ use Rattle.std.specs.Prelude.{◌≡◌, ℕ, ◌+◌, ◌<◌, List, [], ◌∷
 use Rattle.std.specs.Prelude.{◌||◌, Option, Some, None, IfSome, ◌⊎◌, refl}
 use Rattle.std.specs.List.{FoldsTo, AllByRecursion}
 use Rattle.std.specs.Coded.{Coded, code_by, coded×}
+use Rattle.futures.specs.Task.{Keeps}
+use Rattle.futures.specs.declared.task.context.Context.{Context}
 use Rattle.futures.specs.declared.task.Poll.{Poll}
 use Rattle.futures.specs.declared.task.Poll.TheVariants.{Ready, Pending}
 use Rattle.futures.specs.Runs.{Runs, AtEachItem}
@@ -108,17 +110,19 @@ module _
 
       -- how a call ends after its last turn, where done is how many came before: Ready at the end
       -- of all; Pending after a turn that neither drew nor gave, or where another would be one too
-      -- many, and then the task is woken
-      abbrev pub EndsAfter : Type 0 → ℕ → ℕ
+      -- many, and then the task is woken. In the first two cases the task is left as the last poll
+      -- of the set left it.
+      abbrev pub EndsAfter : (Poll (Option A) → Q → Type 0) → Type 0 → ℕ → ℕ
           → DrawAndPoll X A → Poll (Unit {0}) → ForEach St Fn Q → Type 0
-      EndsAfter woken limit done last (Ready _) new =
-          (goes_on last ≡ false) × HasEnded last new
-      EndsAfter woken limit done last Pending new =
-          ((goes_on last ≡ false) × (HasEnded last new → ⊥))
+      EndsAfter left_by woken limit done last (Ready _) new =
+          (goes_on last ≡ false) × HasEnded last new × left_by last.1 new.buffer.queue
+      EndsAfter left_by woken limit done last Pending new =
+          ((goes_on last ≡ false) × (HasEnded last new → ⊥) × left_by last.1 new.buffer.queue)
           ⊎ ((goes_on last ≡ true) × (done + 1 ≡ limit) × woken)
 
       -- one call: some turns, each of which drew an item or gave an output, and the last one
       pub record ForEachCall
+          (left_by : Poll (Option A) → Q → Type 0)
           (woken : Type 0)
           (limit : ℕ)
           (old : ForEach St Fn Q)
@@ -130,7 +134,16 @@ module _
         pub row : FoldsTo TurnGives old (turns ++ last ∷ []) new
         pub went_on : AllByRecursion (λ turn. goes_on turn ≡ true) turns
         pub at_most : length turns < limit
-        pub ends : EndsAfter woken limit (length turns) last answer new
+        pub ends : EndsAfter left_by woken limit (length turns) last answer new
+
+-- a poll of the set that gave this answer left the set and the task so, from a context to which the
+-- task had come
+abbrev pub LeftByPoll : {Q A : Type 0}
+    → (Q → Poll (Option A) → Q → Type 0)
+    → (Q → Poll (Option A) → Q → Context → Context → Type 0)
+    → Context → Context → Poll (Option A) → Q → Type 0
+LeftByPoll {Q} polls leaves cx left answer new = (old : Q) × (drawn : Context)
+    × Keeps cx drawn × polls old answer new × leaves old answer new drawn left
 
 -- the closure may be called with this item, and the future that it makes may be polled
 abbrev pub CanCall : {X F Fn : Type 0}

@@ -1,10 +1,11 @@
 -- One call of a buffer whose stream gives futures and errors: an error ends the call at once. The
 -- queue may be any that has a number of entries, a push and a poll.
-use Rattle.std.specs.Prelude.{◌≡◌, ℕ, List, Option, Some, Result, Ok, Err, IfOk, ◌⊎◌}
+use Rattle.std.specs.Prelude.{◌≡◌, ℕ, List, [], ◌∷◌, map, Option, Some, Result, Ok, Err, IfOk, ◌⊎◌}
 use Rattle.std.specs.List.{FoldsTo}
 use Rattle.futures.specs.declared.task.Poll.{Poll}
 use Rattle.futures.specs.declared.task.Poll.TheVariants.{Ready}
 use Rattle.futures.specs.Runs.{Runs}
+use Rattle.futures_buffered_unordered_bounded.specs.Interleaves.{Interleaves}
 use Rattle.futures_buffered_adaptors.specs.Buffer.{Buffering, AsksStream, DrawsOne, Calls, CanDraw}
 use Rattle.futures_buffered_adaptors.specs.Buffer.{Comes}
 
@@ -49,10 +50,26 @@ module _
       TryCalls old drawn answer new = FailsCall old drawn answer new
           ⊎ Calls next count n (PushesOk pushes) polls old drawn answer new
 
+      -- many calls in a row, each with the items that it drew and with its answer
+      abbrev pub TryCallsInTurn : Buffering St Q
+          → List (List (Result F E) × Poll (Option (Result T E))) → Buffering St Q → Type 0
+      TryCallsInTurn = FoldsTo (λ old call new. TryCalls old call.0 call.1 new)
+
       -- the same, where it does not matter which items were drawn
       abbrev pub TryCallGives : Buffering St Q
           → Poll (Option (Result T E)) → Buffering St Q → Type 0
       TryCallGives old answer new = (drawn : List (Result F E)) × TryCalls old drawn answer new
+
+-- the futures among these items
+abbrev pub futures_of : {F E : Type 0} → List (Result F E) → List F
+futures_of [] = []
+futures_of (Ok future ∷ items) = future ∷ futures_of items
+futures_of (Err error ∷ items) = futures_of items
+
+-- what was given is what the queue gave, and between that errors of the stream, each as an answer
+abbrev pub WithErrors : {T E : Type 0} → List (Result T E) → List (Result T E) → Type 0
+WithErrors {T} {E} outputs given =
+    (errors : List E) × Interleaves outputs (map Err errors) given
 
 -- the stream may be polled, unless it has ended; each future that may still come is fit to be
 -- pushed; and the queue may be polled

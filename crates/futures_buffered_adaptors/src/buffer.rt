@@ -4,7 +4,7 @@ ghost use Rattle.futures.specs.Task.{Covers, Keeps};
 ghost use Rattle.futures.specs.Runs.{After, Within};
 ghost use Rattle.futures.specs.Poll.{IfReady, OnPending};
 ghost use Rattle.futures_buffered_core.specs.Answer.{RefusesTooLarge};
-ghost use Rattle.futures_buffered_adaptors.specs.Buffer.{PollsStream, DrawsAll, DrawsOne, DrawsNone, CallGives, IsNewBuffer, CanDraw, WaitsAt, BufferGives, hint_with, hint_ahead};
+ghost use Rattle.futures_buffered_adaptors.specs.Buffer.{PollsStream, DrawsAll, DrawsOne, DrawsNone, CallGives, CallLeavesTask, HasNoTurn, IsNewBuffer, CanDraw, WaitsAt, BufferGives, hint_with, hint_ahead};
 
 use crate::future_queue::{FutureQueue, NewQueue};
 use futures::Stream;
@@ -83,6 +83,8 @@ impl<St: Stream, Q: FutureQueue<St::Item>> Buffer<St, Q> {
             (BufferGives St.yields Q.gives Q.count Q.yields Q.in_order self.new) }
         ensures covered { result ≡ false → Q.count self.new.queue < Q.room self.new.queue
             → IfSome self.new.stream (λ stream. Covers cx.new (St.needs stream)) }
+        ensures no_turn { HasNoTurn (PollsStream St.yields) Q.count (Q.room self.old.queue) self.old
+            → cx.new ≡ cx.old }
         ensures kept { Keeps cx.old cx.new }
     {
         if self.queue.len() >= self.queue.capacity() {
@@ -115,6 +117,8 @@ impl<St: Stream, Q: FutureQueue<St::Item>> Buffer<St, Q> {
             (BufferGives St.yields Q.gives Q.count Q.yields Q.in_order self.new) }
         ensures covered { Q.count self.new.queue < Q.room self.new.queue
             → IfSome self.new.stream (λ stream. Covers cx.new (St.needs stream)) }
+        ensures no_turn { HasNoTurn (PollsStream St.yields) Q.count (Q.room self.old.queue) self.old
+            → cx.new ≡ cx.old }
         ensures kept { Keeps cx.old cx.new }
     {
         'draws: while self.draw_one(cx) {}
@@ -155,6 +159,10 @@ impl<St: Stream, Q: FutureQueue<St::Item>> Stream for Buffer<St, Q> {
             (CanDraw St.can_poll St.yields Q.is_fit Q.can_poll self.new) }
         ensures registered { OnPending result
             (Covers cx.new (WaitsAt St.needs Q.needs Q.count Q.room self.new)) }
+        ensures leaves { CallLeavesTask (λ polls. CallGives (PollsStream St.yields) Q.count
+            (Q.room self.old.queue) Q.pushes polls self.old result self.new)
+            (HasNoTurn (PollsStream St.yields) Q.count (Q.room self.old.queue) self.old)
+            Q.polls Q.leaves cx.old cx.new }
         ensures kept { Keeps cx.old cx.new }
     {
         self.fill(cx);

@@ -3,7 +3,7 @@ ghost use Rattle.std.specs.Prelude.{◌<◌, ◌≤◌, IfOk, false};
 ghost use Rattle.futures_buffered_core.specs.Answer.{RefusesTooLarge};
 ghost use Rattle.futures_buffered_core.specs.ReadyShared.{IsNewShared};
 ghost use Rattle.futures_buffered_unordered_bounded.specs.Held.{AllHeld, ComesFrom};
-ghost use Rattle.futures_buffered_unordered_bounded.specs.FuturesUnorderedBounded.{Pushes, PollGives, IsNewSet, held_in, slots_in};
+ghost use Rattle.futures_buffered_unordered_bounded.specs.FuturesUnorderedBounded.{Pushes, PollGives, PollLeavesTask, IsNewSet, held_in, slots_in};
 ghost use Rattle.futures_buffered_adaptors.specs.Buffer.{IsNewBuffer};
 ghost use Rattle.futures_buffered_adaptors.specs.BufferUnordered.{LosesNothing, MayGiveInSlot, SetWaitsAt};
 
@@ -61,6 +61,8 @@ impl<F: SlotFuture<S::Waker>, S: ReadySource> FutureQueue<F> for UnorderedQueue<
     ghost pushes = { Pushes S.marks };
 
     ghost polls = { PollGives F.polled S.steps };
+
+    ghost leaves = { PollLeavesTask F.polled S.steps S.registers_poll };
 
     ghost is_fit = { F.can_poll };
 

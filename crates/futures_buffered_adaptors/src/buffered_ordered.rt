@@ -3,8 +3,8 @@ ghost use Rattle.std.specs.Prelude.{◌<◌, ◌≤◌, IfOk, true};
 ghost use Rattle.futures_buffered_core.specs.Answer.{RefusesTooLarge};
 ghost use Rattle.futures_buffered_core.specs.ReadyShared.{IsNewShared};
 ghost use Rattle.futures_buffered_unordered_bounded.specs.FuturesUnorderedBounded.{held_in};
-ghost use Rattle.futures_buffered_ordered.specs.OrderedEntries.{AddsBack, ComesInOrder, OrderedGives};
-ghost use Rattle.futures_buffered_ordered.specs.FuturesOrderedBounded.{EachRunning, IsNewBoundedQueue, PushesNumber, SetGives, SetMayGive};
+ghost use Rattle.futures_buffered_ordered.specs.OrderedEntries.{AddsBack, ComesInOrder, OrderedGives, OrderedLeavesTask};
+ghost use Rattle.futures_buffered_ordered.specs.FuturesOrderedBounded.{EachRunning, IsNewBoundedQueue, PushesNumber, SetGives, SetLeavesTask, SetMayGive};
 ghost use Rattle.futures_buffered_adaptors.specs.Buffer.{IsNewBuffer};
 ghost use Rattle.futures_buffered_adaptors.specs.BufferUnordered.{MayGiveInSlot};
 ghost use Rattle.futures_buffered_adaptors.specs.BufferedOrdered.{GivesInOrder, QueueWaitsAt, queue_len, queue_room};
@@ -67,6 +67,9 @@ where
     ghost pushes = { AddsBack (PushesNumber S.marks) };
 
     ghost polls = { OrderedGives (SetGives F.polled S.steps) held_in };
+
+    ghost leaves = { OrderedLeavesTask (SetGives F.polled S.steps)
+        (SetLeavesTask F.polled S.steps S.registers_poll) held_in };
 
     ghost is_fit = { F.can_poll };
 

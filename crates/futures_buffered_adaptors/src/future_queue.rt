@@ -17,6 +17,7 @@ use std::alloc::Global;
 /// Beside the calls an impl states what they may do: relations between what it holds before, the answer, and what it holds after. A push adds one output to those that may come, in the place that `in_order` says.
 pub trait FutureQueue<F>: Drop {
     ghost use Rattle.futures.specs.declared.task.Poll.{Poll};
+    ghost use Rattle.futures.specs.declared.task.context.Context.{Context};
 
     /// What a future gives when it is done.
     type Output;
@@ -32,6 +33,9 @@ pub trait FutureQueue<F>: Drop {
 
     // What a poll may answer, and make of it.
     ghost polls: { Self → Poll (Option Self.Output) → Self → Type 0 };
+
+    // What a poll leaves of its task.
+    ghost leaves: { Self → Poll (Option Self.Output) → Self → Context → Context → Type 0 };
 
     // The futures that may be pushed.
     ghost is_fit: { F → Type 0 };
@@ -87,6 +91,7 @@ pub trait FutureQueue<F>: Drop {
         ensures goes { IfReady result (λ o. OnSome o (can_poll self.new)) }
         ensures again { OnPending result (can_poll self.new) }
         ensures registered { OnPending result (Covers cx.new (needs self.new)) }
+        ensures leaves { leaves self.old result self.new cx.old cx.new }
         ensures kept { Keeps cx.old cx.new };
 }
 

@@ -4,7 +4,7 @@ ghost use Rattle.futures.specs.Task.{Covers, Keeps};
 ghost use Rattle.futures.specs.Runs.{After, Within};
 ghost use Rattle.futures.specs.Poll.{IfReady, OnPending};
 ghost use Rattle.futures_buffered_core.specs.Answer.{RefusesTooLarge};
-ghost use Rattle.futures_buffered_adaptors.specs.Buffer.{PollsStream, DrawsAll, DrawsOne, DrawsNone, IsNewBuffer, WaitsAt, hint_with, hint_ahead};
+ghost use Rattle.futures_buffered_adaptors.specs.Buffer.{PollsStream, DrawsAll, DrawsOne, DrawsNone, CallLeavesTask, HasNoTurn, IsNewBuffer, WaitsAt, hint_with, hint_ahead};
 ghost use Rattle.futures_buffered_adaptors.specs.TryBuffer.{PushesOk, DrawsError, TryCallGives, CanTryDraw, TryBufferGives};
 
 use crate::future_queue::{FutureQueue, NewQueue};
@@ -98,6 +98,8 @@ where
             (TryBufferGives St.yields Q.gives Q.count Q.yields self.new)) }
         ensures covered { result ≡ Ok false → Q.count self.new.queue < Q.room self.new.queue
             → IfSome self.new.stream (λ stream. Covers cx.new (St.needs stream)) }
+        ensures no_turn { HasNoTurn (PollsStream St.yields) Q.count (Q.room self.old.queue) self.old
+            → cx.new ≡ cx.old }
         ensures kept { Keeps cx.old cx.new }
     {
         if self.queue.len() >= self.queue.capacity() {
@@ -141,6 +143,8 @@ where
             (TryBufferGives St.yields Q.gives Q.count Q.yields self.new)) }
         ensures covered { OnOk result (Q.count self.new.queue < Q.room self.new.queue
             → IfSome self.new.stream (λ stream. Covers cx.new (St.needs stream))) }
+        ensures no_turn { HasNoTurn (PollsStream St.yields) Q.count (Q.room self.old.queue) self.old
+            → cx.new ≡ cx.old }
         ensures kept { Keeps cx.old cx.new }
     {
         'draws: loop {
@@ -195,6 +199,10 @@ where
             (CanTryDraw St.can_poll St.yields Q.is_fit Q.can_poll self.new) }
         ensures registered { OnPending result
             (Covers cx.new (WaitsAt St.needs Q.needs Q.count Q.room self.new)) }
+        ensures leaves { CallLeavesTask (λ polls. TryCallGives (PollsStream St.yields) Q.count
+            (Q.room self.old.queue) Q.pushes polls self.old result self.new)
+            (HasNoTurn (PollsStream St.yields) Q.count (Q.room self.old.queue) self.old)
+            Q.polls Q.leaves cx.old cx.new }
         ensures kept { Keeps cx.old cx.new }
     {
         if let Err(error) = self.fill(cx) {

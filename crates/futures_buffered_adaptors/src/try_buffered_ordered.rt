@@ -3,10 +3,12 @@ ghost use Rattle.std.specs.Prelude.{◌<◌, ◌≤◌, IfOk};
 ghost use Rattle.futures_buffered_core.specs.Answer.{RefusesTooLarge};
 ghost use Rattle.futures_buffered_core.specs.ReadyShared.{IsNewShared};
 ghost use Rattle.futures_buffered_adaptors.specs.Buffer.{IsNewBuffer};
+ghost use Rattle.futures_buffered_adaptors.specs.BufferedOrdered.{TryGivesInOrder};
 ghost use Rattle.futures_buffered_ordered.specs.FuturesOrderedBounded.{IsNewBoundedQueue};
 
 use crate::buffered_ordered::OrderedQueue;
 use crate::try_buffer::TryBuffer;
+use futures::Stream;
 use futures_buffered_core::ready_core::NewFault;
 use futures_buffered_core::ready_shared::{SharedReady, SharedWaker};
 use futures_buffered_core::ready_source::ReadySource;
@@ -35,3 +37,13 @@ where
         Self::over_limit(&(), alloc, stream, n, limit)
     }
 }
+
+/// After any calls of one such buffer that held nothing at first, the outputs given so far are those of the first futures drawn, in the order in which these were drawn, and the other futures are held still, in that order. The errors of the stream came between the outputs.
+///
+/// This is of the words that a poll's contract says of each call. Nothing is done.
+pub fn try_calls_give_in_order<St, F, T, E, S: ReadySource>()
+where
+    St: Stream<Item = Result<F, E>>,
+    F: SlotFuture<S::Waker, Output = Result<T, E>>,
+    ensures { TryGivesInOrder St.yields F.polled S.steps S.marks }
+{}

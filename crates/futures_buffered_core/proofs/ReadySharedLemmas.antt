@@ -6,6 +6,7 @@ use Rattle.std.proofs.lemmas.List.FromFn.{length-range_with_len, get_or-map-rang
 use Rattle.futures_buffered_table.specs.declared.answer.Taken.{Taken}
 use Rattle.futures_buffered_table.specs.declared.answer.Taken.TheVariants.{Slot, Empty, Pause}
 use Rattle.futures_buffered_table.specs.Taking.{CallsAtStub}
+use Rattle.futures_buffered_table.specs.declared.view.AtomicStep.{AtomicStep}
 use Rattle.futures_buffered_core.specs.ReadyCore.{IsNameBelow}
 use Rattle.futures_buffered_core.specs.ReadyShared.{WakerOfShared, waker_at}
 
@@ -24,8 +25,8 @@ name_below n Empty below = tt
 name_below n Pause below = tt
 
 -- what a taking calls, where a call leaves it as it was, is as it was
-pub stays : (n : ℕ) (taken : Taken) (head before after : ℕ) → CallsAtStub (λ (old new : ℕ). new ≡ old) n taken head before after → after ≡ before
-stays n (Slot i) head before after same = same
-stays n Empty head before after same = same
-stays n Pause head before after (inl here) = here.1
-stays n Pause head before after (inr there) = there.1
+pub stays : (n : ℕ) (made : List AtomicStep) (taken : Taken) (head before after : ℕ) → CallsAtStub (λ _ (old new : ℕ). new ≡ old) n made taken head before after → after ≡ before
+stays n made (Slot i) head before after same = same
+stays n made Empty head before after same = same
+stays n made Pause head before after (inl here) = here.1
+stays n made Pause head before after (inr there) = there.1

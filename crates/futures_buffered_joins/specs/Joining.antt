@@ -1,7 +1,9 @@
 -- What a contract sees of a join, and what the polls of its set make of it.
 use Rattle.std.specs.Prelude.{◌≡◌, ℕ, ◌<◌, List, length, Option, Some, None, MatchOption, slice_get}
 use Rattle.std.specs.Prelude.{slice_index_or, slice_set, replicate, refl}
+use Rattle.std.specs.List.{FoldsTo}
 use Rattle.std.specs.Coded.{Coded, code_by, coded×, coded_list, coded_option}
+use Rattle.futures.specs.declared.task.context.Context.{Context}
 use Rattle.futures.specs.declared.task.Poll.{Poll}
 use Rattle.futures.specs.declared.task.Poll.TheVariants.{Ready, Pending}
 use Rattle.futures_buffered_core.specs.SlotMap.{Slots, value_in, held_count}
@@ -10,6 +12,7 @@ use Rattle.futures_buffered_core.specs.ReadySource.{SourceSteps}
 use Rattle.futures_buffered_unordered_bounded.specs.Held.{MayGive}
 use Rattle.futures_buffered_unordered_bounded.specs.FuturesUnorderedBounded.{Bounded, HoldsEach, AsksUntil}
 use Rattle.futures_buffered_unordered_bounded.specs.FuturesUnorderedBounded.{with_empty_slot}
+use Rattle.futures_buffered_unordered_bounded.specs.FuturesUnorderedBounded.{LeavesTask, OnlyRegisters}
 
 -- the places of a join that has not ended: a set of the futures that it waits for, each in the slot
 -- of its place, and at each place the output that has come, or nothing
@@ -65,6 +68,15 @@ module _
       pub some_waiting : 0 < held_count old.set.slots
       pub is_pending : AsksUntil polled steps old.set Pending new.set
       pub same_outputs : new.outputs ≡ old.outputs
+
+    -- What a pending poll of a join leaves of its task: its polls of the set registered it, and the
+    -- last one left it as a pending poll of a set does.
+    abbrev pub JoinLeavesTask : (S → Context → Context → Type 0) → Places F A S → Places F A S
+        → Context → Context → Type 0
+    JoinLeavesTask registers_poll old new cx left = (row : List (ℕ × A)) × (before : Places F A S)
+        × FoldsTo Fills old row before
+        × PollsPending before new
+        × LeavesTask polled steps (λ _. OnlyRegisters registers_poll) before.set new.set cx left
 
 -- the future that is held in this slot may give x, polled with the waker of the slot
 abbrev pub MayGiveAt : {F A : Type 0}

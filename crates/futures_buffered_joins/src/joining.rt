@@ -8,8 +8,8 @@ ghost use Rattle.futures.specs.declared.task.context.Context.{Context};
 ghost use Rattle.futures_buffered_core.specs.Drawn.{Draws, DrawsMoreThan};
 ghost use Rattle.futures_buffered_core.specs.SlotMap.{value_in, held_count, slot_count};
 ghost use Rattle.futures_buffered_unordered_bounded.specs.Held.{AllHeld};
-ghost use Rattle.futures_buffered_unordered_bounded.specs.FuturesUnorderedBounded.{IsWoken, SaidEmpty, with_empty_slot};
-ghost use Rattle.futures_buffered_joins.specs.Joining.{Places, IsNewJoin, Fills, PollsPending};
+ghost use Rattle.futures_buffered_unordered_bounded.specs.FuturesUnorderedBounded.{IsWoken, LeavesTask, OnlyRegisters, SaidEmpty, with_empty_slot};
+ghost use Rattle.futures_buffered_joins.specs.Joining.{Places, IsNewJoin, Fills, JoinLeavesTask, PollsPending};
 ghost use Rattle.futures_buffered_joins.specs.TryJoinAll.{Fails};
 
 use futures::task::{Context, Poll};
@@ -133,6 +133,10 @@ where
         ensures woken { OnPending result (IsWoken cx.new
             ⊎ (SaidEmpty S.steps self.new.set.source
             × S.registers_poll self.old.set.source cx.old cx.new)) }
+        ensures leaves { OnPending result (LeavesTask F.polled S.steps S.registers_poll
+            self.old.set self.new.set cx.old cx.new) }
+        ensures only_registered { IfReady result (λ _.
+            S.registers_poll self.old.set.source cx.old cx.new) }
         ensures kept { Keeps cx.old cx.new }
     {
         match self.set.poll_first(&PollFuture, cx) {
@@ -158,6 +162,10 @@ where
         ensures covered { OnPending result (Covers cx.new (S.needs self.new.set.source)) }
         ensures woken { OnPending result (IsWoken cx.new
             ⊎ SaidEmpty S.steps self.new.set.source) }
+        ensures leaves { OnPending result (JoinLeavesTask F.polled S.steps (λ x. x)
+            S.registers_poll self.old self.new cx.old cx.new) }
+        ensures only_registered { IfReady result (λ _.
+            OnlyRegisters S.registers_poll cx.old cx.new) }
         ensures kept { Keeps cx.old cx.new }
     {
         'places: while !self.is_done() {
@@ -193,6 +201,10 @@ where
         ensures woken { OnPending result (IsWoken cx.new
             ⊎ (SaidEmpty S.steps self.new.set.source
             × S.registers_poll self.old.set.source cx.old cx.new)) }
+        ensures leaves { OnPending result (LeavesTask F.polled S.steps S.registers_poll
+            self.old.set self.new.set cx.old cx.new) }
+        ensures only_registered { IfReady result (λ _.
+            S.registers_poll self.old.set.source cx.old cx.new) }
         ensures kept { Keeps cx.old cx.new }
     {
         match self.set.poll_first(&PollFuture, cx) {
@@ -222,6 +234,10 @@ where
         ensures covered { OnPending result (Covers cx.new (S.needs self.new.set.source)) }
         ensures woken { OnPending result (IsWoken cx.new
             ⊎ SaidEmpty S.steps self.new.set.source) }
+        ensures leaves { OnPending result (JoinLeavesTask F.polled S.steps Ok
+            S.registers_poll self.old self.new cx.old cx.new) }
+        ensures only_registered { IfReady result (λ _.
+            OnlyRegisters S.registers_poll cx.old cx.new) }
         ensures kept { Keeps cx.old cx.new }
     {
         'places: while !self.is_done() {

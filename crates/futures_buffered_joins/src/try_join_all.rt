@@ -8,8 +8,8 @@ ghost use Rattle.futures_buffered_core.specs.Drawn.{Draws, DrawsMoreThan};
 ghost use Rattle.futures_buffered_core.specs.ReadyShared.{IsNewShared, MarksShared};
 ghost use Rattle.futures_buffered_core.specs.SlotMap.{slot_count};
 ghost use Rattle.futures_buffered_unordered_bounded.specs.Held.{AllHeld};
-ghost use Rattle.futures_buffered_unordered_bounded.specs.FuturesUnorderedBounded.{IsWoken, SaidEmpty};
-ghost use Rattle.futures_buffered_joins.specs.Joining.{IsNewJoin};
+ghost use Rattle.futures_buffered_unordered_bounded.specs.FuturesUnorderedBounded.{IsWoken, OnlyRegisters, SaidEmpty};
+ghost use Rattle.futures_buffered_joins.specs.Joining.{IsNewJoin, JoinLeavesTask};
 ghost use Rattle.futures_buffered_joins.specs.TryJoinAll.{TryJoinGives, TryJoinMayGive, TryJoinsByPlace};
 
 use crate::joining::Joining;
@@ -116,6 +116,10 @@ where
             (λ n. IsSomeAnd self.new (λ places. S.needs places.set.source n))) }
         ensures woken { OnPending result (IsWoken cx.new
             ⊎ IsSomeAnd self.new (λ places. SaidEmpty S.steps places.set.source)) }
+        ensures leaves { OnPending result (IsSomeAnd self.old (λ old. IsSomeAnd self.new (λ new.
+            JoinLeavesTask F.polled S.steps Ok S.registers_poll old new cx.old cx.new))) }
+        ensures only_registered { IfReady result (λ _.
+            OnlyRegisters S.registers_poll cx.old cx.new) }
         ensures kept { Keeps cx.old cx.new }
     {
         let Some(mut joining) = self.joining.take() else {

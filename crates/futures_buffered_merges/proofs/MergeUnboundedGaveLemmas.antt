@@ -12,17 +12,18 @@ use Rattle.futures_buffered_unordered_bounded.specs.Groups.{Groups, Turn, TakesT
 use Rattle.futures_buffered_merges.specs.SlotStream.{items_in}
 use Rattle.futures_buffered_merges.specs.Merging.{MergeGives}
 use Rattle.futures_buffered_merges.specs.MergeBounded.{StreamsGave}
-use Rattle.futures_buffered_merges.specs.MergeUnbounded.{Interleaves, HoldsNone, GroupsGave, KeepsOrderInGroups}
+use Rattle.futures_buffered_unordered_bounded.specs.Interleaves.{Interleaves}
+use Rattle.futures_buffered_merges.specs.MergeUnbounded.{HoldsNone, GroupsGave, KeepsOrderInGroups}
 use Rattle.futures_buffered_merges.proofs.MergeBoundedLemmas.{streams_none, streams_on, item_gave, pending_gave, end_gave}
 
 -- the items of one list, and then those of the other
-interleaves_append : {A : Type 0} (xs ys : List A) → Interleaves xs ys (xs ++ ys)
+pub interleaves_append : {A : Type 0} (xs ys : List A) → Interleaves xs ys (xs ++ ys)
 interleaves_append [] [] = (refl, refl)
 interleaves_append [] (y ∷ ys) = inr (ys, refl, interleaves_append [] ys)
 interleaves_append (x ∷ xs) ys = inl (xs, refl, interleaves_append xs ys)
 
 -- first some items of two lists, and then further ones
-interleaves_on : {A : Type 0} (zs xs ys more further cs : List A) → Interleaves xs ys zs → Interleaves more further cs → Interleaves (xs ++ more) (ys ++ further) (zs ++ cs)
+pub interleaves_on : {A : Type 0} (zs xs ys more further cs : List A) → Interleaves xs ys zs → Interleaves more further cs → Interleaves (xs ++ more) (ys ++ further) (zs ++ cs)
 interleaves_on [] xs ys more further cs h k = rw (h.0, h.1) k
 interleaves_on (z ∷ zs) xs ys more further cs (inl h) k = inl (h.0 ++ more, ap (λ l. l ++ more) h.1, interleaves_on zs h.0 ys more further cs h.2 k)
 interleaves_on (z ∷ zs) xs ys more further cs (inr h) k = inr (h.0 ++ further, ap (λ l. l ++ further) h.1, interleaves_on zs xs h.0 more further cs h.2 k)
@@ -68,7 +69,7 @@ module _ {F A S : Type 0} (polled : ℕ → F → Poll (Option A) → F → Type
       gave_first group groups mid new first second h k (λ listed behind others more a b. gave_on groups listed behind others more a b)
 
 -- the item that a turn gave, if any
-abbrev given_by : {A : Type 0} → Option (Poll (Option A)) → List A
+abbrev pub given_by : {A : Type 0} → Option (Poll (Option A)) → List A
 given_by None = []
 given_by (Some Pending) = []
 given_by (Some (Ready None)) = []
@@ -168,14 +169,14 @@ module _ {F A S : Type 0} (polled : ℕ → F → Poll (Option A) → F → Type
   all_gave : (old new : Groups (Bounded F S)) (b : Bool) → AsksAll (MergeGives polled steps marks) old b new → GroupsGave polled old.listed [] new.listed
   all_gave old new b h = subst (λ (l : List A). GroupsGave polled old.listed l new.listed) (none_given (Some h.1) h.2) (asked_gave old new h.0 h.1 [] h.3)
 
-  poll_gave : (old new : Groups (Bounded F S)) (answer : Poll (Option A)) → GroupsGive (MergeGives polled steps marks) old answer new → GroupsGave polled old.listed (given_by (Some answer)) new.listed
+  pub poll_gave : (old new : Groups (Bounded F S)) (answer : Poll (Option A)) → GroupsGive (MergeGives polled steps marks) old answer new → GroupsGave polled old.listed (given_by (Some answer)) new.listed
   poll_gave old new (Ready (Some x)) h = asked_gave old new h.0 (Ready (Some x)) h.1 h.2
   poll_gave old new (Ready None) (inl h) = rw (h.1, h.0) (refl, refl)
   poll_gave old new (Ready None) (inr h) = all_gave old new true h
   poll_gave old new Pending h = all_gave old new false h
 
   -- many polls
-  one_more : (answer : Poll (Option A)) (answers : List (Poll (Option A))) → given_by (Some answer) ++ items_in answers ≡ items_in (answer ∷ answers)
+  pub one_more : (answer : Poll (Option A)) (answers : List (Poll (Option A))) → given_by (Some answer) ++ items_in answers ≡ items_in (answer ∷ answers)
   one_more (Ready (Some x)) answers = refl
   one_more (Ready None) answers = refl
   one_more Pending answers = refl

@@ -12,9 +12,9 @@ use Rattle.futures_buffered_core.specs.SlotMap.{held_count, slot_count}
 use Rattle.futures_buffered_table.specs.declared.answer.Taken.{Taken}
 use Rattle.futures_buffered_table.specs.declared.answer.Woke.{Woke}
 use Rattle.futures_buffered_unordered_bounded.specs.FuturesUnorderedBounded.{Bounded, AsksUntil, held_in}
-use Rattle.futures_buffered_unordered_bounded.specs.Groups.{Groups, GroupsGive}
+use Rattle.futures_buffered_unordered_bounded.specs.Groups.{AnyOf, Groups, GroupsGive}
 use Rattle.futures_buffered_unordered_bounded.proofs.HeldLemmas.{count-with}
-use Rattle.futures_buffered_unordered.specs.SlotGroups.{all_held, EachCovered, AnyOf, AnyNeeds}
+use Rattle.futures_buffered_unordered.specs.SlotGroups.{all_held, EachCovered, AnyNeeds}
 use Rattle.futures_buffered_unordered.specs.SlotGroupsInvariant.{KeepsGroup}
 use Rattle.futures_buffered_unordered.proofs.SlotGroupsInvariantLemmas.{alike_self, alike_on}
 use Rattle.futures_buffered_unordered.proofs.SlotGroupsLemmas.{covered_of}

@@ -1,17 +1,17 @@
 -- From what the calls of a set leave to what one poll of its streams says.
 use Rattle.std.proofs.Common.{◌≡◌, ◌⊎◌, ℕ, List, [], ◌∷◌, ◌++◌, Option, Some, None, ◌<◌, ap, inl, inr, refl, sym, ◌∙◌}
-use Rattle.std.specs.List.{FoldsTo}
 use Rattle.futures.specs.declared.task.context.Context.{Context}
 use Rattle.futures.specs.declared.task.Poll.{Poll}
 use Rattle.futures.specs.declared.task.Poll.TheVariants.{Ready, Pending}
 use Rattle.futures.specs.Poll.{IfReady, OnPending}
 use Rattle.futures_buffered_table.specs.declared.answer.Woke.{Woke}
-use Rattle.futures_buffered_merges.specs.Merging.{OnlyRegisters, CountGives}
+use Rattle.futures_buffered_merges.specs.Merging.{CountGives}
 use Rattle.std.proofs.lemmas.Bool.{cases_eq}
 use Rattle.futures_buffered_core.specs.SlotMap.{Slots, held_count, with_slot_freed}
 use Rattle.futures_buffered_core.specs.ReadySource.{SourceSteps}
 use Rattle.futures_buffered_unordered_bounded.specs.Held.{AllHeld, AllHeldBut}
-use Rattle.futures_buffered_unordered_bounded.specs.FuturesUnorderedBounded.{Bounded, AsksUntil, MarksSlot, with_empty_slot, with_source}
+use Rattle.futures_buffered_unordered_bounded.specs.FuturesUnorderedBounded.{Bounded, AsksUntil, MarksSlot, OnlyRegisters, with_empty_slot, with_source}
+use Rattle.futures_buffered_unordered_bounded.proofs.FuturesUnorderedBoundedLemmas.{registers_once}
 use Rattle.futures_buffered_unordered_bounded.proofs.HeldGivesLemmas.{value_in-with_slot_freed, value_in-with_slot_freed_other}
 
 -- what holds of all but one value holds of all once that slot is empty
@@ -27,14 +27,7 @@ same_but_source : {F S : Type 0} (left new : Bounded F S) → new.slots ≡ left
 same_but_source {F} {S} left new slots limit =
     ap (λ (m : Slots F). record { slots = m; source = new.source; limit = new.limit }) slots ∙ ap (λ (n : ℕ). record { slots = left.slots; source = new.source; limit = n }) limit
 
--- no registration, and one
-pub registers_none : {S : Type 0} (registers_poll : S → Context → Context → Type 0) (old new : Context) → new ≡ old → OnlyRegisters registers_poll old new
-registers_none registers_poll old new same = ([], sym same)
-
-pub registers_once : {S : Type 0} (registers_poll : S → Context → Context → Type 0) (old new : Context) (source : S) → registers_poll source old new → OnlyRegisters registers_poll old new
-registers_once registers_poll old new source once = (source ∷ [], (new, once, refl))
-
--- the same of what a set's poll that begins with one leaves
+-- what a set's poll that begins with a registration leaves
 pub woken_by_one : {A S : Type 0} (W E : Type 0) (registers_poll : S → Context → Context → Type 0) (old new : Context) (source : S) (answer : Poll A) → OnPending answer (W ⊎ (E × registers_poll source old new)) → OnPending answer (W ⊎ (E × OnlyRegisters registers_poll old new))
 woken_by_one W E registers_poll old new source (Ready x) h = tt
 woken_by_one W E registers_poll old new source Pending (inl woken) = inl woken
@@ -43,14 +36,6 @@ woken_by_one W E registers_poll old new source Pending (inr empty) = inr (empty.
 pub registered_by_one : {A S : Type 0} (registers_poll : S → Context → Context → Type 0) (old new : Context) (source : S) (answer : Poll A) → IfReady answer (λ _. registers_poll source old new) → IfReady answer (λ _. OnlyRegisters registers_poll old new)
 registered_by_one registers_poll old new source (Ready x) h = registers_once registers_poll old new source h
 registered_by_one registers_poll old new source Pending h = tt
-
--- further registrations
-pub registers_more : {S : Type 0} (registers_poll : S → Context → Context → Type 0) (old mid new : Context) → OnlyRegisters registers_poll old mid → OnlyRegisters registers_poll mid new → OnlyRegisters registers_poll old new
-registers_more {S} registers_poll old mid new before then = (before.0 ++ then.0, joined before.0 old before.1)
-  where
-    joined : (sources : List S) (cx : Context) → FoldsTo (λ cx s next. registers_poll s cx next) cx sources mid → FoldsTo (λ cx s next. registers_poll s cx next) cx (sources ++ then.0) new
-    joined [] cx same = rw same then.1
-    joined (source ∷ sources) cx h = (h.0, h.1, joined sources h.0 h.2)
 
 module _ {F A S : Type 0} (polled : ℕ → F → Poll (Option A) → F → Type 0) (steps : SourceSteps S) (marks : S → ℕ → Woke → S → Type 0) where
   -- one count, by what the set's calls leave

@@ -1,24 +1,21 @@
 -- What may come from a merge that grows, and what its streams give over many polls.
-use Rattle.std.specs.Prelude.{◌≡◌, ℕ, List, [], ◌∷◌, Option, Some, None, ◌⊎◌}
-use Rattle.std.specs.List.{FoldsTo}
+use Rattle.std.specs.Prelude.{◌≡◌, ℕ, List, [], ◌∷◌, ◌++◌, map, Option, Some, None, ◌⊎◌}
+use Rattle.std.specs.List.{FoldsTo, AllByRecursion}
 use Rattle.futures.specs.declared.task.Poll.{Poll}
 use Rattle.futures.specs.Runs.{Runs, ItemsWhere, seconds}
 use Rattle.futures_buffered_core.specs.SlotMap.{Slots, value_in}
 use Rattle.futures_buffered_table.specs.declared.answer.Woke.{Woke}
 use Rattle.futures_buffered_core.specs.ReadySource.{SourceSteps}
 use Rattle.futures_buffered_unordered_bounded.specs.FuturesUnorderedBounded.{Bounded}
-use Rattle.futures_buffered_unordered_bounded.specs.Groups.{Groups, GroupsGive}
-use Rattle.futures_buffered_unordered.specs.SlotGroups.{AnyOf}
+use Rattle.futures_buffered_unordered_bounded.specs.Interleaves.{Interleaves}
+use Rattle.futures_buffered_unordered_bounded.specs.Groups.{AnyOf, Groups, GroupsGive}
+use Rattle.futures_buffered_unordered.specs.SlotGroups.{Growing, GrowingPushes}
+use Rattle.futures_buffered_unordered.specs.declared.slot_groups.TheConstants.{FIRST_GROUP}
 use Rattle.futures_buffered_merges.specs.SlotStream.{items_in}
 use Rattle.futures_buffered_merges.specs.Merging.{MergeGives}
 use Rattle.futures_buffered_merges.specs.MergeBounded.{StreamsGave, ComesFromStreams}
-
--- the items of the third list are those of the other two, of each in its order
-abbrev pub Interleaves : {A : Type 0} → List A → List A → List A → Type 0
-Interleaves xs ys [] = (xs ≡ []) × (ys ≡ [])
-Interleaves {A} xs ys (z ∷ zs) =
-    ((rest : List A) × (xs ≡ z ∷ rest) × Interleaves rest ys zs)
-    ⊎ ((rest : List A) × (ys ≡ z ∷ rest) × Interleaves xs rest zs)
+use Rattle.futures_buffered_merges.specs.MergeBounded.{SlotsGaveInTurn, MergeEvent, answered}
+use Rattle.futures_buffered_merges.specs.MergeBounded.{pushed, answers_of, streams_of}
 
 -- no slot holds a stream
 abbrev pub HoldsNone : {F : Type 0} → Slots F → Type 0
@@ -52,3 +49,46 @@ KeepsOrderInGroups {F} {A} {S} polled steps marks = (old new : Groups (Bounded F
     (answers : List (Poll (Option A)))
     → FoldsTo (GroupsGive (MergeGives polled steps marks)) old answers new
     → GroupsGave polled old.listed (items_in answers) new.listed
+
+-- what the slots of each group hold
+abbrev pub slots_of : {F S : Type 0} → List (Bounded F S) → List (Slots F)
+slots_of {F} {S} groups = map (λ (group : Bounded F S). group.slots) groups
+
+-- These groups stood one behind another. The items are all that was given by the streams that they
+-- held at first and by those pushed: what one group gave, interleaved with what the others gave. A
+-- group that is no longer listed holds no stream.
+abbrev pub GroupsGaveInTurn : {F A : Type 0} → (ℕ → F → Poll (Option A) → F → Type 0)
+    → List (Slots F) → List A → List F → List (Slots F) → Type 0
+GroupsGaveInTurn polled [] items streams new = (items ≡ []) × (streams ≡ []) × (new ≡ [])
+GroupsGaveInTurn {F} {A} polled (group ∷ groups) items streams new = (left : Slots F)
+    × (given : List A) × (into : List F)
+    × SlotsGaveInTurn polled group given into left
+    × (others : List A) × (elsewhere : List F) × (listed : List (Slots F))
+    × GroupsGaveInTurn polled groups others elsewhere listed
+    × Interleaves given others items
+    × Interleaves into elsewhere streams
+    × ((new ≡ left ∷ listed) ⊎ ((new ≡ listed) × HoldsNone left))
+
+module _
+    {F A S : Type 0}
+    (polled : ℕ → F → Poll (Option A) → F → Type 0)
+    (steps : SourceSteps S)
+    (marks : S → ℕ → Woke → S → Type 0)
+    (made : ℕ → S → Type 0)
+  where
+    -- one poll, or one push
+    abbrev pub HappensInGroups : Growing F S → MergeEvent F A → Growing F S → Type 0
+    HappensInGroups old (answered answer) new =
+        GroupsGive (MergeGives polled steps marks) old.groups answer new.groups
+    HappensInGroups old (pushed stream) new =
+        GrowingPushes marks made FIRST_GROUP old stream new
+
+    -- After any polls and pushes the items of the answers are all that the streams gave that were
+    -- held at first or pushed. Groups that pushes made held none at first, and stand behind the
+    -- others.
+    abbrev pub KeepsOrderInGroupsWithPushes : Type 0
+    KeepsOrderInGroupsWithPushes = (old new : Growing F S) (events : List (MergeEvent F A))
+        → FoldsTo HappensInGroups old events new
+        → (added : List (Slots F)) × AllByRecursion HoldsNone added
+        × GroupsGaveInTurn polled (slots_of old.groups.listed ++ added)
+        (items_in (answers_of events)) (streams_of events) (slots_of new.groups.listed)

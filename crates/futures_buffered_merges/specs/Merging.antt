@@ -1,20 +1,14 @@
 -- One poll of the streams that a set holds, of which a merge is made.
 use Rattle.std.specs.Prelude.{◌≡◌, ℕ, ◌<◌, List, Option, Some, None}
 use Rattle.std.specs.List.{FoldsTo}
-use Rattle.futures.specs.declared.task.context.Context.{Context}
 use Rattle.futures.specs.declared.task.Poll.{Poll}
 use Rattle.futures.specs.declared.task.Poll.TheVariants.{Ready, Pending}
 use Rattle.futures_buffered_core.specs.SlotMap.{held_count}
 use Rattle.futures_buffered_table.specs.declared.answer.Woke.{Woke}
 use Rattle.futures_buffered_core.specs.ReadySource.{SourceSteps}
 use Rattle.futures_buffered_unordered_bounded.specs.FuturesUnorderedBounded.{Bounded, AsksUntil, MarksSlot}
+use Rattle.futures_buffered_unordered_bounded.specs.FuturesUnorderedBounded.{AsksInPart, AsksToEmpty}
 use Rattle.futures_buffered_unordered_bounded.specs.FuturesUnorderedBounded.{with_empty_slot, with_source}
-
--- a poll's context was changed by registrations with a source alone, or not at all
-abbrev pub OnlyRegisters : {S : Type 0} → (S → Context → Context → Type 0)
-    → Context → Context → Type 0
-OnlyRegisters {S} registers_poll old new = (sources : List S)
-    × FoldsTo (λ cx source next. registers_poll source cx next) old sources new
 
 module _
     {F A S : Type 0}
@@ -49,10 +43,35 @@ module _
     CountGives old (Ready None) new = (i : ℕ) × CountEnds old i new
     CountGives old Pending new = LastCount old Pending new
 
-    -- one poll: counts that ended the streams of these slots, and then the last count
-    pub record MergeGives (old : Bounded F S) (answer : Poll (Option A))
-        (new : Bounded F S) : Type 0 where
+    -- the last count, which is pending only where no further name came
+    abbrev pub LastCountToEmpty : Bounded F S → Poll (Option A) → Bounded F S → Type 0
+    LastCountToEmpty old (Ready o) new = LastCount old (Ready o) new
+    LastCountToEmpty old Pending new =
+        (0 < held_count old.slots) × AsksToEmpty polled steps old new
+
+    -- counts that ended the streams of these slots, and then a last count
+    pub record CountsThen
+        (last : Bounded F S → Poll (Option A) → Bounded F S → Type 0)
+        (old : Bounded F S)
+        (answer : Poll (Option A))
+        (new : Bounded F S)
+        : Type 0 where
       pub ended : List ℕ
       pub before : Bounded F S
       pub counts : FoldsTo CountEnds old ended before
-      pub last_count : LastCount before answer new
+      pub last_count : last before answer new
+
+    -- one poll
+    abbrev pub MergeGives : Bounded F S → Poll (Option A) → Bounded F S → Type 0
+    MergeGives = CountsThen LastCount
+
+    -- one poll, which is pending only where no further name came
+    abbrev pub MergeAsksToEmpty : Bounded F S → Poll (Option A) → Bounded F S → Type 0
+    MergeAsksToEmpty = CountsThen LastCountToEmpty
+
+    -- one poll that gave no item and stopped though a further name may come
+    abbrev pub MergeStops : Bounded F S → Bounded F S → Type 0
+    MergeStops old new = (ended : List ℕ)
+        × (before : Bounded F S)
+        × FoldsTo CountEnds old ended before
+        × AsksInPart polled steps before new

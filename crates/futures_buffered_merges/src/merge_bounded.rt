@@ -10,9 +10,10 @@ ghost use Rattle.futures_buffered_core.specs.Drawn.{Draws, DrawsMoreThan};
 ghost use Rattle.futures_buffered_core.specs.ReadyShared.{IsNewShared, MarksShared};
 ghost use Rattle.futures_buffered_core.specs.SlotMap.{held_count, slot_count, IsFull};
 ghost use Rattle.futures_buffered_unordered_bounded.specs.Held.{AllHeld};
-ghost use Rattle.futures_buffered_unordered_bounded.specs.FuturesUnorderedBounded.{HoldsEach, Pushes, SaidEmpty, IsWoken};
-ghost use Rattle.futures_buffered_merges.specs.Merging.{MergeGives, OnlyRegisters};
-ghost use Rattle.futures_buffered_merges.specs.MergeBounded.{KeepsOrder, ComesFromStreams};
+ghost use Rattle.futures_buffered_unordered_bounded.specs.FuturesUnorderedBounded.{HoldsEach, IsWoken, OnlyRegisters, Pushes, SaidEmpty};
+ghost use Rattle.futures_buffered_unordered_bounded.specs.Groups.{GroupLeavesTask};
+ghost use Rattle.futures_buffered_merges.specs.Merging.{MergeAsksToEmpty, MergeGives, MergeStops};
+ghost use Rattle.futures_buffered_merges.specs.MergeBounded.{KeepsOrder, KeepsOrderWithPushes, ComesFromStreams};
 
 use crate::merging::poll_streams;
 use crate::slot_stream::SlotStream;
@@ -21,6 +22,7 @@ use futures::task::{Context, Poll};
 use futures_buffered_core::ready_core::{MAX_CAPACITY, NewFault};
 use futures_buffered_core::ready_shared::SharedReady;
 use futures_buffered_core::ready_source::{NewSource, ReadySource};
+use futures_buffered_unordered_bounded::fused::{FusedStream, SizeHint};
 use futures_buffered_unordered_bounded::futures_unordered_bounded::{
     FuturesUnorderedBounded, POLL_LIMIT,
 };
@@ -191,6 +193,9 @@ impl<St: SlotStream<S::Waker>, S: ReadySource> Stream for MergeBounded<St, S> {
         ensures covered { OnPending result (Covers cx.new (S.needs self.new.source)) }
         ensures woken { OnPending result (IsWoken cx.new
             ⊎ (SaidEmpty S.steps self.new.source × OnlyRegisters S.registers_poll cx.old cx.new)) }
+        ensures leaves { GroupLeavesTask (MergeAsksToEmpty St.polled S.steps S.marks)
+            (MergeStops St.polled S.steps S.marks) (OnlyRegisters S.registers_poll)
+            self.old result self.new cx.old cx.new }
         ensures only_registered { IfReady result (λ _.
             OnlyRegisters S.registers_poll cx.old cx.new) }
         ensures untouched { held_count self.old.slots ≡ 0 → cx.new ≡ cx.old }
@@ -200,9 +205,35 @@ impl<St: SlotStream<S::Waker>, S: ReadySource> Stream for MergeBounded<St, S> {
     }
 }
 
+/// Whether no stream is held. Takes the same time at any capacity.
+impl<St: SlotStream<S::Waker>, S: ReadySource> FusedStream for MergeBounded<St, S> {
+    ghost use Rattle.std.specs.Prelude.{◌≡◌};
+    ghost use Rattle.futures_buffered_core.specs.SlotMap.{held_count};
+
+    ghost is_over = { λ merge. held_count merge.slots ≡ 0 };
+
+    fn is_terminated(&self) -> bool {
+        self.set.is_empty()
+    }
+}
+
+/// Nothing is known of how many items are left.
+impl<St: Drop, S: ReadySource> SizeHint for MergeBounded<St, S> {
+    fn size_hint(&self) -> (usize, Option<usize>) {
+        (0, None)
+    }
+}
+
 /// After any polls of one merge the items that were given are those of the streams that it held at first: the items of each in its order, none lost and none twice. A stream that is still held is as its polls left it, and one that is not gave all of its items and then its end.
 ///
 /// This is of the words that a poll's contract says of each poll. Nothing is done.
 pub fn polls_keep_order<St: SlotStream<S::Waker>, S: ReadySource>()
     ensures { KeepsOrder St.polled S.steps S.marks }
+{}
+
+/// The same, with pushes between the polls: the items beside a slot are those of the streams that it held one after another, of each in its order, and each of these but the last gave its end before the next came.
+///
+/// This is of the words that the contracts of a push and of a poll say. Nothing is done.
+pub fn polls_and_pushes_keep_order<St: SlotStream<S::Waker>, S: ReadySource>()
+    ensures { KeepsOrderWithPushes St.polled S.steps S.marks }
 {}

@@ -8,10 +8,11 @@ ghost use Rattle.futures.specs.Runs.{After, Within};
 ghost use Rattle.futures.specs.Task.{Covers, Keeps};
 ghost use Rattle.futures_buffered_core.specs.Drawn.{Draws};
 ghost use Rattle.futures_buffered_core.specs.ReadyShared.{IsNewShared, MarksShared};
-ghost use Rattle.futures_buffered_unordered_bounded.specs.Groups.{GroupsGive};
-ghost use Rattle.futures_buffered_unordered.specs.SlotGroups.{EachHeld, EachCovered, AnyNeeds, GrowingPushes, IsAtBound, LastIsFull, PushesEach, no_groups, all_held};
-ghost use Rattle.futures_buffered_merges.specs.Merging.{MergeGives};
-ghost use Rattle.futures_buffered_merges.specs.MergeUnbounded.{ItemsComeFromGroups, KeepsOrderInGroups};
+ghost use Rattle.futures_buffered_unordered_bounded.specs.FuturesUnorderedBounded.{OnlyRegisters};
+ghost use Rattle.futures_buffered_unordered_bounded.specs.Groups.{GroupsGive, GroupsLeaveTask};
+ghost use Rattle.futures_buffered_unordered.specs.SlotGroups.{EachHeld, EachCovered, AnyNeeds, GrowingPushes, IsAtBound, LastIsFull, PushesEach, StopsAtBound, no_groups, all_held};
+ghost use Rattle.futures_buffered_merges.specs.Merging.{MergeAsksToEmpty, MergeGives, MergeStops};
+ghost use Rattle.futures_buffered_merges.specs.MergeUnbounded.{ItemsComeFromGroups, KeepsOrderInGroups, KeepsOrderInGroupsWithPushes};
 
 use crate::merging::poll_streams;
 use crate::slot_stream::SlotStream;
@@ -21,6 +22,7 @@ use futures_buffered_core::ready_core::NewFault;
 use futures_buffered_core::ready_shared::SharedReady;
 use futures_buffered_core::ready_source::NewSource;
 use futures_buffered_unordered::slot_groups::{AskGroup, FIRST_GROUP, MAX_HELD, SlotGroups};
+use futures_buffered_unordered_bounded::fused::{FusedStream, SizeHint};
 use futures_buffered_unordered_bounded::futures_unordered_bounded::{
     FuturesUnorderedBounded, POLL_LIMIT,
 };
@@ -57,6 +59,10 @@ impl<St: SlotStream<S::Waker>, S: NewSource> AskGroup<St, S> for AsMerge {
     ghost can_poll = { St.can_poll };
 
     ghost asks = { MergeGives St.polled S.steps S.marks };
+
+    ghost asks_to_empty = { MergeAsksToEmpty St.polled S.steps S.marks };
+
+    ghost stops = { MergeStops St.polled S.steps S.marks };
 
     ghost passes = { λ _ _. ⊤ };
 
@@ -99,6 +105,9 @@ impl<St: Drop, S: NewSource> MergeUnbounded<St, S> {
         ensures holds { IfOk result (λ merge. (streams : List St)
             × Draws I.into_iter_gives I.IntoIter.next_gives iter streams
             × PushesEach S.marks S.made (no_groups POLL_LIMIT) streams merge) }
+        ensures large { result ≡ Err NewFault.TooLarge
+            → StopsAtBound I.into_iter_gives I.IntoIter.next_gives iter S.marks S.made
+            (no_groups POLL_LIMIT) }
     {
         Self::over_limit(env, alloc, iter, POLL_LIMIT)
     }
@@ -117,11 +126,14 @@ impl<St: Drop, S: NewSource> MergeUnbounded<St, S> {
         ensures holds { IfOk result (λ merge. (streams : List St)
             × Draws I.into_iter_gives I.IntoIter.next_gives iter streams
             × PushesEach S.marks S.made (no_groups limit) streams merge) }
+        ensures large { result ≡ Err NewFault.TooLarge
+            → StopsAtBound I.into_iter_gives I.IntoIter.next_gives iter S.marks S.made
+            (no_groups limit) }
     {
         let mut merge = Self::without_groups(env, alloc, limit);
         for stream in iter {
             let Ok(()) = merge.push(stream) else {
-                return Err(merge.groups.refusal());
+                return Err(merge.refusal());
             };
         }
         Ok(merge)
@@ -156,6 +168,15 @@ impl<St: Drop, S: NewSource> MergeUnbounded<St, S> {
     {
         self.groups.push(stream)
     }
+
+    /// Why a push that was refused just now was refused: `TooLarge` where nothing more goes in, and else `Memory`.
+    ///
+    /// Takes the same time at any number of groups.
+    pub fn refusal(&self) -> NewFault
+        ensures { (result ≡ NewFault.TooLarge) ↔ IsAtBound self.now.groups.listed }
+    {
+        self.groups.refusal()
+    }
 }
 
 impl<St: SlotStream<S::Waker>, S: NewSource> Stream for MergeUnbounded<St, S> {
@@ -187,9 +208,30 @@ impl<St: SlotStream<S::Waker>, S: NewSource> Stream for MergeUnbounded<St, S> {
         ensures covered { OnPending result (EachCovered S.needs cx.new self.new.groups.listed) }
         ensures registered { OnPending result
             (Covers cx.new (AnyNeeds S.needs self.new.groups.listed)) }
+        ensures leaves { GroupsLeaveTask (MergeAsksToEmpty St.polled S.steps S.marks)
+            (MergeStops St.polled S.steps S.marks) (OnlyRegisters S.registers_poll)
+            self.old.groups result self.new.groups cx.old cx.new }
         ensures kept { Keeps cx.old cx.new }
     {
         self.groups.poll_groups(&AsMerge, cx)
+    }
+}
+
+/// Whether no stream is held. Takes the same time at any number of groups.
+impl<St: SlotStream<S::Waker>, S: NewSource> FusedStream for MergeUnbounded<St, S> {
+    ghost use Rattle.std.specs.Prelude.{◌≡◌};
+
+    ghost is_over = { λ merge. all_held merge.groups.listed ≡ 0 };
+
+    fn is_terminated(&self) -> bool {
+        self.is_empty()
+    }
+}
+
+/// Nothing is known of how many items are left.
+impl<St: Drop, S: NewSource> SizeHint for MergeUnbounded<St, S> {
+    fn size_hint(&self) -> (usize, Option<usize>) {
+        (0, None)
     }
 }
 
@@ -198,6 +240,13 @@ impl<St: SlotStream<S::Waker>, S: NewSource> Stream for MergeUnbounded<St, S> {
 /// This is of the words that a poll's contract says of each poll. Nothing is done.
 pub fn polls_keep_order<St: SlotStream<S::Waker>, S: NewSource>()
     ensures { KeepsOrderInGroups St.polled S.steps S.marks }
+{}
+
+/// The same, with pushes between the polls: the items are those of the streams that were held at first or pushed, none lost and none twice. The items of a slot are those of the streams that it held one after another, of each in its order, and each of these but the last gave its end before the next came.
+///
+/// This is of the words that the contracts of a push and of a poll say. Nothing is done.
+pub fn polls_and_pushes_keep_order<St: SlotStream<S::Waker>, S: NewSource>()
+    ensures { KeepsOrderInGroupsWithPushes St.polled S.steps S.marks S.made }
 {}
 
 impl<St: Drop> MergeUnbounded<St, SharedReady> {
@@ -224,6 +273,9 @@ impl<St: Drop> MergeUnbounded<St, SharedReady> {
         ensures holds { IfOk result (λ merge. (streams : List St)
             × Draws I.into_iter_gives I.IntoIter.next_gives iter streams
             × PushesEach MarksShared IsNewShared (no_groups POLL_LIMIT) streams merge) }
+        ensures large { result ≡ Err NewFault.TooLarge
+            → StopsAtBound I.into_iter_gives I.IntoIter.next_gives iter MarksShared IsNewShared
+            (no_groups POLL_LIMIT) }
     {
         Self::over((), alloc, iter)
     }

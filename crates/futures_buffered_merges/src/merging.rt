@@ -4,8 +4,9 @@ ghost use Rattle.futures.specs.Poll.{IfReady, OnPending};
 ghost use Rattle.futures.specs.Task.{Covers, Keeps};
 ghost use Rattle.futures_buffered_core.specs.SlotMap.{held_count, slot_count, value_in};
 ghost use Rattle.futures_buffered_unordered_bounded.specs.Held.{AllHeld, AllHeldBut, EndsWith};
-ghost use Rattle.futures_buffered_unordered_bounded.specs.FuturesUnorderedBounded.{AsksUntil, SaidEmpty, IsWoken};
-ghost use Rattle.futures_buffered_merges.specs.Merging.{CountGives, MergeGives, OnlyRegisters};
+ghost use Rattle.futures_buffered_unordered_bounded.specs.FuturesUnorderedBounded.{AsksUntil, IsWoken, LeavesTask, OnlyRegisters, SaidEmpty};
+ghost use Rattle.futures_buffered_unordered_bounded.specs.Groups.{GroupLeavesTask};
+ghost use Rattle.futures_buffered_merges.specs.Merging.{CountGives, MergeAsksToEmpty, MergeGives, MergeStops};
 
 use crate::slot_stream::{PollStream, SlotStream};
 use futures::task::{Context, Poll};
@@ -34,6 +35,8 @@ fn ask_streams<St: SlotStream<S::Waker>, S: ReadySource>(
     ensures still_covered { IfReady result (λ _. Covers cx.new (S.needs set.new.source)) }
     ensures woken { OnPending result (IsWoken cx.new
         ⊎ (SaidEmpty S.steps set.new.source × OnlyRegisters S.registers_poll cx.old cx.new)) }
+    ensures leaves { OnPending result (LeavesTask St.polled S.steps
+        (λ _. OnlyRegisters S.registers_poll) set.old set.new cx.old cx.new) }
     ensures only_registered { IfReady result (λ _. OnlyRegisters S.registers_poll cx.old cx.new) }
     ensures kept { Keeps cx.old cx.new }
 {
@@ -68,6 +71,8 @@ fn poll_count<St: SlotStream<S::Waker>, S: ReadySource>(
         IfNone o (Covers cx.new (S.needs set.new.source))) }
     ensures woken { OnPending result (IsWoken cx.new
         ⊎ (SaidEmpty S.steps set.new.source × OnlyRegisters S.registers_poll cx.old cx.new)) }
+    ensures leaves { OnPending result (LeavesTask St.polled S.steps
+        (λ _. OnlyRegisters S.registers_poll) set.old set.new cx.old cx.new) }
     ensures only_registered { IfReady result (λ _. OnlyRegisters S.registers_poll cx.old cx.new) }
     ensures kept { Keeps cx.old cx.new }
 {
@@ -104,6 +109,9 @@ pub(crate) fn poll_streams<St: SlotStream<S::Waker>, S: ReadySource>(
     ensures covered { OnPending result (Covers cx.new (S.needs set.new.source)) }
     ensures woken { OnPending result (IsWoken cx.new
         ⊎ (SaidEmpty S.steps set.new.source × OnlyRegisters S.registers_poll cx.old cx.new)) }
+    ensures leaves { GroupLeavesTask (MergeAsksToEmpty St.polled S.steps S.marks)
+        (MergeStops St.polled S.steps S.marks) (OnlyRegisters S.registers_poll)
+        set.old result set.new cx.old cx.new }
     ensures only_registered { IfReady result (λ _. OnlyRegisters S.registers_poll cx.old cx.new) }
     ensures untouched { held_count set.old.slots ≡ 0 → cx.new ≡ cx.old }
     ensures kept { Keeps cx.old cx.new }

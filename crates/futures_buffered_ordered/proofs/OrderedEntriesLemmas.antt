@@ -3,11 +3,12 @@ use Rattle.std.proofs.Common.{◌≡◌, ℕ, ◌+◌, List, [], ◌∷◌, ◌+
 use Rattle.std.specs.List.{FoldsTo, slice_get}
 use Rattle.std.proofs.lemmas.Fn.{FoldsTo-push}
 use Rattle.std.proofs.lemmas.List.{length_push}
+use Rattle.futures.specs.declared.task.context.Context.{Context}
 use Rattle.futures.specs.declared.task.Poll.{Poll}
 use Rattle.futures.specs.declared.task.Poll.TheVariants.{Ready, Pending}
 use Rattle.futures.specs.Poll.{IfReady, OnPending}
 use Rattle.futures.specs.Runs.{After, Within}
-use Rattle.futures_buffered_ordered.specs.OrderedEntries.{Ordered, AddsBack, AddsEachBack, SetYields, LastStep, OrderedGives, InTurn, EntryGives, ComesInOrder}
+use Rattle.futures_buffered_ordered.specs.OrderedEntries.{Ordered, AddsBack, AddsEachBack, SetYields, LastStep, OrderedGives, GivesWithTask, with_task, InTurn, EntryGives, ComesInOrder}
 use Rattle.futures_buffered_ordered.specs.declared.ordered_entries.Entry.{Entry}
 use Rattle.futures_buffered_ordered.specs.declared.ordered_entries.Entry.TheVariants.{Running, Kept}
 
@@ -23,6 +24,29 @@ pub last_from : {Q A : Type 0} (gives : Q → Poll (Option (ℕ × A)) → Q →
     → LastStep gives old (Ready o) new
 last_from gives old new None h same = h
 last_from gives old new (Some x) h same = (h.0, same, h.1)
+
+-- a queue whose set stands beside its task, without the task
+abbrev pub without_task : {Q A : Type 0} → Ordered (Q × Context) A → Ordered Q A
+without_task q = record { set = q.set.0; entries = q.entries; room = q.room }
+
+module _ {Q A : Type 0} (gives : Q → Poll (Option (ℕ × A)) → Q → Type 0) (leaves : Q → Poll (Option (ℕ × A)) → Q → Context → Context → Type 0) where
+  -- what was given is the same without what is said of the task
+  pub row_without : (row : List (ℕ × A)) (old new : Ordered (Q × Context) A) → FoldsTo (SetYields (GivesWithTask gives leaves)) old row new → FoldsTo (SetYields gives) (without_task old) row (without_task new)
+  row_without [] old new same = ap (λ (q : Ordered (Q × Context) A). without_task q) same
+  row_without (out ∷ row) old new h =
+      let one = h.1 in (
+        without_task h.0,
+        record { front_runs = one.front_runs; gave = one.gave.0; at = one.at; was_running = one.was_running; entries = one.entries; room = one.room },
+        row_without row h.0 new h.2,
+      )
+
+  pub pending_without : (old new : Ordered (Q × Context) A) → LastStep (GivesWithTask gives leaves) old Pending new → LastStep gives (without_task old) Pending (without_task new)
+  pending_without old new last = (last.0, last.1.0, last.2, last.3)
+
+  -- a last step that does not poll the set leaves the task
+  pub last_with_task : (old new : Ordered Q A) (cx : Context) (o : Option A) → LastStep gives old (Ready o) new → LastStep (GivesWithTask gives leaves) (with_task old cx) (Ready o) (with_task new cx)
+  last_with_task old new cx None last = (last.0, ap (λ (q : Ordered Q A). with_task q cx) last.1)
+  last_with_task old new cx (Some x) last = (last.0, ap (λ (set : Q). (set, cx)) last.1, last.2)
 
 module _ {E A : Type 0} (may may' : E → A → Type 0) where
   -- entry by entry, what the new may give the old may give

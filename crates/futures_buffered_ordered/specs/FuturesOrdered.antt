@@ -1,19 +1,22 @@
 -- What a contract sees of an ordered queue that grows: the words on ordered queues at a set that
 -- grows.
-use Rattle.std.specs.Prelude.{◌≡◌, ◌⊎◌, ℕ, Option}
+use Rattle.std.specs.Prelude.{◌≡◌, ◌⊎◌, ℕ, List, Option}
 use Rattle.std.specs.List.{sum_by}
+use Rattle.futures.specs.declared.task.context.Context.{Context}
 use Rattle.futures.specs.declared.task.Poll.{Poll}
 use Rattle.futures_buffered_table.specs.declared.answer.Woke.{Woke}
+use Rattle.futures_buffered_core.specs.Drawn.{DrawsAndOne}
 use Rattle.futures_buffered_core.specs.ReadySource.{SourceSteps}
-use Rattle.futures_buffered_unordered_bounded.specs.FuturesUnorderedBounded.{PollGives}
-use Rattle.futures_buffered_unordered_bounded.specs.Groups.{GroupsGive}
+use Rattle.futures_buffered_unordered_bounded.specs.FuturesUnorderedBounded.{AsksInPart, OnlyRegisters}
+use Rattle.futures_buffered_unordered_bounded.specs.FuturesUnorderedBounded.{PollAsksToEmpty, PollGives}
+use Rattle.futures_buffered_unordered_bounded.specs.Groups.{GroupsGive, GroupsLeaveTask}
 use Rattle.futures_buffered_unordered.specs.SlotGroups.{Growing, GrowingPushes, IsNewGrowing}
 use Rattle.futures_buffered_unordered.specs.SlotGroups.{LastIsFull, IsAtBound, EachHeld, all_held}
 use Rattle.futures_buffered_unordered.specs.FuturesUnordered.{AnyGroupMayGive}
 use Rattle.futures_buffered_unordered.specs.declared.slot_groups.TheConstants.{FIRST_GROUP}
 use Rattle.futures_buffered_unordered.specs.declared.slot_groups.TheConstants.{MAX_HELD}
 use Rattle.futures_buffered_ordered.specs.Numbered.{CanPollFuture, PollsNumbered, held_with}
-use Rattle.futures_buffered_ordered.specs.OrderedEntries.{Ordered, IsNewQueue}
+use Rattle.futures_buffered_ordered.specs.OrderedEntries.{Ordered, IsNewQueue, AddsEachBack, IsAtEnd}
 use Rattle.futures_buffered_ordered.specs.declared.numbered.Numbered.{Numbered}
 
 -- the set that grows of numbered futures, the entries, and how many there is a place for
@@ -49,6 +52,17 @@ module _ {F S : Type 0} where
       → Type 0
   IsNewGrowingQueue made n limit = IsNewQueue (IsNewGrowing made n limit) n
 
+  -- These items of a source were added at the back of what begins so, in order. One more came, and
+  -- nothing more went in.
+  abbrev pub QueueStopsAtBound : {A U I : Type 0} → (U → I → Type 0)
+      → (I → Option F → I → Type 0) → U → (S → ℕ → Woke → S → Type 0) → (ℕ → S → Type 0)
+      → OrderedGrowing F A S → Type 0
+  QueueStopsAtBound {A} becomes steps source marks made start = (items : List F)
+      × (stopped : OrderedGrowing F A S)
+      × DrawsAndOne becomes steps source items
+      × AddsEachBack (GrowingPushesNumber marks made) start items stopped
+      × IsAtEnd SetRefuses stopped
+
   -- P holds of each future in progress
   abbrev pub EachInProgress : (F → Type 0) → Growing (Numbered F) S → Type 0
   EachInProgress P set = EachHeld (CanPollFuture P) set.groups.listed
@@ -65,3 +79,12 @@ module _ {F A S : Type 0} (polled : ℕ → F → Poll A → F → Type 0) where
     pub gives : GroupsGive
         (PollGives (PollsNumbered polled) steps) old.groups answer new.groups
     pub same_limit : new.limit ≡ old.limit
+
+  -- what it leaves of its task
+  abbrev pub GroupsLeaveTaskNumbered : SourceSteps S → (S → Context → Context → Type 0)
+      → Growing (Numbered F) S → Poll (Option (ℕ × A)) → Growing (Numbered F) S
+      → Context → Context → Type 0
+  GroupsLeaveTaskNumbered steps registers_poll old answer new =
+      GroupsLeaveTask (PollAsksToEmpty (PollsNumbered polled) steps)
+      (AsksInPart (PollsNumbered polled) steps) (OnlyRegisters registers_poll)
+      old.groups answer new.groups

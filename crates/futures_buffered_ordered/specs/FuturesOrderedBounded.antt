@@ -1,6 +1,7 @@
 -- What a contract sees of a bounded ordered queue: the words on ordered queues at a bounded set.
 use Rattle.std.specs.Prelude.{◌≡◌, ℕ, ◌+◌, ◌*◌, ◌≤◌, List, [], ◌∷◌, length, Option, Some}
 use Rattle.std.specs.List.{FoldsTo}
+use Rattle.futures.specs.declared.task.context.Context.{Context}
 use Rattle.futures.specs.declared.task.Poll.{Poll}
 use Rattle.futures.specs.declared.task.Poll.TheVariants.{Ready, Pending}
 use Rattle.futures_buffered_core.specs.SlotMap.{slot_count}
@@ -8,7 +9,7 @@ use Rattle.futures_buffered_table.specs.declared.answer.Woke.{Woke}
 use Rattle.futures_buffered_core.specs.ReadySource.{SourceSteps}
 use Rattle.futures_buffered_unordered_bounded.specs.Held.{AllHeld, AnyMayGive}
 use Rattle.futures_buffered_unordered_bounded.specs.FuturesUnorderedBounded.{Bounded, IsNewSet}
-use Rattle.futures_buffered_unordered_bounded.specs.FuturesUnorderedBounded.{Pushes, PollGives}
+use Rattle.futures_buffered_unordered_bounded.specs.FuturesUnorderedBounded.{Pushes, PollGives, PollLeavesTask}
 use Rattle.futures_buffered_unordered_bounded.specs.FuturesUnorderedBounded.{held_in, names_taken}
 use Rattle.futures_buffered_ordered.specs.Numbered.{CanPollFuture, PollsNumbered}
 use Rattle.futures_buffered_ordered.specs.OrderedEntries.{Ordered, IsNewQueue, AddsEachBack}
@@ -65,6 +66,11 @@ module _ {F A S : Type 0} (polled : ℕ → F → Poll A → F → Type 0) where
     abbrev pub SetGives : Bounded (Numbered F) S → Poll (Option (ℕ × A)) → Bounded (Numbered F) S
         → Type 0
     SetGives = PollGives (PollsNumbered polled) steps
+
+    -- what it leaves of its task
+    abbrev pub SetLeavesTask : (S → Context → Context → Type 0) → Bounded (Numbered F) S
+        → Poll (Option (ℕ × A)) → Bounded (Numbered F) S → Context → Context → Type 0
+    SetLeavesTask = PollLeavesTask (PollsNumbered polled) steps
 
     -- how many names the polls of the set took that gave an output each
     abbrev pub names_of_row : (old : OrderedBounded F A S) (row : List (ℕ × A))

@@ -5,6 +5,7 @@ use Rattle.std.specs.Prelude.{◌≡◌, ◌≢◌, ◌⊎◌, ℕ, ◌+◌, ◌
 use Rattle.std.specs.Prelude.{◌∷◌, ◌++◌, length, Option, Some, None, count_by, slice_set}
 use Rattle.std.specs.List.{FoldsTo, slice_get}
 use Rattle.std.specs.Iterator.{YieldsThen}
+use Rattle.futures.specs.declared.task.context.Context.{Context}
 use Rattle.futures.specs.declared.task.Poll.{Poll}
 use Rattle.futures.specs.declared.task.Poll.TheVariants.{Ready, Pending}
 use Rattle.futures.specs.Runs.{Runs, Leads, Ends}
@@ -144,6 +145,27 @@ module _ {Q A : Type 0} (gives : Q → Poll (Option (ℕ × A)) → Q → Type 0
     pub row : FoldsTo SetYields old yielded before
     pub count_left : length yielded + count before.set ≡ count old.set
     pub last_step : LastStep before answer new
+
+-- a queue whose set stands beside its task
+abbrev pub with_task : {Q A : Type 0} → Ordered Q A → Context → Ordered (Q × Context) A
+with_task q cx = record { set = (q.set, cx); entries = q.entries; room = q.room }
+
+module _
+    {Q A : Type 0}
+    (gives : Q → Poll (Option (ℕ × A)) → Q → Type 0)
+    (leaves : Q → Poll (Option (ℕ × A)) → Q → Context → Context → Type 0)
+  where
+    -- a poll of the set, and what it leaves of its task
+    abbrev pub GivesWithTask : Q × Context → Poll (Option (ℕ × A)) → Q × Context → Type 0
+    GivesWithTask old answer new =
+        gives old.0 answer new.0 × leaves old.0 answer new.0 old.1 new.1
+
+    -- What one poll of a queue leaves of its task: what the polls of its set leave, one after
+    -- another. Where the set is not polled, the task is as it was.
+    abbrev pub OrderedLeavesTask : (Q → ℕ) → Ordered Q A → Poll (Option A) → Ordered Q A
+        → Context → Context → Type 0
+    OrderedLeavesTask count old answer new cx left = OrderedGives GivesWithTask
+        (λ set. count set.0) (with_task old cx) answer (with_task new left)
 
 -- an output of each, in order, and then the end
 abbrev pub InTurn : {E A : Type 0} → (E → A → Type 0) → List E → Runs A

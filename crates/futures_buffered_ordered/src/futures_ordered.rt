@@ -6,17 +6,17 @@ ghost use Rattle.std.specs.Iterator.{IsFiniteIterable};
 ghost use Rattle.futures.specs.Task.{Keeps};
 ghost use Rattle.futures.specs.Poll.{OnPending};
 ghost use Rattle.futures_buffered_core.specs.Answer.{RefusesTooLarge};
-ghost use Rattle.futures_buffered_core.specs.Drawn.{Draws};
+ghost use Rattle.futures_buffered_core.specs.Drawn.{Draws, SaysAtLeast};
 ghost use Rattle.futures_buffered_core.specs.ReadyShared.{IsNewShared, MarksShared, Shared};
 ghost use Rattle.futures_buffered_unordered.specs.SlotGroups.{EachCovered, no_groups};
-ghost use Rattle.futures_buffered_ordered.specs.OrderedEntries.{AddsBack, AddsEachBack, AddsFront, EachHasOne, IsAtEnd, MayRefuse, OrderedGives, Stays, StopsAt, starts_running};
-ghost use Rattle.futures_buffered_ordered.specs.FuturesOrdered.{EachInProgress, IsNewGrowingQueue, OrderedGrowing, GrowingPushesNumber, GroupsGiveNumbered, SetMayRefuse, SetRefuses, held_in_groups, held_in_groups_with};
+ghost use Rattle.futures_buffered_ordered.specs.OrderedEntries.{AddsBack, AddsEachBack, AddsFront, EachHasOne, IsAtEnd, MayRefuse, OrderedGives, OrderedLeavesTask, Stays, StopsAt, starts_running};
+ghost use Rattle.futures_buffered_ordered.specs.FuturesOrdered.{EachInProgress, IsNewGrowingQueue, OrderedGrowing, GrowingPushesNumber, GroupsGiveNumbered, GroupsLeaveTaskNumbered, QueueStopsAtBound, SetMayRefuse, SetRefuses, held_in_groups, held_in_groups_with};
 
 use crate::numbered::{Numbered, PollNumbered};
 use crate::numbered_set::{NumberedSet, PollNumberedSet};
 use crate::ordered_entries::{MAX_LEN, OrderedEntries};
 use futures::task::{Context, Poll};
-use futures_buffered_core::ready_core::NewFault;
+use futures_buffered_core::ready_core::{MAX_CAPACITY, NewFault};
 use futures_buffered_core::ready_shared::{SharedReady, SharedWaker};
 use futures_buffered_core::ready_source::{NewSource, ReadySource};
 use futures_buffered_unordered::futures_unordered::{FIRST_GROUP, FuturesUnordered};
@@ -77,6 +77,8 @@ impl<T: Drop, S: NewSource, R: PollOne<T, S::Waker>> PollNumberedSet<R>
     ghost gives = { GroupsGiveNumbered R.polled S.steps };
 
     ghost pends = { λ cx set. EachCovered S.needs cx set.groups.listed };
+
+    ghost leaves = { GroupsLeaveTaskNumbered R.polled S.steps S.registers_poll };
 
     fn poll_numbered(
         &mut self,
@@ -195,13 +197,18 @@ impl<T: Drop, A: Drop, S: NewSource> GrowingQueue<T, A, S> {
         ensures covered { OnPending result
             (EachCovered S.needs cx.new self.new.set.groups.listed) }
         ensures untouched { starts_running self.old.entries ≡ false → cx.new ≡ cx.old }
+        ensures leaves { OrderedLeavesTask (GroupsGiveNumbered R.polled S.steps)
+            (GroupsLeaveTaskNumbered R.polled S.steps S.registers_poll) held_in_groups
+            self.old result self.new cx.old cx.new }
         ensures kept { Keeps cx.old cx.new }
     {
         self.queue.poll_entries(rule, cx)
     }
 
-    // Why a push was refused.
-    fn refusal(&self) -> NewFault
+    /// Why a push that was refused just now was refused: `TooLarge` where nothing more goes in, and else `Memory`.
+    ///
+    /// Takes the same time at any length and any number of groups.
+    pub fn refusal(&self) -> NewFault
         ensures { (result ≡ NewFault.TooLarge) ↔ IsAtEnd SetRefuses self.now }
     {
         if self.queue.len() == MAX_LEN {
@@ -277,8 +284,15 @@ impl<T: SlotFuture<SharedWaker, Output = A>, A: Drop> GrowingQueue<T, A, SharedR
         ensures holds { IfOk result (λ q. (items : List T) × (least : ℕ)
             × ((start : OrderedGrowing T A Shared)
             × Draws I.into_iter_gives I.IntoIter.next_gives iter items
+            × SaysAtLeast I.into_iter_gives I.IntoIter.remaining iter least
             × IsNewGrowingQueue IsNewShared (max least FIRST_GROUP) POLL_LIMIT start
             × AddsEachBack (GrowingPushesNumber MarksShared IsNewShared) start items q)) }
+        ensures large { result ≡ Err NewFault.TooLarge → (least : ℕ)
+            × SaysAtLeast I.into_iter_gives I.IntoIter.remaining iter least
+            × ((MAX_CAPACITY < max least FIRST_GROUP) ⊎ ((start : OrderedGrowing T A Shared)
+            × IsNewGrowingQueue IsNewShared (max least FIRST_GROUP) POLL_LIMIT start
+            × QueueStopsAtBound I.into_iter_gives I.IntoIter.next_gives iter
+            MarksShared IsNewShared start)) }
     {
         let iter = iter.into_iter();
         let (least, _most) = iter.size_hint();

@@ -11,8 +11,8 @@ ghost use Rattle.futures_buffered_core.specs.ReadyShared.{IsNewShared, MarksShar
 ghost use Rattle.futures_buffered_core.specs.SlotMap.{slot_count};
 ghost use Rattle.futures_buffered_unordered_bounded.specs.FuturesUnorderedBounded.{SaidEmpty, IsWoken, held_in};
 ghost use Rattle.futures_buffered_ordered.specs.Numbered.{held_with};
-ghost use Rattle.futures_buffered_ordered.specs.OrderedEntries.{AddsBack, AddsEachBack, AddsFront, EachHasOne, OrderedGives, Stays, StopsAt, starts_running};
-ghost use Rattle.futures_buffered_ordered.specs.FuturesOrderedBounded.{EachRunning, HoldsInOrder, QueueIsFull, IsNewBoundedQueue, PushesNumber, SameSlots, SetGives, SetIsFull, TakesFewNames};
+ghost use Rattle.futures_buffered_ordered.specs.OrderedEntries.{AddsBack, AddsEachBack, AddsFront, EachHasOne, OrderedGives, OrderedLeavesTask, Stays, StopsAt, starts_running};
+ghost use Rattle.futures_buffered_ordered.specs.FuturesOrderedBounded.{EachRunning, HoldsInOrder, QueueIsFull, IsNewBoundedQueue, PushesNumber, SameSlots, SetGives, SetIsFull, SetLeavesTask, TakesFewNames};
 
 use crate::numbered::{Numbered, PollNumbered};
 use crate::numbered_set::{NumberedSet, PollNumberedSet};
@@ -83,6 +83,8 @@ impl<T: Drop, S: ReadySource, R: PollOne<T, S::Waker>> PollNumberedSet<R>
 
     ghost pends = { λ cx set. Covers cx (S.needs set.source)
         × (IsWoken cx ⊎ SaidEmpty S.steps set.source) };
+
+    ghost leaves = { SetLeavesTask R.polled S.steps S.registers_poll };
 
     fn poll_numbered(
         &mut self,
@@ -254,6 +256,9 @@ impl<T: Drop, A: Drop, S: ReadySource> BoundedQueue<T, A, S> {
         ensures woken { OnPending result
             (IsWoken cx.new ⊎ SaidEmpty S.steps self.new.set.source) }
         ensures untouched { starts_running self.old.entries ≡ false → cx.new ≡ cx.old }
+        ensures leaves { OrderedLeavesTask (SetGives R.polled S.steps)
+            (SetLeavesTask R.polled S.steps S.registers_poll) held_in
+            self.old result self.new cx.old cx.new }
         ensures kept { Keeps cx.old cx.new }
     {
         self.queue.poll_entries(rule, cx)

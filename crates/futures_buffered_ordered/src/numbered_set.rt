@@ -70,6 +70,9 @@ pub trait PollNumberedSet<R>: NumberedSet {
     // What a pending poll leaves of the task and the set.
     ghost pends: { Context → Self → Type 0 };
 
+    // What a poll leaves of its task.
+    ghost leaves: { Self → Poll (Option (ℕ × Self.Output)) → Self → Context → Context → Type 0 };
+
     /// One poll of the set. `Ready(None)` where nothing is held. Takes no memory.
     fn poll_numbered(
         &mut self,
@@ -85,5 +88,6 @@ pub trait PollNumberedSet<R>: NumberedSet {
         ensures keeps { Self.keeps self.old self.new }
         ensures again { can_poll self.new }
         ensures pends { OnPending result (pends cx.new self.new) }
+        ensures leaves { leaves self.old result self.new cx.old cx.new }
         ensures kept { Keeps cx.old cx.new };
 }

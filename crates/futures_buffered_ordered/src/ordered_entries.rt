@@ -7,7 +7,7 @@ ghost use Rattle.futures.specs.Task.{Keeps};
 ghost use Rattle.futures.specs.Poll.{IfReady, OnPending};
 ghost use Rattle.futures_buffered_core.specs.Drawn.{Draws};
 ghost use Rattle.futures_buffered_ordered.specs.declared.ordered_entries.Entry.TheVariants.{Kept};
-ghost use Rattle.futures_buffered_ordered.specs.OrderedEntries.{AddsBack, AddsEachBack, AddsFront, EachHasOne, IsAtEnd, LastStep, MayRefuse, OrderedGives, SetYields, Stays, StopsAt, starts_running};
+ghost use Rattle.futures_buffered_ordered.specs.OrderedEntries.{AddsBack, AddsEachBack, AddsFront, EachHasOne, GivesWithTask, IsAtEnd, LastStep, MayRefuse, OrderedGives, OrderedLeavesTask, SetYields, Stays, StopsAt, starts_running, with_task};
 ghost use Rattle.futures_buffered_ordered.specs.OrderedEntriesInvariant.{IsNumbered};
 
 use crate::numbered::Numbered;
@@ -230,9 +230,10 @@ impl<Q: NumberedSet, A: Drop> OrderedEntries<Q, A> {
         requires runs { starts_running self.old.queue.entries ≡ true }
         requires numbered { IsNumbered Q.with_number Q.count self.old }
         ensures gave { IfReady result (λ _. (out : ℕ × A)
-            × SetYields Q.gives self.old.queue out self.new.queue) }
-        ensures waits { OnPending result
-            (LastStep Q.gives self.old.queue Poll.Pending self.new.queue) }
+            × SetYields (GivesWithTask Q.gives Q.leaves)
+            (with_task self.old.queue cx.old) out (with_task self.new.queue cx.new)) }
+        ensures waits { OnPending result (LastStep (GivesWithTask Q.gives Q.leaves)
+            (with_task self.old.queue cx.old) Poll.Pending (with_task self.new.queue cx.new)) }
         ensures fewer { IfReady result (λ _.
             Q.count self.new.queue.set + 1 ≡ Q.count self.old.queue.set) }
         ensures holds { OnPending result (0 < Q.count self.new.queue.set) }
@@ -269,6 +270,8 @@ impl<Q: NumberedSet, A: Drop> OrderedEntries<Q, A> {
         ensures holds { OnPending result (0 < Q.count self.new.queue.set) }
         ensures pends { OnPending result (Q.pends cx.new self.new.queue.set) }
         ensures untouched { starts_running self.old.queue.entries ≡ false → cx.new ≡ cx.old }
+        ensures leaves { OrderedLeavesTask Q.gives Q.leaves Q.count
+            self.old.queue result self.new.queue cx.old cx.new }
         ensures kept { Keeps cx.old cx.new }
         ensures numbered { IsNumbered Q.with_number Q.count self.new }
     {

@@ -4,8 +4,8 @@ ghost use Rattle.futures.specs.Task.{Covers, Keeps};
 ghost use Rattle.futures.specs.Runs.{After, Within};
 ghost use Rattle.futures.specs.Poll.{IfReady, OnPending};
 ghost use Rattle.futures_buffered_unordered.specs.SlotGroups.{AnyNeeds};
-ghost use Rattle.futures_buffered_ordered.specs.OrderedEntries.{ComesInOrder, OrderedGives, starts_running};
-ghost use Rattle.futures_buffered_ordered.specs.FuturesOrdered.{EachInProgress, GroupsGiveNumbered, GrowingMayGive, held_in_groups};
+ghost use Rattle.futures_buffered_ordered.specs.OrderedEntries.{ComesInOrder, OrderedGives, OrderedLeavesTask, starts_running};
+ghost use Rattle.futures_buffered_ordered.specs.FuturesOrdered.{EachInProgress, GroupsGiveNumbered, GroupsLeaveTaskNumbered, GrowingMayGive, held_in_groups};
 
 use crate::futures_ordered::GrowingQueue;
 use futures::Stream;
@@ -49,6 +49,9 @@ where
         ensures registered { OnPending result
             (Covers cx.new (AnyNeeds S.needs self.new.set.groups.listed)) }
         ensures untouched { starts_running self.old.entries ≡ false → cx.new ≡ cx.old }
+        ensures leaves { OrderedLeavesTask (GroupsGiveNumbered T.polled S.steps)
+            (GroupsLeaveTaskNumbered T.polled S.steps S.registers_poll) held_in_groups
+            self.old result self.new cx.old cx.new }
         ensures kept { Keeps cx.old cx.new }
     {
         self.poll_with(&PollFuture, cx)

@@ -5,8 +5,8 @@ ghost use Rattle.futures.specs.Runs.{After, Within};
 ghost use Rattle.futures.specs.Poll.{IfReady, OnPending};
 ghost use Rattle.futures_buffered_core.specs.SlotMap.{slot_count};
 ghost use Rattle.futures_buffered_unordered_bounded.specs.FuturesUnorderedBounded.{SaidEmpty, IsWoken, held_in};
-ghost use Rattle.futures_buffered_ordered.specs.OrderedEntries.{ComesInOrder, OrderedGives, starts_running};
-ghost use Rattle.futures_buffered_ordered.specs.FuturesOrderedBounded.{EachRunning, SetGives, SetMayGive};
+ghost use Rattle.futures_buffered_ordered.specs.OrderedEntries.{ComesInOrder, OrderedGives, OrderedLeavesTask, starts_running};
+ghost use Rattle.futures_buffered_ordered.specs.FuturesOrderedBounded.{EachRunning, SetGives, SetLeavesTask, SetMayGive};
 
 use crate::futures_ordered_bounded::BoundedQueue;
 use futures::Stream;
@@ -52,6 +52,9 @@ where
         ensures woken { OnPending result
             (IsWoken cx.new ⊎ SaidEmpty S.steps self.new.set.source) }
         ensures untouched { starts_running self.old.entries ≡ false → cx.new ≡ cx.old }
+        ensures leaves { OrderedLeavesTask (SetGives T.polled S.steps)
+            (SetLeavesTask T.polled S.steps S.registers_poll) held_in
+            self.old result self.new cx.old cx.new }
         ensures kept { Keeps cx.old cx.new }
     {
         self.poll_with(&PollFuture, cx)

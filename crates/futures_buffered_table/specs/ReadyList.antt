@@ -22,6 +22,10 @@ pub record Poller : Type 0 where
   pub head : ℕ
   pub steps : List AtomicStep
 
+-- the poll seat in the midst of a taking: the steps that it made
+pub record Midway : Type 0 where
+  pub steps : List AtomicStep
+
 -- the seat is one of this list, in this role, and holds no slot of the table
 abbrev pub IsInRole : ListIdentity → Role → Seat ℕ View → Type 0
 IsInRole list role seat = (seat.table_id ≡ list.list) × (seat.me.0.stub ≡ list.capacity)

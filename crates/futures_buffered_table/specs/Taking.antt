@@ -1,7 +1,7 @@
 -- The shapes of a taking: which steps it makes, with what was found, for each answer. There is no
 -- other shape.
 -- In each, h is the poller's head before these steps, and `head` its head after them.
-use Rattle.std.specs.Prelude.{◌≡◌, ◌≢◌, ◌⊎◌, ℕ, suc, List, [], ◌∷◌}
+use Rattle.std.specs.Prelude.{◌≡◌, ◌≢◌, ◌⊎◌, ℕ, suc, List, [], ◌∷◌, ◌++◌}
 use Rattle.futures_buffered_table.specs.declared.answer.Taken.{Taken}
 use Rattle.futures_buffered_table.specs.declared.answer.Taken.TheVariants.{Slot, Empty, Pause}
 use Rattle.futures_buffered_table.specs.declared.view.AtomicStep.{AtomicStep}
@@ -53,10 +53,14 @@ abbrev pub IsTaking : ℕ → ℕ → List AtomicStep → Taken → ℕ → Type
 IsTaking n h shape answer head = ((h ≡ n) × IsAtStub n shape answer head)
     ⊎ ((h ≡ n) × IsFromStub n shape answer head) ⊎ ((h ≢ n) × IsFromSlot n h shape answer head)
 
--- how a taking changes what it calls before it can answer Empty: by one call, as `leaves` says,
--- where it takes no slot and its head is the stub, entry n; else not at all
-abbrev pub CallsAtStub : {B : Type 0} → (B → B → Type 0) → ℕ → Taken → ℕ → B → B → Type 0
-CallsAtStub leaves n (Slot i) head before after = after ≡ before
-CallsAtStub leaves n Empty head before after = leaves before after
-CallsAtStub leaves n Pause head before after = ((head ≡ n) × leaves before after)
+-- How a taking of a seat that had made the steps `made` changes what it calls before it can answer
+-- Empty: by one call, as `leaves` says, where it takes no slot and its head is the stub, entry n;
+-- else not at all. The call comes once the link of the stub is read, and before any other step.
+abbrev pub CallsAtStub : {B : Type 0} → (List AtomicStep → B → B → Type 0) → ℕ → List AtomicStep
+    → Taken → ℕ → B → B → Type 0
+CallsAtStub leaves n made (Slot i) head before after = after ≡ before
+CallsAtStub leaves n made Empty head before after =
+    leaves (made ++ LinkRead n 0 ∷ []) before after
+CallsAtStub leaves n made Pause head before after =
+    ((head ≡ n) × leaves (made ++ LinkRead n 0 ∷ []) before after)
     ⊎ ((head ≢ n) × (after ≡ before))

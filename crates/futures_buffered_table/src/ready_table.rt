@@ -6,5 +6,5 @@ pub use crate::rule::{IntoPoller, NewWaker, NewWakerStep, RowRule, SeatStep};
 pub use crate::schedule::steps;
 pub use crate::step::{Step, StepFault, StepReply, WAKE_SEATS};
 pub use crate::step_machine::StepMachine;
-pub use crate::taking::BeforeEmpty;
+pub use crate::taking::{BeforeEmpty, StepsMade};
 pub use crate::view::{AtomicStep, Phase, Role, View};

@@ -13,6 +13,23 @@ use crate::ready_list::{PollSeat, ReadyList};
 use crate::rule::SeatStep;
 use crate::view::View;
 use atomic_table::Seat;
+use std::marker::Model;
+
+/// What the poll seat has done when a taking calls [`BeforeEmpty::before_empty`]. There is nothing to call on it.
+///
+/// A contract sees the steps that the seat has made, from its first taking on.
+#[derive(Drop)]
+pub struct StepsMade<'s> {
+    seat: &'s Seat<u8, View>,
+}
+
+impl<'s> Model for StepsMade<'s> {
+    ghost use Rattle.futures_buffered_table.specs.ReadyList.{Midway};
+
+    ghost Value = { Midway };
+
+    ghost view = { λ s. record { steps = s.seat.now.me.0.steps } };
+}
 
 /// What a taking calls before the one read that can make its answer Empty: the read of the tail,
 /// where the head is the stub and its link names none.
@@ -21,17 +38,17 @@ use atomic_table::Seat;
 /// Pause. One whose tail swap comes after it finds what the call left, if it was left under a lock
 /// or by a sequentially consistent step, and is looked for after the wake.
 pub trait BeforeEmpty {
-    // What a call leaves, of what it found. It says nothing unless an `impl` writes it.
-    ghost leaves: { Self → Self → Type 0 } = { λ _ _. Unit {0} };
+    // What a call leaves, of what it found, where the seat has made these steps. It says nothing unless an `impl` writes it.
+    ghost leaves: { List AtomicStep → Self → Self → Type 0 } = { λ _ _ _. Unit {0} };
 
     /// Returns before the tail is read. Its time, memory and locks are the taking's too.
-    fn before_empty(&mut self)
-        ensures { leaves self.old self.new };
+    fn before_empty(&mut self, made: &StepsMade<'_>)
+        ensures { leaves made.now.steps self.old self.new };
 }
 
 /// Does nothing.
 impl BeforeEmpty for () {
-    fn before_empty(&mut self) {}
+    fn before_empty(&mut self, _made: &StepsMade<'_>) {}
 }
 
 impl ReadyList {
@@ -210,15 +227,15 @@ impl ReadyList {
         ensures named { (slot : ℕ) → result.1 ≡ Slot slot → slot < self.now.capacity }
         ensures shape { (shape : List AtomicStep) × AddsSteps seat.old seat.new shape
             × IsTaking self.now.capacity head shape result.1 result.0 }
-        ensures calls { CallsAtStub B.leaves self.now.capacity result.1 result.0
-            before.old before.new }
+        ensures calls { CallsAtStub B.leaves self.now.capacity seat.old.me.0.steps
+            result.1 result.0 before.old before.new }
     {
         let found = self.read_first(seat, head);
         if head == self.capacity {
             if found == 0 {
                 // A wake that swaps the tail before the next read makes the answer Pause. One that
                 // swaps it later finds what this call leaves.
-                before.before_empty();
+                before.before_empty(&StepsMade { seat });
                 let tail = self.read_tail_first(seat, head);
                 if tail == self.capacity {
                     return (head, Taken::Empty);
@@ -260,8 +277,8 @@ impl ReadyList {
         ensures named { (slot : ℕ) → result ≡ Slot slot → slot < self.now.capacity }
         ensures shape { (shape : List AtomicStep) × (seat.new.steps ≡ seat.old.steps ++ shape)
             × IsTaking self.now.capacity seat.old.head shape result seat.new.head }
-        ensures calls { CallsAtStub B.leaves self.now.capacity result seat.new.head
-            before.old before.new }
+        ensures calls { CallsAtStub B.leaves self.now.capacity seat.old.steps
+            result seat.new.head before.old before.new }
     {
         // What the list keeps of itself is known from here on.
         let _ = &self.table;

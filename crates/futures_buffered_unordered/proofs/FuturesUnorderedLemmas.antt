@@ -1,18 +1,19 @@
 -- What a set's poll keeps of each group that it asks, and what may come from the set.
-use Rattle.std.proofs.Common.{◌≡◌, ℕ, ◌+◌, ◌<◌, List, [], ◌∷◌, Option, Some, None, IfSome, IfNone, refl, sym, subst, arith}
+use Rattle.std.proofs.Common.{◌≡◌, ◌⊎◌, ℕ, ◌+◌, ◌<◌, List, [], ◌∷◌, Option, Some, None, IfSome, IfNone, refl, sym, subst, inl, inr, arith}
 use Rattle.std.specs.List.{FoldsTo}
 use Rattle.futures.specs.Poll.{IfReady, OnPending}
 use Rattle.futures.specs.Runs.{After, Within}
+use Rattle.futures.specs.declared.task.context.Context.{Context}
 use Rattle.futures.specs.declared.task.Poll.{Poll}
 use Rattle.futures.specs.declared.task.Poll.TheVariants.{Ready, Pending}
 use Rattle.futures_buffered_core.specs.ReadySource.{WaitsAlike, SourceSteps}
 use Rattle.futures_buffered_core.specs.SlotMap.{slot_count}
 use Rattle.futures_buffered_table.specs.declared.answer.Taken.{Taken}
 use Rattle.futures_buffered_unordered_bounded.specs.Held.{AnyMayGive}
-use Rattle.futures_buffered_unordered_bounded.specs.FuturesUnorderedBounded.{Bounded, PollGives, held_in}
-use Rattle.futures_buffered_unordered_bounded.specs.Groups.{Groups, GroupsGive, outputs_in}
+use Rattle.futures_buffered_unordered_bounded.specs.FuturesUnorderedBounded.{AsksInPart, Bounded, OnlyRegisters, PollAsksToEmpty, PollGives, PollLeavesTask, held_in}
+use Rattle.futures_buffered_unordered_bounded.specs.Groups.{GroupLeavesTask, Groups, GroupsGive, outputs_in}
 use Rattle.futures_buffered_unordered_bounded.proofs.HeldGivesLemmas.{Gathers-Within, Gathers-After}
-use Rattle.futures_buffered_unordered_bounded.proofs.FuturesUnorderedBoundedLemmas.{poll_counted, poll_pending_holds, poll_end_is_empty, poll_gave, poll_still}
+use Rattle.futures_buffered_unordered_bounded.proofs.FuturesUnorderedBoundedLemmas.{registers_none, registers_once, poll_counted, poll_pending_holds, poll_end_is_empty, poll_gave, poll_still}
 use Rattle.futures_buffered_unordered.specs.SlotGroups.{all_held}
 use Rattle.futures_buffered_unordered.specs.SlotGroupsInvariant.{KeepsGroup}
 use Rattle.futures_buffered_unordered.specs.FuturesUnordered.{AnyGroupMayGive, ComesFromGroups}
@@ -48,6 +49,22 @@ module _ {F A S : Type 0} (needs : S → ℕ → Type 0) (polled : ℕ → F →
       empty (Ready None) h = poll_end_is_empty polled steps old new h
       empty (Ready (Some x)) h = tt
       empty Pending h = tt
+
+-- what a poll of a group leaves of the task: one that registers, and one of a task that is registered
+module _ {F A S : Type 0} (polled : ℕ → F → Poll A → F → Type 0) (steps : SourceSteps S) (registers_poll : S → Context → Context → Type 0) (old new : Bounded F S) (cx left : Context) where
+  pub group_leaves : (answer : Poll (Option A)) → PollGives polled steps old answer new → PollLeavesTask polled steps registers_poll old answer new cx left
+      → GroupLeavesTask (PollAsksToEmpty polled steps) (AsksInPart polled steps) (OnlyRegisters registers_poll) old answer new cx left
+  group_leaves (Ready None) gives same = inl (gives, registers_none registers_poll cx left same)
+  group_leaves (Ready (Some x)) gives once = inl (gives, registers_once registers_poll cx left old.source once)
+  group_leaves Pending gives (inl empty) = inl ((gives.0, empty.0), registers_once registers_poll cx left old.source empty.1)
+  group_leaves Pending gives (inr part) = inr (refl, part.0, part.1)
+
+  pub covered_leaves : (answer : Poll (Option A)) → PollGives polled steps old answer new → PollLeavesTask polled steps (λ _ before after. after ≡ before) old answer new cx left
+      → GroupLeavesTask (PollAsksToEmpty polled steps) (AsksInPart polled steps) (OnlyRegisters registers_poll) old answer new cx left
+  covered_leaves (Ready None) gives same = inl (gives, registers_none registers_poll cx left same)
+  covered_leaves (Ready (Some x)) gives same = inl (gives, registers_none registers_poll cx left same)
+  covered_leaves Pending gives (inl empty) = inl ((gives.0, empty.0), registers_none registers_poll cx left empty.1)
+  covered_leaves Pending gives (inr part) = inr (refl, part.0, part.1)
 
 module _ {F A S : Type 0} (polled : ℕ → F → Poll A → F → Type 0) (steps : SourceSteps S) where
   module _ (old new : Groups (Bounded F S)) where

@@ -7,8 +7,8 @@ use Rattle.futures.specs.declared.task.Poll.{Poll}
 use Rattle.futures.specs.declared.task.Poll.TheVariants.{Ready, Pending}
 use Rattle.futures_buffered_unordered_bounded.specs.FuturesUnorderedBounded.{Bounded, held_in}
 use Rattle.futures_buffered_unordered_bounded.specs.Groups.{Groups, Turn, TakesTurn, AsksLast, GroupsGive, ended, is_end, staying, round_from, NotAsked, GaveNoOutput, NoOutput}
-use Rattle.futures_buffered_unordered_bounded.specs.Groups.{outputs_in}
-use Rattle.futures_buffered_unordered.specs.SlotGroups.{AnyOf, all_held}
+use Rattle.futures_buffered_unordered_bounded.specs.Groups.{AnyOf, outputs_in}
+use Rattle.futures_buffered_unordered.specs.SlotGroups.{all_held}
 
 -- one of a list's parts is one of the list, and the other way round
 module _ {X : Type 0} (P : X → Type 0) where

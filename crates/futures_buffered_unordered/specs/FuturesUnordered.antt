@@ -5,7 +5,8 @@ use Rattle.futures.specs.Queued.{Gathers}
 use Rattle.futures.specs.declared.task.Poll.{Poll}
 use Rattle.futures_buffered_unordered_bounded.specs.Held.{AnyMayGive}
 use Rattle.futures_buffered_unordered_bounded.specs.FuturesUnorderedBounded.{Bounded}
-use Rattle.futures_buffered_unordered.specs.SlotGroups.{AnyOf, all_held}
+use Rattle.futures_buffered_unordered_bounded.specs.Groups.{AnyOf}
+use Rattle.futures_buffered_unordered.specs.SlotGroups.{all_held}
 
 module _ {F A S : Type 0} (polled : ℕ → F → Poll A → F → Type 0) where
   -- one of the futures that are held in these groups may give x

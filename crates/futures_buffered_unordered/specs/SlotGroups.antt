@@ -1,16 +1,17 @@
 -- What a contract sees of groups that grow, and what their calls make of them.
-use Rattle.std.specs.Prelude.{◌≡◌, ℕ, ◌+◌, ◌-◌, ◌*◌, ◌<◌, List, [], ◌∷◌, ◌++◌, ◌⊎◌, refl}
+use Rattle.std.specs.Prelude.{◌≡◌, ℕ, ◌+◌, ◌-◌, ◌*◌, ◌<◌, List, [], ◌∷◌, ◌++◌, ◌⊎◌, Option, refl}
 use Rattle.std.specs.List.{sum_by, All, FoldsTo}
 use Rattle.std.specs.Coded.{Coded, code_by, coded×, coded_ℕ}
 use Rattle.futures.specs.Task.{Covers}
 use Rattle.futures.specs.declared.task.context.Context.{Context}
+use Rattle.futures_buffered_core.specs.Drawn.{DrawsAndOne}
 use Rattle.futures_buffered_core.specs.SlotMap.{slot_count}
 use Rattle.futures_buffered_table.specs.declared.answer.TheConstants.{MAX_CAPACITY}
 use Rattle.futures_buffered_table.specs.declared.answer.Woke.{Woke}
 use Rattle.futures_buffered_unordered_bounded.specs.Held.{AllHeld}
 use Rattle.futures_buffered_unordered_bounded.specs.FuturesUnorderedBounded.{Bounded, bounded_code, IsNewSet}
 use Rattle.futures_buffered_unordered_bounded.specs.FuturesUnorderedBounded.{Pushes, held_in}
-use Rattle.futures_buffered_unordered_bounded.specs.Groups.{Groups, groups_code}
+use Rattle.futures_buffered_unordered_bounded.specs.Groups.{Groups, groups_code, AnyOf}
 use Rattle.futures_buffered_unordered.specs.declared.slot_groups.TheConstants.{FIRST_GROUP, MAX_HELD}
 
 -- the groups, the place where the next poll begins, and how many names one poll takes from each
@@ -32,11 +33,6 @@ growing_code {F} {S} code source_code =
 -- no group, with this limit
 abbrev pub no_groups : {F S : Type 0} → ℕ → Growing F S
 no_groups limit = record { groups = record { listed = []; place = 0 }; limit = limit }
-
--- P holds of one of these
-abbrev pub AnyOf : {X : Type 0} → (X → Type 0) → List X → Type 0
-AnyOf P [] = ⊥
-AnyOf P (x ∷ xs) = P x ⊎ AnyOf P xs
 
 module _ {F S : Type 0} where
   -- how many futures all groups hold
@@ -118,6 +114,15 @@ module _ {F S : Type 0} where
   abbrev pub PushesEach : (S → ℕ → Woke → S → Type 0) → (ℕ → S → Type 0)
       → Growing F S → List F → Growing F S → Type 0
   PushesEach marks made = FoldsTo (GrowingPushes marks made FIRST_GROUP)
+
+  -- These items of a source were pushed into what begins so, in order. One more came, and nothing
+  -- more went in.
+  abbrev pub StopsAtBound : {U I : Type 0} → (U → I → Type 0) → (I → Option F → I → Type 0) → U
+      → (S → ℕ → Woke → S → Type 0) → (ℕ → S → Type 0) → Growing F S → Type 0
+  StopsAtBound becomes steps source marks made start = (items : List F) × (stopped : Growing F S)
+      × DrawsAndOne becomes steps source items
+      × PushesEach marks made start items stopped
+      × IsAtBound stopped.groups.listed
 
   -- one group of so many slots, or none where that number is 0
   abbrev pub IsNewGrowing : (ℕ → S → Type 0) → ℕ → ℕ → Growing F S → Type 0

@@ -6,16 +6,16 @@ ghost use Rattle.futures.specs.Poll.{IfReady, OnPending};
 ghost use Rattle.std.specs.Iterator.{IsFiniteIterable};
 ghost use Rattle.futures.specs.Task.{Keeps};
 ghost use Rattle.futures_buffered_core.specs.Answer.{RefusesTooLarge};
-ghost use Rattle.futures_buffered_core.specs.Drawn.{Draws};
+ghost use Rattle.futures_buffered_core.specs.Drawn.{Draws, SaysAtLeast};
 ghost use Rattle.futures_buffered_core.specs.ReadyShared.{IsNewShared, MarksShared, Shared};
-ghost use Rattle.futures_buffered_unordered_bounded.specs.FuturesUnorderedBounded.{PollGives};
-ghost use Rattle.futures_buffered_unordered_bounded.specs.Groups.{GroupsGive, outputs_in};
-ghost use Rattle.futures_buffered_unordered.specs.SlotGroups.{EachHeld, EachCovered, Growing, GrowingPushes, IsAtBound, IsNewGrowing, LastIsFull, PushesEach, no_groups, all_held, capacity_of};
+ghost use Rattle.futures_buffered_unordered_bounded.specs.FuturesUnorderedBounded.{AsksInPart, OnlyRegisters, PollAsksToEmpty, PollGives};
+ghost use Rattle.futures_buffered_unordered_bounded.specs.Groups.{GroupsGive, GroupsLeaveTask, outputs_in};
+ghost use Rattle.futures_buffered_unordered.specs.SlotGroups.{EachHeld, EachCovered, Growing, GrowingPushes, IsAtBound, IsNewGrowing, LastIsFull, PushesEach, StopsAtBound, no_groups, all_held, capacity_of};
 
 use crate::slot_groups::{AskGroup, SlotGroups};
 pub use crate::slot_groups::{FIRST_GROUP, MAX_HELD};
 use futures::task::{Context, Poll};
-use futures_buffered_core::ready_core::NewFault;
+use futures_buffered_core::ready_core::{MAX_CAPACITY, NewFault};
 use futures_buffered_core::ready_shared::SharedReady;
 use futures_buffered_core::ready_source::NewSource;
 use futures_buffered_unordered_bounded::futures_unordered_bounded::{
@@ -55,6 +55,10 @@ impl<F: Drop, S: NewSource, R: PollOne<F, S::Waker>> AskGroup<F, S> for ByRule<'
     ghost can_poll = { R.can_poll };
 
     ghost asks = { PollGives R.polled S.steps };
+
+    ghost asks_to_empty = { PollAsksToEmpty R.polled S.steps };
+
+    ghost stops = { AsksInPart R.polled S.steps };
 
     ghost passes = { λ old new. new ≡ old };
 
@@ -177,6 +181,9 @@ impl<F: Drop, S: NewSource> FuturesUnordered<F, S> {
         ensures pollable { EachHeld R.can_poll self.new.groups.listed }
         ensures covered { OnPending result (EachCovered S.needs cx.new self.new.groups.listed) }
         ensures untouched { IfReady result (λ o. IfNone o (cx.new ≡ cx.old)) }
+        ensures leaves { GroupsLeaveTask (PollAsksToEmpty R.polled S.steps)
+            (AsksInPart R.polled S.steps) (OnlyRegisters S.registers_poll)
+            self.old.groups result self.new.groups cx.old cx.new }
         ensures kept { Keeps cx.old cx.new }
     {
         self.groups.poll_groups(&ByRule(rule), cx)
@@ -224,8 +231,15 @@ impl<F: Drop> FuturesUnordered<F, SharedReady> {
         ensures holds { IfOk result (λ set. (items : List F) × (least : ℕ)
             × ((start : Growing F Shared)
             × Draws I.into_iter_gives I.IntoIter.next_gives iter items
+            × SaysAtLeast I.into_iter_gives I.IntoIter.remaining iter least
             × IsNewGrowing IsNewShared (max least FIRST_GROUP) POLL_LIMIT start
             × PushesEach MarksShared IsNewShared start items set)) }
+        ensures large { result ≡ Err NewFault.TooLarge → (least : ℕ)
+            × SaysAtLeast I.into_iter_gives I.IntoIter.remaining iter least
+            × ((MAX_CAPACITY < max least FIRST_GROUP) ⊎ ((start : Growing F Shared)
+            × IsNewGrowing IsNewShared (max least FIRST_GROUP) POLL_LIMIT start
+            × StopsAtBound I.into_iter_gives I.IntoIter.next_gives iter
+            MarksShared IsNewShared start)) }
     {
         let iter = iter.into_iter();
         let (least, _most) = iter.size_hint();

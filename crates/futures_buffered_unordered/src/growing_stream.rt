@@ -3,8 +3,8 @@ ghost use Rattle.std.specs.Prelude.{◌≡◌, ◌↔◌, ◌+◌, [], OnSome, I
 ghost use Rattle.futures.specs.Poll.{IfReady, OnPending};
 ghost use Rattle.futures.specs.Runs.{After, Within};
 ghost use Rattle.futures.specs.Task.{Covers, Keeps};
-ghost use Rattle.futures_buffered_unordered_bounded.specs.FuturesUnorderedBounded.{PollGives};
-ghost use Rattle.futures_buffered_unordered_bounded.specs.Groups.{GroupsGive, outputs_in};
+ghost use Rattle.futures_buffered_unordered_bounded.specs.FuturesUnorderedBounded.{AsksInPart, OnlyRegisters, PollAsksToEmpty, PollGives};
+ghost use Rattle.futures_buffered_unordered_bounded.specs.Groups.{GroupsGive, GroupsLeaveTask, outputs_in};
 ghost use Rattle.futures_buffered_unordered.specs.SlotGroups.{AnyNeeds, EachCovered, EachHeld, all_held};
 ghost use Rattle.futures_buffered_unordered.specs.FuturesUnordered.{ComesFromGroups};
 
@@ -49,6 +49,9 @@ impl<F: SlotFuture<S::Waker>, S: NewSource> Stream for FuturesUnordered<F, S> {
         ensures registered { OnPending result
             (Covers cx.new (AnyNeeds S.needs self.new.groups.listed)) }
         ensures untouched { IfReady result (λ o. IfNone o (cx.new ≡ cx.old)) }
+        ensures leaves { GroupsLeaveTask (PollAsksToEmpty F.polled S.steps)
+            (AsksInPart F.polled S.steps) (OnlyRegisters S.registers_poll)
+            self.old.groups result self.new.groups cx.old cx.new }
         ensures kept { Keeps cx.old cx.new }
     {
         self.poll_with(&PollFuture, cx)

@@ -7,10 +7,10 @@ ghost use Rattle.futures.specs.Poll.{IfReady, OnPending};
 ghost use Rattle.futures.specs.Task.{Covers, Keeps};
 ghost use Rattle.futures_buffered_core.specs.Answer.{RefusesTooLarge};
 ghost use Rattle.futures_buffered_core.specs.ReadySource.{WaitsAlike};
-ghost use Rattle.futures_buffered_unordered_bounded.specs.FuturesUnorderedBounded.{IsNewSet};
+ghost use Rattle.futures_buffered_unordered_bounded.specs.FuturesUnorderedBounded.{IsNewSet, OnlyRegisters};
 ghost use Rattle.futures_buffered_unordered_bounded.specs.Held.{AllHeld};
-ghost use Rattle.futures_buffered_unordered_bounded.specs.Groups.{GroupsGive};
-ghost use Rattle.futures_buffered_unordered_bounded.specs.GroupsStep.{AsksOne, next_place};
+ghost use Rattle.futures_buffered_unordered_bounded.specs.Groups.{GroupLeavesTask, GroupsGive, GroupsLeaveTask};
+ghost use Rattle.futures_buffered_unordered_bounded.specs.GroupsStep.{AsksOne, OneLeavesTask, next_place};
 ghost use Rattle.futures_buffered_unordered.specs.SlotGroups.{EachHeld, EachCovered, GrowingPushes, IsAtBound, IsNewGrowing, LastIsFull, no_groups, all_held, capacity_of, next_capacity, spare_places};
 ghost use Rattle.futures_buffered_unordered.specs.SlotGroupsInvariant.{AddsGroup, KeepsGroup, PushesLast};
 
@@ -47,6 +47,12 @@ pub trait AskGroup<F: Drop, S: NewSource> {
     // One poll of a group, that finds it, gives an answer and leaves it.
     ghost asks: { Bounded F S → Poll (Option Self.Output) → Bounded F S → Type 0 };
 
+    // The same, where a poll that is pending had no further name.
+    ghost asks_to_empty: { Bounded F S → Poll (Option Self.Output) → Bounded F S → Type 0 };
+
+    // A poll that was pending, and stopped though a further name may come.
+    ghost stops: { Bounded F S → Bounded F S → Type 0 };
+
     // What a group that answers the end leaves of the task.
     ghost passes: { Context → Context → Type 0 };
 
@@ -64,6 +70,8 @@ pub trait AskGroup<F: Drop, S: NewSource> {
         ensures pollable { AllHeld can_poll group.new.slots }
         ensures covered { OnPending result (Covers cx.new (S.needs group.new.source)) }
         ensures passes { IfReady result (λ o. IfNone o (passes cx.old cx.new)) }
+        ensures leaves { GroupLeavesTask asks_to_empty stops (OnlyRegisters S.registers_poll)
+            group.old result group.new cx.old cx.new }
         ensures kept { Keeps cx.old cx.new };
 
     // A task that several groups pass by is as one passes it by, or as it was.
@@ -316,6 +324,9 @@ impl<F: Drop, S: NewSource> SlotGroups<F, S> {
         ensures still_covered { IsTrue is_registered →
             EachCovered S.needs cx.new self.new.groups.listed }
         ensures passes { IfReady result (λ o. IfNone o (R.passes cx.old cx.new)) }
+        ensures leaves { OneLeavesTask R.asks R.asks_to_empty R.stops
+            (OnlyRegisters S.registers_poll)
+            self.old.groups result self.new.groups cx.old cx.new }
         ensures kept { Keeps cx.old cx.new }
     {
         let place = self.next_place();
@@ -352,6 +363,8 @@ impl<F: Drop, S: NewSource> SlotGroups<F, S> {
         ensures pollable { EachHeld R.can_poll self.new.groups.listed }
         ensures covered { OnPending result (EachCovered S.needs cx.new self.new.groups.listed) }
         ensures passes { IfReady result (λ o. IfNone o (R.passes cx.old cx.new)) }
+        ensures leaves { GroupsLeaveTask R.asks_to_empty R.stops (OnlyRegisters S.registers_poll)
+            self.old.groups result self.new.groups cx.old cx.new }
         ensures kept { Keeps cx.old cx.new }
     {
         let mut is_registered = false;

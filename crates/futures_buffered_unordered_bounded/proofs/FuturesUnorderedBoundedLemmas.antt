@@ -5,6 +5,7 @@ use Rattle.std.proofs.lemmas.Fn.{FoldsTo-push}
 use Rattle.std.proofs.lemmas.Bool.{cases_lt}
 use Rattle.std.proofs.lemmas.List.{get_or_past, length_push, map_push}
 use Rattle.std.proofs.lemmas.List.Sums.{sum_by-set}
+use Rattle.futures.specs.declared.task.context.Context.{Context}
 use Rattle.futures.specs.declared.task.Poll.{Poll}
 use Rattle.futures.specs.declared.task.Poll.TheVariants.{Ready, Pending}
 use Rattle.futures.specs.Poll.{IfReady, OnPending}
@@ -15,7 +16,7 @@ use Rattle.futures_buffered_table.specs.declared.answer.Taken.TheVariants.{Slot,
 use Rattle.futures_buffered_core.specs.ReadySource.{SourceSteps}
 use Rattle.futures_buffered_unordered_bounded.specs.Held.{AllHeld, AnyMayGive, ComesFrom, Passes, Yields}
 use Rattle.futures_buffered_unordered_bounded.specs.Groups.{outputs_in}
-use Rattle.futures_buffered_unordered_bounded.specs.FuturesUnorderedBounded.{Bounded, Asks, AsksInPart, AsksToEmpty, AsksUntil, EndsWaiting, PollGives, held_in, with_source}
+use Rattle.futures_buffered_unordered_bounded.specs.FuturesUnorderedBounded.{Bounded, Asks, AsksInPart, AsksToEmpty, AsksUntil, EndsWaiting, LeavesTask, OnlyRegisters, PollGives, held_in, with_source}
 use Rattle.futures_buffered_unordered_bounded.proofs.HeldLemmas.{AllHeld-with, count-with, passes_free, passes_pending, value_in-with_value}
 use Rattle.futures_buffered_unordered_bounded.proofs.HeldGivesLemmas.{Gathers-Within, Gathers-After, gives_passed, gives_output, gives_others}
 
@@ -200,3 +201,35 @@ module _ {F A S : Type 0} (polled : ℕ → F → Poll A → F → Type 0) (step
   poll_still y group left Pending h any =
       let asks = h.1 in
       gives_passed polled asks.0 _ _ y asks.3.passes any
+
+-- no registration, and one
+pub registers_none : {S : Type 0} (registers_poll : S → Context → Context → Type 0) (old new : Context) → new ≡ old → OnlyRegisters registers_poll old new
+registers_none registers_poll old new same = ([], sym same)
+
+pub registers_once : {S : Type 0} (registers_poll : S → Context → Context → Type 0) (old new : Context) (source : S) → registers_poll source old new → OnlyRegisters registers_poll old new
+registers_once registers_poll old new source once = (source ∷ [], (new, once, refl))
+
+-- further registrations
+pub registers_more : {S : Type 0} (registers_poll : S → Context → Context → Type 0) (old mid new : Context) → OnlyRegisters registers_poll old mid → OnlyRegisters registers_poll mid new → OnlyRegisters registers_poll old new
+registers_more {S} registers_poll old mid new before then = (before.0 ++ then.0, joined before.0 old before.1)
+  where
+    joined : (sources : List S) (cx : Context) → FoldsTo (λ cx s next. registers_poll s cx next) cx sources mid → FoldsTo (λ cx s next. registers_poll s cx next) cx (sources ++ then.0) new
+    joined [] cx same = rw same then.1
+    joined (source ∷ sources) cx h = (h.0, h.1, joined sources h.0 h.2)
+
+-- what a pending poll leaves, told by registrations: one that began with one, and one of a task that was registered
+module _ {F A X S : Type 0} (polled : ℕ → F → Poll A → F → Type 0) (steps : SourceSteps S) (registers_poll : S → Context → Context → Type 0) (old new : Bounded F S) (cx left : Context) where
+  pub left_by_one : (answer : Poll X) → OnPending answer (LeavesTask polled steps registers_poll old new cx left) → OnPending answer (LeavesTask polled steps (λ _. OnlyRegisters registers_poll) old new cx left)
+  left_by_one (Ready x) h = tt
+  left_by_one Pending (inl empty) = inl (empty.0, registers_once registers_poll cx left old.source empty.1)
+  left_by_one Pending (inr part) = inr part
+
+  pub left_covered : (answer : Poll X) → steps.registers old.source old.source
+      → OnPending answer ((before : S) → steps.registers before old.source → LeavesTask polled steps (λ _ mid after. after ≡ mid) (with_source old before) new cx left)
+      → OnPending answer (LeavesTask polled steps (λ _. OnlyRegisters registers_poll) old new cx left)
+  left_covered (Ready x) stays h = tt
+  left_covered Pending stays h =
+      elim (h old.source stays) [
+        | inl empty ↦ inl (empty.0, registers_none registers_poll cx left empty.1)
+        | inr part ↦ inr part
+      ]

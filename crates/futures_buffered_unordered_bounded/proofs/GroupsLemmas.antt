@@ -9,7 +9,7 @@ use Rattle.std.proofs.lemmas.Slice.Zip.{AllZip-long}
 use Rattle.std.proofs.lemmas.Bool.{cases_lt, lt-ltb, le-ltb, eq-eqb, ne_eqb}
 use Rattle.futures.specs.declared.task.Poll.{Poll}
 use Rattle.futures.specs.declared.task.Poll.TheVariants.{Ready, Pending}
-use Rattle.futures_buffered_unordered_bounded.specs.Groups.{Groups, Turn, round_from, NoOutput, is_end, NotAsked, GaveNoOutput, ended, staying, stands_at, place_after, TakesTurn, AsksAll, GroupsGive}
+use Rattle.futures_buffered_unordered_bounded.specs.Groups.{AnyOf, OneStopped, Groups, Turn, round_from, NoOutput, is_end, NotAsked, GaveNoOutput, ended, staying, stands_at, place_after, TakesTurn, AsksAll, GroupsGive}
 use Rattle.futures_buffered_unordered_bounded.specs.GroupsStep.{AsksOne, LeavesBetween, next_place}
 
 -- lists that are put together alike, with first parts of one length, have the same parts
@@ -263,3 +263,31 @@ each-front P (x ∷ xs) ys all = (all.0, each-front P xs ys all.1)
 pub answered : {X A : Type 0} (o : Option (Poll (Option A))) (left : X) → MatchOption o ⊥ NoOutput → (answer : Poll (Option A)) × NoOutput answer × (◌≡◌ {A = Turn X A} (record { answer = o; left = left }) (record { answer = Some answer; left = left }))
 answered None left h = absurd h
 answered (Some answer) left h = (answer, h, refl)
+
+-- what holds of one of a list holds of one of a longer list
+pub any_front : {X : Type 0} (P : X → Type 0) (xs ys : List X) → AnyOf P xs → AnyOf P (xs ++ ys)
+any_front P [] ys any = absurd any
+any_front P (x ∷ xs) ys (inl here) = inl here
+any_front P (x ∷ xs) ys (inr any) = inr (any_front P xs ys any)
+
+pub any_back : {X : Type 0} (P : X → Type 0) (xs ys : List X) → AnyOf P ys → AnyOf P (xs ++ ys)
+any_back P [] ys any = any
+any_back P (x ∷ xs) ys any = inr (any_back P xs ys any)
+
+pub any_weaker : {X : Type 0} (P Q : X → Type 0) → ((x : X) → P x → Q x) → (xs : List X) → AnyOf P xs → AnyOf Q xs
+any_weaker P Q weaker [] any = any
+any_weaker P Q weaker (x ∷ xs) (inl here) = inl (weaker x here)
+any_weaker P Q weaker (x ∷ xs) (inr any) = inr (any_weaker P Q weaker xs any)
+
+module _ {X : Type 0} (stops : X → X → Type 0) where
+  -- a group that stopped is seen in longer lists
+  pub stopped_front : (groups left more others : List X) → OneStopped stops groups left → OneStopped stops (groups ++ more) (left ++ others)
+  stopped_front groups left more others one =
+      any_front (λ (g : X). AnyOf (stops g) (left ++ others)) groups more (any_weaker (λ (g : X). AnyOf (stops g) left) (λ (g : X). AnyOf (stops g) (left ++ others)) (λ g any. any_front (stops g) left others any) groups one)
+
+  pub stopped_back : (more others groups left : List X) → OneStopped stops groups left → OneStopped stops (more ++ groups) (others ++ left)
+  stopped_back more others groups left one =
+      any_back (λ (g : X). AnyOf (stops g) (others ++ left)) more groups (any_weaker (λ (g : X). AnyOf (stops g) left) (λ (g : X). AnyOf (stops g) (others ++ left)) (λ g any. any_back (stops g) others left any) groups one)
+
+  pub stopped_last : (groups left : List X) (g l : X) → stops g l → OneStopped stops (groups ++ g ∷ []) (left ++ l ∷ [])
+  stopped_last groups left g l stop = stopped_back groups left (g ∷ []) (l ∷ []) (inl (inl stop))

@@ -12,7 +12,7 @@ use Rattle.futures.specs.declared.task.Poll.TheVariants.{Ready, Pending}
 use Rattle.futures_buffered_unordered_bounded.specs.Groups.{Groups, Turn, round_from, NoOutput, is_end, NotAsked, GaveNoOutput, ended, staying, stands_at, place_after, TakesTurn, AsksAll, GroupsGive}
 use Rattle.futures_buffered_unordered_bounded.specs.GroupsStep.{AsksOne, LeavesBetween, next_place}
 use Rattle.futures_buffered_unordered_bounded.proofs.GroupsLemmas.{same_parts, enumerate-append, round-at, each-numbered, each-append, zip-append, waiting, kept, cond-append, length-cond, length-waiting, kept-waiting, waiting-not_asked, staying-waiting, kept-append, staying-append, staying-before_waiting, kept-push, count-kept, stands-at, AsksHere, zip-waiting, asks_here, is_pending, behind_last, next_at, next_zero, gone, after_group, after_last, ends_more, end_or_pending, and_true, and_assoc, and_swap, from_no_length, last_of, each-last, each-front, answered}
-use Rattle.futures_buffered_unordered_bounded.proofs.GroupsRoundLemmas.{First, Second, first_step, second_step, first_output, second_output, list_all-push}
+use Rattle.futures_buffered_unordered_bounded.proofs.GroupsRoundLemmas.{First, Second, RoundSaw, AllStop, first_step, second_step, first_output, second_output, list_all-push}
 
 module _ {X A : Type 0} (asks : X → Poll (Option A) → X → Type 0) (old : Groups X) where
   -- nothing was asked as there is no group, or the first part of the round goes on, or the second
@@ -62,12 +62,26 @@ module _ {X A : Type 0} (asks : X → Poll (Option A) → X → Type 0) (old : G
       by_groups [] is = inl (is, refl, refl)
       by_groups (g ∷ gs) is = inr (inl (at_place (g ∷ gs) is (omega arith) (cases_lt old.place (length (g ∷ gs)))))
 
+  -- what was asked so far shows a group that stopped
+  abbrev pub SoFarSaw : (X → X → Type 0) → (count : ℕ) (pending : Bool) (now : Groups X) → SoFar count pending now → Type 0
+  SoFarSaw stops count pending now (inl none) = ⊥
+  SoFarSaw stops count pending now (inr so) = RoundSaw asks old stops count pending now so
+
   -- one more group
+  pub step_saw : (asks_now : X → Poll (Option A) → X → Type 0) (stops : X → X → Type 0) → ((group left : X) (answer : Poll (Option A)) → asks_now group answer left → asks group answer left)
+      → (count : ℕ) (pending : Bool) (now new : Groups X) (answer : Poll (Option A)) → NoOutput answer → (so : SoFar count pending now) → count < length old.listed → AsksOne asks_now now answer new
+      → (r : SoFar (count + 1) (cond pending true (is_pending answer)) new) × (SoFarSaw stops count pending now so ⊎ AllStop asks old asks_now stops answer → SoFarSaw stops (count + 1) (cond pending true (is_pending answer)) new r)
+  step_saw asks_now stops as_asked count pending now new answer no_output (inl none) more one = absurd (omega (arith, more, ap length none.0))
+  step_saw asks_now stops as_asked count pending now new answer no_output (inr (inl so)) more one =
+      let step = first_step asks old asks_now stops as_asked count pending now new answer no_output so one in
+      (inr step.0, step.1)
+  step_saw asks_now stops as_asked count pending now new answer no_output (inr (inr so)) more one =
+      let step = second_step asks old asks_now stops as_asked count pending now new answer no_output so more one in
+      (inr (inr step.0), step.1)
+
   pub so_far_step : (count : ℕ) (pending : Bool) (now new : Groups X) (answer : Poll (Option A)) → NoOutput answer → SoFar count pending now → count < length old.listed → AsksOne asks now answer new
       → SoFar (count + 1) (cond pending true (is_pending answer)) new
-  so_far_step count pending now new answer no_output (inl none) more one = absurd (omega (arith, more, ap length none.0))
-  so_far_step count pending now new answer no_output (inr (inl so)) more one = inr (first_step asks old count pending now new answer no_output so one)
-  so_far_step count pending now new answer no_output (inr (inr so)) more one = inr (inr (second_step asks old count pending now new answer no_output so more one))
+  so_far_step count pending now new answer no_output so more one = (step_saw asks (λ group left. ⊥) (λ group left answer asked. asked) count pending now new answer no_output so more one).0
 
   -- an output
   pub so_far_output : (count : ℕ) (pending : Bool) (now new : Groups X) (x : A) → SoFar count pending now → count < length old.listed → AsksOne asks now (Ready (Some x)) new → GroupsGive asks old (Ready (Some x)) new

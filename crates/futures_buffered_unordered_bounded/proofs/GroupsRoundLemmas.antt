@@ -9,9 +9,9 @@ use Rattle.std.proofs.lemmas.Slice.Zip.{AllZip-long}
 use Rattle.std.proofs.lemmas.Bool.{cases_lt, lt-ltb, le-ltb, eq-eqb, ne_eqb}
 use Rattle.futures.specs.declared.task.Poll.{Poll}
 use Rattle.futures.specs.declared.task.Poll.TheVariants.{Ready, Pending}
-use Rattle.futures_buffered_unordered_bounded.specs.Groups.{Groups, Turn, round_from, NoOutput, is_end, NotAsked, GaveNoOutput, ended, staying, stands_at, place_after, TakesTurn, AsksAll, GroupsGive}
+use Rattle.futures_buffered_unordered_bounded.specs.Groups.{OneStopped, Groups, Turn, round_from, NoOutput, is_end, NotAsked, GaveNoOutput, ended, staying, stands_at, place_after, TakesTurn, AsksAll, GroupsGive}
 use Rattle.futures_buffered_unordered_bounded.specs.GroupsStep.{AsksOne, LeavesBetween, next_place}
-use Rattle.futures_buffered_unordered_bounded.proofs.GroupsLemmas.{same_parts, enumerate-append, round-at, each-numbered, each-append, zip-append, waiting, kept, cond-append, length-cond, length-waiting, kept-waiting, waiting-not_asked, staying-waiting, kept-append, staying-append, staying-before_waiting, kept-push, count-kept, stands-at, AsksHere, zip-waiting, asks_here, is_pending, behind_last, next_at, next_zero, gone, after_group, after_last, ends_more, end_or_pending, and_true, and_assoc, and_swap, from_no_length, last_of, each-last, each-front, answered}
+use Rattle.futures_buffered_unordered_bounded.proofs.GroupsLemmas.{same_parts, enumerate-append, round-at, each-numbered, each-append, zip-append, waiting, kept, cond-append, length-cond, length-waiting, kept-waiting, waiting-not_asked, staying-waiting, kept-append, staying-append, staying-before_waiting, kept-push, count-kept, stands-at, AsksHere, zip-waiting, asks_here, is_pending, behind_last, next_at, next_zero, gone, after_group, after_last, ends_more, end_or_pending, and_true, and_assoc, and_swap, from_no_length, last_of, each-last, each-front, answered, stopped_front, stopped_last}
 
 -- the first of a list, or else x
 head_or : {X : Type 0} → X → List X → X
@@ -57,6 +57,21 @@ module _ {X A : Type 0} (asks : X → Poll (Option A) → X → Type 0) (old : G
     pub place : ((again_turns ≡ []) × (now.place ≡ behind_last (length now.listed) answer)) ⊎ ((0 < length again_turns) × (now.place ≡ length (kept again_turns)))
     pub counted : length again_turns + (length turns + 1) ≡ count
     pub ends : (list_all ended again_turns && (list_all ended turns && is_end (Some answer))) ≡ not pending
+
+  -- a group that was asked stopped, and what is left of it is seen
+  abbrev pub FirstSaw : (X → X → Type 0) → (count : ℕ) (pending : Bool) (now : Groups X) → First count pending now → Type 0
+  FirstSaw stops count pending now so = OneStopped stops so.asked (kept so.turns)
+
+  abbrev pub SecondSaw : (X → X → Type 0) → (count : ℕ) (pending : Bool) (now : Groups X) → Second count pending now → Type 0
+  SecondSaw stops count pending now so = OneStopped stops so.again (kept so.again_turns) ⊎ OneStopped stops (so.asked ++ so.last ∷ []) (kept so.turns ++ so.left ∷ [])
+
+  abbrev pub RoundSaw : (X → X → Type 0) → (count : ℕ) (pending : Bool) (now : Groups X) → First count pending now ⊎ Second count pending now → Type 0
+  RoundSaw stops count pending now (inl so) = FirstSaw stops count pending now so
+  RoundSaw stops count pending now (inr so) = SecondSaw stops count pending now so
+
+  -- each group that is asked in this way is pending, and stopped
+  abbrev pub AllStop : (X → Poll (Option A) → X → Type 0) → (X → X → Type 0) → Poll (Option A) → Type 0
+  AllStop asks_now stops answer = (group left : X) → asks_now group answer left → (answer ≡ Pending) × stops group left
 
   -- an output before the end of the list is come to
   pub first_output : (count : ℕ) (pending : Bool) (now new : Groups X) (x : A) → First count pending now → AsksOne asks now (Ready (Some x)) new → GroupsGive asks old (Ready (Some x)) new
@@ -252,19 +267,32 @@ module _ {X A : Type 0} (asks : X → Poll (Option A) → X → Type 0) (old : G
       stands : stands_at turns (length so.again_turns) ≡ length (kept so.again_turns)
       stands = ap (λ (l : List (Turn X A)). stands_at l (length so.again_turns)) turns_are ∙ stands-at so.again_turns (turn ∷ (waiting here_later ++ round1))
 
+  -- the group that was asked now is seen behind those before it
+  saw_more : (asks_now : X → Poll (Option A) → X → Type 0) (stops : X → X → Type 0) (answer : Poll (Option A)) (groups left_before : List X) (group left : X) → asks_now group answer left
+      → OneStopped stops groups left_before ⊎ AllStop asks_now stops answer → OneStopped stops (groups ++ group ∷ []) (left_before ++ gone answer left)
+  saw_more asks_now stops answer groups left_before group left asked (inl before) = stopped_front stops groups left_before (group ∷ []) (gone answer left) before
+  saw_more asks_now stops answer groups left_before group left asked (inr all) =
+      let stop = all group left asked in
+      subst (λ (a : Poll (Option A)). OneStopped stops (groups ++ group ∷ []) (left_before ++ gone a left)) (sym stop.0) (stopped_last stops groups left_before group left stop.1)
+
   pub list_all-push : (turns : List (Turn X A)) (turn : Turn X A) → list_all ended (turns ++ turn ∷ []) ≡ (list_all ended turns && ended turn)
   list_all-push turns turn = list_all-append ended turns (turn ∷ []) ∙ ap (λ (b : Bool). list_all ended turns && b) (and_true (ended turn))
 
   -- one more group, before the end of the list is come to
-  pub first_step : (count : ℕ) (pending : Bool) (now new : Groups X) (answer : Poll (Option A)) → NoOutput answer → First count pending now → AsksOne asks now answer new
-      → First (count + 1) (cond pending true (is_pending answer)) new ⊎ Second (count + 1) (cond pending true (is_pending answer)) new
-  first_step count pending now new answer no_output so one = by_later here.later here.rest_is here.leaves
+  pub first_step : (asks_now : X → Poll (Option A) → X → Type 0) (stops : X → X → Type 0) → ((group left : X) (answer : Poll (Option A)) → asks_now group answer left → asks group answer left)
+      → (count : ℕ) (pending : Bool) (now new : Groups X) (answer : Poll (Option A)) → NoOutput answer → (so : First count pending now) → AsksOne asks_now now answer new
+      → (r : First (count + 1) (cond pending true (is_pending answer)) new ⊎ Second (count + 1) (cond pending true (is_pending answer)) new)
+      × (FirstSaw stops count pending now so ⊎ AllStop asks_now stops answer → RoundSaw stops (count + 1) (cond pending true (is_pending answer)) new r)
+  first_step asks_now stops as_asked count pending now new answer no_output so one = by_later here.later here.rest_is here.leaves
     where
       earlier : List X
       earlier = so.before ++ kept so.turns
 
-      here : AsksHere asks earlier so.todo answer new
-      here = asks_here asks now new answer earlier so.todo one (so.now_is ∙ sym (append_assoc so.before (kept so.turns) so.todo)) (so.place ∙ sym (length-append so.before (kept so.turns)))
+      here : AsksHere asks_now earlier so.todo answer new
+      here = asks_here asks_now now new answer earlier so.todo one (so.now_is ∙ sym (append_assoc so.before (kept so.turns) so.todo)) (so.place ∙ sym (length-append so.before (kept so.turns)))
+
+      asked : asks here.group answer here.left
+      asked = as_asked here.group here.left answer here.asked
 
       turn : Turn X A
       turn = record { answer = Some answer; left = here.left }
@@ -273,79 +301,95 @@ module _ {X A : Type 0} (asks : X → Poll (Option A) → X → Type 0) (old : G
       more_ends = ends_more (list_all ended so.turns) (ended turn) pending (is_pending answer) so.ends (end_or_pending answer no_output)
 
       by_later : (later : List X) → so.todo ≡ here.group ∷ later → LeavesBetween earlier later here.left answer new
-          → First (count + 1) (cond pending true (is_pending answer)) new ⊎ Second (count + 1) (cond pending true (is_pending answer)) new
+          → (r : First (count + 1) (cond pending true (is_pending answer)) new ⊎ Second (count + 1) (cond pending true (is_pending answer)) new)
+          × (FirstSaw stops count pending now so ⊎ AllStop asks_now stops answer → RoundSaw stops (count + 1) (cond pending true (is_pending answer)) new r)
       by_later [] is leaves =
           let left_is = after_last earlier here.left answer new no_output leaves in
-          inr (record {
-            again = [];
-            todo = so.before;
-            asked = so.asked;
-            last = here.group;
-            left = here.left;
-            answer = answer;
-            again_turns = [];
-            turns = so.turns;
-            old_is = so.old_is ∙ ap (λ (l : List X). so.before ++ (so.asked ++ l)) is;
-            begins = so.begins;
-            each_again = tt;
-            each = so.each;
-            last_asked = here.asked;
-            none_again = tt;
-            none = so.none;
-            none_last = no_output;
-            now_is = left_is.0 ∙ append_assoc so.before (kept so.turns) (here.left ∷ []);
-            place = inl (refl, left_is.1);
-            counted = omega (arith, so.counted);
-            ends = more_ends;
-          })
+          let saw : FirstSaw stops count pending now so ⊎ AllStop asks_now stops answer → OneStopped stops (so.asked ++ here.group ∷ []) (kept so.turns ++ here.left ∷ []) = λ seen. elim seen [
+            | inl before ↦ stopped_front stops so.asked (kept so.turns) (here.group ∷ []) (here.left ∷ []) before
+            | inr all ↦ stopped_last stops so.asked (kept so.turns) here.group here.left (all here.group here.left here.asked).1
+          ] in (
+            inr (record {
+              again = [];
+              todo = so.before;
+              asked = so.asked;
+              last = here.group;
+              left = here.left;
+              answer = answer;
+              again_turns = [];
+              turns = so.turns;
+              old_is = so.old_is ∙ ap (λ (l : List X). so.before ++ (so.asked ++ l)) is;
+              begins = so.begins;
+              each_again = tt;
+              each = so.each;
+              last_asked = asked;
+              none_again = tt;
+              none = so.none;
+              none_last = no_output;
+              now_is = left_is.0 ∙ append_assoc so.before (kept so.turns) (here.left ∷ []);
+              place = inl (refl, left_is.1);
+              counted = omega (arith, so.counted);
+              ends = more_ends;
+            }),
+            λ seen. inr (saw seen),
+          )
       by_later (next ∷ later) is leaves =
           let left_is = after_group earlier (next ∷ later) here.left answer new (omega arith) no_output leaves in
           let kept_is = kept-push so.turns turn in
           let now_is : new.listed ≡ so.before ++ (kept (so.turns ++ turn ∷ []) ++ next ∷ later) = left_is.0 ∙ append_assoc so.before (kept so.turns) (gone answer here.left ++ next ∷ later)
           ∙ ap (λ (l : List X). so.before ++ l) (sym (append_assoc (kept so.turns) (gone answer here.left) (next ∷ later)) ∙ ap (λ (l : List X). l ++ next ∷ later) (sym kept_is)) in
-          let place_is : new.place ≡ length so.before + length (kept (so.turns ++ turn ∷ [])) = omega (arith, left_is.1, length-append so.before (kept so.turns), ap length kept_is, length-append (kept so.turns) (gone answer here.left)) in
-          inl (record {
-            before = so.before;
-            asked = so.asked ++ here.group ∷ [];
-            todo = next ∷ later;
-            turns = so.turns ++ turn ∷ [];
-            old_is = so.old_is ∙ ap (λ (l : List X). so.before ++ (so.asked ++ l)) is ∙ ap (λ (l : List X). so.before ++ l) (sym (append_assoc so.asked (here.group ∷ []) (next ∷ later)));
-            begins = so.begins;
-            each = zip-append (TakesTurn asks) so.asked so.turns _ _ so.each (here.asked, tt);
-            none = each-append GaveNoOutput so.turns (turn ∷ []) so.none (no_output, tt);
-            now_is = now_is;
-            some = omega arith;
-            place = next_at new _ place_is (omega (arith, ap length now_is, length-append so.before (kept (so.turns ++ turn ∷ []) ++ next ∷ later), length-append (kept (so.turns ++ turn ∷ [])) (next ∷ later)));
-            counted = omega (arith, so.counted, length_push so.turns turn);
-            ends = list_all-push so.turns turn ∙ more_ends;
-          })
+          let place_is : new.place ≡ length so.before + length (kept (so.turns ++ turn ∷ [])) = omega (arith, left_is.1, length-append so.before (kept so.turns), ap length kept_is, length-append (kept so.turns) (gone answer here.left)) in (
+            inl (record {
+              before = so.before;
+              asked = so.asked ++ here.group ∷ [];
+              todo = next ∷ later;
+              turns = so.turns ++ turn ∷ [];
+              old_is = so.old_is ∙ ap (λ (l : List X). so.before ++ (so.asked ++ l)) is ∙ ap (λ (l : List X). so.before ++ l) (sym (append_assoc so.asked (here.group ∷ []) (next ∷ later)));
+              begins = so.begins;
+              each = zip-append (TakesTurn asks) so.asked so.turns _ _ so.each (asked, tt);
+              none = each-append GaveNoOutput so.turns (turn ∷ []) so.none (no_output, tt);
+              now_is = now_is;
+              some = omega arith;
+              place = next_at new _ place_is (omega (arith, ap length now_is, length-append so.before (kept (so.turns ++ turn ∷ []) ++ next ∷ later), length-append (kept (so.turns ++ turn ∷ [])) (next ∷ later)));
+              counted = omega (arith, so.counted, length_push so.turns turn);
+              ends = list_all-push so.turns turn ∙ more_ends;
+            }),
+            λ seen. subst (OneStopped stops (so.asked ++ here.group ∷ [])) (sym kept_is) (saw_more asks_now stops answer so.asked (kept so.turns) here.group here.left here.asked seen),
+          )
 
   -- one more group, after the end of the list was come to
-  pub second_step : (count : ℕ) (pending : Bool) (now new : Groups X) (answer : Poll (Option A)) → NoOutput answer → (so : Second count pending now) → count < length old.listed → AsksOne asks now answer new
-      → Second (count + 1) (cond pending true (is_pending answer)) new
-  second_step count pending now new answer no_output so more one =
-      record {
-        again = so.again ++ here.group ∷ [];
-        todo = later;
-        asked = so.asked;
-        last = so.last;
-        left = so.left;
-        answer = so.answer;
-        again_turns = so.again_turns ++ turn ∷ [];
-        turns = so.turns;
-        old_is = so.old_is ∙ ap (λ (l : List X). so.again ++ (l ++ (so.asked ++ so.last ∷ []))) split.0 ∙ sym (append_assoc so.again (here.group ∷ []) (later ++ (so.asked ++ so.last ∷ [])));
-        begins = elim so.begins [ inl e ↦ inl (e ∙ ap length again_is) | inr h ↦ inr (h.0, sym again_is ∙ h.1) ];
-        each_again = zip-append (TakesTurn asks) so.again so.again_turns _ _ so.each_again (here.asked, tt);
-        each = so.each;
-        last_asked = so.last_asked;
-        none_again = each-append GaveNoOutput so.again_turns (turn ∷ []) so.none_again (no_output, tt);
-        none = so.none;
-        none_last = so.none_last;
-        now_is = left_is.0 ∙ ap (λ (l : List X). kept so.again_turns ++ (gone answer here.left ++ l)) split.1 ∙ sym (append_assoc (kept so.again_turns) (gone answer here.left) (later ++ rest)) ∙ ap (λ (l : List X). l ++ (later ++ rest)) (sym kept_is);
-        place = inr (omega (arith, length_push so.again_turns turn), left_is.1 ∙ sym (length-append (kept so.again_turns) (gone answer here.left)) ∙ ap length (sym kept_is));
-        counted = omega (arith, so.counted, length_push so.again_turns turn);
-        ends = ap (λ (b : Bool). b && others) (list_all-push so.again_turns turn) ∙ and_swap (list_all ended so.again_turns) others (ended turn) ∙ ends_more (list_all ended so.again_turns && others) (ended turn) pending (is_pending answer) so.ends (end_or_pending answer no_output);
-      }
+  pub second_step : (asks_now : X → Poll (Option A) → X → Type 0) (stops : X → X → Type 0) → ((group left : X) (answer : Poll (Option A)) → asks_now group answer left → asks group answer left)
+      → (count : ℕ) (pending : Bool) (now new : Groups X) (answer : Poll (Option A)) → NoOutput answer → (so : Second count pending now) → count < length old.listed → AsksOne asks_now now answer new
+      → (r : Second (count + 1) (cond pending true (is_pending answer)) new)
+      × (SecondSaw stops count pending now so ⊎ AllStop asks_now stops answer → SecondSaw stops (count + 1) (cond pending true (is_pending answer)) new r)
+  second_step asks_now stops as_asked count pending now new answer no_output so more one = (
+    record {
+      again = so.again ++ here.group ∷ [];
+      todo = later;
+      asked = so.asked;
+      last = so.last;
+      left = so.left;
+      answer = so.answer;
+      again_turns = so.again_turns ++ turn ∷ [];
+      turns = so.turns;
+      old_is = so.old_is ∙ ap (λ (l : List X). so.again ++ (l ++ (so.asked ++ so.last ∷ []))) split.0 ∙ sym (append_assoc so.again (here.group ∷ []) (later ++ (so.asked ++ so.last ∷ [])));
+      begins = elim so.begins [ inl e ↦ inl (e ∙ ap length again_is) | inr h ↦ inr (h.0, sym again_is ∙ h.1) ];
+      each_again = zip-append (TakesTurn asks) so.again so.again_turns _ _ so.each_again (as_asked here.group here.left answer here.asked, tt);
+      each = so.each;
+      last_asked = so.last_asked;
+      none_again = each-append GaveNoOutput so.again_turns (turn ∷ []) so.none_again (no_output, tt);
+      none = so.none;
+      none_last = so.none_last;
+      now_is = left_is.0 ∙ ap (λ (l : List X). kept so.again_turns ++ (gone answer here.left ++ l)) split.1 ∙ sym (append_assoc (kept so.again_turns) (gone answer here.left) (later ++ rest)) ∙ ap (λ (l : List X). l ++ (later ++ rest)) (sym kept_is);
+      place = inr (omega (arith, length_push so.again_turns turn), left_is.1 ∙ sym (length-append (kept so.again_turns) (gone answer here.left)) ∙ ap length (sym kept_is));
+      counted = omega (arith, so.counted, length_push so.again_turns turn);
+      ends = ap (λ (b : Bool). b && others) (list_all-push so.again_turns turn) ∙ and_swap (list_all ended so.again_turns) others (ended turn) ∙ ends_more (list_all ended so.again_turns && others) (ended turn) pending (is_pending answer) so.ends (end_or_pending answer no_output);
+    },
+    λ seen. elim seen [
+      | inl before ↦ elim before [ inl again ↦ inl (saw (inl again)) | inr others ↦ inr others ]
+      | inr all ↦ inl (saw (inr all))
+    ],
+  )
     where
       rest : List X
       rest = kept so.turns ++ so.left ∷ []
@@ -353,8 +397,8 @@ module _ {X A : Type 0} (asks : X → Poll (Option A) → X → Type 0) (old : G
       others : Bool
       others = list_all ended so.turns && is_end (Some so.answer)
 
-      here : AsksHere asks (kept so.again_turns) (so.todo ++ rest) answer new
-      here = asks_here asks now new answer (kept so.again_turns) (so.todo ++ rest) one so.now_is (second_place count pending now so)
+      here : AsksHere asks_now (kept so.again_turns) (so.todo ++ rest) answer new
+      here = asks_here asks_now now new answer (kept so.again_turns) (so.todo ++ rest) one so.now_is (second_place count pending now so)
 
       later : List X
       later = drop 1 so.todo
@@ -376,3 +420,6 @@ module _ {X A : Type 0} (asks : X → Poll (Option A) → X → Type 0) (old : G
 
       kept_is : kept (so.again_turns ++ turn ∷ []) ≡ kept so.again_turns ++ gone answer here.left
       kept_is = kept-push so.again_turns turn
+
+      saw : OneStopped stops so.again (kept so.again_turns) ⊎ AllStop asks_now stops answer → OneStopped stops (so.again ++ here.group ∷ []) (kept (so.again_turns ++ turn ∷ []))
+      saw seen = subst (OneStopped stops (so.again ++ here.group ∷ [])) (sym kept_is) (saw_more asks_now stops answer so.again (kept so.again_turns) here.group here.left here.asked seen)

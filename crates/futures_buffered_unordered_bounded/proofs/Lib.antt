@@ -5,3 +5,4 @@ pub mod GroupsLemmas
 pub mod GroupsStepLemmas
 pub mod GroupsRoundLemmas
 pub mod GroupsPollLemmas
+pub mod GroupsTaskLemmas

@@ -122,6 +122,12 @@ SaidEmpty {S} steps new = (before : S) × steps.takes before Empty new
 abbrev pub IsWoken : Context → Type 0
 IsWoken cx = (s : ℕ) → Hears cx s
 
+-- the task is as registrations with sources leave it, or as it was
+abbrev pub OnlyRegisters : {S : Type 0} → (S → Context → Context → Type 0)
+    → Context → Context → Type 0
+OnlyRegisters {S} registers_poll old new = (sources : List S)
+    × FoldsTo (λ cx source next. registers_poll source cx next) old sources new
+
 module _
     {F A S : Type 0}
     (polled : ℕ → F → Poll A → F → Type 0)
@@ -186,6 +192,21 @@ module _
         × ((i : ℕ) × (left : Bounded F S)
         × AsksUntil old (Ready (i, x)) left × (new ≡ with_empty_slot left i))
     PollGives old Pending new = (0 < held_count old.slots) × AsksUntil old Pending new
+
+    -- one poll, which is pending only where no further name came
+    abbrev pub PollAsksToEmpty : Bounded F S → Poll (Option A) → Bounded F S → Type 0
+    PollAsksToEmpty old (Ready o) new = PollGives old (Ready o) new
+    PollAsksToEmpty old Pending new = (0 < held_count old.slots) × AsksToEmpty old new
+
+    -- What a poll leaves of its task, by its answer: the end leaves it as it was, an output as the
+    -- registration did, and Pending as a pending poll does.
+    abbrev pub PollLeavesTask : (S → Context → Context → Type 0)
+        → Bounded F S → Poll (Option A) → Bounded F S → Context → Context → Type 0
+    PollLeavesTask registers_poll old (Ready None) new cx left = left ≡ cx
+    PollLeavesTask registers_poll old (Ready (Some x)) new cx left =
+        registers_poll old.source cx left
+    PollLeavesTask registers_poll old Pending new cx left =
+        LeavesTask registers_poll old new cx left
 
     -- how many names a poll took
     abbrev pub names_taken : (old : Bounded F S) (answer : Poll (Option A)) (new : Bounded F S)

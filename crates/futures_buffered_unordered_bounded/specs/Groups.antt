@@ -5,8 +5,15 @@ use Rattle.std.specs.Prelude.{◌≡◌, ℕ, ◌+◌, ◌==◌, Bool, true, fal
 use Rattle.std.specs.Prelude.{length, take, drop, Option, Some, None, MatchOption, ◌⊎◌, ⊤, refl}
 use Rattle.std.specs.List.{AllZip, AllByRecursion, enumerate_from, count_by, list_all}
 use Rattle.std.specs.Coded.{Coded, code_by, coded×, coded_ℕ, coded_list}
+use Rattle.futures.specs.declared.task.context.Context.{Context}
 use Rattle.futures.specs.declared.task.Poll.{Poll}
 use Rattle.futures.specs.declared.task.Poll.TheVariants.{Ready, Pending}
+use Rattle.futures_buffered_unordered_bounded.specs.FuturesUnorderedBounded.{IsWoken}
+
+-- P holds of one of these
+abbrev pub AnyOf : {X : Type 0} → (X → Type 0) → List X → Type 0
+AnyOf P [] = ⊥
+AnyOf P (x ∷ xs) = P x ⊎ AnyOf P xs
 
 -- the groups, oldest first, and the place of the one that the next poll asks first; a place past
 -- the last group means the first one
@@ -131,3 +138,27 @@ module _ {X A : Type 0} (asks : X → Poll (Option A) → X → Type 0) where
       × AsksLast old turns (Ready (Some x)) not_asked new
   GroupsGive old (Ready None) new = ((old.listed ≡ []) × (new ≡ old)) ⊎ AsksAll old true new
   GroupsGive old Pending new = AsksAll old false new
+
+-- one of these groups stopped though a further name may come, and was left as one of those
+abbrev pub OneStopped : {X : Type 0} → (X → X → Type 0) → List X → List X → Type 0
+OneStopped stops groups left = AnyOf (λ group. AnyOf (stops group) left) groups
+
+-- What polls leave of their task. Where each that was pending had no further name, the task is as
+-- registrations leave it; where one stopped earlier, the task is asked to poll again.
+module _
+    {X A : Type 0}
+    (asks_to_empty : X → Poll (Option A) → X → Type 0)
+    (stops : X → X → Type 0)
+    (registers : Context → Context → Type 0)
+  where
+    -- one poll of one group
+    abbrev pub GroupLeavesTask : X → Poll (Option A) → X → Context → Context → Type 0
+    GroupLeavesTask old answer new cx left = (asks_to_empty old answer new × registers cx left)
+        ⊎ ((answer ≡ Pending) × stops old new × IsWoken left)
+
+    -- one poll of groups
+    abbrev pub GroupsLeaveTask : Groups X → Poll (Option A) → Groups X
+        → Context → Context → Type 0
+    GroupsLeaveTask old answer new cx left =
+        (GroupsGive asks_to_empty old answer new × registers cx left)
+        ⊎ (OneStopped stops old.listed new.listed × IsWoken left)

@@ -2,3 +2,4 @@ pub mod Held
 pub mod FuturesUnorderedBounded
 pub mod Groups
 pub mod GroupsStep
+pub mod Interleaves

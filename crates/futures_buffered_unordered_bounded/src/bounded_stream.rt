@@ -5,7 +5,7 @@ ghost use Rattle.futures.specs.Runs.{After, Within};
 ghost use Rattle.futures.specs.Poll.{IfReady, OnPending};
 ghost use Rattle.futures_buffered_core.specs.SlotMap.{held_count, slot_count};
 ghost use Rattle.futures_buffered_unordered_bounded.specs.Held.{AllHeld, ComesFrom};
-ghost use Rattle.futures_buffered_unordered_bounded.specs.FuturesUnorderedBounded.{LeavesTask, PollGives, SaidEmpty, IsWoken};
+ghost use Rattle.futures_buffered_unordered_bounded.specs.FuturesUnorderedBounded.{PollGives, PollLeavesTask, SaidEmpty, IsWoken};
 
 use crate::fused::{FusedStream, SizeHint};
 use crate::futures_unordered_bounded::FuturesUnorderedBounded;
@@ -46,8 +46,8 @@ impl<F: SlotFuture<S::Waker>, S: ReadySource> Stream for FuturesUnorderedBounded
         ensures registered { OnPending result (Covers cx.new (S.needs self.new.source)) }
         ensures woken { OnPending result (IsWoken cx.new
             ⊎ (SaidEmpty S.steps self.new.source × S.registers_poll self.old.source cx.old cx.new)) }
-        ensures leaves { OnPending result
-            (LeavesTask F.polled S.steps S.registers_poll self.old self.new cx.old cx.new) }
+        ensures leaves { PollLeavesTask F.polled S.steps S.registers_poll
+            self.old result self.new cx.old cx.new }
         ensures untouched { IfReady result (λ o. IfNone o (cx.new ≡ cx.old)) }
         ensures only_registered { IfReady result (λ o. OnSome o
             (S.registers_poll self.old.source cx.old cx.new)) }

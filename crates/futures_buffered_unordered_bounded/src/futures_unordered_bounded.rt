@@ -11,7 +11,7 @@ ghost use Rattle.futures_buffered_core.specs.ReadyShared.{IsNewShared, MarksShar
 ghost use Rattle.futures_buffered_core.specs.ReadySource.{WaitsAlike};
 ghost use Rattle.futures_buffered_core.specs.SlotMap.{value_in, held_count, slot_count, no_slots, IsFull};
 ghost use Rattle.futures_buffered_unordered_bounded.specs.Held.{AllHeld, AllHeldBut, EndsWith};
-ghost use Rattle.futures_buffered_unordered_bounded.specs.FuturesUnorderedBounded.{HoldsEach, Pushes, AsksUntil, LeavesTask, PollGives, SaidEmpty, IsWoken, with_empty_slot, with_source};
+ghost use Rattle.futures_buffered_unordered_bounded.specs.FuturesUnorderedBounded.{HoldsEach, Pushes, AsksUntil, LeavesTask, PollGives, PollLeavesTask, SaidEmpty, IsWoken, with_empty_slot, with_source};
 
 use crate::poll_one::PollOne;
 use futures::task::{Context, Poll};
@@ -189,6 +189,13 @@ impl<F: Drop, S: ReadySource> FuturesUnorderedBounded<F, S> {
         self.slots.is_empty()
     }
 
+    /// Whether no slot is free. Takes the same time at any capacity.
+    pub fn is_full(&self) -> bool
+        ensures { IsTrue result ↔ (slot_count self.now.slots ≤ held_count self.now.slots) }
+    {
+        self.slots.len() >= self.slots.capacity()
+    }
+
     /// The number of slots, which never changes. Takes the same time at any capacity.
     pub fn capacity(&self) -> usize
         ensures value { result ≡ slot_count self.now.slots }
@@ -219,7 +226,7 @@ impl<F: Drop, S: ReadySource> FuturesUnorderedBounded<F, S> {
         Ok(())
     }
 
-    /// As `try_push`, for a set that is not full: `len` is below `capacity`.
+    /// As `try_push`, for a set of which `is_full` is false.
     pub fn push(&mut self, value: F)
         requires { held_count self.old.slots < slot_count self.old.slots }
         ensures pushed { Pushes S.marks self.old value self.new }
@@ -356,8 +363,8 @@ impl<F: Drop, S: ReadySource> FuturesUnorderedBounded<F, S> {
         ensures covered { OnPending result (Covers cx.new (S.needs self.new.source)) }
         ensures woken { OnPending result (IsWoken cx.new
             ⊎ (SaidEmpty S.steps self.new.source × S.registers_poll self.old.source cx.old cx.new)) }
-        ensures leaves { OnPending result
-            (LeavesTask R.polled S.steps S.registers_poll self.old self.new cx.old cx.new) }
+        ensures leaves { PollLeavesTask R.polled S.steps S.registers_poll
+            self.old result self.new cx.old cx.new }
         ensures untouched { IfReady result (λ o. IfNone o (cx.new ≡ cx.old)) }
         ensures only_registered { IfReady result (λ o. OnSome o
             (S.registers_poll self.old.source cx.old cx.new)) }
@@ -395,9 +402,8 @@ impl<F: Drop, S: ReadySource> FuturesUnorderedBounded<F, S> {
         ensures covered { OnPending result (Covers cx.new (S.needs self.new.source)) }
         ensures woken { OnPending result (IsWoken cx.new
             ⊎ (SaidEmpty S.steps self.new.source × (cx.new ≡ cx.old))) }
-        ensures leaves { OnPending result
-            (LeavesTask R.polled S.steps (λ _ cx left. left ≡ cx)
-            self.old self.new cx.old cx.new) }
+        ensures leaves { PollLeavesTask R.polled S.steps (λ _ cx left. left ≡ cx)
+            self.old result self.new cx.old cx.new }
         ensures untouched { IfReady result (λ _. cx.new ≡ cx.old) }
         ensures kept { Keeps cx.old cx.new }
     {

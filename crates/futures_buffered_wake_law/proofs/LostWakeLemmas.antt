@@ -28,12 +28,12 @@ use Rattle.futures_buffered_table.proofs.RowLemmas.{answered_by, put_by, row_slo
 use Rattle.futures_buffered_table.proofs.ScheduleLemmas.{IsReachable, pending, reachable_start, step_reaches}
 use Rattle.futures_buffered_wake_law.specs.Scene.{Scene, at_first, with_errand}
 use Rattle.futures_buffered_wake_law.specs.Scene.{Rests, Looks, Inside, Wakes}
-use Rattle.futures_buffered_wake_law.specs.Scene.{Turn, Parked, Registers, AtPlace, Asks}
-use Rattle.futures_buffered_wake_law.specs.LostWake.{Event, InList, OnErrand, UnderLock, FromBeside, Begin, KeepOwn, KeepShared, LacksOwn, LacksShared, LayOut, Stop}
+use Rattle.futures_buffered_wake_law.specs.Scene.{Turn, Parked, Asks}
+use Rattle.futures_buffered_wake_law.specs.LostWake.{Event, InList, OnErrand, AtPlace, FromBeside, Begin, GoBack, KeepOwn, Lacks, LayOut, Misses, Stop}
 use Rattle.futures_buffered_wake_law.specs.LostWake.{AllRest, CanDo, IsAtStart, IsAtStub, IsBetween, Legal, NoWakeIsLost, after, after_reply, owner_seat, poller_role, run}
 use Rattle.futures_buffered_wake_law.proofs.SceneLemmas.{IsEmpty, IsPolls, IsTaken, IsWoke, empty_at_stub, hand_at_start, none_at_stub, polls_of, polls_wake_none, stub_polls, taken_starts, times_none}
-use Rattle.futures_buffered_wake_law.proofs.SceneInvariantLemmas.{Armed, ArmedIn, Busy, IsKept, IsSwapped, IsWaiting, OnItsWay, PollerHolds, Seen, SwapsIn, Waits, armed_woken, errand_kept, fits_woken, holds_else, wakes_else, way_here}
-use Rattle.futures_buffered_wake_law.proofs.PlaceLemmas.{armed_by_lock, begin_kept, keep_own_kept, lacks_own_kept, lacks_shared_kept, on_errand_kept, poller_view, stop_kept, to_place_kept, under_lock_kept}
+use Rattle.futures_buffered_wake_law.proofs.SceneInvariantLemmas.{Armed, ArmedIn, Busy, IsKept, IsSwapped, IsThere, IsWaiting, OnItsWay, PollerHolds, Seen, SwapsIn, Waits, armed_woken, errand_kept, holds_else, wakes_else, way_here}
+use Rattle.futures_buffered_wake_law.proofs.PlaceLemmas.{armed_by_place, at_place_kept, begin_kept, go_back_kept, keep_own_kept, lacks_kept, lay_out_kept, misses_kept, on_errand_kept, poller_view, stop_kept}
 
 -- a step of the list, by a wake: how the row goes on
 module _ (n : ℕ) (s : Scene) (kept : IsKept n s) (step : Step) (low : seat_of step < WAKE_SEATS) (can : CanStep n (map role_of s.list.views) step) (between : IsBetween s (seat_of step)) where
@@ -77,8 +77,7 @@ module _ (n : ℕ) (s : Scene) (kept : IsKept n s) (step : Step) (low : seat_of 
     waits = still_waits;
     holder = kept.holder;
     poller = kept.poller;
-    fits = kept.fits;
-    armed = armed_by_lock s.turn s (record s { list = after_step n s.list step }) (λ a. a) (λ own. own) kept.armed;
+    armed = armed_by_place s.turn s (record s { list = after_step n s.list step }) (λ a. a) (λ own. own) kept.armed;
     seen = seen;
   }
 
@@ -106,17 +105,15 @@ module _ (n : ℕ) (s : Scene) (kept : IsKept n s) (step : Step) (low : seat_of 
         waits = still_waits;
         holder = kept.holder;
         poller = kept.poller;
-        fits = fits_woken s.lock s.flag s.kept s.woken kept.fits;
         armed = armed_woken s.turn (record s { list = after_step n s.list step; woken = true }) refl;
         seen = λ parked asleep. absurd cc;
       })
       (λ _. record {
         reach = on;
         waits = still_waits;
-        holder = holds_else s.lock s.errands (seat_of step) Looks (λ z. let c : Rests ≡ Inside = sym between.0 ∙ z in cc) kept.holder;
+        holder = holds_else s.place s.errands (seat_of step) Looks (λ z. let c : Rests ≡ Inside = sym between.0 ∙ z in cc) kept.holder;
         poller = kept.poller;
-        fits = kept.fits;
-        armed = armed_by_lock s.turn s (with_errand (record s { list = after_step n s.list step }) (seat_of step) Looks) once (λ own. own) kept.armed;
+        armed = armed_by_place s.turn s (with_errand (record s { list = after_step n s.list step }) (seat_of step) Looks) once (λ own. own) kept.armed;
         seen = λ parked asleep. inr (inl (way_here s.errands (seat_of step) Looks (λ z. cc)));
       })
     where
@@ -154,8 +151,8 @@ module _ (n : ℕ) (s : Scene) (kept : IsKept n s) (asks : s.turn ≡ Asks) (lai
       let p : View = record { stub = n; role = Polls kept.reach.2.0 polls.0; steps = polls.1 } in
       subst (λ (u : View). IsPolls u.role) (some-injective p (view_at s.list Poll) (sym polls.2 ∙ poll_there)) tt
 
-  not_there : PollerHolds s.lock Parked
-  not_there stage same = let c : Asks ≡ AtPlace = sym asks ∙ kept.poller stage same in absurd cc
+  not_there : PollerHolds s.place Parked
+  not_there same = absurd (subst IsThere asks (kept.poller same))
 
   starts : IsTaken (reply_of_role n (view_at s.list Poll).role (found_at n s.list Poll)) → Waits Parked (after_step n s.list Poll).views
   starts taken w u at = subst (λ (v : View). IsAtStart v.role)
@@ -168,8 +165,7 @@ module _ (n : ℕ) (s : Scene) (kept : IsKept n s) (asks : s.turn ≡ Asks) (lai
     waits = λ w. absurd (subst IsWaiting asks w);
     holder = kept.holder;
     poller = kept.poller;
-    fits = kept.fits;
-    armed = armed_by_lock s.turn s (record s { list = after_step n s.list Poll }) (λ a. a) (λ own. own) kept.armed;
+    armed = armed_by_place s.turn s (record s { list = after_step n s.list Poll }) (λ a. a) (λ own. own) kept.armed;
     seen = λ parked asleep. let c : Parked ≡ Asks = sym parked ∙ asks in absurd cc;
   }
 
@@ -195,7 +191,6 @@ module _ (n : ℕ) (s : Scene) (kept : IsKept n s) (asks : s.turn ≡ Asks) (lai
         waits = starts taken;
         holder = kept.holder;
         poller = not_there;
-        fits = kept.fits;
         armed = ⊎_elim (λ (own : s.own ≡ true). let c : true ≡ false = sym own ∙ laid_out at_stub.0 in absurd cc) (λ (a : Armed s). a)
             (subst (λ (turn : Turn). ArmedIn turn s) asks kept.armed);
         seen = λ parked asleep. inl (sym (λ k. nothing.1 k ++ pending n (after_step n s.list Poll) on) ∙ (sym flow
@@ -209,7 +204,6 @@ module _ (n : ℕ) (s : Scene) (kept : IsKept n s) (asks : s.turn ≡ Asks) (lai
     waits = starts taken;
     holder = kept.holder;
     poller = not_there;
-    fits = fits_woken s.lock s.flag s.kept s.woken kept.fits;
     armed = inl refl;
     seen = λ parked asleep. absurd cc;
   }
@@ -234,16 +228,15 @@ step_kept n s kept (InList (Mark seat slot)) can = wake_step_kept n s kept (Mark
 step_kept n s kept (InList (Go seat)) can = wake_step_kept n s kept (Go seat) can.0.0 can.0 can.1
 step_kept n s kept (InList Poll) can = poll_step_kept n s kept can.1.0 can.1.1
 step_kept n s kept (OnErrand seat) can = on_errand_kept n s kept seat (s.errands seat) refl
-step_kept n s kept UnderLock can = under_lock_kept n s kept s.lock refl
+step_kept n s kept AtPlace can = at_place_kept n s kept s.turn refl can
 step_kept n s kept (FromBeside seat) can = errand_kept n s kept seat Looks (λ z. let c : Rests ≡ Inside = sym can.1 ∙ z in cc)
     (λ z. let c : Rests ≡ Wakes = sym can.1 ∙ z in cc) (λ parked asleep. inr (inl (way_here s.errands seat Looks (λ z. cc))))
 step_kept n s kept Begin can = begin_kept n s kept can
+step_kept n s kept GoBack can = go_back_kept n s kept can s.place refl
 step_kept n s kept KeepOwn can = keep_own_kept n s kept can
-step_kept n s kept KeepShared can = to_place_kept n s kept.reach kept.holder kept.poller (λ z. let c : Registers ≡ AtPlace = sym can ∙ z in cc) kept.fits s.lock refl
-step_kept n s kept LacksOwn can = lacks_own_kept n s kept can
-step_kept n s kept LacksShared can = lacks_shared_kept n s kept can
-step_kept n s kept LayOut can =
-    to_place_kept n (record s { own = false }) kept.reach kept.holder kept.poller (λ z. let c : Asks ≡ AtPlace = sym can.0 ∙ z in cc) kept.fits s.lock refl
+step_kept n s kept Lacks can = lacks_kept n s kept can
+step_kept n s kept LayOut can = lay_out_kept n s kept can.0 s.place refl
+step_kept n s kept Misses can = misses_kept n s kept can.0
 step_kept n s kept Stop can = stop_kept n s kept can.0 can.1
 
 run_kept : (n : ℕ) (s : Scene) → IsKept n s → (events : List Event) → Legal n s events → IsKept n (run n s events)
@@ -254,9 +247,8 @@ first_kept : (n : ℕ) → IsKept n (at_first n)
 first_kept n = record {
   reach = reachable_start n;
   waits = λ _ v at. subst (λ (u : View). IsAtStart u.role) (some-injective (first_poller n) v (sym (last_at WAKE_SEATS (new_waker_beside (first_poller n)) (first_poller n)) ∙ at)) tt;
-  holder = λ other stage same. absurd cc;
-  poller = λ stage same. absurd cc;
-  fits = λ has. has;
+  holder = λ other same. absurd cc;
+  poller = λ same. absurd cc;
   armed = inl refl;
   seen = λ parked asleep. absurd cc;
 }

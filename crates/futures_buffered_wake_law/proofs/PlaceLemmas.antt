@@ -1,5 +1,5 @@
 -- The steps at the place, of wakes and of the poller, keep a scene.
-use Rattle.std.proofs.Common.{◌≡◌, ◌≢◌, ℕ, Bool, true, false, refl, sym, ap, ◌∙◌, subst, inl, inr, ⊎_elim, arith}
+use Rattle.std.proofs.Common.{◌≡◌, ◌≢◌, ℕ, Bool, true, false, refl, sym, ap, ◌∙◌, subst, inl, inr, arith}
 use Rattle.std.specs.Prelude.{if◌then◌else◌}
 use mathlib.Core.Option.{some, some-injective}
 use lib.ListN.{get_elem?}
@@ -12,251 +12,161 @@ use Rattle.futures_buffered_table.proofs.ListLemmas.{elem_at}
 use Rattle.futures_buffered_table.proofs.ScheduleLemmas.{IsReachable}
 use Rattle.futures_buffered_wake_law.specs.Scene.{Scene, set_errand, with_errand}
 use Rattle.futures_buffered_wake_law.specs.Scene.{Errand, Rests, Looks, Tries, Inside, Wakes}
-use Rattle.futures_buffered_wake_law.specs.Scene.{Clears, TakesOut, LetsGo}
-use Rattle.futures_buffered_wake_law.specs.Scene.{PutsIn, RaisesFlag, Leaves}
-use Rattle.futures_buffered_wake_law.specs.Scene.{Lock, Free, WakeHas, PollerHas}
-use Rattle.futures_buffered_wake_law.specs.Scene.{Turn, Parked, Registers, AtPlace, Asks}
-use Rattle.futures_buffered_wake_law.specs.LostWake.{IsAtStart, after_errand, after_lock, after_try, poller_role, to_place}
-use Rattle.futures_buffered_wake_law.proofs.SceneLemmas.{errand_here, errand_stays}
-use Rattle.futures_buffered_wake_law.proofs.SceneInvariantLemmas.{Armed, ArmedIn, Fits, HasWaker, Holds, IsKept, IsWaiting, OnItsWay, PollerHolds, armed_parked, armed_woken, errand_kept, fits_asleep, fits_woken, holds_else, wakes_else, way_by_another, way_here, way_of_wakes}
+use Rattle.futures_buffered_wake_law.specs.Scene.{Place, Bare, Keeps, WakeHas, PollerHas}
+use Rattle.futures_buffered_wake_law.specs.Scene.{Turn, Parked, Registers, TakesBack, Asks, LaysOut}
+use Rattle.futures_buffered_wake_law.specs.LostWake.{IsAtStart, after_errand, after_place, after_try, go_back, is_kept, lay_out, poller_role}
+use Rattle.futures_buffered_wake_law.proofs.SceneLemmas.{errand_here}
+use Rattle.futures_buffered_wake_law.proofs.SceneInvariantLemmas.{Armed, ArmedIn, IsKept, IsThere, IsWaiting, PollerHolds, armed_parked, armed_woken, errand_kept, holds_else, wakes_else, way_by_another, way_here}
+
+-- what is armed stays so, where the place changes under the hand of a wake
+pub armed_by_place : (turn : Turn) (s now : Scene) → (Armed s → Armed now) → (s.own ≡ true → now.own ≡ true) → ArmedIn turn s → ArmedIn turn now
+armed_by_place Parked s now once own a = once a
+armed_by_place Registers s now once own a = tt
+armed_by_place TakesBack s now once own a = tt
+armed_by_place Asks s now once own (inl mine) = inl (own mine)
+armed_by_place Asks s now once own (inr a) = inr (once a)
+armed_by_place LaysOut s now once own a = tt
+
+-- where the poller is, if it has the place
+not_there : (turn : Turn) (s : Scene) (kept_there : PollerHolds s.place s.turn) → s.turn ≡ turn → (IsThere turn → ⊥) → s.place ≢ PollerHas
+not_there turn s kept_there at away is = away (subst IsThere at (kept_there is))
+
+-- the seat of the wake that has the place
+abbrev pub seat_with : Place → ℕ
+seat_with Bare = 0
+seat_with Keeps = 0
+seat_with (WakeHas seat) = seat
+seat_with PollerHas = 0
+
+-- a wake that finds no waker leaves the task to whoever has the place
+rests_kept : (n : ℕ) (s : Scene) (kept : IsKept n s) (seat : ℕ) → s.errands seat ≢ Inside → s.errands seat ≢ Wakes → s.place ≢ Keeps → IsKept n (with_errand s seat Rests)
+rests_kept n s kept seat not_inside not_wakes bare =
+    errand_kept n s kept seat Rests not_inside not_wakes (λ parked asleep. inr (inl (way_by_another s seat kept.holder not_inside not_wakes bare asleep (armed_parked n s kept parked))))
 
 -- a wake reads whether a waker is kept
-pub looks_kept : (n : ℕ) (s : Scene) (kept : IsKept n s) (seat : ℕ) → s.errands seat ≡ Looks → (flag : Bool) → s.flag ≡ flag → IsKept n (with_errand s seat (if flag then Tries else Rests))
-looks_kept n s kept seat is true flag = errand_kept n s kept seat Tries (λ z. let c : Looks ≡ Inside = sym is ∙ z in cc) (λ z. let c : Looks ≡ Wakes = sym is ∙ z in cc) (λ parked asleep. inr (inl (way_here s.errands seat Tries (λ z. cc))))
-looks_kept n s kept seat is false flag =
-    let not_inside : s.errands seat ≢ Inside = λ z. let c : Looks ≡ Inside = sym is ∙ z in cc in
-    let not_wakes : s.errands seat ≢ Wakes = λ z. let c : Looks ≡ Wakes = sym is ∙ z in cc in
-    errand_kept n s kept seat Rests not_inside not_wakes
-    (λ parked asleep. inr (inl (way_by_another s seat kept.holder kept.fits not_inside not_wakes (λ _. flag) asleep (armed_parked n s kept parked))))
+looks_kept : (n : ℕ) (s : Scene) (kept : IsKept n s) (seat : ℕ) → s.errands seat ≡ Looks → (found : Bool) → is_kept s.place ≡ found → IsKept n (with_errand s seat (if found then Tries else Rests))
+looks_kept n s kept seat is true found =
+    errand_kept n s kept seat Tries (λ z. let c : Looks ≡ Inside = sym is ∙ z in cc) (λ z. let c : Looks ≡ Wakes = sym is ∙ z in cc) (λ parked asleep. inr (inl (way_here s.errands seat Tries (λ z. cc))))
+looks_kept n s kept seat is false found =
+    rests_kept n s kept seat (λ z. let c : Looks ≡ Inside = sym is ∙ z in cc) (λ z. let c : Looks ≡ Wakes = sym is ∙ z in cc) (λ keeps. let c : true ≡ false = sym (ap is_kept keeps) ∙ found in cc)
 
--- the seat that has the lock
-abbrev pub seat_with : Lock → ℕ
-seat_with (WakeHas seat stage) = seat
-seat_with _ = 0
-
--- a wake tries the lock
-pub tries_kept : (n : ℕ) (s : Scene) (kept : IsKept n s) (seat : ℕ) → s.errands seat ≡ Tries → (lock : Lock) → s.lock ≡ lock → IsKept n (after_try seat lock s)
-tries_kept n s kept seat is Free free = record {
+-- a wake tries to take the waker
+tries_kept : (n : ℕ) (s : Scene) (kept : IsKept n s) (seat : ℕ) → s.errands seat ≡ Tries → (place : Place) → s.place ≡ place → IsKept n (after_try seat place s)
+tries_kept n s kept seat is Bare at =
+    rests_kept n s kept seat (λ z. let c : Tries ≡ Inside = sym is ∙ z in cc) (λ z. let c : Tries ≡ Wakes = sym is ∙ z in cc) (λ keeps. let c : Bare ≡ Keeps = sym at ∙ keeps in cc)
+tries_kept n s kept seat is Keeps at = record {
   reach = kept.reach;
   waits = kept.waits;
-  holder = λ other stage same. subst (λ (k : ℕ). set_errand s.errands seat Inside k ≡ Inside) (ap seat_with same) (errand_here s.errands seat Inside);
-  poller = λ stage same. absurd cc;
-  fits = tt;
-  armed = by_turn s.turn kept.armed;
+  holder = λ other same. subst (λ (k : ℕ). set_errand s.errands seat Inside k ≡ Inside) (ap seat_with same) (errand_here s.errands seat Inside);
+  poller = λ same. absurd cc;
+  armed = armed_by_place s.turn s (record (with_errand s seat Inside) { place = WakeHas seat }) once (λ own. own) kept.armed;
   seen = λ parked asleep. inr (inl (way_here s.errands seat Inside (λ z. cc)));
 }
   where
-    now : Scene
-    now = record (with_errand s seat Inside) { lock = WakeHas seat Clears }
-
-    once : Armed s → Armed (record (with_errand s seat Inside) { lock = WakeHas seat Clears })
+    once : Armed s → Armed (record (with_errand s seat Inside) { place = WakeHas seat })
     once (inl woken) = inl woken
-    once (inr (inl has)) = inr (inl (subst (λ (l : Lock). HasWaker l s.kept) free has))
+    once (inr (inl has)) = inr (inl tt)
     once (inr (inr wakes)) = inr (inr (wakes_else s.errands seat Inside (λ z. let c : Tries ≡ Wakes = sym is ∙ z in cc) wakes))
+tries_kept n s kept seat is (WakeHas other) at =
+    rests_kept n s kept seat (λ z. let c : Tries ≡ Inside = sym is ∙ z in cc) (λ z. let c : Tries ≡ Wakes = sym is ∙ z in cc) (λ keeps. let c : WakeHas other ≡ Keeps = sym at ∙ keeps in cc)
+tries_kept n s kept seat is PollerHas at =
+    rests_kept n s kept seat (λ z. let c : Tries ≡ Inside = sym is ∙ z in cc) (λ z. let c : Tries ≡ Wakes = sym is ∙ z in cc) (λ keeps. let c : PollerHas ≡ Keeps = sym at ∙ keeps in cc)
 
-    by_turn : (turn : Turn) → ArmedIn turn s → ArmedIn turn (record (with_errand s seat Inside) { lock = WakeHas seat Clears })
-    by_turn Parked a = once a
-    by_turn Registers a = tt
-    by_turn AtPlace a = tt
-    by_turn Asks (inl own) = inl own
-    by_turn Asks (inr a) = inr (once a)
-tries_kept n s kept seat is (WakeHas other stage) locked =
-    let not_inside : s.errands seat ≢ Inside = λ z. let c : Tries ≡ Inside = sym is ∙ z in cc in
-    let inside = errand_stays s.errands seat Rests other Inside not_inside (kept.holder other stage locked) in
-    errand_kept n s kept seat Rests not_inside (λ z. let c : Tries ≡ Wakes = sym is ∙ z in cc)
-    (λ parked asleep. inr (inl (other, λ z. let c : Inside ≡ Rests = sym inside ∙ z in cc)))
-tries_kept n s kept seat is (PollerHas stage) locked =
-    errand_kept n s kept seat Rests (λ z. let c : Tries ≡ Inside = sym is ∙ z in cc) (λ z. let c : Tries ≡ Wakes = sym is ∙ z in cc)
-    (λ parked asleep. let c : Parked ≡ AtPlace = sym parked ∙ kept.poller stage locked in absurd cc)
+-- a wake with the waker leaves the place
+inside_kept : (n : ℕ) (s : Scene) (kept : IsKept n s) (seat : ℕ) → s.errands seat ≡ Inside → IsKept n (record (with_errand s seat Wakes) { place = Bare })
+inside_kept n s kept seat is =
+    let now : Scene = record (with_errand s seat Wakes) { place = Bare } in
+    let mine : Armed now = inr (inr (seat, errand_here s.errands seat Wakes)) in
+    record {
+      reach = kept.reach;
+      waits = kept.waits;
+      holder = λ other same. absurd cc;
+      poller = λ same. absurd cc;
+      armed = armed_by_place s.turn s now (λ _. mine) (λ own. own) kept.armed;
+      seen = λ parked asleep. inr (inl (way_here s.errands seat Wakes (λ z. cc)));
+    }
 
 -- a wake wakes the task
-pub wakes_kept : (n : ℕ) (s : Scene) (kept : IsKept n s) (seat : ℕ) → s.errands seat ≡ Wakes → IsKept n (record (with_errand s seat Rests) { woken = true })
+wakes_kept : (n : ℕ) (s : Scene) (kept : IsKept n s) (seat : ℕ) → s.errands seat ≡ Wakes → IsKept n (record (with_errand s seat Rests) { woken = true })
 wakes_kept n s kept seat is = record {
   reach = kept.reach;
   waits = kept.waits;
-  holder = holds_else s.lock s.errands seat Rests (λ z. let c : Wakes ≡ Inside = sym is ∙ z in cc) kept.holder;
+  holder = holds_else s.place s.errands seat Rests (λ z. let c : Wakes ≡ Inside = sym is ∙ z in cc) kept.holder;
   poller = kept.poller;
-  fits = fits_woken s.lock s.flag s.kept s.woken kept.fits;
   armed = armed_woken s.turn (record (with_errand s seat Rests) { woken = true }) refl;
   seen = λ parked asleep. absurd cc;
 }
 
 pub on_errand_kept : (n : ℕ) (s : Scene) (kept : IsKept n s) (seat : ℕ) (errand : Errand) → s.errands seat ≡ errand → IsKept n (after_errand seat errand s)
 on_errand_kept n s kept seat Rests is = kept
-on_errand_kept n s kept seat Looks is = looks_kept n s kept seat is s.flag refl
-on_errand_kept n s kept seat Tries is = tries_kept n s kept seat is s.lock refl
-on_errand_kept n s kept seat Inside is = kept
+on_errand_kept n s kept seat Looks is = looks_kept n s kept seat is (is_kept s.place) refl
+on_errand_kept n s kept seat Tries is = tries_kept n s kept seat is s.place refl
+on_errand_kept n s kept seat Inside is = inside_kept n s kept seat is
 on_errand_kept n s kept seat Wakes is = wakes_kept n s kept seat is
 
--- what is armed stays so, where the place changes under the lock of a wake
-pub armed_by_lock : (turn : Turn) (s now : Scene) → (Armed s → Armed now) → (s.own ≡ true → now.own ≡ true) → ArmedIn turn s → ArmedIn turn now
-armed_by_lock Parked s now once own a = once a
-armed_by_lock Registers s now once own a = tt
-armed_by_lock AtPlace s now once own a = tt
-armed_by_lock Asks s now once own (inl mine) = inl (own mine)
-armed_by_lock Asks s now once own (inr a) = inr (once a)
-
--- a wake clears the flag, and takes the waker out
-pub clears_kept : (n : ℕ) (s : Scene) (kept : IsKept n s) (seat : ℕ) → s.lock ≡ WakeHas seat Clears → IsKept n (record s { flag = false; lock = WakeHas seat TakesOut })
-clears_kept n s kept seat is = record {
+-- the poller leaves the place
+pub at_place_kept : (n : ℕ) (s : Scene) (kept : IsKept n s) (turn : Turn) → s.turn ≡ turn → s.place ≡ PollerHas → IsKept n (after_place turn s)
+at_place_kept n s kept Parked at is = kept
+at_place_kept n s kept Registers at is = kept
+at_place_kept n s kept TakesBack at is = record {
   reach = kept.reach;
-  waits = kept.waits;
-  holder = λ other stage same. subst (λ (k : ℕ). s.errands k ≡ Inside) (ap seat_with same) (kept.holder seat Clears is);
-  poller = λ stage same. absurd cc;
-  fits = tt;
-  armed = armed_by_lock s.turn s (record s { flag = false; lock = WakeHas seat TakesOut }) once (λ mine. mine) kept.armed;
-  seen = kept.seen;
-}
-  where
-    once : Armed s → Armed (record s { flag = false; lock = WakeHas seat TakesOut })
-    once (inl woken) = inl woken
-    once (inr (inl has)) = inr (inl (subst (λ (l : Lock). HasWaker l s.kept) is has))
-    once (inr (inr wakes)) = inr (inr wakes)
-
-pub takes_out_kept : (n : ℕ) (s : Scene) (kept : IsKept n s) (seat : ℕ) → s.lock ≡ WakeHas seat TakesOut
-    → IsKept n (record s { kept = false; lock = WakeHas seat (LetsGo s.kept) })
-takes_out_kept n s kept seat is = record {
-  reach = kept.reach;
-  waits = kept.waits;
-  holder = λ other stage same. subst (λ (k : ℕ). s.errands k ≡ Inside) (ap seat_with same) (kept.holder seat TakesOut is);
-  poller = λ stage same. absurd cc;
-  fits = refl;
-  armed = armed_by_lock s.turn s (record s { kept = false; lock = WakeHas seat (LetsGo s.kept) }) once (λ mine. mine) kept.armed;
-  seen = kept.seen;
-}
-  where
-    once : Armed s → Armed (record s { kept = false; lock = WakeHas seat (LetsGo s.kept) })
-    once (inl woken) = inl woken
-    once (inr (inl has)) = inr (inl (subst (λ (l : Lock). HasWaker l s.kept) is has))
-    once (inr (inr wakes)) = inr (inr wakes)
-
--- a wake lets the lock go, with the waker or without
-pub lets_go_kept : (n : ℕ) (s : Scene) (kept : IsKept n s) (seat : ℕ) (has : Bool) → s.lock ≡ WakeHas seat (LetsGo has)
-    → IsKept n (record (with_errand s seat (if has then Wakes else Rests)) { lock = Free })
-lets_go_kept n s kept seat true is =
-    let clear = subst (λ (l : Lock). Fits l s.flag s.kept s.woken) is kept.fits in
-    let now : Scene = record (with_errand s seat Wakes) { lock = Free } in
-    let mine : Armed now = inr (inr (seat, errand_here s.errands seat Wakes)) in
-    record {
-      reach = kept.reach;
-      waits = kept.waits;
-      holder = λ other stage same. absurd cc;
-      poller = λ stage same. absurd cc;
-      fits = λ has. let c : true ≡ false = sym has ∙ clear in absurd cc;
-      armed = armed_by_lock s.turn s now (λ _. mine) (λ own. own) kept.armed;
-      seen = λ parked asleep. inr (inl (way_here s.errands seat Wakes (λ z. cc)));
-    }
-lets_go_kept n s kept seat false is =
-    let clear = subst (λ (l : Lock). Fits l s.flag s.kept s.woken) is kept.fits in
-    let inside = kept.holder seat (LetsGo false) is in
-    let not_wakes : s.errands seat ≢ Wakes = λ z. let c : Inside ≡ Wakes = sym inside ∙ z in cc in
-    record {
-      reach = kept.reach;
-      waits = kept.waits;
-      holder = λ other stage same. absurd cc;
-      poller = λ stage same. absurd cc;
-      fits = λ has. let c : true ≡ false = sym has ∙ clear in absurd cc;
-      armed = armed_by_lock s.turn s (record (with_errand s seat Rests) { lock = Free }) (once not_wakes) (λ own. own) kept.armed;
-      seen = λ parked asleep. inr (inl (way asleep not_wakes (armed_parked n s kept parked)));
-    }
-  where
-    none : HasWaker s.lock s.kept → ⊥
-    none has = let c : false ≡ true = subst (λ (l : Lock). HasWaker l s.kept) is has in cc
-
-    once : s.errands seat ≢ Wakes → Armed s → Armed (record (with_errand s seat Rests) { lock = Free })
-    once not_wakes (inl woken) = inl woken
-    once not_wakes (inr (inl has)) = absurd (none has)
-    once not_wakes (inr (inr wakes)) = inr (inr (wakes_else s.errands seat Rests not_wakes wakes))
-
-    way : s.woken ≡ false → s.errands seat ≢ Wakes → Armed s → OnItsWay (set_errand s.errands seat Rests)
-    way asleep not_wakes (inl woken) = absurd cc
-    way asleep not_wakes (inr (inl has)) = absurd (none has)
-    way asleep not_wakes (inr (inr wakes)) = way_of_wakes (set_errand s.errands seat Rests) (wakes_else s.errands seat Rests not_wakes wakes)
-
--- the poller goes on under the lock
-pub puts_in_kept : (n : ℕ) (s : Scene) (kept : IsKept n s) → s.lock ≡ PollerHas PutsIn → IsKept n (record s { kept = true; lock = PollerHas RaisesFlag })
-puts_in_kept n s kept is =
-    let there = kept.poller PutsIn is in
-    record {
-      reach = kept.reach;
-      waits = kept.waits;
-      holder = λ other stage same. absurd cc;
-      poller = λ stage same. there;
-      fits = inl refl;
-      armed = subst (λ (turn : Turn). ArmedIn turn (record s { kept = true; lock = PollerHas RaisesFlag })) (sym there) tt;
-      seen = λ parked asleep. let c : Parked ≡ AtPlace = sym parked ∙ there in absurd cc;
-    }
-
-pub lacks_shared_kept : (n : ℕ) (s : Scene) (kept : IsKept n s) → s.lock ≡ PollerHas PutsIn → IsKept n (record s { lock = PollerHas RaisesFlag; woken = true })
-lacks_shared_kept n s kept is =
-    let there = kept.poller PutsIn is in
-    record {
-      reach = kept.reach;
-      waits = kept.waits;
-      holder = λ other stage same. absurd cc;
-      poller = λ stage same. there;
-      fits = inr refl;
-      armed = armed_woken s.turn (record s { lock = PollerHas RaisesFlag; woken = true }) refl;
-      seen = λ parked asleep. absurd cc;
-    }
-
-pub raises_kept : (n : ℕ) (s : Scene) (kept : IsKept n s) → s.lock ≡ PollerHas RaisesFlag → IsKept n (record s { flag = true; lock = PollerHas Leaves })
-raises_kept n s kept is =
-    let there = kept.poller RaisesFlag is in
-    record {
-      reach = kept.reach;
-      waits = kept.waits;
-      holder = λ other stage same. absurd cc;
-      poller = λ stage same. there;
-      fits = (refl, subst (λ (l : Lock). Fits l s.flag s.kept s.woken) is kept.fits);
-      armed = subst (λ (turn : Turn). ArmedIn turn (record s { flag = true; lock = PollerHas Leaves })) (sym there) tt;
-      seen = λ parked asleep. let c : Parked ≡ AtPlace = sym parked ∙ there in absurd cc;
-    }
-
-pub leaves_kept : (n : ℕ) (s : Scene) (kept : IsKept n s) → s.lock ≡ PollerHas Leaves → IsKept n (record s { lock = Free; turn = Asks })
-leaves_kept n s kept is =
-    let both = subst (λ (l : Lock). Fits l s.flag s.kept s.woken) is kept.fits in
-    record {
-      reach = kept.reach;
-      waits = λ w. absurd w;
-      holder = λ other stage same. absurd cc;
-      poller = λ stage same. absurd cc;
-      fits = λ has. both.0;
-      armed = ⊎_elim (λ (has : s.kept ≡ true). inr (inr (inl has))) (λ (woken : s.woken ≡ true). inr (inl woken)) both.1;
-      seen = λ parked asleep. absurd cc;
-    }
-
-pub under_lock_kept : (n : ℕ) (s : Scene) (kept : IsKept n s) (lock : Lock) → s.lock ≡ lock → IsKept n (after_lock lock s)
-under_lock_kept n s kept Free is = kept
-under_lock_kept n s kept (WakeHas seat Clears) is = clears_kept n s kept seat is
-under_lock_kept n s kept (WakeHas seat TakesOut) is = takes_out_kept n s kept seat is
-under_lock_kept n s kept (WakeHas seat (LetsGo has)) is = lets_go_kept n s kept seat has is
-under_lock_kept n s kept (PollerHas PutsIn) is = puts_in_kept n s kept is
-under_lock_kept n s kept (PollerHas RaisesFlag) is = raises_kept n s kept is
-under_lock_kept n s kept (PollerHas Leaves) is = leaves_kept n s kept is
-
--- the poller goes to the place
-pub to_place_kept : (n : ℕ) (s : Scene) → IsReachable n s.list → Holds s.lock s.errands → PollerHolds s.lock s.turn → s.turn ≢ AtPlace → Fits s.lock s.flag s.kept s.woken
-    → (lock : Lock) → s.lock ≡ lock → IsKept n (to_place lock s)
-to_place_kept n s reach holder poller not_there fits Free is = record {
-  reach = reach;
-  waits = λ w. absurd w;
-  holder = λ other stage same. absurd cc;
-  poller = λ stage same. refl;
-  fits = tt;
+  waits = λ _. kept.waits (subst IsWaiting (sym at) tt);
+  holder = λ other same. absurd cc;
+  poller = λ same. absurd cc;
   armed = tt;
   seen = λ parked asleep. absurd cc;
 }
-to_place_kept n s reach holder poller not_there fits (WakeHas seat stage) is = record {
-  reach = reach;
+at_place_kept n s kept Asks at is = kept
+at_place_kept n s kept LaysOut at is = record {
+  reach = kept.reach;
   waits = λ w. absurd w;
-  holder = holder;
-  poller = λ other same. absurd (not_there (poller other same));
-  fits = fits_woken s.lock s.flag s.kept s.woken fits;
-  armed = inr (inl refl);
+  holder = λ other same. absurd cc;
+  poller = λ same. absurd cc;
+  armed = inr (inr (inl tt));
   seen = λ parked asleep. absurd cc;
 }
-to_place_kept n s reach holder poller not_there fits (PollerHas stage) is = absurd (not_there (poller stage is))
+
+-- the poller goes to the place for the waker that is kept there
+pub go_back_kept : (n : ℕ) (s : Scene) (kept : IsKept n s) → s.turn ≡ Registers → (place : Place) → s.place ≡ place → IsKept n (go_back place s)
+go_back_kept n s kept registers Bare at = kept
+go_back_kept n s kept registers Keeps at = record {
+  reach = kept.reach;
+  waits = λ _. kept.waits (subst IsWaiting (sym registers) tt);
+  holder = λ other same. absurd cc;
+  poller = λ same. tt;
+  armed = tt;
+  seen = λ parked asleep. absurd cc;
+}
+go_back_kept n s kept registers (WakeHas seat) at = kept
+go_back_kept n s kept registers PollerHas at = kept
+
+-- the poller has its task woken in place of a waker laid out
+pub misses_kept : (n : ℕ) (s : Scene) (kept : IsKept n s) → s.turn ≡ Asks → IsKept n (record s { own = false; woken = true })
+misses_kept n s kept asks = record {
+  reach = kept.reach;
+  waits = kept.waits;
+  holder = kept.holder;
+  poller = kept.poller;
+  armed = armed_woken s.turn (record s { own = false; woken = true }) refl;
+  seen = λ parked asleep. absurd cc;
+}
+
+there : (n : ℕ) (s : Scene) (kept : IsKept n s) → IsKept n (record s { place = PollerHas; turn = LaysOut })
+there n s kept = record {
+  reach = kept.reach;
+  waits = λ w. absurd w;
+  holder = λ other same. absurd cc;
+  poller = λ same. tt;
+  armed = tt;
+  seen = λ parked asleep. absurd cc;
+}
+
+-- the poller goes to the place with its waker
+pub lay_out_kept : (n : ℕ) (s : Scene) (kept : IsKept n s) → s.turn ≡ Asks → (place : Place) → s.place ≡ place → IsKept n (lay_out place s)
+lay_out_kept n s kept asks Bare at = there n s kept
+lay_out_kept n s kept asks Keeps at = there n s kept
+lay_out_kept n s kept asks (WakeHas seat) at = misses_kept n s kept asks
+lay_out_kept n s kept asks PollerHas at = misses_kept n s kept asks
 
 -- the poller's own steps
 pub begin_kept : (n : ℕ) (s : Scene) (kept : IsKept n s) → s.turn ≡ Parked → IsKept n (record s { turn = Registers; woken = false })
@@ -264,8 +174,7 @@ begin_kept n s kept parked = record {
   reach = kept.reach;
   waits = λ _. kept.waits (subst IsWaiting (sym parked) tt);
   holder = kept.holder;
-  poller = λ stage same. let c : Parked ≡ AtPlace = sym parked ∙ kept.poller stage same in absurd cc;
-  fits = fits_asleep s.lock s.flag s.kept s.woken (λ stage same. let c : Parked ≡ AtPlace = sym parked ∙ kept.poller stage same in cc) kept.fits;
+  poller = λ same. absurd (not_there Parked s kept.poller parked (λ z. z) same);
   armed = tt;
   seen = λ parked asleep. absurd cc;
 }
@@ -275,19 +184,17 @@ keep_own_kept n s kept registers = record {
   reach = kept.reach;
   waits = λ w. absurd w;
   holder = kept.holder;
-  poller = λ stage same. let c : Registers ≡ AtPlace = sym registers ∙ kept.poller stage same in absurd cc;
-  fits = kept.fits;
+  poller = λ same. absurd (not_there Registers s kept.poller registers (λ z. z) same);
   armed = inl refl;
   seen = λ parked asleep. absurd cc;
 }
 
-pub lacks_own_kept : (n : ℕ) (s : Scene) (kept : IsKept n s) → s.turn ≡ Registers → IsKept n (record s { turn = Asks; woken = true })
-lacks_own_kept n s kept registers = record {
+pub lacks_kept : (n : ℕ) (s : Scene) (kept : IsKept n s) → s.turn ≡ Registers → IsKept n (record s { turn = Asks; woken = true })
+lacks_kept n s kept registers = record {
   reach = kept.reach;
   waits = λ w. absurd w;
   holder = kept.holder;
-  poller = λ stage same. let c : Registers ≡ AtPlace = sym registers ∙ kept.poller stage same in absurd cc;
-  fits = fits_woken s.lock s.flag s.kept s.woken kept.fits;
+  poller = λ same. absurd (not_there Registers s kept.poller registers (λ z. z) same);
   armed = inr (inl refl);
   seen = λ parked asleep. absurd cc;
 }
@@ -300,8 +207,7 @@ stop_kept n s kept asks start = record {
   reach = kept.reach;
   waits = λ _ v at. subst (λ (u : View). IsAtStart u.role) (some-injective (view_at s.list Poll) v (sym (poller_view n s kept.reach) ∙ at)) start;
   holder = kept.holder;
-  poller = λ stage same. let c : Asks ≡ AtPlace = sym asks ∙ kept.poller stage same in absurd cc;
-  fits = fits_woken s.lock s.flag s.kept s.woken kept.fits;
+  poller = λ same. absurd (not_there Asks s kept.poller asks (λ z. z) same);
   armed = inl refl;
   seen = λ parked asleep. absurd cc;
 }

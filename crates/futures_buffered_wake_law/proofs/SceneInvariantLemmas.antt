@@ -1,5 +1,5 @@
 -- What each scene keeps, and what stays of it where one thing changes.
-use Rattle.std.proofs.Common.{◌≡◌, ◌≢◌, ◌⊎◌, ℕ, ◌<◌, List, [], Bool, true, false, refl, sym, ◌∙◌, subst, inl, inr}
+use Rattle.std.proofs.Common.{◌≡◌, ◌≢◌, ◌⊎◌, ℕ, ◌<◌, List, [], true, false, refl, sym, ◌∙◌, subst, inl, inr}
 use mathlib.Core.Option.{some}
 use lib.ListN.{get_elem?}
 use Rattle.futures_buffered_table.specs.declared.step.TheConstants.{WAKE_SEATS}
@@ -9,10 +9,8 @@ use Rattle.futures_buffered_table.specs.declared.view.View.{View}
 use Rattle.futures_buffered_table.proofs.ScheduleLemmas.{IsReachable, pending}
 use Rattle.futures_buffered_wake_law.specs.Scene.{Scene, set_errand, with_errand}
 use Rattle.futures_buffered_wake_law.specs.Scene.{Errand, Rests, Inside, Wakes}
-use Rattle.futures_buffered_wake_law.specs.Scene.{WakeStage, Clears, TakesOut, LetsGo}
-use Rattle.futures_buffered_wake_law.specs.Scene.{PollerStage, PutsIn, RaisesFlag, Leaves}
-use Rattle.futures_buffered_wake_law.specs.Scene.{Lock, Free, WakeHas, PollerHas}
-use Rattle.futures_buffered_wake_law.specs.Scene.{Turn, Parked, Registers, AtPlace, Asks}
+use Rattle.futures_buffered_wake_law.specs.Scene.{Place, Bare, Keeps, WakeHas, PollerHas}
+use Rattle.futures_buffered_wake_law.specs.Scene.{Turn, Parked, Registers, TakesBack, Asks, LaysOut}
 use Rattle.futures_buffered_wake_law.specs.LostWake.{IsAtStart}
 use Rattle.futures_buffered_wake_law.proofs.SceneLemmas.{errand_here, errand_stays}
 
@@ -20,40 +18,38 @@ use Rattle.futures_buffered_wake_law.proofs.SceneLemmas.{errand_here, errand_sta
 abbrev pub IsWaiting : Turn → Type 0
 IsWaiting Parked = Unit {0}
 IsWaiting Registers = Unit {0}
-IsWaiting AtPlace = ⊥
+IsWaiting TakesBack = Unit {0}
 IsWaiting Asks = ⊥
+IsWaiting LaysOut = ⊥
 
--- what the flag says of what is kept, by who has the lock; where the poller has put nothing in, the
--- task is woken
-abbrev pub Fits : Lock → Bool → Bool → Bool → Type 0
-Fits Free flag kept woken = kept ≡ true → flag ≡ true
-Fits (WakeHas seat Clears) flag kept woken = Unit {0}
-Fits (WakeHas seat TakesOut) flag kept woken = Unit {0}
-Fits (WakeHas seat (LetsGo has)) flag kept woken = kept ≡ false
-Fits (PollerHas PutsIn) flag kept woken = Unit {0}
-Fits (PollerHas RaisesFlag) flag kept woken = (kept ≡ true) ⊎ (woken ≡ true)
-Fits (PollerHas Leaves) flag kept woken = (flag ≡ true) × ((kept ≡ true) ⊎ (woken ≡ true))
+-- the poller has the place
+abbrev pub IsThere : Turn → Type 0
+IsThere Parked = ⊥
+IsThere Registers = ⊥
+IsThere TakesBack = Unit {0}
+IsThere Asks = ⊥
+IsThere LaysOut = Unit {0}
 
--- the place has the task's waker for a wake to come, or the wake with the lock has it or will have
-abbrev pub HasWaker : Lock → Bool → Type 0
-HasWaker Free kept = kept ≡ true
-HasWaker (WakeHas seat Clears) kept = kept ≡ true
-HasWaker (WakeHas seat TakesOut) kept = kept ≡ true
-HasWaker (WakeHas seat (LetsGo has)) kept = has ≡ true
-HasWaker (PollerHas stage) kept = ⊥
+-- the place has the task's waker for a wake to come, or a wake has it
+abbrev pub HasWaker : Place → Type 0
+HasWaker Bare = ⊥
+HasWaker Keeps = Unit {0}
+HasWaker (WakeHas seat) = Unit {0}
+HasWaker PollerHas = ⊥
 
 abbrev pub SomeWakes : (ℕ → Errand) → Type 0
 SomeWakes errands = (seat : ℕ) × (errands seat ≡ Wakes)
 
 -- the task is woken, or a wake will wake it, or finds its waker
 abbrev pub Armed : Scene → Type 0
-Armed s = (s.woken ≡ true) ⊎ (HasWaker s.lock s.kept ⊎ SomeWakes s.errands)
+Armed s = (s.woken ≡ true) ⊎ (HasWaker s.place ⊎ SomeWakes s.errands)
 
 abbrev pub ArmedIn : Turn → Scene → Type 0
 ArmedIn Parked s = Armed s
 ArmedIn Registers s = Unit {0}
-ArmedIn AtPlace s = Unit {0}
+ArmedIn TakesBack s = Unit {0}
 ArmedIn Asks s = (s.own ≡ true) ⊎ Armed s
+ArmedIn LaysOut s = Unit {0}
 
 abbrev pub IsSwapped : Role → Type 0
 IsSwapped (Swapped slot before) = Unit {0}
@@ -73,45 +69,26 @@ Busy s = OnItsWay s.errands ⊎ SwapsIn s.list.views
 abbrev pub Seen : (n : ℕ) (s : Scene) → IsReachable n s.list → Type 0
 Seen n s reach = s.turn ≡ Parked → s.woken ≡ false → (pending n s.list reach ≡ []) ⊎ Busy s
 
-abbrev pub Holds : Lock → (ℕ → Errand) → Type 0
-Holds lock errands = (seat : ℕ) (stage : WakeStage) → lock ≡ WakeHas seat stage → errands seat ≡ Inside
+abbrev pub Holds : Place → (ℕ → Errand) → Type 0
+Holds place errands = (seat : ℕ) → place ≡ WakeHas seat → errands seat ≡ Inside
 
-abbrev pub PollerHolds : Lock → Turn → Type 0
-PollerHolds lock turn = (stage : PollerStage) → lock ≡ PollerHas stage → turn ≡ AtPlace
+abbrev pub PollerHolds : Place → Turn → Type 0
+PollerHolds place turn = place ≡ PollerHas → IsThere turn
 
 abbrev pub Waits : Turn → List View → Type 0
 Waits turn views = IsWaiting turn → (v : View) → get_elem? views WAKE_SEATS ≡ some v → IsAtStart v.role
 
--- who is woken stays so
-pub fits_woken : (lock : Lock) (flag kept woken : Bool) → Fits lock flag kept woken → Fits lock flag kept true
-fits_woken Free flag kept woken fits = fits
-fits_woken (WakeHas seat Clears) flag kept woken fits = tt
-fits_woken (WakeHas seat TakesOut) flag kept woken fits = tt
-fits_woken (WakeHas seat (LetsGo has)) flag kept woken fits = fits
-fits_woken (PollerHas PutsIn) flag kept woken fits = tt
-fits_woken (PollerHas RaisesFlag) flag kept woken fits = inr refl
-fits_woken (PollerHas Leaves) flag kept woken fits = (fits.0, inr refl)
-
--- and where the poller is not at the place it does not matter
-pub fits_asleep : (lock : Lock) (flag kept woken : Bool) → ((stage : PollerStage) → lock ≡ PollerHas stage → ⊥) → Fits lock flag kept woken → Fits lock flag kept false
-fits_asleep Free flag kept woken not_there fits = fits
-fits_asleep (WakeHas seat Clears) flag kept woken not_there fits = tt
-fits_asleep (WakeHas seat TakesOut) flag kept woken not_there fits = tt
-fits_asleep (WakeHas seat (LetsGo has)) flag kept woken not_there fits = fits
-fits_asleep (PollerHas stage) flag kept woken not_there fits = absurd (not_there stage refl)
-
 pub record IsKept (n : ℕ) (s : Scene) : Type 0 where
   pub reach : IsReachable n s.list
   pub waits : Waits s.turn s.list.views
-  pub holder : Holds s.lock s.errands
-  pub poller : PollerHolds s.lock s.turn
-  pub fits : Fits s.lock s.flag s.kept s.woken
+  pub holder : Holds s.place s.errands
+  pub poller : PollerHolds s.place s.turn
   pub armed : ArmedIn s.turn s
   pub seen : Seen n s reach
 
 -- errands that change at one seat
-pub holds_else : (lock : Lock) (errands : ℕ → Errand) (seat : ℕ) (errand : Errand) → errands seat ≢ Inside → Holds lock errands → Holds lock (set_errand errands seat errand)
-holds_else lock errands seat errand ne holds other stage is = errand_stays errands seat errand other Inside ne (holds other stage is)
+pub holds_else : (place : Place) (errands : ℕ → Errand) (seat : ℕ) (errand : Errand) → errands seat ≢ Inside → Holds place errands → Holds place (set_errand errands seat errand)
+holds_else place errands seat errand ne holds other is = errand_stays errands seat errand other Inside ne (holds other is)
 
 pub wakes_else : (errands : ℕ → Errand) (seat : ℕ) (errand : Errand) → errands seat ≢ Wakes → SomeWakes errands → SomeWakes (set_errand errands seat errand)
 wakes_else errands seat errand ne some_wakes = (some_wakes.0, errand_stays errands seat errand some_wakes.0 Wakes ne some_wakes.1)
@@ -133,23 +110,24 @@ armed_else n s seat errand ne = by_turn s.turn
     by_turn : (turn : Turn) → ArmedIn turn s → ArmedIn turn (with_errand s seat errand)
     by_turn Parked a = once a
     by_turn Registers a = tt
-    by_turn AtPlace a = tt
+    by_turn TakesBack a = tt
     by_turn Asks (inl own) = inl own
     by_turn Asks (inr a) = inr (once a)
+    by_turn LaysOut a = tt
 
--- a task that sleeps though it is armed: some wake is on its way, and it is not this one
-pub way_by_another : (s : Scene) (seat : ℕ) → Holds s.lock s.errands → Fits s.lock s.flag s.kept s.woken → s.errands seat ≢ Inside → s.errands seat ≢ Wakes
-    → (s.lock ≡ Free → s.flag ≡ false) → s.woken ≡ false → Armed s → OnItsWay (set_errand s.errands seat Rests)
-way_by_another s seat holder fits not_inside not_wakes unflagged asleep (inl woken) = absurd cc
-way_by_another s seat holder fits not_inside not_wakes unflagged asleep (inr (inl has)) = by_lock s.lock holder fits has unflagged
+-- a task that sleeps though it is armed, with no waker at the place: some wake is on its way, and it is not this one
+pub way_by_another : (s : Scene) (seat : ℕ) → Holds s.place s.errands → s.errands seat ≢ Inside → s.errands seat ≢ Wakes → s.place ≢ Keeps → s.woken ≡ false → Armed s → OnItsWay (set_errand s.errands seat Rests)
+way_by_another s seat holder not_inside not_wakes bare asleep (inl woken) = let c : true ≡ false = sym woken ∙ asleep in absurd cc
+way_by_another s seat holder not_inside not_wakes bare asleep (inr (inl has)) = by_place s.place refl has
   where
-    by_lock : (lock : Lock) → Holds lock s.errands → Fits lock s.flag s.kept s.woken → HasWaker lock s.kept → (lock ≡ Free → s.flag ≡ false) → OnItsWay (set_errand s.errands seat Rests)
-    by_lock Free holds same has none = let c : true ≡ false = sym (same has) ∙ none refl in absurd cc
-    by_lock (WakeHas other stage) holds same has none =
-        let inside = errand_stays s.errands seat Rests other Inside not_inside (holds other stage refl) in
+    by_place : (place : Place) → s.place ≡ place → HasWaker place → OnItsWay (set_errand s.errands seat Rests)
+    by_place Bare is has = absurd has
+    by_place Keeps is has = absurd (bare is)
+    by_place (WakeHas other) is has =
+        let inside = errand_stays s.errands seat Rests other Inside not_inside (holder other is) in
         (other, λ z. let c : Inside ≡ Rests = sym inside ∙ z in cc)
-    by_lock (PollerHas stage) holds same has none = absurd has
-way_by_another s seat holder fits not_inside not_wakes unflagged asleep (inr (inr wakes)) =
+    by_place PollerHas is has = absurd has
+way_by_another s seat holder not_inside not_wakes bare asleep (inr (inr wakes)) =
     way_of_wakes (set_errand s.errands seat Rests) (wakes_else s.errands seat Rests not_wakes wakes)
 
 -- one seat's errand changes, and nothing else
@@ -158,9 +136,8 @@ pub errand_kept : (n : ℕ) (s : Scene) (kept : IsKept n s) (seat : ℕ) (errand
 errand_kept n s kept seat errand not_inside not_wakes seen = record {
   reach = kept.reach;
   waits = kept.waits;
-  holder = holds_else s.lock s.errands seat errand not_inside kept.holder;
+  holder = holds_else s.place s.errands seat errand not_inside kept.holder;
   poller = kept.poller;
-  fits = kept.fits;
   armed = armed_else n s seat errand not_wakes kept.armed;
   seen = seen;
 }
@@ -171,5 +148,6 @@ armed_parked n s kept parked = subst (λ (turn : Turn). ArmedIn turn s) parked k
 pub armed_woken : (turn : Turn) (s : Scene) → s.woken ≡ true → ArmedIn turn s
 armed_woken Parked s woken = inl woken
 armed_woken Registers s woken = tt
-armed_woken AtPlace s woken = tt
+armed_woken TakesBack s woken = tt
 armed_woken Asks s woken = inr (inl woken)
+armed_woken LaysOut s woken = tt

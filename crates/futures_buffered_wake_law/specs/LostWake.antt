@@ -1,6 +1,6 @@
 -- The steps of a scene, and the law on them.
 use Rattle.std.specs.Prelude.{◌≡◌, ◌≢◌, ℕ, ◌<◌, ◌≤◌, ◌==◌, false, true, if◌then◌else◌}
-use Rattle.std.specs.Prelude.{List, [], ◌∷◌, map}
+use Rattle.std.specs.Prelude.{Bool, List, [], ◌∷◌, map}
 use Rattle.futures_buffered_table.specs.declared.answer.Taken.TheVariants.{Empty, Pause}
 use Rattle.futures_buffered_table.specs.declared.answer.Woke.TheVariants.{Fresh}
 use Rattle.futures_buffered_table.specs.declared.step.Step.{Step}
@@ -18,10 +18,8 @@ use Rattle.futures_buffered_table.specs.View.{role_of}
 use Rattle.futures_buffered_table.specs.Words.{mark}
 use Rattle.futures_buffered_wake_law.specs.Scene.{Scene, at_first, with_errand}
 use Rattle.futures_buffered_wake_law.specs.Scene.{Errand, Rests, Looks, Tries, Inside, Wakes}
-use Rattle.futures_buffered_wake_law.specs.Scene.{Clears, TakesOut, LetsGo}
-use Rattle.futures_buffered_wake_law.specs.Scene.{PutsIn, RaisesFlag, Leaves}
-use Rattle.futures_buffered_wake_law.specs.Scene.{Lock, Free, WakeHas, PollerHas}
-use Rattle.futures_buffered_wake_law.specs.Scene.{Parked, Registers, AtPlace, Asks}
+use Rattle.futures_buffered_wake_law.specs.Scene.{Place, Bare, Keeps, WakeHas, PollerHas}
+use Rattle.futures_buffered_wake_law.specs.Scene.{Turn, Parked, Registers, TakesBack, Asks, LaysOut}
 
 -- the seat by which whoever holds the source marks slots itself, between polls
 abbrev pub owner_seat : ℕ
@@ -30,23 +28,24 @@ owner_seat = 63
 pub data Event : Type 0 where
   -- a step of the list
   InList : Step → Event
-  -- the next step of the wake of this seat, without the lock
+  -- the next step of the wake of this seat, at the place or on its way there
   OnErrand : ℕ → Event
-  -- the next step of whoever has the lock
-  UnderLock : Event
+  -- the next step of the poller at the place
+  AtPlace : Event
   -- a fresh wake of a source beside this one comes to the place
   FromBeside : ℕ → Event
   -- the task polls
   Begin : Event
-  -- the registration keeps the task's waker with the poller
+  -- the registration goes to the place for the waker that may be kept there
+  GoBack : Event
+  -- it keeps the task's waker with the poller
   KeepOwn : Event
-  -- or it goes to the place
-  KeepShared : Event
-  -- the registration lacks memory, with the poller or at the place: the task is woken
-  LacksOwn : Event
-  LacksShared : Event
-  -- the poller lays its waker out at the place, before the read of the tail that can answer Empty
+  -- or it lacks memory: the task is woken
+  Lacks : Event
+  -- the poller goes to the place with its waker, before a read of the tail that can answer Empty
   LayOut : Event
+  -- or it loses the place to a wake that has come and gone: it wakes the task itself
+  Misses : Event
   -- the poll ends with its task woken
   Stop : Event
 
@@ -73,23 +72,18 @@ MayStep s (Mark seat slot) = IsBetween s seat
 MayStep s (Go seat) = IsBetween s seat
 MayStep s Poll = (s.turn ≡ Asks) × (IsAtStub (poller_role s) → s.own ≡ false)
 
-abbrev pub IsOutside : Errand → Type 0
-IsOutside Rests = ⊥
-IsOutside Inside = ⊥
-IsOutside _ = Unit {0}
-
 -- the step can be made now
 abbrev pub CanDo : ℕ → Scene → Event → Type 0
 CanDo n s (InList step) = CanStep n (map role_of s.list.views) step × MayStep s step
-CanDo n s (OnErrand seat) = IsOutside (s.errands seat)
-CanDo n s UnderLock = s.lock ≢ Free
+CanDo n s (OnErrand seat) = s.errands seat ≢ Rests
+CanDo n s AtPlace = s.place ≡ PollerHas
 CanDo n s (FromBeside seat) = (WAKE_SEATS ≤ seat) × (s.errands seat ≡ Rests)
 CanDo n s Begin = s.turn ≡ Parked
+CanDo n s GoBack = s.turn ≡ Registers
 CanDo n s KeepOwn = s.turn ≡ Registers
-CanDo n s KeepShared = s.turn ≡ Registers
-CanDo n s LacksOwn = s.turn ≡ Registers
-CanDo n s LacksShared = s.lock ≡ PollerHas PutsIn
-CanDo n s LayOut = (s.turn ≡ Asks) × (s.own ≡ true) × IsAtStub (poller_role s)
+CanDo n s Lacks = s.turn ≡ Registers
+CanDo n s LayOut = (s.turn ≡ Asks) × (s.own ≡ true)
+CanDo n s Misses = (s.turn ≡ Asks) × (s.own ≡ true)
 CanDo n s Stop = (s.turn ≡ Asks) × IsAtStart (poller_role s)
 
 -- a fresh wake goes to the place; one of whoever holds the source does not, since that task polls
@@ -106,49 +100,62 @@ after_reply seat (Taken Empty) s = record s { turn = Parked }
 after_reply seat (Taken Pause) s = record s { turn = Parked; woken = true }
 after_reply seat _ s = s
 
--- a wake tries the lock, and leaves the task to whoever has it
-abbrev pub after_try : ℕ → Lock → Scene → Scene
-after_try seat Free s = record (with_errand s seat Inside) { lock = WakeHas seat Clears }
-after_try seat (WakeHas other stage) s = with_errand s seat Rests
-after_try seat (PollerHas stage) s = with_errand s seat Rests
+-- what the word says of a waker that is kept
+abbrev pub is_kept : Place → Bool
+is_kept Bare = false
+is_kept Keeps = true
+is_kept (WakeHas seat) = false
+is_kept PollerHas = false
+
+-- a wake takes the waker, or leaves the task to whoever has the place
+abbrev pub after_try : ℕ → Place → Scene → Scene
+after_try seat Bare s = with_errand s seat Rests
+after_try seat Keeps s = record (with_errand s seat Inside) { place = WakeHas seat }
+after_try seat (WakeHas other) s = with_errand s seat Rests
+after_try seat PollerHas s = with_errand s seat Rests
 
 abbrev pub after_errand : ℕ → Errand → Scene → Scene
-after_errand seat Looks s = with_errand s seat (if s.flag then Tries else Rests)
-after_errand seat Tries s = after_try seat s.lock s
-after_errand seat Wakes s = record (with_errand s seat Rests) { woken = true }
 after_errand seat Rests s = s
-after_errand seat Inside s = s
+after_errand seat Looks s = with_errand s seat (if is_kept s.place then Tries else Rests)
+after_errand seat Tries s = after_try seat s.place s
+after_errand seat Inside s = record (with_errand s seat Wakes) { place = Bare }
+after_errand seat Wakes s = record (with_errand s seat Rests) { woken = true }
 
-abbrev pub after_lock : Lock → Scene → Scene
-after_lock Free s = s
-after_lock (WakeHas seat Clears) s = record s { flag = false; lock = WakeHas seat TakesOut }
-after_lock (WakeHas seat TakesOut) s =
-    record s { kept = false; lock = WakeHas seat (LetsGo s.kept) }
-after_lock (WakeHas seat (LetsGo has)) s =
-    record (with_errand s seat (if has then Wakes else Rests)) { lock = Free }
-after_lock (PollerHas PutsIn) s = record s { kept = true; lock = PollerHas RaisesFlag }
-after_lock (PollerHas RaisesFlag) s = record s { flag = true; lock = PollerHas Leaves }
-after_lock (PollerHas Leaves) s = record s { lock = Free; turn = Asks }
+-- the poller at the place
+abbrev pub after_place : Turn → Scene → Scene
+after_place Parked s = s
+after_place Registers s = s
+after_place TakesBack s = record s { place = Bare; turn = Registers }
+after_place Asks s = s
+after_place LaysOut s = record s { place = Keeps; own = false; turn = Asks }
 
--- the poller tries the lock, and has the task woken where a wake has it
-abbrev pub to_place : Lock → Scene → Scene
-to_place Free s = record s { lock = PollerHas PutsIn; turn = AtPlace }
-to_place (WakeHas seat stage) s = record s { turn = Asks; woken = true }
-to_place (PollerHas stage) s = record s { turn = Asks; woken = true }
+-- the registration takes the waker back, if one is kept
+abbrev pub go_back : Place → Scene → Scene
+go_back Bare s = s
+go_back Keeps s = record s { place = PollerHas; turn = TakesBack }
+go_back (WakeHas seat) s = s
+go_back PollerHas s = s
+
+-- the poller has the place for its waker, or has the task woken where a wake has it
+abbrev pub lay_out : Place → Scene → Scene
+lay_out Bare s = record s { place = PollerHas; turn = LaysOut }
+lay_out Keeps s = record s { place = PollerHas; turn = LaysOut }
+lay_out (WakeHas seat) s = record s { own = false; woken = true }
+lay_out PollerHas s = record s { own = false; woken = true }
 
 abbrev pub after : ℕ → Scene → Event → Scene
 after n s (InList step) =
     after_reply (seat_of step) (reply_of_role n (view_at s.list step).role (found_at n s.list step))
     (record s { list = after_step n s.list step })
 after n s (OnErrand seat) = after_errand seat (s.errands seat) s
-after n s UnderLock = after_lock s.lock s
+after n s AtPlace = after_place s.turn s
 after n s (FromBeside seat) = with_errand s seat Looks
 after n s Begin = record s { turn = Registers; woken = false }
+after n s GoBack = go_back s.place s
 after n s KeepOwn = record s { own = true; turn = Asks }
-after n s KeepShared = to_place s.lock s
-after n s LacksOwn = record s { turn = Asks; woken = true }
-after n s LacksShared = record s { lock = PollerHas RaisesFlag; woken = true }
-after n s LayOut = to_place s.lock (record s { own = false })
+after n s Lacks = record s { turn = Asks; woken = true }
+after n s LayOut = lay_out s.place s
+after n s Misses = record s { own = false; woken = true }
 after n s Stop = record s { turn = Parked; woken = true }
 
 -- each step can be made when its turn comes

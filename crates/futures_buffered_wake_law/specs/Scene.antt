@@ -9,37 +9,23 @@ pub data Errand : Type 0 where
   Rests : Errand
   -- it reads whether a waker is kept
   Looks : Errand
-  -- it tries the lock of the place
+  -- it tries to take the waker, by a compare-exchange
   Tries : Errand
-  -- it has the lock
+  -- it has the place: it takes the waker out and leaves the place bare, by one store
   Inside : Errand
   -- it has the task's waker, and wakes the task
   Wakes : Errand
 
--- what a wake that has the lock does next
-pub data WakeStage : Type 0 where
-  -- it clears the word that says whether a waker is kept
-  Clears : WakeStage
-  -- it takes the waker out, if there is one
-  TakesOut : WakeStage
-  -- it lets the lock go; whether it has the waker
-  LetsGo : Bool → WakeStage
-
--- what the poller does next, where it has the lock
-pub data PollerStage : Type 0 where
-  -- it puts the task's waker in
-  PutsIn : PollerStage
-  -- it sets the word that says whether a waker is kept
-  RaisesFlag : PollerStage
-  -- it lets the lock go
-  Leaves : PollerStage
-
--- who has the lock
-pub data Lock : Type 0 where
-  Free : Lock
-  -- the wake of this seat
-  WakeHas : ℕ → WakeStage → Lock
-  PollerHas : PollerStage → Lock
+-- what the word of the place says
+pub data Place : Type 0 where
+  -- no waker is kept
+  Bare : Place
+  -- the task's waker is kept
+  Keeps : Place
+  -- the wake of this seat has the place, with the waker
+  WakeHas : ℕ → Place
+  -- the poller has the place
+  PollerHas : Place
 
 -- where the poller is
 pub data Turn : Type 0 where
@@ -47,20 +33,19 @@ pub data Turn : Type 0 where
   Parked : Turn
   -- a poll has begun, and registers its task
   Registers : Turn
-  -- it is at the place, with the lock
-  AtPlace : Turn
+  -- it has the place, from which it takes its waker back
+  TakesBack : Turn
   -- it asks the list for names
   Asks : Turn
+  -- it has the place, into which it puts its waker
+  LaysOut : Turn
 
 pub record Scene : Type 0 where
   pub list : Moment
   -- by the numbers of seats: those of the list's wake seats, and, from there on, of wakes of
   -- sources beside this one
   pub errands : ℕ → Errand
-  pub lock : Lock
-  -- whether the place keeps the task's waker, and what the word beside it says of that
-  pub kept : Bool
-  pub flag : Bool
+  pub place : Place
   -- whether the poller keeps the task's waker with itself
   pub own : Bool
   pub turn : Turn
@@ -72,9 +57,7 @@ abbrev pub at_first : ℕ → Scene
 at_first n = record {
   list = at_start n;
   errands = λ _. Rests;
-  lock = Free;
-  kept = false;
-  flag = false;
+  place = Bare;
   own = false;
   turn = Parked;
   woken = true;

@@ -4,11 +4,12 @@
 //!
 //! | Step here | Step of the code |
 //! |---|---|
-//! | `Looks`, `Tries`, and under the lock `Clears`, `TakesOut`, `LetsGo`; then `Wakes` | `OuterPlace::wake`: the load of `is_kept`; in `take_out` `try_lock`, the store, `take`, and the drop of the guard; then `wake_outer` |
-//! | `KeepOwn` | `TaskPlace::register` that keeps the waker with the poller |
-//! | `KeepShared`, and under the lock `PutsIn`, `RaisesFlag`, `Leaves` | `OuterPlace::register`: `try_lock`, `Context::register`, the store, and the drop of the guard |
-//! | `LacksOwn`, `LacksShared` | `Context::register` that finds no memory for the waker, and has the task woken |
-//! | `LayOut`, and the same three under the lock | `before_empty`, which calls `OuterPlace::put_in`, between the link read and the tail read of a taking |
+//! | `Looks`, `Tries`, `Inside`, then `Wakes` | `OuterPlace::wake`: in `take_out` the load of the word, the compare-exchange, and the store of `put`; then `wake_outer` |
+//! | `GoBack`, and `AtPlace` from `TakesBack` | `TaskPlace::register`, where the poller keeps no waker: in `take_out` the compare-exchange, and the store of `put`. Where the word says that none is kept, or the exchange is lost, nothing changes |
+//! | `KeepOwn` | `Context::register`, which leaves the task's waker with the poller |
+//! | `Lacks` | `Context::register` that finds no memory for the waker, and has the task woken |
+//! | `LayOut`, and `AtPlace` from `LaysOut` | `before_empty`, between the link read and the tail read of a taking, or `register` where the source stands beside another: `OuterPlace::put_in`, with its compare-exchange and the store of `put` |
+//! | `LayOut` that finds a wake at the place, `Misses` | `put_in` that finds the place taken, or loses the exchange, and wakes its waker |
 //! | `Stop` | a poll that ends with its task woken: by an output, after which the task polls again by itself, or at its limit |
 //! | `Stop`, `Begin` | the same poll registers once more, before it asks the list again |
 //! | `FromBeside` | a wake of a source beside this one, whose list stands for itself |

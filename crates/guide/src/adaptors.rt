@@ -3,7 +3,7 @@ use crate::checked::{Half, Odd};
 use crate::countdown::{Pause, after};
 use futures::executor::block_on;
 use futures::{StreamExt, stream};
-use futures_buffered::{BufferedStreamExt, BufferedTryStreamExt};
+use futures_buffered::{BufferedStreamExt, BufferedTryStreamExt, IterExt};
 use std::alloc::AllocGlobal;
 use std::io::Print;
 use std::random::RandomSource;
@@ -40,6 +40,28 @@ where
     let jobs = vec![in rt.alloc(); Ok(Half(2)), Err(Odd(9)), Ok(Half(4))]?;
     let outputs = stream::iter(jobs).try_buffered_ordered(rt.alloc(), 2)?;
     let outputs = block_on(rt, outputs.collect(rt.alloc()))??;
+    println!(rt; "{outputs:?}")?;
+    Ok(())
+}
+
+pub fn in_any_order_up_to_an_error<R>(rt: &R) -> Result<(), anyhow::Error>
+where
+    R: Wait + RandomSource + AllocGlobal + Print,
+{
+    let jobs = vec![in rt.alloc(); Ok(Half(2)), Err(Odd(9)), Ok(Half(4))]?;
+    let outputs = stream::iter(jobs).try_buffered_unordered(rt.alloc(), 2)?;
+    let outputs = block_on(rt, outputs.collect(rt.alloc()))??;
+    println!(rt; "{outputs:?}")?;
+    Ok(())
+}
+
+pub fn of_an_iterator<R>(rt: &R) -> Result<(), anyhow::Error>
+where
+    R: Wait + RandomSource + AllocGlobal + Print,
+{
+    let jobs = vec![in rt.alloc(); after(2, 1), after(0, 2)]?;
+    let set = jobs.into_unordered_stream(rt.alloc())?;
+    let outputs = block_on(rt, set.collect(rt.alloc()))??;
     println!(rt; "{outputs:?}")?;
     Ok(())
 }

@@ -7,8 +7,10 @@ mod countdown;
 mod joins;
 mod merges;
 mod numbers;
+mod proved;
 mod queues;
 mod sets;
+mod sources;
 
 fn main(rt: HostRuntime) -> Result<(), anyhow::Error> {
     sets::bounded_set(&rt)?;
@@ -19,9 +21,20 @@ fn main(rt: HostRuntime) -> Result<(), anyhow::Error> {
     joins::all_outputs(&rt)?;
     joins::first_error(&rt)?;
     merges::three_streams(&rt)?;
+    merges::growing_merge(&rt)?;
     adaptors::as_they_finish(&rt)?;
     adaptors::in_order(&rt)?;
     adaptors::up_to_an_error(&rt)?;
+    adaptors::in_any_order_up_to_an_error(&rt)?;
+    adaptors::of_an_iterator(&rt)?;
     adaptors::for_each(&rt)?;
+    sources::one_caller(&rt)?;
+    sources::listed_names(&rt)?;
+    sources::marks_and_takings(&rt)?;
+    sources::slots(&rt)?;
+    proved::set(&rt)?;
+    proved::queue(&rt)?;
+    proved::join_and_adaptor(&rt)?;
+    proved::merge(&rt)?;
     Ok(())
 }

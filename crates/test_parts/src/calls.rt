@@ -47,9 +47,11 @@ pub enum Call {
     // Polls nothing: the task is not woken right after it.
     PollNothing,
     IsWoken,
-    // How often futures were polled.
+    // How often futures were polled, or a stream.
     Polls,
-    // How often futures were dropped.
+    // How often a closure was called.
+    Calls,
+    // How often futures were dropped, or a stream.
     Drops,
     // Drops what the row is tried on, but for what counts and keeps.
     Drop,
@@ -74,6 +76,10 @@ pub enum Answer {
     None,
     // The outputs were the numbers from 0 on.
     InOrder,
+    // The outputs of a join of two.
+    Both(u64, u64),
+    // The error of a join.
+    Error(u64),
     Sent,
     Done,
     Hint(usize, Option<usize>),

@@ -46,3 +46,10 @@ pub fn sent<T: Drop, R: Wait + Drop>(senders: &Vec<Sender<T, R>>, place: usize, 
         None => false,
     }
 }
+
+/// Each sender in turn sends its value.
+pub fn send_each<T: Copy + Drop, R: Wait + Drop>(senders: &Vec<Sender<T, R>>, values: [T; 4]) {
+    for (value, sender) in values.iter().zip(senders) {
+        sender.send(*value);
+    }
+}

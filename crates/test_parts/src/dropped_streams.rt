@@ -1,19 +1,21 @@
 //! A stream whose drops are counted.
+use crate::counter::Counter;
+use crate::keep::keep;
 use futures::task::Poll;
 use futures_buffered_core::ready_source::NamesSlot;
 use futures_buffered_sets::slot_stream::SlotStream;
+use std::alloc::AllocError;
 use std::sync::Arc;
-use std::sync::atomic::AtomicU64;
 use std::sync::atomic::Ordering::SeqCst;
 
 /// Gives `left` items of 1, and then ends. It adds one to `drops` when it is dropped.
 pub struct DroppedStream {
     left: u64,
-    drops: Arc<AtomicU64>,
+    drops: Counter,
 }
 
 impl DroppedStream {
-    pub fn new(left: u64, drops: Arc<AtomicU64>) -> DroppedStream {
+    pub fn new(left: u64, drops: Counter) -> DroppedStream {
         DroppedStream { left, drops }
     }
 }
@@ -35,4 +37,13 @@ impl<W: NamesSlot> SlotStream<W> for DroppedStream {
         self.left -= 1;
         Poll::Ready(Some(1))
     }
+}
+
+/// Adds a stream of so many items at the end.
+pub fn add_dropped(
+    streams: &mut Vec<DroppedStream>,
+    left: u64,
+    drops: &Counter,
+) -> Result<(), AllocError> {
+    keep(streams, DroppedStream::new(left, Arc::try_clone(drops)?))
 }

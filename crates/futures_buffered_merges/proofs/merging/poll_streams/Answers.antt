@@ -3,7 +3,7 @@ use Rattle.std.proofs.lemmas.Fn.{FoldsTo-push}
 use Rattle.futures_buffered_core.specs.SlotMap.{held_count}
 use Rattle.futures_buffered_unordered_bounded.specs.FuturesUnorderedBounded.{Bounded}
 use Rattle.futures_buffered_merges.specs.Merging.{CountEnds}
-use Rattle.futures_buffered_merges.proofs.MergingLemmas.{registers_more}
+use Rattle.futures_buffered_unordered_bounded.proofs.FuturesUnorderedBoundedLemmas.{registers_more}
 use Rattle.futures_buffered_merges.proofs.merging.poll_streams.Goals as goal
 
 pub returns-in-Ready-Some-clause-polled : goal.returns-in-Ready-Some-clause-polled
@@ -64,3 +64,42 @@ returns-clause-polled g c =
       counts = c.counts.invariant.counts.1;
       last_count = (search rules, refl);
     }
+
+pub returns-in-Ready-Some-clause-leaves : goal.returns-in-Ready-Some-clause-leaves
+returns-in-Ready-Some-clause-leaves g c =
+    inl (
+      record {
+        ended = c.counts.invariant.counts.0;
+        before = c.counts.set;
+        counts = c.counts.invariant.counts.1;
+        last_count = rw c.in-Ready-Some.field-0-is at c.in-Ready-Some.ensures.counted;
+      },
+      registers_more g.S.ReadySource.registers_poll _ _ _ c.counts.invariant.only_registered c.in-Ready-Some.ensures.only_registered,
+    )
+
+pub returns-in-Pending-clause-leaves : goal.returns-in-Pending-clause-leaves
+returns-in-Pending-clause-leaves g c =
+    elim c.in-Pending.ensures.leaves [
+      | inl empty ↦ inl (
+        record {
+          ended = c.counts.invariant.counts.0;
+          before = c.counts.set;
+          counts = c.counts.invariant.counts.1;
+          last_count = (c.in-Pending.ensures.counted.0, empty.0);
+        },
+        registers_more g.S.ReadySource.registers_poll _ _ _ c.counts.invariant.only_registered empty.1,
+      )
+      | inr part ↦ inr (refl, (c.counts.invariant.counts.0, c.counts.set, c.counts.invariant.counts.1, part.0), part.1)
+    ]
+
+pub returns-clause-leaves : goal.returns-clause-leaves
+returns-clause-leaves g c =
+    inl (
+      record {
+        ended = c.counts.invariant.counts.0;
+        before = c.counts.set;
+        counts = c.counts.invariant.counts.1;
+        last_count = (search rules, refl);
+      },
+      c.counts.invariant.only_registered,
+    )

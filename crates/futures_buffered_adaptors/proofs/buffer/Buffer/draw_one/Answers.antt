@@ -1,6 +1,6 @@
-use Rattle.std.proofs.Common.{◌≡◌, Some, sym, subst}
-use Rattle.futures_buffered_adaptors.specs.Buffer.{CanDraw, BufferGives}
-use Rattle.futures_buffered_adaptors.proofs.BufferLemmas.{as_before, item_within, pending_within, end_within, item_can, pending_can}
+use Rattle.std.proofs.Common.{rules, ◌≡◌, ◌<◌, Some, sym, subst}
+use Rattle.futures_buffered_adaptors.specs.Buffer.{PollsStream, CanDraw, BufferGives}
+use Rattle.futures_buffered_adaptors.proofs.BufferLemmas.{as_before, had_turn, item_within, pending_within, end_within, item_can, pending_can}
 use Rattle.futures_buffered_adaptors.proofs.buffer.Buffer.draw_one.Goals as goal
 
 pub returns-in-Ready-Some-clause-again : goal.returns-in-Ready-Some-clause-again
@@ -49,3 +49,27 @@ returns-in_default-clause-within g c =
     let queue = g.Q.FutureQueue in
     let was : c.args.self.now ≡ record { stream = c.self.inside.stream; queue = c.self.inside.queue } = sym c.self.view_is in
     λ xs last h. as_before (BufferGives g.St.Stream.yields queue.gives queue.count queue.yields queue.in_order) _ _ was xs last h
+
+pub returns-in-Ready-Some-clause-no_turn : goal.returns-in-Ready-Some-clause-no_turn
+returns-in-Ready-Some-clause-no_turn g c =
+    let stream = g.St.Stream in
+    let queue = g.Q.FutureQueue in
+    let was : c.args.self.now ≡ record { stream = Some c.in-Some.stream; queue = c.self.inside.queue } = let e = c.self.view_is in let k = c.in-Some.stream-is in cc in
+    let room : queue.count c.self.inside.queue < queue.room c.args.self.now.queue = search rules in
+    λ none. absurd (had_turn (PollsStream stream.yields) queue.count (queue.room c.args.self.now.queue) c.args.self.now c.in-Some.stream c.self.inside.queue was room none)
+
+pub returns-in-Ready-None-clause-no_turn : goal.returns-in-Ready-None-clause-no_turn
+returns-in-Ready-None-clause-no_turn g c =
+    let stream = g.St.Stream in
+    let queue = g.Q.FutureQueue in
+    let was : c.args.self.now ≡ record { stream = Some c.in-Some.stream; queue = c.self.inside.queue } = let e = c.self.view_is in let k = c.in-Some.stream-is in cc in
+    let room : queue.count c.self.inside.queue < queue.room c.args.self.now.queue = search rules in
+    λ none. absurd (had_turn (PollsStream stream.yields) queue.count (queue.room c.args.self.now.queue) c.args.self.now c.in-Some.stream c.self.inside.queue was room none)
+
+pub returns-in-Pending-clause-no_turn : goal.returns-in-Pending-clause-no_turn
+returns-in-Pending-clause-no_turn g c =
+    let stream = g.St.Stream in
+    let queue = g.Q.FutureQueue in
+    let was : c.args.self.now ≡ record { stream = Some c.in-Some.stream; queue = c.self.inside.queue } = let e = c.self.view_is in let k = c.in-Some.stream-is in cc in
+    let room : queue.count c.self.inside.queue < queue.room c.args.self.now.queue = search rules in
+    λ none. absurd (had_turn (PollsStream stream.yields) queue.count (queue.room c.args.self.now.queue) c.args.self.now c.in-Some.stream c.self.inside.queue was room none)

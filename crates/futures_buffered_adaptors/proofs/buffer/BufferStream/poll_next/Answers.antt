@@ -1,5 +1,5 @@
 use Rattle.std.proofs.Common.{◌≡◌, [], ◌∷◌, Some, None, sym, refl}
-use Rattle.futures_buffered_adaptors.specs.Buffer.{PollsStream, BufferGives}
+use Rattle.futures_buffered_adaptors.specs.Buffer.{PollsStream, PollsWithTask, BufferGives}
 use Rattle.futures_buffered_adaptors.proofs.BufferLemmas.{as_before, call_of, some_pends, none_ends, none_is, queue_within, queue_value, queue_after, queue_ends, polled_can, same_can, pending_covers, empty_covers}
 use Rattle.futures_buffered_adaptors.proofs.buffer.BufferStream.poll_next.Goals as goal
 
@@ -114,3 +114,55 @@ returns-clause-value g c =
     let value = rw c.in-Ready-None.field-0-is at c.in-Ready-None.ensures.value in
     c.fill.ensures.within [] None (as_before (BufferGives stream.yields queue.gives queue.count queue.yields queue.in_order) _ _ was [] None
     (rw (none_is c.self.inside.stream (sym c.if-is_some.ensures)) (queue_ends stream.yields queue.gives queue.count queue.yields queue.in_order c.self.inside.queue value empty.0)))
+
+pub returns-in-Pending-clause-leaves : goal.returns-in-Pending-clause-leaves
+returns-in-Pending-clause-leaves g c =
+    let stream = g.St.Stream in
+    let queue = g.Q.FutureQueue in
+    let was : c.fill.new.self ≡ record { stream = c.self.inside.stream; queue = c.self.inside.queue } = sym c.self.view_is in
+    record {
+      drawn = c.fill.new.cx;
+      kept = c.fill.ensures.kept;
+      not_polled = c.fill.ensures.no_turn;
+      called = call_of (PollsStream stream.yields) queue.count (queue.room c.args.self.now.queue) queue.pushes (PollsWithTask queue.polls queue.leaves c.fill.new.cx c.poll_output.new.cx) c.args.self.now c.fill.new.self c.self.inside.stream c.self.inside.queue c.poll_output.new.self c.poll_output.result _ was c.fill.ensures.draws (c.poll_output.ensures.polled, c.poll_output.ensures.leaves)
+          (rw c.in-Pending.is refl);
+    }
+
+pub returns-in-Ready-Some-clause-leaves : goal.returns-in-Ready-Some-clause-leaves
+returns-in-Ready-Some-clause-leaves g c =
+    let stream = g.St.Stream in
+    let queue = g.Q.FutureQueue in
+    let was : c.fill.new.self ≡ record { stream = c.self.inside.stream; queue = c.self.inside.queue } = sym c.self.view_is in
+    record {
+      drawn = c.fill.new.cx;
+      kept = c.fill.ensures.kept;
+      not_polled = c.fill.ensures.no_turn;
+      called = call_of (PollsStream stream.yields) queue.count (queue.room c.args.self.now.queue) queue.pushes (PollsWithTask queue.polls queue.leaves c.fill.new.cx c.poll_output.new.cx) c.args.self.now c.fill.new.self c.self.inside.stream c.self.inside.queue c.poll_output.new.self c.poll_output.result _ was c.fill.ensures.draws (c.poll_output.ensures.polled, c.poll_output.ensures.leaves)
+          (rw (c.in-Ready-Some.is, c.in-Ready-Some.field-0-is) refl);
+    }
+
+pub returns-then-is_some-clause-leaves : goal.returns-then-is_some-clause-leaves
+returns-then-is_some-clause-leaves g c =
+    let stream = g.St.Stream in
+    let queue = g.Q.FutureQueue in
+    let was : c.fill.new.self ≡ record { stream = c.self.inside.stream; queue = c.self.inside.queue } = sym c.self.view_is in
+    record {
+      drawn = c.fill.new.cx;
+      kept = c.fill.ensures.kept;
+      not_polled = c.fill.ensures.no_turn;
+      called = call_of (PollsStream stream.yields) queue.count (queue.room c.args.self.now.queue) queue.pushes (PollsWithTask queue.polls queue.leaves c.fill.new.cx c.poll_output.new.cx) c.args.self.now c.fill.new.self c.self.inside.stream c.self.inside.queue c.poll_output.new.self c.poll_output.result _ was c.fill.ensures.draws (c.poll_output.ensures.polled, c.poll_output.ensures.leaves)
+          (rw (c.in-Ready-None.is, c.in-Ready-None.field-0-is) (some_pends c.self.inside.stream (sym c.if-is_some.ensures)));
+    }
+
+pub returns-clause-leaves : goal.returns-clause-leaves
+returns-clause-leaves g c =
+    let stream = g.St.Stream in
+    let queue = g.Q.FutureQueue in
+    let was : c.fill.new.self ≡ record { stream = c.self.inside.stream; queue = c.self.inside.queue } = sym c.self.view_is in
+    record {
+      drawn = c.fill.new.cx;
+      kept = c.fill.ensures.kept;
+      not_polled = c.fill.ensures.no_turn;
+      called = call_of (PollsStream stream.yields) queue.count (queue.room c.args.self.now.queue) queue.pushes (PollsWithTask queue.polls queue.leaves c.fill.new.cx c.poll_output.new.cx) c.args.self.now c.fill.new.self c.self.inside.stream c.self.inside.queue c.poll_output.new.self c.poll_output.result _ was c.fill.ensures.draws (c.poll_output.ensures.polled, c.poll_output.ensures.leaves)
+          (rw (c.in-Ready-None.is, c.in-Ready-None.field-0-is) (none_ends c.self.inside.stream (sym c.if-is_some.ensures)));
+    }

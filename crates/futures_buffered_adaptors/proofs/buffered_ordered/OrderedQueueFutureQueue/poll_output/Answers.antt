@@ -1,8 +1,9 @@
 use Rattle.std.proofs.Common.{◌≡◌, ◌+◌, IfNone, IfSome, OnSome, subst}
 use Rattle.futures.specs.Poll.{IfReady, OnPending}
 use Rattle.futures.specs.Runs.{After, Within}
-use Rattle.futures_buffered_ordered.specs.OrderedEntries.{ComesInOrder}
-use Rattle.futures_buffered_ordered.specs.FuturesOrderedBounded.{OrderedBounded, SetMayGive}
+use Rattle.futures_buffered_unordered_bounded.specs.FuturesUnorderedBounded.{held_in}
+use Rattle.futures_buffered_ordered.specs.OrderedEntries.{ComesInOrder, OrderedLeavesTask}
+use Rattle.futures_buffered_ordered.specs.FuturesOrderedBounded.{OrderedBounded, SetGives, SetLeavesTask, SetMayGive}
 use Rattle.futures_buffered_adaptors.specs.BufferedOrdered.{queue_len}
 use Rattle.futures_buffered_adaptors.proofs.BufferedOrderedLemmas.{still_fits, empty_polled, fewer_polled, same_polled}
 use Rattle.futures_buffered_adaptors.proofs.buffered_ordered.OrderedQueueFutureQueue.poll_output.Goals as goal
@@ -51,3 +52,10 @@ returns-clause-same g c =
     let source = g.S.ReadySource in
     subst (λ (queue : OrderedBounded g.row.F.Denot g.row.A.Denot g.row.S.Denot). OnPending c.poll_next.result (Within (ComesInOrder (SetMayGive polled) queue) (ComesInOrder (SetMayGive polled) c.poll_next.new.self))) c.self.view_is
     (c.poll_next.ensures.same)
+
+pub returns-clause-leaves : goal.returns-clause-leaves
+returns-clause-leaves g c =
+    let polled = g.F.SlotFuture.polled in
+    let source = g.S.ReadySource in
+    subst (λ (queue : OrderedBounded g.row.F.Denot g.row.A.Denot g.row.S.Denot). OrderedLeavesTask (SetGives polled source.steps) (SetLeavesTask polled source.steps source.registers_poll) held_in queue c.poll_next.result c.poll_next.new.self c.args.cx.now c.poll_next.new.cx) c.self.view_is
+    (c.poll_next.ensures.leaves)

@@ -1,6 +1,6 @@
 use Rattle.std.proofs.Common.{rules, IfOk, ◌≡◌, ◌<◌, Some, Ok, Err, [], ◌∷◌, subst, refl}
 use Rattle.futures_buffered_adaptors.specs.Buffer.{PollsStream}
-use Rattle.futures_buffered_adaptors.proofs.BufferLemmas.{as_before, adds_anywhere, item_comes, item_value, item_after, pending_comes, end_comes, item_can, pending_can}
+use Rattle.futures_buffered_adaptors.proofs.BufferLemmas.{as_before, had_turn, adds_anywhere, item_comes, item_value, item_after, pending_comes, end_comes, item_can, pending_can}
 use Rattle.futures_buffered_adaptors.specs.TryBuffer.{CanTryDraw, TryBufferGives, TryItemGives}
 use Rattle.futures_buffered_adaptors.proofs.TryBufferLemmas.{draws_ok, draws_error}
 use Rattle.futures_buffered_adaptors.proofs.try_buffer.TryBuffer.draw_one.Goals as goal
@@ -85,3 +85,35 @@ returns-in-Pending-clause-within g c =
     let was : c.args.self.now ≡ record { stream = Some c.in-Some.stream; queue = c.self.inside.queue } = let e = c.self.view_is in let k = c.in-Some.stream-is in cc in
     λ xs last h. as_before (TryBufferGives stream.yields queue.gives queue.count queue.yields) _ _ was xs last
     (pending_comes stream.yields (TryItemGives queue.gives) queue.count queue.yields c.in-Some.stream c.poll_next.new.self c.self.inside.queue c.in-Pending.ensures.same xs last h)
+
+pub returns-in-Ready-Some-Ok-clause-no_turn : goal.returns-in-Ready-Some-Ok-clause-no_turn
+returns-in-Ready-Some-Ok-clause-no_turn g c =
+    let stream = g.St.Stream in
+    let queue = g.Q.FutureQueue in
+    let was : c.args.self.now ≡ record { stream = Some c.in-Some.stream; queue = c.self.inside.queue } = let e = c.self.view_is in let k = c.in-Some.stream-is in cc in
+    let room : queue.count c.self.inside.queue < queue.room c.args.self.now.queue = search rules in
+    λ none. absurd (had_turn (PollsStream stream.yields) queue.count (queue.room c.args.self.now.queue) c.args.self.now c.in-Some.stream c.self.inside.queue was room none)
+
+pub returns-in-Ready-Some-Err-clause-no_turn : goal.returns-in-Ready-Some-Err-clause-no_turn
+returns-in-Ready-Some-Err-clause-no_turn g c =
+    let stream = g.St.Stream in
+    let queue = g.Q.FutureQueue in
+    let was : c.args.self.now ≡ record { stream = Some c.in-Some.stream; queue = c.self.inside.queue } = let e = c.self.view_is in let k = c.in-Some.stream-is in cc in
+    let room : queue.count c.self.inside.queue < queue.room c.args.self.now.queue = search rules in
+    λ none. absurd (had_turn (PollsStream stream.yields) queue.count (queue.room c.args.self.now.queue) c.args.self.now c.in-Some.stream c.self.inside.queue was room none)
+
+pub returns-in-Ready-None-clause-no_turn : goal.returns-in-Ready-None-clause-no_turn
+returns-in-Ready-None-clause-no_turn g c =
+    let stream = g.St.Stream in
+    let queue = g.Q.FutureQueue in
+    let was : c.args.self.now ≡ record { stream = Some c.in-Some.stream; queue = c.self.inside.queue } = let e = c.self.view_is in let k = c.in-Some.stream-is in cc in
+    let room : queue.count c.self.inside.queue < queue.room c.args.self.now.queue = search rules in
+    λ none. absurd (had_turn (PollsStream stream.yields) queue.count (queue.room c.args.self.now.queue) c.args.self.now c.in-Some.stream c.self.inside.queue was room none)
+
+pub returns-in-Pending-clause-no_turn : goal.returns-in-Pending-clause-no_turn
+returns-in-Pending-clause-no_turn g c =
+    let stream = g.St.Stream in
+    let queue = g.Q.FutureQueue in
+    let was : c.args.self.now ≡ record { stream = Some c.in-Some.stream; queue = c.self.inside.queue } = let e = c.self.view_is in let k = c.in-Some.stream-is in cc in
+    let room : queue.count c.self.inside.queue < queue.room c.args.self.now.queue = search rules in
+    λ none. absurd (had_turn (PollsStream stream.yields) queue.count (queue.room c.args.self.now.queue) c.args.self.now c.in-Some.stream c.self.inside.queue was room none)

@@ -2,7 +2,7 @@ use Rattle.std.proofs.Common.{◌≡◌, ◌-◌, List, Result}
 use Rattle.std.specs.List.{FoldsTo}
 use Rattle.futures.specs.Task.{Keeps}
 use Rattle.futures.specs.Runs.{Within}
-use Rattle.futures_buffered_adaptors.specs.Buffer.{PollsStream, DrawsOne}
+use Rattle.futures_buffered_adaptors.specs.Buffer.{PollsStream, HasNoTurn, DrawsOne}
 use Rattle.futures_buffered_adaptors.specs.TryBuffer.{PushesOk, CanTryDraw, TryBufferGives}
 use Rattle.futures_buffered_adaptors.proofs.try_buffer.TryBuffer.fill.Given as goal
 
@@ -16,6 +16,7 @@ invariant-draws g l =
       room : queue.room l.self.queue ≡ queue.room l.fn.self.queue;
       again : CanTryDraw stream.can_poll stream.yields queue.is_fit queue.can_poll l.self;
       within : Within (TryBufferGives stream.yields queue.gives queue.count queue.yields l.fn.self) (TryBufferGives stream.yields queue.gives queue.count queue.yields l.self);
+      no_turn : HasNoTurn (PollsStream stream.yields) queue.count (queue.room l.fn.self.queue) l.fn.self → (l.self ≡ l.fn.self) × (l.cx ≡ l.fn.cx);
       kept : Keeps l.fn.cx l.cx;
     }
 

@@ -1,5 +1,5 @@
-use Rattle.std.proofs.Common.{IfOk, ◌≡◌, [], ◌∷◌, Some, None, inr, sym, refl}
-use Rattle.futures_buffered_adaptors.specs.Buffer.{PollsStream}
+use Rattle.std.proofs.Common.{IfOk, ◌≡◌, [], ◌∷◌, Some, None, inl, inr, sym, refl}
+use Rattle.futures_buffered_adaptors.specs.Buffer.{PollsStream, PollsWithTask}
 use Rattle.futures_buffered_adaptors.proofs.BufferLemmas.{as_before, call_of, some_pends, none_ends, none_is, queue_comes, queue_gave, queue_rest, queue_ended, polled_can, same_can, pending_covers, empty_covers}
 use Rattle.futures_buffered_adaptors.specs.TryBuffer.{PushesOk, TryBufferGives, TryItemGives}
 use Rattle.futures_buffered_adaptors.proofs.try_buffer.TryBufferStream.poll_next.Goals as goal
@@ -118,3 +118,44 @@ returns-clause-value g c =
     let empty = rw c.in-Ready-None.field-0-is at c.in-Ready-None.ensures.empty in
     c.in_default.ensures.within [] None (as_before (TryBufferGives stream.yields queue.gives queue.count queue.yields) _ _ was [] None
     (rw (none_is c.self.inside.stream (sym c.if-is_some.ensures)) (queue_ended stream.yields (TryItemGives queue.gives) queue.count queue.yields c.self.inside.queue empty.0)))
+
+pub returns-in-Pending-clause-leaves : goal.returns-in-Pending-clause-leaves
+returns-in-Pending-clause-leaves g c =
+    let stream = g.St.Stream in
+    let queue = g.Q.FutureQueue in
+    let was : c.fill.new.self ≡ record { stream = c.self.inside.stream; queue = c.self.inside.queue } = sym c.self.view_is in
+    let call = call_of (PollsStream stream.yields) queue.count (queue.room c.args.self.now.queue) (PushesOk queue.pushes) (PollsWithTask queue.polls queue.leaves c.fill.new.cx c.poll_output.new.cx) c.args.self.now c.fill.new.self c.self.inside.stream c.self.inside.queue c.poll_output.new.self c.poll_output.result _ was c.in_default.ensures.draws (c.poll_output.ensures.polled, c.poll_output.ensures.leaves)
+    (rw c.in-Pending.is refl) in
+    record { drawn = c.fill.new.cx; kept = c.fill.ensures.kept; not_polled = c.fill.ensures.no_turn; called = (call.0, inr call.1) }
+
+pub returns-in-Ready-Some-clause-leaves : goal.returns-in-Ready-Some-clause-leaves
+returns-in-Ready-Some-clause-leaves g c =
+    let stream = g.St.Stream in
+    let queue = g.Q.FutureQueue in
+    let was : c.fill.new.self ≡ record { stream = c.self.inside.stream; queue = c.self.inside.queue } = sym c.self.view_is in
+    let call = call_of (PollsStream stream.yields) queue.count (queue.room c.args.self.now.queue) (PushesOk queue.pushes) (PollsWithTask queue.polls queue.leaves c.fill.new.cx c.poll_output.new.cx) c.args.self.now c.fill.new.self c.self.inside.stream c.self.inside.queue c.poll_output.new.self c.poll_output.result _ was c.in_default.ensures.draws (c.poll_output.ensures.polled, c.poll_output.ensures.leaves)
+    (rw (c.in-Ready-Some.is, c.in-Ready-Some.field-0-is) refl) in
+    record { drawn = c.fill.new.cx; kept = c.fill.ensures.kept; not_polled = c.fill.ensures.no_turn; called = (call.0, inr call.1) }
+
+pub returns-then-is_some-clause-leaves : goal.returns-then-is_some-clause-leaves
+returns-then-is_some-clause-leaves g c =
+    let stream = g.St.Stream in
+    let queue = g.Q.FutureQueue in
+    let was : c.fill.new.self ≡ record { stream = c.self.inside.stream; queue = c.self.inside.queue } = sym c.self.view_is in
+    let call = call_of (PollsStream stream.yields) queue.count (queue.room c.args.self.now.queue) (PushesOk queue.pushes) (PollsWithTask queue.polls queue.leaves c.fill.new.cx c.poll_output.new.cx) c.args.self.now c.fill.new.self c.self.inside.stream c.self.inside.queue c.poll_output.new.self c.poll_output.result _ was c.in_default.ensures.draws (c.poll_output.ensures.polled, c.poll_output.ensures.leaves)
+    (rw (c.in-Ready-None.is, c.in-Ready-None.field-0-is) (some_pends c.self.inside.stream (sym c.if-is_some.ensures))) in
+    record { drawn = c.fill.new.cx; kept = c.fill.ensures.kept; not_polled = c.fill.ensures.no_turn; called = (call.0, inr call.1) }
+
+pub returns-clause-leaves : goal.returns-clause-leaves
+returns-clause-leaves g c =
+    let stream = g.St.Stream in
+    let queue = g.Q.FutureQueue in
+    let was : c.fill.new.self ≡ record { stream = c.self.inside.stream; queue = c.self.inside.queue } = sym c.self.view_is in
+    let call = call_of (PollsStream stream.yields) queue.count (queue.room c.args.self.now.queue) (PushesOk queue.pushes) (PollsWithTask queue.polls queue.leaves c.fill.new.cx c.poll_output.new.cx) c.args.self.now c.fill.new.self c.self.inside.stream c.self.inside.queue c.poll_output.new.self c.poll_output.result _ was c.in_default.ensures.draws (c.poll_output.ensures.polled, c.poll_output.ensures.leaves)
+    (rw (c.in-Ready-None.is, c.in-Ready-None.field-0-is) (none_ends c.self.inside.stream (sym c.if-is_some.ensures))) in
+    record { drawn = c.fill.new.cx; kept = c.fill.ensures.kept; not_polled = c.fill.ensures.no_turn; called = (call.0, inr call.1) }
+
+pub returns-in-Err-clause-leaves : goal.returns-in-Err-clause-leaves
+returns-in-Err-clause-leaves g c =
+    let error = c.in-Err.ensures.error in
+    record { drawn = c.fill.new.cx; kept = c.fill.ensures.kept; not_polled = c.fill.ensures.no_turn; called = (error.0, inl (c.in-Err.error, error.1, refl)) }

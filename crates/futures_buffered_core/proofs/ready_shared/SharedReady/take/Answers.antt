@@ -13,7 +13,7 @@ returns g c =
     let size : c.deref.result.now.list.capacity ≡ c.args.self.now.capacity = ap (λ w. w.list.capacity) c.deref.ensures ∙ (c.self.invariant.sized ∙ ap (λ (v : Shared). v.capacity) view) in
     let head : c.self.inside.poll.head ≡ c.args.self.now.head = ap (λ (v : Shared). v.head) view in
     let did = c.take_with.ensures.shape in
-    let place = stays _ _ _ _ _ c.take_with.ensures.calls in
+    let place = stays _ c.self.inside.poll.steps _ _ _ _ c.take_with.ensures.calls in
     let steps = did.1 ∙ ap (λ (v : Shared). v.taken ++ did.0) view in (
       subst (λ (n : ℕ). IsNameBelow n c.take_with.result) size (name_below _ _ c.take_with.ensures.named),
       (

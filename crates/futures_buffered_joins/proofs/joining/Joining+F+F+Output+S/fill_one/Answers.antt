@@ -13,3 +13,9 @@ returns-in-Ready-clause-filled g c =
 
 pub returns-in-Pending-clause-woken : goal.returns-in-Pending-clause-woken
 returns-in-Pending-clause-woken g c = rw (← c.self.view_is) c.in-Pending.ensures.woken
+
+pub returns-in-Pending-clause-leaves : goal.returns-in-Pending-clause-leaves
+returns-in-Pending-clause-leaves g c = rw (← c.self.view_is) c.in-Pending.ensures.leaves
+
+pub returns-in-Ready-clause-only_registered : goal.returns-in-Ready-clause-only_registered
+returns-in-Ready-clause-only_registered g c = rw (← c.self.view_is) c.in-Ready.ensures.only_registered

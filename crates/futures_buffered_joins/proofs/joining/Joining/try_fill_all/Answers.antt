@@ -1,5 +1,6 @@
-use Rattle.std.proofs.Common.{[], ◌∷◌, ◌++◌, Ok}
+use Rattle.std.proofs.Common.{[], ◌∷◌, ◌++◌, inl, inr, Ok}
 use Rattle.std.proofs.lemmas.Fn.{FoldsTo-push}
+use Rattle.futures_buffered_unordered_bounded.proofs.FuturesUnorderedBoundedLemmas.{registers_more, registers_once}
 use Rattle.futures_buffered_joins.specs.Joining.{Fills}
 use Rattle.futures_buffered_joins.proofs.joining.Joining.try_fill_all.Goals as goal
 
@@ -13,6 +14,7 @@ places-preserved g c =
       row = so.row ++ filled.0 ∷ [];
       filled = FoldsTo-push (Fills future.polled source.steps Ok) c.args.self.now so.row c.places.self filled.0 c.try_fill_one.new.self so.filled filled.1;
       held = rw c.in-Ready-Ok.field-0-is at c.in-Ready-Ok.ensures.goes_on;
+      only_registered = registers_more source.registers_poll _ _ _ so.only_registered (registers_once source.registers_poll _ _ c.places.self.set.source c.in-Ready-Ok.ensures.only_registered);
       kept = λ fact h. c.try_fill_one.ensures.kept fact (so.kept fact h);
     }
 
@@ -21,3 +23,22 @@ returns-in-Ready-Err-clause-fails g c = (c.places.invariant.row, c.places.self, 
 
 pub returns-in-Pending-clause-waits : goal.returns-in-Pending-clause-waits
 returns-in-Pending-clause-waits g c = (c.places.invariant.row, c.places.self, c.places.invariant.filled, c.in-Pending.ensures.waits)
+
+pub returns-in-Pending-clause-leaves : goal.returns-in-Pending-clause-leaves
+returns-in-Pending-clause-leaves g c =
+    let registers_poll = g.S.ReadySource.registers_poll in
+    let so = c.places.invariant in (
+      so.row,
+      c.places.self,
+      so.filled,
+      c.in-Pending.ensures.waits,
+      elim c.in-Pending.ensures.leaves [
+        | inl empty ↦ inl (empty.0, registers_more registers_poll _ _ _ so.only_registered (registers_once registers_poll _ _ c.places.self.set.source empty.1))
+        | inr part ↦ inr part
+      ],
+    )
+
+pub returns-in-Ready-Err-clause-only_registered : goal.returns-in-Ready-Err-clause-only_registered
+returns-in-Ready-Err-clause-only_registered g c =
+    let registers_poll = g.S.ReadySource.registers_poll in
+    registers_more registers_poll _ _ _ c.places.invariant.only_registered (registers_once registers_poll _ _ c.places.self.set.source c.in-Ready-Err.ensures.only_registered)

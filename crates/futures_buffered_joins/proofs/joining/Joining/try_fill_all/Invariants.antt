@@ -3,6 +3,7 @@ use Rattle.std.specs.List.{FoldsTo}
 use Rattle.futures.specs.Task.{Keeps}
 use Rattle.futures_buffered_core.specs.SlotMap.{held_count}
 use Rattle.futures_buffered_unordered_bounded.specs.Held.{AllHeld}
+use Rattle.futures_buffered_unordered_bounded.specs.FuturesUnorderedBounded.{OnlyRegisters}
 use Rattle.futures_buffered_joins.specs.Joining.{Fills}
 use Rattle.futures_buffered_joins.proofs.joining.Joining.try_fill_all.Given as goal
 
@@ -14,6 +15,7 @@ invariant-places g l =
       row : List (ℕ × g.row.T.Denot);
       filled : FoldsTo (Fills future.polled source.steps Ok) l.fn.self row l.self;
       held : AllHeld future.can_poll l.self.set.slots;
+      only_registered : OnlyRegisters source.registers_poll l.fn.cx l.cx;
       kept : Keeps l.fn.cx l.cx;
     }
 

@@ -24,3 +24,12 @@ returns-in-Ready-default-Ok-clause-filled g c =
 
 pub returns-in-Ready-default-Ok-clause-goes_on : goal.returns-in-Ready-default-Ok-clause-goes_on
 returns-in-Ready-default-Ok-clause-goes_on g c = grind (arith, common_steps)
+
+pub returns-in-Pending-clause-leaves : goal.returns-in-Pending-clause-leaves
+returns-in-Pending-clause-leaves g c = rw (← c.self.view_is) c.in-Pending.ensures.leaves
+
+pub returns-in-Ready-default-Ok-clause-only_registered : goal.returns-in-Ready-default-Ok-clause-only_registered
+returns-in-Ready-default-Ok-clause-only_registered g c = rw (← c.self.view_is) c.in-Ready-default-Ok.ensures.only_registered
+
+pub returns-in-Ready-default-Err-clause-only_registered : goal.returns-in-Ready-default-Err-clause-only_registered
+returns-in-Ready-default-Err-clause-only_registered g c = rw (← c.self.view_is) c.in-Ready-default-Err.ensures.only_registered

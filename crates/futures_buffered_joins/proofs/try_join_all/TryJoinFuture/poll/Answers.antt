@@ -44,3 +44,8 @@ returns-in-Pending-clause-same g c =
     let source = g.S.ReadySource in
     let is : c.args.self.now ≡ Some c.in-Some.joining = sym c.self.view_is ∙ (sym c.take.ensures.value ∙ c.in-Some.is) in
     rw is (pending_same future.polled source.steps (Some c.in-Some.joining) (Some c.try_fill_all.new.self) Pending c.in-Pending.ensures.waits)
+
+pub returns-in-Pending-clause-leaves : goal.returns-in-Pending-clause-leaves
+returns-in-Pending-clause-leaves g c =
+    let is : c.args.self.now ≡ Some c.in-Some.joining = sym c.self.view_is ∙ (sym c.take.ensures.value ∙ c.in-Some.is) in
+    rw is c.in-Pending.ensures.leaves

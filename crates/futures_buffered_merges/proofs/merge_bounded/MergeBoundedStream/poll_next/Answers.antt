@@ -9,3 +9,6 @@ returns-clause-rest g c = rw (← c.self.view_is) (rest_of g.St.SlotStream.polle
 
 pub returns-clause-same : goal.returns-clause-same
 returns-clause-same g c = rw (← c.self.view_is) (same_of g.St.SlotStream.polled g.S.ReadySource.steps g.S.ReadySource.marks _ _ _ c.poll_streams.ensures.polled)
+
+pub returns-clause-leaves : goal.returns-clause-leaves
+returns-clause-leaves g c = rw (← c.self.view_is) c.poll_streams.ensures.leaves

@@ -1,7 +1,7 @@
 use Rattle.std.proofs.Common.{◌≡◌, ◌+◌, ℕ, List, length, false}
 use Rattle.std.specs.List.{FoldsTo}
 use Rattle.futures.specs.Task.{Keeps}
-use Rattle.futures_buffered_ordered.specs.OrderedEntries.{SetYields, starts_running}
+use Rattle.futures_buffered_ordered.specs.OrderedEntries.{GivesWithTask, SetYields, starts_running, with_task}
 use Rattle.futures_buffered_ordered.specs.OrderedEntriesInvariant.{IsNumbered}
 use Rattle.futures_buffered_ordered.proofs.ordered_entries.OrderedEntries.poll_entries.Given as goal
 
@@ -10,7 +10,7 @@ invariant-loop-self g l =
     let set = g.Q.NumberedSet in
     let polls = g.Q.PollNumberedSet in
     record {
-      row : (yielded : List (ℕ × g.row.A.Denot)) × FoldsTo (SetYields polls.gives) l.fn.self.queue yielded l.self.queue
+      row : (yielded : List (ℕ × g.row.A.Denot)) × FoldsTo (SetYields (GivesWithTask polls.gives polls.leaves)) (with_task l.fn.self.queue l.fn.cx) yielded (with_task l.self.queue l.cx)
           × (length yielded + set.count l.self.queue.set ≡ set.count l.fn.self.queue.set);
       pollable : polls.can_poll l.self.queue.set;
       keeps : set.keeps l.fn.self.queue.set l.self.queue.set;

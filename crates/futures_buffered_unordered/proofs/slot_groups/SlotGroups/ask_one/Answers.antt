@@ -4,8 +4,9 @@ use Rattle.std.proofs.lemmas.List.Elements.{All-set}
 use Rattle.futures.specs.Poll.{OnPending}
 use Rattle.futures.specs.Task.{Covers}
 use Rattle.futures_buffered_unordered_bounded.specs.Held.{AllHeld}
-use Rattle.futures_buffered_unordered_bounded.specs.FuturesUnorderedBounded.{Bounded}
+use Rattle.futures_buffered_unordered_bounded.specs.FuturesUnorderedBounded.{Bounded, OnlyRegisters}
 use Rattle.futures_buffered_unordered_bounded.specs.GroupsStep.{next_place}
+use Rattle.futures_buffered_unordered_bounded.proofs.GroupsTaskLemmas.{one_leaves}
 use Rattle.futures_buffered_unordered_bounded.proofs.GroupsStepLemmas.{one_some, one_pending, one_last, one_left, All-removed}
 use Rattle.futures_buffered_unordered.specs.SlotGroups.{Growing, EachHeld, EachCovered}
 use Rattle.futures_buffered_unordered.proofs.SlotGroupsInvariantLemmas.{keeps_pending, keeps_output, keeps_ended_last, keeps_ended, covered_asked, still_asked, covered_at, counts_asked}
@@ -123,3 +124,31 @@ overflow_sub-self g c = grind (arith, common_steps)
 
 pub overflow_sub-self-2 : goal.overflow_sub-self-2
 overflow_sub-self-2 g c = grind (arith, common_steps)
+
+pub returns-in-Pending-clause-leaves : goal.returns-in-Pending-clause-leaves
+returns-in-Pending-clause-leaves g c =
+    let rule = g.R.AskGroup in
+    let here = subst (λ (v : Growing g.row.F.Denot g.row.S.Denot). c.next_place-place.result ≡ next_place v.groups) (sym c.self.view_is) c.next_place-place.ensures.value in
+    let within = subst (λ (v : Growing g.row.F.Denot g.row.S.Denot). c.next_place-place.result < length v.groups.listed) (sym c.self.view_is) c.next_place-place.ensures.below in
+    rw (← c.self.view_is) (one_leaves rule.asks rule.asks_to_empty rule.stops (OnlyRegisters g.S.ReadySource.registers_poll) _ _ _ _ _ _ _ (λ asks_now asked. one_pending asks_now _ _ _ _ _ c.in-Pending.is here within c.index_mut.ensures.value asked) c.ask-answer.ensures.asked c.ask-answer.ensures.leaves)
+
+pub returns-then-is_some-clause-leaves : goal.returns-then-is_some-clause-leaves
+returns-then-is_some-clause-leaves g c =
+    let rule = g.R.AskGroup in
+    let here = subst (λ (v : Growing g.row.F.Denot g.row.S.Denot). c.next_place-place.result ≡ next_place v.groups) (sym c.self.view_is) c.next_place-place.ensures.value in
+    let within = subst (λ (v : Growing g.row.F.Denot g.row.S.Denot). c.next_place-place.result < length v.groups.listed) (sym c.self.view_is) c.next_place-place.ensures.below in
+    rw (← c.self.view_is) (one_leaves rule.asks rule.asks_to_empty rule.stops (OnlyRegisters g.S.ReadySource.registers_poll) _ _ _ _ _ _ _ (λ asks_now asked. one_some asks_now _ _ _ _ _ _ c.in-Ready.is (search rules) here within c.index_mut.ensures.value asked) c.ask-answer.ensures.asked c.ask-answer.ensures.leaves)
+
+pub returns-then-place-len-clause-leaves : goal.returns-then-place-len-clause-leaves
+returns-then-place-len-clause-leaves g c =
+    let rule = g.R.AskGroup in
+    let here = subst (λ (v : Growing g.row.F.Denot g.row.S.Denot). c.next_place-place.result ≡ next_place v.groups) (sym c.self.view_is) c.next_place-place.ensures.value in
+    let within = subst (λ (v : Growing g.row.F.Denot g.row.S.Denot). c.next_place-place.result < length v.groups.listed) (sym c.self.view_is) c.next_place-place.ensures.below in
+    rw (← c.self.view_is) (one_leaves rule.asks rule.asks_to_empty rule.stops (OnlyRegisters g.S.ReadySource.registers_poll) _ _ _ _ _ _ _ (λ asks_now asked. one_last asks_now _ _ _ _ _ _ c.in-Ready.is (search rules) here within (search rules) c.index_mut.ensures.value asked) c.ask-answer.ensures.asked c.ask-answer.ensures.leaves)
+
+pub returns-else-place-len-clause-leaves : goal.returns-else-place-len-clause-leaves
+returns-else-place-len-clause-leaves g c =
+    let rule = g.R.AskGroup in
+    let here = subst (λ (v : Growing g.row.F.Denot g.row.S.Denot). c.next_place-place.result ≡ next_place v.groups) (sym c.self.view_is) c.next_place-place.ensures.value in
+    let within = subst (λ (v : Growing g.row.F.Denot g.row.S.Denot). c.next_place-place.result < length v.groups.listed) (sym c.self.view_is) c.next_place-place.ensures.below in
+    rw (← c.self.view_is) (one_leaves rule.asks rule.asks_to_empty rule.stops (OnlyRegisters g.S.ReadySource.registers_poll) _ _ _ _ _ _ _ (λ asks_now asked. one_left asks_now _ _ _ _ _ _ _ c.in-Ready.is (search rules) here within (search rules) c.index_mut.ensures.value asked c.remove-ended.ensures.by_index.2) c.ask-answer.ensures.asked c.ask-answer.ensures.leaves)

@@ -1,5 +1,8 @@
 use Rattle.std.proofs.Common.{true, false, is_some, arith, subst, ap, sym, refl, length, ◌≤◌, ◌∙◌, true≢false}
 use Rattle.futures_buffered_unordered_bounded.proofs.GroupsPollLemmas.{so_far_some, so_far_none, so_far_none_left, so_far_pending, so_far_some_left, so_far_end, SoFar}
+use Rattle.futures_buffered_unordered_bounded.specs.FuturesUnorderedBounded.{OnlyRegisters}
+use Rattle.futures_buffered_unordered_bounded.proofs.FuturesUnorderedBoundedLemmas.{registers_more, registers_none}
+use Rattle.futures_buffered_unordered_bounded.proofs.GroupsTaskLemmas.{LeftSoFar, left_end, left_ended, left_none, left_output, left_pending}
 use Rattle.futures_buffered_unordered.specs.SlotGroups.{Growing}
 use Rattle.futures_buffered_unordered.proofs.slot_groups.SlotGroups.poll_groups.Goals.{in-Pending, in-Ready+in_default}
 use Rattle.futures_buffered_unordered.proofs.slot_groups.SlotGroups.poll_groups.Goals as goal
@@ -28,6 +31,7 @@ loop-asked-init g c =
       limit = refl;
       covered = λ e. absurd (true≢false (sym e));
       passes = λ e. g.met.R.AskGroup.passes_none _;
+      leaves = left_none asks g.R.AskGroup.asks_to_empty g.R.AskGroup.stops (OnlyRegisters g.S.ReadySource.registers_poll) c.args.self.now.groups c.args.cx.now within (registers_none g.S.ReadySource.registers_poll _ _ refl);
       kept = λ fact h. h;
     }
 
@@ -51,7 +55,10 @@ returns-in-Some-clause-polled g c =
 
 pub loop-asked-preserved : goal.loop-asked-preserved
 loop-asked-preserved g c =
-    let asks = g.R.AskGroup.asks in
+    let rule = g.R.AskGroup in
+    let asks = rule.asks in
+    let registers = OnlyRegisters g.S.ReadySource.registers_poll in
+    let more = registers_more g.S.ReadySource.registers_poll in
     let long = ap (λ (v : Growing g.row.F.Denot g.row.S.Denot). length v.groups.listed) c.self.view_is in
     elim c.match-ask_one.branch [
       | in-Pending w ↦ rw w.is_registered-is (record {
@@ -60,6 +67,7 @@ loop-asked-preserved g c =
         limit = c.ask_one.ensures.limit ∙ c.loop-asked.invariant.limit;
         covered = λ e. w.in-Pending.ensures.covered;
         passes = λ e. absurd (true≢false e);
+        leaves = left_pending asks rule.asks_to_empty rule.stops registers c.args.self.now.groups c.loop-asked._asked c.loop-asked.is_registered c.loop-asked.self.groups _ _ _ _ (more _ _ _) c.ask_one.ensures.kept c.loop-asked.invariant.so_far c.loop-asked.invariant.leaves (omega (arith, long)) w.in-Pending.ensures.asked w.in-Pending.ensures.leaves;
         kept = λ fact h. c.ask_one.ensures.kept fact (c.loop-asked.invariant.kept fact h);
       })
       | in-Ready+in_default w ↦ rw w.is_registered-is (record {
@@ -68,6 +76,7 @@ loop-asked-preserved g c =
         limit = c.ask_one.ensures.limit ∙ c.loop-asked.invariant.limit;
         covered = λ e. c.ask_one.ensures.still_covered e;
         passes = λ e. g.met.R.AskGroup.passes_more _ _ _ (c.loop-asked.invariant.passes e) (rw w.in_default.is at w.in-Ready.ensures.passes);
+        leaves = left_ended asks rule.asks_to_empty rule.stops registers c.args.self.now.groups c.loop-asked._asked c.loop-asked.is_registered c.loop-asked.self.groups _ _ _ _ _ (ap is_some w.in_default.is) (more _ _ _) c.ask_one.ensures.kept c.loop-asked.invariant.so_far c.loop-asked.invariant.leaves (omega (arith, long)) w.in-Ready.ensures.asked w.in-Ready.ensures.leaves;
         kept = λ fact h. c.ask_one.ensures.kept fact (c.loop-asked.invariant.kept fact h);
       })
     ]
@@ -75,3 +84,23 @@ loop-asked-preserved g c =
 pub returns-then-is_registered-clause-covered : goal.returns-then-is_registered-clause-covered
 returns-then-is_registered-clause-covered g c =
     c.loop-asked.invariant.covered c.if-is_registered.true
+
+pub returns-in-Some-clause-leaves : goal.returns-in-Some-clause-leaves
+returns-in-Some-clause-leaves g c =
+    let rule = g.R.AskGroup in
+    let long = ap (λ (v : Growing g.row.F.Denot g.row.S.Denot). length v.groups.listed) c.self.view_is in
+    left_output rule.asks rule.asks_to_empty rule.stops (OnlyRegisters g.S.ReadySource.registers_poll) c.args.self.now.groups c.loop-asked._asked c.loop-asked.is_registered c.loop-asked.self.groups _ _ _ _ (registers_more g.S.ReadySource.registers_poll _ _ _) c.ask_one.ensures.kept _ _ c.in-Some.is c.loop-asked.invariant.leaves (omega (arith, long)) c.in-Ready.ensures.asked c.in-Ready.ensures.leaves
+
+pub returns-then-is_registered-clause-leaves : goal.returns-then-is_registered-clause-leaves
+returns-then-is_registered-clause-leaves g c =
+    let rule = g.R.AskGroup in
+    let registers = OnlyRegisters g.S.ReadySource.registers_poll in
+    let long = ap (λ (v : Growing g.row.F.Denot g.row.S.Denot). length v.groups.listed) c.self.view_is in
+    left_end rule.asks rule.asks_to_empty rule.stops registers c.args.self.now.groups c.loop-asked._asked true c.loop-asked.self.groups _ _ (subst (λ b. LeftSoFar rule.asks rule.asks_to_empty rule.stops registers c.args.self.now.groups c.loop-asked._asked b c.loop-asked.self.groups c.args.cx.now c.loop-asked.cx) c.if-is_registered.true c.loop-asked.invariant.leaves) (omega (arith, long))
+
+pub returns-else-is_registered-clause-leaves : goal.returns-else-is_registered-clause-leaves
+returns-else-is_registered-clause-leaves g c =
+    let rule = g.R.AskGroup in
+    let registers = OnlyRegisters g.S.ReadySource.registers_poll in
+    let long = ap (λ (v : Growing g.row.F.Denot g.row.S.Denot). length v.groups.listed) c.self.view_is in
+    left_end rule.asks rule.asks_to_empty rule.stops registers c.args.self.now.groups c.loop-asked._asked false c.loop-asked.self.groups _ _ (subst (λ b. LeftSoFar rule.asks rule.asks_to_empty rule.stops registers c.args.self.now.groups c.loop-asked._asked b c.loop-asked.self.groups c.args.cx.now c.loop-asked.cx) c.if-is_registered.false c.loop-asked.invariant.leaves) (omega (arith, long))

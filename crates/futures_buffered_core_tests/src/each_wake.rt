@@ -1,0 +1,287 @@
+// Two threads make a wake each in one round after another, and the next round begins once both slots are named. So no later wake stands in for one that was lost: whoever takes is woken, or the test fails.
+use crate::same::assert_same;
+use futures_buffered_core::ready_core::Taken;
+use futures_buffered_core::ready_shared::{OuterWaker, SharedReady, SharedWaker};
+use futures_buffered_core::ready_source::SlotWaker;
+use std::alloc::{AllocError, Global};
+use std::sync::Arc;
+use std::sync::atomic::AtomicU64;
+use std::sync::atomic::Ordering::SeqCst;
+use std::test::Fail;
+use std::thread::{self, JoinHandle, Threads, yield_now};
+use std::time::{Clock, Instant};
+
+// How long the threads wake.
+const MILLISECONDS: u128 = 3_000;
+
+// After so many turns of a wait each further one lets other threads run.
+const BUSY_TURNS: u64 = 5_000;
+
+// How many wakes of a slot have ended, and how often the slot was named.
+#[derive(Drop)]
+struct Seat {
+    ended: AtomicU64,
+    named: AtomicU64,
+}
+
+// A seat for each of two slots, the round in which the threads wake, whether the outer waker was woken, and whether the threads have to stop.
+#[derive(Drop)]
+struct Shared {
+    first: Seat,
+    second: Seat,
+    round: AtomicU64,
+    is_woken: AtomicU64,
+    stops: AtomicU64,
+}
+
+fn new_seat() -> Seat {
+    Seat {
+        ended: AtomicU64::new(0),
+        named: AtomicU64::new(0),
+    }
+}
+
+fn new_shared(alloc: Global) -> Result<Arc<Shared>, AllocError> {
+    let shared = Shared {
+        first: new_seat(),
+        second: new_seat(),
+        round: AtomicU64::new(0),
+        is_woken: AtomicU64::new(0),
+        stops: AtomicU64::new(0),
+    };
+    Ok(Arc::new(alloc, shared)?)
+}
+
+impl Shared {
+    fn seat(&self, slot: usize) -> &Seat {
+        if slot == 0 { &self.first } else { &self.second }
+    }
+
+    // Whether the wake of this round has ended, of each slot.
+    fn has_ended(&self, round: u64) -> bool {
+        self.first.ended.load(SeqCst) == round && self.second.ended.load(SeqCst) == round
+    }
+
+    // Whether each slot was named as often as there were rounds.
+    fn is_named(&self, round: u64) -> bool {
+        self.first.named.load(SeqCst) == round && self.second.named.load(SeqCst) == round
+    }
+}
+
+// Says that it was woken.
+#[derive(Drop)]
+struct Says {
+    shared: Arc<Shared>,
+}
+
+impl OuterWaker for Says {
+    fn wake_outer(self) {
+        self.shared.is_woken.store(1, SeqCst);
+    }
+}
+
+// Waits for a round to begin: whether it does before the threads have to stop.
+fn begins(shared: &Shared, round: u64) -> bool {
+    for turn in 0..u64::MAX {
+        if shared.round.load(SeqCst) == round {
+            return true;
+        }
+        if shared.stops.load(SeqCst) != 0 {
+            return false;
+        }
+        if turn > BUSY_TURNS {
+            yield_now();
+        }
+    }
+    false
+}
+
+// Lets a while pass that differs from round to round, and between the threads.
+fn pause(shared: &Shared, slot: usize, round: u64) {
+    let turns = if slot == 0 { round % 29 } else { round % 31 };
+    for _ in 0..turns {
+        let _ = shared.stops.load(SeqCst);
+    }
+}
+
+// Makes one wake in each round.
+fn wake_often(shared: &Shared, slot: usize, waker: &SharedWaker<Says>) {
+    let seat = shared.seat(slot);
+    for round in 1..u64::MAX {
+        if !begins(shared, round) {
+            return;
+        }
+        pause(shared, slot, round);
+        waker.wake();
+        seat.ended.store(round, SeqCst);
+    }
+}
+
+fn waker_of(source: &SharedReady<Says>, slot: usize) -> Result<SharedWaker<Says>, Fail> {
+    if slot < source.capacity() {
+        Ok(source.waker(slot).try_clone()?)
+    } else {
+        Err("no such slot".into())
+    }
+}
+
+// A thread that finds no room is let go here, so that a caller's `?` has none to drop.
+fn keep(started: &mut Vec<JoinHandle<()>>, thread: JoinHandle<()>) -> Result<(), AllocError> {
+    started.push(thread)?;
+    Ok(())
+}
+
+fn start_one<R: Threads>(
+    rt: &R,
+    source: &SharedReady<Says>,
+    shared: &Arc<Shared>,
+    slot: usize,
+) -> Result<JoinHandle<()>, Fail> {
+    let waker = waker_of(source, slot)?;
+    let shared = Arc::try_clone(shared)?;
+    Ok(thread::spawn(rt, move || { wake_often(&shared, slot, &waker) })?)
+}
+
+fn start_next<R: Threads>(
+    rt: &R,
+    source: &SharedReady<Says>,
+    shared: &Arc<Shared>,
+    slot: usize,
+    started: &mut Vec<JoinHandle<()>>,
+) -> Result<(), Fail> {
+    let thread = start_one(rt, source, shared, slot)?;
+    Ok(keep(started, thread)?)
+}
+
+fn start_both<R: Threads>(
+    rt: &R,
+    source: &SharedReady<Says>,
+    shared: &Arc<Shared>,
+    started: &mut Vec<JoinHandle<()>>,
+) -> Result<(), Fail> {
+    start_next(rt, source, shared, 0, started)?;
+    start_next(rt, source, shared, 1, started)
+}
+
+fn join_all<R: Threads>(rt: &R, started: Vec<JoinHandle<()>>) {
+    for thread in started {
+        thread.join(rt);
+    }
+}
+
+// Takes until no slot is marked.
+fn take_all(source: &mut SharedReady<Says>, shared: &Shared) {
+    for _ in 0..u64::MAX {
+        match source.take() {
+            Taken::Slot(slot) => {
+                shared.seat(slot).named.fetch_add(1, SeqCst);
+            }
+            Taken::Empty => return,
+            Taken::Pause => {}
+        }
+    }
+}
+
+// Waits until the outer waker is woken: whether it is. Once the wakes of this round have ended, it has to be.
+fn is_woken(shared: &Shared, round: u64) -> bool {
+    for turn in 0..u64::MAX {
+        let has_ended = shared.has_ended(round);
+        if has_ended || shared.is_woken.load(SeqCst) != 0 {
+            return shared.is_woken.load(SeqCst) != 0;
+        }
+        if turn > BUSY_TURNS {
+            yield_now();
+        }
+    }
+    false
+}
+
+fn put_in(source: &mut SharedReady<Says>, shared: &Arc<Shared>) -> Result<(), AllocError> {
+    let shared = Arc::try_clone(shared)?;
+    source.set_outer(Says { shared });
+    Ok(())
+}
+
+fn is_over<C: Clock>(clock: &C, start: &Instant) -> bool {
+    match start.elapsed(clock) {
+        Ok(time) => time.as_millis() >= MILLISECONDS,
+        Err(_) => true,
+    }
+}
+
+// Puts an outer waker in and takes all, whenever the one before was woken, until both slots are named: whether each was woken.
+fn answer_round(
+    source: &mut SharedReady<Says>,
+    shared: &Arc<Shared>,
+    round: u64,
+) -> Result<bool, AllocError> {
+    for _ in 0..u64::MAX {
+        if !is_woken(shared, round) {
+            return Ok(false);
+        }
+        shared.is_woken.store(0, SeqCst);
+        put_in(source, shared)?;
+        take_all(source, shared);
+        if shared.is_named(round) {
+            return Ok(true);
+        }
+    }
+    Ok(true)
+}
+
+// Has both threads wake in round after round until the time is over: whether each wake was answered.
+fn answer_all<C: Clock>(
+    clock: &C,
+    start: &Instant,
+    source: &mut SharedReady<Says>,
+    shared: &Arc<Shared>,
+) -> Result<bool, AllocError> {
+    put_in(source, shared)?;
+    for round in 1..u64::MAX {
+        shared.round.store(round, SeqCst);
+        if !answer_round(source, shared, round)? {
+            return Ok(false);
+        }
+        if round % 256 == 0 && is_over(clock, start) {
+            return Ok(true);
+        }
+    }
+    Ok(true)
+}
+
+fn start_and_answer<R: Threads + Clock>(
+    rt: &R,
+    source: &mut SharedReady<Says>,
+    shared: &Arc<Shared>,
+    started: &mut Vec<JoinHandle<()>>,
+) -> Result<bool, Fail> {
+    start_both(rt, source, shared, started)?;
+    let start = Instant::now(rt)?;
+    Ok(answer_all(rt, &start, source, shared)?)
+}
+
+// The same, and each thread that was started has ended.
+fn answer_and_join<R: Threads + Clock>(
+    rt: &R,
+    alloc: Global,
+    source: &mut SharedReady<Says>,
+    shared: &Arc<Shared>,
+) -> Result<bool, Fail> {
+    let mut started = Vec::new(alloc);
+    let answered = start_and_answer(rt, source, shared, &mut started);
+    shared.stops.store(1, SeqCst);
+    join_all(rt, started);
+    answered
+}
+
+fn is_each_answered<R: Threads + Clock>(rt: &R, alloc: Global) -> Result<bool, Fail> {
+    let mut source = SharedReady::new(alloc, 2)?;
+    let shared = new_shared(alloc)?;
+    answer_and_join(rt, alloc, &mut source, &shared)
+}
+
+#[test]
+fn each_wake_of_two_threads_is_answered(rt: HostRuntime) -> Result<(), Fail> {
+    assert_same(&rt, is_each_answered(&rt, rt.alloc())?, true);
+    Ok(())
+}

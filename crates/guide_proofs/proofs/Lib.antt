@@ -1,0 +1,2 @@
+mod StreamLemmas
+mod DoublingLemmas
