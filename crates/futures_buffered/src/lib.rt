@@ -37,6 +37,11 @@ pub use futures_buffered_core::slot_map::PinSlotMap;
 pub use futures_buffered_core::{
     core_source, ready_core, ready_shared, ready_source, ready_table, script_source, slot_map,
 };
+pub use futures_buffered_driven::{
+    Driven, Foreign, ForeignMerge, ForeignQueue, ForeignSet, ForeignStream, GrowingForeignMerge,
+    GrowingForeignQueue, GrowingForeignSet, driven, foreign, foreign_set, foreign_sets,
+    foreign_stream, seat,
+};
 pub use futures_buffered_sets::{
     FusedFuture, FusedStream, FuturesOrdered, FuturesOrderedBounded, FuturesUnordered,
     FuturesUnorderedBounded, JoinAll, Merge, MergeBounded, MergeUnbounded, NamesSlot, PollFuture,

@@ -3,6 +3,8 @@
 
 mod clock;
 mod growing;
+mod kit;
+mod one_shots;
 mod ordered;
 mod ready_list;
 mod sets;
@@ -11,6 +13,8 @@ mod sources;
 use clock::{Workload, least};
 use futures_buffered_core::ready_core::NewFault;
 use growing::LastWoken;
+use kit::{KitRefilled, KitWoken};
+use one_shots::{DrivenSet, KitSet, OneShots};
 use ordered::{Bounded, Buffered, Drained, Growing, InTurn, Overtaken};
 use ready_list::{Already, Fresh, Listed};
 use sets::{Refilled, Woken};
@@ -108,6 +112,74 @@ where
             "set: a wake and a pending poll, held",
             slots,
             waits,
+        )?;
+    }
+    Ok(())
+}
+
+fn kit_lines<R, O>(rt: &R, output: &mut O) -> io::Result<()>
+where
+    R: Clock + RandomSource + AllocGlobal,
+    O: io::Write,
+{
+    let ready = KitRefilled::new(rt.alloc(), 256, 0)?;
+    timed(
+        rt,
+        output,
+        "kit set: a ready future, replaced, held",
+        256,
+        Ok(ready),
+    )?;
+    let yields = KitRefilled::new(rt.alloc(), 256, 1)?;
+    timed(
+        rt,
+        output,
+        "kit set: a future that wakes itself once, replaced, held",
+        256,
+        Ok(yields),
+    )?;
+    let random = KitWoken::new(rt.alloc(), 256, true)?;
+    timed(
+        rt,
+        output,
+        "kit set: a random wake, its output, replaced, held",
+        256,
+        Ok(random),
+    )?;
+    let waits = KitWoken::new(rt.alloc(), 256, false)?;
+    timed(
+        rt,
+        output,
+        "kit set: a wake and a pending poll, held",
+        256,
+        Ok(waits),
+    )
+}
+
+fn one_shot_lines<R, O>(rt: &R, output: &mut O) -> io::Result<()>
+where
+    R: Clock + RandomSource + AllocGlobal,
+    O: io::Write,
+{
+    for slots in [16_usize, 256, 4_096] {
+        let kit = OneShots::new(rt.alloc(), KitSet::new(rt.alloc())?, slots)?;
+        timed(
+            rt,
+            output,
+            "kit set: a one-shot of the kit, held",
+            slots,
+            Ok(kit),
+        )?;
+        let Ok(set) = DrivenSet::new(rt.alloc(), slots) else {
+            return Ok(());
+        };
+        let driven = OneShots::new(rt.alloc(), set, slots)?;
+        timed(
+            rt,
+            output,
+            "driven set: a one-shot of the kit, held",
+            slots,
+            Ok(driven),
         )?;
     }
     Ok(())
@@ -223,6 +295,8 @@ fn main(rt: HostRuntime) -> io::Result<()> {
     }
     list_lines(&rt, &mut output)?;
     set_lines(&rt, &mut output)?;
+    kit_lines(&rt, &mut output)?;
+    one_shot_lines(&rt, &mut output)?;
     growing_lines(&rt, &mut output)?;
     bounded_queue_lines(&rt, &mut output)?;
     growing_queue_lines(&rt, &mut output)?;

@@ -4,6 +4,7 @@
 mod adaptors;
 mod checked;
 mod countdown;
+mod foreign;
 mod joins;
 mod merges;
 mod numbers;
@@ -28,6 +29,9 @@ fn main(rt: HostRuntime) -> Result<(), anyhow::Error> {
     adaptors::in_any_order_up_to_an_error(&rt)?;
     adaptors::of_an_iterator(&rt)?;
     adaptors::for_each(&rt)?;
+    foreign::one_receiver(&rt)?;
+    foreign::two_at_a_time(&rt)?;
+    foreign::two_channels(&rt)?;
     sources::one_caller(&rt)?;
     sources::listed_names(&rt)?;
     sources::marks_and_takings(&rt)?;

@@ -1,0 +1,93 @@
+//! What polls the futures of sources beside one another.
+ghost use Rattle.std.specs.Prelude.{◌<◌, IfSome, vec_len};
+ghost use Rattle.futures.specs.Task.{Covers, Keeps};
+ghost use Rattle.futures_buffered_table.specs.Answer.{RefusesTooLarge};
+
+use crate::desk::{Desk, Finished};
+use crate::held::Held;
+use crate::running::Running;
+use crate::seat::Ticket;
+use futures::Future;
+use futures::task::Context;
+use futures_buffered_core::ready_core::NewFault;
+use std::alloc::{AllocError, Global};
+
+/// The futures of all sources beside one another, and a desk of each source for what they gave. So one registration polls the futures of all.
+#[derive(Drop)]
+pub(crate) struct Driver<F: Future<Output: Drop>> {
+    running: Running<F>,
+    desks: Vec<Desk<F>>,
+    // How many sources there were. No two have one number.
+    sources: u64,
+}
+
+impl<F: Future<Output: Drop>> Driver<F> {
+    pub(crate) fn new(alloc: Global) -> Result<Driver<F>, AllocError> {
+        let running = Running::new(alloc)?;
+        Ok(Driver {
+            running,
+            desks: Vec::new(alloc),
+            sources: 0,
+        })
+    }
+
+    /// A desk for one source more. Its number.
+    pub(crate) fn add_source(&mut self, alloc: Global, cap: usize) -> Result<u64, NewFault>
+        ensures { RefusesTooLarge cap result }
+    {
+        let source = self.sources;
+        let desk = Desk::new(alloc, source, cap)?;
+        if self.desks.push(desk).is_err() {
+            return Err(NewFault::Memory);
+        }
+        self.sources = source.wrapping_add(1);
+        Ok(source)
+    }
+
+    fn place_of(&self, source: u64) -> Option<usize>
+        ensures { IfSome result (λ place. place < vec_len self.now.desks) }
+    {
+        self.desks.iter().position(|desk| desk.is_of(source))
+    }
+
+    /// The desk of this source.
+    pub(crate) fn desk(&mut self, source: u64) -> Option<&mut Desk<F>> {
+        let place = self.place_of(source)?;
+        self.desks.get_mut(place)
+    }
+
+    /// Takes the desk of a source that is dropped. What its futures give from now on is let go.
+    pub(crate) fn remove_source(&mut self, source: u64) -> Option<Desk<F>> {
+        let place = self.place_of(source)?;
+        Some(self.desks.swap_remove(place))
+    }
+
+    /// Takes a future over, or hands it back where memory lacks. It is polled at the next drive.
+    pub(crate) fn start(&mut self, ticket: Ticket, future: Held<F>) -> Result<(), Held<F>> {
+        self.running.push(ticket, future)?;
+        if let Some(desk) = self.desk(ticket.source) {
+            desk.expect(ticket);
+        }
+        Ok(())
+    }
+
+    fn leave(&mut self, finished: Finished<F>) {
+        if let Some(desk) = self.desk(finished.ticket.source) {
+            desk.leave(finished);
+        }
+    }
+
+    /// Polls the futures that were woken, each once at most, and leaves what they gave on the desks.
+    pub(crate) fn drive(&mut self, cx: &mut Context<'_>)
+        ensures covered { Covers cx.new (λ _. ⊥) }
+        ensures kept { Keeps cx.old cx.new }
+    {
+        for _count in 0..self.running.len() {
+            let Some(finished) = self.running.poll_one(cx) else {
+                return;
+            };
+            self.leave(finished);
+        }
+        self.running.rest(cx);
+    }
+}

@@ -1,0 +1,31 @@
+//! Tests of the source that has futures of the kit polled, by public calls alone. No crate stands on this one.
+//!
+//! - `receivers`: receivers that count their polls, and their senders.
+//! - `sets`: which futures are polled, when the task is woken, and what a dropped set lets go.
+//! - `groups`: growing sets, queues and merges over sources beside one another.
+//! - `drops`: what a source that leaves lets go.
+//! - `merges`: merges of channels, and of lists.
+//! - `turns`: outputs of a slot that holds another future by now.
+//! - `queues`: outputs in the order of pushes, joins, and a buffer.
+//! - `threads`: futures that are completed from threads.
+//! - `same`: assertions as calls.
+#![tactic(auto)]
+
+#[cfg(test)]
+mod drops;
+#[cfg(test)]
+mod groups;
+#[cfg(test)]
+mod merges;
+#[cfg(test)]
+mod queues;
+#[cfg(test)]
+mod receivers;
+#[cfg(test)]
+mod same;
+#[cfg(test)]
+mod sets;
+#[cfg(test)]
+mod threads;
+#[cfg(test)]
+mod turns;
