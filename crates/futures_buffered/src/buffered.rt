@@ -5,16 +5,18 @@ ghost use Rattle.futures_buffered_unordered_bounded.specs.FuturesUnorderedBounde
 ghost use Rattle.std.specs.Prelude.{◌<◌, IfOk};
 ghost use Rattle.futures_buffered_core.specs.Answer.{RefusesTooLarge};
 ghost use Rattle.futures_buffered_core.specs.ReadyShared.{IsNewShared};
+ghost use Rattle.futures_buffered_driven.specs.Driven.{IsNewDriven};
 ghost use Rattle.futures_buffered_adaptors.specs.Buffer.{IsNewBuffer};
 ghost use Rattle.futures_buffered_ordered.specs.FuturesOrderedBounded.{IsNewBoundedQueue};
 ghost use Rattle.futures_buffered_adaptors.specs.ForEachConcurrent.{IsNewForEach};
 
-use futures::Stream;
+use futures::{Future, Stream};
 pub use futures_buffered_adaptors::buffer_unordered::BufferUnordered;
 pub use futures_buffered_adaptors::buffered_ordered::BufferedOrdered;
 pub use futures_buffered_adaptors::for_each_concurrent::ForEachConcurrent;
 use futures_buffered_core::ready_core::NewFault;
 use futures_buffered_core::ready_shared::{SharedReady, SharedWaker};
+use futures_buffered_driven::{Driven, Foreigns};
 use futures_buffered_unordered_bounded::SlotFuture;
 use futures_buffered_unordered_bounded::futures_unordered_bounded::POLL_LIMIT;
 use std::alloc::Global;
@@ -58,6 +60,44 @@ pub trait BufferedStreamExt: Stream {
         ensures refuses { RefusesTooLarge n result }
     {
         BufferUnordered::over(&(), alloc, self, n)
+    }
+
+    /// As `buffered_ordered`, of a stream of futures of the kit. These are polled with the task's own context.
+    ///
+    /// Takes time and memory in proportion to `n`. Where it is refused, so is `buffered_ordered`.
+    final fn foreign_buffered_ordered(
+        self,
+        alloc: Global,
+        n: usize,
+    ) -> Result<BufferedOrdered<Foreigns<Self>, Driven<Self::Item>>, NewFault>
+    where
+        Self: Sized,
+        Self::Item: Future<Output: Drop>,
+        requires { 0 < n }
+        ensures new { IfOk result
+            (IsNewBuffer (IsNewBoundedQueue IsNewDriven n POLL_LIMIT) self) }
+        ensures refuses { RefusesTooLarge n result }
+    {
+        BufferedOrdered::over(&(), alloc, Foreigns::new(self), n)
+    }
+
+    /// As `buffered_unordered`, of a stream of futures of the kit. These are polled with the task's own context.
+    ///
+    /// Takes time and memory in proportion to `n`. Where it is refused, so is `buffered_unordered`.
+    final fn foreign_buffered_unordered(
+        self,
+        alloc: Global,
+        n: usize,
+    ) -> Result<BufferUnordered<Foreigns<Self>, Driven<Self::Item>>, NewFault>
+    where
+        Self: Sized,
+        Self::Item: Future<Output: Drop>,
+        requires { 0 < n }
+        ensures new { IfOk result
+            (IsNewBuffer (IsNewSet IsNewDriven n POLL_LIMIT) self) }
+        ensures refuses { RefusesTooLarge n result }
+    {
+        BufferUnordered::over(&(), alloc, Foreigns::new(self), n)
     }
 
     /// Calls `f` with each item of this stream, once and in order, and runs the futures that it makes, at most `limit` at a time. Nothing is polled.

@@ -38,9 +38,9 @@ pub use futures_buffered_core::{
     core_source, ready_core, ready_shared, ready_source, ready_table, script_source, slot_map,
 };
 pub use futures_buffered_driven::{
-    Driven, Foreign, ForeignMerge, ForeignQueue, ForeignSet, ForeignStream, GrowingForeignMerge,
-    GrowingForeignQueue, GrowingForeignSet, driven, foreign, foreign_set, foreign_sets,
-    foreign_stream, seat,
+    Driven, Foreign, ForeignMerge, ForeignQueue, ForeignSet, ForeignStream, Foreigns,
+    GrowingForeignMerge, GrowingForeignQueue, GrowingForeignSet, driven, foreign, foreign_set,
+    foreign_sets, foreign_stream, foreigns, seat,
 };
 pub use futures_buffered_sets::{
     FusedFuture, FusedStream, FuturesOrdered, FuturesOrderedBounded, FuturesUnordered,
@@ -49,5 +49,6 @@ pub use futures_buffered_sets::{
     futures_ordered, futures_ordered_bounded, futures_unordered, futures_unordered_bounded,
     join_all, merge_bounded, merge_unbounded, poll_one, slot_future, slot_stream, try_join_all,
 };
+pub use futures_buffered_slot_futures::{Either, future, oneshot, stream};
 pub use iter_ext::IterExt;
 pub use try_buffered::{BufferedTryStreamExt, TryBufferUnordered, TryBufferedOrdered};

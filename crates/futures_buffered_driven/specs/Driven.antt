@@ -15,3 +15,7 @@ NamesFirst [] Pause new = new ≡ []
 -- one taking
 abbrev pub TakesOrCollects : Standing → Taken → Standing → Type 0
 TakesOrCollects old taken new = (new.capacity ≡ old.capacity) × IsNameBelow old.capacity taken × NamesFirst old.marked taken new.marked
+
+-- a source just made: no slot is marked
+abbrev pub IsNewDriven : ℕ → Standing → Type 0
+IsNewDriven cap new = new ≡ record { capacity = cap; marked = [] }

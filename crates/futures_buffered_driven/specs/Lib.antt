@@ -1,3 +1,4 @@
 pub mod Given
 pub mod Seat
 pub mod Driven
+pub mod Foreigns

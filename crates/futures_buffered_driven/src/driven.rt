@@ -3,7 +3,7 @@ ghost use Rattle.std.specs.Prelude.{◌≡◌, ◌<◌, ◌≤◌, [], ◌∷◌
 ghost use Rattle.std.specs.List.{range_with_len};
 ghost use Rattle.futures_buffered_table.specs.Answer.{RefusesTooLarge};
 ghost use Rattle.futures_buffered_core.specs.ReadyCore.{Marks};
-ghost use Rattle.futures_buffered_driven.specs.Driven.{TakesOrCollects};
+ghost use Rattle.futures_buffered_driven.specs.Driven.{IsNewDriven, TakesOrCollects};
 ghost use Rattle.futures_buffered_driven.specs.Seat.{seat_at};
 
 use crate::desk::{Desk, Finished};
@@ -168,7 +168,7 @@ fn add_source<F: Future<Output: Drop>>(
 impl<F: Future<Output: Drop>> Driven<F> {
     // A source of `cap` slots beside those of this driver.
     fn over(driver: &Arc<Mutex<Driver<F>>>, alloc: Global, cap: usize) -> Result<Self, NewFault>
-        ensures made { IfOk result (λ new. new ≡ record { capacity = cap; marked = [] }) }
+        ensures made { IfOk result (IsNewDriven cap) }
         ensures refuses { RefusesTooLarge cap result }
     {
         let names = ReadyCore::new(alloc, cap)?;
@@ -295,11 +295,12 @@ impl<F: Future<Output: Drop>> ReadySource for Driven<F> {
 }
 
 impl<F: Future<Output: Drop>> NewSource for Driven<F> {
-    ghost use Rattle.std.specs.Prelude.{◌≡◌, [], refl};
+    ghost use Rattle.std.specs.Prelude.{refl};
+    ghost use Rattle.futures_buffered_driven.specs.Driven.{IsNewDriven};
 
     type Env = ();
 
-    ghost made = { λ cap new. new ≡ record { capacity = cap; marked = [] } };
+    ghost made = { IsNewDriven };
 
     ghost made_slots = { λ cap new h. Prim.cc (h) };
 

@@ -1,7 +1,8 @@
 //! Sets and queues of futures of the kit, each made in one call.
-ghost use Rattle.std.specs.Prelude.{◌≡◌, [], IfOk};
+ghost use Rattle.std.specs.Prelude.{◌≡◌, IfOk};
 ghost use Rattle.futures_buffered_core.specs.SlotMap.{no_slots};
 ghost use Rattle.futures_buffered_table.specs.Answer.{RefusesTooLarge};
+ghost use Rattle.futures_buffered_driven.specs.Driven.{IsNewDriven};
 
 use crate::driven::Driven;
 use crate::foreign::Foreign;
@@ -35,7 +36,7 @@ pub fn foreign_set<F: Future<Output: Drop>>(
     cap: usize,
 ) -> Result<ForeignSet<F>, NewFault>
     ensures empty { IfOk result (λ set. set.slots ≡ no_slots cap) }
-    ensures source { IfOk result (λ set. set.source ≡ record { capacity = cap; marked = [] }) }
+    ensures source { IfOk result (λ set. IsNewDriven cap set.source) }
     ensures limit { IfOk result (λ set. set.limit ≡ POLL_LIMIT) }
     ensures refuses { RefusesTooLarge cap result }
 {

@@ -7,6 +7,7 @@
 //! - `held`: `Held`, a future that may be polled, and `Given`, an output with the fact that a future may give it.
 //! - `seat`: `Seat`, by which a slot hands its future over and gets the output back, and `Ticket`, which says whose output it is.
 //! - `foreign`: `Foreign`, what a set holds in place of a future.
+//! - `foreigns`: `Foreigns`, the stand-ins of a stream's futures, as a stream.
 //! - `foreign_stream`: `ForeignStream`, what a merge holds in place of a stream.
 //! - `desk`: where the outputs of one source wait until it asks for them.
 //! - `running`: the futures that were handed over, in a set of the kit.
@@ -21,6 +22,7 @@ mod driver;
 pub mod foreign;
 pub mod foreign_sets;
 pub mod foreign_stream;
+pub mod foreigns;
 mod held;
 mod running;
 pub mod seat;
@@ -31,3 +33,4 @@ pub use foreign_sets::{
     ForeignQueue, ForeignSet, GrowingForeignQueue, GrowingForeignSet, foreign_set,
 };
 pub use foreign_stream::{ForeignMerge, ForeignStream, GrowingForeignMerge};
+pub use foreigns::Foreigns;

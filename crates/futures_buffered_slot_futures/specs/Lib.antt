@@ -1,0 +1,5 @@
+pub mod Ready
+pub mod PollFn
+pub mod Map
+pub mod Either
+pub mod Iter

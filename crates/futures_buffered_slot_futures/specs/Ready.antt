@@ -1,0 +1,9 @@
+-- What one poll of a future that is ready from the start makes of it.
+use Rattle.std.specs.Prelude.{◌≡◌, Option, Some, None}
+use Rattle.futures.specs.declared.task.Poll.{Poll}
+use Rattle.futures.specs.declared.task.Poll.TheVariants.{Ready, Pending}
+
+-- the value is given where it is there
+abbrev pub GivesValue : {T : Type 0} → Option T → Poll T → Option T → Type 0
+GivesValue (Some value) answer new = (answer ≡ Ready value) × (new ≡ None)
+GivesValue None answer new = (answer ≡ Pending) × (new ≡ None)

@@ -1,0 +1,29 @@
+//! The futures of this crate, and the functions that make them. None takes memory.
+ghost use Rattle.std.specs.Prelude.{◌≡◌, Some};
+
+pub use crate::map::Map;
+pub use crate::poll_fn::PollFn;
+pub use crate::ready::Ready;
+
+/// A future that gives this value.
+pub fn ready<T>(value: T) -> Ready<T>
+    ensures { result ≡ Some value }
+{
+    Ready { value: Some(value) }
+}
+
+/// A future that calls this closure at each poll. The closure is one that may be called at any waker, and again after each call.
+pub fn poll_fn<C>(call: C) -> PollFn<C>
+    ensures { result ≡ call }
+{
+    PollFn { call }
+}
+
+/// A future that gives what `change` makes of the output of `future`.
+pub fn map<F, C>(future: F, change: C) -> Map<F, C>
+    ensures { result ≡ Some (future, change) }
+{
+    Map {
+        inner: Some((future, change)),
+    }
+}
