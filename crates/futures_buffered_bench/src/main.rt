@@ -14,7 +14,7 @@ use clock::{Workload, least};
 use futures_buffered_core::ready_core::NewFault;
 use growing::LastWoken;
 use kit::{KitRefilled, KitWoken};
-use one_shots::{DrivenSet, KitSet, OneShots};
+use one_shots::{DrivenSet, KitSet, OneShots, SharedSet};
 use ordered::{Bounded, Buffered, Drained, Growing, InTurn, Overtaken};
 use ready_list::{Already, Fresh, Listed};
 use sets::{Refilled, Woken};
@@ -180,6 +180,17 @@ where
             "driven set: a one-shot of the kit, held",
             slots,
             Ok(driven),
+        )?;
+        let Ok(set) = SharedSet::new(rt.alloc(), slots) else {
+            return Ok(());
+        };
+        let shared = OneShots::new(rt.alloc(), set, slots)?;
+        timed(
+            rt,
+            output,
+            "shared set: a one-shot of this library, held",
+            slots,
+            Ok(shared),
         )?;
     }
     Ok(())

@@ -1,27 +1,33 @@
-//! One-shots of the kit, from channel to output: in the kit's own set, and in a set over the source that has futures of the kit polled.
+//! One-shots, from channel to output: those of the kit in the kit's own set and in a set over the source that has futures of the kit polled, and those of this library in a set over the shared source.
 use crate::clock::Workload;
 use futures::Stream;
-use futures::channel::oneshot;
+use futures::channel::oneshot as kit_oneshot;
 use futures::stream::FuturesUnordered;
 use futures::task::{Context, Poll};
 use futures_buffered_core::ready_core::NewFault;
+use futures_buffered_core::ready_shared::SharedReady;
 use futures_buffered_driven::{Foreign, ForeignSet, foreign_set};
+use futures_buffered_slot_futures::oneshot;
+use futures_buffered_unordered_bounded::futures_unordered_bounded::FuturesUnorderedBounded;
 use std::alloc::{AllocError, Global};
 
-type Receiver = oneshot::Receiver<u64>;
-
-type Sender = oneshot::Sender<u64>;
+type KitReceiver = kit_oneshot::Receiver<u64>;
 
 /// A set that is given receivers, and is polled.
 pub trait Holds: Drop {
-    fn hold(&mut self, receiver: Receiver);
+    type Sender: Drop;
+
+    /// One more receiver is held. Its sender, where there was memory.
+    fn hold(&mut self, alloc: Global) -> Option<Self::Sender>;
+
+    fn send(sender: Self::Sender);
 
     /// The output, where one has come.
     fn poll(&mut self, cx: &mut Context<'_>) -> Option<u64>;
 }
 
 #[derive(Drop)]
-pub struct KitSet(FuturesUnordered<Receiver>);
+pub struct KitSet(FuturesUnordered<KitReceiver>);
 
 impl KitSet {
     pub fn new(alloc: Global) -> Result<KitSet, AllocError> {
@@ -30,8 +36,16 @@ impl KitSet {
 }
 
 impl Holds for KitSet {
-    fn hold(&mut self, receiver: Receiver) {
+    type Sender = kit_oneshot::Sender<u64>;
+
+    fn hold(&mut self, alloc: Global) -> Option<kit_oneshot::Sender<u64>> {
+        let (sender, receiver) = kit_oneshot::channel(alloc).ok()?;
         let _ = self.0.push(receiver);
+        Some(sender)
+    }
+
+    fn send(sender: kit_oneshot::Sender<u64>) {
+        let _ = sender.send(1);
     }
 
     fn poll(&mut self, cx: &mut Context<'_>) -> Option<u64> {
@@ -43,7 +57,7 @@ impl Holds for KitSet {
 }
 
 #[derive(Drop)]
-pub struct DrivenSet(ForeignSet<Receiver>);
+pub struct DrivenSet(ForeignSet<KitReceiver>);
 
 impl DrivenSet {
     pub fn new(alloc: Global, slots: usize) -> Result<DrivenSet, NewFault> {
@@ -52,8 +66,46 @@ impl DrivenSet {
 }
 
 impl Holds for DrivenSet {
-    fn hold(&mut self, receiver: Receiver) {
+    type Sender = kit_oneshot::Sender<u64>;
+
+    fn hold(&mut self, alloc: Global) -> Option<kit_oneshot::Sender<u64>> {
+        let (sender, receiver) = kit_oneshot::channel(alloc).ok()?;
         let _ = self.0.try_push(Foreign::new(receiver));
+        Some(sender)
+    }
+
+    fn send(sender: kit_oneshot::Sender<u64>) {
+        let _ = sender.send(1);
+    }
+
+    fn poll(&mut self, cx: &mut Context<'_>) -> Option<u64> {
+        match self.0.poll_next(cx) {
+            Poll::Ready(Some(Ok(value))) => Some(value),
+            _ => None,
+        }
+    }
+}
+
+#[derive(Drop)]
+pub struct SharedSet(FuturesUnorderedBounded<oneshot::Receiver<u64>, SharedReady>);
+
+impl SharedSet {
+    pub fn new(alloc: Global, slots: usize) -> Result<SharedSet, NewFault> {
+        Ok(SharedSet(FuturesUnorderedBounded::new(alloc, slots)?))
+    }
+}
+
+impl Holds for SharedSet {
+    type Sender = oneshot::Sender<u64>;
+
+    fn hold(&mut self, alloc: Global) -> Option<oneshot::Sender<u64>> {
+        let (sender, receiver) = oneshot::channel(alloc).ok()?;
+        let _ = self.0.try_push(receiver);
+        Some(sender)
+    }
+
+    fn send(sender: oneshot::Sender<u64>) {
+        let _ = sender.send(1);
     }
 
     fn poll(&mut self, cx: &mut Context<'_>) -> Option<u64> {
@@ -66,11 +118,11 @@ impl Holds for DrivenSet {
 
 /// A set of one-shots. A run makes as many as there are slots, lets each be polled, sends to all, and takes their outputs.
 #[derive(Drop)]
-pub struct OneShots<H> {
+pub struct OneShots<H: Holds> {
     alloc: Global,
     set: H,
     slots: usize,
-    senders: Vec<Sender>,
+    senders: Vec<H::Sender>,
 }
 
 impl<H: Holds> OneShots<H> {
@@ -86,9 +138,8 @@ impl<H: Holds> OneShots<H> {
 
     fn fill(&mut self) {
         for _ in 0..self.slots {
-            if let Ok((sender, receiver)) = oneshot::channel(self.alloc) {
+            if let Some(sender) = self.set.hold(self.alloc) {
                 let _ = self.senders.push(sender);
-                self.set.hold(receiver);
             }
         }
     }
@@ -96,12 +147,12 @@ impl<H: Holds> OneShots<H> {
     fn send_all(&mut self) {
         for _ in 0..self.slots {
             if let Some(sender) = self.senders.pop() {
-                let _ = sender.send(1);
+                H::send(sender);
             }
         }
     }
 
-    // Polls until all of them have been polled once: the kit's set polls 32 at least in each poll.
+    // Polls until all of them have been polled once: a set polls 32 at least in each poll.
     fn settle(&mut self, cx: &mut Context<'_>) {
         for _ in 0..self.slots / 32 + 3 {
             let _ = self.set.poll(cx);

@@ -1,6 +1,4 @@
 //! A slot that holds another future than the one which was handed over last.
-ghost use Rattle.std.specs.Prelude.{◌<◌};
-
 use crate::receivers::{Counted, Receivers};
 use crate::same::assert_same;
 use futures::task::Poll;
@@ -13,13 +11,21 @@ use std::test::Fail;
 
 type Source = Driven<Counted>;
 
+// Polls this future at the slot. Pending where there is no such slot.
+fn poll_at(source: &Source, held: &mut Foreign<Counted>, slot: usize) -> Poll<u64> {
+    if slot < source.capacity() {
+        return held.poll(source.waker(slot));
+    }
+    Poll::Pending
+}
+
 // Names the slot once more, and polls what stands there.
-fn poll_slot(source: &mut Source, held: &mut Foreign<Counted>, slot: usize) -> Poll<u64>
-    requires { slot < source.old.capacity }
-{
-    let _woke = source.mark(slot);
+fn poll_slot(source: &mut Source, held: &mut Foreign<Counted>, slot: usize) -> Poll<u64> {
+    if slot < source.capacity() {
+        let _woke = source.mark(slot);
+    }
     let _taken = source.take();
-    held.poll(source.waker(slot))
+    poll_at(source, held, slot)
 }
 
 fn drive(task: &MockTask, source: &mut Source) {
@@ -46,7 +52,7 @@ fn an_output_of_the_one_before(rt: HostRuntime) -> Result<(), Fail> {
     assert_same(&rt, new_sender.send(2), Ok(()));
     drive(&task, &mut source);
     assert_same(&rt, source.take(), Taken::Slot(0));
-    assert_same(&rt, new.poll(source.waker(0)), Poll::Ready(2));
+    assert_same(&rt, poll_at(&source, &mut new, 0), Poll::Ready(2));
     assert_same(&rt, source.take(), Taken::Empty);
     Ok(())
 }
@@ -65,13 +71,13 @@ fn an_output_that_came_too_late(rt: HostRuntime) -> Result<(), Fail> {
     drive(&task, &mut source);
     assert_same(&rt, poll_slot(&mut source, &mut new, 0), Poll::Pending);
     assert_same(&rt, source.take(), Taken::Pause);
-    assert_same(&rt, old.poll(source.waker(0)), Poll::Pending);
-    assert_same(&rt, new.poll(source.waker(0)), Poll::Pending);
+    assert_same(&rt, poll_at(&source, &mut old, 0), Poll::Pending);
+    assert_same(&rt, poll_at(&source, &mut new, 0), Poll::Pending);
     assert_same(&rt, new_sender.send(2), Ok(()));
     drive(&task, &mut source);
     assert_same(&rt, source.take(), Taken::Slot(0));
-    assert_same(&rt, old.poll(source.waker(0)), Poll::Pending);
-    assert_same(&rt, new.poll(source.waker(0)), Poll::Ready(2));
+    assert_same(&rt, poll_at(&source, &mut old, 0), Poll::Pending);
+    assert_same(&rt, poll_at(&source, &mut new, 0), Poll::Ready(2));
     Ok(())
 }
 
@@ -97,12 +103,12 @@ fn a_future_that_was_moved(rt: HostRuntime) -> Result<(), Fail> {
     assert_same(&rt, beside.take(), Taken::Slot(0));
     assert_same(&rt, source.take(), Taken::Slot(0));
     assert_same(&rt, source.take(), Taken::Slot(1));
-    assert_same(&rt, first.poll(source.waker(1)), Poll::Pending);
-    assert_same(&rt, first.poll(beside.waker(0)), Poll::Pending);
-    assert_same(&rt, second.poll(source.waker(0)), Poll::Pending);
-    assert_same(&rt, first.poll(source.waker(0)), Poll::Ready(1));
-    assert_same(&rt, second.poll(source.waker(1)), Poll::Ready(2));
-    assert_same(&rt, third.poll(beside.waker(0)), Poll::Ready(3));
+    assert_same(&rt, poll_at(&source, &mut first, 1), Poll::Pending);
+    assert_same(&rt, poll_at(&beside, &mut first, 0), Poll::Pending);
+    assert_same(&rt, poll_at(&source, &mut second, 0), Poll::Pending);
+    assert_same(&rt, poll_at(&source, &mut first, 0), Poll::Ready(1));
+    assert_same(&rt, poll_at(&source, &mut second, 1), Poll::Ready(2));
+    assert_same(&rt, poll_at(&beside, &mut third, 0), Poll::Ready(3));
     Ok(())
 }
 
@@ -128,6 +134,6 @@ fn a_source_that_left(rt: HostRuntime) -> Result<(), Fail> {
     assert_same(&rt, first_sender.send(1), Ok(()));
     drive(&task, &mut other);
     assert_same(&rt, source.take(), Taken::Slot(0));
-    assert_same(&rt, first.poll(source.waker(0)), Poll::Ready(1));
+    assert_same(&rt, poll_at(&source, &mut first, 0), Poll::Ready(1));
     Ok(())
 }

@@ -3,7 +3,7 @@ use futures::channel::{mpsc, oneshot};
 use futures::executor::block_on;
 use futures::{StreamExt, stream};
 use futures_buffered::{
-    BufferedOrdered, Driven, Foreign, ForeignStream, GrowingForeignMerge, foreign_set,
+    BufferedStreamExt, Foreign, ForeignStream, GrowingForeignMerge, foreign_set,
 };
 use std::alloc::AllocGlobal;
 use std::io::Print;
@@ -29,13 +29,7 @@ where
     let (first, first_receiver) = oneshot::channel::<u64>(rt.alloc())?;
     let (second, second_receiver) = oneshot::channel::<u64>(rt.alloc())?;
     let receivers = vec![in rt.alloc(); first_receiver, second_receiver]?;
-    let held = stream::iter(receivers).map(|receiver| Foreign::new(receiver));
-    let outputs = BufferedOrdered::<_, Driven<oneshot::Receiver<u64>>>::over(
-        &(),
-        rt.alloc(),
-        held,
-        2,
-    )?;
+    let outputs = stream::iter(receivers).foreign_buffered_ordered(rt.alloc(), 2)?;
     let _ = second.send(2);
     let _ = first.send(1);
     println!(rt; "{:?}", block_on(rt, outputs.collect(rt.alloc()))??)?;

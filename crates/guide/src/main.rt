@@ -10,6 +10,7 @@ mod merges;
 mod numbers;
 mod proved;
 mod queues;
+mod ready_made;
 mod sets;
 mod sources;
 
@@ -29,6 +30,8 @@ fn main(rt: HostRuntime) -> Result<(), anyhow::Error> {
     adaptors::in_any_order_up_to_an_error(&rt)?;
     adaptors::of_an_iterator(&rt)?;
     adaptors::for_each(&rt)?;
+    ready_made::one_shot(&rt)?;
+    ready_made::two_iterators(&rt)?;
     foreign::one_receiver(&rt)?;
     foreign::two_at_a_time(&rt)?;
     foreign::two_channels(&rt)?;

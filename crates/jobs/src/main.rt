@@ -8,7 +8,7 @@ use crossbeam_channel::{Receiver, unbounded};
 use futures::channel::oneshot;
 use futures::executor::block_on;
 use futures::{StreamExt, stream};
-use futures_buffered::{BufferedOrdered, Driven, Foreign};
+use futures_buffered::BufferedStreamExt;
 use std::alloc::{AllocError, Global};
 use std::env::Env;
 use std::rt::Files;
@@ -73,9 +73,9 @@ fn main(rt: HostRuntime) -> Result<(), anyhow::Error> {
     }
     let asked = stream::iter(jobs).map(|(job, answer)| {
         let _ = sender.send(&rt, job);
-        Foreign::new(answer)
+        answer
     });
-    let counts = BufferedOrdered::<_, Driven<Answer>>::over(&(), rt.alloc(), asked, n)?;
+    let counts = asked.foreign_buffered_ordered(rt.alloc(), n)?;
     let counts = block_on(&rt, counts.collect(rt.alloc()))??;
     let mut words = 0usize;
     for (path, count) in list.lines().zip(counts) {

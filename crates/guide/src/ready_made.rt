@@ -1,0 +1,35 @@
+//! Futures and streams that come with the library.
+use futures::StreamExt;
+use futures::executor::block_on;
+use futures_buffered::future::{map, ready};
+use futures_buffered::oneshot::Canceled;
+use futures_buffered::stream::iter;
+use futures_buffered::{Either, FuturesUnorderedBounded, MergeUnbounded, oneshot};
+use std::alloc::AllocGlobal;
+use std::io::Print;
+use std::random::RandomSource;
+use std::sync::Wait;
+
+pub fn one_shot<R>(rt: &R) -> Result<(), anyhow::Error>
+where
+    R: Wait + RandomSource + AllocGlobal + Print,
+{
+    let (sender, receiver) = oneshot::channel::<u64>(rt.alloc())?;
+    let mut set = FuturesUnorderedBounded::new(rt.alloc(), 2)?;
+    set.push(Either::Left(map(receiver, |sent: Result<u64, Canceled>| sent.unwrap_or(0))));
+    set.push(Either::Right(ready(1)));
+    let _ = sender.send(7);
+    let outputs = block_on(rt, set.collect(rt.alloc()))??;
+    println!(rt; "{outputs:?}")?;
+    Ok(())
+}
+
+pub fn two_iterators<R>(rt: &R) -> Result<(), anyhow::Error>
+where
+    R: Wait + RandomSource + AllocGlobal + Print,
+{
+    let numbers = vec![in rt.alloc(); iter(1..4u64), iter(10..12)]?;
+    let merge = MergeUnbounded::from_iter(rt.alloc(), numbers)?;
+    println!(rt; "{:?}", block_on(rt, merge.collect(rt.alloc()))??)?;
+    Ok(())
+}
