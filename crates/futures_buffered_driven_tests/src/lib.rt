@@ -7,16 +7,22 @@
 //! - `merges`: merges of channels, and of lists.
 //! - `turns`: outputs of a slot that holds another future by now.
 //! - `queues`: outputs in the order of pushes, joins, and a buffer.
+//! - `adaptors`: the five adaptors over streams of them.
+//! - `nested`: joins as futures of a set.
 //! - `threads`: futures that are completed from threads.
 //! - `same`: assertions as calls.
 #![tactic(auto)]
 
+#[cfg(test)]
+mod adaptors;
 #[cfg(test)]
 mod drops;
 #[cfg(test)]
 mod groups;
 #[cfg(test)]
 mod merges;
+#[cfg(test)]
+mod nested;
 #[cfg(test)]
 mod queues;
 #[cfg(test)]
