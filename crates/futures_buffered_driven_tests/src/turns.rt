@@ -81,6 +81,50 @@ fn an_output_that_came_too_late(rt: HostRuntime) -> Result<(), Fail> {
     Ok(())
 }
 
+// The output of the one before lies in the seat, and nobody took it, when the slot gets another.
+#[test]
+fn an_output_that_nobody_took(rt: HostRuntime) -> Result<(), Fail> {
+    let task = MockTask::new(&rt)?;
+    let receivers = Receivers::new(rt.alloc())?;
+    let mut source: Source = Driven::make(&(), rt.alloc(), 1)?;
+    let (old_sender, mut old) = receivers.foreign()?;
+    let (new_sender, mut new) = receivers.foreign()?;
+    assert_same(&rt, poll_slot(&mut source, &mut old, 0), Poll::Pending);
+    assert_same(&rt, source.take(), Taken::Pause);
+    assert_same(&rt, old_sender.send(1), Ok(()));
+    drive(&task, &mut source);
+    assert_same(&rt, source.take(), Taken::Slot(0));
+    assert_same(&rt, poll_at(&source, &mut new, 0), Poll::Pending);
+    assert_same(&rt, source.take(), Taken::Pause);
+    assert_same(&rt, poll_at(&source, &mut new, 0), Poll::Pending);
+    assert_same(&rt, new_sender.send(2), Ok(()));
+    drive(&task, &mut source);
+    assert_same(&rt, source.take(), Taken::Slot(0));
+    assert_same(&rt, poll_at(&source, &mut new, 0), Poll::Ready(2));
+    Ok(())
+}
+
+// The output of the one before is let go, and that of another slot, which came behind it, is not.
+#[test]
+fn an_output_behind_one_that_came_too_late(rt: HostRuntime) -> Result<(), Fail> {
+    let task = MockTask::new(&rt)?;
+    let receivers = Receivers::new(rt.alloc())?;
+    let mut source: Source = Driven::make(&(), rt.alloc(), 2)?;
+    let (old_sender, mut old) = receivers.foreign()?;
+    let (other_sender, mut other) = receivers.foreign()?;
+    let (_new_sender, mut new) = receivers.foreign()?;
+    assert_same(&rt, poll_slot(&mut source, &mut old, 0), Poll::Pending);
+    assert_same(&rt, poll_slot(&mut source, &mut other, 1), Poll::Pending);
+    assert_same(&rt, source.take(), Taken::Pause);
+    assert_same(&rt, old_sender.send(1), Ok(()));
+    assert_same(&rt, other_sender.send(2), Ok(()));
+    drive(&task, &mut source);
+    assert_same(&rt, poll_slot(&mut source, &mut new, 0), Poll::Pending);
+    assert_same(&rt, source.take(), Taken::Slot(1));
+    assert_same(&rt, poll_at(&source, &mut other, 1), Poll::Ready(2));
+    Ok(())
+}
+
 // One that is polled at another slot, or at the same slot of a source beside, takes no output there.
 #[test]
 fn a_future_that_was_moved(rt: HostRuntime) -> Result<(), Fail> {

@@ -6,12 +6,16 @@
 //! - `sets`, `growing`: the two sets.
 //! - `ordered`, `ordered_growing`: the two ordered queues.
 //! - `joins`, `merges`: the joins and the merges.
+//! - `full`: pushes into a full queue.
+//! - `oneshots`: the one-shot.
 #![tactic(auto)]
 
+pub mod full;
 pub mod growing;
 pub mod joins;
 pub mod lists;
 pub mod merges;
+pub mod oneshots;
 pub mod ordered;
 pub mod ordered_growing;
 pub mod sets;

@@ -3,8 +3,9 @@
 
 use memory_bench::early::early_requests;
 use memory_bench::{Bench, Finding};
-use refusal_rows::{growing, joins, lists, merges, ordered, ordered_growing, sets};
+use refusal_rows::{full, growing, joins, lists, merges, oneshots, ordered, ordered_growing, sets};
 use refusal_rows_adaptors::{buffered, for_each, try_buffered};
+use refusal_rows_driven::{merges as driven_merges, sets as driven_sets, sources};
 use refusal_rows_script::scripts;
 use std::io;
 use std::io::Write;
@@ -28,6 +29,11 @@ fn print_all<W: Write>(bench: &Bench, out: &mut W) -> io::Result<()> {
     print(out, &buffered::rows(bench))?;
     print(out, &try_buffered::rows(bench))?;
     print(out, &for_each::rows(bench))?;
+    print(out, &sources::rows(bench))?;
+    print(out, &driven_sets::rows(bench))?;
+    print(out, &driven_merges::rows(bench))?;
+    print(out, &full::rows(bench))?;
+    print(out, &oneshots::rows(bench))?;
     print(out, &scripts::rows(bench))
 }
 
