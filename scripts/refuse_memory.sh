@@ -15,7 +15,7 @@
 set -u
 cd "$(dirname "$0")/../crates/refused_memory" || exit 2
 own=8
-requests=1370
+requests=1388
 quiet="1169 1223 1224 1251 1308 1309 1333"
 beyond=6
 runs=$((requests + beyond))
