@@ -13,6 +13,7 @@ use futures_buffered_core::ready_core::NewFault;
 use futures_buffered_unordered_bounded::futures_unordered_bounded::POLL_LIMIT;
 use futures_buffered_unordered_bounded::{FusedStream, SizeHint};
 use std::alloc::Global;
+use std::fmt;
 use std::marker::Model;
 
 /// Futures of a stream, at most as many at a time as its queue has room for.
@@ -203,5 +204,15 @@ impl<St: Stream + SizeHint, Q: FutureQueue<St::Item>> SizeHint for Buffer<St, Q>
             least.saturating_add(held),
             most.and_then(|most| most.checked_add(held)),
         )
+    }
+}
+
+/// Prints whether the stream has ended, and how many are held.
+impl<St: Stream, Q: FutureQueue<St::Item>> fmt::Debug for Buffer<St, Q> {
+    fn fmt<W: fmt::Write>(&self, f: &mut fmt::Formatter<W>) -> fmt::Result {
+        f.debug_struct("Buffer")
+            .field("has_ended", &self.stream.is_none())
+            .field("len", &self.queue.len())
+            .finish_non_exhaustive()
     }
 }

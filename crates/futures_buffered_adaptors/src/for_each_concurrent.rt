@@ -21,6 +21,7 @@ use futures_buffered_unordered_bounded::futures_unordered_bounded::{
 };
 use futures_buffered_unordered_bounded::{FusedFuture, SlotFuture};
 use std::alloc::Global;
+use std::fmt;
 use std::marker::Model;
 
 /// Gives each item of a stream to a closure, once and in order, and runs the futures that it makes, at most as many at a time as its set has slots.
@@ -233,5 +234,15 @@ impl<
 
     fn is_terminated(&self) -> bool {
         self.stream.is_none() && self.queue.is_empty()
+    }
+}
+
+/// Prints whether the stream has ended, and how many are held.
+impl<St: Drop, F: Drop, Fut: Drop, S: ReadySource> fmt::Debug for ForEachConcurrent<St, F, Fut, S> {
+    fn fmt<W: fmt::Write>(&self, f: &mut fmt::Formatter<W>) -> fmt::Result {
+        f.debug_struct("ForEachConcurrent")
+            .field("has_ended", &self.stream.is_none())
+            .field("len", &self.queue.len())
+            .finish_non_exhaustive()
     }
 }

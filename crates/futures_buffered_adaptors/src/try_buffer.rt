@@ -14,6 +14,7 @@ use futures_buffered_core::ready_core::NewFault;
 use futures_buffered_unordered_bounded::futures_unordered_bounded::POLL_LIMIT;
 use futures_buffered_unordered_bounded::{FusedStream, SizeHint};
 use std::alloc::Global;
+use std::fmt;
 use std::marker::Model;
 
 /// Futures of a stream that gives errors as well, at most as many at a time as its queue has room for. An error of the stream comes as soon as it is met, before what is held, and ends nothing.
@@ -255,5 +256,20 @@ where
             least.saturating_add(held),
             most.and_then(|most| most.checked_add(held)),
         )
+    }
+}
+
+/// Prints whether the stream has ended, and how many are held.
+impl<St, F, T, E, Q> fmt::Debug for TryBuffer<St, Q>
+where
+    St: Stream<Item = Result<F, E>>,
+    Q: FutureQueue<F, Output = Result<T, E>>,
+    E: Drop,
+{
+    fn fmt<W: fmt::Write>(&self, f: &mut fmt::Formatter<W>) -> fmt::Result {
+        f.debug_struct("TryBuffer")
+            .field("has_ended", &self.stream.is_none())
+            .field("len", &self.queue.len())
+            .finish_non_exhaustive()
     }
 }

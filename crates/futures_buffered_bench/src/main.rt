@@ -1,58 +1,37 @@
 //! What calls of the ready list, of shared sources, of sets, of queues and of a buffer cost: run it with the argument `ns`.
 #![tactic(auto)]
 
+mod adaptors;
 mod clock;
 mod growing;
+mod handed;
 mod kit;
 mod one_shots;
 mod ordered;
 mod ready_list;
+mod report;
 mod sets;
 mod sources;
+mod whole;
 
-use clock::{Workload, least};
-use futures_buffered_core::ready_core::NewFault;
+use adaptors::{Buffered, ForEach, TryBuffered};
 use growing::LastWoken;
+use handed::handed_over;
 use kit::{KitRefilled, KitWoken};
 use one_shots::{DrivenSet, KitSet, OneShots, SharedSet};
-use ordered::{Bounded, Buffered, Drained, Growing, InTurn, Overtaken};
+use ordered::{Bounded, Drained, Growing, InTurn, Overtaken};
 use ready_list::{Already, Fresh, Listed};
+use report::{line, timed};
 use sets::{Refilled, Woken};
 use sources::{Beside, four_wakers};
 use std::alloc::AllocGlobal;
 use std::io::Write;
 use std::random::RandomSource;
+use std::sync::Wait;
 use std::thread::Threads;
 use std::time::Clock;
 use std::{env, io};
-
-// One line: the name, and the time of a call in nanoseconds.
-fn line<W: io::Write>(output: &mut W, name: &str, slots: usize, tenths: u128) -> io::Result<()> {
-    let whole = tenths.checked_div(10).unwrap_or(0);
-    let tenth = tenths.checked_rem(10).unwrap_or(0);
-    writeln!(output, "{whole:>6}.{tenth} ns  {name}, {slots}")?;
-    output.flush()?;
-    Ok(())
-}
-
-fn timed<R, O, W>(
-    rt: &R,
-    output: &mut O,
-    name: &str,
-    slots: usize,
-    made: Result<W, NewFault>,
-) -> io::Result<()>
-where
-    R: Clock + RandomSource + AllocGlobal,
-    O: io::Write,
-    W: Workload + Drop,
-{
-    let Ok(mut work) = made else {
-        return Ok(());
-    };
-    let tenths = least(rt, &mut work)?;
-    line(output, name, slots, tenths)
-}
+use whole::{Drained as DrainedSet, Joined, Merged};
 
 const SIZES: [usize; 4] = [16, 256, 4_096, 65_536];
 
@@ -254,7 +233,9 @@ where
         let name = "growing ordered queue: added at the back, kept and yielded, held";
         timed(rt, output, name, held, made)?;
     }
-    Ok(())
+    let made = Growing::with_capacity(rt.alloc(), 256).map(Drained);
+    let name = "growing ordered queue: added at the front, yielded, and found empty, slots";
+    timed(rt, output, name, 256, made)
 }
 
 fn buffer_lines<R, O>(rt: &R, output: &mut O) -> io::Result<()>
@@ -263,11 +244,48 @@ where
     O: io::Write,
 {
     for n in SIZES {
-        let made = Buffered::new(rt.alloc(), n);
+        let made = Buffered::ordered(rt.alloc(), n);
         let name = "buffered_ordered: an output of a ready future, at most held";
         timed(rt, output, name, n, made)?;
     }
     Ok(())
+}
+
+fn adaptor_lines<R, O>(rt: &R, output: &mut O) -> io::Result<()>
+where
+    R: Clock + RandomSource + AllocGlobal,
+    O: io::Write,
+{
+    let made = Buffered::unordered(rt.alloc(), 100);
+    let name = "buffered_unordered: an output of a ready future, at most held";
+    timed(rt, output, name, 100, made)?;
+    let made = Buffered::ordered(rt.alloc(), 100);
+    let name = "buffered_ordered: an output of a ready future, at most held";
+    timed(rt, output, name, 100, made)?;
+    let made = TryBuffered::unordered(rt.alloc(), 100);
+    let name = "try_buffered_unordered: an output of a ready future, at most held";
+    timed(rt, output, name, 100, made)?;
+    let made = TryBuffered::ordered(rt.alloc(), 100);
+    let name = "try_buffered_ordered: an output of a ready future, at most held";
+    timed(rt, output, name, 100, made)?;
+    let name = "for_each_concurrent: an item, at most held";
+    timed(rt, output, name, 100, Ok(ForEach::new(rt.alloc(), 100)))
+}
+
+fn whole_lines<R, O>(rt: &R, output: &mut O) -> io::Result<()>
+where
+    R: Clock + RandomSource + AllocGlobal,
+    O: io::Write,
+{
+    let made = Ok(DrainedSet::new(rt.alloc(), 10_000));
+    let name = "growing set: made, pushed into and drained, a future of";
+    timed(rt, output, name, 10_000, made)?;
+    let made = Ok(Joined::new(rt.alloc(), 1_000));
+    let name = "join_all: made, polled and ready, a future of";
+    timed(rt, output, name, 1_000, made)?;
+    let made = Merged::new(rt.alloc(), 100);
+    let name = "merge: an item of one of the streams, of";
+    timed(rt, output, name, 100, made)
 }
 
 fn source_lines<R, O>(rt: &R, output: &mut O) -> io::Result<()>
@@ -298,6 +316,18 @@ where
     Ok(())
 }
 
+fn thread_lines<R, O>(rt: &R, output: &mut O) -> io::Result<()>
+where
+    R: Clock + RandomSource + AllocGlobal + Threads + Wait + Sync,
+    O: io::Write,
+{
+    let name = "block_on: asked of another thread, sent and given, one-shots";
+    if let Some(tenths) = handed_over(rt, rt.alloc())? {
+        line(output, name, 1, tenths)?;
+    }
+    Ok(())
+}
+
 fn main(rt: HostRuntime) -> io::Result<()> {
     let mut output = rt.stdout();
     if env::args(&rt)?.len() < 2 {
@@ -312,5 +342,8 @@ fn main(rt: HostRuntime) -> io::Result<()> {
     bounded_queue_lines(&rt, &mut output)?;
     growing_queue_lines(&rt, &mut output)?;
     buffer_lines(&rt, &mut output)?;
-    source_lines(&rt, &mut output)
+    adaptor_lines(&rt, &mut output)?;
+    whole_lines(&rt, &mut output)?;
+    source_lines(&rt, &mut output)?;
+    thread_lines(&rt, &mut output)
 }

@@ -1,15 +1,11 @@
-//! Workloads of the ordered queues, and of a buffer over one.
+//! Workloads of the ordered queues.
 use crate::clock::Workload;
 use crate::sets::Yields;
-use futures::Stream;
 use futures::task::{Context, Poll};
-use futures_buffered_adaptors::buffered_ordered::BufferedOrdered;
-use futures_buffered_core::ready_core::NewFault;
 use futures_buffered_core::ready_shared::SharedReady;
 use futures_buffered_ordered::futures_ordered::FuturesOrdered;
 use futures_buffered_ordered::futures_ordered_bounded::FuturesOrderedBounded;
 use futures_buffered_unordered_bounded::poll_one::PollFuture;
-use std::alloc::Global;
 
 /// An ordered queue of futures.
 pub trait Queue: Drop {
@@ -162,45 +158,6 @@ impl<Q: Queue> Workload for Drained<Q> {
             self.0.add_front(Yields { left: 0 });
             let _ = self.0.gives(cx);
             let _ = self.0.gives(cx);
-        }
-    }
-}
-
-/// A stream of ready futures that does not end.
-#[derive(Drop)]
-struct Ready;
-
-impl Stream for Ready {
-    type Item = Yields;
-
-    fn poll_next(&mut self, _cx: &mut Context<'_>) -> Poll<Option<Yields>> {
-        Poll::Ready(Some(Yields { left: 0 }))
-    }
-}
-
-/// An ordered buffer of a stream of ready futures. Each call yields an output.
-#[derive(Drop)]
-pub struct Buffered {
-    buffer: BufferedOrdered<Ready, SharedReady>,
-}
-
-impl Buffered {
-    /// At most so many in progress, and one where that is none.
-    pub fn new(alloc: Global, n: usize) -> Result<Buffered, NewFault> {
-        let n = if n == 0 { 1 } else { n };
-        let buffer = BufferedOrdered::over(&(), alloc, Ready, n)?;
-        Ok(Buffered { buffer })
-    }
-}
-
-impl Workload for Buffered {
-    fn calls(&self) -> u64 {
-        12_800
-    }
-
-    fn run(&mut self, cx: &mut Context<'_>) {
-        for _ in 0..12_800 {
-            let _ = self.buffer.poll_next(cx);
         }
     }
 }

@@ -59,7 +59,7 @@ pub trait ReadySource: Drop {
         requires { i < slots self.old }
         ensures { marks self.old i result self.new };
 
-    /// Asks for a name. Takes no memory.
+    /// Asks for a name. Whether it takes memory the source says.
     fn take(&mut self) -> Taken
         ensures { steps.takes self.old result self.new };
 

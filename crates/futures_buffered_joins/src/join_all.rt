@@ -17,9 +17,10 @@ use futures::task::{Context, Poll};
 use futures_buffered_core::ready_core::{MAX_CAPACITY, NewFault};
 use futures_buffered_core::ready_shared::{SharedReady, SharedWaker};
 use futures_buffered_core::ready_source::{NewSource, ReadySource};
-use futures_buffered_unordered_bounded::SlotFuture;
 use futures_buffered_unordered_bounded::futures_unordered_bounded::POLL_LIMIT;
+use futures_buffered_unordered_bounded::{FusedFuture, SlotFuture};
 use std::alloc::Global;
+use std::fmt;
 use std::marker::Model;
 
 /// All of some futures: ready once each of them is done, with their outputs, each at its future's place.
@@ -128,6 +129,35 @@ where
                 Poll::Pending
             }
         }
+    }
+}
+
+/// Whether the join has ended. Takes the same time at any number of futures.
+impl<F, A, S> FusedFuture for Join<F, A, S>
+where
+    F: SlotFuture<S::Waker, Output = A>,
+    A: Drop,
+    S: ReadySource,
+{
+    ghost use Rattle.std.specs.Prelude.{◌≡◌};
+
+    ghost is_over = { λ join. join ≡ None };
+
+    fn is_terminated(&self) -> bool {
+        self.joining.is_none()
+    }
+}
+
+/// Prints how many futures are waited for.
+impl<F: Drop, A: Drop, S: ReadySource> fmt::Debug for Join<F, A, S> {
+    fn fmt<W: fmt::Write>(&self, f: &mut fmt::Formatter<W>) -> fmt::Result {
+        let len = match &self.joining {
+            Some(joining) => joining.len(),
+            None => 0,
+        };
+        f.debug_struct("JoinAll")
+            .field("len", &len)
+            .finish_non_exhaustive()
     }
 }
 

@@ -76,6 +76,13 @@ impl<F: Drop, A: Drop, S: ReadySource> Joining<F, A, S> {
         })
     }
 
+    // How many futures are waited for.
+    pub(crate) fn len(&self) -> usize
+        ensures { result ≡ held_count self.now.set.slots }
+    {
+        self.set.len()
+    }
+
     // Whether no future is waited for.
     fn is_done(&self) -> bool
         ensures { IsTrue result ↔ (held_count self.now.set.slots ≡ 0) }

@@ -19,9 +19,10 @@ use futures::task::{Context, Poll};
 use futures_buffered_core::ready_core::{MAX_CAPACITY, NewFault};
 use futures_buffered_core::ready_shared::{SharedReady, SharedWaker};
 use futures_buffered_core::ready_source::{NewSource, ReadySource};
-use futures_buffered_unordered_bounded::SlotFuture;
 use futures_buffered_unordered_bounded::futures_unordered_bounded::POLL_LIMIT;
+use futures_buffered_unordered_bounded::{FusedFuture, SlotFuture};
 use std::alloc::Global;
+use std::fmt;
 use std::marker::Model;
 
 /// All of some futures that may fail: ready once each of them is done, with their outputs, each at its future's place, or as soon as one gives an error.
@@ -133,6 +134,34 @@ where
                 Poll::Pending
             }
         }
+    }
+}
+
+/// Whether the join has ended. Takes the same time at any number of futures.
+impl<F, T, E, S: ReadySource> FusedFuture for TryJoin<F, T, S>
+where
+    F: SlotFuture<S::Waker, Output = Result<T, E>>,
+    T: Drop,
+{
+    ghost use Rattle.std.specs.Prelude.{◌≡◌};
+
+    ghost is_over = { λ join. join ≡ None };
+
+    fn is_terminated(&self) -> bool {
+        self.joining.is_none()
+    }
+}
+
+/// Prints how many futures are waited for.
+impl<F: Drop, T: Drop, S: ReadySource> fmt::Debug for TryJoin<F, T, S> {
+    fn fmt<W: fmt::Write>(&self, f: &mut fmt::Formatter<W>) -> fmt::Result {
+        let len = match &self.joining {
+            Some(joining) => joining.len(),
+            None => 0,
+        };
+        f.debug_struct("TryJoinAll")
+            .field("len", &len)
+            .finish_non_exhaustive()
     }
 }
 

@@ -27,6 +27,7 @@ use futures_buffered_unordered_bounded::futures_unordered_bounded::{
     FuturesUnorderedBounded, POLL_LIMIT,
 };
 use std::alloc::Global;
+use std::fmt;
 use std::marker::Model;
 
 /// Streams in slots, over a source that names the slots to poll.
@@ -221,6 +222,15 @@ impl<St: SlotStream<S::Waker>, S: ReadySource> FusedStream for MergeBounded<St, 
 impl<St: Drop, S: ReadySource> SizeHint for MergeBounded<St, S> {
     fn size_hint(&self) -> (usize, Option<usize>) {
         (0, None)
+    }
+}
+
+/// Prints the number of streams held.
+impl<St: Drop, S: ReadySource> fmt::Debug for MergeBounded<St, S> {
+    fn fmt<W: fmt::Write>(&self, f: &mut fmt::Formatter<W>) -> fmt::Result {
+        f.debug_struct("MergeBounded")
+            .field("len", &self.set.len())
+            .finish_non_exhaustive()
     }
 }
 

@@ -1,7 +1,7 @@
 //! Streams in groups of slots, polled as one: a merge that grows.
 //!
 //! Each group is a set of as many streams as it has slots, and is asked as a bounded merge is polled. The first group that holds a stream registers the task, which does for those beside it.
-ghost use Rattle.std.specs.Prelude.{◌≡◌, ◌↔◌, ◌<◌, ◌≤◌, ◌+◌, ◌⊎◌, List, [], IsTrue, OnOk, OnErr, IsErr, IfOk, IfErr, IfSome};
+ghost use Rattle.std.specs.Prelude.{◌≡◌, ◌↔◌, ◌<◌, ◌≤◌, ◌+◌, ◌⊎◌, List, [], Err, IsTrue, OnOk, OnErr, IsErr, IfOk, IfErr, IfSome};
 ghost use Rattle.std.specs.Iterator.{IsFiniteIterable};
 ghost use Rattle.futures.specs.Poll.{IfReady, OnPending};
 ghost use Rattle.futures.specs.Runs.{After, Within};
@@ -27,6 +27,7 @@ use futures_buffered_unordered_bounded::futures_unordered_bounded::{
     FuturesUnorderedBounded, POLL_LIMIT,
 };
 use std::alloc::Global;
+use std::fmt;
 use std::marker::Model;
 
 /// Streams in groups of slots.
@@ -169,6 +170,20 @@ impl<St: Drop, S: NewSource> MergeUnbounded<St, S> {
         self.groups.push(stream)
     }
 
+    /// As `push`, for a caller that has no use for a stream that is refused: it is dropped, nothing else has changed, and the error says why. So `?` takes it.
+    pub fn add(&mut self, stream: St) -> Result<(), NewFault>
+        ensures pushed { OnOk result
+            (GrowingPushes S.marks S.made FIRST_GROUP self.old stream self.new) }
+        ensures count { OnOk result
+            (all_held self.new.groups.listed ≡ all_held self.old.groups.listed + 1) }
+        ensures same { OnErr result (self.new ≡ self.old) }
+        ensures room { OnErr result ((all_held self.old.groups.listed ≡ MAX_HELD)
+            ⊎ LastIsFull self.old.groups.listed) }
+        ensures large { (result ≡ Err NewFault.TooLarge) ↔ IsAtBound self.old.groups.listed }
+    {
+        self.groups.add(stream)
+    }
+
     /// Why a push that was refused just now was refused: `TooLarge` where nothing more goes in, and else `Memory`.
     ///
     /// Takes the same time at any number of groups.
@@ -232,6 +247,15 @@ impl<St: SlotStream<S::Waker>, S: NewSource> FusedStream for MergeUnbounded<St, 
 impl<St: Drop, S: NewSource> SizeHint for MergeUnbounded<St, S> {
     fn size_hint(&self) -> (usize, Option<usize>) {
         (0, None)
+    }
+}
+
+/// Prints the number of streams held.
+impl<St: Drop, S: NewSource> fmt::Debug for MergeUnbounded<St, S> {
+    fn fmt<W: fmt::Write>(&self, f: &mut fmt::Formatter<W>) -> fmt::Result {
+        f.debug_struct("MergeUnbounded")
+            .field("len", &self.len())
+            .finish_non_exhaustive()
     }
 }
 

@@ -1,7 +1,7 @@
 //! A queue of any number of futures in progress, which yields outputs in the order of its entries.
 //!
 //! The futures stand in a set that grows by groups. Each has an entry in a list, to which pushes add at either end. A poll yields the front alone: an output that comes before its turn is kept in its entry.
-ghost use Rattle.std.specs.Prelude.{◌≡◌, ◌↔◌, ◌<◌, ◌≤◌, ◌+◌, ◌⊎◌, ℕ, List, [], length, max, false, IfOk, IfErr, OnOk, OnErr, IsOk, IsErr, IsTrue};
+ghost use Rattle.std.specs.Prelude.{◌≡◌, ◌↔◌, ◌<◌, ◌≤◌, ◌+◌, ◌⊎◌, ℕ, List, [], length, max, false, Err, IfOk, IfErr, OnOk, OnErr, IsOk, IsErr, IsTrue};
 ghost use Rattle.std.specs.Iterator.{IsFiniteIterable};
 ghost use Rattle.futures.specs.Task.{Keeps};
 ghost use Rattle.futures.specs.Poll.{OnPending};
@@ -163,6 +163,36 @@ impl<T: Drop, A: Drop, S: NewSource> GrowingQueue<T, A, S> {
         ensures limit { self.new.set.limit ≡ self.old.set.limit }
     {
         self.queue.add_front(future)
+    }
+
+    /// As `push_back`, for a caller that has no use for a future that is refused: it is dropped, no entry and no other future has changed, and the error says why. So `?` takes it.
+    pub fn add_back(&mut self, future: T) -> Result<(), NewFault>
+        ensures pushed { OnOk result
+            (AddsBack (GrowingPushesNumber S.marks S.made) self.old future self.new) }
+        ensures stays { OnErr result (Stays self.old self.new) }
+        ensures room { OnErr result (MayRefuse SetMayRefuse self.old) }
+        ensures large { (result ≡ Err NewFault.TooLarge) ↔ IsAtEnd SetRefuses self.old }
+        ensures limit { self.new.set.limit ≡ self.old.set.limit }
+    {
+        let Ok(()) = self.push_back(future) else {
+            return Err(self.refusal());
+        };
+        Ok(())
+    }
+
+    /// As `add_back`, before all others: its output is the next to be yielded.
+    pub fn add_front(&mut self, future: T) -> Result<(), NewFault>
+        ensures pushed { OnOk result
+            (AddsFront (GrowingPushesNumber S.marks S.made) self.old future self.new) }
+        ensures stays { OnErr result (Stays self.old self.new) }
+        ensures room { OnErr result (MayRefuse SetMayRefuse self.old) }
+        ensures large { (result ≡ Err NewFault.TooLarge) ↔ IsAtEnd SetRefuses self.old }
+        ensures limit { self.new.set.limit ≡ self.old.set.limit }
+    {
+        let Ok(()) = self.push_front(future) else {
+            return Err(self.refusal());
+        };
+        Ok(())
     }
 
     /// Adds each item at the back, in order, as `push_back` does. The first that is refused comes back; those before it stay, and the iterator is asked for no further one.

@@ -1,5 +1,5 @@
 //! What an ordered queue asks of the set that holds its futures in progress.
-ghost use Rattle.std.specs.Prelude.{◌≡◌, ◌+◌, ℕ, Option, OnOk, OnErr, IfOk, IfErr, IfNone, IsErr, IsTrue};
+ghost use Rattle.std.specs.Prelude.{◌≡◌, ◌↔◌, ◌+◌, ℕ, Option, OnOk, OnErr, IfOk, IfErr, IfNone, IsErr, IsTrue};
 ghost use Rattle.futures.specs.Task.{Keeps};
 ghost use Rattle.futures.specs.Poll.{IfReady, OnPending};
 ghost use Rattle.futures_buffered_unordered_bounded.specs.Groups.{outputs_in};
@@ -35,7 +35,7 @@ pub trait NumberedSet: Drop {
 
     /// Whether it refuses each push, whether there is memory or not. Takes the same time at any number of futures.
     fn refuses_all(&self) -> bool
-        ensures { IsTrue result → refuses self.now };
+        ensures { IsTrue result ↔ refuses self.now };
 
     /// Puts the future in, with its number. It comes back, and nothing has changed, where it is refused.
     fn push_numbered(&mut self, value: Numbered<Self::Future>) -> Result<(), Numbered<Self::Future>>

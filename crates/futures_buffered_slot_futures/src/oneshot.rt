@@ -1,10 +1,9 @@
 //! A channel for one value.
 //!
-//! Sender and receiver share two places: one for what is sent, one for the waker of the receiver's slot. Each has a word, and a side that finds the other at a place goes on at once. No wake is lost by that, in whatever order the steps come.
+//! Sender and receiver meet at one place, which a compare-exchange of its word gives to one of them at a time. The receiver leaves its waker there; the sender takes that out as it leaves its value, and wakes it. A side that finds the other at the place goes on at once, and no wake is lost by that, in whatever order the steps come:
 //!
-//! - The sender leaves its value, and looks for a waker then. The receiver leaves its waker, and looks for the value then. So one of them finds what the other left, since every step is sequentially consistent.
-//! - A sender that finds the receiver at the place of the waker has left its value, which the receiver looks for later.
-//! - A receiver that finds the sender at the place of the waker marks its own slot, and is polled again.
+//! - A sender that finds the receiver at the place leaves its value at another one, for those that come late, and looks for a waker then. The receiver leaves its waker, and looks at that other place then. So one of them finds what the other left, since every step is sequentially consistent.
+//! - A receiver that finds the sender at the place, or gone from it, marks its own slot, and is polled again.
 ghost use Rattle.std.specs.Prelude.{◌≡◌, ◌⊎◌, IfErr, IfSome};
 
 use counted_slot::{Claim, Counted, FREE, Fits, MARKED, PRESENT, TAKEN};
@@ -15,9 +14,18 @@ use std::alloc::{AllocError, Global};
 use std::sync::{Arc, Mutex};
 use thiserror::Error;
 
-// What the sender left. Nobody locks the mutex: in it a value goes to another thread that is not `Sync`.
+// What a sender that is done leaves: its value, if it sent one. Nobody locks the mutex: in it a value goes to another thread that is not `Sync`.
 #[derive(Drop)]
 struct Sent<T>(Option<Mutex<T>>);
+
+impl<T: Drop> Sent<T> {
+    fn answer(self) -> Result<T, Canceled> {
+        match self.0 {
+            Some(value) => Ok(value.into_inner()),
+            None => Err(Canceled),
+        }
+    }
+}
 
 impl<T> Fits for Sent<T> {
     ghost use Rattle.std.specs.Prelude.{⊤};
@@ -27,11 +35,15 @@ impl<T> Fits for Sent<T> {
     ghost fits = { λ _ _. ⊤ };
 }
 
-// The waker that is kept, if one is.
+// What one of the two left for the other.
 #[derive(Drop)]
-struct Kept(Option<SharedWaker>);
+enum Left<T> {
+    Nothing,
+    Waker(SharedWaker),
+    Sent(Sent<T>),
+}
 
-impl Fits for Kept {
+impl<T> Fits for Left<T> {
     ghost use Rattle.std.specs.Prelude.{⊤};
 
     type Tag = ();
@@ -39,56 +51,34 @@ impl Fits for Kept {
     ghost fits = { λ _ _. ⊤ };
 }
 
+// The word of the place where the two meet, once the sender is done.
+const DONE: u64 = MARKED;
+
+// The same, where the receiver went before.
+const GONE: u64 = 1 << 32;
+
 #[derive(Drop)]
 struct Shared<T> {
-    // `FREE` at first, `PRESENT` once the sender is done, and `MARKED` where the receiver went before.
-    sent: Counted<Sent<T>>,
-    // `PRESENT` where a waker is kept, and `FREE` where none is.
-    kept: Counted<Kept>,
+    // `FREE` where nothing is left, and `PRESENT` where a waker is.
+    meeting: Counted<Left<T>>,
+    // `PRESENT` where the sender found the receiver at the other place.
+    late: Counted<Sent<T>>,
 }
 
 impl<T: Drop> Shared<T> {
     fn new() -> Shared<T> {
         Shared {
-            sent: Counted::new(Sent(None), &()),
-            kept: Counted::new(Kept(None), &()),
+            meeting: Counted::new(Left::Nothing, &()),
+            late: Counted::new(Sent(None), &()),
         }
     }
 
-    // The place of what is sent, for the one that comes to it first.
-    fn begin(&self) -> Option<Claim<'_, Sent<T>>>
+    // The place where the two meet, where its word is still the one that was seen.
+    fn take_place(&self, seen: u64) -> Option<Claim<'_, Left<T>>>
+        requires { (seen ≡ FREE) ⊎ (seen ≡ PRESENT) ⊎ (seen ≡ DONE) }
         ensures { IfSome result (λ claim. claim.right ≡ 2) }
     {
-        let (found, claim) = self.sent.turn(FREE, TAKEN);
-        if found != FREE {
-            claim.done();
-            return None;
-        }
-        Some(claim)
-    }
-
-    // What the sender left. `None` where it is not done.
-    fn take_sent(&self) -> Option<Result<T, Canceled>> {
-        if self.sent.load() != PRESENT {
-            return None;
-        }
-        let (found, claim) = self.sent.turn(PRESENT, TAKEN);
-        if found != PRESENT {
-            claim.done();
-            return None;
-        }
-        match claim.put(Sent(None), PRESENT) {
-            Sent(Some(value)) => Some(Ok(value.into_inner())),
-            Sent(None) => Some(Err(Canceled)),
-        }
-    }
-
-    // The place of the waker, where its word is still the one that was seen.
-    fn take_place(&self, seen: u64) -> Option<Claim<'_, Kept>>
-        requires { (seen ≡ FREE) ⊎ (seen ≡ PRESENT) }
-        ensures { IfSome result (λ claim. claim.right ≡ 2) }
-    {
-        let (found, claim) = self.kept.turn(seen, TAKEN);
+        let (found, claim) = self.meeting.turn(seen, TAKEN);
         if found != seen {
             claim.done();
             return None;
@@ -96,39 +86,99 @@ impl<T: Drop> Shared<T> {
         Some(claim)
     }
 
-    // The same, whichever of the two it is.
-    fn take_any_place(&self) -> Option<Claim<'_, Kept>>
+    // The same, unless the other is there, or one of the two has gone.
+    fn take_any_place(&self) -> Option<Claim<'_, Left<T>>>
         ensures { IfSome result (λ claim. claim.right ≡ 2) }
     {
-        let seen = self.kept.load();
+        let seen = self.meeting.load();
         if seen != FREE && seen != PRESENT {
             return None;
         }
         self.take_place(seen)
     }
 
-    // Wakes the slot of the receiver, where that has left its waker.
-    fn wake(&self) {
-        if self.kept.load() != PRESENT {
-            return;
-        }
-        let Some(claim) = self.take_place(PRESENT) else {
-            return;
-        };
-        let Kept(waker) = claim.put(Kept(None), FREE);
-        if let Some(waker) = waker {
-            waker.wake();
+    // Leaves what is sent, and wakes the slot of the receiver, where that has left its waker.
+    fn finish(&self, sent: Sent<T>) {
+        match self.take_any_place() {
+            Some(claim) => wake_left(claim.put(Left::Sent(sent), DONE)),
+            None => {
+                self.leave_late(sent);
+                self.wake_late();
+            }
         }
     }
 
-    // Keeps a waker in place of the one before. Where the sender is at the place, the slot is marked at once.
+    // The sender is the only one that leaves something here.
+    fn leave_late(&self, sent: Sent<T>) {
+        let (found, claim) = self.late.turn(FREE, TAKEN);
+        if found != FREE {
+            claim.done();
+            return;
+        }
+        let _before = claim.put(sent, PRESENT);
+    }
+
+    fn wake_late(&self) {
+        if self.meeting.load() != PRESENT {
+            return;
+        }
+        if let Some(claim) = self.take_place(PRESENT) {
+            wake_left(claim.put(Left::Nothing, FREE));
+        }
+    }
+
+    // Keeps a waker in place of the one before. Where the sender is at the place, or is done, the slot is marked at once.
     fn keep(&self, waker: SharedWaker) {
         match self.take_any_place() {
             Some(claim) => {
-                let _before = claim.put(Kept(Some(waker)), PRESENT);
+                let _before = claim.put(Left::Waker(waker), PRESENT);
             }
             None => waker.wake(),
         }
+    }
+
+    // Whether the sender has left something, at either place.
+    fn is_done(&self) -> bool {
+        self.meeting.load() == DONE || self.late.load() == PRESENT
+    }
+
+    // What it left. A second call finds nothing.
+    fn take_sent(&self) -> Result<T, Canceled> {
+        if let Some(claim) = self.take_done() {
+            if let Left::Sent(sent) = claim.put(Left::Nothing, DONE) {
+                return sent.answer();
+            }
+        }
+        let (found, claim) = self.late.turn(PRESENT, TAKEN);
+        if found != PRESENT {
+            claim.done();
+            return Err(Canceled);
+        }
+        claim.put(Sent(None), PRESENT).answer()
+    }
+
+    fn take_done(&self) -> Option<Claim<'_, Left<T>>>
+        ensures { IfSome result (λ claim. claim.right ≡ 2) }
+    {
+        if self.meeting.load() != DONE {
+            return None;
+        }
+        self.take_place(DONE)
+    }
+
+    // The same, of what nobody shares any more.
+    fn into_sent(self) -> Result<T, Canceled> {
+        let Shared { meeting, late } = self;
+        match meeting.into_inner() {
+            Left::Sent(sent) => sent.answer(),
+            _ => late.into_inner().answer(),
+        }
+    }
+}
+
+fn wake_left<T: Drop>(left: Left<T>) {
+    if let Left::Waker(waker) = left {
+        waker.wake();
     }
 }
 
@@ -141,7 +191,8 @@ pub struct Sender<T: Drop> {
 ///
 /// A poll takes no memory. It leaves a second waker of its slot. Where there are as many wakers of the set as can be counted, it marks its slot instead, and is polled again until the value is there. Polled again after its value came, it is `Canceled`.
 pub struct Receiver<T: Drop> {
-    shared: Arc<Shared<T>>,
+    // Nothing once the answer came and the sender was gone.
+    shared: Option<Arc<Shared<T>>>,
 }
 
 /// The sender was dropped before it sent a value.
@@ -153,7 +204,12 @@ pub struct Canceled;
 pub fn channel<T: Drop>(alloc: Global) -> Result<(Sender<T>, Receiver<T>), AllocError> {
     let shared = Arc::new(alloc, Shared::new())?;
     let other = Arc::try_clone(&shared)?;
-    Ok((Sender { shared }, Receiver { shared: other }))
+    Ok((
+        Sender { shared },
+        Receiver {
+            shared: Some(other),
+        },
+    ))
 }
 
 impl<T: Drop> Sender<T> {
@@ -161,17 +217,17 @@ impl<T: Drop> Sender<T> {
     pub fn send(self, value: T) -> Result<(), T>
         ensures back { IfErr result (λ back. back ≡ value) }
     {
-        let Some(claim) = self.shared.begin() else {
+        if self.is_canceled() {
             return Err(value);
-        };
-        let _before = claim.put(Sent(Some(Mutex::new(value))), PRESENT);
-        self.shared.wake();
+        }
+        let Sender { shared } = self;
+        shared.finish(Sent(Some(Mutex::new(value))));
         Ok(())
     }
 
     /// Whether the receiver went before anything was sent.
     pub fn is_canceled(&self) -> bool {
-        self.shared.sent.load() == MARKED
+        self.shared.meeting.load() == GONE
     }
 }
 
@@ -179,10 +235,7 @@ impl<T: Drop> Sender<T> {
 impl<T: Drop> Drop for Sender<T> {
     fn drop(self) {
         let Sender { shared } = self;
-        if let Some(claim) = shared.begin() {
-            let _before = claim.put(Sent(None), PRESENT);
-            shared.wake();
-        }
+        shared.finish(Sent(None));
     }
 }
 
@@ -190,8 +243,37 @@ impl<T: Drop> Drop for Sender<T> {
 impl<T: Drop> Drop for Receiver<T> {
     fn drop(self) {
         let Receiver { shared } = self;
-        if let Some(claim) = shared.begin() {
-            let _before = claim.put(Sent(None), MARKED);
+        if let Some(shared) = shared {
+            if let Some(claim) = shared.take_any_place() {
+                let _before = claim.put(Left::Nothing, GONE);
+            }
+        }
+    }
+}
+
+impl<T: Drop> Receiver<T> {
+    // The answer, where the sender is done. What both shared goes with it, where the sender is gone.
+    fn take_answer(&mut self) -> Option<Result<T, Canceled>> {
+        let Some(shared) = self.shared.take() else {
+            return Some(Err(Canceled));
+        };
+        if !shared.is_done() {
+            self.shared = Some(shared);
+            return None;
+        }
+        match Arc::try_unwrap(shared) {
+            Ok(shared) => Some(shared.into_sent()),
+            Err(shared) => {
+                let answer = shared.take_sent();
+                self.shared = Some(shared);
+                Some(answer)
+            }
+        }
+    }
+
+    fn keep(&self, waker: SharedWaker) {
+        if let Some(shared) = &self.shared {
+            shared.keep(waker);
         }
     }
 }
@@ -200,14 +282,14 @@ impl<T: Drop> SlotFuture<SharedWaker> for Receiver<T> {
     type Output = Result<T, Canceled>;
 
     fn poll(&mut self, waker: &SharedWaker) -> Poll<Result<T, Canceled>> {
-        if let Some(answer) = self.shared.take_sent() {
+        if let Some(answer) = self.take_answer() {
             return Poll::Ready(answer);
         }
         match waker.try_clone() {
-            Ok(waker) => self.shared.keep(waker),
+            Ok(waker) => self.keep(waker),
             Err(_) => waker.wake(),
         }
-        match self.shared.take_sent() {
+        match self.take_answer() {
             Some(answer) => Poll::Ready(answer),
             None => Poll::Pending,
         }

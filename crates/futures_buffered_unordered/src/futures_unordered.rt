@@ -1,7 +1,7 @@
 //! A set of futures that grows by groups, yielded as they finish.
 //!
 //! It holds its futures in groups of slots, and asks each group by a rule that says how one held value is polled. One registration of the task does for all groups.
-ghost use Rattle.std.specs.Prelude.{◌≡◌, ◌↔◌, ◌<◌, ◌≤◌, ◌+◌, ◌⊎◌, [], IsTrue, OnOk, OnErr, IsOk, IsErr, IfOk, IfErr, IfNone};
+ghost use Rattle.std.specs.Prelude.{◌≡◌, ◌↔◌, ◌<◌, ◌≤◌, ◌+◌, ◌⊎◌, [], Err, IsTrue, OnOk, OnErr, IsOk, IsErr, IfOk, IfErr, IfNone};
 ghost use Rattle.futures.specs.Poll.{IfReady, OnPending};
 ghost use Rattle.std.specs.Iterator.{IsFiniteIterable};
 ghost use Rattle.futures.specs.Task.{Keeps};
@@ -161,6 +161,20 @@ impl<F: Drop, S: NewSource> FuturesUnordered<F, S> {
         ensures large { IsAtBound self.old.groups.listed → IsErr result }
     {
         self.groups.push(value)
+    }
+
+    /// As `push`, for a caller that has no use for a future that is refused: it is dropped, nothing else has changed, and the error says why. So `?` takes it.
+    pub fn add(&mut self, value: F) -> Result<(), NewFault>
+        ensures pushed { OnOk result
+            (GrowingPushes S.marks S.made FIRST_GROUP self.old value self.new) }
+        ensures count { OnOk result
+            (all_held self.new.groups.listed ≡ all_held self.old.groups.listed + 1) }
+        ensures same { OnErr result (self.new ≡ self.old) }
+        ensures room { OnErr result ((all_held self.old.groups.listed ≡ MAX_HELD)
+            ⊎ LastIsFull self.old.groups.listed) }
+        ensures large { (result ≡ Err NewFault.TooLarge) ↔ IsAtBound self.old.groups.listed }
+    {
+        self.groups.add(value)
     }
 
     /// One poll of the set, where `rule` says how one held value is polled.

@@ -1,7 +1,7 @@
 //! Groups of slots that grow, and the round in which a poll asks them.
 //!
 //! Each group is a bounded set. A push goes into the last group, and makes one of twice its slots where it is full. A poll asks each group in turn, from the place where the poll before ended, until one gives an output. How one group is asked, `AskGroup` says: a set that grows and a merge that grows differ in that alone.
-ghost use Rattle.std.specs.Prelude.{◌≡◌, ◌↔◌, ◌<◌, ◌≤◌, ◌+◌, ◌⊎◌, length, IsTrue, OnOk, OnErr, IsOk, IsErr, IfOk, IfErr, IfNone};
+ghost use Rattle.std.specs.Prelude.{◌≡◌, ◌↔◌, ◌<◌, ◌≤◌, ◌+◌, ◌⊎◌, length, IsTrue, Err, OnOk, OnErr, IsOk, IsErr, IfOk, IfErr, IfNone};
 ghost use Rattle.std.specs.List.{All};
 ghost use Rattle.futures.specs.Poll.{IfReady, OnPending};
 ghost use Rattle.futures.specs.Task.{Covers, Keeps};
@@ -290,6 +290,23 @@ impl<F: Drop, S: NewSource> SlotGroups<F, S> {
             };
         }
         self.push_last(value);
+        Ok(())
+    }
+
+    /// As `push`, for a caller that has no use for a value that is refused: it is dropped, nothing else has changed, and the error says why. So `?` takes it.
+    pub fn add(&mut self, value: F) -> Result<(), NewFault>
+        ensures pushed { OnOk result
+            (GrowingPushes S.marks S.made FIRST_GROUP self.old value self.new) }
+        ensures count { OnOk result
+            (all_held self.new.groups.listed ≡ all_held self.old.groups.listed + 1) }
+        ensures same { OnErr result (self.new ≡ self.old) }
+        ensures room { OnErr result ((all_held self.old.groups.listed ≡ MAX_HELD)
+            ⊎ LastIsFull self.old.groups.listed) }
+        ensures large { (result ≡ Err NewFault.TooLarge) ↔ IsAtBound self.old.groups.listed }
+    {
+        let Ok(()) = self.push(value) else {
+            return Err(self.refusal());
+        };
         Ok(())
     }
 

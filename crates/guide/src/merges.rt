@@ -1,6 +1,5 @@
 //! Merges.
 use crate::numbers::Numbers;
-use anyhow::bail;
 use futures::StreamExt;
 use futures::executor::block_on;
 use futures_buffered::{MergeBounded, MergeUnbounded};
@@ -29,12 +28,8 @@ where
     R: Wait + RandomSource + AllocGlobal + Print,
 {
     let mut merge = MergeUnbounded::new(rt.alloc());
-    let (Ok(()), Ok(())) = (
-        merge.push(Numbers { next: 0, end: 2 }),
-        merge.push(Numbers { next: 10, end: 12 }),
-    ) else {
-        bail!("out of memory");
-    };
+    merge.add(Numbers { next: 0, end: 2 })?;
+    merge.add(Numbers { next: 10, end: 12 })?;
     let items = block_on(rt, merge.collect(rt.alloc()))??;
     println!(rt; "{items:?}")?;
     Ok(())

@@ -34,9 +34,7 @@ where
 {
     let mut queue = FuturesOrdered::new(rt.alloc());
     for value in 0..5 {
-        if queue.push_back(after(5 - value, value)).is_err() {
-            bail!("out of memory");
-        }
+        queue.add_back(after(5 - value, value))?;
     }
     let outputs = block_on(rt, queue.collect(rt.alloc()))??;
     println!(rt; "{outputs:?}")?;

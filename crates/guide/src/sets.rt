@@ -1,6 +1,5 @@
 //! Sets.
 use crate::countdown::after;
-use anyhow::bail;
 use futures::executor::block_on;
 use futures::{StreamExt, future};
 use futures_buffered::{FuturesUnordered, FuturesUnorderedBounded};
@@ -30,9 +29,7 @@ where
 {
     let mut work = FuturesUnordered::new(rt.alloc());
     for value in 0..100 {
-        if work.push(after(1, value)).is_err() {
-            bail!("out of memory");
-        }
+        work.add(after(1, value))?;
     }
     println!(rt; "{} held, room for {}", work.len(), work.capacity())?;
     let sum = work.fold(0u64, |sum, value| future::ready(sum.wrapping_add(value)));
