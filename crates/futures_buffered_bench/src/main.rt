@@ -6,6 +6,7 @@ mod clock;
 mod growing;
 mod handed;
 mod kit;
+mod loops;
 mod one_shots;
 mod ordered;
 mod ready_list;
@@ -18,12 +19,13 @@ use adaptors::{Buffered, ForEach, TryBuffered};
 use growing::LastWoken;
 use handed::handed_over;
 use kit::{KitRefilled, KitWoken};
+use loops::{by_for_each, by_next};
 use one_shots::{DrivenSet, KitSet, OneShots, SharedSet};
 use ordered::{Bounded, Drained, Growing, InTurn, Overtaken};
 use ready_list::{Already, Fresh, Listed};
 use report::{line, timed};
 use sets::{Refilled, Woken};
-use sources::{Beside, four_wakers};
+use sources::{Beside, TaskAlone, four_wakers};
 use std::alloc::AllocGlobal;
 use std::io::Write;
 use std::random::RandomSource;
@@ -293,6 +295,8 @@ where
     R: Clock + RandomSource + AllocGlobal + Threads + Sync,
     O: io::Write,
 {
+    let name = "the kit alone: a registration and a wake of the task, times";
+    timed(rt, output, name, 1, Ok(TaskAlone::new()))?;
     for count in [1usize, 2, 11] {
         let sources = Beside::new(rt.alloc(), count);
         timed(
@@ -321,6 +325,10 @@ where
     R: Clock + RandomSource + AllocGlobal + Threads + Wait + Sync,
     O: io::Write,
 {
+    let name = "block_on: each output waited for by one of its own, outputs";
+    line(output, name, 1_000, by_next(rt)?)?;
+    let name = "block_on: for_each over all, outputs";
+    line(output, name, 1_000, by_for_each(rt)?)?;
     let name = "block_on: asked of another thread, sent and given, one-shots";
     if let Some(tenths) = handed_over(rt, rt.alloc())? {
         line(output, name, 1, tenths)?;

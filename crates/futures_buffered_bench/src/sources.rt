@@ -1,7 +1,7 @@
 //! Workloads of shared sources.
 use crate::clock::{Workload, tenths};
 use crate::sets::keep;
-use futures::task::Context;
+use futures::task::{Context, Poll, Source as TaskSource, Waker};
 use futures_buffered_core::ready_core::{NewFault, Taken};
 use futures_buffered_core::ready_shared::{OuterWaker, SharedReady, SharedWaker};
 use futures_buffered_core::ready_source::{NewSource, ReadySource, SlotWaker};
@@ -9,6 +9,36 @@ use std::alloc::{AllocError, Global};
 use std::thread::Threads;
 use std::time::{Clock, Instant};
 use std::{io, thread};
+
+/// The kit alone. Each call leaves the task's waker in a place of its own, takes it out, and wakes the task.
+#[derive(Drop)]
+pub struct TaskAlone {
+    source: TaskSource,
+}
+
+impl TaskAlone {
+    pub fn new() -> TaskAlone {
+        TaskAlone {
+            source: TaskSource::new(),
+        }
+    }
+}
+
+impl Workload for TaskAlone {
+    fn calls(&self) -> u64 {
+        10_000
+    }
+
+    fn run(&mut self, cx: &mut Context<'_>) {
+        let mut slot: Option<Waker> = None;
+        for _ in 0..10_000 {
+            let _: Poll<()> = cx.register(&self.source, &mut slot);
+            if let Some(waker) = slot.take() {
+                waker.wake();
+            }
+        }
+    }
+}
 
 /// Sources that stand beside one another. Each call registers once, wakes a slot of the last source, and asks each until it is empty.
 #[derive(Drop)]

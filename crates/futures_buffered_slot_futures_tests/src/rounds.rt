@@ -1,4 +1,4 @@
-//! A send and a poll meet in one round after another, each time at a new one-shot. Once both are over, either the value came or the slot is marked: so no later wake stands in for one that was lost.
+//! A send and a poll meet in one round after another, each time at a new one-shot. Once both are over, either the value came, or the slot is marked and the value comes at the next poll: so no later wake stands in for one that was lost.
 use crate::same::assert_same;
 use futures::task::Poll;
 use futures_buffered_core::ready_core::Taken;
@@ -55,15 +55,12 @@ fn send_often(rounds: &Rounds, senders: Vec<Sender<u64>>) {
     }
 }
 
-// Polls at slot 0. Pending where there is no such slot.
-fn poll_at(source: &SharedReady, receiver: &mut Receiver<u64>) -> bool {
+// Polls at slot 0. Says whether the value of this round came.
+fn polled(source: &SharedReady, receiver: &mut Receiver<u64>, round: u64) -> bool {
     if source.capacity() == 0 {
         return false;
     }
-    match receiver.poll(source.waker(0)) {
-        Poll::Ready(value) => value.is_ok(),
-        Poll::Pending => false,
-    }
+    receiver.poll(source.waker(0)) == Poll::Ready(Ok(round))
 }
 
 // Whether slot 0 was marked. No slot is, after it.
@@ -79,7 +76,7 @@ fn take_all(source: &mut SharedReady) -> bool {
     any
 }
 
-// One round: whether the value came or the slot was marked.
+// One round: whether the value came, or the slot was marked and it came then.
 fn meet(
     source: &mut SharedReady,
     rounds: &Rounds,
@@ -88,13 +85,13 @@ fn meet(
 ) -> bool {
     rounds.begun.store(round, SeqCst);
     pause(rounds, round % 31);
-    let came = poll_at(source, receiver);
+    let came = polled(source, receiver, round);
     wait_for(&rounds.sent, round);
     let is_marked = take_all(source);
-    came || is_marked
+    came || (is_marked && polled(source, receiver, round))
 }
 
-// In how many rounds the wake was lost.
+// In how many rounds the wake or the value was lost.
 fn lost(source: &mut SharedReady, rounds: &Rounds, receivers: Vec<Receiver<u64>>) -> u64 {
     let mut lost = 0u64;
     for (before, mut receiver) in receivers.into_iter().enumerate() {

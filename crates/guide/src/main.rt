@@ -6,6 +6,7 @@ mod checked;
 mod countdown;
 mod foreign;
 mod joins;
+mod loops;
 mod merges;
 mod numbers;
 mod proved;
@@ -18,6 +19,7 @@ fn main(rt: HostRuntime) -> Result<(), anyhow::Error> {
     sets::bounded_set(&rt)?;
     sets::work_list(&rt)?;
     sets::one_name_a_poll(&rt)?;
+    loops::pushed_into_while_drained(&rt)?;
     queues::bounded_queue(&rt)?;
     queues::growing_queue(&rt)?;
     joins::all_outputs(&rt)?;
