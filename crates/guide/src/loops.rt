@@ -31,18 +31,14 @@ impl Future for Halving {
     type Output = Result<u64, NewFault>;
 
     fn poll(&mut self, cx: &mut Context<'_>) -> Poll<Result<u64, NewFault>> {
-        for _ in 0..61 {
-            match self.parts.poll_next(cx) {
-                Poll::Ready(Some(part)) => {
-                    if let Err(fault) = self.take(part) {
-                        return Poll::Ready(Err(fault));
-                    }
-                }
-                Poll::Ready(None) => return Poll::Ready(Ok(self.ones)),
-                Poll::Pending => return Poll::Pending,
-            }
+        match self.parts.poll_next(cx) {
+            Poll::Ready(Some(part)) => match self.take(part) {
+                Ok(()) => cx.yield_now(),
+                Err(fault) => Poll::Ready(Err(fault)),
+            },
+            Poll::Ready(None) => Poll::Ready(Ok(self.ones)),
+            Poll::Pending => Poll::Pending,
         }
-        cx.yield_now()
     }
 }
 
