@@ -211,6 +211,7 @@ impl<O: OuterWaker> BeforeEmpty for TaskPlace<O> {
 
     ghost leaves = { λ _ old new. new ≡ old };
 
+    #[inline(always)]
     fn before_empty(&mut self, _made: &StepsMade<'_>) {
         if self.own.is_some() {
             self.give_up_own();
@@ -220,6 +221,7 @@ impl<O: OuterWaker> BeforeEmpty for TaskPlace<O> {
 
 impl<O: OuterWaker> TaskPlace<O> {
     // Wakes find the waker from here on.
+    #[inline(never)]
     fn give_up_own(&mut self)
         ensures { self.new ≡ self.old }
     {

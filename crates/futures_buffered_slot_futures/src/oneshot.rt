@@ -213,7 +213,7 @@ pub fn channel<T: Drop>(alloc: Global) -> Result<(Sender<T>, Receiver<T>), Alloc
 }
 
 impl<T: Drop> Sender<T> {
-    /// Sends the value and wakes the slot of the receiver once. Where the receiver is gone, it hands the value back.
+    /// Sends the value and wakes the slot of the receiver once. Where the receiver is gone, it hands the value back. A send that meets the receiver as it goes may answer `Ok`: the value is dropped with what both ends share.
     pub fn send(self, value: T) -> Result<(), T>
         ensures back { IfErr result (λ back. back ≡ value) }
     {

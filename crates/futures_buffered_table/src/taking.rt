@@ -194,6 +194,7 @@ impl ReadyList {
     }
 
     // Goes on with a taking whose head moved from the stub to this slot.
+    #[inline(never)]
     fn take_slot(&self, seat: &mut Seat<u8, View>, head: usize) -> (usize, Taken)
         requires role { IsInRole self.now (Polls head Moved) seat.old
             × (head < self.now.capacity) }
@@ -214,6 +215,7 @@ impl ReadyList {
     }
 
     // Makes a taking from this head, and answers the head after it and its answer.
+    #[inline(always)]
     fn take_from<B: BeforeEmpty>(
         &self,
         seat: &mut Seat<u8, View>,
@@ -271,6 +273,7 @@ impl ReadyList {
     ///
     /// So it is called once where the answer is Empty, once where it is Pause with the stub as head,
     /// and nowhere else. The taking itself has no lock and no memory.
+    #[inline(always)]
     pub fn take_with<B: BeforeEmpty>(&self, seat: &mut PollSeat, before: &mut B) -> Taken
         requires { seat.old.list ≡ self.now.list }
         ensures list { seat.new.list ≡ seat.old.list }

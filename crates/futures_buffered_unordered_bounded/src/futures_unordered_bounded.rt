@@ -252,6 +252,7 @@ impl<F: Drop, S: ReadySource> FuturesUnorderedBounded<F, S> {
     /// Registers the task, takes at most as many names as one poll may, and polls the values named until one is ready. No slot is emptied: the answer says which slot is done.
     ///
     /// `Pending` wakes the task at once where the source paused, or where the limit was reached. Takes time in proportion to the names taken, besides the polls.
+    #[inline(always)]
     pub fn poll_first<R: PollOne<F, S::Waker>>(
         &mut self,
         rule: &R,
@@ -287,6 +288,7 @@ impl<F: Drop, S: ReadySource> FuturesUnorderedBounded<F, S> {
     /// As `poll_first`, for a task that is registered already, with this set or with one beside it. Registers nothing. It is public for merges that grow.
     ///
     /// The source is as a registration may have left it.
+    #[inline(always)]
     pub fn poll_first_covered<R: PollOne<F, S::Waker>>(
         &mut self,
         rule: &R,
@@ -383,6 +385,7 @@ impl<F: Drop, S: ReadySource> FuturesUnorderedBounded<F, S> {
     }
 
     /// As `poll_with`, for a task that is registered already, with this set or with one beside it. Registers nothing. It is public for sets that grow.
+    #[inline(always)]
     pub fn poll_covered<R: PollOne<F, S::Waker>>(
         &mut self,
         rule: &R,
