@@ -6,7 +6,7 @@ use crossbeam_channel::{Sender, unbounded};
 use futures::StreamExt;
 use futures::channel::oneshot;
 use futures::executor::block_on;
-use futures_buffered::{Foreign, foreign_set};
+use futures_buffered::{Foreign, GrowingForeignSet};
 use std::alloc::Global;
 use std::collections::BTreeMap;
 use std::env::Env;
@@ -76,13 +76,13 @@ fn crawl<R>(rt: &R, jobs: &Sender<Job, Global>, pages: &mut Pages) -> Result<(),
 where
     R: Wait + RandomSource + AllocGlobal,
 {
-    let mut under_way = foreign_set(rt.alloc(), UNDER_WAY)?;
+    let mut under_way = GrowingForeignSet::over((), rt.alloc(), UNDER_WAY)?;
     for _ in rt.forever() {
-        if !under_way.is_full() {
+        if under_way.len() < UNDER_WAY {
             if let Some(name) = pages.waiting.pop() {
                 let (answer, receiver) = oneshot::channel(rt.alloc())?;
                 let _ = jobs.send(rt, Job { name, answer });
-                under_way.push(Foreign::new(receiver));
+                under_way.add(Foreign::new(receiver))?;
                 continue;
             }
         }

@@ -1,13 +1,14 @@
 //! Outputs in the order of pushes, joins, and a buffer over a stream of futures of the kit.
 use crate::receivers::{Counted, Receivers, Sender};
 use crate::same::assert_same;
+use futures::channel::oneshot::{self, Canceled};
 use futures::task::Poll;
 use futures::test::MockTask;
 use futures::{Future, Stream, stream};
 use futures_buffered_adaptors::buffered_ordered::BufferedOrdered;
 use futures_buffered_driven::{Driven, Foreign, ForeignQueue};
-use futures_buffered_sets::JoinAll;
-use std::alloc::AllocError;
+use futures_buffered_sets::{JoinAll, TryJoinAll};
+use std::alloc::{AllocError, Global};
 use std::test::Fail;
 use test_parts::keep::keep;
 
@@ -95,6 +96,48 @@ fn all_of_a_list(rt: HostRuntime) -> Result<(), Fail> {
     };
     assert_eq!(rt; outputs.as_slice(), [0, 1, 2, 3, 4].as_slice());
     assert_same(&rt, receivers.polls(), 10);
+    Ok(())
+}
+
+type Receiver = oneshot::Receiver<u64>;
+
+type TryJoin = TryJoinAll<Foreign<Receiver>, Driven<Receiver>>;
+
+// A join of two receivers, and their senders.
+fn try_two(alloc: Global) -> Result<(Sender, Sender, TryJoin), Fail> {
+    let (first, one) = oneshot::channel(alloc)?;
+    let (second, other) = oneshot::channel(alloc)?;
+    let held = [Foreign::new(one), Foreign::new(other)];
+    Ok((first, second, TryJoinAll::over(&(), alloc, held)?))
+}
+
+#[test]
+fn all_that_go_well(rt: HostRuntime) -> Result<(), Fail> {
+    let task = MockTask::new(&rt)?;
+    let (first, second, mut join) = try_two(rt.alloc())?;
+    assert!(rt; task.enter(|cx| join.poll(cx)).is_pending());
+    assert_same(&rt, second.send(2), Ok(()));
+    assert!(rt; task.enter(|cx| join.poll(cx)).is_pending());
+    assert_same(&rt, first.send(1), Ok(()));
+    let Poll::Ready(Ok(outputs)) = task.enter(|cx| join.poll(cx)) else {
+        return Err("no outputs".into());
+    };
+    assert_eq!(rt; outputs.as_slice(), [1, 2].as_slice());
+    Ok(())
+}
+
+#[test]
+fn the_first_that_fails(rt: HostRuntime) -> Result<(), Fail> {
+    let task = MockTask::new(&rt)?;
+    let (first, second, mut join) = try_two(rt.alloc())?;
+    assert!(rt; task.enter(|cx| join.poll(cx)).is_pending());
+    assert!(rt; task.enter(|cx| join.poll(cx)).is_pending());
+    drop(second);
+    let Poll::Ready(Err(left)) = task.enter(|cx| join.poll(cx)) else {
+        return Err("no error".into());
+    };
+    assert_same(&rt, left, Canceled);
+    assert_same(&rt, first.send(1), Err(1));
     Ok(())
 }
 
