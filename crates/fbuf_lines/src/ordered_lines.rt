@@ -1,5 +1,5 @@
 //! Commands to an ordered queue.
-ghost use Rattle.std.specs.Prelude.{◌≡◌, IfOk, OnErr};
+ghost use Rattle.std.specs.Prelude.{IfOk, OnErr};
 ghost use Rattle.futures.specs.Task.{Keeps};
 ghost use Rattle.futures_buffered_ordered.specs.OrderedEntries.{Stays};
 ghost use Rattle.fbuf_lines.specs.OrderedLines.{BackGives, FrontGives, PushMayLack};

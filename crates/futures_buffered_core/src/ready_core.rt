@@ -1,7 +1,7 @@
 //! Which slots are marked, and which one is named next.
 //!
 //! Events are marks and takings. A mark of a slot is unserved until a taking names that slot. A taking names the slot whose unserved mark is oldest. Nothing here waits, and after construction nothing takes memory but `run`, for its replies.
-ghost use Rattle.std.specs.Prelude.{◌≡◌, ◌+◌, ◌<◌, ◌≤◌, ◌↔◌, [], IfOk, IfErr, ℕ, List, ◌++◌, length, slice_get, slice_set, IfNone, IfSome, OnOk, OnErr, nat_eq, vec_len};
+ghost use Rattle.std.specs.Prelude.{◌≡◌, ◌+◌, ◌<◌, [], IfOk, ℕ, List, ◌++◌, length, slice_set, OnOk, OnErr, nat_eq, vec_len};
 ghost use Rattle.std.specs.List.{IsDistinct};
 ghost use Rattle.futures_buffered_core.specs.ReadyCore.{MarkGives, TakeGives, IsNameBelow};
 ghost use Rattle.futures_buffered_core.specs.declared.ready_core.Reply.{Reply};

@@ -1,7 +1,7 @@
 //! Fixed slots that hold values.
 //!
 //! A value goes into the first free slot and stays there until it is removed. For a new map the free slots are 0, 1, 2 and so on; a slot that a removal frees is the first to be used again. No call but the constructors takes memory.
-ghost use Rattle.std.specs.Prelude.{◌≡◌, ◌≢◌, ◌+◌, ◌<◌, ◌≤◌, [], ◌∷◌, IfOk, IfErr, OnOk, MatchOption, IfSome, IfNone, ℕ, ◌^◌, List, IsTrue, ◌↔◌, ◌==◌, replicate, vec_len, is_some, IsSome};
+ghost use Rattle.std.specs.Prelude.{◌≡◌, ◌≢◌, ◌+◌, ◌<◌, ◌≤◌, [], IfOk, IfErr, OnOk, MatchOption, IfSome, IfNone, ℕ, ◌^◌, List, IsTrue, ◌↔◌, ◌==◌, replicate, is_some, IsSome};
 ghost use Rattle.std.specs.List.{range_with_len};
 ghost use Rattle.std.specs.VecDeque.{deque_capacity};
 ghost use Rattle.std.specs.Option.{option_copied_mut};

@@ -1,6 +1,5 @@
 //! What a set holds in place of a future of the kit.
 ghost use Rattle.std.specs.Prelude.{◌≡◌, Some};
-ghost use Rattle.futures_buffered_driven.specs.Given.{SomeGives};
 
 use crate::held::Held;
 use crate::seat::{Seat, Ticket};

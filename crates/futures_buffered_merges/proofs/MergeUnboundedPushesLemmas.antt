@@ -8,12 +8,11 @@ use Rattle.futures.specs.declared.task.Poll.{Poll}
 use Rattle.futures_buffered_core.specs.SlotMap.{Slots, Inserts, no_slots, value_in}
 use Rattle.futures_buffered_table.specs.declared.answer.Woke.{Woke}
 use Rattle.futures_buffered_core.specs.ReadySource.{SourceSteps}
-use Rattle.futures_buffered_unordered_bounded.specs.FuturesUnorderedBounded.{Bounded, Pushes, IsNewSet}
-use Rattle.futures_buffered_unordered_bounded.specs.Interleaves.{Interleaves}
+use Rattle.futures_buffered_unordered_bounded.specs.FuturesUnorderedBounded.{Bounded, IsNewSet}
 use Rattle.futures_buffered_unordered.specs.SlotGroups.{Growing, GrowingPushes, IsChosen}
 use Rattle.futures_buffered_unordered.specs.declared.slot_groups.TheConstants.{FIRST_GROUP}
 use Rattle.futures_buffered_merges.specs.SlotStream.{items_in}
-use Rattle.futures_buffered_merges.specs.MergeBounded.{SlotsGaveInTurn, MergeEvent, answered, pushed, answers_of, streams_of}
+use Rattle.futures_buffered_merges.specs.MergeBounded.{answered, pushed, answers_of, streams_of}
 use Rattle.futures_buffered_merges.specs.MergeUnbounded.{HoldsNone, GroupsGave, GroupsGaveInTurn, KeepsOrderInGroupsWithPushes, slots_of}
 use Rattle.futures_buffered_merges.proofs.MergeBoundedPushesLemmas.{turns_none, turns_after_polls, turns_after_push}
 use Rattle.futures_buffered_merges.proofs.MergeUnboundedGaveLemmas.{interleaves_append, interleaves_on, given_by, poll_gave, one_more}

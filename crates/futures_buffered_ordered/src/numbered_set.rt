@@ -1,5 +1,5 @@
 //! What an ordered queue asks of the set that holds its futures in progress.
-ghost use Rattle.std.specs.Prelude.{◌≡◌, ◌↔◌, ◌+◌, ℕ, Option, OnOk, OnErr, IfOk, IfErr, IfNone, IsErr, IsTrue};
+ghost use Rattle.std.specs.Prelude.{◌≡◌, ◌↔◌, ◌+◌, ℕ, Option, OnOk, OnErr, IfErr, IfNone, IsErr, IsTrue};
 ghost use Rattle.futures.specs.Task.{Keeps};
 ghost use Rattle.futures.specs.Poll.{IfReady, OnPending};
 ghost use Rattle.futures_buffered_unordered_bounded.specs.Groups.{outputs_in};

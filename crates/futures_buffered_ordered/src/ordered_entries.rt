@@ -1,13 +1,13 @@
 //! The entries of an ordered queue, over any set that takes a number with each future.
 //!
 //! Pushes add an entry at either end. A poll yields the front alone: an output that comes before its turn is kept in its entry.
-ghost use Rattle.std.specs.Prelude.{◌≡◌, ◌↔◌, ◌<◌, ◌≤◌, ◌+◌, ◌⊎◌, ℕ, List, [], ◌∷◌, length, true, false, IfOk, IfErr, OnOk, OnErr, IsOk, IsErr, IsTrue, MatchOption};
+ghost use Rattle.std.specs.Prelude.{◌≡◌, ◌↔◌, ◌<◌, ◌≤◌, ◌+◌, ℕ, List, [], ◌∷◌, length, true, false, IfOk, IfErr, OnOk, OnErr, IsOk, IsErr, IsTrue, MatchOption};
 ghost use Rattle.std.specs.Iterator.{IsFiniteIterable};
 ghost use Rattle.futures.specs.Task.{Keeps};
 ghost use Rattle.futures.specs.Poll.{IfReady, OnPending};
 ghost use Rattle.futures_buffered_core.specs.Drawn.{Draws};
 ghost use Rattle.futures_buffered_ordered.specs.declared.ordered_entries.Entry.TheVariants.{Kept};
-ghost use Rattle.futures_buffered_ordered.specs.OrderedEntries.{AddsBack, AddsEachBack, AddsFront, EachHasOne, GivesWithTask, IsAtEnd, LastStep, MayRefuse, OrderedGives, OrderedLeavesTask, SetYields, Stays, StopsAt, starts_running, with_task};
+ghost use Rattle.futures_buffered_ordered.specs.OrderedEntries.{AddsBack, AddsEachBack, AddsFront, GivesWithTask, IsAtEnd, LastStep, MayRefuse, OrderedGives, OrderedLeavesTask, SetYields, Stays, StopsAt, starts_running, with_task};
 ghost use Rattle.futures_buffered_ordered.specs.OrderedEntriesInvariant.{IsNumbered};
 
 use crate::numbered::Numbered;

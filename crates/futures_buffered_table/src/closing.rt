@@ -1,5 +1,5 @@
 //! The end of a list.
-ghost use Rattle.std.specs.Prelude.{◌≡◌, ℕ, ◌+◌, ◌<◌, ◌≤◌, [], List, ◌++◌, ◌↔◌, All, IsTrue};
+ghost use Rattle.std.specs.Prelude.{◌≡◌, ℕ, ◌+◌, ◌<◌, ◌≤◌, List, ◌++◌, ◌↔◌, All, IsTrue};
 ghost use Rattle.futures_buffered_table.specs.declared.view.View.{View};
 ghost use Rattle.futures_buffered_table.specs.Words.{mark};
 ghost use Rattle.futures_buffered_table.specs.Closing.{steps_of};

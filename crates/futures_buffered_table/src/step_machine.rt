@@ -1,6 +1,6 @@
 //! The machine of single steps: the list's words and the roles of the wake seats and of one poll
 //! seat, as plain data.
-ghost use Rattle.std.specs.Prelude.{◌≡◌, ◌<◌, ◌++◌, ◌∷◌, [], ◌+◌, ◌^◌, length, replicate, MatchOption, IfOk, IfNone, IfSome};
+ghost use Rattle.std.specs.Prelude.{◌≡◌, ◌<◌, ◌++◌, ◌∷◌, [], ◌+◌, length, replicate, MatchOption, IfOk, IfNone, IfSome};
 ghost use Rattle.futures_buffered_table.specs.Step.{CanStep, seat_of, slot_of};
 ghost use Rattle.futures_buffered_table.specs.declared.view.Role.TheVariants.{Idle, Polls};
 ghost use Rattle.futures_buffered_table.specs.declared.view.Phase.TheVariants.{Start};

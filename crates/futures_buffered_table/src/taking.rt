@@ -194,7 +194,6 @@ impl ReadyList {
     }
 
     // Goes on with a taking whose head moved from the stub to this slot.
-    #[inline(never)]
     fn take_slot(&self, seat: &mut Seat<u8, View>, head: usize) -> (usize, Taken)
         requires role { IsInRole self.now (Polls head Moved) seat.old
             × (head < self.now.capacity) }

@@ -1,5 +1,5 @@
 -- What a set's poll keeps of each group that it asks, and what may come from the set.
-use Rattle.std.proofs.Common.{◌≡◌, ◌⊎◌, ℕ, ◌+◌, ◌<◌, List, [], ◌∷◌, Option, Some, None, IfSome, IfNone, refl, sym, subst, inl, inr, arith}
+use Rattle.std.proofs.Common.{◌≡◌, ℕ, ◌+◌, ◌<◌, List, [], ◌∷◌, Option, Some, None, IfSome, IfNone, refl, sym, subst, inl, inr, arith}
 use Rattle.std.specs.List.{FoldsTo}
 use Rattle.futures.specs.Poll.{IfReady, OnPending}
 use Rattle.futures.specs.Runs.{After, Within}

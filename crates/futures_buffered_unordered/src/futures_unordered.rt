@@ -1,7 +1,7 @@
 //! A set of futures that grows by groups, yielded as they finish.
 //!
 //! It holds its futures in groups of slots, and asks each group by a rule that says how one held value is polled. One registration of the task does for all groups.
-ghost use Rattle.std.specs.Prelude.{◌≡◌, ◌↔◌, ◌<◌, ◌≤◌, ◌+◌, ◌⊎◌, [], Err, IsTrue, OnOk, OnErr, IsOk, IsErr, IfOk, IfErr, IfNone};
+ghost use Rattle.std.specs.Prelude.{◌≡◌, ◌↔◌, ◌<◌, ◌≤◌, ◌+◌, ◌⊎◌, Err, IsTrue, OnOk, OnErr, IsOk, IsErr, IfOk, IfErr, IfNone};
 ghost use Rattle.futures.specs.Poll.{IfReady, OnPending};
 ghost use Rattle.std.specs.Iterator.{IsFiniteIterable};
 ghost use Rattle.futures.specs.Task.{Keeps};

@@ -1,7 +1,7 @@
 //! Groups of slots that grow, and the round in which a poll asks them.
 //!
 //! Each group is a bounded set. A push goes into the last group, and makes one of twice its slots where it is full. A poll asks each group in turn, from the place where the poll before ended, until one gives an output. How one group is asked, `AskGroup` says: a set that grows and a merge that grows differ in that alone.
-ghost use Rattle.std.specs.Prelude.{◌≡◌, ◌↔◌, ◌<◌, ◌≤◌, ◌+◌, ◌⊎◌, length, IsTrue, Err, OnOk, OnErr, IsOk, IsErr, IfOk, IfErr, IfNone};
+ghost use Rattle.std.specs.Prelude.{◌≡◌, ◌↔◌, ◌<◌, ◌≤◌, ◌+◌, ◌⊎◌, ◌++◌, length, take, drop, IsTrue, Err, OnOk, OnErr, IsOk, IsErr, IfOk, IfErr, IfNone};
 ghost use Rattle.std.specs.List.{All};
 ghost use Rattle.futures.specs.Poll.{IfReady, OnPending};
 ghost use Rattle.futures.specs.Task.{Covers, Keeps};
@@ -109,6 +109,16 @@ impl<F: Drop, S: NewSource> Model for SlotGroups<F, S> {
 
     ghost invariant = { λ s. KeepsGroups S.needs
         (record { listed = s.groups.items; place = s.place }) s.limit s.held };
+}
+
+// Drops the group at this place. A group ends once, so this is kept out of the way of a poll.
+#[cold]
+#[inline(never)]
+fn drop_group<G: Drop>(groups: &mut Vec<G>, place: usize)
+    requires { place < length groups.old.items }
+    ensures { groups.new.items ≡ take place groups.old.items ++ drop (place + 1) groups.old.items }
+{
+    let _ended = groups.remove(place);
 }
 
 impl<F: Drop, S: NewSource> SlotGroups<F, S> {
@@ -358,7 +368,7 @@ impl<F: Drop, S: NewSource> SlotGroups<F, S> {
                 } else if place + 1 == self.groups.len() {
                     self.place = 0;
                 } else {
-                    let _ended = self.groups.remove(place);
+                    drop_group(&mut self.groups, place);
                     self.place = place;
                 }
             }

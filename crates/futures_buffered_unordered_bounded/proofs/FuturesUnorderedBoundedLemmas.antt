@@ -14,7 +14,7 @@ use Rattle.futures_buffered_core.specs.SlotMap.{Slots, value_in, held_count, wit
 use Rattle.futures_buffered_table.specs.declared.answer.Taken.{Taken}
 use Rattle.futures_buffered_table.specs.declared.answer.Taken.TheVariants.{Slot, Empty, Pause}
 use Rattle.futures_buffered_core.specs.ReadySource.{SourceSteps}
-use Rattle.futures_buffered_unordered_bounded.specs.Held.{AllHeld, AnyMayGive, ComesFrom, Passes, Yields}
+use Rattle.futures_buffered_unordered_bounded.specs.Held.{AllHeld, AnyMayGive, ComesFrom, Passes}
 use Rattle.futures_buffered_unordered_bounded.specs.Groups.{outputs_in}
 use Rattle.futures_buffered_unordered_bounded.specs.FuturesUnorderedBounded.{Bounded, Asks, AsksInPart, AsksToEmpty, AsksUntil, EndsWaiting, LeavesTask, OnlyRegisters, PollGives, held_in, with_source}
 use Rattle.futures_buffered_unordered_bounded.proofs.HeldLemmas.{AllHeld-with, count-with, passes_free, passes_pending, value_in-with_value}

@@ -1,15 +1,13 @@
 -- Groups in a list, and their turns: which stay and where they stand.
-use Rattle.std.proofs.Common.{◌≡◌, ◌⊎◌, ℕ, suc, ◌+◌, ◌<◌, ◌≤◌, Bool, true, false, not, ◌&&◌, cond, List, [], ◌∷◌, ◌++◌, length, take, drop, Option, Some, None, MatchOption, is_some, nat_lt, true≢false, refl, sym, ap, subst, inl, inr, arith, append-nil, ◌∙◌}
-use Rattle.std.specs.List.{AllZip, AllByRecursion, enumerate_from, count_by, list_all}
-use Rattle.std.proofs.lemmas.List.{append_assoc, length-append, take_at, drop_at, length_push, take_all, drop_all, take-append-drop, length-take-le, length-drop}
-use Rattle.std.proofs.lemmas.List.Folds.{list_all-append}
+use Rattle.std.proofs.Common.{◌≡◌, ◌⊎◌, ℕ, suc, ◌+◌, ◌<◌, ◌≤◌, Bool, true, false, not, ◌&&◌, cond, List, [], ◌∷◌, ◌++◌, length, take, drop, Option, Some, None, MatchOption, nat_lt, true≢false, refl, sym, ap, subst, inl, inr, arith, append-nil, ◌∙◌}
+use Rattle.std.specs.List.{AllZip, AllByRecursion, enumerate_from, count_by}
+use Rattle.std.proofs.lemmas.List.{length-append, take_at, drop_at, length_push, take_all, drop_all}
 use Rattle.std.proofs.lemmas.List.FromFn.{length-enumerate_from}
 use Rattle.std.proofs.lemmas.List.Sums.{sum_by-cons}
-use Rattle.std.proofs.lemmas.Slice.Zip.{AllZip-long}
-use Rattle.std.proofs.lemmas.Bool.{cases_lt, lt-ltb, le-ltb, eq-eqb, ne_eqb}
+use Rattle.std.proofs.lemmas.Bool.{lt-ltb, le-ltb}
 use Rattle.futures.specs.declared.task.Poll.{Poll}
 use Rattle.futures.specs.declared.task.Poll.TheVariants.{Ready, Pending}
-use Rattle.futures_buffered_unordered_bounded.specs.Groups.{AnyOf, OneStopped, Groups, Turn, round_from, NoOutput, is_end, NotAsked, GaveNoOutput, ended, staying, stands_at, place_after, TakesTurn, AsksAll, GroupsGive}
+use Rattle.futures_buffered_unordered_bounded.specs.Groups.{AnyOf, OneStopped, Groups, Turn, round_from, NoOutput, is_end, NotAsked, ended, staying, stands_at, TakesTurn}
 use Rattle.futures_buffered_unordered_bounded.specs.GroupsStep.{AsksOne, LeavesBetween, next_place}
 
 -- lists that are put together alike, with first parts of one length, have the same parts

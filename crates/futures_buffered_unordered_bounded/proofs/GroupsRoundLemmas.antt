@@ -1,17 +1,14 @@
 -- Going round the groups: those from the place on are asked first, and then those before it.
-use Rattle.std.proofs.Common.{◌≡◌, ◌⊎◌, ℕ, suc, ◌+◌, ◌<◌, ◌≤◌, Bool, true, false, not, ◌&&◌, cond, List, [], ◌∷◌, ◌++◌, length, take, drop, Option, Some, None, MatchOption, is_some, nat_lt, true≢false, refl, sym, ap, subst, inl, inr, arith, append-nil, ◌∙◌}
-use Rattle.std.specs.List.{AllZip, AllByRecursion, enumerate_from, count_by, list_all}
-use Rattle.std.proofs.lemmas.List.{append_assoc, length-append, take_at, drop_at, length_push, take_all, drop_all, take-append-drop, length-take-le, length-drop}
+use Rattle.std.proofs.Common.{◌≡◌, ◌⊎◌, ℕ, ◌+◌, ◌<◌, ◌≤◌, Bool, true, not, ◌&&◌, cond, List, [], ◌∷◌, ◌++◌, length, drop, Option, Some, refl, sym, ap, subst, inl, inr, arith, ◌∙◌}
+use Rattle.std.specs.List.{AllZip, AllByRecursion, enumerate_from, list_all}
+use Rattle.std.proofs.lemmas.List.{append_assoc, length-append, length_push}
 use Rattle.std.proofs.lemmas.List.Folds.{list_all-append}
-use Rattle.std.proofs.lemmas.List.FromFn.{length-enumerate_from}
-use Rattle.std.proofs.lemmas.List.Sums.{sum_by-cons}
 use Rattle.std.proofs.lemmas.Slice.Zip.{AllZip-long}
-use Rattle.std.proofs.lemmas.Bool.{cases_lt, lt-ltb, le-ltb, eq-eqb, ne_eqb}
 use Rattle.futures.specs.declared.task.Poll.{Poll}
 use Rattle.futures.specs.declared.task.Poll.TheVariants.{Ready, Pending}
-use Rattle.futures_buffered_unordered_bounded.specs.Groups.{OneStopped, Groups, Turn, round_from, NoOutput, is_end, NotAsked, GaveNoOutput, ended, staying, stands_at, place_after, TakesTurn, AsksAll, GroupsGive}
+use Rattle.futures_buffered_unordered_bounded.specs.Groups.{OneStopped, Groups, Turn, round_from, NoOutput, is_end, NotAsked, GaveNoOutput, ended, staying, stands_at, TakesTurn, GroupsGive}
 use Rattle.futures_buffered_unordered_bounded.specs.GroupsStep.{AsksOne, LeavesBetween, next_place}
-use Rattle.futures_buffered_unordered_bounded.proofs.GroupsLemmas.{same_parts, enumerate-append, round-at, each-numbered, each-append, zip-append, waiting, kept, cond-append, length-cond, length-waiting, kept-waiting, waiting-not_asked, staying-waiting, kept-append, staying-append, staying-before_waiting, kept-push, count-kept, stands-at, AsksHere, zip-waiting, asks_here, is_pending, behind_last, next_at, next_zero, gone, after_group, after_last, ends_more, end_or_pending, and_true, and_assoc, and_swap, from_no_length, last_of, each-last, each-front, answered, stopped_front, stopped_last}
+use Rattle.futures_buffered_unordered_bounded.proofs.GroupsLemmas.{enumerate-append, round-at, each-numbered, each-append, zip-append, waiting, kept, length-waiting, kept-waiting, waiting-not_asked, kept-append, staying-append, staying-before_waiting, kept-push, stands-at, AsksHere, zip-waiting, asks_here, is_pending, behind_last, next_at, next_zero, gone, after_group, after_last, ends_more, end_or_pending, and_true, and_swap, stopped_front, stopped_last}
 
 -- the first of a list, or else x
 head_or : {X : Type 0} → X → List X → X

@@ -8,8 +8,8 @@ use Rattle.futures.specs.declared.task.Poll.TheVariants.{Ready, Pending}
 use Rattle.futures_buffered_unordered_bounded.specs.FuturesUnorderedBounded.{IsWoken}
 use Rattle.futures_buffered_unordered_bounded.specs.Groups.{OneStopped, Groups, NoOutput, GroupLeavesTask, GroupsLeaveTask}
 use Rattle.futures_buffered_unordered_bounded.specs.GroupsStep.{AsksOne, AsksAndStops, OneLeavesTask}
-use Rattle.futures_buffered_unordered_bounded.proofs.GroupsLemmas.{AsksHere, asks_here, is_pending, kept, stopped_front, stopped_back}
-use Rattle.futures_buffered_unordered_bounded.proofs.GroupsRoundLemmas.{AllStop, second_place, second_some, first_of}
+use Rattle.futures_buffered_unordered_bounded.proofs.GroupsLemmas.{asks_here, is_pending, kept, stopped_front, stopped_back}
+use Rattle.futures_buffered_unordered_bounded.proofs.GroupsRoundLemmas.{second_place, second_some, first_of}
 use Rattle.futures_buffered_unordered_bounded.proofs.GroupsPollLemmas.{SoFar, SoFarSaw, step_saw, so_far_step, so_far_end, so_far_none, so_far_output}
 
 -- a task that was woken stays so until its poll ends

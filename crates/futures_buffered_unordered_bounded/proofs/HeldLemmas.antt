@@ -1,10 +1,10 @@
 -- What holds of the values in slots, once one was put in, polled or taken out.
-use Rattle.std.proofs.Common.{◌≡◌, ◌≢◌, ℕ, zero, suc, ◌+◌, ◌<◌, List, length, set, get_or, Option, Some, None, IsSome, is_some, cond, refl, sym, ap, inl, inr, arith, length-set, ◌∙◌}
+use Rattle.std.proofs.Common.{◌≡◌, ◌≢◌, ℕ, zero, suc, ◌<◌, List, length, set, get_or, Option, Some, None, IsSome, is_some, cond, refl, ap, inl, inr, arith, length-set, ◌∙◌}
 use Rattle.std.proofs.lemmas.List.{get_or-set_same, get_or-set_other, get_or_past}
 use Rattle.std.proofs.lemmas.List.Sums.{sum_by-set}
 use Rattle.std.proofs.lemmas.Bool.{cases_eq, cases_lt}
 use Rattle.futures.specs.declared.task.Poll.{Poll}
-use Rattle.futures.specs.declared.task.Poll.TheVariants.{Ready, Pending}
+use Rattle.futures.specs.declared.task.Poll.TheVariants.{Pending}
 use Rattle.futures_buffered_core.specs.SlotMap.{Slots, Inserts, value_in, held_count, no_slots, with_value}
 use Rattle.futures_buffered_unordered_bounded.specs.Held.{AllHeld, EndsWith, Passes}
 

@@ -1,6 +1,6 @@
-use Rattle.std.proofs.Common.{◌≡◌, ◌<◌, ◌≤◌, ap, ◌∙◌, map, arith, rules}
+use Rattle.std.proofs.Common.{◌≡◌, ap, ◌∙◌, map, rules}
 use Rattle.std.specs.List.{range_with_len}
-use Rattle.futures_buffered_driven.specs.Seat.{SeatName, seat_at}
+use Rattle.futures_buffered_driven.specs.Seat.{seat_at}
 use Rattle.futures_buffered_driven.proofs.driven.new_seats.Goals as goal
 
 pub returns-clause-each : goal.returns-clause-each

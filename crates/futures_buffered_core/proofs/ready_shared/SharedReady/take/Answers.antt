@@ -1,9 +1,7 @@
-use Rattle.std.proofs.Common.{◌≡◌, ℕ, List, ◌++◌, ap, sym, ◌∙◌, subst}
+use Rattle.std.proofs.Common.{◌≡◌, ℕ, ◌++◌, ap, ◌∙◌, subst}
 use Rattle.futures_buffered_core.specs.ReadyCore.{IsNameBelow}
 use Rattle.futures_buffered_core.specs.ReadyShared.{Shared}
-use Rattle.futures_buffered_table.specs.ReadyList.{ListIdentity}
 use Rattle.futures_buffered_table.specs.Taking.{IsTaking}
-use Rattle.futures_buffered_table.specs.declared.view.AtomicStep.{AtomicStep}
 use Rattle.futures_buffered_core.proofs.ReadySharedLemmas.{name_below, stays}
 use Rattle.futures_buffered_core.proofs.ready_shared.SharedReady.take.Goals as goal
 

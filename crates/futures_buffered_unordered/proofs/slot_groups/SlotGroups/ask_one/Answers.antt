@@ -48,7 +48,7 @@ invariant_of-self-else-place-len g c =
     let within = subst (λ (v : Growing g.row.F.Denot g.row.S.Denot). c.next_place-place.result < length v.groups.listed) (sym c.self.view_is) c.next_place-place.ensures.below in
     let kept = c.ask-answer.ensures.keeps in
     let counts = counts_asked g.S.ReadySource.needs _ _ _ _ _ _ _ c.self.invariant here within c.index_mut.ensures.value kept _ _ _ _ _ c.index.ensures c.index-2.ensures c.len-before.ensures c.len.ensures refl in
-    keeps_ended g.S.ReadySource.needs _ _ _ _ _ _ _ c.self.invariant here within c.index_mut.ensures.value kept _ counts _ _ c.in-Ready.is (search rules) (search rules) c.remove-ended.ensures.by_index.2
+    keeps_ended g.S.ReadySource.needs _ _ _ _ _ _ _ c.self.invariant here within c.index_mut.ensures.value kept _ counts _ _ c.in-Ready.is (search rules) (search rules) c.drop_group.ensures
 
 pub returns-in-Pending-clause-asked : goal.returns-in-Pending-clause-asked
 returns-in-Pending-clause-asked g c =
@@ -76,7 +76,7 @@ returns-else-place-len-clause-asked g c =
     let asks = g.R.AskGroup.asks in
     let here = subst (λ (v : Growing g.row.F.Denot g.row.S.Denot). c.next_place-place.result ≡ next_place v.groups) (sym c.self.view_is) c.next_place-place.ensures.value in
     let within = subst (λ (v : Growing g.row.F.Denot g.row.S.Denot). c.next_place-place.result < length v.groups.listed) (sym c.self.view_is) c.next_place-place.ensures.below in
-    rw (← c.self.view_is) (one_left asks _ _ _ _ _ _ _ c.in-Ready.is (search rules) here within (search rules) c.index_mut.ensures.value c.ask-answer.ensures.asked c.remove-ended.ensures.by_index.2)
+    rw (← c.self.view_is) (one_left asks _ _ _ _ _ _ _ c.in-Ready.is (search rules) here within (search rules) c.index_mut.ensures.value c.ask-answer.ensures.asked c.drop_group.ensures)
 
 pub returns-in-Pending-clause-covered : goal.returns-in-Pending-clause-covered
 returns-in-Pending-clause-covered g c =
@@ -111,13 +111,13 @@ returns-else-place-len-clause-still_covered g c =
     let here = subst (λ (v : Growing g.row.F.Denot g.row.S.Denot). c.next_place-place.result ≡ next_place v.groups) (sym c.self.view_is) c.next_place-place.ensures.value in
     let within = subst (λ (v : Growing g.row.F.Denot g.row.S.Denot). c.next_place-place.result < length v.groups.listed) (sym c.self.view_is) c.next_place-place.ensures.below in
     let kept = c.ask-answer.ensures.keeps in
-    λ registered. rw c.remove-ended.ensures.by_index.2 (All-removed (λ (b : Bounded g.row.F.Denot g.row.S.Denot). Covers c.ask-answer.new.cx (g.S.ReadySource.needs b.source)) _ c.next_place-place.result (still_asked g.S.ReadySource.needs _ _ _ _ _ _ _ c.self.invariant here within c.index_mut.ensures.value kept _ _ c.ask-answer.ensures.kept (subst (λ (v : Growing g.row.F.Denot g.row.S.Denot). EachCovered g.S.ReadySource.needs c.args.cx.now v.groups.listed) (sym c.self.view_is) (c.requires.registered registered))))
+    λ registered. rw c.drop_group.ensures (All-removed (λ (b : Bounded g.row.F.Denot g.row.S.Denot). Covers c.ask-answer.new.cx (g.S.ReadySource.needs b.source)) _ c.next_place-place.result (still_asked g.S.ReadySource.needs _ _ _ _ _ _ _ c.self.invariant here within c.index_mut.ensures.value kept _ _ c.ask-answer.ensures.kept (subst (λ (v : Growing g.row.F.Denot g.row.S.Denot). EachCovered g.S.ReadySource.needs c.args.cx.now v.groups.listed) (sym c.self.view_is) (c.requires.registered registered))))
 
 pub returns-else-place-len-clause-pollable : goal.returns-else-place-len-clause-pollable
 returns-else-place-len-clause-pollable g c =
     let all = subst (λ (v : Growing g.row.F.Denot g.row.S.Denot). EachHeld g.R.AskGroup.can_poll v.groups.listed) (sym c.self.view_is) c.requires.pollable in
     let pollable = λ (x : Bounded g.row.F.Denot g.row.S.Denot). AllHeld g.R.AskGroup.can_poll x.slots in
-    rw c.remove-ended.ensures.by_index.2 (All-removed pollable _ c.next_place-place.result (All-set pollable _ _ _ c.ask-answer.ensures.pollable all))
+    rw c.drop_group.ensures (All-removed pollable _ c.next_place-place.result (All-set pollable _ _ _ c.ask-answer.ensures.pollable all))
 
 pub overflow_sub-self : goal.overflow_sub-self
 overflow_sub-self g c = grind (arith, common_steps)
@@ -151,4 +151,4 @@ returns-else-place-len-clause-leaves g c =
     let rule = g.R.AskGroup in
     let here = subst (λ (v : Growing g.row.F.Denot g.row.S.Denot). c.next_place-place.result ≡ next_place v.groups) (sym c.self.view_is) c.next_place-place.ensures.value in
     let within = subst (λ (v : Growing g.row.F.Denot g.row.S.Denot). c.next_place-place.result < length v.groups.listed) (sym c.self.view_is) c.next_place-place.ensures.below in
-    rw (← c.self.view_is) (one_leaves rule.asks rule.asks_to_empty rule.stops (OnlyRegisters g.S.ReadySource.registers_poll) _ _ _ _ _ _ _ (λ asks_now asked. one_left asks_now _ _ _ _ _ _ _ c.in-Ready.is (search rules) here within (search rules) c.index_mut.ensures.value asked c.remove-ended.ensures.by_index.2) c.ask-answer.ensures.asked c.ask-answer.ensures.leaves)
+    rw (← c.self.view_is) (one_leaves rule.asks rule.asks_to_empty rule.stops (OnlyRegisters g.S.ReadySource.registers_poll) _ _ _ _ _ _ _ (λ asks_now asked. one_left asks_now _ _ _ _ _ _ _ c.in-Ready.is (search rules) here within (search rules) c.index_mut.ensures.value asked c.drop_group.ensures) c.ask-answer.ensures.asked c.ask-answer.ensures.leaves)
