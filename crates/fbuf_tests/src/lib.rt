@@ -1,17 +1,19 @@
-//! Tests of what `fbuf` does, by public calls alone.
+//! Tests of what `fbuf` does that no run of it shows: failing reads and writes, flushes, and threads past a gate.
 #![tactic(auto)]
 
+#[cfg(test)]
+mod failing;
 #[cfg(test)]
 mod fakes;
 #[cfg(test)]
 mod fault_texts;
 #[cfg(test)]
+mod flushes;
+#[cfg(test)]
 mod long_scripts;
 #[cfg(test)]
-mod program_words;
+mod outcome;
 #[cfg(test)]
 mod same;
-#[cfg(test)]
-mod script;
 #[cfg(test)]
 mod threads;

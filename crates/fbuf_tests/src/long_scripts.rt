@@ -1,9 +1,8 @@
 //! Scripts whose replies are written in several parts.
 use crate::fakes::{Sink, Source};
+use crate::outcome::{Outcome, run_over};
 use crate::same::assert_same;
-use fbuf_program::script::{ScriptFault, script};
-use fbuf_program::watched::Watched;
-use futures::test::MockTask;
+use fbuf_program::script::ScriptFault;
 use std::alloc::{AllocGlobal, Global};
 use std::io;
 use std::io::Write;
@@ -57,35 +56,6 @@ fn new_long(alloc: Global) -> io::Result<Long> {
     long.add(b"unordered 1\n", b"ok\n")?;
     long.add_numbers()?;
     Ok(long)
-}
-
-// What was written, in how many writes, how it ended, and whether each side had failed.
-#[derive(Drop)]
-struct Outcome {
-    written: Vec<u8>,
-    writes: usize,
-    answer: Result<(), ScriptFault>,
-    failed: (bool, bool),
-}
-
-fn run_over<H: RandomSource + AllocGlobal>(
-    rt: &H,
-    source: Source<'_>,
-    sink: Sink,
-) -> Result<Outcome, Fail> {
-    let task = MockTask::new(rt)?;
-    let at_first = sink.writes;
-    let mut input = Watched::new(source);
-    let mut output = Watched::new(sink);
-    let answer = task.enter(|cx| script(rt.alloc(), cx, &mut input, &mut output));
-    let failed = (input.failed(), output.failed());
-    let Sink { bytes, writes, .. } = output.into_inner();
-    Ok(Outcome {
-        written: bytes,
-        writes: at_first.saturating_sub(writes),
-        answer,
-        failed,
-    })
 }
 
 // Three parts, and then the rest.
@@ -190,18 +160,4 @@ fn writes_nothing_where_a_read_fails_after_many_lines(rt: HostRuntime) -> Result
     assert_nothing(&rt, &long, 1)?;
     assert_nothing(&rt, &long, 9)?;
     assert_nothing(&rt, &long, 30)
-}
-
-// Where a line after many lacks memory, the replies to all lines before it are written.
-#[test]
-fn writes_all_replies_before_the_line_that_lacks_memory(rt: HostRuntime) -> Result<(), Fail> {
-    let mut long = new_long(rt.alloc())?;
-    long.add(b"unordered 4611686018427387903\nlen\n", b"")?;
-    let source = Source::whole(long.text.as_slice());
-    let outcome = run_over(&rt, source, Sink::roomy(rt.alloc()))?;
-    assert_same(&rt, &outcome.answer, &Err(ScriptFault::Memory));
-    assert_same(&rt, outcome.failed, (false, false));
-    assert_same(&rt, outcome.writes, 4);
-    assert!(rt; outcome.written.as_slice() == long.replies.as_slice());
-    Ok(())
 }

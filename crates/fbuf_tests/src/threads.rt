@@ -2,7 +2,7 @@
 ghost use Rattle.std.specs.Prelude.{◌<◌};
 
 use crate::same::assert_same;
-use fbuf_program::threads::{Gate, OpenGate, threads_run};
+use fbuf_program::threads::{Gate, threads_run};
 use std::alloc::{AllocError, Global};
 use std::sync::Arc;
 use std::sync::atomic::AtomicU64;
@@ -101,33 +101,6 @@ fn two_wakers_at_once(rt: HostRuntime) -> Result<(), Fail> {
         &rt,
         output.as_slice(),
         b"threads 2 wakes 4 outputs 0 1\n".as_slice(),
-    );
-    Ok(())
-}
-
-#[test]
-fn prints_one_line(rt: HostRuntime) -> Result<(), Fail> {
-    let mut output = Vec::new(rt.alloc());
-    assert_same(
-        &rt,
-        threads_run(rt, rt.alloc(), 1, 1, OpenGate, &mut output),
-        Ok(()),
-    );
-    assert_same(
-        &rt,
-        output.as_slice(),
-        b"threads 1 wakes 1 outputs 0\n".as_slice(),
-    );
-    output.clear();
-    assert_same(
-        &rt,
-        threads_run(rt, rt.alloc(), 4, 1000, OpenGate, &mut output),
-        Ok(()),
-    );
-    assert_same(
-        &rt,
-        output.as_slice(),
-        b"threads 4 wakes 4000 outputs 0 1 2 3\n".as_slice(),
     );
     Ok(())
 }

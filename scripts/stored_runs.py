@@ -1,0 +1,136 @@
+"""Runs of built programs that stand in files, and how each has to end: what `run_fbuf` and `refuse_memory` have in common."""
+import dataclasses
+import itertools
+import os
+import pathlib
+import shlex
+import subprocess
+import sys
+
+ROOT = pathlib.Path(__file__).resolve().parent.parent
+CRATES = ROOT / "crates"
+SCRIPTS = CRATES / "fbuf" / "scripts"
+# A run that takes longer has not ended. The longest takes a tenth of a second.
+SECONDS = 10
+
+
+@dataclasses.dataclass(frozen=True)
+class Ended:
+    """How a run ended. The status of one that a signal stopped is the signal's number below zero; it is None where it did not end."""
+
+    status: int | None
+    output: bytes
+    errors: bytes
+
+
+@dataclasses.dataclass(frozen=True)
+class StoredRun:
+    """What a program is run on, and how it has to end. Output and errors go where `to` says, in this order, and else are kept."""
+
+    name: str
+    program: str
+    words: tuple[str, ...]
+    given: pathlib.Path
+    folder: pathlib.Path
+    to: tuple[str, ...]
+    wanted: Ended
+
+
+def bytes_of(path):
+    """What the file has, and nothing where there is none."""
+    return path.read_bytes() if path.is_file() else b""
+
+
+def status_in(path):
+    return int(bytes_of(path) or b"0")
+
+
+def runs_of_fbuf():
+    """Each case of crates/fbuf/scripts, once for each line of its `.args`."""
+    for name in sorted({path.name.partition(".")[0] for path in SCRIPTS.iterdir()}):
+        part = lambda kind: SCRIPTS / f"{name}.{kind}"
+        given = part("in") if part("in").is_file() else pathlib.Path(os.devnull)
+        if part("from").is_file():
+            given = pathlib.Path(part("from").read_text().strip())
+        wanted = Ended(status_in(part("status")), bytes_of(part("out")), bytes_of(part("err")))
+        to = tuple(bytes_of(part("to")).decode().split())
+        calls = bytes_of(part("args")).decode(errors="surrogateescape").splitlines() or [""]
+        for call in calls:
+            shown = call.encode(errors="surrogateescape").decode(errors="backslashreplace")
+            yield StoredRun(f"{name} {shown}".strip(), "fbuf", tuple(shlex.split(call)), given, SCRIPTS, to, wanted)
+
+
+def run_of_crate(name):
+    """What the gate runs the program of a crate on: the files beside its src/."""
+    folder = CRATES / name
+    words = tuple(bytes_of(folder / "args").decode().splitlines())
+    given = folder / "stdin" if (folder / "stdin").is_file() else pathlib.Path(os.devnull)
+    data = folder / "data" if (folder / "data").is_dir() else folder
+    wanted = Ended(status_in(folder / "status"), bytes_of(folder / "stdout"), b"")
+    return StoredRun(name, name, words, given, data, (), wanted)
+
+
+def runs_of_calls():
+    """Each file that `calls` reads, alone, but for those of many items. Its replies are the line that begins with its name."""
+    whole = run_of_crate("calls")
+    for file in whole.words:
+        if file.endswith("_sizes.calls"):
+            continue
+        lines = [line for line in whole.wanted.output.splitlines(True) if line.startswith(f"{file}:".encode())]
+        wanted = dataclasses.replace(whole.wanted, output=b"".join(lines))
+        yield dataclasses.replace(whole, name=file, words=(file,), wanted=wanted)
+
+
+def built(name):
+    """The programs that the gate, or `rt run`, left of a crate: as LLVM builds it, and as Rattle's own compiler does."""
+    made = CRATES / name / "out" / name
+    found = [path for path in (made, made.with_name(f"{name}.by-rattle")) if path.is_file()]
+    if not found:
+        sys.exit(f"there is no {made.relative_to(ROOT)}: `rt ci` leaves it, and so does `rt run` in crates/{name}")
+    return found
+
+
+def opened(place):
+    """A descriptor that writes to the place: a file, or, where it is `closed`, a pipe that nobody reads any more."""
+    if place != "closed":
+        return os.open(place, os.O_WRONLY)
+    reader, writer = os.pipe()
+    os.close(reader)
+    return writer
+
+
+def end_of(run, program, environment=None):
+    """Runs the program, in an environment of its own, and says how it ended."""
+    given = os.open(run.given, os.O_RDONLY)
+    places = [opened(place) for place in run.to]
+    output, errors = [*places, subprocess.PIPE, subprocess.PIPE][:2]
+    words = [os.path.abspath(program), *run.words]
+    how = {"stdin": given, "stdout": output, "stderr": errors, "cwd": run.folder, "env": environment or {}}
+    try:
+        ended = subprocess.run(words, timeout=SECONDS, **how)
+        return Ended(ended.returncode, ended.stdout or b"", ended.stderr or b"")
+    except subprocess.TimeoutExpired as late:
+        return Ended(None, late.stdout or b"", late.stderr or b"")
+    finally:
+        for descriptor in (given, *places):
+            os.close(descriptor)
+
+
+def first_difference(wanted, found):
+    """The number of the first line that differs, with both texts."""
+    pairs = itertools.zip_longest(wanted.splitlines(True), found.splitlines(True), fillvalue=b"")
+    number, (one, other) = next((at, pair) for at, pair in enumerate(pairs, 1) if pair[0] != pair[1])
+    one, other = (text[:80].decode(errors="replace") for text in (one, other))
+    return f"line {number} is {other!r}, and not {one!r}"
+
+
+def faults_of(wanted, found):
+    """What differs from what is wanted."""
+    if found.status is None:
+        yield f"it had not ended after {SECONDS} seconds"
+    elif found.status != wanted.status:
+        yield f"status {found.status}, and not {wanted.status}"
+    for what in ("output", "errors"):
+        one, other = getattr(wanted, what), getattr(found, what)
+        if one != other:
+            yield f"{what}: {first_difference(one, other)}"
