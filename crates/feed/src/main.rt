@@ -68,13 +68,18 @@ fn lines_of(alloc: Global, source: usize, text: &str) -> io::Result<Vec<Line>> {
 }
 
 // Sends the lines of a file in their order. It waits while the channel is full.
-fn send_lines<R>(rt: &R, source: usize, path: &str, sender: Sender<Line>) -> io::Result<()>
+fn send_lines<R>(
+    rt: &R,
+    source: usize,
+    path: &str,
+    sender: Sender<Line>,
+) -> Result<(), anyhow::Error>
 where
     R: Files + Wait + RandomSource + AllocGlobal,
 {
     let text = fs::read_to_string(rt, path)?;
     let lines = lines_of(rt.alloc(), source, text.as_str())?;
-    let _ = block_on(rt, stream::iter(lines).map(Ok).forward(sender))?;
+    block_on(rt, stream::iter(lines).map(Ok).forward(sender))??;
     Ok(())
 }
 
