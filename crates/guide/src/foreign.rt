@@ -44,9 +44,9 @@ where
     let (others, second) = mpsc::unbounded::<u64>(rt.alloc())?;
     let held = vec![in rt.alloc(); ForeignStream::new(first), ForeignStream::new(second)]?;
     let merge = GrowingForeignMerge::over((), rt.alloc(), held)?;
-    let _ = numbers.unbounded_send(1);
-    let _ = others.unbounded_send(10);
-    let _ = numbers.unbounded_send(2);
+    numbers.unbounded_send(1)?;
+    others.unbounded_send(10)?;
+    numbers.unbounded_send(2)?;
     drop((numbers, others));
     println!(rt; "{:?}", block_on(rt, merge.collect(rt.alloc()))??)?;
     Ok(())

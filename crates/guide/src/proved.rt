@@ -1,8 +1,23 @@
-//! The proved callers of `guide_proofs`, called.
+//! What a caller can prove: for each family a short function with a contract of its own, in words that `futures_buffered` gives out.
+//!
+//! In the order in which to read them:
+//!
+//! - `doubling`: a future whose contract says what a poll answers.
+//! - `ticket`: a future that may not be polled again once it is ready.
+//! - `sets`, `queues`, `joins`, `merges`, `adaptors`: a caller of each family.
+//!
+//! Below, the callers are called.
+mod adaptors;
+mod doubling;
+mod joins;
+mod merges;
+mod queues;
+mod sets;
+mod ticket;
+
 use crate::numbers::Numbers;
+use crate::proved::doubling::Doubling;
 use futures_buffered::{FuturesOrderedBounded, FuturesUnorderedBounded, MergeBounded};
-use guide_proofs::doubling::Doubling;
-use guide_proofs::{adaptors, joins, merges, queues, sets};
 use std::alloc::AllocGlobal;
 use std::io::Print;
 use std::random::RandomSource;

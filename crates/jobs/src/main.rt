@@ -1,9 +1,12 @@
-//! `jobs LIST N`: the number of words in the files that a list names, counted by four threads, at most `N` files under way at a time. A file that cannot be read is named, and stops no other.
+//! `jobs LIST N`: the number of words and of lines in the files that a list names, at most `N` files under way at a time. Four threads count the words, and answer through one-shots of the kit; a thread of each file's own counts its lines, and wakes the slot of its future. A file that cannot be read is named, and stops no other.
 #![tactic(auto)]
 
 ghost use Rattle.std.specs.Prelude.{◌<◌, IfOk};
 
+mod counting;
+
 use anyhow::{Context, bail};
+use counting::Counting;
 use crossbeam_channel::{Receiver, unbounded};
 use futures::channel::oneshot;
 use futures::executor::block_on;
@@ -11,7 +14,10 @@ use futures::{StreamExt, stream};
 use futures_buffered::BufferedStreamExt;
 use std::alloc::{AllocError, Global};
 use std::env::Env;
+use std::random::RandomSource;
 use std::rt::Files;
+use std::sync::Wait;
+use std::thread::Threads;
 use std::{env, fs, io, thread};
 
 const THREADS: usize = 4;
@@ -57,6 +63,36 @@ fn jobs_of(alloc: Global, list: &str) -> Result<Vec<(Job, Answer)>, AllocError> 
     Ok(jobs)
 }
 
+// A future for each line of the list.
+fn countings_of<R: Threads + Copy + Drop>(
+    rt: R,
+    files: HostRuntime,
+    alloc: Global,
+    list: &str,
+) -> Result<Vec<Counting<R>>, AllocError> {
+    let mut countings = Vec::new(alloc);
+    for line in list.lines() {
+        countings.push(Counting::new(rt, files, String::from_str(alloc, line)?))?;
+    }
+    Ok(countings)
+}
+
+// How many lines the files of the list have. One that cannot be read has none.
+fn lines_in<R>(rt: R, files: HostRuntime, list: &str, n: usize) -> Result<usize, anyhow::Error>
+where
+    R: Threads + Wait + RandomSource + AllocGlobal + Copy + Drop,
+    requires { 0 < n }
+{
+    let countings = countings_of(rt, files, rt.alloc(), list)?;
+    let counts = stream::iter(countings).buffered_ordered(rt.alloc(), n)?;
+    let counts = block_on(&rt, counts.collect(rt.alloc()))??;
+    let mut lines = 0usize;
+    for count in counts {
+        lines = lines.saturating_add(count.unwrap_or(0));
+    }
+    Ok(lines)
+}
+
 fn main(rt: HostRuntime) -> Result<(), anyhow::Error> {
     let (list, n) = words_of(&rt)?;
     let list = fs::read_to_string(&rt, list.as_str())?;
@@ -84,6 +120,7 @@ fn main(rt: HostRuntime) -> Result<(), anyhow::Error> {
             Err(error) => println!(rt; "{path}: {error}")?,
         }
     }
-    println!(rt; "{words} words")?;
+    let lines = lines_in(rt, rt, list.as_str(), n)?;
+    println!(rt; "{words} words in {lines} lines")?;
     Ok(())
 }

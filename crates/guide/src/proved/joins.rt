@@ -1,7 +1,7 @@
 //! Callers of a join.
 ghost use Rattle.std.specs.Prelude.{◌≡◌, vec_len, IfOk};
 
-use crate::doubling::Doubling;
+use crate::proved::doubling::Doubling;
 use futures::executor::block_on;
 use futures_buffered::join_all::join_all;
 use std::alloc::AllocGlobal;

@@ -2,7 +2,7 @@
 use Rattle.std.specs.Prelude.{◌≡◌, ℕ, ◌*◌}
 use Rattle.futures.specs.declared.task.Poll.{Poll}
 use Rattle.futures.specs.declared.task.Poll.TheVariants.{Ready}
-use Rattle.guide_proofs.specs.declared.doubling.Doubling.{Doubling}
+use Rattle.guide.specs.declared.proved.doubling.Doubling.{Doubling}
 
 -- it is ready, with twice the number
 abbrev pub Doubles : Doubling → Poll ℕ → Doubling → Type 0

@@ -1,7 +1,7 @@
 //! Callers of an ordered queue.
 ghost use Rattle.std.specs.Prelude.{◌≡◌, length, vec_len, IfOk};
 
-use crate::doubling::Doubling;
+use crate::proved::doubling::Doubling;
 use futures::StreamExt;
 use futures::executor::block_on;
 use futures_buffered::{FuturesOrderedBounded, SharedReady};

@@ -3,8 +3,8 @@ use Rattle.std.proofs.Common.{◌≡◌, ℕ, ◌*◌, List, [], ◌∷◌}
 use Rattle.std.specs.List.{FoldsTo}
 use Rattle.futures.specs.declared.task.Poll.TheVariants.{Ready, Pending}
 use Rattle.futures_buffered.specs.Held.{MayGive}
-use Rattle.guide_proofs.specs.Doubling.{Doubles}
-use Rattle.guide_proofs.specs.declared.doubling.Doubling.{Doubling}
+use Rattle.guide.specs.Doubling.{Doubles}
+use Rattle.guide.specs.declared.proved.doubling.Doubling.{Doubling}
 
 -- no poll of it is pending, so the poll that is ready is the first
 at_once : (f : Doubling) (later : List Doubling) (last after : Doubling) (x : ℕ)

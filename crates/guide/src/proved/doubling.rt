@@ -1,5 +1,5 @@
 //! A future whose contract says what a poll answers.
-ghost use Rattle.guide_proofs.specs.Doubling.{Doubles};
+ghost use Rattle.guide.specs.Doubling.{Doubles};
 
 use futures::task::Poll;
 use futures_buffered::{NamesSlot, SlotFuture};

@@ -2,7 +2,7 @@
 ghost use Rattle.std.specs.Prelude.{◌≡◌, ◌+◌, ◌≤◌, length, vec_len, IfOk};
 ghost use Rattle.futures_buffered.specs.FuturesUnorderedBounded.{held_in, slots_in};
 
-use crate::doubling::Doubling;
+use crate::proved::doubling::Doubling;
 use futures::StreamExt;
 use futures::executor::block_on;
 use futures_buffered::{FuturesUnorderedBounded, SharedReady};

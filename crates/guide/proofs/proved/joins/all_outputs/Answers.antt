@@ -1,6 +1,6 @@
 use Rattle.std.proofs.Common.{rules}
-use Rattle.guide_proofs.proofs.StreamLemmas.{gave_all, one_of_each_item}
-use Rattle.guide_proofs.proofs.joins.all_outputs.Goals as goal
+use Rattle.guide.proofs.StreamLemmas.{gave_all, one_of_each_item}
+use Rattle.guide.proofs.proved.joins.all_outputs.Goals as goal
 
 pub returns : goal.returns
 returns g c =

@@ -4,10 +4,10 @@ use Rattle.futures_buffered.specs.Buffer.{Ahead}
 use Rattle.futures_buffered.specs.BufferUnordered.{MayGiveInSlot}
 use Rattle.futures_buffered.specs.FuturesOrderedBounded.{SetMayGive}
 use Rattle.futures_buffered.specs.OrderedEntries.{ComesInOrder}
-use Rattle.guide_proofs.specs.Doubling.{Doubles}
-use Rattle.guide_proofs.proofs.StreamLemmas.{gave_all, behind_nothing, resolved_ahead}
-use Rattle.guide_proofs.proofs.DoublingLemmas.{gives_twice}
-use Rattle.guide_proofs.proofs.adaptors.doubled.Goals as goal
+use Rattle.guide.specs.Doubling.{Doubles}
+use Rattle.guide.proofs.StreamLemmas.{gave_all, behind_nothing, resolved_ahead}
+use Rattle.guide.proofs.DoublingLemmas.{gives_twice}
+use Rattle.guide.proofs.proved.adaptors.doubled.Goals as goal
 
 pub returns : goal.returns
 returns g c =

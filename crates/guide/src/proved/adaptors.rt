@@ -1,7 +1,7 @@
 //! Callers of an adaptor.
 ghost use Rattle.std.specs.Prelude.{◌≡◌, ◌*◌, map, IfOk};
 
-use crate::doubling::Doubling;
+use crate::proved::doubling::Doubling;
 use futures::executor::block_on;
 use futures::{StreamExt, stream};
 use futures_buffered::BufferedStreamExt;
