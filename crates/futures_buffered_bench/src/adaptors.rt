@@ -1,17 +1,17 @@
-//! Workloads of the adaptors, over streams of ready futures.
+//! Workloads of the adaptors and of a merge, over what is always ready.
 use crate::clock::Workload;
-use crate::sets::Yields;
+use crate::holders::Yields;
 use futures::task::{Context, Poll};
-use futures::{Future, Stream};
+use futures::{Future, Stream, stream};
 use futures_buffered_adaptors::buffer::Buffer;
 use futures_buffered_adaptors::buffer_unordered::UnorderedQueue;
 use futures_buffered_adaptors::buffered_ordered::OrderedQueue;
 use futures_buffered_adaptors::for_each_concurrent::ForEachConcurrent;
-use futures_buffered_adaptors::future_queue::FutureQueue;
 use futures_buffered_adaptors::try_buffer::TryBuffer;
-use futures_buffered_core::ready_core::NewFault;
 use futures_buffered_core::ready_shared::SharedReady;
 use futures_buffered_core::ready_source::NamesSlot;
+use futures_buffered_merges::merge_bounded::MergeBounded;
+use futures_buffered_merges::slot_stream::SlotStream;
 use futures_buffered_unordered_bounded::slot_future::SlotFuture;
 use std::alloc::Global;
 
@@ -24,54 +24,6 @@ impl Stream for Ready {
 
     fn poll_next(&mut self, _cx: &mut Context<'_>) -> Poll<Option<Yields>> {
         Poll::Ready(Some(Yields { left: 0 }))
-    }
-}
-
-/// A buffer of a stream of ready futures. Each call yields an output.
-#[derive(Drop)]
-pub struct Buffered<Q: Drop> {
-    buffer: Buffer<Ready, Q>,
-}
-
-impl Buffered<OrderedQueue<Yields, (), SharedReady>> {
-    /// At most so many in progress, and one where that is none.
-    pub fn ordered(alloc: Global, n: usize) -> Result<Self, NewFault> {
-        let n = if n == 0 { 1 } else { n };
-        let buffer = Buffer::over(&(), alloc, Ready, n)?;
-        Ok(Buffered { buffer })
-    }
-}
-
-impl Buffered<UnorderedQueue<Yields, SharedReady>> {
-    /// At most so many in progress, and one where that is none.
-    pub fn unordered(alloc: Global, n: usize) -> Result<Self, NewFault> {
-        let n = if n == 0 { 1 } else { n };
-        let buffer = Buffer::over(&(), alloc, Ready, n)?;
-        Ok(Buffered { buffer })
-    }
-}
-
-impl Workload for Buffered<OrderedQueue<Yields, (), SharedReady>> {
-    fn calls(&self) -> u64 {
-        12_800
-    }
-
-    fn run(&mut self, cx: &mut Context<'_>) {
-        for _ in 0..12_800 {
-            let _ = self.buffer.poll_next(cx);
-        }
-    }
-}
-
-impl Workload for Buffered<UnorderedQueue<Yields, SharedReady>> {
-    fn calls(&self) -> u64 {
-        12_800
-    }
-
-    fn run(&mut self, cx: &mut Context<'_>) {
-        for _ in 0..12_800 {
-            let _ = self.buffer.poll_next(cx);
-        }
     }
 }
 
@@ -99,88 +51,93 @@ impl Stream for Attempts {
     }
 }
 
-/// A buffer of a stream of futures that may fail, and do not. Each call yields an output.
+/// A stream of a merge that has an item at each poll.
 #[derive(Drop)]
-pub struct TryBuffered<Q: Drop> {
-    buffer: TryBuffer<Attempts, Q>,
-}
+pub struct Feed;
 
-impl TryBuffered<OrderedQueue<Succeeds, Result<(), ()>, SharedReady>> {
-    /// At most so many in progress, and one where that is none.
-    pub fn ordered(alloc: Global, n: usize) -> Result<Self, NewFault> {
-        let n = if n == 0 { 1 } else { n };
-        let buffer = TryBuffer::over(&(), alloc, Attempts, n)?;
-        Ok(TryBuffered { buffer })
-    }
-}
-
-impl TryBuffered<UnorderedQueue<Succeeds, SharedReady>> {
-    /// At most so many in progress, and one where that is none.
-    pub fn unordered(alloc: Global, n: usize) -> Result<Self, NewFault> {
-        let n = if n == 0 { 1 } else { n };
-        let buffer = TryBuffer::over(&(), alloc, Attempts, n)?;
-        Ok(TryBuffered { buffer })
-    }
-}
-
-impl Workload for TryBuffered<OrderedQueue<Succeeds, Result<(), ()>, SharedReady>> {
-    fn calls(&self) -> u64 {
-        12_800
-    }
-
-    fn run(&mut self, cx: &mut Context<'_>) {
-        for _ in 0..12_800 {
-            let _ = self.buffer.poll_next(cx);
-        }
-    }
-}
-
-impl Workload for TryBuffered<UnorderedQueue<Succeeds, SharedReady>> {
-    fn calls(&self) -> u64 {
-        12_800
-    }
-
-    fn run(&mut self, cx: &mut Context<'_>) {
-        for _ in 0..12_800 {
-            let _ = self.buffer.poll_next(cx);
-        }
-    }
-}
-
-/// A stream of so many items.
-#[derive(Drop)]
-struct Items {
-    left: u64,
-}
-
-impl Stream for Items {
+impl<W: NamesSlot> SlotStream<W> for Feed {
     type Item = u64;
 
-    fn poll_next(&mut self, _cx: &mut Context<'_>) -> Poll<Option<u64>> {
-        if self.left == 0 {
-            return Poll::Ready(None);
+    fn poll_next(&mut self, _waker: &W) -> Poll<Option<u64>> {
+        Poll::Ready(Some(1))
+    }
+}
+
+pub type Ordered = Buffer<Ready, OrderedQueue<Yields, (), SharedReady>>;
+
+pub type Unordered = Buffer<Ready, UnorderedQueue<Yields, SharedReady>>;
+
+pub type TryOrdered = TryBuffer<Attempts, OrderedQueue<Succeeds, Result<(), ()>, SharedReady>>;
+
+pub type TryUnordered = TryBuffer<Attempts, UnorderedQueue<Succeeds, SharedReady>>;
+
+pub type Merge = MergeBounded<Feed, SharedReady>;
+
+impl Workload for Ordered {
+    fn calls(&self) -> u64 {
+        12_800
+    }
+
+    fn run(&mut self, cx: &mut Context<'_>) {
+        for _ in 0..12_800 {
+            let _ = self.poll_next(cx);
         }
-        self.left -= 1;
-        Poll::Ready(Some(self.left))
+    }
+}
+
+impl Workload for Unordered {
+    fn calls(&self) -> u64 {
+        12_800
+    }
+
+    fn run(&mut self, cx: &mut Context<'_>) {
+        for _ in 0..12_800 {
+            let _ = self.poll_next(cx);
+        }
+    }
+}
+
+impl Workload for TryOrdered {
+    fn calls(&self) -> u64 {
+        12_800
+    }
+
+    fn run(&mut self, cx: &mut Context<'_>) {
+        for _ in 0..12_800 {
+            let _ = self.poll_next(cx);
+        }
+    }
+}
+
+impl Workload for TryUnordered {
+    fn calls(&self) -> u64 {
+        12_800
+    }
+
+    fn run(&mut self, cx: &mut Context<'_>) {
+        for _ in 0..12_800 {
+            let _ = self.poll_next(cx);
+        }
+    }
+}
+
+impl Workload for Merge {
+    fn calls(&self) -> u64 {
+        12_800
+    }
+
+    fn run(&mut self, cx: &mut Context<'_>) {
+        for _ in 0..12_800 {
+            let _ = self.poll_next(cx);
+        }
     }
 }
 
 const ITEMS: u64 = 12_800;
 
-/// A for-each whose closure makes ready futures. A run makes it and polls it to its end: a call is the way of one item.
+/// A for-each whose closure makes ready futures, 100 at a time. A run makes it and polls it to its end: a call is the way of one item.
 #[derive(Drop)]
-pub struct ForEach {
-    alloc: Global,
-    n: usize,
-}
-
-impl ForEach {
-    /// At most so many in progress, and one where that is none.
-    pub fn new(alloc: Global, n: usize) -> ForEach {
-        let n = if n == 0 { 1 } else { n };
-        ForEach { alloc, n }
-    }
-}
+pub struct ForEach(pub Global);
 
 fn ready_for(_item: u64) -> Yields {
     Yields { left: 0 }
@@ -192,9 +149,8 @@ impl Workload for ForEach {
     }
 
     fn run(&mut self, cx: &mut Context<'_>) {
-        let n = if self.n == 0 { 1 } else { self.n };
-        let items = Items { left: ITEMS };
-        let made = ForEachConcurrent::with_limit(self.alloc, items, n, 61, |item| ready_for(item));
+        let items = stream::iter(0..ITEMS);
+        let made = ForEachConcurrent::with_limit(self.0, items, 100, 61, |item| ready_for(item));
         let Ok(mut each) = made else {
             return;
         };

@@ -1,20 +1,18 @@
 //! One-shots, from channel to output: those of the kit in the kit's own set and in a set over the source that has futures of the kit polled, and those of this library in a set over the shared source.
 use crate::clock::Workload;
 use futures::Stream;
-use futures::channel::oneshot as kit_oneshot;
+use futures::channel::oneshot as kit;
 use futures::stream::FuturesUnordered;
-use futures::task::{Context, Poll};
+use futures::task::Context;
 use futures_buffered_core::ready_core::NewFault;
 use futures_buffered_core::ready_shared::SharedReady;
 use futures_buffered_driven::{Foreign, ForeignSet, foreign_set};
 use futures_buffered_slot_futures::oneshot;
 use futures_buffered_unordered_bounded::futures_unordered_bounded::FuturesUnorderedBounded;
-use std::alloc::{AllocError, Global};
-
-type KitReceiver = kit_oneshot::Receiver<u64>;
+use std::alloc::Global;
 
 /// A set that is given receivers, and is polled.
-pub trait Holds: Drop {
+pub trait Receives: Drop {
     type Sender: Drop;
 
     /// One more receiver is held. Its sender, where there was memory.
@@ -22,85 +20,58 @@ pub trait Holds: Drop {
 
     fn send(sender: Self::Sender);
 
-    /// The output, where one has come.
-    fn poll(&mut self, cx: &mut Context<'_>) -> Option<u64>;
+    /// One poll.
+    fn poll(&mut self, cx: &mut Context<'_>);
 }
 
-#[derive(Drop)]
-pub struct KitSet(FuturesUnordered<KitReceiver>);
+pub type KitSet = FuturesUnordered<kit::Receiver<u64>>;
 
-impl KitSet {
-    pub fn new(alloc: Global) -> Result<KitSet, AllocError> {
-        Ok(KitSet(FuturesUnordered::new(alloc)?))
-    }
-}
+pub type DrivenSet = ForeignSet<kit::Receiver<u64>>;
 
-impl Holds for KitSet {
-    type Sender = kit_oneshot::Sender<u64>;
+pub type SharedSet = FuturesUnorderedBounded<oneshot::Receiver<u64>, SharedReady>;
 
-    fn hold(&mut self, alloc: Global) -> Option<kit_oneshot::Sender<u64>> {
-        let (sender, receiver) = kit_oneshot::channel(alloc).ok()?;
-        let _ = self.0.push(receiver);
+impl Receives for KitSet {
+    type Sender = kit::Sender<u64>;
+
+    fn hold(&mut self, alloc: Global) -> Option<kit::Sender<u64>> {
+        let (sender, receiver) = kit::channel(alloc).ok()?;
+        let _ = self.push(receiver);
         Some(sender)
     }
 
-    fn send(sender: kit_oneshot::Sender<u64>) {
+    fn send(sender: kit::Sender<u64>) {
         let _ = sender.send(1);
     }
 
-    fn poll(&mut self, cx: &mut Context<'_>) -> Option<u64> {
-        match self.0.poll_next(cx) {
-            Poll::Ready(Some(Ok(value))) => Some(value),
-            _ => None,
-        }
+    fn poll(&mut self, cx: &mut Context<'_>) {
+        let _ = self.poll_next(cx);
     }
 }
 
-#[derive(Drop)]
-pub struct DrivenSet(ForeignSet<KitReceiver>);
+impl Receives for DrivenSet {
+    type Sender = kit::Sender<u64>;
 
-impl DrivenSet {
-    pub fn new(alloc: Global, slots: usize) -> Result<DrivenSet, NewFault> {
-        Ok(DrivenSet(foreign_set(alloc, slots)?))
-    }
-}
-
-impl Holds for DrivenSet {
-    type Sender = kit_oneshot::Sender<u64>;
-
-    fn hold(&mut self, alloc: Global) -> Option<kit_oneshot::Sender<u64>> {
-        let (sender, receiver) = kit_oneshot::channel(alloc).ok()?;
-        let _ = self.0.try_push(Foreign::new(receiver));
+    fn hold(&mut self, alloc: Global) -> Option<kit::Sender<u64>> {
+        let (sender, receiver) = kit::channel(alloc).ok()?;
+        let _ = self.try_push(Foreign::new(receiver));
         Some(sender)
     }
 
-    fn send(sender: kit_oneshot::Sender<u64>) {
+    fn send(sender: kit::Sender<u64>) {
         let _ = sender.send(1);
     }
 
-    fn poll(&mut self, cx: &mut Context<'_>) -> Option<u64> {
-        match self.0.poll_next(cx) {
-            Poll::Ready(Some(Ok(value))) => Some(value),
-            _ => None,
-        }
+    fn poll(&mut self, cx: &mut Context<'_>) {
+        let _ = self.poll_next(cx);
     }
 }
 
-#[derive(Drop)]
-pub struct SharedSet(FuturesUnorderedBounded<oneshot::Receiver<u64>, SharedReady>);
-
-impl SharedSet {
-    pub fn new(alloc: Global, slots: usize) -> Result<SharedSet, NewFault> {
-        Ok(SharedSet(FuturesUnorderedBounded::new(alloc, slots)?))
-    }
-}
-
-impl Holds for SharedSet {
+impl Receives for SharedSet {
     type Sender = oneshot::Sender<u64>;
 
     fn hold(&mut self, alloc: Global) -> Option<oneshot::Sender<u64>> {
         let (sender, receiver) = oneshot::channel(alloc).ok()?;
-        let _ = self.0.try_push(receiver);
+        let _ = self.try_push(receiver);
         Some(sender)
     }
 
@@ -108,34 +79,51 @@ impl Holds for SharedSet {
         let _ = sender.send(1);
     }
 
-    fn poll(&mut self, cx: &mut Context<'_>) -> Option<u64> {
-        match self.0.poll_next(cx) {
-            Poll::Ready(Some(Ok(value))) => Some(value),
-            _ => None,
-        }
+    fn poll(&mut self, cx: &mut Context<'_>) {
+        let _ = self.poll_next(cx);
     }
 }
 
 /// A set of one-shots. A run makes as many as there are slots, lets each be polled, sends to all, and takes their outputs.
 #[derive(Drop)]
-pub struct OneShots<H: Holds> {
+pub struct OneShots<H: Receives> {
     alloc: Global,
     set: H,
     slots: usize,
     senders: Vec<H::Sender>,
 }
 
-impl<H: Holds> OneShots<H> {
-    pub fn new(alloc: Global, set: H, slots: usize) -> Result<OneShots<H>, AllocError> {
-        let senders = Vec::with_capacity(alloc, slots)?;
-        Ok(OneShots {
-            alloc,
-            set,
-            slots,
-            senders,
-        })
-    }
+/// Those of the kit, in its own set.
+pub fn of_kit(alloc: Global, slots: usize) -> Result<OneShots<KitSet>, NewFault> {
+    Ok(OneShots {
+        alloc,
+        set: FuturesUnordered::new(alloc)?,
+        slots,
+        senders: Vec::with_capacity(alloc, slots)?,
+    })
+}
 
+/// Those of the kit, in a set over the source that has futures of the kit polled.
+pub fn driven(alloc: Global, slots: usize) -> Result<OneShots<DrivenSet>, NewFault> {
+    Ok(OneShots {
+        alloc,
+        set: foreign_set(alloc, slots)?,
+        slots,
+        senders: Vec::with_capacity(alloc, slots)?,
+    })
+}
+
+/// Those of this library, in a set over the shared source.
+pub fn shared(alloc: Global, slots: usize) -> Result<OneShots<SharedSet>, NewFault> {
+    Ok(OneShots {
+        alloc,
+        set: FuturesUnorderedBounded::new(alloc, slots)?,
+        slots,
+        senders: Vec::with_capacity(alloc, slots)?,
+    })
+}
+
+impl<H: Receives> OneShots<H> {
     fn fill(&mut self) {
         for _ in 0..self.slots {
             if let Some(sender) = self.set.hold(self.alloc) {
@@ -152,26 +140,25 @@ impl<H: Holds> OneShots<H> {
         }
     }
 
-    // Polls until all of them have been polled once: a set polls 32 at least in each poll.
-    fn settle(&mut self, cx: &mut Context<'_>) {
-        for _ in 0..self.slots / 32 + 3 {
-            let _ = self.set.poll(cx);
+    fn poll(&mut self, cx: &mut Context<'_>, times: usize) {
+        for _ in 0..times {
+            self.set.poll(cx);
         }
     }
 }
 
-impl<H: Holds> Workload for OneShots<H> {
+impl<H: Receives> Workload for OneShots<H> {
     fn calls(&self) -> u64 {
         self.slots as u64
     }
 
+    // A set polls 32 at least in each poll, so after `each` of them all have been polled once.
     fn run(&mut self, cx: &mut Context<'_>) {
+        let each = self.slots / 32 + 3;
         self.fill();
-        self.settle(cx);
+        self.poll(cx, each);
         self.send_all();
-        for _ in 0..self.slots {
-            let _ = self.set.poll(cx);
-        }
-        self.settle(cx);
+        self.poll(cx, self.slots);
+        self.poll(cx, each);
     }
 }

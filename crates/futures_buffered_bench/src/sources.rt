@@ -1,6 +1,6 @@
-//! Workloads of shared sources.
+//! Workloads of shared sources without a set.
 use crate::clock::{Workload, tenths};
-use crate::sets::keep;
+use crate::waiting::keep;
 use futures::task::{Context, Poll, Source as TaskSource, Waker};
 use futures_buffered_core::ready_core::{NewFault, Taken};
 use futures_buffered_core::ready_shared::{OuterWaker, SharedReady, SharedWaker};
@@ -12,17 +12,7 @@ use std::{io, thread};
 
 /// The kit alone. Each call leaves the task's waker in a place of its own, takes it out, and wakes the task.
 #[derive(Drop)]
-pub struct TaskAlone {
-    source: TaskSource,
-}
-
-impl TaskAlone {
-    pub fn new() -> TaskAlone {
-        TaskAlone {
-            source: TaskSource::new(),
-        }
-    }
-}
+pub struct TaskAlone(pub TaskSource);
 
 impl Workload for TaskAlone {
     fn calls(&self) -> u64 {
@@ -32,7 +22,7 @@ impl Workload for TaskAlone {
     fn run(&mut self, cx: &mut Context<'_>) {
         let mut slot: Option<Waker> = None;
         for _ in 0..10_000 {
-            let _: Poll<()> = cx.register(&self.source, &mut slot);
+            let _: Poll<()> = cx.register(&self.0, &mut slot);
             if let Some(waker) = slot.take() {
                 waker.wake();
             }
@@ -42,19 +32,16 @@ impl Workload for TaskAlone {
 
 /// Sources that stand beside one another. Each call registers once, wakes a slot of the last source, and asks each until it is empty.
 #[derive(Drop)]
-pub struct Beside {
-    sources: Vec<SharedReady>,
-}
+pub struct Beside(Vec<SharedReady>);
 
 fn add_beside(
     alloc: Global,
-    first: &mut SharedReady,
     sources: &mut Vec<SharedReady>,
+    first: &mut SharedReady,
     count: usize,
 ) -> Result<(), NewFault> {
     for _ in 1..count {
-        let beside = first.make_beside(alloc, 64)?;
-        let _ = sources.push(beside);
+        keep(sources, first.make_beside(alloc, 64)?)?;
     }
     Ok(())
 }
@@ -63,13 +50,13 @@ impl Beside {
     pub fn new(alloc: Global, count: usize) -> Result<Beside, NewFault> {
         let mut first = SharedReady::new(alloc, 64)?;
         let mut sources = Vec::with_capacity(alloc, count)?;
-        add_beside(alloc, &mut first, &mut sources, count)?;
-        let _ = sources.push(first);
-        Ok(Beside { sources })
+        add_beside(alloc, &mut sources, &mut first, count)?;
+        keep(&mut sources, first)?;
+        Ok(Beside(sources))
     }
 
     fn wake_last(&self) {
-        if let Some(last) = self.sources.last() {
+        if let Some(last) = self.0.last() {
             if last.capacity() > 7 {
                 last.waker(7).wake();
             }
@@ -77,7 +64,7 @@ impl Beside {
     }
 
     fn ask_each(&mut self) {
-        for source in &mut self.sources {
+        for source in &mut self.0 {
             if let Taken::Slot(_) = source.take() {
                 source.take();
             }
@@ -92,7 +79,7 @@ impl Workload for Beside {
 
     fn run(&mut self, cx: &mut Context<'_>) {
         for _ in 0..10_000 {
-            if let Some(first) = self.sources.first_mut() {
+            if let Some(first) = self.0.first_mut() {
                 ReadySource::register(first, cx);
             }
             self.wake_last();

@@ -1,0 +1,115 @@
+//! Outputs that a thread waits for by `block_on`.
+use crate::clock::tenths;
+use crate::holders::{GrowingSet, fill};
+use crate::waiting::keep;
+use futures::executor::block_on;
+use futures::{StreamExt, future};
+use futures_buffered_core::ready_shared::SharedReady;
+use futures_buffered_slot_futures::oneshot::{Receiver, Sender, channel};
+use futures_buffered_unordered::futures_unordered::FuturesUnordered;
+use futures_buffered_unordered_bounded::futures_unordered_bounded::FuturesUnorderedBounded;
+use std::alloc::{AllocError, AllocGlobal, Global};
+use std::random::RandomSource;
+use std::sync::Wait;
+use std::sync::atomic::AtomicU64;
+use std::sync::atomic::Ordering::SeqCst;
+use std::thread::{Threads, yield_now};
+use std::time::{Clock, Instant};
+use std::{io, thread};
+
+/// How many outputs one run waits for.
+const OUTPUTS: u64 = 1_000;
+
+fn ready(alloc: Global) -> GrowingSet {
+    let mut set = FuturesUnordered::new(alloc);
+    fill(&mut set, OUTPUTS as usize, 0);
+    set
+}
+
+/// The time of an output where each is waited for by a `block_on` of its own, in tenths of a nanosecond.
+pub fn one_by_one<R: Clock + RandomSource + AllocGlobal + Wait>(rt: &R) -> io::Result<u128> {
+    let mut set = ready(rt.alloc());
+    let start = Instant::now(rt)?;
+    for _ in 0..OUTPUTS {
+        let _ = block_on(rt, set.next());
+    }
+    Ok(tenths(start.elapsed(rt)?, OUTPUTS))
+}
+
+/// The same, where one `block_on` waits for all.
+pub fn all_in_one<R: Clock + RandomSource + AllocGlobal + Wait>(rt: &R) -> io::Result<u128> {
+    let set = ready(rt.alloc());
+    let start = Instant::now(rt)?;
+    let _ = block_on(rt, set.for_each(|_output| future::ready(())));
+    Ok(tenths(start.elapsed(rt)?, OUTPUTS))
+}
+
+// After so many turns of a wait each further one lets other threads run.
+const BUSY_TURNS: u64 = 100_000;
+
+// Waits until so many have been asked for.
+fn wait_for(asked: &AtomicU64, wanted: u64) {
+    for turn in 0..u64::MAX {
+        if asked.load(SeqCst) >= wanted {
+            return;
+        }
+        if turn > BUSY_TURNS {
+            yield_now();
+        }
+    }
+}
+
+// Sends each as soon as it is asked for.
+fn send_each(asked: &AtomicU64, senders: Vec<Sender<u64>>) {
+    for (before, sender) in senders.into_iter().enumerate() {
+        wait_for(asked, (before as u64).saturating_add(1));
+        let _ = sender.send(1);
+    }
+}
+
+// Asks for each, by a set of one slot, and waits for its output.
+fn take_each<R: Wait + RandomSource + AllocGlobal>(
+    rt: &R,
+    asked: &AtomicU64,
+    receivers: Vec<Receiver<u64>>,
+) {
+    let made = FuturesUnorderedBounded::<Receiver<u64>, SharedReady>::new(rt.alloc(), 1);
+    let Ok(mut set) = made else {
+        return;
+    };
+    for receiver in receivers {
+        let _ = set.try_push(receiver);
+        asked.fetch_add(1, SeqCst);
+        let _ = block_on(rt, set.next());
+    }
+}
+
+fn add_channels(
+    alloc: Global,
+    senders: &mut Vec<Sender<u64>>,
+    receivers: &mut Vec<Receiver<u64>>,
+) -> Result<(), AllocError> {
+    for _ in 0..OUTPUTS {
+        let (sender, receiver) = channel(alloc)?;
+        keep(senders, sender)?;
+        keep(receivers, receiver)?;
+    }
+    Ok(())
+}
+
+/// One thread pushes a receiver into an empty set, tells another, and waits for the output by `block_on`; the other sends at once: the time of one round, in tenths of a nanosecond.
+pub fn handed_over<R>(rt: &R) -> io::Result<u128>
+where
+    R: Clock + RandomSource + AllocGlobal + Threads + Wait + Sync,
+{
+    let (mut senders, mut receivers) = (Vec::new(rt.alloc()), Vec::new(rt.alloc()));
+    add_channels(rt.alloc(), &mut senders, &mut receivers)?;
+    let asked = AtomicU64::new(0);
+    let start = Instant::now(rt)?;
+    thread::join(
+        rt,
+        || send_each(&asked, senders),
+        || take_each(rt, &asked, receivers),
+    );
+    Ok(tenths(start.elapsed(rt)?, OUTPUTS))
+}
