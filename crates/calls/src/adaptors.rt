@@ -1,0 +1,275 @@
+//! Adaptors: buffers over a stream of futures, and the for-each.
+ghost use Rattle.std.specs.Prelude.{◌<◌, ◌≤◌};
+ghost use Rattle.calls.specs.declared.values.UnitFuture.{UnitFuture};
+
+use crate::answer::{Answer, Reply, of_debug, of_end, of_hint, of_output, of_result};
+use crate::command::Query;
+use crate::lines::run_made;
+use crate::session::{Options, Session};
+use crate::shared_world::SharedWorld;
+use crate::source::{FutureSource, TryFutureSource};
+use crate::subject::{Call, Subject};
+use crate::values::{NumberFuture, TryFuture, UnitFuture};
+use futures::task::Context;
+use futures::{Future, Stream};
+use futures_buffered_adaptors::buffer_unordered::BufferUnordered;
+use futures_buffered_adaptors::buffered_ordered::BufferedOrdered;
+use futures_buffered_adaptors::for_each_concurrent::ForEachConcurrent;
+use futures_buffered_adaptors::try_buffer_unordered::TryBufferUnordered;
+use futures_buffered_adaptors::try_buffered_ordered::TryBufferedOrdered;
+use futures_buffered_core::ready_core::NewFault;
+use futures_buffered_core::ready_shared::SharedReady;
+use futures_buffered_sets::futures_unordered_bounded::POLL_LIMIT;
+use futures_buffered_sets::{FusedFuture, FusedStream, SizeHint};
+
+fn limit_of(options: &Options) -> usize
+    ensures { 1 ≤ result }
+{
+    match options.limit {
+        Some(limit) if limit > 0 => limit,
+        _ => POLL_LIMIT,
+    }
+}
+
+// How many futures the buffer holds at most.
+fn size_of(numbers: &[usize]) -> usize {
+    match numbers.first() {
+        Some(n) => *n,
+        None => 0,
+    }
+}
+
+impl Subject for BufferUnordered<FutureSource<NumberFuture>, SharedReady> {
+    fn poll(&mut self, cx: &mut Context<'_>, _outputs: &mut Vec<u64>) -> Answer {
+        of_output(self.poll_next(cx))
+    }
+
+    fn call(&mut self, call: Call<'_>, _world: &SharedWorld, text: &mut String) -> Reply {
+        match call {
+            Call::Ask(Query::SizeHint) => of_hint(self.size_hint()),
+            Call::Ask(Query::IsTerminated) => Reply::Is(self.is_terminated()),
+            Call::Ask(Query::Debug) => of_debug(write!(text, "{self:?}")),
+            _ => Reply::Nothing,
+        }
+    }
+}
+
+fn new_buffer(
+    options: &Options,
+    source: FutureSource<NumberFuture>,
+    n: usize,
+) -> Result<BufferUnordered<FutureSource<NumberFuture>, SharedReady>, NewFault>
+    requires { 0 < n }
+{
+    match options.limit {
+        Some(limit) if limit > 0 && options.takes_source => {
+            BufferUnordered::over_limit(&(), options.alloc, source, n, limit)
+        }
+        _ if options.takes_source => BufferUnordered::over(&(), options.alloc, source, n),
+        _ => BufferUnordered::with_limit(options.alloc, source, n, limit_of(options)),
+    }
+}
+
+pub fn run_buffer(
+    session: &mut Session,
+    numbers: &[usize],
+    lines: &[&str],
+) -> Result<usize, NewFault> {
+    let n = size_of(numbers);
+    if n == 0 {
+        return Ok(0);
+    }
+    let source: FutureSource<NumberFuture> = FutureSource::new(
+        &session.world,
+        session.options.hint,
+    )?;
+    let made = new_buffer(&session.options, source, n);
+    run_made(session, made, lines)
+}
+
+impl Subject for BufferedOrdered<FutureSource<NumberFuture>, SharedReady> {
+    fn poll(&mut self, cx: &mut Context<'_>, _outputs: &mut Vec<u64>) -> Answer {
+        of_output(self.poll_next(cx))
+    }
+
+    fn call(&mut self, call: Call<'_>, _world: &SharedWorld, text: &mut String) -> Reply {
+        match call {
+            Call::Ask(Query::SizeHint) => of_hint(self.size_hint()),
+            Call::Ask(Query::IsTerminated) => Reply::Is(self.is_terminated()),
+            Call::Ask(Query::Debug) => of_debug(write!(text, "{self:?}")),
+            _ => Reply::Nothing,
+        }
+    }
+}
+
+fn new_ordered_buffer(
+    options: &Options,
+    source: FutureSource<NumberFuture>,
+    n: usize,
+) -> Result<BufferedOrdered<FutureSource<NumberFuture>, SharedReady>, NewFault>
+    requires { 0 < n }
+{
+    match options.limit {
+        Some(limit) if limit > 0 && options.takes_source => {
+            BufferedOrdered::over_limit(&(), options.alloc, source, n, limit)
+        }
+        _ if options.takes_source => BufferedOrdered::over(&(), options.alloc, source, n),
+        _ => BufferedOrdered::with_limit(options.alloc, source, n, limit_of(options)),
+    }
+}
+
+pub fn run_ordered_buffer(
+    session: &mut Session,
+    numbers: &[usize],
+    lines: &[&str],
+) -> Result<usize, NewFault> {
+    let n = size_of(numbers);
+    if n == 0 {
+        return Ok(0);
+    }
+    let source: FutureSource<NumberFuture> = FutureSource::new(
+        &session.world,
+        session.options.hint,
+    )?;
+    let made = new_ordered_buffer(&session.options, source, n);
+    run_made(session, made, lines)
+}
+
+impl Subject for TryBufferUnordered<TryFutureSource, TryFuture, SharedReady> {
+    fn poll(&mut self, cx: &mut Context<'_>, _outputs: &mut Vec<u64>) -> Answer {
+        of_result(self.poll_next(cx))
+    }
+
+    fn call(&mut self, call: Call<'_>, _world: &SharedWorld, text: &mut String) -> Reply {
+        match call {
+            Call::Ask(Query::SizeHint) => of_hint(self.size_hint()),
+            Call::Ask(Query::IsTerminated) => Reply::Is(self.is_terminated()),
+            Call::Ask(Query::Debug) => of_debug(write!(text, "{self:?}")),
+            _ => Reply::Nothing,
+        }
+    }
+}
+
+fn new_try_buffer(
+    options: &Options,
+    source: TryFutureSource,
+    n: usize,
+) -> Result<TryBufferUnordered<TryFutureSource, TryFuture, SharedReady>, NewFault>
+    requires { 0 < n }
+{
+    match options.limit {
+        Some(limit) if limit > 0 && options.takes_source => {
+            TryBufferUnordered::over_limit(&(), options.alloc, source, n, limit)
+        }
+        _ if options.takes_source => TryBufferUnordered::over(&(), options.alloc, source, n),
+        _ => TryBufferUnordered::with_limit(options.alloc, source, n, limit_of(options)),
+    }
+}
+
+pub fn run_try_buffer(
+    session: &mut Session,
+    numbers: &[usize],
+    lines: &[&str],
+) -> Result<usize, NewFault> {
+    let n = size_of(numbers);
+    if n == 0 {
+        return Ok(0);
+    }
+    let source: TryFutureSource = TryFutureSource::new(&session.world, session.options.hint)?;
+    let made = new_try_buffer(&session.options, source, n);
+    run_made(session, made, lines)
+}
+
+impl Subject for TryBufferedOrdered<TryFutureSource, TryFuture, SharedReady> {
+    fn poll(&mut self, cx: &mut Context<'_>, _outputs: &mut Vec<u64>) -> Answer {
+        of_result(self.poll_next(cx))
+    }
+
+    fn call(&mut self, call: Call<'_>, _world: &SharedWorld, text: &mut String) -> Reply {
+        match call {
+            Call::Ask(Query::SizeHint) => of_hint(self.size_hint()),
+            Call::Ask(Query::IsTerminated) => Reply::Is(self.is_terminated()),
+            Call::Ask(Query::Debug) => of_debug(write!(text, "{self:?}")),
+            _ => Reply::Nothing,
+        }
+    }
+}
+
+fn new_try_ordered_buffer(
+    options: &Options,
+    source: TryFutureSource,
+    n: usize,
+) -> Result<TryBufferedOrdered<TryFutureSource, TryFuture, SharedReady>, NewFault>
+    requires { 0 < n }
+{
+    match options.limit {
+        Some(limit) if limit > 0 && options.takes_source => {
+            TryBufferedOrdered::over_limit(&(), options.alloc, source, n, limit)
+        }
+        _ if options.takes_source => TryBufferedOrdered::over(&(), options.alloc, source, n),
+        _ => TryBufferedOrdered::with_limit(options.alloc, source, n, limit_of(options)),
+    }
+}
+
+pub fn run_try_ordered_buffer(
+    session: &mut Session,
+    numbers: &[usize],
+    lines: &[&str],
+) -> Result<usize, NewFault> {
+    let n = size_of(numbers);
+    if n == 0 {
+        return Ok(0);
+    }
+    let source: TryFutureSource = TryFutureSource::new(&session.world, session.options.hint)?;
+    let made = new_try_ordered_buffer(&session.options, source, n);
+    run_made(session, made, lines)
+}
+
+impl<F: FnMut(UnitFuture) -> UnitFuture + Drop> Subject
+    for ForEachConcurrent<FutureSource<UnitFuture>, F, UnitFuture, SharedReady> {
+    ghost can_poll = { (closure : F) (item : UnitFuture) → F.pre closure item };
+
+    fn poll(&mut self, cx: &mut Context<'_>, _outputs: &mut Vec<u64>) -> Answer {
+        of_end(Future::poll(self, cx))
+    }
+
+    fn call(&mut self, call: Call<'_>, _world: &SharedWorld, text: &mut String) -> Reply {
+        match call {
+            Call::Ask(Query::IsTerminated) => Reply::Is(self.is_terminated()),
+            Call::Ask(Query::Debug) => of_debug(write!(text, "{self:?}")),
+            _ => Reply::Nothing,
+        }
+    }
+}
+
+fn new_for_each<F: FnMut(UnitFuture) -> UnitFuture + Drop>(
+    options: &Options,
+    source: FutureSource<UnitFuture>,
+    n: usize,
+    call: F,
+) -> Result<ForEachConcurrent<FutureSource<UnitFuture>, F, UnitFuture, SharedReady>, NewFault>
+    requires { 0 < n }
+{
+    match options.limit {
+        Some(limit) if limit > 0 && options.takes_source => {
+            ForEachConcurrent::over_limit(&(), options.alloc, source, n, limit, call)
+        }
+        _ if options.takes_source => ForEachConcurrent::over(&(), options.alloc, source, n, call),
+        _ => ForEachConcurrent::with_limit(options.alloc, source, n, limit_of(options), call),
+    }
+}
+
+pub fn run_for_each(
+    session: &mut Session,
+    numbers: &[usize],
+    lines: &[&str],
+) -> Result<usize, NewFault> {
+    let n = size_of(numbers);
+    if n == 0 {
+        return Ok(0);
+    }
+    let source: FutureSource<UnitFuture> = FutureSource::new(&session.world, session.options.hint)?;
+    let call = |item: UnitFuture| item.called();
+    let made = new_for_each(&session.options, source, n, call);
+    run_made(session, made, lines)
+}

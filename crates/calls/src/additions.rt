@@ -1,0 +1,172 @@
+//! What an object is given and asked besides polls. Where memory is refused to a call, the object must be as before and the values must be back; then the call is made once more.
+use crate::answer::{Reply, append_reply};
+use crate::command::{End, Query};
+use crate::numbers::push_numbers;
+use crate::session::Session;
+use crate::shared_world::SharedWorld;
+use crate::subject::{Call, Subject};
+use crate::text::Text;
+
+/// What an object is asked before and behind a call that may be refused.
+const QUERIES: [Query; 6] = [
+    Query::Len,
+    Query::Capacity,
+    Query::Limit,
+    Query::IsFull,
+    Query::SizeHint,
+    Query::IsTerminated,
+];
+
+// What the object says of itself.
+fn describe<O: Subject>(object: &mut O, world: &SharedWorld, unused: &mut String, text: &mut Text) {
+    text.clear();
+    for query in &QUERIES {
+        append_reply(text, object.call(Call::Ask(*query), world, unused));
+        text.append(" ");
+    }
+}
+
+impl Session {
+    // The numbers of the line are those. Whether each word is one.
+    fn take_numbers(&mut self, rest: &str) -> bool {
+        self.world.forget_effects();
+        self.ids.clear();
+        push_numbers(&mut self.ids, rest)
+    }
+
+    fn ask<O: Subject>(&mut self, object: &mut O, query: Query) -> Reply {
+        object.call(Call::Ask(query), &self.world, &mut self.reply.string)
+    }
+
+    // How many entries the object says that it has.
+    fn len_of<O: Subject>(&mut self, object: &mut O) -> usize {
+        match self.ask(object, Query::Len) {
+            Reply::Number(len) => len,
+            _ => 0,
+        }
+    }
+
+    fn describe_before<O: Subject>(&mut self, object: &mut O) {
+        describe(
+            object,
+            &self.world,
+            &mut self.reply.string,
+            &mut self.before,
+        );
+    }
+
+    // Whether the object says of itself what it said before.
+    fn is_as_before<O: Subject>(&mut self, object: &mut O) -> bool {
+        describe(object, &self.world, &mut self.reply.string, &mut self.after);
+        self.before.string.as_str() == self.after.string.as_str()
+    }
+
+    fn push_once<O: Subject>(&mut self, object: &mut O, end: End, id: usize) -> Reply {
+        object.call(Call::Push(end, id), &self.world, &mut self.reply.string)
+    }
+
+    // A call that was refused was made once more, with this reply.
+    fn count_refused(&mut self, reply: Reply) {
+        if !matches!(reply, Reply::Refused) {
+            self.report.count_refused();
+        }
+    }
+
+    // The push of this value was refused for lack of memory.
+    fn push_again<O: Subject>(&mut self, object: &mut O, end: End, id: usize) -> Reply {
+        if !self.is_as_before(object) || !self.world.has_dropped(&[id]) {
+            return Reply::Changed;
+        }
+        self.world.forget_effects();
+        let reply = self.push_once(object, end, id);
+        self.count_refused(reply);
+        reply
+    }
+
+    fn push_one<O: Subject>(&mut self, object: &mut O, end: End, id: usize) -> Reply {
+        self.describe_before(object);
+        match self.push_once(object, end, id) {
+            Reply::Refused => self.push_again(object, end, id),
+            reply => reply,
+        }
+    }
+
+    // Adds each: the first reply that is not that it was taken.
+    fn push_each<O: Subject>(&mut self, object: &mut O, end: End) -> Reply {
+        for at in 0..self.ids.len() {
+            let Some(id) = self.ids.get(at).copied() else {
+                return Reply::Nothing;
+            };
+            match self.push_one(object, end, id) {
+                Reply::Ok => {}
+                reply => return reply,
+            }
+        }
+        Reply::Ok
+    }
+
+    /// Adds the values that the line names.
+    pub fn push<O: Subject>(&mut self, object: &mut O, end: End, rest: &str) {
+        let reply = if self.take_numbers(rest) {
+            self.push_each(object, end)
+        } else {
+            Reply::Nothing
+        };
+        append_reply(&mut self.reply, reply);
+    }
+
+    // Adds those from this place on.
+    fn extend_once<O: Subject>(&mut self, object: &mut O, from: usize) -> Reply {
+        match self.ids.get(from..) {
+            Some(ids) => object.call(Call::Extend(ids), &self.world, &mut self.reply.string),
+            None => Reply::Nothing,
+        }
+    }
+
+    fn has_dropped_from(&self, from: usize) -> bool {
+        match self.ids.get(from..) {
+            Some(ids) => self.world.has_dropped(ids),
+            None => false,
+        }
+    }
+
+    // Memory was refused on the way: those before stay, and the others must be back.
+    fn extend_again<O: Subject>(&mut self, object: &mut O, len: usize) -> Reply {
+        let taken = self.len_of(object).saturating_sub(len);
+        if !self.has_dropped_from(taken) {
+            return Reply::Changed;
+        }
+        self.world.forget_effects();
+        let reply = self.extend_once(object, taken);
+        self.count_refused(reply);
+        reply
+    }
+
+    fn extend_all<O: Subject>(&mut self, object: &mut O) -> Reply {
+        let len = self.len_of(object);
+        match self.extend_once(object, 0) {
+            Reply::Refused => self.extend_again(object, len),
+            reply => reply,
+        }
+    }
+
+    /// Adds the values that the line names by one call.
+    pub fn extend<O: Subject>(&mut self, object: &mut O, rest: &str) {
+        let reply = if self.take_numbers(rest) {
+            self.extend_all(object)
+        } else {
+            Reply::Nothing
+        };
+        append_reply(&mut self.reply, reply);
+    }
+
+    /// Asks the object about itself. Where there is no memory for the text of `Debug`, it is asked once more.
+    pub fn query<O: Subject>(&mut self, object: &mut O, query: Query) {
+        let mut reply = self.ask(object, query);
+        if matches!(reply, Reply::Refused) {
+            self.reply.clear();
+            reply = self.ask(object, query);
+        }
+        append_reply(&mut self.reply, reply);
+    }
+}

@@ -1,0 +1,199 @@
+//! What a poll of an object answers, what other calls reply, and how that is written.
+use crate::memory;
+use crate::text::Text;
+use crate::values::Output;
+use futures::task::Poll;
+use std::alloc::AllocError;
+
+/// What a poll answers. The outputs of a join stand beside it.
+#[derive(Clone, Copy)]
+pub enum Answer {
+    /// There is no object, or no such task.
+    Nothing,
+    Pending,
+    None,
+    Some(u64),
+    SomeOk(u64),
+    SomeError(u64),
+    Ready,
+    ReadyOk,
+    ReadyError(u64),
+}
+
+/// What a call that is no poll replies.
+#[derive(Clone, Copy)]
+pub enum Reply {
+    /// The object has no such call.
+    Nothing,
+    Ok,
+    Full,
+    /// A request for memory was refused.
+    Refused,
+    /// It was refused, and what the object says of itself has changed, or a value did not come back.
+    Changed,
+    Number(usize),
+    Hint(usize, Option<usize>),
+    Is(bool),
+    /// The reply is written already.
+    Written,
+}
+
+/// The answer of a merge.
+pub fn of_item(polled: Poll<Option<u64>>) -> Answer {
+    match polled {
+        Poll::Pending => Answer::Pending,
+        Poll::Ready(None) => Answer::None,
+        Poll::Ready(Some(number)) => Answer::Some(number),
+    }
+}
+
+/// The answer of a set, a queue or a buffer.
+pub fn of_output(polled: Poll<Option<Output>>) -> Answer {
+    match polled {
+        Poll::Pending => Answer::Pending,
+        Poll::Ready(None) => Answer::None,
+        Poll::Ready(Some(output)) => Answer::Some(output.into_number()),
+    }
+}
+
+/// The answer of a buffer whose futures may fail.
+pub fn of_result(polled: Poll<Option<Result<Output, u64>>>) -> Answer {
+    match polled {
+        Poll::Pending => Answer::Pending,
+        Poll::Ready(None) => Answer::None,
+        Poll::Ready(Some(Ok(output))) => Answer::SomeOk(output.into_number()),
+        Poll::Ready(Some(Err(error))) => Answer::SomeError(error),
+    }
+}
+
+// Whether there was memory for each.
+fn push_outputs(numbers: &mut Vec<u64>, outputs: Vec<Output>) -> bool {
+    let mut is_well = true;
+    for output in outputs {
+        is_well = memory::push(numbers, output.into_number()) && is_well;
+    }
+    is_well
+}
+
+fn of_all(outputs: Vec<Output>, numbers: &mut Vec<u64>, answer: Answer) -> Answer {
+    if push_outputs(numbers, outputs) {
+        answer
+    } else {
+        Answer::Nothing
+    }
+}
+
+/// The answer of a join.
+pub fn of_outputs(polled: Poll<Vec<Output>>, numbers: &mut Vec<u64>) -> Answer {
+    match polled {
+        Poll::Pending => Answer::Pending,
+        Poll::Ready(outputs) => of_all(outputs, numbers, Answer::Ready),
+    }
+}
+
+/// The answer of a join whose futures may fail.
+pub fn of_results(polled: Poll<Result<Vec<Output>, u64>>, numbers: &mut Vec<u64>) -> Answer {
+    match polled {
+        Poll::Pending => Answer::Pending,
+        Poll::Ready(Ok(outputs)) => of_all(outputs, numbers, Answer::ReadyOk),
+        Poll::Ready(Err(error)) => Answer::ReadyError(error),
+    }
+}
+
+/// The answer of a for-each.
+pub fn of_end(polled: Poll<()>) -> Answer {
+    match polled {
+        Poll::Pending => Answer::Pending,
+        Poll::Ready(()) => Answer::Ready,
+    }
+}
+
+/// The reply of an object of so many slots, which refuses where it is full.
+pub fn of_push<T: Drop>(pushed: Result<(), T>) -> Reply {
+    match pushed {
+        Ok(()) => Reply::Ok,
+        Err(_) => Reply::Full,
+    }
+}
+
+/// The reply of an object that grows, which refuses where there is no memory.
+pub fn of_growth<T: Drop>(pushed: Result<(), T>) -> Reply {
+    match pushed {
+        Ok(()) => Reply::Ok,
+        Err(_) => Reply::Refused,
+    }
+}
+
+/// The reply of an object of so many slots whose list of entries grows. It refuses where it is full, and where there is no memory for the list.
+pub fn of_listed<T: Drop>(pushed: Result<(), T>, is_full: bool) -> Reply {
+    match of_push(pushed) {
+        Reply::Full if !is_full => Reply::Refused,
+        reply => reply,
+    }
+}
+
+/// What `Debug` printed stands in the text, unless memory was refused.
+pub fn of_debug(written: Result<(), AllocError>) -> Reply {
+    match written {
+        Ok(()) => Reply::Written,
+        Err(_) => Reply::Refused,
+    }
+}
+
+pub fn of_hint(hint: (usize, Option<usize>)) -> Reply {
+    let (least, most) = hint;
+    Reply::Hint(least, most)
+}
+
+// Its word, and the number behind it.
+fn parts_of(answer: Answer) -> (&'static str, Option<u64>) {
+    match answer {
+        Answer::Nothing => ("bad", None),
+        Answer::Pending => ("pending", None),
+        Answer::None => ("none", None),
+        Answer::Some(number) => ("some", Some(number)),
+        Answer::SomeOk(number) => ("some ok", Some(number)),
+        Answer::SomeError(error) => ("some err", Some(error)),
+        Answer::Ready => ("ready", None),
+        Answer::ReadyOk => ("ready ok", None),
+        Answer::ReadyError(error) => ("ready err", Some(error)),
+    }
+}
+
+/// Appends the answer, and the outputs beside it.
+pub fn append_answer(text: &mut Text, answer: Answer, outputs: &[u64]) {
+    let (word, number) = parts_of(answer);
+    text.append(word);
+    if let Some(number) = number {
+        text.append(" ");
+        text.append_number(number);
+    }
+    text.append_numbers(outputs);
+}
+
+fn append_most(text: &mut Text, most: Option<usize>) {
+    match most {
+        Some(most) => text.append_number(most as u64),
+        None => text.append("-"),
+    }
+}
+
+/// Appends the reply.
+pub fn append_reply(text: &mut Text, reply: Reply) {
+    match reply {
+        Reply::Nothing => text.append("bad"),
+        Reply::Ok => text.append("ok"),
+        Reply::Full => text.append("full"),
+        Reply::Refused => text.append("memory"),
+        Reply::Changed => text.append("refused with a change"),
+        Reply::Number(number) => text.append_number(number as u64),
+        Reply::Hint(least, most) => {
+            text.append_number(least as u64);
+            text.append(" ");
+            append_most(text, most);
+        }
+        Reply::Is(true) => text.append("yes"),
+        Reply::Is(false) => text.append("no"),
+        Reply::Written => {}
+    }
+}

@@ -1,0 +1,149 @@
+//! The first word of a line, as what it asks for.
+use crate::numbers::number;
+use crate::world::SOURCE;
+
+/// What a line asks for.
+#[derive(Clone, Copy)]
+pub enum Command {
+    Future,
+    Source,
+    SourceHint,
+    WithLimit,
+    Filtered,
+    Over,
+    Begin(Kind),
+    Poll,
+    Drain,
+    Enter,
+    Woken,
+    Wake,
+    Forget,
+    Send,
+    DropSender,
+    Push(End),
+    Extend,
+    Drop,
+    Ask(Query),
+}
+
+/// What a line begins. Those whose names end in `Of` are made of the futures that the line names.
+#[derive(Clone, Copy)]
+pub enum Kind {
+    BoundedSet,
+    Set,
+    BoundedQueue,
+    Queue,
+    BoundedSetOf,
+    SetOf,
+    BoundedQueueOf,
+    QueueOf,
+    Join,
+    TryJoin,
+    BoundedMerge,
+    Merge,
+    BufferedUnordered,
+    BufferedOrdered,
+    TryBufferedUnordered,
+    TryBufferedOrdered,
+    ForEach,
+}
+
+/// Where a future is added: sets and merges have no ends.
+#[derive(Clone, Copy)]
+pub enum End {
+    Any,
+    Back,
+    Front,
+}
+
+/// What an object is asked about itself.
+#[derive(Clone, Copy)]
+pub enum Query {
+    Len,
+    Capacity,
+    Limit,
+    IsFull,
+    SizeHint,
+    IsTerminated,
+    Debug,
+}
+
+fn kind_of(word: &str) -> Option<Kind> {
+    Some(match word {
+        "bounded_set" => Kind::BoundedSet,
+        "set" => Kind::Set,
+        "bounded_queue" => Kind::BoundedQueue,
+        "queue" => Kind::Queue,
+        "join" => Kind::Join,
+        "try_join" => Kind::TryJoin,
+        "bounded_merge" => Kind::BoundedMerge,
+        "merge" => Kind::Merge,
+        "buffered_unordered" => Kind::BufferedUnordered,
+        "buffered_ordered" => Kind::BufferedOrdered,
+        "try_buffered_unordered" => Kind::TryBufferedUnordered,
+        "try_buffered_ordered" => Kind::TryBufferedOrdered,
+        "for_each" => Kind::ForEach,
+        _ => return None,
+    })
+}
+
+/// The kind that `of` behind its word makes.
+pub fn kind_of_values(kind: Kind) -> Kind {
+    match kind {
+        Kind::BoundedSet => Kind::BoundedSetOf,
+        Kind::Set => Kind::SetOf,
+        Kind::BoundedQueue => Kind::BoundedQueueOf,
+        Kind::Queue => Kind::QueueOf,
+        other => other,
+    }
+}
+
+fn query_of(word: &str) -> Option<Query> {
+    Some(match word {
+        "len" => Query::Len,
+        "capacity" => Query::Capacity,
+        "limit" => Query::Limit,
+        "is_full" => Query::IsFull,
+        "size_hint" => Query::SizeHint,
+        "is_terminated" => Query::IsTerminated,
+        "debug" => Query::Debug,
+        _ => return None,
+    })
+}
+
+/// The command that a word names.
+pub fn command_of(word: &str) -> Option<Command> {
+    Some(match word {
+        "future" | "stream" => Command::Future,
+        "source" => Command::Source,
+        "source_hint" => Command::SourceHint,
+        "with_limit" => Command::WithLimit,
+        "filtered" => Command::Filtered,
+        "over" => Command::Over,
+        "poll" => Command::Poll,
+        "drain" => Command::Drain,
+        "enter" => Command::Enter,
+        "woken" => Command::Woken,
+        "wake" => Command::Wake,
+        "forget" => Command::Forget,
+        "send" => Command::Send,
+        "drop_sender" => Command::DropSender,
+        "push" => Command::Push(End::Any),
+        "push_back" => Command::Push(End::Back),
+        "push_front" => Command::Push(End::Front),
+        "extend" => Command::Extend,
+        "drop" => Command::Drop,
+        _ => match kind_of(word) {
+            Some(kind) => Command::Begin(kind),
+            None => Command::Ask(query_of(word)?),
+        },
+    })
+}
+
+/// The number of a value, or that of the source.
+pub fn id_of(word: &str) -> Option<usize> {
+    if word == "source" {
+        return Some(SOURCE);
+    }
+    number(word)
+}

@@ -1,0 +1,92 @@
+//! A line of a file of tests, as its parts.
+use crate::command::{Command, Kind, command_of, kind_of_values};
+
+/// What a line is.
+#[derive(Clone, Copy)]
+pub enum Line<'a> {
+    /// Empty, or a remark.
+    Remark,
+    /// The head of a test, with its name.
+    Test(&'a str),
+    /// A call, and the reply that is wanted.
+    Call(&'a str, Wanted<'a>),
+}
+
+/// The reply that is wanted, or one that must not come.
+#[derive(Clone, Copy)]
+pub struct Wanted<'a> {
+    pub reply: &'a str,
+    pub must_differ: bool,
+}
+
+// A line without a reply wants `ok`.
+fn call_of<'a>(line: &'a str) -> Line<'a> {
+    let (call, reply) = match line.split_once(" => ") {
+        Some(parts) => parts,
+        None => (line, "ok"),
+    };
+    match call.strip_prefix("differs ") {
+        Some(call) => Line::Call(
+            call,
+            Wanted {
+                reply,
+                must_differ: true,
+            },
+        ),
+        None => Line::Call(
+            call,
+            Wanted {
+                reply,
+                must_differ: false,
+            },
+        ),
+    }
+}
+
+/// The parts of a line.
+pub fn parse<'a>(line: &'a str) -> Line<'a> {
+    if line.is_empty() || line.starts_with('#') {
+        return Line::Remark;
+    }
+    match line.strip_prefix("test ") {
+        Some(name) => Line::Test(name),
+        None => call_of(line),
+    }
+}
+
+/// The first word of a call, and the rest.
+pub fn split_call(call: &str) -> (&str, &str) {
+    match call.split_once(' ') {
+        Some(parts) => parts,
+        None => (call, ""),
+    }
+}
+
+/// The kind of object that a line begins, and the words behind that.
+pub fn begun_by<'a>(line: &'a str) -> Option<(Kind, &'a str)> {
+    match parse(line) {
+        Line::Call(call, _) => {
+            let (word, rest) = split_call(call);
+            match command_of(word)? {
+                Command::Begin(kind) => Some(match split_call(rest) {
+                    ("of", values) => (kind_of_values(kind), values),
+                    _ => (kind, rest),
+                }),
+                _ => None,
+            }
+        }
+        _ => None,
+    }
+}
+
+/// Whether the object is dropped before this line is done.
+pub fn ends_object(line: &str) -> bool {
+    match parse(line) {
+        Line::Remark => false,
+        Line::Test(_) => true,
+        Line::Call(call, _) => {
+            let (word, _) = split_call(call);
+            matches!(command_of(word), Some(Command::Begin(_) | Command::Drop))
+        }
+    }
+}

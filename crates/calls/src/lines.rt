@@ -1,0 +1,207 @@
+//! Goes through the lines of a file: those of an object, from its begin to its end, and those between.
+use crate::command::{Command, Kind, command_of};
+use crate::kinds::run_kind;
+use crate::line::{Line, begun_by, ends_object, parse, split_call};
+use crate::numbers::push_numbers;
+use crate::session::Session;
+use crate::subject::{Nothing, Subject};
+use futures_buffered_core::ready_core::NewFault;
+use std::alloc::AllocGlobal;
+use std::random::RandomSource;
+
+impl Session {
+    // The reply to `drop`, once the object is gone.
+    fn append_drop(&mut self) {
+        if self.had_object {
+            self.had_object = false;
+            self.world.append_dropped(&mut self.reply);
+        } else {
+            self.reply.append("bad");
+        }
+    }
+
+    fn obey<O: Subject>(&mut self, object: &mut O, command: Command, rest: &str)
+        requires { O.can_poll }
+    {
+        match command {
+            Command::Poll => self.poll(object, rest),
+            Command::Drain => self.drain(object, rest),
+            Command::Push(end) => self.push(object, end, rest),
+            Command::Extend => self.extend(object, rest),
+            Command::Ask(query) => self.query(object, query),
+            Command::Drop => self.append_drop(),
+            other => {
+                let word = self.set(other, rest);
+                self.reply.append(word);
+            }
+        }
+    }
+
+    fn call<O: Subject>(&mut self, object: &mut O, call: &str)
+        requires { O.can_poll }
+    {
+        let (word, rest) = split_call(call);
+        match command_of(word) {
+            Some(command) => self.obey(object, command, rest),
+            None => self.reply.append("bad"),
+        }
+    }
+
+    fn line<O: Subject>(&mut self, object: &mut O, line: &str)
+        requires { O.can_poll }
+    {
+        self.report.begin_line();
+        match parse(line) {
+            Line::Call(call, wanted) if !self.report.test_is_over => {
+                self.reply.clear();
+                self.call(object, call);
+                self.compare(call, &wanted);
+            }
+            _ => {}
+        }
+    }
+
+    // The lines of an object behind the one that begins it. How many there are.
+    fn object_lines<O: Subject>(&mut self, object: &mut O, lines: &[&str]) -> usize
+        requires { O.can_poll }
+    {
+        let mut done = 0usize;
+        for line in lines {
+            if ends_object(line) {
+                return done;
+            }
+            done = done.saturating_add(1);
+            self.line(object, line);
+        }
+        done
+    }
+
+    fn run_object<O: Subject>(&mut self, object: &mut O, lines: &[&str]) -> usize
+        requires { O.can_poll }
+    {
+        let Some((first, rest)) = lines.split_first() else {
+            return 0;
+        };
+        self.begin_object(first);
+        let done = self.object_lines(object, rest);
+        self.world.forget_effects();
+        done.saturating_add(1)
+    }
+}
+
+/// Makes the calls of the object that the first of these lines begins, up to its end, and drops it. How many lines that took.
+pub fn run_made<O: Subject>(
+    session: &mut Session,
+    made: Result<O, NewFault>,
+    lines: &[&str],
+) -> Result<usize, NewFault>
+    requires { O.can_poll }
+{
+    let mut object = made?;
+    Ok(session.run_object(&mut object, lines))
+}
+
+fn fault_word(fault: NewFault) -> &'static str {
+    match fault {
+        NewFault::Memory => "memory",
+        NewFault::TooLarge => "too large",
+    }
+}
+
+// How many lines were done with the object, 0 where a word is no number.
+fn run_words(
+    session: &mut Session,
+    kind: Kind,
+    words: &str,
+    lines: &[&str],
+) -> Result<usize, NewFault> {
+    let mut numbers = Vec::new(session.options.alloc);
+    if push_numbers(&mut numbers, words) {
+        run_kind(session, kind, numbers.as_slice(), lines)
+    } else {
+        Ok(0)
+    }
+}
+
+// Where memory is refused, the object is asked for once more. One that is refused for good is no more than a reply.
+fn run_twice(
+    session: &mut Session,
+    kind: Kind,
+    words: &str,
+    lines: &[&str],
+) -> Result<usize, NewFault> {
+    match run_words(session, kind, words, lines) {
+        Err(NewFault::Memory) => {}
+        done => return done,
+    }
+    if !session.refuse_object() {
+        return Err(NewFault::Memory);
+    }
+    let done = run_words(session, kind, words, lines);
+    if done.is_ok() {
+        session.report.count_refused();
+    }
+    done
+}
+
+fn begin(session: &mut Session, kind: Kind, words: &str, line: &str, lines: &[&str]) -> usize {
+    session.prepare_object();
+    if session.report.test_is_over {
+        session.reply_word(line, "bad");
+        return 1;
+    }
+    let word = match run_twice(session, kind, words, lines) {
+        Ok(0) => "bad",
+        Ok(done) => return done,
+        Err(fault) => fault_word(fault),
+    };
+    session.reply_word(line, word);
+    1
+}
+
+fn bare_line<R: RandomSource + AllocGlobal>(rt: &R, session: &mut Session, line: &str) {
+    match parse(line) {
+        Line::Test(name) => {
+            session.report.begin_line();
+            session.begin_test(rt, name);
+        }
+        _ => session.line(&mut Nothing, line),
+    }
+}
+
+// The lines up to the next that begins an object. How many there are.
+fn run_bare<R: RandomSource + AllocGlobal>(rt: &R, session: &mut Session, lines: &[&str]) -> usize {
+    let mut done = 0usize;
+    for line in lines {
+        if begun_by(line).is_some() {
+            return done;
+        }
+        done = done.saturating_add(1);
+        bare_line(rt, session, line);
+    }
+    done
+}
+
+fn run_some<R: RandomSource + AllocGlobal>(
+    rt: &R,
+    session: &mut Session,
+    line: &str,
+    lines: &[&str],
+) -> usize {
+    match begun_by(line) {
+        Some((kind, words)) => begin(session, kind, words, line, lines),
+        None => run_bare(rt, session, lines),
+    }
+}
+
+/// Makes the calls of all lines.
+pub fn run_lines<R: RandomSource + AllocGlobal>(rt: &R, session: &mut Session, lines: &[&str]) {
+    let mut at = 0usize;
+    for _ in 0..lines.len() {
+        if let Some(rest) = lines.get(at..) {
+            if let Some(line) = rest.first() {
+                at = at.saturating_add(run_some(rt, session, line, rest));
+            }
+        }
+    }
+}

@@ -1,0 +1,120 @@
+//! Goes through files of tests: each line is a call of a set, a queue, a join, a merge or an adaptor, with the reply that is wanted.
+//!
+//! The words of the command line name the files. Each reply that differs is printed, with file, line and test, and behind them a line of counts for each file. The status is 1 where a reply differs, else 3 where a request for memory that a call made was refused, else 0; and 4 where a file could not be gone through.
+#![tactic(auto)]
+
+mod adaptors;
+mod additions;
+mod answer;
+mod command;
+mod effects;
+mod joins;
+mod kinds;
+mod line;
+mod lines;
+mod memory;
+mod merges;
+mod numbers;
+mod polls;
+mod queues;
+mod report;
+mod script;
+mod session;
+mod sets;
+mod settings;
+mod shared_world;
+mod source;
+mod step;
+mod subject;
+mod text;
+mod values;
+mod world;
+
+use lines::run_lines;
+use report::Report;
+use session::{Session, new_session};
+use std::alloc::{AllocError, AllocGlobal, Global};
+use std::env::{Args, Env};
+use std::fs::Files;
+use std::process::ExitCode;
+use std::random::RandomSource;
+use std::{env, fs, io};
+
+// The first difference goes to the error stream as well. The exit status of the file.
+fn print_report<R: Print + Eprint>(rt: &R, report: &mut Report) -> io::Result<u8> {
+    report.append_counts();
+    if report.has_failed() {
+        return Err(io::Error::from(AllocError));
+    }
+    print!(rt; "{}", report.text.string)?;
+    eprint!(rt; "{}", report.first.string)?;
+    Ok(report.status())
+}
+
+fn lines_of(alloc: Global, text: &str) -> Result<Vec<&str>, AllocError> {
+    match text.lines().collect(alloc) {
+        Ok(lines) => Ok(lines),
+        Err(_) => text.lines().collect(alloc),
+    }
+}
+
+fn read<R: Files + AllocGlobal>(rt: &R, file: &str) -> io::Result<String> {
+    match fs::read_to_string(rt, file) {
+        Ok(text) => Ok(text),
+        Err(_) => fs::read_to_string(rt, file),
+    }
+}
+
+fn run_file<R>(rt: &R, session: &mut Session, file: &str) -> io::Result<u8>
+where
+    R: Files + Print + Eprint + RandomSource + AllocGlobal,
+{
+    session.report.begin_file(file);
+    let text = read(rt, file)?;
+    let lines = lines_of(rt.alloc(), text.as_str())?;
+    run_lines(rt, session, lines.as_slice());
+    print_report(rt, &mut session.report)
+}
+
+// A reply that differs tells more than a call to which memory was refused.
+fn worse(status: u8, next: u8) -> u8 {
+    if status == 1 || next == 0 {
+        status
+    } else {
+        next
+    }
+}
+
+// Goes through each file in a session of its own.
+fn run_files<R>(rt: &R, words: Args<Global>) -> io::Result<u8>
+where
+    R: Files + Print + Eprint + RandomSource + AllocGlobal,
+{
+    let mut status = 0u8;
+    for file in words.skip(1) {
+        let mut session = new_session(rt.alloc())?;
+        status = worse(status, run_file(rt, &mut session, file.as_str())?);
+    }
+    Ok(status)
+}
+
+fn run<R>(rt: &R) -> io::Result<u8>
+where
+    R: Env + Files + Print + Eprint + RandomSource + AllocGlobal,
+{
+    let words = match env::args(rt) {
+        Ok(words) => words,
+        Err(_) => env::args(rt)?,
+    };
+    run_files(rt, words)
+}
+
+fn main(rt: HostRuntime) -> ExitCode {
+    match run(&rt) {
+        Ok(status) => ExitCode::from(status),
+        Err(error) => {
+            let _written = eprintln!(rt; "calls: {error}");
+            ExitCode::from(4)
+        }
+    }
+}

@@ -1,0 +1,177 @@
+//! A session: what holds while the lines of a file are gone through.
+use crate::line::{Line, Wanted, parse};
+use crate::memory;
+use crate::numbers::number;
+use crate::report::Report;
+use crate::shared_world::SharedWorld;
+use crate::source::FixedHint;
+use crate::text::Text;
+use futures::test::MockTask;
+use std::alloc::{AllocError, AllocGlobal, Global};
+use std::io;
+use std::random::RandomSource;
+
+/// How many tasks there are.
+const TASKS: usize = 4;
+
+/// What lines chose for the object that is begun next.
+#[derive(Clone, Copy)]
+pub struct Options {
+    pub alloc: Global,
+    pub limit: Option<usize>,
+    pub hint: Option<FixedHint>,
+    /// It is made of what a filter lets through, so that its length is not known before.
+    pub is_filtered: bool,
+    /// It is made by the constructor that takes a source, or what sources are made by.
+    pub takes_source: bool,
+}
+
+/// No line chose anything.
+pub fn no_options(alloc: Global) -> Options {
+    Options {
+        alloc,
+        limit: None,
+        hint: None,
+        is_filtered: false,
+        takes_source: false,
+    }
+}
+
+/// Makes the calls that the lines of a file ask for, and compares.
+#[derive(Drop)]
+pub struct Session {
+    pub tasks: Vec<MockTask>,
+    /// The number of the task that was entered last by a poll.
+    pub task: usize,
+    pub world: SharedWorld,
+    pub options: Options,
+    pub report: Report,
+    /// Whether there was an object up to here.
+    pub had_object: bool,
+    /// The reply to the line.
+    pub reply: Text,
+    /// The numbers of the line.
+    pub ids: Vec<usize>,
+    /// The outputs of a join.
+    pub outputs: Vec<u64>,
+    /// The outputs of all polls of the line.
+    pub drained: Vec<u64>,
+    /// What the object said of itself before a call, and what it says behind it.
+    pub before: Text,
+    pub after: Text,
+}
+
+/// A session in which nothing was said yet.
+pub fn new_session(alloc: Global) -> Result<Session, AllocError> {
+    Ok(Session {
+        tasks: Vec::new(alloc),
+        task: 0,
+        world: SharedWorld::new(alloc)?,
+        options: no_options(alloc),
+        report: Report::new(alloc),
+        had_object: false,
+        reply: Text::new(alloc),
+        ids: Vec::new(alloc),
+        outputs: Vec::new(alloc),
+        drained: Vec::new(alloc),
+        before: Text::new(alloc),
+        after: Text::new(alloc),
+    })
+}
+
+// A task, asked for once more where memory is refused.
+fn new_task<R: RandomSource + AllocGlobal>(rt: &R) -> io::Result<MockTask> {
+    match MockTask::new(rt) {
+        Ok(task) => Ok(task),
+        Err(_) => MockTask::new(rt),
+    }
+}
+
+fn new_tasks<R: RandomSource + AllocGlobal>(rt: &R) -> io::Result<Vec<MockTask>> {
+    let mut tasks = Vec::new(rt.alloc());
+    for _ in 0..TASKS {
+        if !memory::push(&mut tasks, new_task(rt)?) {
+            return Err(io::Error::from(AllocError));
+        }
+    }
+    Ok(tasks)
+}
+
+/// The number of a task that a line names, or the usual one.
+pub fn task_of(rest: &str, usual: usize) -> usize {
+    if rest.is_empty() {
+        return usual;
+    }
+    number(rest).unwrap_or(TASKS)
+}
+
+impl Session {
+    fn renew<R: RandomSource + AllocGlobal>(&mut self, rt: &R) -> io::Result<()> {
+        self.tasks = new_tasks(rt)?;
+        self.world = SharedWorld::new(rt.alloc())?;
+        self.task = 0;
+        self.had_object = false;
+        self.options = no_options(rt.alloc());
+        Ok(())
+    }
+
+    /// Begins a test in a new world, with new tasks.
+    pub fn begin_test<R: RandomSource + AllocGlobal>(&mut self, rt: &R, name: &str) {
+        self.report.begin_test(name);
+        if self.renew(rt).is_err() {
+            self.world.run_out_of_memory();
+        }
+    }
+
+    /// Whether that task was woken since it was entered last.
+    pub fn woken_word(&self, task: usize) -> &'static str {
+        match self.tasks.get(task) {
+            Some(task) if task.is_woken() => "woken",
+            _ => "quiet",
+        }
+    }
+
+    /// Compares the reply with what was wanted.
+    pub fn compare(&mut self, call: &str, wanted: &Wanted<'_>) {
+        if self.world.is_misused() {
+            self.reply.append(" (a value did what its kind does not)");
+        }
+        if self.reply.has_failed || self.world.is_out_of_memory() {
+            self.reply.append(" (out of memory)");
+        }
+        self.report
+            .compare(call, wanted, self.reply.string.as_str());
+    }
+
+    /// The reply to the line is this word.
+    pub fn reply_word(&mut self, line: &str, word: &str) {
+        self.report.begin_line();
+        match parse(line) {
+            Line::Call(call, wanted) if !self.report.test_is_over => {
+                self.reply.clear();
+                self.reply.append(word);
+                self.compare(call, &wanted);
+            }
+            _ => {}
+        }
+    }
+
+    /// An object is to be begun. The one before is gone.
+    pub fn prepare_object(&mut self) {
+        self.had_object = false;
+        self.world.forget_effects();
+    }
+
+    /// The line has begun an object.
+    pub fn begin_object(&mut self, line: &str) {
+        self.options = no_options(self.options.alloc);
+        self.had_object = true;
+        self.reply_word(line, "ok");
+    }
+
+    /// Memory was refused to the constructor. Whether no value is left of those that it was given.
+    pub fn refuse_object(&mut self) -> bool {
+        self.world.forget_effects();
+        self.world.is_empty()
+    }
+}

@@ -1,0 +1,163 @@
+//! Sets of futures.
+use crate::answer::{Answer, Reply, of_debug, of_growth, of_hint, of_output, of_push};
+use crate::command::{End, Query};
+use crate::lines::run_made;
+use crate::session::{Options, Session};
+use crate::shared_world::SharedWorld;
+use crate::subject::{Call, Subject};
+use crate::values::{NumberFuture, new_value, new_values};
+use futures::Stream;
+use futures::task::Context;
+use futures_buffered_core::ready_core::NewFault;
+use futures_buffered_core::ready_shared::SharedReady;
+use futures_buffered_sets::{FusedStream, FuturesUnordered, FuturesUnorderedBounded, SizeHint};
+
+type Set = FuturesUnorderedBounded<NumberFuture, SharedReady>;
+
+type GrowingSet = FuturesUnordered<NumberFuture, SharedReady>;
+
+impl Subject for FuturesUnorderedBounded<NumberFuture, SharedReady> {
+    fn poll(&mut self, cx: &mut Context<'_>, _outputs: &mut Vec<u64>) -> Answer {
+        of_output(self.poll_next(cx))
+    }
+
+    fn call(&mut self, call: Call<'_>, world: &SharedWorld, text: &mut String) -> Reply {
+        match call {
+            Call::Push(End::Any, id) => match new_value(world, id) {
+                Some(value) => of_push(self.try_push(value)),
+                None => Reply::Nothing,
+            },
+            Call::Ask(Query::Len) => Reply::Number(self.len()),
+            Call::Ask(Query::Capacity) => Reply::Number(self.capacity()),
+            Call::Ask(Query::Limit) => Reply::Number(self.limit()),
+            Call::Ask(Query::IsFull) => Reply::Is(self.is_full()),
+            Call::Ask(Query::SizeHint) => of_hint(self.size_hint()),
+            Call::Ask(Query::IsTerminated) => Reply::Is(self.is_terminated()),
+            Call::Ask(Query::Debug) => of_debug(write!(text, "{self:?}")),
+            _ => Reply::Nothing,
+        }
+    }
+}
+
+fn set_over(options: &Options, n: usize) -> Result<Set, NewFault> {
+    match options.limit {
+        Some(limit) if limit > 0 => {
+            FuturesUnorderedBounded::with_new_source(&(), options.alloc, n, limit)
+        }
+        _ => {
+            let source = SharedReady::new(options.alloc, n)?;
+            FuturesUnorderedBounded::with_source(options.alloc, source)
+        }
+    }
+}
+
+fn new_set(options: &Options, n: usize) -> Result<Set, NewFault> {
+    if options.takes_source {
+        return set_over(options, n);
+    }
+    match options.limit {
+        Some(limit) if limit > 0 => FuturesUnorderedBounded::with_limit(options.alloc, n, limit),
+        _ => FuturesUnorderedBounded::new(options.alloc, n),
+    }
+}
+
+pub fn run_set(
+    session: &mut Session,
+    numbers: &[usize],
+    lines: &[&str],
+) -> Result<usize, NewFault> {
+    let made: Result<Set, NewFault> = new_set(
+        &session.options,
+        numbers.first().copied().unwrap_or(0),
+    );
+    run_made(session, made, lines)
+}
+
+fn set_of(options: &Options, futures: Vec<NumberFuture>) -> Result<Set, NewFault> {
+    match options.limit {
+        Some(limit) if limit > 0 => {
+            FuturesUnorderedBounded::over_limit(&(), options.alloc, futures, limit)
+        }
+        _ if options.takes_source => FuturesUnorderedBounded::over(&(), options.alloc, futures),
+        _ => FuturesUnorderedBounded::from_iter(options.alloc, futures),
+    }
+}
+
+pub fn run_set_of(session: &mut Session, ids: &[usize], lines: &[&str]) -> Result<usize, NewFault> {
+    let futures: Vec<NumberFuture> = new_values(&session.world, ids);
+    let made = set_of(&session.options, futures);
+    run_made(session, made, lines)
+}
+
+impl Subject for FuturesUnordered<NumberFuture, SharedReady> {
+    fn poll(&mut self, cx: &mut Context<'_>, _outputs: &mut Vec<u64>) -> Answer {
+        of_output(self.poll_next(cx))
+    }
+
+    fn call(&mut self, call: Call<'_>, world: &SharedWorld, text: &mut String) -> Reply {
+        match call {
+            Call::Push(End::Any, id) => match new_value(world, id) {
+                Some(value) => of_growth(self.push(value)),
+                None => Reply::Nothing,
+            },
+            Call::Ask(Query::Len) => Reply::Number(self.len()),
+            Call::Ask(Query::Capacity) => Reply::Number(self.capacity()),
+            Call::Ask(Query::Limit) => Reply::Number(self.limit()),
+            Call::Ask(Query::SizeHint) => of_hint(self.size_hint()),
+            Call::Ask(Query::IsTerminated) => Reply::Is(self.is_terminated()),
+            Call::Ask(Query::Debug) => of_debug(write!(text, "{self:?}")),
+            _ => Reply::Nothing,
+        }
+    }
+}
+
+fn growing_set_over(options: &Options, n: usize) -> Result<GrowingSet, NewFault> {
+    match options.limit {
+        Some(limit) if limit > 0 => FuturesUnordered::over_limit((), options.alloc, n, limit),
+        _ => FuturesUnordered::over((), options.alloc, n),
+    }
+}
+
+fn new_growing_set(options: &Options, n: Option<usize>) -> Result<GrowingSet, NewFault> {
+    if options.takes_source {
+        return growing_set_over(options, n.unwrap_or(0));
+    }
+    if let Some(limit) = options.limit {
+        if limit > 0 {
+            return FuturesUnordered::with_limit(options.alloc, n.unwrap_or(0), limit);
+        }
+    }
+    match n {
+        Some(n) => FuturesUnordered::with_capacity(options.alloc, n),
+        None => Ok(FuturesUnordered::new(options.alloc)),
+    }
+}
+
+fn growing_set_of(options: &Options, futures: Vec<NumberFuture>) -> Result<GrowingSet, NewFault> {
+    if options.is_filtered {
+        return FuturesUnordered::from_iter(options.alloc, futures.into_iter().filter(|_| true));
+    }
+    FuturesUnordered::from_iter(options.alloc, futures)
+}
+
+pub fn run_growing_set(
+    session: &mut Session,
+    numbers: &[usize],
+    lines: &[&str],
+) -> Result<usize, NewFault> {
+    let made: Result<GrowingSet, NewFault> = new_growing_set(
+        &session.options,
+        numbers.first().copied(),
+    );
+    run_made(session, made, lines)
+}
+
+pub fn run_growing_set_of(
+    session: &mut Session,
+    ids: &[usize],
+    lines: &[&str],
+) -> Result<usize, NewFault> {
+    let futures: Vec<NumberFuture> = new_values(&session.world, ids);
+    let made = growing_set_of(&session.options, futures);
+    run_made(session, made, lines)
+}

@@ -1,0 +1,149 @@
+//! What a line says about values, tasks and the next object, and the wakes and sends that it makes.
+use crate::command::{Command, id_of};
+use crate::line::split_call;
+use crate::numbers::{number, span};
+use crate::session::{Session, task_of};
+use crate::shared_world::SharedWorld;
+use crate::source::FixedHint;
+use crate::step::push_steps;
+use crate::world::SOURCE;
+
+fn ok_if(is_well: bool) -> &'static str {
+    if is_well { "ok" } else { "bad" }
+}
+
+fn hint_of(rest: &str) -> Option<FixedHint> {
+    let (least, most) = rest.split_once(' ')?;
+    let least = number(least)?;
+    if most == "-" {
+        return Some(FixedHint { least, most: None });
+    }
+    Some(FixedHint {
+        least,
+        most: Some(number(most)?),
+    })
+}
+
+// The number of a receiver's value, and what is sent.
+fn sent_by(rest: &str) -> Option<(usize, usize)> {
+    let (id, value) = rest.split_once(' ')?;
+    Some((number(id)?, number(value)?))
+}
+
+impl SharedWorld {
+    // The value with this number acts by these steps. Whether each word is one.
+    fn define_one(&self, id: usize, words: &str) -> bool {
+        let mut steps = Vec::new(self.alloc);
+        let is_well = push_steps(&mut steps, words, id);
+        self.define(id, steps);
+        is_well
+    }
+
+    fn define_each(&self, first: usize, last: usize, words: &str) -> bool {
+        for id in first..last {
+            if !self.define_one(id, words) {
+                return false;
+            }
+        }
+        self.define_one(last, words)
+    }
+
+    fn define_named(&self, rest: &str) -> bool {
+        let (ids, words) = split_call(rest);
+        match span(ids) {
+            Some((first, last)) => self.define_each(first, last, words),
+            None => false,
+        }
+    }
+}
+
+impl Session {
+    fn wake(&self, rest: &str) -> &'static str {
+        match id_of(rest) {
+            Some(id) if self.world.wake(id) => self.woken_word(self.task),
+            Some(_) => "none",
+            None => "bad",
+        }
+    }
+
+    fn forget(&self, rest: &str) -> bool {
+        match number(rest) {
+            Some(id) => {
+                self.world.forget(id);
+                true
+            }
+            None => false,
+        }
+    }
+
+    fn send_to(&self, id: usize, value: usize) -> &'static str {
+        match self.world.take_sender(id) {
+            Some(sender) => match sender.send(value as u64) {
+                Ok(()) => "ok",
+                Err(_) => "back",
+            },
+            None => "none",
+        }
+    }
+
+    fn send(&self, rest: &str) -> &'static str {
+        match sent_by(rest) {
+            Some((id, value)) => self.send_to(id, value),
+            None => "bad",
+        }
+    }
+
+    fn drop_sender_of(&self, id: usize) -> &'static str {
+        match self.world.take_sender(id) {
+            Some(_sender) => "ok",
+            None => "none",
+        }
+    }
+
+    fn drop_sender(&self, rest: &str) -> &'static str {
+        match number(rest) {
+            Some(id) => self.drop_sender_of(id),
+            None => "bad",
+        }
+    }
+
+    fn set_limit(&mut self, rest: &str) -> &'static str {
+        self.options.limit = number(rest);
+        ok_if(self.options.limit.is_some())
+    }
+
+    fn set_hint(&mut self, rest: &str) -> &'static str {
+        self.options.hint = hint_of(rest);
+        ok_if(self.options.hint.is_some())
+    }
+
+    fn set_source(&mut self, rest: &str) -> &'static str {
+        self.options.hint = None;
+        ok_if(self.world.define_one(SOURCE, rest))
+    }
+
+    /// Does what the command says, of which no object knows, and gives the reply.
+    pub fn set(&mut self, command: Command, rest: &str) -> &'static str {
+        match command {
+            Command::Future => ok_if(self.world.define_named(rest)),
+            Command::Source => self.set_source(rest),
+            Command::SourceHint => self.set_hint(rest),
+            Command::WithLimit => self.set_limit(rest),
+            Command::Filtered => {
+                self.options.is_filtered = true;
+                "ok"
+            }
+            Command::Over => {
+                self.options.takes_source = true;
+                "ok"
+            }
+            Command::Enter => ok_if(self.enter(rest)),
+            Command::Woken => self.woken_word(task_of(rest, self.task)),
+            Command::Wake => self.wake(rest),
+            Command::Forget => ok_if(self.forget(rest)),
+            Command::Send => self.send(rest),
+            Command::DropSender => self.drop_sender(rest),
+            _ => "bad",
+        }
+    }
+}

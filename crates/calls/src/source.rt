@@ -1,0 +1,194 @@
+//! The streams that adaptors draw from: each is polled with the task's context, after its script.
+ghost use Rattle.futures.specs.Task.{IsArmed, Keeps};
+ghost use Rattle.futures.specs.Poll.{OnPending};
+
+use crate::script::{Role, Script};
+use crate::shared_world::SharedWorld;
+use crate::step::Action;
+use crate::values::{Scripted, TryFuture};
+use crate::world::SOURCE;
+use futures::Stream;
+use futures::task::{Context, Poll, Source};
+use futures_buffered_sets::SizeHint;
+use std::alloc::AllocError;
+use std::marker::PhantomData;
+
+/// What a source says of the number of its items, for good.
+#[derive(Clone, Copy)]
+pub struct FixedHint {
+    pub least: usize,
+    pub most: Option<usize>,
+}
+
+// What a poll of the source gives, where it is not pending.
+enum Drawn {
+    Value(usize),
+    Error(u64),
+    End,
+}
+
+#[derive(Drop)]
+struct ScriptedSource {
+    script: Script,
+    source: Source,
+    is_hint_fixed: bool,
+    least: usize,
+    most: Option<usize>,
+}
+
+impl ScriptedSource {
+    // Without a fixed hint it says how many items and errors are left.
+    fn new(world: &SharedWorld, fixed: Option<FixedHint>) -> Result<ScriptedSource, AllocError> {
+        let mut script = Script::new(world, SOURCE)?;
+        script.role = Role::Stream;
+        let left = script.items_left();
+        let (least, most) = match fixed {
+            Some(hint) => (hint.least, hint.most),
+            None => (left, Some(left)),
+        };
+        Ok(ScriptedSource {
+            script,
+            source: Source::new(),
+            is_hint_fixed: fixed.is_some(),
+            least,
+            most,
+        })
+    }
+
+    // One item or error fewer is left.
+    fn set_hint(&mut self, action: Action) {
+        if self.is_hint_fixed {
+            return;
+        }
+        if let Action::Value(_) | Action::Error(_) = action {
+            self.least = self.least.saturating_sub(1);
+            self.most = Some(self.least);
+        }
+    }
+
+    fn poll(&mut self, cx: &mut Context<'_>) -> Poll<Drawn>
+        ensures armed { OnPending result (IsArmed cx.new) }
+        ensures kept { Keeps cx.old cx.new }
+    {
+        let turn = self.script.begin_poll();
+        self.set_hint(turn.action);
+        let Ok(mut guard) = self.script.world.world.try_borrow_mut() else {
+            return cx.yield_now();
+        };
+        let world = &mut *guard;
+        if turn.keeps {
+            world.source_has_kept = true;
+            let _: Poll<()> = cx.register(&self.source, &mut world.source_waker);
+        }
+        if turn.wakes {
+            let _ = world.wake_source();
+        }
+        match turn.action {
+            Action::Pending => cx.register(&self.source, &mut world.source_waker),
+            Action::Value(id) => Poll::Ready(Drawn::Value(id as usize)),
+            Action::Error(error) => Poll::Ready(Drawn::Error(error)),
+            Action::Slot | Action::Output(_) | Action::Receive | Action::End => {
+                Poll::Ready(Drawn::End)
+            }
+        }
+    }
+
+    // The script of the value with this number.
+    fn draw(&self, id: usize) -> Option<Script> {
+        let world = &self.script.world;
+        match Script::new(world, id) {
+            Ok(script) => Some(script),
+            Err(_) => {
+                world.misuse();
+                None
+            }
+        }
+    }
+}
+
+/// A stream of futures.
+#[derive(Drop)]
+pub struct FutureSource<T: Scripted> {
+    source: ScriptedSource,
+    items: PhantomData<T>,
+}
+
+impl<T: Scripted> FutureSource<T> {
+    pub fn new(
+        world: &SharedWorld,
+        fixed: Option<FixedHint>,
+    ) -> Result<FutureSource<T>, AllocError> {
+        Ok(FutureSource {
+            source: ScriptedSource::new(world, fixed)?,
+            items: PhantomData,
+        })
+    }
+}
+
+impl<T: Scripted> Stream for FutureSource<T> {
+    type Item = T;
+
+    fn poll_next(&mut self, cx: &mut Context<'_>) -> Poll<Option<T>> {
+        match self.source.poll(cx) {
+            Poll::Pending => Poll::Pending,
+            Poll::Ready(Drawn::End) => Poll::Ready(None),
+            Poll::Ready(Drawn::Value(id)) => match self.source.draw(id) {
+                Some(script) => Poll::Ready(Some(T::new(script))),
+                None => cx.yield_now(),
+            },
+            Poll::Ready(Drawn::Error(_)) => {
+                self.source.script.world.misuse();
+                cx.yield_now()
+            }
+        }
+    }
+}
+
+impl<T: Scripted> SizeHint for FutureSource<T> {
+    ghost items_left = { λ s. (s.source.least, s.source.most) };
+
+    fn size_hint(&self) -> (usize, Option<usize>) {
+        (self.source.least, self.source.most)
+    }
+}
+
+/// A stream of futures and errors.
+#[derive(Drop)]
+pub struct TryFutureSource {
+    source: ScriptedSource,
+}
+
+impl TryFutureSource {
+    pub fn new(
+        world: &SharedWorld,
+        fixed: Option<FixedHint>,
+    ) -> Result<TryFutureSource, AllocError> {
+        Ok(TryFutureSource {
+            source: ScriptedSource::new(world, fixed)?,
+        })
+    }
+}
+
+impl Stream for TryFutureSource {
+    type Item = Result<TryFuture, u64>;
+
+    fn poll_next(&mut self, cx: &mut Context<'_>) -> Poll<Option<Result<TryFuture, u64>>> {
+        match self.source.poll(cx) {
+            Poll::Pending => Poll::Pending,
+            Poll::Ready(Drawn::End) => Poll::Ready(None),
+            Poll::Ready(Drawn::Value(id)) => match self.source.draw(id) {
+                Some(script) => Poll::Ready(Some(Ok(TryFuture::new(script)))),
+                None => cx.yield_now(),
+            },
+            Poll::Ready(Drawn::Error(error)) => Poll::Ready(Some(Err(error))),
+        }
+    }
+}
+
+impl SizeHint for TryFutureSource {
+    ghost items_left = { λ s. (s.source.least, s.source.most) };
+
+    fn size_hint(&self) -> (usize, Option<usize>) {
+        (self.source.least, self.source.most)
+    }
+}
