@@ -1,5 +1,6 @@
-//! Tests of the ready core, the sources and the slot map, by public calls alone.
+//! Tests of the ready list, the ready core, the sources and the slot map, by public calls alone.
 //!
+//! - `table`: the list and the machine of its steps.
 //! - `ready_core`, `slot_map`: lists of events with their replies, and slots that are filled and emptied.
 //! - `core_source`, `ready_source`: the two sources for one caller.
 //! - `ready_shared`: the source whose slots are woken from any thread, with the outer wakers of `outer`.
@@ -33,5 +34,7 @@ mod same;
 mod sizes;
 #[cfg(test)]
 mod slot_map;
+#[cfg(test)]
+mod table;
 #[cfg(test)]
 mod who_is_woken;

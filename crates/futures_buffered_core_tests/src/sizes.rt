@@ -1,6 +1,6 @@
 // Cores, sources and slot maps of no slot, of a thousand and of many.
 use crate::same::assert_same;
-use futures_buffered_core::ready_core::{ReadyCore, Taken, Woke};
+use futures_buffered_core::ready_core::{Taken, Woke};
 use futures_buffered_core::ready_shared::SharedReady;
 use futures_buffered_core::ready_source::{CoreSource, NewSource, ReadySource, SlotWaker};
 use futures_buffered_core::slot_map::PinSlotMap;
@@ -13,47 +13,6 @@ const SIZES: [usize; 3] = [0, 1_000, 70_000];
 // The slot that comes at this place of an order in which none stands beside its neighbour.
 fn slot_at(place: usize, slots: usize) -> usize {
     place.wrapping_mul(37).checked_rem(slots).unwrap_or(0)
-}
-
-fn mark_core(core: &mut ReadyCore, slot: usize) -> Option<Woke> {
-    if slot < core.capacity() {
-        Some(core.mark(slot))
-    } else {
-        None
-    }
-}
-
-// Marks each slot of a core, and wants this answer each time.
-fn mark_all_of_core(rt: &impl Abort, core: &mut ReadyCore, slots: usize, wanted: Woke) {
-    for place in 0..slots {
-        assert_same(rt, mark_core(core, slot_at(place, slots)), Some(wanted));
-    }
-}
-
-// Takes each slot of a core, in the order of the marks.
-fn take_all_of_core(rt: &impl Abort, core: &mut ReadyCore, slots: usize) {
-    for place in 0..slots {
-        assert_same(rt, core.take(), Taken::Slot(slot_at(place, slots)));
-    }
-    assert_same(rt, core.take(), Taken::Empty);
-}
-
-fn try_core(rt: &impl Abort, alloc: Global, slots: usize) -> Result<(), Fail> {
-    let mut core = ReadyCore::new(alloc, slots)?;
-    assert_same(rt, (core.capacity(), core.take()), (slots, Taken::Empty));
-    mark_all_of_core(rt, &mut core, slots, Woke::Fresh);
-    mark_all_of_core(rt, &mut core, slots, Woke::Already);
-    take_all_of_core(rt, &mut core, slots);
-    assert_same(rt, mark_core(&mut core, slots), None);
-    Ok(())
-}
-
-#[test]
-fn a_core_names_each_slot_once(rt: HostRuntime) -> Result<(), Fail> {
-    for slots in SIZES {
-        try_core(&rt, rt.alloc(), slots)?;
-    }
-    Ok(())
 }
 
 fn mark<S: ReadySource>(source: &mut S, slot: usize) -> Option<Woke> {

@@ -1,184 +1,155 @@
-// Sets, queues and joins made of what an iterator gives.
+// Sets, queues, joins and merges made of what an iterator gives.
+use crate::same::assert_same;
 use futures::task::Poll;
 use futures::test::MockTask;
 use futures_buffered::{
-    FuturesOrderedBounded, FuturesUnordered, FuturesUnorderedBounded, IterExt, JoinAll, TryJoinAll,
+    FuturesOrderedBounded, FuturesUnordered, FuturesUnorderedBounded, IterExt, JoinAll,
+    MergeBounded, MergeUnbounded, SharedReady, SizeHint, TryJoinAll,
 };
-use futures_buffered_core::ready_shared::SharedReady;
-use std::sync::Wait;
+use std::alloc::{AllocError, Global};
+use std::process::Abort;
 use std::test::Fail;
-use test_parts::calls::{Answer, Call, Tried, answered, said, send, try_row};
-use test_parts::cells::{Cells, new_cells, sent};
-use test_parts::polling::{poll_growing_set, poll_join, poll_queue, poll_set, poll_try_join};
-use test_parts::receiver::{Receiver, Sender};
+use test_support::attempt::{Attempt, at_once};
+use test_support::polling::{
+    poll_growing_merge, poll_growing_set, poll_join, poll_merge, poll_queue, poll_set,
+    poll_try_join,
+};
+use test_support::stepped::{Stepped, from};
 
-type Attempt = Result<u64, u64>;
+type Set = FuturesUnorderedBounded<Attempt, SharedReady>;
 
-// What is made of receivers, and their senders.
-#[derive(Drop)]
-struct Held<H, T, R> {
-    held: H,
-    senders: Vec<Sender<T, R>>,
+type GrowingSet = FuturesUnordered<Attempt, SharedReady>;
+
+type Queue = FuturesOrderedBounded<Attempt, SharedReady>;
+
+// The first wakes itself and is ready at its second poll, the second at its first.
+fn two_futures(alloc: Global, second: Result<u64, u64>) -> Result<Vec<Attempt>, AllocError> {
+    let first = Attempt {
+        result: Ok(1),
+        polls_left: 1,
+    };
+    Ok(vec![in alloc; first, at_once(second)]?)
 }
 
-type Set<R> = FuturesUnorderedBounded<Receiver<u64, R>, SharedReady>;
-
-type GrowingSet<R> = FuturesUnordered<Receiver<u64, R>, SharedReady>;
-
-type Queue<R> = FuturesOrderedBounded<Receiver<u64, R>, SharedReady>;
-
-type Join<R> = JoinAll<Receiver<u64, R>, SharedReady>;
-
-type TryJoin<R> = TryJoinAll<Receiver<Attempt, R>, SharedReady>;
-
-impl<R: Wait + Drop> Tried for Held<Set<R>, u64, R> {
-    fn gave(&mut self, task: &MockTask, call: Call) -> Answer {
-        match call {
-            Call::Send(place, value) => send(&self.senders, place, value),
-            Call::Poll => answered(poll_set(task, &mut self.held)),
-            Call::Capacity => Answer::Number(self.held.capacity() as u64),
-            asked => said(&self.held, asked),
-        }
-    }
-}
-
-impl<R: Wait + Drop> Tried for Held<GrowingSet<R>, u64, R> {
-    fn gave(&mut self, task: &MockTask, call: Call) -> Answer {
-        match call {
-            Call::Send(place, value) => send(&self.senders, place, value),
-            Call::Poll => answered(poll_growing_set(task, &mut self.held)),
-            Call::Len => Answer::Number(self.held.len() as u64),
-            Call::Capacity => Answer::Number(self.held.capacity() as u64),
-            asked => said(&self.held, asked),
-        }
-    }
-}
-
-impl<R: Wait + Drop> Tried for Held<Queue<R>, u64, R> {
-    fn gave(&mut self, task: &MockTask, call: Call) -> Answer {
-        match call {
-            Call::Send(place, value) => send(&self.senders, place, value),
-            Call::Poll => answered(poll_queue(task, &mut self.held)),
-            _ => Answer::Unknown,
-        }
-    }
-}
-
-fn both(polled: Poll<Vec<u64>>) -> Answer {
-    match polled {
-        Poll::Ready(outputs) => match outputs.as_slice() {
-            [first, second] => Answer::Both(*first, *second),
-            _ => Answer::Unknown,
-        },
-        Poll::Pending => Answer::Pending,
-    }
-}
-
-impl<R: Wait + Drop> Tried for Held<Join<R>, u64, R> {
-    fn gave(&mut self, task: &MockTask, call: Call) -> Answer {
-        match call {
-            Call::Send(place, value) => send(&self.senders, place, value),
-            Call::Poll => both(poll_join(task, &mut self.held)),
-            _ => Answer::Unknown,
-        }
-    }
-}
-
-// No row ends with the outputs of a try join.
-fn error_of(polled: Poll<Result<Vec<u64>, u64>>) -> Answer {
-    match polled {
-        Poll::Ready(Err(error)) => Answer::Error(error),
-        Poll::Ready(Ok(_)) => Answer::Unknown,
-        Poll::Pending => Answer::Pending,
-    }
-}
-
-// Each value is sent as an error.
-impl<R: Wait + Drop> Tried for Held<TryJoin<R>, Attempt, R> {
-    fn gave(&mut self, task: &MockTask, call: Call) -> Answer {
-        match call {
-            Call::Send(place, error) => {
-                if sent(&self.senders, place, Err(error)) {
-                    Answer::Sent
-                } else {
-                    Answer::Unknown
-                }
-            }
-            Call::Poll => error_of(poll_try_join(task, &mut self.held)),
-            _ => Answer::Unknown,
-        }
-    }
+fn try_set<R: Abort>(rt: &R, task: &MockTask, set: &mut Set) {
+    assert_same(rt, (set.capacity(), set.size_hint()), (2, (2, Some(2))));
+    assert_same(rt, poll_set(task, set), Poll::Ready(Some(Ok(2))));
+    assert_same(rt, poll_set(task, set), Poll::Ready(Some(Ok(1))));
+    assert_same(rt, poll_set(task, set), Poll::Ready(None));
 }
 
 #[test]
-fn outputs_come_in_the_order_of_the_wakes(rt: HostRuntime) -> Result<(), Fail> {
-    let Cells { senders, receivers } = new_cells(&rt, rt.alloc(), 3)?;
-    let held = receivers.into_unordered_stream(rt.alloc())?;
-    let row = [
-        (Call::Hint, Answer::Hint(3, Some(3))),
-        (Call::Capacity, Answer::Number(3)),
-        (Call::Poll, Answer::Pending),
-        (Call::Send(2, 1), Answer::Sent),
-        (Call::Send(1, 2), Answer::Sent),
-        (Call::Send(0, 3), Answer::Sent),
-        (Call::Poll, Answer::Some(1)),
-        (Call::Poll, Answer::Some(2)),
-        (Call::Poll, Answer::Some(3)),
-        (Call::Poll, Answer::None),
-    ];
-    try_row(&rt, Held { held, senders }, &row)
+fn a_set_gives_outputs_as_they_finish(rt: HostRuntime) -> Result<(), Fail> {
+    let task = MockTask::new(&rt)?;
+    let futures = two_futures(rt.alloc(), Ok(2))?;
+    let mut set = futures.into_unordered_stream(rt.alloc())?;
+    try_set(&rt, &task, &mut set);
+    Ok(())
 }
 
-#[test]
-fn a_queue_gives_outputs_in_the_order_of_the_futures(rt: HostRuntime) -> Result<(), Fail> {
-    let Cells { senders, receivers } = new_cells(&rt, rt.alloc(), 2)?;
-    let held = receivers.into_ordered_stream(rt.alloc())?;
-    let row = [
-        (Call::Send(1, 2), Answer::Sent),
-        (Call::Poll, Answer::Pending),
-        (Call::Send(0, 3), Answer::Sent),
-        (Call::Poll, Answer::Some(3)),
-        (Call::Poll, Answer::Some(2)),
-        (Call::Poll, Answer::None),
-    ];
-    try_row(&rt, Held { held, senders }, &row)
+fn try_growing_set<R: Abort>(rt: &R, task: &MockTask, set: &mut GrowingSet) {
+    assert_same(rt, (set.len(), set.capacity()), (2, 32));
+    assert_same(rt, poll_growing_set(task, set), Poll::Ready(Some(Ok(2))));
+    assert_same(rt, poll_growing_set(task, set), Poll::Ready(Some(Ok(1))));
+    assert_same(rt, poll_growing_set(task, set), Poll::Ready(None));
 }
 
 #[test]
 fn a_growing_set_has_a_first_group_of_32(rt: HostRuntime) -> Result<(), Fail> {
-    let Cells { senders, receivers } = new_cells(&rt, rt.alloc(), 2)?;
-    let held = receivers.into_unordered_stream_unbounded(rt.alloc())?;
-    let row = [
-        (Call::Len, Answer::Number(2)),
-        (Call::Capacity, Answer::Number(32)),
-        (Call::Send(1, 2), Answer::Sent),
-        (Call::Poll, Answer::Some(2)),
-        (Call::Poll, Answer::Pending),
-    ];
-    try_row(&rt, Held { held, senders }, &row)
+    let task = MockTask::new(&rt)?;
+    let futures = two_futures(rt.alloc(), Ok(2))?;
+    let mut set = futures.into_unordered_stream_unbounded(rt.alloc())?;
+    try_growing_set(&rt, &task, &mut set);
+    Ok(())
+}
+
+fn try_queue<R: Abort>(rt: &R, task: &MockTask, queue: &mut Queue) {
+    assert_same(rt, poll_queue(task, queue), Poll::Ready(Some(Ok(1))));
+    assert_same(rt, poll_queue(task, queue), Poll::Ready(Some(Ok(2))));
+    assert_same(rt, poll_queue(task, queue), Poll::Ready(None));
+}
+
+#[test]
+fn a_queue_gives_outputs_in_the_order_of_the_futures(rt: HostRuntime) -> Result<(), Fail> {
+    let task = MockTask::new(&rt)?;
+    let futures = two_futures(rt.alloc(), Ok(2))?;
+    let mut queue = futures.into_ordered_stream(rt.alloc())?;
+    try_queue(&rt, &task, &mut queue);
+    Ok(())
+}
+
+fn both(polled: Poll<Vec<Result<u64, u64>>>) -> Option<(Result<u64, u64>, Result<u64, u64>)> {
+    match polled {
+        Poll::Ready(outputs) => match outputs.as_slice() {
+            [first, second] => Some((*first, *second)),
+            _ => None,
+        },
+        Poll::Pending => None,
+    }
 }
 
 #[test]
 fn a_join_gives_outputs_by_place(rt: HostRuntime) -> Result<(), Fail> {
-    let Cells { senders, receivers } = new_cells(&rt, rt.alloc(), 2)?;
-    let held = receivers.join_all(rt.alloc())?;
-    let row = [
-        (Call::Poll, Answer::Pending),
-        (Call::Send(1, 2), Answer::Sent),
-        (Call::Send(0, 1), Answer::Sent),
-        (Call::Poll, Answer::Both(1, 2)),
-    ];
-    try_row(&rt, Held { held, senders }, &row)
+    let task = MockTask::new(&rt)?;
+    let futures = two_futures(rt.alloc(), Ok(2))?;
+    let mut join: JoinAll<Attempt, SharedReady> = futures.join_all(rt.alloc())?;
+    let outputs = both(poll_join(&task, &mut join));
+    assert_same(&rt, outputs, Some((Ok(1), Ok(2))));
+    Ok(())
+}
+
+fn error_of(polled: Poll<Result<Vec<u64>, u64>>) -> Option<u64> {
+    match polled {
+        Poll::Ready(result) => result.err(),
+        Poll::Pending => None,
+    }
 }
 
 #[test]
 fn a_try_join_gives_the_first_error(rt: HostRuntime) -> Result<(), Fail> {
-    let Cells { senders, receivers } = new_cells(&rt, rt.alloc(), 2)?;
-    let held = receivers.try_join_all(rt.alloc())?;
-    let row = [
-        (Call::Poll, Answer::Pending),
-        (Call::Send(1, 2), Answer::Sent),
-        (Call::Poll, Answer::Error(2)),
-    ];
-    try_row(&rt, Held { held, senders }, &row)
+    let task = MockTask::new(&rt)?;
+    let futures = two_futures(rt.alloc(), Err(2))?;
+    let mut join: TryJoinAll<Attempt, SharedReady> = futures.try_join_all(rt.alloc())?;
+    assert_same(&rt, error_of(poll_try_join(&task, &mut join)), Some(2));
+    Ok(())
+}
+
+fn try_merge<R: Abort>(rt: &R, task: &MockTask, merge: &mut MergeBounded<Stepped, SharedReady>) {
+    assert_same(rt, poll_merge(task, merge), Poll::Ready(Some(1)));
+    assert_same(rt, poll_merge(task, merge), Poll::Ready(Some(7)));
+    assert_same(rt, poll_merge(task, merge), Poll::Ready(Some(2)));
+    assert_same(rt, poll_merge(task, merge), Poll::Ready(None));
+}
+
+#[test]
+fn a_merge_gives_the_items_of_each_stream(rt: HostRuntime) -> Result<(), Fail> {
+    let task = MockTask::new(&rt)?;
+    let streams = vec![in rt.alloc(); from(1, 2), from(7, 1)]?;
+    let mut merge = streams.merge(rt.alloc())?;
+    try_merge(&rt, &task, &mut merge);
+    Ok(())
+}
+
+fn try_growing_merge<R: Abort>(
+    rt: &R,
+    task: &MockTask,
+    merge: &mut MergeUnbounded<Stepped, SharedReady>,
+) {
+    assert_same(rt, (merge.len(), merge.is_empty()), (2, false));
+    assert_same(rt, poll_growing_merge(task, merge), Poll::Ready(Some(1)));
+    assert_same(rt, poll_growing_merge(task, merge), Poll::Ready(Some(7)));
+    assert_same(rt, poll_growing_merge(task, merge), Poll::Ready(Some(2)));
+    assert_same(rt, poll_growing_merge(task, merge), Poll::Ready(None));
+    assert_same(rt, (merge.len(), merge.is_empty()), (0, true));
+}
+
+// The iterator says that up to three come, and two do.
+#[test]
+fn a_growing_merge_gives_the_items_of_each_stream(rt: HostRuntime) -> Result<(), Fail> {
+    let task = MockTask::new(&rt)?;
+    let streams = vec![in rt.alloc(); from(1, 2), from(0, 5), from(7, 1)]?;
+    let streams = streams.into_iter().filter(|stream| stream.next > 0);
+    let mut merge = streams.merge_unbounded(rt.alloc())?;
+    try_growing_merge(&rt, &task, &mut merge);
+    Ok(())
 }

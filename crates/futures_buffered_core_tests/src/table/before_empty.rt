@@ -1,0 +1,192 @@
+//! What a taking calls before it can answer Empty.
+ghost use Rattle.std.specs.Prelude.{◌≡◌, ◌<◌, true};
+ghost use Rattle.futures_buffered_table.specs.declared.answer.Taken.TheVariants.{Empty};
+
+use crate::same::assert_same;
+use crate::table::alone::{Alone, list_of};
+use futures_buffered_table::answer::{Taken, Woke};
+use futures_buffered_table::ready_table::{BeforeEmpty, PollSeat, ReadyList, StepsMade};
+use std::process::Abort;
+use std::sync::atomic::AtomicU64;
+use std::sync::atomic::Ordering::SeqCst;
+use std::test::Fail;
+use std::thread;
+use std::thread::Threads;
+
+// Counts its calls.
+#[derive(Drop)]
+struct Calls {
+    count: u64,
+}
+
+impl BeforeEmpty for Calls {
+    fn before_empty(&mut self, _made: &StepsMade<'_>) {
+        self.count = self.count.wrapping_add(1);
+    }
+}
+
+// Takes, and wants this answer and this many calls.
+fn takes(rt: &impl Abort, list: &mut Alone, wanted: Taken, count: u64) {
+    let mut calls = Calls { count: 0 };
+    assert_same(rt, list.take_with(&mut calls), wanted);
+    assert_same(rt, calls.count, count);
+}
+
+// One call at each Empty, none where a slot is taken, be it the last one or not.
+#[test]
+fn calls_at_empty_alone(rt: HostRuntime) -> Result<(), Fail> {
+    let mut list = Alone::new(&rt, rt.alloc(), 3);
+    takes(&rt, &mut list, Taken::Empty, 1);
+    takes(&rt, &mut list, Taken::Empty, 1);
+    assert_same(&rt, list.wake(0), Some(Woke::Fresh));
+    takes(&rt, &mut list, Taken::Slot(0), 0);
+    takes(&rt, &mut list, Taken::Empty, 1);
+    assert_same(&rt, list.wake(2), Some(Woke::Fresh));
+    assert_same(&rt, list.wake(0), Some(Woke::Fresh));
+    assert_same(&rt, list.wake(1), Some(Woke::Fresh));
+    takes(&rt, &mut list, Taken::Slot(2), 0);
+    takes(&rt, &mut list, Taken::Slot(0), 0);
+    takes(&rt, &mut list, Taken::Slot(1), 0);
+    takes(&rt, &mut list, Taken::Empty, 1);
+    Ok(())
+}
+
+// Wakes a slot of the list that calls it, and counts its calls.
+#[derive(Drop)]
+struct WakesInside<'a> {
+    list: &'a ReadyList,
+    slot: usize,
+    count: u64,
+}
+
+impl<'a> BeforeEmpty for WakesInside<'a> {
+    fn before_empty(&mut self, _made: &StepsMade<'_>) {
+        if self.slot < self.list.capacity() {
+            let (_, _seat) = self.list.wake_anew(self.slot);
+        }
+        self.count = self.count.wrapping_add(1);
+    }
+}
+
+// A wake of this slot inside the call is a Pause. The slot comes next, with no call.
+fn pauses_inside(rt: &impl Abort, list: &ReadyList, poll: &mut PollSeat, slot: usize)
+    requires { poll.old.list ≡ list.now.list }
+    ensures { poll.new.list ≡ poll.old.list }
+{
+    let mut inside = WakesInside {
+        list,
+        slot,
+        count: 0,
+    };
+    assert_same(rt, list.take_with(poll, &mut inside), Taken::Pause);
+    assert_same(rt, inside.count, 1);
+    assert_same(rt, list.take_with(poll, &mut inside), Taken::Slot(slot));
+    assert_same(rt, inside.count, 1);
+}
+
+// The call comes after the link read and before the tail read: a wake inside it is a Pause, and not
+// a slot or Empty.
+#[test]
+fn a_wake_inside_the_call_is_a_pause(rt: HostRuntime) -> Result<(), Fail> {
+    let (list, mut poll, _) = list_of(&rt, rt.alloc(), 2);
+    pauses_inside(&rt, &list, &mut poll, 0);
+    pauses_inside(&rt, &list, &mut poll, 1);
+    assert_same(&rt, list.take(&mut poll), Taken::Empty);
+    Ok(())
+}
+
+// Whether it was called.
+#[derive(Drop)]
+struct Called(bool);
+
+impl BeforeEmpty for Called {
+    ghost leaves = { λ _ _ new. new.0 ≡ true };
+
+    fn before_empty(&mut self, _made: &StepsMade<'_>) {
+        self.0 = true;
+    }
+}
+
+// The contract alone shows that an Empty was told of.
+fn told_of_empty(list: &ReadyList, poll: &mut PollSeat) -> (Taken, bool)
+    requires { poll.old.list ≡ list.now.list }
+    ensures told { result.0 ≡ Empty → result.1 ≡ true }
+{
+    let mut called = Called(false);
+    let taken = list.take_with(poll, &mut called);
+    (taken, called.0)
+}
+
+#[test]
+fn empty_is_told_of(rt: HostRuntime) -> Result<(), Fail> {
+    let (list, mut poll, _) = list_of(&rt, rt.alloc(), 0);
+    let (taken, told) = told_of_empty(&list, &mut poll);
+    assert_same(&rt, taken, Taken::Empty);
+    assert!(rt; told);
+    Ok(())
+}
+
+// Raises a flag.
+#[derive(Drop)]
+struct Raises<'a> {
+    flag: &'a AtomicU64,
+}
+
+impl<'a> BeforeEmpty for Raises<'a> {
+    fn before_empty(&mut self, _made: &StepsMade<'_>) {
+        self.flag.store(1, SeqCst);
+    }
+}
+
+// Wakes slot 0: whether the flag is raised then.
+fn wake_and_look(list: &ReadyList, flag: &AtomicU64) -> bool
+    requires { 0 < list.now.capacity }
+{
+    let (_, _seat) = list.wake_anew(0);
+    flag.load(SeqCst) == 1
+}
+
+// Takes, and raises the flag where the answer may be Empty.
+fn take_and_raise(list: &ReadyList, flag: &AtomicU64, poll: PollSeat) -> (Taken, PollSeat)
+    requires { poll.list ≡ list.now.list }
+    ensures { result.1.list ≡ poll.list }
+{
+    let mut poll = poll;
+    let taken = list.take_with(&mut poll, &mut Raises { flag });
+    (taken, poll)
+}
+
+// A wake and a taking at once: whether the waker found the flag, the answer, and the poll seat.
+fn round(
+    rt: &impl Threads,
+    list: &ReadyList,
+    flag: &AtomicU64,
+    poll: PollSeat,
+) -> (bool, Taken, PollSeat)
+    requires { (poll.list ≡ list.now.list) × (0 < list.now.capacity) }
+    ensures { result.2.list ≡ list.now.list }
+{
+    flag.store(0, SeqCst);
+    let (found, (taken, poll)) = thread::join(
+        rt,
+        || wake_and_look(list, flag),
+        || take_and_raise(list, flag, poll),
+    );
+    (found, taken, poll)
+}
+
+// Where the answer is Empty, the wake came after the tail read, and finds what the call left.
+#[test]
+fn a_wake_after_empty_finds_the_flag(rt: HostRuntime) -> Result<(), Fail> {
+    let (list, mut poll, _) = list_of(&rt, rt.alloc(), 1);
+    let flag = AtomicU64::new(0);
+    for _ in 0..2000u64 {
+        let (found, taken, seat) = round(&rt, &list, &flag, poll);
+        poll = seat;
+        assert!(rt; found || taken != Taken::Empty);
+        if taken != Taken::Slot(0) {
+            assert_same(&rt, list.take(&mut poll), Taken::Slot(0));
+        }
+    }
+    Ok(())
+}

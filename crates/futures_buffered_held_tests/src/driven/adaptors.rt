@@ -1,0 +1,125 @@
+//! The five adaptors over streams of futures of the kit, which a thread completes.
+use crate::same::assert_same;
+use futures::channel::oneshot::{Canceled, Receiver, Sender, channel};
+use futures::executor::block_on;
+use futures::future::{Ready, ready};
+use futures::{StreamExt, stream};
+use futures_buffered::{
+    BufferedStreamExt, Driven, ForEachConcurrent, Foreign, TryBufferUnordered, TryBufferedOrdered,
+};
+use std::alloc::{AllocError, Global};
+use std::sync::Arc;
+use std::sync::atomic::Ordering::SeqCst;
+use std::test::Fail;
+use std::thread;
+use test_support::counter::new_counter;
+use test_support::keep::keep;
+
+type Answer = Result<u64, Canceled>;
+
+type Source = Driven<Receiver<u64>>;
+
+// Twenty receivers, and their senders in the other order.
+fn twenty(alloc: Global) -> Result<(Vec<Sender<u64>>, Vec<Receiver<u64>>), AllocError> {
+    let mut senders = Vec::new(alloc);
+    let mut receivers = Vec::new(alloc);
+    for _ in 0..20 {
+        let (sender, receiver) = channel(alloc)?;
+        keep(&mut senders, sender)?;
+        keep(&mut receivers, receiver)?;
+    }
+    senders.reverse();
+    Ok((senders, receivers))
+}
+
+// The receiver at place n gives n.
+fn send_all(senders: Vec<Sender<u64>>) {
+    for (place, sender) in senders.into_iter().enumerate() {
+        let _ = sender.send(19u64.saturating_sub(place as u64));
+        thread::yield_now();
+    }
+}
+
+fn are_in_order(all: &Vec<Answer>) -> bool {
+    all.iter().enumerate().all(|(n, one)| *one == Ok(n as u64))
+}
+
+fn sum_of(all: &Vec<Answer>) -> u64 {
+    all.iter()
+        .fold(0u64, |sum, one| sum.saturating_add(one.unwrap_or(1_000)))
+}
+
+#[test]
+fn in_the_order_of_the_stream(rt: HostRuntime) -> Result<(), Fail> {
+    let (senders, receivers) = twenty(rt.alloc())?;
+    let thread = thread::spawn(&rt, move || send_all(senders))?;
+    let outputs = stream::iter(receivers).foreign_buffered_ordered(rt.alloc(), 4)?;
+    let all = block_on(&rt, outputs.collect(rt.alloc()))??;
+    thread.join(&rt);
+    assert_same(&rt, (all.len(), are_in_order(&all)), (20, true));
+    Ok(())
+}
+
+#[test]
+fn as_they_finish(rt: HostRuntime) -> Result<(), Fail> {
+    let (senders, receivers) = twenty(rt.alloc())?;
+    let thread = thread::spawn(&rt, move || send_all(senders))?;
+    let outputs = stream::iter(receivers).foreign_buffered_unordered(rt.alloc(), 4)?;
+    let all = block_on(&rt, outputs.collect(rt.alloc()))??;
+    thread.join(&rt);
+    assert_same(&rt, (all.len(), sum_of(&all)), (20, 190));
+    Ok(())
+}
+
+#[test]
+fn in_the_order_of_a_stream_that_may_fail(rt: HostRuntime) -> Result<(), Fail> {
+    let (senders, receivers) = twenty(rt.alloc())?;
+    let thread = thread::spawn(&rt, move || send_all(senders))?;
+    let held = stream::iter(receivers).map(|receiver| Ok::<_, Canceled>(Foreign::new(receiver)));
+    let outputs = TryBufferedOrdered::<_, Foreign<Receiver<u64>>, Source>::over(
+        &(),
+        rt.alloc(),
+        held,
+        4,
+    )?;
+    let all = block_on(&rt, outputs.collect(rt.alloc()))??;
+    thread.join(&rt);
+    assert_same(&rt, (all.len(), are_in_order(&all)), (20, true));
+    Ok(())
+}
+
+#[test]
+fn as_those_of_a_stream_that_may_fail_finish(rt: HostRuntime) -> Result<(), Fail> {
+    let (senders, receivers) = twenty(rt.alloc())?;
+    let thread = thread::spawn(&rt, move || send_all(senders))?;
+    let held = stream::iter(receivers).map(|receiver| Ok::<_, Canceled>(Foreign::new(receiver)));
+    let outputs = TryBufferUnordered::<_, Foreign<Receiver<u64>>, Source>::over(
+        &(),
+        rt.alloc(),
+        held,
+        4,
+    )?;
+    let all = block_on(&rt, outputs.collect(rt.alloc()))??;
+    thread.join(&rt);
+    assert_same(&rt, (all.len(), sum_of(&all)), (20, 190));
+    Ok(())
+}
+
+#[test]
+fn for_each_item(rt: HostRuntime) -> Result<(), Fail> {
+    let sum = new_counter(rt.alloc())?;
+    let added = Arc::try_clone(&sum)?;
+    let all = ForEachConcurrent::<_, _, _, Driven<Ready<()>>>::over(
+        &(),
+        rt.alloc(),
+        stream::iter(0..20u64),
+        4,
+        move |n: u64| {
+            added.fetch_add(n, SeqCst);
+            Foreign::new(ready(()))
+        },
+    )?;
+    block_on(&rt, all)?;
+    assert_same(&rt, sum.load(SeqCst), 190);
+    Ok(())
+}

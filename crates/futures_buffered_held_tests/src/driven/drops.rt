@@ -1,0 +1,44 @@
+//! What a source that leaves lets go.
+ghost use Rattle.std.specs.Prelude.{◌<◌};
+
+use crate::same::assert_same;
+use futures::future::{Ready, ready};
+use futures::task::Poll;
+use futures::test::MockTask;
+use futures_buffered_core::ready_core::Taken;
+use futures_buffered_core::ready_source::{NewSource, ReadySource};
+use futures_buffered_driven::{Driven, Foreign};
+use futures_buffered_sets::slot_future::SlotFuture;
+use std::sync::Arc;
+use std::sync::atomic::Ordering::SeqCst;
+use std::test::Fail;
+use test_support::counter::new_counter;
+use test_support::dropped::Dropped;
+
+type Source = Driven<Ready<Dropped>>;
+
+// Hands the future over by slot 0.
+fn begin(source: &mut Source, held: &mut Foreign<Ready<Dropped>>) -> Taken
+    requires { 0 < source.old.capacity }
+{
+    let _woke = source.mark(0);
+    let _taken = source.take();
+    let _pending: Poll<Dropped> = held.poll(source.waker(0));
+    source.take()
+}
+
+// The output waits for a source that goes, while one beside it stays.
+#[test]
+fn an_output_of_a_source_that_left(rt: HostRuntime) -> Result<(), Fail> {
+    let task = MockTask::new(&rt)?;
+    let drops = new_counter(rt.alloc())?;
+    let mut source: Source = Driven::make(&(), rt.alloc(), 1)?;
+    let mut beside = source.make_beside(rt.alloc(), 1)?;
+    let mut held = Foreign::new(ready(Dropped::new(Arc::try_clone(&drops)?)));
+    assert_same(&rt, begin(&mut beside, &mut held), Taken::Pause);
+    task.enter(|cx| source.register(cx));
+    assert_same(&rt, drops.load(SeqCst), 0);
+    drop(beside);
+    assert_same(&rt, drops.load(SeqCst), 1);
+    Ok(())
+}

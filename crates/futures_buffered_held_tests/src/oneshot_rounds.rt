@@ -1,0 +1,135 @@
+//! A send and a poll meet in one round after another, each time at a new one-shot. Once both are over, either the value came, or the slot is marked and the value comes at the next poll: so no later wake stands in for one that was lost.
+use crate::same::assert_same;
+use futures::task::Poll;
+use futures_buffered_core::ready_core::Taken;
+use futures_buffered_core::ready_shared::SharedReady;
+use futures_buffered_sets::slot_future::SlotFuture;
+use futures_buffered_slot_futures::oneshot::{Receiver, Sender, channel};
+use std::alloc::{AllocError, Global};
+use std::sync::Arc;
+use std::sync::atomic::AtomicU64;
+use std::sync::atomic::Ordering::SeqCst;
+use std::test::Fail;
+use std::thread::{self, yield_now};
+use test_support::keep::keep;
+
+const ROUNDS: u64 = 50_000;
+
+// After so many turns of a wait each further one lets other threads run.
+const BUSY_TURNS: u64 = 5_000;
+
+// The round in which the thread is to send, and the one whose send is over.
+#[derive(Drop)]
+struct Rounds {
+    begun: AtomicU64,
+    sent: AtomicU64,
+}
+
+// Waits until this is the round.
+fn wait_for(round: &AtomicU64, wanted: u64) {
+    for turn in 0..u64::MAX {
+        if round.load(SeqCst) == wanted {
+            return;
+        }
+        if turn > BUSY_TURNS {
+            yield_now();
+        }
+    }
+}
+
+// Lets a while pass that differs from round to round.
+fn pause(rounds: &Rounds, turns: u64) {
+    for _ in 0..turns {
+        let _ = rounds.sent.load(SeqCst);
+    }
+}
+
+// Sends once in each round.
+fn send_often(rounds: &Rounds, senders: Vec<Sender<u64>>) {
+    for (before, sender) in senders.into_iter().enumerate() {
+        let round = (before as u64).saturating_add(1);
+        wait_for(&rounds.begun, round);
+        pause(rounds, round % 29);
+        let _ = sender.send(round);
+        rounds.sent.store(round, SeqCst);
+    }
+}
+
+// Polls at slot 0. Says whether the value of this round came.
+fn polled(source: &SharedReady, receiver: &mut Receiver<u64>, round: u64) -> bool {
+    if source.capacity() == 0 {
+        return false;
+    }
+    receiver.poll(source.waker(0)) == Poll::Ready(Ok(round))
+}
+
+// Whether slot 0 was marked. No slot is, after it.
+fn take_all(source: &mut SharedReady) -> bool {
+    let mut any = false;
+    for _ in 0..u64::MAX {
+        match source.take() {
+            Taken::Slot(_) => any = true,
+            Taken::Empty => return any,
+            Taken::Pause => {}
+        }
+    }
+    any
+}
+
+// One round: whether the value came, or the slot was marked and it came then.
+fn meet(
+    source: &mut SharedReady,
+    rounds: &Rounds,
+    receiver: &mut Receiver<u64>,
+    round: u64,
+) -> bool {
+    rounds.begun.store(round, SeqCst);
+    pause(rounds, round % 31);
+    let came = polled(source, receiver, round);
+    wait_for(&rounds.sent, round);
+    let is_marked = take_all(source);
+    came || (is_marked && polled(source, receiver, round))
+}
+
+// In how many rounds the wake or the value was lost.
+fn lost(source: &mut SharedReady, rounds: &Rounds, receivers: Vec<Receiver<u64>>) -> u64 {
+    let mut lost = 0u64;
+    for (before, mut receiver) in receivers.into_iter().enumerate() {
+        let round = (before as u64).saturating_add(1);
+        if !meet(source, rounds, &mut receiver, round) {
+            lost = lost.saturating_add(1);
+        }
+    }
+    lost
+}
+
+fn fill(
+    alloc: Global,
+    receivers: &mut Vec<Receiver<u64>>,
+    senders: &mut Vec<Sender<u64>>,
+) -> Result<(), AllocError> {
+    for _ in 0..ROUNDS {
+        let (sender, receiver) = channel(alloc)?;
+        keep(receivers, receiver)?;
+        keep(senders, sender)?;
+    }
+    Ok(())
+}
+
+#[test]
+fn no_wake_of_fifty_thousand_is_lost(rt: HostRuntime) -> Result<(), Fail> {
+    let mut source: SharedReady = SharedReady::new(rt.alloc(), 1)?;
+    let (mut receivers, mut senders) = (Vec::new(rt.alloc()), Vec::new(rt.alloc()));
+    fill(rt.alloc(), &mut receivers, &mut senders)?;
+    let rounds = Rounds {
+        begun: AtomicU64::new(0),
+        sent: AtomicU64::new(0),
+    };
+    let rounds = Arc::new(rt.alloc(), rounds)?;
+    let shared = Arc::try_clone(&rounds)?;
+    let thread = thread::spawn(&rt, move || send_often(&shared, senders))?;
+    let lost = lost(&mut source, &rounds, receivers);
+    thread.join(&rt);
+    assert_same(&rt, lost, 0);
+    Ok(())
+}

@@ -1,0 +1,58 @@
+//! Which waker a one-shot wakes, what it says of its receiver, and what is dropped. What else it answers stands in `one_shots.calls`.
+ghost use Rattle.std.specs.Prelude.{◌≡◌};
+
+use crate::same::assert_same;
+use futures::task::Poll;
+use futures_buffered_core::ready_core::Taken;
+use futures_buffered_core::ready_shared::SharedReady;
+use futures_buffered_sets::slot_future::SlotFuture;
+use futures_buffered_slot_futures::oneshot::{Canceled, channel};
+use std::sync::Arc;
+use std::sync::atomic::Ordering::SeqCst;
+use std::test::Fail;
+use test_support::counter::new_counter;
+use test_support::dropped::Dropped;
+
+fn name_of(source: &mut SharedReady) -> Option<usize>
+    ensures { source.new.capacity ≡ source.old.capacity }
+{
+    match source.take() {
+        Taken::Slot(slot) => Some(slot),
+        _ => None,
+    }
+}
+
+#[test]
+fn the_waker_of_the_last_poll_is_woken(rt: HostRuntime) -> Result<(), Fail> {
+    let mut source: SharedReady = SharedReady::new(rt.alloc(), 2)?;
+    let (sender, mut receiver) = channel::<u64>(rt.alloc())?;
+    assert_same(&rt, receiver.poll(source.waker(0)), Poll::Pending);
+    assert_same(&rt, receiver.poll(source.waker(1)), Poll::Pending);
+    assert_same(&rt, sender.send(7), Ok(()));
+    assert_same(&rt, name_of(&mut source), Some(1));
+    assert_same(&rt, name_of(&mut source), None);
+    assert_same(&rt, receiver.poll(source.waker(1)), Poll::Ready(Ok(7)));
+    let after = Poll::Ready(Err(Canceled));
+    assert_same(&rt, receiver.poll(source.waker(1)), after);
+    Ok(())
+}
+
+// A value that does not come is dropped with the second end, and one that is handed back by whoever has it.
+#[test]
+fn a_value_that_does_not_come(rt: HostRuntime) -> Result<(), Fail> {
+    let drops = new_counter(rt.alloc())?;
+    let (sender, receiver) = channel(rt.alloc())?;
+    let _ = sender.send(Dropped::new(Arc::try_clone(&drops)?));
+    assert_same(&rt, drops.load(SeqCst), 0);
+    drop(receiver);
+    assert_same(&rt, drops.load(SeqCst), 1);
+    let (sender, receiver) = channel(rt.alloc())?;
+    assert_same(&rt, sender.is_canceled(), false);
+    drop(receiver);
+    assert_same(&rt, sender.is_canceled(), true);
+    let back = sender.send(Dropped::new(Arc::try_clone(&drops)?));
+    assert_same(&rt, (back.is_err(), drops.load(SeqCst)), (true, 1));
+    drop(back);
+    assert_same(&rt, drops.load(SeqCst), 2);
+    Ok(())
+}

@@ -1,9 +1,0 @@
-mod drops;
-mod first_group;
-mod kept_outputs;
-mod limits;
-mod refusals;
-mod rows;
-mod sizes;
-mod unwoken;
-mod wakes;

@@ -1,0 +1,59 @@
+// Which items of an iterator a queue draws: those that it can hold, and one more.
+use crate::same::assert_same;
+use futures_buffered_core::ready_core::{MAX_CAPACITY, NewFault};
+use futures_buffered_core::ready_shared::SharedReady;
+use futures_buffered_core::ready_source::CoreSource;
+use futures_buffered_sets::futures_ordered::FuturesOrdered;
+use futures_buffered_sets::futures_ordered_bounded::FuturesOrderedBounded;
+use std::alloc::Global;
+use std::sync::atomic::Ordering::SeqCst;
+use std::test::Fail;
+use test_support::counter::{Counter, new_counter};
+use test_support::timed::{Timed, ready, ready_up_to};
+
+type Queue = FuturesOrderedBounded<Timed, CoreSource>;
+
+// What `extend` answers, how many entries there are then, and the item that it left.
+fn extended(queue: &mut Queue, items: Vec<Timed>) -> (Result<(), Timed>, usize, Option<Timed>) {
+    let mut items = items.into_iter();
+    let answer = queue.extend(&mut items);
+    (answer, queue.len(), items.next())
+}
+
+// The refused future comes back, and the one behind it is not drawn.
+#[test]
+fn extend_stops_at_the_first_refusal(rt: HostRuntime) -> Result<(), Fail> {
+    let items = ready_up_to(rt.alloc(), 4)?;
+    let mut queue: Queue = FuturesOrderedBounded::over(&(), rt.alloc(), 2)?;
+    let answers = extended(&mut queue, items);
+    assert_same(&rt, answers, (Err(ready(2)), 2, Some(ready(3))));
+    Ok(())
+}
+
+fn drawn(value: u64, draws: &Counter) -> Timed {
+    draws.fetch_add(1, SeqCst);
+    ready(value)
+}
+
+// Why no queue is made of so many items, if none is.
+fn fault(alloc: Global, count: u64, draws: &Counter) -> Option<NewFault> {
+    let made: Result<FuturesOrdered<Timed, SharedReady>, NewFault> = FuturesOrdered::from_iter(
+        alloc,
+        (0..count).map(|value| drawn(value, draws)),
+    );
+    made.err()
+}
+
+// One more is promised than a group can have slots.
+#[test]
+fn draws_nothing_where_too_many_items_are_promised(rt: HostRuntime) -> Result<(), Fail> {
+    let draws = new_counter(rt.alloc())?;
+    let past = MAX_CAPACITY as u64 + 1;
+    assert_same(
+        &rt,
+        fault(rt.alloc(), past, &draws),
+        Some(NewFault::TooLarge),
+    );
+    assert_same(&rt, draws.load(SeqCst), 0);
+    Ok(())
+}

@@ -1,0 +1,41 @@
+//! Tests of the two sets that files of calls cannot say. What each call answers and whom it wakes stands in `calls/data`:
+//! `bounded_set.calls`, `set.calls` and the files of sizes beside them. No crate stands on this one.
+//!
+//! - `core_sources`, `sources`: sets over sources of one caller and of the tests' own, at 70,000 slots; what is dropped with a set.
+//! - `first_group`, `slots`, `closures`: items that are not drawn, the slot that a poll names, and futures that contain a closure.
+//! - `each_wake`: each of 70,000 slots, woken alone.
+//! - `threads`, `answered_wakes`, `many_wakes`: sets on other threads, a thread whose wakes are each answered, and ten million
+//!   wakes.
+//! - `same`: assertions as calls.
+#![tactic(auto)]
+
+#[cfg(test)]
+mod answered_wakes;
+#[cfg(test)]
+mod closures;
+#[cfg(test)]
+mod core_sources;
+#[cfg(test)]
+mod counted;
+#[cfg(test)]
+mod dropped_source;
+#[cfg(test)]
+mod each_wake;
+#[cfg(test)]
+mod first_group;
+#[cfg(test)]
+mod kept;
+#[cfg(test)]
+mod many_wakes;
+#[cfg(test)]
+mod same;
+#[cfg(test)]
+mod slots;
+#[cfg(test)]
+mod sources;
+#[cfg(test)]
+mod threads;
+#[cfg(test)]
+mod which_slot;
+#[cfg(test)]
+mod yields;

@@ -1,0 +1,145 @@
+// Sets over sources of the tests' own: what is dropped with a set or a group, and whom a source that pauses has woken.
+use crate::dropped_source::DroppedSource;
+use crate::same::assert_same;
+use futures::task::Poll;
+use futures::test::MockTask;
+use futures_buffered_core::ready_core::{MAX_CAPACITY, NewFault, Taken};
+use futures_buffered_core::ready_source::{CoreSource, ScriptSource};
+use futures_buffered_sets::futures_unordered::FuturesUnordered;
+use futures_buffered_sets::futures_unordered_bounded::FuturesUnorderedBounded;
+use std::alloc::Global;
+use std::sync::Arc;
+use std::sync::atomic::Ordering::SeqCst;
+use std::test::Fail;
+use test_support::counter::{Counter, new_counter};
+use test_support::holds::{Holds, add_each};
+use test_support::timed::{Timed, late, ready};
+
+// A set of two slots, whose source names the second, pauses, and names the first.
+fn new_scripted(alloc: Global) -> Result<FuturesUnorderedBounded<Timed, ScriptSource>, Fail> {
+    let answers = vec![in alloc; Taken::Slot(1), Taken::Pause, Taken::Slot(0)]?;
+    let source = ScriptSource::new(alloc, 2, answers)?;
+    Ok(FuturesUnorderedBounded::with_source(alloc, source)?)
+}
+
+// The answer of a poll, and whether it left the task woken.
+fn polled(
+    task: &MockTask,
+    set: &mut FuturesUnorderedBounded<Timed, ScriptSource>,
+) -> (Poll<Option<u64>>, bool) {
+    let answer = set.poll(task);
+    (answer, task.is_woken())
+}
+
+#[test]
+fn wakes_its_task_where_the_source_pauses(rt: HostRuntime) -> Result<(), Fail> {
+    let task = MockTask::new(&rt)?;
+    let mut set = new_scripted(rt.alloc())?;
+    assert_same(&rt, (set.add(ready(5)), set.add(late(6))), (true, true));
+    assert_same(&rt, polled(&task, &mut set), (Poll::Pending, true));
+    assert_same(&rt, polled(&task, &mut set), (Poll::Ready(Some(5)), false));
+    assert_same(&rt, polled(&task, &mut set), (Poll::Pending, false));
+    Ok(())
+}
+
+type Unnamed = FuturesUnorderedBounded<Timed, DroppedSource<ScriptSource>>;
+
+// A source of so many slots, of which it names none.
+fn unnamed_source(
+    alloc: Global,
+    drops: &Counter,
+    slots: usize,
+) -> Result<DroppedSource<ScriptSource>, Fail> {
+    let source = ScriptSource::new(alloc, slots, Vec::new(alloc))?;
+    Ok(DroppedSource::over(source, drops)?)
+}
+
+// Why no set is made over a source of one slot too many, if none is.
+fn source_fault(alloc: Global, drops: &Counter) -> Result<Option<NewFault>, Fail> {
+    let source = unnamed_source(alloc, drops, MAX_CAPACITY + 1)?;
+    let made: Result<Unnamed, NewFault> = FuturesUnorderedBounded::with_source(alloc, source);
+    Ok(made.err())
+}
+
+// The same of a set with the limit 7.
+fn limited_source_fault(alloc: Global, drops: &Counter) -> Result<Option<NewFault>, Fail> {
+    let source = unnamed_source(alloc, drops, MAX_CAPACITY + 1)?;
+    let made: Result<Unnamed, NewFault> = FuturesUnorderedBounded::with_source_limit(
+        alloc, source, 7,
+    );
+    Ok(made.err())
+}
+
+#[test]
+fn a_refused_source_is_dropped(rt: HostRuntime) -> Result<(), Fail> {
+    let drops = new_counter(rt.alloc())?;
+    let fault = source_fault(rt.alloc(), &drops)?;
+    assert_same(&rt, fault, Some(NewFault::TooLarge));
+    assert_same(&rt, drops.load(SeqCst), 1);
+    let fault = limited_source_fault(rt.alloc(), &drops)?;
+    assert_same(&rt, fault, Some(NewFault::TooLarge));
+    assert_same(&rt, drops.load(SeqCst), 2);
+    Ok(())
+}
+
+// Makes a set, and how often its source is dropped while it is there.
+fn drops_of_a_held_source(alloc: Global, drops: &Counter) -> Result<u64, Fail> {
+    let source = unnamed_source(alloc, drops, 3)?;
+    let set: Unnamed = FuturesUnorderedBounded::with_source(alloc, source)?;
+    let before = drops.load(SeqCst);
+    drop(set);
+    Ok(before)
+}
+
+#[test]
+fn a_source_is_dropped_with_its_set(rt: HostRuntime) -> Result<(), Fail> {
+    let drops = new_counter(rt.alloc())?;
+    assert_same(&rt, drops_of_a_held_source(rt.alloc(), &drops)?, 0);
+    assert_same(&rt, drops.load(SeqCst), 1);
+    Ok(())
+}
+
+type Sourced = FuturesUnordered<Timed, DroppedSource<CoreSource>>;
+
+// The next output, and how often a source was dropped by then.
+fn drops_after(task: &MockTask, set: &mut Sourced, drops: &Counter) -> (Poll<Option<u64>>, u64) {
+    let answer = set.poll(task);
+    (answer, drops.load(SeqCst))
+}
+
+// Of groups with 1, 2 and 4 slots each leaves as soon as it is asked and holds nothing, but for the last.
+#[test]
+fn a_group_that_leaves_drops_its_source(rt: HostRuntime) -> Result<(), Fail> {
+    let task = MockTask::new(&rt)?;
+    let drops = new_counter(rt.alloc())?;
+    let mut set: Sourced = FuturesUnordered::over(Arc::try_clone(&drops)?, rt.alloc(), 1)?;
+    assert_same(&rt, add_each(&mut set, 4), 4);
+    assert_same(
+        &rt,
+        drops_after(&task, &mut set, &drops),
+        (Poll::Ready(Some(0)), 0),
+    );
+    assert_same(
+        &rt,
+        drops_after(&task, &mut set, &drops),
+        (Poll::Ready(Some(1)), 1),
+    );
+    assert_same(
+        &rt,
+        drops_after(&task, &mut set, &drops),
+        (Poll::Ready(Some(2)), 1),
+    );
+    assert_same(
+        &rt,
+        drops_after(&task, &mut set, &drops),
+        (Poll::Ready(Some(3)), 2),
+    );
+    assert_same(
+        &rt,
+        drops_after(&task, &mut set, &drops),
+        (Poll::Ready(None), 2),
+    );
+    drop(set);
+    assert_same(&rt, drops.load(SeqCst), 3);
+    Ok(())
+}

@@ -1,0 +1,26 @@
+// A stream that contains a closure, under a for-each.
+use crate::ready_at_once::ReadyAtOnce;
+use crate::same::assert_same;
+use futures::executor::block_on;
+use futures::{StreamExt, stream};
+use futures_buffered::BufferedStreamExt;
+use std::sync::Arc;
+use std::sync::atomic::Ordering::SeqCst;
+use std::test::Fail;
+use test_support::counter::new_counter;
+
+#[test]
+fn a_map_under_for_each_concurrent(rt: HostRuntime) -> Result<(), Fail> {
+    let sum = new_counter(rt.alloc())?;
+    let summed = Arc::try_clone(&sum)?;
+    let numbers = vec![in rt.alloc(); 1, 2, 3]?;
+    let doubles = stream::iter(numbers).map(|number: u64| number.wrapping_mul(2));
+    let call = move |double: u64| {
+        summed.fetch_add(double, SeqCst);
+        ReadyAtOnce
+    };
+    let each = BufferedStreamExt::for_each_concurrent(doubles, rt.alloc(), 2, call)?;
+    block_on(&rt, each)?;
+    assert_same(&rt, sum.load(SeqCst), 12);
+    Ok(())
+}

@@ -1,0 +1,19 @@
+//! What tests share: futures, streams and wakers whose behaviour a test can foresee, and polls by hand.
+//! Only crates of tests stand on this one.
+#![tactic(auto)]
+
+pub mod attempt;
+pub mod called;
+pub mod cells;
+pub mod counted_source;
+pub mod counter;
+pub mod dropped;
+pub mod dropped_streams;
+pub mod holds;
+pub mod keep;
+pub mod merge_answers;
+pub mod polling;
+pub mod receiver;
+pub mod stepped;
+pub mod sums;
+pub mod timed;
