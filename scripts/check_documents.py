@@ -16,7 +16,7 @@ import sys
 
 ROOT = pathlib.Path(__file__).resolve().parent.parent
 DOCUMENTS = [ROOT / "README.md", ROOT / "CONTRIBUTING.md", ROOT / "CHANGELOG.md", *sorted((ROOT / "docs").glob("*.md"))]
-SOURCES = {".rt", ".antt", ".edit", ".py", ".sh", ".txt", ""}
+SOURCES = {".rt", ".antt", ".calls", ".edit", ".py", ".sh", ".txt", ""}
 ELSEWHERE = {
     "FromIterator", "Extend", "TryFuture", "TryStream",  # of Rust's library and of the Rust crate
     "WakerList",  # of the Rust crate
