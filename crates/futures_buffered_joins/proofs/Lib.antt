@@ -1,4 +1,4 @@
 pub mod JoiningLemmas
 pub mod JoiningGivenLemmas
-pub mod JoinAllLemmas
-pub mod TryJoinAllLemmas
+pub mod JoinLemmas
+pub mod TryJoinLemmas

@@ -1,4 +1,7 @@
 pub mod Joining
 pub mod JoiningInvariant
-pub mod JoinAll
-pub mod TryJoinAll
+pub mod JoinMade
+pub mod JoiningFills
+pub mod JoinTask
+pub mod Join
+pub mod TryJoin

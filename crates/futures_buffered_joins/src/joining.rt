@@ -1,16 +1,17 @@
 //! What a join keeps until it ends: a set of its futures, and the outputs that have come.
-ghost use Rattle.std.specs.Prelude.{◌≡◌, ◌<◌, ◌≤◌, ◌+◌, ℕ, List, Some, None, Ok, Err, IfOk, IfErr, OnOk, IsSome, IsTrue, ◌↔◌, map, slice_set, ◌⊎◌};
-ghost use Rattle.std.specs.List.{FoldsTo};
+ghost use Rattle.std.specs.Prelude.{◌≡◌, ◌<◌, ◌+◌, Some, None, Ok, Err, IfOk, IfErr, OnOk, IsSome, IsTrue, ◌↔◌, map, slice_set};
 ghost use Rattle.std.specs.Iterator.{IsFiniteIterable};
-ghost use Rattle.futures.specs.Task.{Covers, Keeps};
 ghost use Rattle.futures.specs.Poll.{IfReady, OnPending};
 ghost use Rattle.futures.specs.declared.task.context.Context.{Context};
 ghost use Rattle.futures_buffered_core.specs.Drawn.{Draws, DrawsMoreThan};
-ghost use Rattle.futures_buffered_core.specs.SlotMap.{value_in, held_count, slot_count};
+ghost use Rattle.futures_buffered_core.specs.SlotMap.{value_in, held_count};
 ghost use Rattle.futures_buffered_unordered_bounded.specs.Held.{AllHeld};
-ghost use Rattle.futures_buffered_unordered_bounded.specs.FuturesUnorderedBounded.{IsWoken, LeavesTask, OnlyRegisters, SaidEmpty, with_empty_slot};
-ghost use Rattle.futures_buffered_joins.specs.Joining.{Places, IsNewJoin, Fills, JoinLeavesTask, PollsPending};
-ghost use Rattle.futures_buffered_joins.specs.TryJoinAll.{Fails};
+ghost use Rattle.futures_buffered_unordered_bounded.specs.FuturesUnorderedBounded.{with_empty_slot};
+ghost use Rattle.futures_buffered_joins.specs.Joining.{Places};
+ghost use Rattle.futures_buffered_joins.specs.JoinMade.{IsMadeOf};
+ghost use Rattle.futures_buffered_joins.specs.JoinTask.{PollsTask};
+ghost use Rattle.futures_buffered_joins.specs.JoiningFills.{FillsOne, FillsAll, WaitsOnce, WaitsAfter, SetPollsTask};
+ghost use Rattle.futures_buffered_joins.specs.TryJoin.{Fails, FailsAfter};
 
 use futures::task::{Context, Poll};
 use futures_buffered_core::ready_core::{MAX_CAPACITY, NewFault};
@@ -59,10 +60,9 @@ impl<F: Drop, A: Drop, S: ReadySource> Joining<F, A, S> {
         S: NewSource,
         requires { IsFiniteIterable I.into_iter_gives I.IntoIter.can_next
             I.IntoIter.remaining iter }
-        ensures holds { IfOk result (λ places. (items : List F)
-            × Draws I.into_iter_gives I.IntoIter.next_gives iter items
-            × IsNewJoin S.made S.marks POLL_LIMIT items places) }
-        ensures fits { IfOk result (λ places. slot_count places.set.slots ≤ MAX_CAPACITY) }
+        ensures made { IfOk result (λ places. IsMadeOf
+            (Draws I.into_iter_gives I.IntoIter.next_gives iter)
+            S.made S.marks POLL_LIMIT MAX_CAPACITY (Some places)) }
         ensures large { result ≡ Err NewFault.TooLarge
             → DrawsMoreThan I.into_iter_gives I.IntoIter.next_gives iter MAX_CAPACITY }
     {
@@ -129,22 +129,12 @@ where
     fn fill_one(&mut self, cx: &mut Context<'_>) -> Poll<()>
         requires some { 0 < held_count self.old.set.slots }
         requires held { AllHeld F.can_poll self.old.set.slots }
-        ensures filled { IfReady result (λ _. (filled : ℕ × F.Output)
-            × Fills F.polled S.steps (λ x. x) self.old filled self.new) }
-        ensures waits { OnPending result
-            (PollsPending F.polled S.steps (λ x. x) self.old self.new) }
-        ensures again { AllHeld F.can_poll self.new.set.slots }
-        ensures fewer { IfReady result (λ _.
-            held_count self.new.set.slots + 1 ≡ held_count self.old.set.slots) }
-        ensures covered { OnPending result (Covers cx.new (S.needs self.new.set.source)) }
-        ensures woken { OnPending result (IsWoken cx.new
-            ⊎ (SaidEmpty S.steps self.new.set.source
-            × S.registers_poll self.old.set.source cx.old cx.new)) }
-        ensures leaves { OnPending result (LeavesTask F.polled S.steps S.registers_poll
-            self.old.set self.new.set cx.old cx.new) }
-        ensures only_registered { IfReady result (λ _.
-            S.registers_poll self.old.set.source cx.old cx.new) }
-        ensures kept { Keeps cx.old cx.new }
+        ensures ready { IfReady result (λ _.
+            FillsOne F.polled S.steps (λ x. x) F.can_poll self.old self.new) }
+        ensures pending { OnPending result
+            (WaitsOnce F.polled S.steps (λ x. x) F.can_poll self.old self.new) }
+        ensures task { SetPollsTask F.polled S.steps S.needs S.registers_poll
+            self.old.set self.new.set result cx.old cx.new }
     {
         match self.set.poll_first(&PollFuture, cx) {
             Poll::Ready((i, output)) => {
@@ -158,22 +148,12 @@ where
     // Polls of the set, until it is Pending or no future is waited for.
     pub(crate) fn fill_all(&mut self, cx: &mut Context<'_>) -> Poll<()>
         requires { AllHeld F.can_poll self.old.set.slots }
-        ensures done { IfReady result (λ _. held_count self.new.set.slots ≡ 0) }
-        ensures filled { IfReady result (λ _. (row : List (ℕ × F.Output))
-            × FoldsTo (Fills F.polled S.steps (λ x. x)) self.old row self.new) }
-        ensures waits { OnPending result ((row : List (ℕ × F.Output))
-            × (before : Places F F.Output S)
-            × FoldsTo (Fills F.polled S.steps (λ x. x)) self.old row before
-            × PollsPending F.polled S.steps (λ x. x) before self.new) }
-        ensures again { AllHeld F.can_poll self.new.set.slots }
-        ensures covered { OnPending result (Covers cx.new (S.needs self.new.set.source)) }
-        ensures woken { OnPending result (IsWoken cx.new
-            ⊎ SaidEmpty S.steps self.new.set.source) }
-        ensures leaves { OnPending result (JoinLeavesTask F.polled S.steps (λ x. x)
-            S.registers_poll self.old self.new cx.old cx.new) }
-        ensures only_registered { IfReady result (λ _.
-            OnlyRegisters S.registers_poll cx.old cx.new) }
-        ensures kept { Keeps cx.old cx.new }
+        ensures ready { IfReady result (λ _.
+            FillsAll F.polled S.steps (λ x. x) F.can_poll self.old self.new) }
+        ensures pending { OnPending result
+            (WaitsAfter F.polled S.steps (λ x. x) F.can_poll self.old self.new) }
+        ensures task { PollsTask F.polled S.steps (λ x. x) S.needs S.registers_poll
+            (Some self.old) (Some self.new) result cx.old cx.new }
     {
         'places: while !self.is_done() {
             match self.fill_one(cx) {
@@ -194,25 +174,13 @@ where
     fn try_fill_one(&mut self, cx: &mut Context<'_>) -> Poll<Result<(), E>>
         requires some { 0 < held_count self.old.set.slots }
         requires held { AllHeld F.can_poll self.old.set.slots }
-        ensures filled { IfReady result (λ r. OnOk r ((filled : ℕ × T)
-            × Fills F.polled S.steps Ok self.old filled self.new)) }
-        ensures fails { IfReady result (λ r. IfErr r
-            (Fails F.polled S.steps self.old)) }
-        ensures waits { OnPending result
-            (PollsPending F.polled S.steps Ok self.old self.new) }
-        ensures again { OnPending result (AllHeld F.can_poll self.new.set.slots) }
-        ensures goes_on { IfReady result (λ r. OnOk r (AllHeld F.can_poll self.new.set.slots)) }
-        ensures fewer { IfReady result (λ r. OnOk r
-            (held_count self.new.set.slots + 1 ≡ held_count self.old.set.slots)) }
-        ensures covered { OnPending result (Covers cx.new (S.needs self.new.set.source)) }
-        ensures woken { OnPending result (IsWoken cx.new
-            ⊎ (SaidEmpty S.steps self.new.set.source
-            × S.registers_poll self.old.set.source cx.old cx.new)) }
-        ensures leaves { OnPending result (LeavesTask F.polled S.steps S.registers_poll
-            self.old.set self.new.set cx.old cx.new) }
-        ensures only_registered { IfReady result (λ _.
-            S.registers_poll self.old.set.source cx.old cx.new) }
-        ensures kept { Keeps cx.old cx.new }
+        ensures ready { IfReady result (λ r. OnOk r
+            (FillsOne F.polled S.steps Ok F.can_poll self.old self.new)) }
+        ensures fails { IfReady result (λ r. IfErr r (Fails F.polled S.steps self.old)) }
+        ensures pending { OnPending result
+            (WaitsOnce F.polled S.steps Ok F.can_poll self.old self.new) }
+        ensures task { SetPollsTask F.polled S.steps S.needs S.registers_poll
+            self.old.set self.new.set result cx.old cx.new }
     {
         match self.set.poll_first(&PollFuture, cx) {
             Poll::Ready((i, Ok(output))) => {
@@ -227,25 +195,13 @@ where
     // Polls of the set, until it is Pending, no future is waited for, or one gives an error.
     pub(crate) fn try_fill_all(&mut self, cx: &mut Context<'_>) -> Poll<Result<(), E>>
         requires { AllHeld F.can_poll self.old.set.slots }
-        ensures done { IfReady result (λ r. OnOk r (held_count self.new.set.slots ≡ 0)) }
-        ensures filled { IfReady result (λ r. OnOk r ((row : List (ℕ × T))
-            × FoldsTo (Fills F.polled S.steps Ok) self.old row self.new)) }
-        ensures fails { IfReady result (λ r. IfErr r (λ e. (row : List (ℕ × T))
-            × (before : Places F T S)
-            × FoldsTo (Fills F.polled S.steps Ok) self.old row before
-            × Fails F.polled S.steps before e)) }
-        ensures waits { OnPending result ((row : List (ℕ × T)) × (before : Places F T S)
-            × FoldsTo (Fills F.polled S.steps Ok) self.old row before
-            × PollsPending F.polled S.steps Ok before self.new) }
-        ensures again { OnPending result (AllHeld F.can_poll self.new.set.slots) }
-        ensures covered { OnPending result (Covers cx.new (S.needs self.new.set.source)) }
-        ensures woken { OnPending result (IsWoken cx.new
-            ⊎ SaidEmpty S.steps self.new.set.source) }
-        ensures leaves { OnPending result (JoinLeavesTask F.polled S.steps Ok
-            S.registers_poll self.old self.new cx.old cx.new) }
-        ensures only_registered { IfReady result (λ _.
-            OnlyRegisters S.registers_poll cx.old cx.new) }
-        ensures kept { Keeps cx.old cx.new }
+        ensures ready { IfReady result (λ r. OnOk r
+            (FillsAll F.polled S.steps Ok F.can_poll self.old self.new)) }
+        ensures fails { IfReady result (λ r. IfErr r (FailsAfter F.polled S.steps self.old)) }
+        ensures pending { OnPending result
+            (WaitsAfter F.polled S.steps Ok F.can_poll self.old self.new) }
+        ensures task { PollsTask F.polled S.steps Ok S.needs S.registers_poll
+            (Some self.old) (Some self.new) result cx.old cx.new }
     {
         'places: while !self.is_done() {
             match self.try_fill_one(cx) {

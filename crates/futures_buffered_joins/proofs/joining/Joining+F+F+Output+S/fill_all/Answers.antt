@@ -9,34 +9,37 @@ places-preserved g c =
     let future = g.F.SlotFuture in
     let source = g.S.ReadySource in
     let so = c.places.invariant in
-    let filled = c.in-Ready.ensures.filled in
+    let ready = c.in-Ready.ensures.ready in
     record {
-      row = so.row ++ filled.0 ∷ [];
-      filled = FoldsTo-push (Fills future.polled source.steps (λ x. x)) c.args.self.now so.row c.places.self filled.0 c.fill_one.new.self so.filled filled.1;
-      held = c.in-Ready.ensures.again;
-      only_registered = registers_more source.registers_poll _ _ _ so.only_registered (registers_once source.registers_poll _ _ c.places.self.set.source c.in-Ready.ensures.only_registered);
-      kept = λ fact h. c.fill_one.ensures.kept fact (so.kept fact h);
+      row = so.row ++ ready.output ∷ [];
+      filled = FoldsTo-push (Fills future.polled source.steps (λ x. x)) c.args.self.now so.row c.places.self ready.output c.fill_one.new.self so.filled ready.fills;
+      held = ready.again;
+      only_registered = registers_more source.registers_poll _ _ _ so.only_registered (registers_once source.registers_poll _ _ c.places.self.set.source c.in-Ready.ensures.task.only_registered);
+      kept = λ fact h. c.fill_one.ensures.task.kept fact (so.kept fact h);
     }
 
-pub returns-in-Pending-clause-waits : goal.returns-in-Pending-clause-waits
-returns-in-Pending-clause-waits g c = (c.places.invariant.row, c.places.self, c.places.invariant.filled, c.in-Pending.ensures.waits)
+pub returns-in-Pending-clause-pending : goal.returns-in-Pending-clause-pending
+returns-in-Pending-clause-pending g c =
+    let so = c.places.invariant in
+    let pending = c.in-Pending.ensures.pending in
+    record { row = so.row; before = c.places.self; filled = so.filled; waits = pending.waits; again = pending.again }
 
-pub returns-in-Pending-clause-leaves : goal.returns-in-Pending-clause-leaves
-returns-in-Pending-clause-leaves g c =
-    let registers_poll = g.S.ReadySource.registers_poll in
-    let so = c.places.invariant in (
-      so.row,
-      c.places.self,
-      so.filled,
-      c.in-Pending.ensures.waits,
-      elim c.in-Pending.ensures.leaves [
-        | inl empty ↦ inl (empty.0, registers_more registers_poll _ _ _ so.only_registered (registers_once registers_poll _ _ c.places.self.set.source empty.1))
-        | inr part ↦ inr part
-      ],
-    )
-
-pub returns-in-Pending-clause-woken : goal.returns-in-Pending-clause-woken
-returns-in-Pending-clause-woken g c = elim c.in-Pending.ensures.woken [
-  | inl woken ↦ inl woken
-  | inr empty ↦ inr empty.0
-]
+pub returns-in-Pending-clause-task : goal.returns-in-Pending-clause-task
+returns-in-Pending-clause-task g c =
+    let so = c.places.invariant in
+    let task = c.in-Pending.ensures.task in
+    let more = registers_more g.S.ReadySource.registers_poll _ _ _ so.only_registered in
+    let once = registers_once g.S.ReadySource.registers_poll _ _ c.places.self.set.source in
+    record {
+      registered = task.registered;
+      woken = elim task.woken [ inl woken ↦ inl woken | inr empty ↦ inr empty.0 ];
+      leaves = (
+        so.row,
+        c.places.self,
+        so.filled,
+        c.in-Pending.ensures.pending.waits,
+        elim task.leaves [ inl empty ↦ inl (empty.0, more (once empty.1)) | inr part ↦ inr part ],
+      );
+      only_registered = tt;
+      kept = λ fact h. c.fill_one.ensures.task.kept fact (so.kept fact h);
+    }

@@ -1,21 +1,20 @@
-use Rattle.std.proofs.Common.{sym}
+use Rattle.std.proofs.Common.{rules, sym}
 use Rattle.futures_buffered_unordered_bounded.proofs.HeldLemmas.{some_from_end}
-use Rattle.futures_buffered_joins.proofs.JoiningLemmas.{fills_place}
+use Rattle.futures_buffered_joins.proofs.JoiningLemmas.{fills_place, held_once_empty}
 use Rattle.futures_buffered_joins.proofs.joining.Joining+F+F+Output+S.fill_one.Goals as goal
 
-pub returns-in-Ready-clause-filled : goal.returns-in-Ready-clause-filled
-returns-in-Ready-clause-filled g c =
+pub returns-in-Ready-clause-ready : goal.returns-in-Ready-clause-ready
+returns-in-Ready-clause-ready g c =
     let future = g.F.SlotFuture in
-    let source = g.S.ReadySource in (
-      (c.in-Ready.i, c.in-Ready.output),
-      fills_place future.polled source.steps (λ x. x) c.args.self.now c.fill.new.self _ c.poll_first.new.self _ _ _ c.in-Ready.i c.in-Ready.output (sym c.self.view_is) c.self.invariant c.in-Ready.ensures.polled c.in-Ready.ensures.same_slots (some_from_end (future.polled c.in-Ready.i) _ _ c.in-Ready.ensures.last) c.fill.ensures.set c.fill.ensures.outputs,
-    )
+    let source = g.S.ReadySource in
+    record {
+      output = (c.in-Ready.i, c.in-Ready.output);
+      fills = fills_place future.polled source.steps (λ x. x) c.args.self.now c.fill.new.self _ c.poll_first.new.self _ _ _ c.in-Ready.i c.in-Ready.output (sym c.self.view_is) c.self.invariant c.in-Ready.ensures.polled c.in-Ready.ensures.same_slots (some_from_end (future.polled c.in-Ready.i) _ _ c.in-Ready.ensures.last) c.fill.ensures.set c.fill.ensures.outputs;
+      again = rw c.fill.ensures.set (held_once_empty future.can_poll c.poll_first.new.self.slots c.in-Ready.i c.in-Ready.ensures.others);
+      fewer = search rules;
+    }
 
-pub returns-in-Pending-clause-woken : goal.returns-in-Pending-clause-woken
-returns-in-Pending-clause-woken g c = rw (← c.self.view_is) c.in-Pending.ensures.woken
-
-pub returns-in-Pending-clause-leaves : goal.returns-in-Pending-clause-leaves
-returns-in-Pending-clause-leaves g c = rw (← c.self.view_is) c.in-Pending.ensures.leaves
-
-pub returns-in-Ready-clause-only_registered : goal.returns-in-Ready-clause-only_registered
-returns-in-Ready-clause-only_registered g c = rw (← c.self.view_is) c.in-Ready.ensures.only_registered
+pub returns-in-Pending-clause-task : goal.returns-in-Pending-clause-task
+returns-in-Pending-clause-task g c =
+    let pending = c.in-Pending.ensures in
+    rw (← c.self.view_is) (record { registered = pending.covered; woken = pending.woken; leaves = pending.leaves; only_registered = tt; kept = pending.kept })

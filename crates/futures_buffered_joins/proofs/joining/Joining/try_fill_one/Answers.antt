@@ -10,26 +10,19 @@ returns-in-Ready-default-Err-clause-fails g c =
     let source = g.S.ReadySource in
     fails_place future.polled source.steps c.args.self.now _ c.poll_first.new.self _ c.in-Ready-default-Err.field-0-0 c.in-Ready-default-Err.field-0-1 c.in-Ready-default-Err.error (sym c.self.view_is) c.in-Ready-default-Err.field-0-1-is c.in-Ready-default-Err.ensures.polled
 
-pub returns-in-Pending-clause-woken : goal.returns-in-Pending-clause-woken
-returns-in-Pending-clause-woken g c = rw (← c.self.view_is) c.in-Pending.ensures.woken
-
-pub returns-in-Ready-default-Ok-clause-filled : goal.returns-in-Ready-default-Ok-clause-filled
-returns-in-Ready-default-Ok-clause-filled g c =
+pub returns-in-Ready-default-Ok-clause-ready : goal.returns-in-Ready-default-Ok-clause-ready
+returns-in-Ready-default-Ok-clause-ready g c =
     let future = g.F.SlotFuture in
     let source = g.S.ReadySource in
-    let way = c.in-Ready-default-Ok in (
-      (way.i, way.output),
-      fills_place future.polled source.steps Ok c.args.self.now c.fill.new.self _ c.poll_first.new.self _ _ _ way.i way.output (sym c.self.view_is) c.self.invariant (rw way.field-0-1-is at way.ensures.polled) way.ensures.same_slots (some_from_end (future.polled way.i) _ _ way.ensures.last) c.fill.ensures.set c.fill.ensures.outputs,
-    )
+    let way = c.in-Ready-default-Ok in
+    record {
+      output = (way.i, way.output);
+      fills = fills_place future.polled source.steps Ok c.args.self.now c.fill.new.self _ c.poll_first.new.self _ _ _ way.i way.output (sym c.self.view_is) c.self.invariant (rw way.field-0-1-is at way.ensures.polled) way.ensures.same_slots (some_from_end (future.polled way.i) _ _ way.ensures.last) c.fill.ensures.set c.fill.ensures.outputs;
+      again = grind (arith, common_steps);
+      fewer = grind (arith, common_steps);
+    }
 
-pub returns-in-Ready-default-Ok-clause-goes_on : goal.returns-in-Ready-default-Ok-clause-goes_on
-returns-in-Ready-default-Ok-clause-goes_on g c = grind (arith, common_steps)
-
-pub returns-in-Pending-clause-leaves : goal.returns-in-Pending-clause-leaves
-returns-in-Pending-clause-leaves g c = rw (← c.self.view_is) c.in-Pending.ensures.leaves
-
-pub returns-in-Ready-default-Ok-clause-only_registered : goal.returns-in-Ready-default-Ok-clause-only_registered
-returns-in-Ready-default-Ok-clause-only_registered g c = rw (← c.self.view_is) c.in-Ready-default-Ok.ensures.only_registered
-
-pub returns-in-Ready-default-Err-clause-only_registered : goal.returns-in-Ready-default-Err-clause-only_registered
-returns-in-Ready-default-Err-clause-only_registered g c = rw (← c.self.view_is) c.in-Ready-default-Err.ensures.only_registered
+pub returns-in-Pending-clause-task : goal.returns-in-Pending-clause-task
+returns-in-Pending-clause-task g c =
+    let pending = c.in-Pending.ensures in
+    rw (← c.self.view_is) (record { registered = pending.covered; woken = pending.woken; leaves = pending.leaves; only_registered = tt; kept = pending.kept })

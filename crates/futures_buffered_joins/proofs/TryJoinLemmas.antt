@@ -1,5 +1,5 @@
 -- What one poll of a join whose futures may fail says of what it may be ready with.
-use Rattle.std.proofs.Common.{◌≡◌, ℕ, List, [], ◌∷◌, Vec, Option, Some, None, Result, Ok, Err, subst, sym}
+use Rattle.std.proofs.Common.{◌≡◌, ℕ, List, [], ◌∷◌, Vec, Option, Some, None, IfSome, Result, Ok, Err, subst, sym}
 use Rattle.std.specs.List.{FoldsTo}
 use Rattle.std.specs.declared.alloc.Global.{Global}
 use Rattle.futures.specs.declared.task.Poll.{Poll}
@@ -8,8 +8,10 @@ use Rattle.futures.specs.Poll.{IfReady, OnPending}
 use Rattle.futures_buffered_table.specs.declared.answer.Woke.{Woke}
 use Rattle.futures_buffered_core.specs.ReadySource.{SourceSteps}
 use Rattle.futures_buffered_unordered_bounded.proofs.HeldGivesLemmas.{gives_passed, gives_output}
+use Rattle.futures_buffered_unordered_bounded.specs.Held.{AllHeld}
 use Rattle.futures_buffered_joins.specs.Joining.{Places, MayBeAll}
-use Rattle.futures_buffered_joins.specs.TryJoinAll.{TryJoinGives, TryJoinMayGive, TryJoinsByPlace}
+use Rattle.futures_buffered_joins.specs.TryJoin.{TryJoinGives, TryJoinMayGive, TryJoinsByPlace}
+use Rattle.futures_buffered_joins.specs.JoinTask.{PollsJoin}
 use Rattle.futures_buffered_joins.proofs.JoiningGivenLemmas.{all_back, all_now, any_back, waits_back, by_place}
 
 module _ {F T E S : Type 0} (polled : ℕ → F → Poll (Result T E) → F → Type 0) (steps : SourceSteps S) where
@@ -32,6 +34,11 @@ module _ {F T E S : Type 0} (polled : ℕ → F → Poll (Result T E) → F → 
       by_result : (r : Result (Vec T Global) E) → TryJoinMayGive polled (Some new) r → TryJoinMayGive polled (Some old) r
       by_result (Ok outputs) all = all_back polled steps Ok h.0 old h.1 outputs.items h.2 (waits_back polled steps Ok h.1 new outputs.items h.3 all)
       by_result (Err e) any = any_back polled steps Ok h.0 old h.1 (Err e) h.2 (gives_passed polled h.3.is_pending.0 h.1.set.slots new.set.slots (Err e) h.3.is_pending.3.passes any)
+
+  -- all that a poll promises, by what it gave, that it can be polled again, and that it has ended
+  pub polls_join : (can_poll : F → Type 0) (old new : Option (Places F T S)) (answer : Poll (Result (Vec T Global) E)) → TryJoinGives polled steps old answer new → OnPending answer (IfSome new (λ places. AllHeld can_poll places.set.slots)) → IfReady answer (λ _. new ≡ None) → PollsJoin (TryJoinGives polled steps) (TryJoinMayGive polled) (λ answer. answer) can_poll old answer new
+  polls_join can_poll old new answer gives again ended =
+      record { gave = gives; value = ready_value old new answer gives; again = again; same = pending_same old new answer gives; ended = ended }
 
   later_back : (later : List (Places F T S)) (first last : Places F T S) (outputs : Vec T Global) → FoldsTo (λ old left new. TryJoinGives polled steps (Some old) Pending (Some left) × (new ≡ left)) first later last → MayBeAll polled Ok last outputs.items → MayBeAll polled Ok first outputs.items
   later_back [] first last outputs ran all = subst (λ (w : Places F T S). MayBeAll polled Ok w outputs.items) (sym ran) all

@@ -1,16 +1,13 @@
 //! All of some futures that may fail, whose outputs come together, or the first error.
-ghost use Rattle.std.specs.Prelude.{◌≡◌, ◌≤◌, List, Vec, Result, None, Err, IfOk, IfSome, IsSomeAnd, ◌⊎◌};
+ghost use Rattle.std.specs.Prelude.{◌≡◌, Vec, Result, None, Err, IfOk, IfSome, IsSomeAnd};
 ghost use Rattle.std.specs.Iterator.{IsFiniteIterable};
 ghost use Rattle.std.specs.declared.alloc.Global.{Global};
-ghost use Rattle.futures.specs.Task.{Covers, Keeps};
-ghost use Rattle.futures.specs.Poll.{IfReady, OnPending};
 ghost use Rattle.futures_buffered_core.specs.Drawn.{Draws, DrawsMoreThan};
 ghost use Rattle.futures_buffered_core.specs.ReadyShared.{IsNewShared, MarksShared};
-ghost use Rattle.futures_buffered_core.specs.SlotMap.{slot_count};
 ghost use Rattle.futures_buffered_unordered_bounded.specs.Held.{AllHeld};
-ghost use Rattle.futures_buffered_unordered_bounded.specs.FuturesUnorderedBounded.{IsWoken, OnlyRegisters, SaidEmpty};
-ghost use Rattle.futures_buffered_joins.specs.Joining.{IsNewJoin, JoinLeavesTask};
-ghost use Rattle.futures_buffered_joins.specs.TryJoinAll.{TryJoinGives, TryJoinMayGive, TryJoinsByPlace};
+ghost use Rattle.futures_buffered_joins.specs.JoinMade.{IsMadeOf};
+ghost use Rattle.futures_buffered_joins.specs.JoinTask.{PollsJoin, PollsTask};
+ghost use Rattle.futures_buffered_joins.specs.TryJoin.{TryJoinGives, TryJoinMayGive, TryJoinsByPlace};
 
 use crate::joining::Joining;
 use futures::Future;
@@ -71,11 +68,9 @@ where
         S: NewSource,
         requires { IsFiniteIterable I.into_iter_gives I.IntoIter.can_next
             I.IntoIter.remaining iter }
-        ensures waits_for { IfOk result (λ join. (items : List F)
-            × Draws I.into_iter_gives I.IntoIter.next_gives iter items
-            × IsSomeAnd join (IsNewJoin S.made S.marks POLL_LIMIT items)) }
-        ensures fits { IfOk result (λ join.
-            IsSomeAnd join (λ places. slot_count places.set.slots ≤ MAX_CAPACITY)) }
+        ensures made { IfOk result (IsMadeOf
+            (Draws I.into_iter_gives I.IntoIter.next_gives iter)
+            S.made S.marks POLL_LIMIT MAX_CAPACITY) }
         ensures large { result ≡ Err NewFault.TooLarge
             → DrawsMoreThan I.into_iter_gives I.IntoIter.next_gives iter MAX_CAPACITY }
     {
@@ -105,23 +100,11 @@ where
     /// Takes no memory, and waits for nobody where the source's calls do not. Takes time in proportion to the names that its polls of the set take, and at the end to the number of places, besides the polls.
     fn poll(&mut self, cx: &mut Context<'_>) -> Poll<Result<Vec<T>, E>>
         requires { IfSome self.old (λ places. AllHeld F.can_poll places.set.slots) }
-        ensures polled { TryJoinGives F.polled S.steps self.old result self.new }
-        ensures value { IfReady result (TryJoinMayGive F.polled self.old) }
-        ensures again { OnPending result
-            (IfSome self.new (λ places. AllHeld F.can_poll places.set.slots)) }
-        ensures same { OnPending result ((r : Result (Vec T Global) E)
-            → TryJoinMayGive F.polled self.new r → TryJoinMayGive F.polled self.old r) }
-        ensures ended { IfReady result (λ _. self.new ≡ None) }
+        ensures join { PollsJoin (TryJoinGives F.polled S.steps) (TryJoinMayGive F.polled)
+            (λ answer. answer) F.can_poll self.old result self.new }
+        ensures task { PollsTask F.polled S.steps Ok S.needs S.registers_poll
+            self.old self.new result cx.old cx.new }
         ensures untouched { self.old ≡ None → cx.new ≡ cx.old }
-        ensures registered { OnPending result (Covers cx.new
-            (λ n. IsSomeAnd self.new (λ places. S.needs places.set.source n))) }
-        ensures woken { OnPending result (IsWoken cx.new
-            ⊎ IsSomeAnd self.new (λ places. SaidEmpty S.steps places.set.source)) }
-        ensures leaves { OnPending result (IsSomeAnd self.old (λ old. IsSomeAnd self.new (λ new.
-            JoinLeavesTask F.polled S.steps Ok S.registers_poll old new cx.old cx.new))) }
-        ensures only_registered { IfReady result (λ _.
-            OnlyRegisters S.registers_poll cx.old cx.new) }
-        ensures kept { Keeps cx.old cx.new }
     {
         let Some(mut joining) = self.joining.take() else {
             return Poll::Ready(Ok(Vec::new(self.alloc)));
@@ -175,11 +158,9 @@ where
     T: Drop,
     requires { IsFiniteIterable I.into_iter_gives I.IntoIter.can_next
         I.IntoIter.remaining iter }
-    ensures waits_for { IfOk result (λ join. (items : List I.Item)
-        × Draws I.into_iter_gives I.IntoIter.next_gives iter items
-        × IsSomeAnd join (IsNewJoin IsNewShared MarksShared POLL_LIMIT items)) }
-    ensures fits { IfOk result (λ join.
-        IsSomeAnd join (λ places. slot_count places.set.slots ≤ MAX_CAPACITY)) }
+    ensures made { IfOk result (IsMadeOf
+        (Draws I.into_iter_gives I.IntoIter.next_gives iter)
+        IsNewShared MarksShared POLL_LIMIT MAX_CAPACITY) }
     ensures large { result ≡ Err NewFault.TooLarge
         → DrawsMoreThan I.into_iter_gives I.IntoIter.next_gives iter MAX_CAPACITY }
 {

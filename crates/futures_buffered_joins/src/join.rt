@@ -1,15 +1,13 @@
 //! All of some futures, whose outputs come together.
-ghost use Rattle.std.specs.Prelude.{◌≡◌, ◌≤◌, List, None, Err, IfOk, IfSome, IsSomeAnd, ◌⊎◌};
+ghost use Rattle.std.specs.Prelude.{◌≡◌, None, Err, IfOk, IfSome, IsSomeAnd};
 ghost use Rattle.std.specs.Iterator.{IsFiniteIterable};
-ghost use Rattle.futures.specs.Task.{Covers, Keeps};
-ghost use Rattle.futures.specs.Poll.{IfReady, OnPending};
 ghost use Rattle.futures_buffered_core.specs.Drawn.{Draws, DrawsMoreThan};
 ghost use Rattle.futures_buffered_core.specs.ReadyShared.{IsNewShared, MarksShared};
-ghost use Rattle.futures_buffered_core.specs.SlotMap.{slot_count};
 ghost use Rattle.futures_buffered_unordered_bounded.specs.Held.{AllHeld};
-ghost use Rattle.futures_buffered_unordered_bounded.specs.FuturesUnorderedBounded.{IsWoken, OnlyRegisters, SaidEmpty};
-ghost use Rattle.futures_buffered_joins.specs.Joining.{Places, IsNewJoin, JoinLeavesTask};
-ghost use Rattle.futures_buffered_joins.specs.JoinAll.{JoinGives, JoinMayGive, JoinsByPlace};
+ghost use Rattle.futures_buffered_joins.specs.Joining.{Places};
+ghost use Rattle.futures_buffered_joins.specs.JoinMade.{IsMadeOf};
+ghost use Rattle.futures_buffered_joins.specs.JoinTask.{PollsJoin, PollsTask};
+ghost use Rattle.futures_buffered_joins.specs.Join.{JoinGives, JoinMayGive, JoinsByPlace};
 
 use crate::joining::Joining;
 use futures::Future;
@@ -66,11 +64,9 @@ where
         S: NewSource,
         requires { IsFiniteIterable I.into_iter_gives I.IntoIter.can_next
             I.IntoIter.remaining iter }
-        ensures waits_for { IfOk result (λ join. (items : List F)
-            × Draws I.into_iter_gives I.IntoIter.next_gives iter items
-            × IsSomeAnd join (IsNewJoin S.made S.marks POLL_LIMIT items)) }
-        ensures fits { IfOk result (λ join.
-            IsSomeAnd join (λ places. slot_count places.set.slots ≤ MAX_CAPACITY)) }
+        ensures made { IfOk result (IsMadeOf
+            (Draws I.into_iter_gives I.IntoIter.next_gives iter)
+            S.made S.marks POLL_LIMIT MAX_CAPACITY) }
         ensures large { result ≡ Err NewFault.TooLarge
             → DrawsMoreThan I.into_iter_gives I.IntoIter.next_gives iter MAX_CAPACITY }
     {
@@ -101,23 +97,11 @@ where
     /// Takes no memory, and waits for nobody where the source's calls do not. Takes time in proportion to the names that its polls of the set take, and at the end to the number of places, besides the polls.
     fn poll(&mut self, cx: &mut Context<'_>) -> Poll<Vec<A>>
         requires { IfSome self.old (λ places. AllHeld F.can_poll places.set.slots) }
-        ensures polled { JoinGives F.polled S.steps self.old result self.new }
-        ensures value { IfReady result (λ outputs. JoinMayGive F.polled self.old outputs.items) }
-        ensures again { OnPending result
-            (IfSome self.new (λ places. AllHeld F.can_poll places.set.slots)) }
-        ensures same { OnPending result ((outputs : List A)
-            → JoinMayGive F.polled self.new outputs → JoinMayGive F.polled self.old outputs) }
-        ensures ended { IfReady result (λ _. self.new ≡ None) }
+        ensures join { PollsJoin (JoinGives F.polled S.steps) (JoinMayGive F.polled)
+            (λ outputs. outputs.items) F.can_poll self.old result self.new }
+        ensures task { PollsTask F.polled S.steps (λ x. x) S.needs S.registers_poll
+            self.old self.new result cx.old cx.new }
         ensures untouched { self.old ≡ None → cx.new ≡ cx.old }
-        ensures registered { OnPending result (Covers cx.new
-            (λ n. IsSomeAnd self.new (λ places. S.needs places.set.source n))) }
-        ensures woken { OnPending result (IsWoken cx.new
-            ⊎ IsSomeAnd self.new (λ places. SaidEmpty S.steps places.set.source)) }
-        ensures leaves { OnPending result (IsSomeAnd self.old (λ old. IsSomeAnd self.new (λ new.
-            JoinLeavesTask F.polled S.steps (λ x. x) S.registers_poll old new cx.old cx.new))) }
-        ensures only_registered { IfReady result (λ _.
-            OnlyRegisters S.registers_poll cx.old cx.new) }
-        ensures kept { Keeps cx.old cx.new }
     {
         let Some(mut joining) = self.joining.take() else {
             return Poll::Ready(Vec::new(self.alloc));
@@ -171,11 +155,9 @@ where
     <I::Item as SlotFuture<SharedWaker>>::Output: Drop,
     requires { IsFiniteIterable I.into_iter_gives I.IntoIter.can_next
         I.IntoIter.remaining iter }
-    ensures waits_for { IfOk result (λ join. (items : List I.Item)
-        × Draws I.into_iter_gives I.IntoIter.next_gives iter items
-        × IsSomeAnd join (IsNewJoin IsNewShared MarksShared POLL_LIMIT items)) }
-    ensures fits { IfOk result (λ join.
-        IsSomeAnd join (λ places. slot_count places.set.slots ≤ MAX_CAPACITY)) }
+    ensures made { IfOk result (IsMadeOf
+        (Draws I.into_iter_gives I.IntoIter.next_gives iter)
+        IsNewShared MarksShared POLL_LIMIT MAX_CAPACITY) }
     ensures large { result ≡ Err NewFault.TooLarge
         → DrawsMoreThan I.into_iter_gives I.IntoIter.next_gives iter MAX_CAPACITY }
 {

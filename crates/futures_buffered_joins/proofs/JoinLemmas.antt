@@ -1,5 +1,5 @@
 -- What one poll of a join says of what it may be ready with.
-use Rattle.std.proofs.Common.{◌≡◌, ℕ, List, [], ◌∷◌, Vec, Option, Some, None, subst, sym}
+use Rattle.std.proofs.Common.{◌≡◌, ℕ, List, [], ◌∷◌, Vec, Option, Some, None, IfSome, subst, sym}
 use Rattle.std.specs.List.{FoldsTo}
 use Rattle.std.specs.declared.alloc.Global.{Global}
 use Rattle.futures.specs.declared.task.Poll.{Poll}
@@ -7,8 +7,10 @@ use Rattle.futures.specs.declared.task.Poll.TheVariants.{Ready, Pending}
 use Rattle.futures.specs.Poll.{IfReady, OnPending}
 use Rattle.futures_buffered_table.specs.declared.answer.Woke.{Woke}
 use Rattle.futures_buffered_core.specs.ReadySource.{SourceSteps}
+use Rattle.futures_buffered_unordered_bounded.specs.Held.{AllHeld}
 use Rattle.futures_buffered_joins.specs.Joining.{Places, MayBeAll}
-use Rattle.futures_buffered_joins.specs.JoinAll.{JoinGives, JoinMayGive, JoinsByPlace}
+use Rattle.futures_buffered_joins.specs.Join.{JoinGives, JoinMayGive, JoinsByPlace}
+use Rattle.futures_buffered_joins.specs.JoinTask.{PollsJoin}
 use Rattle.futures_buffered_joins.proofs.JoiningGivenLemmas.{all_back, all_now, waits_back, by_place}
 
 module _ {F A S : Type 0} (polled : ℕ → F → Poll A → F → Type 0) (steps : SourceSteps S) where
@@ -23,6 +25,11 @@ module _ {F A S : Type 0} (polled : ℕ → F → Poll A → F → Type 0) (step
   pending_same None new Pending h = absurd h
   pending_same (Some old) None Pending h = absurd h.3
   pending_same (Some old) (Some new) Pending h = λ outputs all. all_back polled steps (λ x. x) h.0 old h.1 outputs h.2 (waits_back polled steps (λ x. x) h.1 new outputs h.3 all)
+
+  -- all that a poll promises, by what it gave, that it can be polled again, and that it has ended
+  pub polls_join : (can_poll : F → Type 0) (old new : Option (Places F A S)) (answer : Poll (Vec A Global)) → JoinGives polled steps old answer new → OnPending answer (IfSome new (λ places. AllHeld can_poll places.set.slots)) → IfReady answer (λ _. new ≡ None) → PollsJoin (JoinGives polled steps) (JoinMayGive polled) (λ outputs. outputs.items) can_poll old answer new
+  polls_join can_poll old new answer gives again ended =
+      record { gave = gives; value = ready_value old new answer gives; again = again; same = pending_same old new answer gives; ended = ended }
 
   later_back : (later : List (Places F A S)) (first last : Places F A S) (outputs : List A) → FoldsTo (λ old left new. JoinGives polled steps (Some old) Pending (Some left) × (new ≡ left)) first later last → MayBeAll polled (λ x. x) last outputs → MayBeAll polled (λ x. x) first outputs
   later_back [] first last outputs ran all = subst (λ (w : Places F A S). MayBeAll polled (λ x. x) w outputs) (sym ran) all

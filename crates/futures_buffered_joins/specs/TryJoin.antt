@@ -65,3 +65,16 @@ TryJoinMayGive polled None (Ok outputs) = outputs.items ≡ []
 TryJoinMayGive polled None (Err e) = ⊥
 TryJoinMayGive polled (Some places) (Ok outputs) = MayBeAll polled Ok places outputs.items
 TryJoinMayGive polled (Some places) (Err e) = AnyMayGive polled places.set.slots (Err e)
+
+-- outputs filled their places, one after another, and then one poll of the set gave this error
+pub record FailsAfter
+    {F T E S : Type 0}
+    (polled : ℕ → F → Poll (Result T E) → F → Type 0)
+    (steps : SourceSteps S)
+    (old : Places F T S)
+    (e : E)
+    : Type 0 where
+  pub row : List (ℕ × T)
+  pub before : Places F T S
+  pub filled : FoldsTo (Fills polled steps Ok) old row before
+  pub fails : Fails polled steps before e
