@@ -2,6 +2,8 @@
 use Rattle.std.proofs.Common.{◌≡◌, is_some, OnSome, ℕ, ◌<◌, List, [], ◌∷◌, Option, Some, None, Bool, true, false, refl, ap, subst, inr, arith, length, ◌+◌, ◌++◌, ◌∙◌, ◌||◌}
 use Rattle.std.specs.List.{FoldsTo, AllByRecursion}
 use Rattle.std.proofs.lemmas.Fn.{FoldsTo-push}
+use Rattle.futures.specs.Task.{Keeps}
+use Rattle.futures.specs.declared.task.context.Context.{Context}
 use Rattle.futures.specs.declared.task.Poll.{Poll}
 use Rattle.futures.specs.declared.task.Poll.TheVariants.{Ready, Pending}
 use Rattle.futures.specs.Runs.{Runs, After, Within, firsts}
@@ -10,6 +12,7 @@ use Rattle.futures_buffered_core.specs.ReadySource.{SourceSteps}
 use Rattle.futures_buffered_unordered_bounded.specs.FuturesUnorderedBounded.{Bounded, Pushes, PollGives}
 use Rattle.futures_buffered_unordered_bounded.specs.Held.{AllHeld}
 use Rattle.futures.specs.Poll.{IfReady, OnPending}
+use Rattle.futures_buffered_adaptors.specs.Buffer.{HasNoTurn}
 use Rattle.futures_buffered_adaptors.specs.ForEachConcurrent.{ForEach, DrawAndPoll, TurnGives, EndsAfter, ForEachCall, DrawsOnce, drew_one, gave_one, goes_on, CanForEach, ForEachGives}
 use Rattle.futures_buffered_unordered_bounded.proofs.HeldLemmas.{AllHeld-push}
 
@@ -61,15 +64,27 @@ goes_if_gave asked answer x e = rw e (or_true (drew_one asked))
 pub stops : {X A : Type 0} (asked : Option (Poll (Option X))) (answer : Poll (Option A)) → drew_one asked ≡ false → gave_one answer ≡ false → goes_on {X = X} {A = A} (asked, answer) ≡ false
 stops asked answer e k = rw (e, k) refl
 
-module _ {St X F Fn Q A : Type 0} (next : St → Poll (Option X) → St → Type 0) (count : Q → ℕ) (n : ℕ) (pushes : Q → F → Q → Type 0) (calls : Fn → X → F → Fn → Type 0) (polls : Q → Poll (Option A) → Q → Type 0) where
-  pub turn_of : (old mid : ForEach St Fn Q) (stream : Option St) (q left : Q) (f : Fn) (asked : Option (Poll (Option X))) (answer : Poll (Option A)) → mid ≡ record { buffer = record { stream = stream; queue = q }; closure = f } → DrawsOnce next count n pushes calls old asked mid → polls q answer left
-      → TurnGives next count n pushes calls polls old (asked, answer) (record { buffer = record { stream = stream; queue = left }; closure = f })
-  turn_of old mid stream q left f asked answer is draws polled = record { drawn = mid; draws = draws; polls_set = rw is polled; same_stream = rw is refl; same_closure = rw is refl }
+module _ {St X F Fn Q A : Type 0} (next : St → Poll (Option X) → St → Type 0) (count : Q → ℕ) (n : ℕ) (pushes : Q → F → Q → Type 0) (calls : Fn → X → F → Fn → Type 0) (polls : Q → Poll (Option A) → Q → Type 0) (leaves : Q → Poll (Option A) → Q → Context → Context → Type 0) where
+  had_no_turn : (old new : ForEach St Fn Q) (asked : Option (Poll (Option X))) → DrawsOnce next count n pushes calls old asked new → asked ≡ None → HasNoTurn next count n old.buffer
+  had_no_turn old new None draws is = draws.0
+  had_no_turn old new (Some answer) draws is = cc
 
-  pub last_call : (left_by : Poll (Option A) → Q → Type 0) (woken : Type 0) (limit : ℕ) (old now new : ForEach St Fn Q) (done : List (DrawAndPoll X A)) (last : DrawAndPoll X A) (answer : Poll (Unit {0})) → FoldsTo (TurnGives next count n pushes calls polls) old done now → TurnGives next count n pushes calls polls now last new
-      → AllByRecursion (λ turn. goes_on turn ≡ true) done → length done < limit → EndsAfter next count n pushes calls polls left_by woken limit (length done) last answer new → ForEachCall next count n pushes calls polls left_by woken limit old answer new
-  last_call left_by woken limit old now new done last answer row turn went_on below ends =
-      record { turns = done; last = last; row = FoldsTo-push (TurnGives next count n pushes calls polls) old done now last new row turn; went_on = went_on; at_most = below; ends = ends }
+  pub turn_of : (old mid : ForEach St Fn Q) (stream : Option St) (q left : Q) (f : Fn) (asked : Option (Poll (Option X))) (answer : Poll (Option A)) (cx drawn after : Context) → mid ≡ record { buffer = record { stream = stream; queue = q }; closure = f } → DrawsOnce next count n pushes calls old asked mid → polls q answer left
+      → Keeps cx drawn → (HasNoTurn next count n old.buffer → drawn ≡ cx) → leaves q answer left drawn after → Keeps drawn after
+      → TurnGives next count n pushes calls polls leaves (old, cx) (asked, answer) (record { buffer = record { stream = stream; queue = left }; closure = f }, after)
+  turn_of old mid stream q left f asked answer cx drawn after is draws polled kept stays left_so left_kept = record {
+    drawn = mid;
+    draws = draws;
+    polls_set = rw is polled;
+    same_stream = rw is refl;
+    same_closure = rw is refl;
+    task = record { drawn = drawn; kept = kept; not_polled = λ none. stays (had_no_turn old mid asked draws none); left_so = rw is left_so; left_kept = left_kept };
+  }
+
+  pub last_call : (is_woken : Context → Type 0) (limit : ℕ) (old now new : ForEach St Fn Q) (cx now_cx after : Context) (done : List (DrawAndPoll X A)) (last : DrawAndPoll X A) (answer : Poll (Unit {0})) → FoldsTo (TurnGives next count n pushes calls polls leaves) (old, cx) done (now, now_cx) → TurnGives next count n pushes calls polls leaves (now, now_cx) last (new, after)
+      → AllByRecursion (λ turn. goes_on turn ≡ true) done → length done < limit → EndsAfter next count n pushes calls polls leaves (after ≡ after) (is_woken after) limit (length done) last answer new → ForEachCall next count n pushes calls polls leaves is_woken limit old answer new cx after
+  last_call is_woken limit old now new cx now_cx after done last answer row turn went_on below ends =
+      record { turns = done; last = last; after = after; row = FoldsTo-push (TurnGives next count n pushes calls polls leaves) (old, cx) done (now, now_cx) last (new, after) row turn; went_on = went_on; at_most = below; ends = ends }
 
   split_last : (turn : DrawAndPoll X A) (turns : List (DrawAndPoll X A)) → AllByRecursion (λ turn. goes_on turn ≡ true) (turn ∷ turns)
       → (init : List (DrawAndPoll X A)) × (last : DrawAndPoll X A) × ((turn ∷ turns) ≡ init ++ last ∷ []) × AllByRecursion (λ turn. goes_on turn ≡ true) init × (goes_on last ≡ true) × (length init + 1 ≡ length (turn ∷ turns))
@@ -78,12 +93,12 @@ module _ {St X F Fn Q A : Type 0} (next : St → Poll (Option X) → St → Type
       let more = split_last next_turn turns all.1 in
       (turn ∷ more.0, more.1, ap (λ (l : List (DrawAndPoll X A)). turn ∷ l) more.2, (all.0, more.3), more.4, omega (arith, more.5))
 
-  pub full_call : (left_by : Poll (Option A) → Q → Type 0) (woken : Type 0) (limit : ℕ) (old new : ForEach St Fn Q) (done : List (DrawAndPoll X A)) (answer : Poll (Unit {0})) → FoldsTo (TurnGives next count n pushes calls polls) old done new → AllByRecursion (λ turn. goes_on turn ≡ true) done → length done ≡ limit → 0 < limit → answer ≡ Pending → woken
-      → ForEachCall next count n pushes calls polls left_by woken limit old answer new
-  full_call left_by woken limit old new [] answer row all full some is wakes = absurd (omega (arith, full))
-  full_call left_by woken limit old new (turn ∷ turns) answer row all full some is wakes =
+  pub full_call : (is_woken : Context → Type 0) (limit : ℕ) (old new : ForEach St Fn Q) (cx after left : Context) (done : List (DrawAndPoll X A)) (answer : Poll (Unit {0})) → FoldsTo (TurnGives next count n pushes calls polls leaves) (old, cx) done (new, after) → AllByRecursion (λ turn. goes_on turn ≡ true) done → length done ≡ limit → 0 < limit → answer ≡ Pending → is_woken left
+      → ForEachCall next count n pushes calls polls leaves is_woken limit old answer new cx left
+  full_call is_woken limit old new cx after left [] answer row all full some is wakes = absurd (omega (arith, full))
+  full_call is_woken limit old new cx after left (turn ∷ turns) answer row all full some is wakes =
       let split = split_last turn turns all in
-      record { turns = split.0; last = split.1; row = subst (λ (l : List (DrawAndPoll X A)). FoldsTo (TurnGives next count n pushes calls polls) old l new) split.2 row; went_on = split.3; at_most = omega (arith, split.5, full); ends = rw is (inr (split.4, split.5 ∙ full, wakes)) }
+      record { turns = split.0; last = split.1; after = after; row = subst (λ (l : List (DrawAndPoll X A)). FoldsTo (TurnGives next count n pushes calls polls leaves) (old, cx) l (new, after)) split.2 row; went_on = split.3; at_most = omega (arith, split.5, full); ends = rw is (inr (split.4, split.5 ∙ full, wakes)) }
 
 pub none_drew : (drew : Bool) (m : ℕ) → (drew ≡ true → 0 < m) → m ≡ 0 → drew ≡ false
 none_drew true m some none = let k = some refl in absurd (omega arith)

@@ -62,6 +62,23 @@ gave_one (Ready (Some x)) = true
 abbrev pub goes_on : {X A : Type 0} → DrawAndPoll X A → Bool
 goes_on turn = drew_one turn.0 || gave_one turn.1
 
+-- What a turn leaves of the task. Its draw took the task from cx to a context in which nothing of it
+-- is lost, and left it as it was where the stream was not polled. From there the set's poll took it
+-- to left.
+pub record TurnLeavesTask
+    {X A Q : Type 0}
+    (leaves : Q → Poll (Option A) → Q → Context → Context → Type 0)
+    (old : Q)
+    (turn : DrawAndPoll X A)
+    (new : Q)
+    (cx left : Context)
+    : Type 0 where
+  pub drawn : Context
+  pub kept : Keeps cx drawn
+  pub not_polled : turn.0 ≡ None → drawn ≡ cx
+  pub left_so : leaves old turn.1 new drawn left
+  pub left_kept : Keeps drawn left
+
 module _
     {St X F Fn Q : Type 0}
     (next : St → Poll (Option X) → St → Type 0)
@@ -91,59 +108,56 @@ module _
         × AsksStream next count n old.buffer answer left
         × TakesIn old answer left new
 
-    module _ {A : Type 0} (polls : Q → Poll (Option A) → Q → Type 0) where
-      -- one turn
-      pub record TurnGives
-          (old : ForEach St Fn Q)
-          (turn : DrawAndPoll X A)
-          (new : ForEach St Fn Q)
-          : Type 0 where
-        pub drawn : ForEach St Fn Q
-        pub draws : DrawsOnce old turn.0 drawn
-        pub polls_set : polls drawn.buffer.queue turn.1 new.buffer.queue
-        pub same_stream : new.buffer.stream ≡ drawn.buffer.stream
-        pub same_closure : new.closure ≡ drawn.closure
+    module _
+        {A : Type 0}
+        (polls : Q → Poll (Option A) → Q → Type 0)
+        (leaves : Q → Poll (Option A) → Q → Context → Context → Type 0)
+      where
+        -- one turn, of the for-each and of its task
+        pub record TurnGives
+            (old : ForEach St Fn Q × Context)
+            (turn : DrawAndPoll X A)
+            (new : ForEach St Fn Q × Context)
+            : Type 0 where
+          pub drawn : ForEach St Fn Q
+          pub draws : DrawsOnce old.0 turn.0 drawn
+          pub polls_set : polls drawn.buffer.queue turn.1 new.0.buffer.queue
+          pub same_stream : new.0.buffer.stream ≡ drawn.buffer.stream
+          pub same_closure : new.0.closure ≡ drawn.closure
+          pub task : TurnLeavesTask leaves drawn.buffer.queue turn new.0.buffer.queue old.1 new.1
 
-      -- the set held nothing and the stream has ended
-      abbrev pub HasEnded : DrawAndPoll X A → ForEach St Fn Q → Type 0
-      HasEnded last new = (last.1 ≡ Ready None) × (new.buffer.stream ≡ None)
+        -- the set held nothing and the stream has ended
+        abbrev pub HasEnded : DrawAndPoll X A → ForEach St Fn Q → Type 0
+        HasEnded last new = (last.1 ≡ Ready None) × (new.buffer.stream ≡ None)
 
-      -- how a call ends after its last turn, where done is how many came before: Ready at the end
-      -- of all; Pending after a turn that neither drew nor gave, or where another would be one too
-      -- many, and then the task is woken. In the first two cases the task is left as the last poll
-      -- of the set left it.
-      abbrev pub EndsAfter : (Poll (Option A) → Q → Type 0) → Type 0 → ℕ → ℕ
-          → DrawAndPoll X A → Poll (Unit {0}) → ForEach St Fn Q → Type 0
-      EndsAfter left_by woken limit done last (Ready _) new =
-          (goes_on last ≡ false) × HasEnded last new × left_by last.1 new.buffer.queue
-      EndsAfter left_by woken limit done last Pending new =
-          ((goes_on last ≡ false) × (HasEnded last new → ⊥) × left_by last.1 new.buffer.queue)
-          ⊎ ((goes_on last ≡ true) × (done + 1 ≡ limit) × woken)
+        -- how a call ends after its last turn, where done is how many came before: Ready at the end
+        -- of all; Pending after a turn that neither drew nor gave, or where another would be one too
+        -- many, and then the task is woken. In the first two cases the task stays as the last turn
+        -- left it.
+        abbrev pub EndsAfter : Type 0 → Type 0 → ℕ → ℕ
+            → DrawAndPoll X A → Poll (Unit {0}) → ForEach St Fn Q → Type 0
+        EndsAfter stays woken limit done last (Ready _) new =
+            (goes_on last ≡ false) × HasEnded last new × stays
+        EndsAfter stays woken limit done last Pending new =
+            ((goes_on last ≡ false) × (HasEnded last new → ⊥) × stays)
+            ⊎ ((goes_on last ≡ true) × (done + 1 ≡ limit) × woken)
 
-      -- one call: some turns, each of which drew an item or gave an output, and the last one
-      pub record ForEachCall
-          (left_by : Poll (Option A) → Q → Type 0)
-          (woken : Type 0)
-          (limit : ℕ)
-          (old : ForEach St Fn Q)
-          (answer : Poll (Unit {0}))
-          (new : ForEach St Fn Q)
-          : Type 0 where
-        pub turns : List (DrawAndPoll X A)
-        pub last : DrawAndPoll X A
-        pub row : FoldsTo TurnGives old (turns ++ last ∷ []) new
-        pub went_on : AllByRecursion (λ turn. goes_on turn ≡ true) turns
-        pub at_most : length turns < limit
-        pub ends : EndsAfter left_by woken limit (length turns) last answer new
-
--- a poll of the set that gave this answer left the set and the task so, from a context to which the
--- task had come
-abbrev pub LeftByPoll : {Q A : Type 0}
-    → (Q → Poll (Option A) → Q → Type 0)
-    → (Q → Poll (Option A) → Q → Context → Context → Type 0)
-    → Context → Context → Poll (Option A) → Q → Type 0
-LeftByPoll {Q} polls leaves cx left answer new = (old : Q) × (drawn : Context)
-    × Keeps cx drawn × polls old answer new × leaves old answer new drawn left
+        -- one call: some turns, each of which drew an item or gave an output, and the last one
+        pub record ForEachCall
+            (is_woken : Context → Type 0)
+            (limit : ℕ)
+            (old : ForEach St Fn Q)
+            (answer : Poll (Unit {0}))
+            (new : ForEach St Fn Q)
+            (cx left : Context)
+            : Type 0 where
+          pub turns : List (DrawAndPoll X A)
+          pub last : DrawAndPoll X A
+          pub after : Context
+          pub row : FoldsTo TurnGives (old, cx) (turns ++ last ∷ []) (new, after)
+          pub went_on : AllByRecursion (λ turn. goes_on turn ≡ true) turns
+          pub at_most : length turns < limit
+          pub ends : EndsAfter (left ≡ after) (is_woken left) limit (length turns) last answer new
 
 -- the closure may be called with this item, and the future that it makes may be polled
 abbrev pub CanCall : {X F Fn : Type 0}

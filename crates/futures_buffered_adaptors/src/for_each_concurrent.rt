@@ -7,9 +7,9 @@ ghost use Rattle.futures.specs.declared.task.Poll.{Poll};
 ghost use Rattle.futures_buffered_core.specs.Answer.{RefusesTooLarge};
 ghost use Rattle.futures_buffered_core.specs.ReadyShared.{IsNewShared};
 ghost use Rattle.futures_buffered_unordered_bounded.specs.FuturesUnorderedBounded.{Pushes, PollGives, PollLeavesTask, IsWoken, held_in, slots_in};
-ghost use Rattle.futures_buffered_adaptors.specs.Buffer.{PollsStream, WaitsAt};
+ghost use Rattle.futures_buffered_adaptors.specs.Buffer.{PollsStream, HasNoTurn, WaitsAt};
 ghost use Rattle.futures_buffered_adaptors.specs.BufferUnordered.{SetWaitsAt};
-ghost use Rattle.futures_buffered_adaptors.specs.ForEachConcurrent.{IsNewForEach, IsDone, DrawsOnce, ForEachCall, LeftByPoll, CanForEach, ForEachGives, drew_one};
+ghost use Rattle.futures_buffered_adaptors.specs.ForEachConcurrent.{IsNewForEach, IsDone, DrawsOnce, ForEachCall, CanForEach, ForEachGives, drew_one};
 
 use futures::task::{Context, Poll};
 use futures::{Future, Stream};
@@ -145,6 +145,8 @@ impl<
         ensures covered { result ≡ false
             → held_in self.new.buffer.queue < slots_in self.new.buffer.queue
             → IfSome self.new.buffer.stream (λ stream. Covers cx.new (St.needs stream)) }
+        ensures no_turn { HasNoTurn (PollsStream St.yields) held_in
+            (slots_in self.old.buffer.queue) self.old.buffer → cx.new ≡ cx.old }
         ensures kept { Keeps cx.old cx.new }
     {
         if self.queue.len() >= self.queue.capacity() {
@@ -189,10 +191,8 @@ impl<
         requires { CanForEach St.can_poll St.yields F.pre (Calls F.FnMut) Fut.can_poll self.old }
         ensures called { ForEachCall (PollsStream St.yields) held_in
             (slots_in self.old.buffer.queue) (Pushes S.marks) (Calls F.FnMut)
-            (PollGives Fut.polled S.steps)
-            (LeftByPoll (PollGives Fut.polled S.steps)
-            (PollLeavesTask Fut.polled S.steps S.registers_poll) cx.old cx.new) (IsWoken cx.new)
-            self.old.buffer.queue.limit self.old result self.new }
+            (PollGives Fut.polled S.steps) (PollLeavesTask Fut.polled S.steps S.registers_poll)
+            IsWoken self.old.buffer.queue.limit self.old result self.new cx.old cx.new }
         ensures ended { IfReady result (λ _. IsDone held_in self.new) }
         ensures capacity { slots_in self.new.buffer.queue ≡ slots_in self.old.buffer.queue }
         ensures limit { self.new.buffer.queue.limit ≡ self.old.buffer.queue.limit }

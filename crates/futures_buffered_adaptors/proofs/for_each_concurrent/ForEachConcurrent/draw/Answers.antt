@@ -2,6 +2,7 @@ use Rattle.std.proofs.Common.{rules, ◌≡◌, ◌<◌, Some, [], refl}
 use Rattle.futures.specs.Runs.{Calls}
 use Rattle.futures_buffered_unordered_bounded.specs.FuturesUnorderedBounded.{Pushes, held_in, slots_in}
 use Rattle.futures_buffered_adaptors.specs.Buffer.{PollsStream}
+use Rattle.futures_buffered_adaptors.proofs.BufferLemmas.{had_turn}
 use Rattle.futures_buffered_adaptors.proofs.ForEachConcurrentLemmas.{draws_item, draws_end, draws_pending, each_item_can, each_pending_can, item_ends}
 use Rattle.futures_buffered_adaptors.proofs.for_each_concurrent.ForEachConcurrent.draw.Goals as goal
 
@@ -65,3 +66,30 @@ call_mut-future-requires g c =
     let value = rw c.in-Ready-Some.field-0-is at c.in-Ready-Some.ensures.value in
     let can = rw is at c.requires in
     (can.to_come.at [] c.self.inside.closure c.in-Ready-Some.item value refl).0
+
+pub returns-in-Ready-Some-clause-no_turn : goal.returns-in-Ready-Some-clause-no_turn
+returns-in-Ready-Some-clause-no_turn g c =
+    let stream = g.St.Stream in
+    let is : c.args.self.now ≡ record { buffer = record { stream = Some c.in-Some.stream; queue = c.self.inside.queue }; closure = c.self.inside.closure } = let e = c.self.view_is in let k = c.in-Some.stream-is in cc in
+    let room : held_in c.self.inside.queue < slots_in c.args.self.now.buffer.queue = search rules in
+    λ none. absurd (had_turn (PollsStream stream.yields) held_in (slots_in c.args.self.now.buffer.queue) c.args.self.now.buffer c.in-Some.stream c.self.inside.queue (rw is refl) room none)
+
+pub returns-in-Ready-None-clause-no_turn : goal.returns-in-Ready-None-clause-no_turn
+returns-in-Ready-None-clause-no_turn g c =
+    let stream = g.St.Stream in
+    let is : c.args.self.now ≡ record { buffer = record { stream = Some c.in-Some.stream; queue = c.self.inside.queue }; closure = c.self.inside.closure } = let e = c.self.view_is in let k = c.in-Some.stream-is in cc in
+    let room : held_in c.self.inside.queue < slots_in c.args.self.now.buffer.queue = search rules in
+    λ none. absurd (had_turn (PollsStream stream.yields) held_in (slots_in c.args.self.now.buffer.queue) c.args.self.now.buffer c.in-Some.stream c.self.inside.queue (rw is refl) room none)
+
+pub returns-in-Pending-clause-no_turn : goal.returns-in-Pending-clause-no_turn
+returns-in-Pending-clause-no_turn g c =
+    let stream = g.St.Stream in
+    let is : c.args.self.now ≡ record { buffer = record { stream = Some c.in-Some.stream; queue = c.self.inside.queue }; closure = c.self.inside.closure } = let e = c.self.view_is in let k = c.in-Some.stream-is in cc in
+    let room : held_in c.self.inside.queue < slots_in c.args.self.now.buffer.queue = search rules in
+    λ none. absurd (had_turn (PollsStream stream.yields) held_in (slots_in c.args.self.now.buffer.queue) c.args.self.now.buffer c.in-Some.stream c.self.inside.queue (rw is refl) room none)
+
+pub returns-then-len-capacity-clause-no_turn : goal.returns-then-len-capacity-clause-no_turn
+returns-then-len-capacity-clause-no_turn g c = λ _. refl
+
+pub returns-in_default-clause-no_turn : goal.returns-in_default-clause-no_turn
+returns-in_default-clause-no_turn g c = λ _. refl
