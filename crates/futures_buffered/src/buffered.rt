@@ -16,6 +16,7 @@ pub use futures_buffered_adaptors::buffered_ordered::BufferedOrdered;
 pub use futures_buffered_adaptors::for_each_concurrent::ForEachConcurrent;
 use futures_buffered_core::ready_core::NewFault;
 use futures_buffered_core::ready_shared::{SharedReady, SharedWaker};
+use futures_buffered_driven::mailbox::Mailbox;
 use futures_buffered_driven::{Driven, Foreigns};
 use futures_buffered_unordered_bounded::SlotFuture;
 use futures_buffered_unordered_bounded::futures_unordered_bounded::POLL_LIMIT;
@@ -120,6 +121,27 @@ pub trait BufferedStreamExt: Stream {
         ensures refuses { RefusesTooLarge limit result }
     {
         ForEachConcurrent::over(&(), alloc, self, limit, f)
+    }
+
+    /// As `for_each_concurrent`, where `f` makes a `Foreign` of each item, or a future made of one, as `map(Foreign::new(receiver), |_| ())`. The futures of the kit are polled with the task's own context.
+    ///
+    /// Takes time and memory in proportion to `limit`. Where it is refused, so is `for_each_concurrent`.
+    final fn foreign_for_each_concurrent<Fut, T, F>(
+        self,
+        alloc: Global,
+        limit: usize,
+        f: F,
+    ) -> Result<ForEachConcurrent<Self, F, T, Driven<Fut>>, NewFault>
+    where
+        Self: Sized,
+        Fut: Future<Output: Drop>,
+        F: FnMut(Self::Item) -> T + Drop,
+        T: SlotFuture<Mailbox<Fut>, Output = ()>,
+        requires { 0 < limit }
+        ensures new { IfOk result (IsNewForEach IsNewDriven POLL_LIMIT self f limit) }
+        ensures refuses { RefusesTooLarge limit result }
+    {
+        ForEachConcurrent::over_limit(&(), alloc, self, limit, POLL_LIMIT, f)
     }
 }
 

@@ -6,7 +6,7 @@ ghost use Rattle.futures_buffered_core.specs.ReadyShared.{IsNewShared, MarksShar
 ghost use Rattle.futures_buffered_core.specs.SlotMap.{slot_count};
 ghost use Rattle.futures_buffered_unordered_bounded.specs.FuturesUnorderedBounded.{HoldsEach};
 ghost use Rattle.futures_buffered_unordered.specs.SlotGroups.{Growing, IsNewGrowing, PushesEach, StopsAtBound, no_groups};
-ghost use Rattle.futures_buffered_joins.specs.Joining.{IsNewJoin};
+ghost use Rattle.futures_buffered_joins.specs.JoinMade.{IsMadeOf};
 ghost use Rattle.futures_buffered_ordered.specs.OrderedEntries.{AddsEachBack};
 ghost use Rattle.futures_buffered_ordered.specs.FuturesOrderedBounded.{HoldsInOrder};
 ghost use Rattle.futures_buffered_ordered.specs.FuturesOrdered.{IsNewGrowingQueue, OrderedGrowing, GrowingPushesNumber, QueueStopsAtBound};
@@ -138,15 +138,13 @@ pub trait IterExt: IntoIterator {
         <Self::Item as SlotFuture<SharedWaker>>::Output: Drop,
         requires { IsFiniteIterable Self.into_iter_gives Self.IntoIter.can_next
             Self.IntoIter.remaining self }
-        ensures waits_for { IfOk result (λ join. (items : List Self.Item)
-            × Draws Self.into_iter_gives Self.IntoIter.next_gives self items
-            × IsSomeAnd join (IsNewJoin IsNewShared MarksShared POLL_LIMIT items)) }
-        ensures fits { IfOk result (λ join.
-            IsSomeAnd join (λ places. slot_count places.set.slots ≤ MAX_CAPACITY)) }
+        ensures made { IfOk result (IsMadeOf
+            (Draws Self.into_iter_gives Self.IntoIter.next_gives self)
+            IsNewShared MarksShared POLL_LIMIT MAX_CAPACITY) }
         ensures large { result ≡ Err NewFault.TooLarge
             → DrawsMoreThan Self.into_iter_gives Self.IntoIter.next_gives self MAX_CAPACITY }
     {
-        futures_buffered_joins::join_all::join_all(alloc, self)
+        futures_buffered_joins::join::join_all(alloc, self)
     }
 
     /// A join of these futures, which may fail: ready with all outputs, each at its future's place, or with the first error that comes. It is the function `try_join_all`, and refuses as that does.
@@ -162,15 +160,13 @@ pub trait IterExt: IntoIterator {
         T: Drop,
         requires { IsFiniteIterable Self.into_iter_gives Self.IntoIter.can_next
             Self.IntoIter.remaining self }
-        ensures waits_for { IfOk result (λ join. (items : List Self.Item)
-            × Draws Self.into_iter_gives Self.IntoIter.next_gives self items
-            × IsSomeAnd join (IsNewJoin IsNewShared MarksShared POLL_LIMIT items)) }
-        ensures fits { IfOk result (λ join.
-            IsSomeAnd join (λ places. slot_count places.set.slots ≤ MAX_CAPACITY)) }
+        ensures made { IfOk result (IsMadeOf
+            (Draws Self.into_iter_gives Self.IntoIter.next_gives self)
+            IsNewShared MarksShared POLL_LIMIT MAX_CAPACITY) }
         ensures large { result ≡ Err NewFault.TooLarge
             → DrawsMoreThan Self.into_iter_gives Self.IntoIter.next_gives self MAX_CAPACITY }
     {
-        futures_buffered_joins::try_join_all::try_join_all(alloc, self)
+        futures_buffered_joins::try_join::try_join_all(alloc, self)
     }
 
     /// A merge of these streams without a free slot. It is `MergeBounded::from_iter`, and refuses as that does. A stream that ends leaves its slot to a push.

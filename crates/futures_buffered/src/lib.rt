@@ -40,14 +40,15 @@ pub use futures_buffered_core::{
 pub use futures_buffered_driven::{
     Driven, Foreign, ForeignMerge, ForeignQueue, ForeignSet, ForeignStream, Foreigns,
     GrowingForeignMerge, GrowingForeignQueue, GrowingForeignSet, driven, foreign, foreign_set,
-    foreign_sets, foreign_stream, foreigns, seat,
+    foreign_sets, foreign_stream, foreigns, mailbox,
 };
 pub use futures_buffered_sets::{
     FusedFuture, FusedStream, FuturesOrdered, FuturesOrderedBounded, FuturesUnordered,
     FuturesUnorderedBounded, JoinAll, Merge, MergeBounded, MergeUnbounded, NamesSlot, PollFuture,
     PollOne, PollStream, SizeHint, SlotFuture, SlotStream, SlotWaker, TryJoinAll, fused,
-    futures_ordered, futures_ordered_bounded, futures_unordered, futures_unordered_bounded,
-    join_all, merge_bounded, merge_unbounded, poll_one, slot_future, slot_stream, try_join_all,
+    futures_ordered, futures_ordered_bounded, futures_unordered, futures_unordered_bounded, join,
+    join_all, merge_bounded, merge_unbounded, poll_one, slot_future, slot_stream, try_join,
+    try_join_all,
 };
 pub use futures_buffered_slot_futures::{Either, future, oneshot, stream};
 pub use iter_ext::IterExt;

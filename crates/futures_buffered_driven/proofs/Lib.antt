@@ -1,2 +1,2 @@
-pub mod SeatLemmas
+pub mod MailboxLemmas
 pub mod ForeignsLemmas

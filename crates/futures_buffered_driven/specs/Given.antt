@@ -1,4 +1,4 @@
--- What is known of what comes back through a seat.
+-- What is known of what comes back through a mailbox.
 use Rattle.std.specs.Prelude.{◌≡◌, List, [], Option, Some, None}
 use Rattle.futures.specs.declared.task.Poll.{Poll}
 use Rattle.futures.specs.declared.task.Poll.TheVariants.{Pending}

@@ -1,4 +1,4 @@
 pub mod Given
-pub mod Seat
+pub mod Mailbox
 pub mod Driven
 pub mod Foreigns

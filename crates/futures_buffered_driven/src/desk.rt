@@ -2,7 +2,7 @@
 ghost use Rattle.futures_buffered_table.specs.Answer.{RefusesTooLarge};
 
 use crate::held::Given;
-use crate::seat::Ticket;
+use crate::mailbox::Ticket;
 use futures::Future;
 use futures_buffered_core::ready_core::{NewFault, ReadyCore, Taken};
 use std::alloc::{AllocError, Global};

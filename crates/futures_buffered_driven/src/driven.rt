@@ -4,11 +4,11 @@ ghost use Rattle.std.specs.List.{range_with_len};
 ghost use Rattle.futures_buffered_table.specs.Answer.{RefusesTooLarge};
 ghost use Rattle.futures_buffered_core.specs.ReadyCore.{Marks};
 ghost use Rattle.futures_buffered_driven.specs.Driven.{IsNewDriven, TakesOrCollects};
-ghost use Rattle.futures_buffered_driven.specs.Seat.{seat_at};
+ghost use Rattle.futures_buffered_driven.specs.Mailbox.{mailbox_at};
 
 use crate::desk::{Desk, Finished};
 use crate::driver::Driver;
-use crate::seat::Seat;
+use crate::mailbox::Mailbox;
 use futures::Future;
 use futures::task::{Context, Poll};
 use futures_buffered_core::ready_core::{MAX_CAPACITY, NewFault, ReadyCore, Taken, Woke};
@@ -19,7 +19,7 @@ use std::sync::{Arc, Mutex};
 
 /// A source that has the futures polled for which `Foreign`s stand, and names the slots whose outputs have come.
 ///
-/// A contract sees the capacity and the marked slots, oldest mark first, as of a ready core. A taking that finds no slot marked looks for outputs: it marks the slots of those that came, and takes over what was handed to its seats. It answers `Pause` where it has taken futures over, since they were not polled yet. Taking one over asks for the memory of a push into the kit's set; where that is refused the future waits in its seat for the next taking.
+/// A contract sees the capacity and the marked slots, oldest mark first, as of a ready core. A taking that finds no slot marked looks for outputs: it marks the slots of those that came, and takes over what was handed to its mailboxes. It answers `Pause` where it has taken futures over, since they were not polled yet. Taking one over asks for the memory of a push into the kit's set; where that is refused the future waits in its mailbox for the next taking.
 ///
 /// The futures of a source and of those beside it stand in one `FuturesUnordered` of the kit, which a registration with any of them polls with the task's context, each future that was woken once. It lies under a lock that is only tried: a call that finds another thread there answers as where nothing came, and has the task polled again.
 pub struct Driven<F: Future<Output: Drop>> {
@@ -27,7 +27,7 @@ pub struct Driven<F: Future<Output: Drop>> {
     names: ReadyCore,
     // The slots that were named since futures were taken over last.
     visited: ReadyCore,
-    seats: Vec<Seat<F>>,
+    mailboxes: Vec<Mailbox<F>>,
     source: u64,
     driver: Arc<Mutex<Driver<F>>>,
 }
@@ -41,41 +41,41 @@ impl<F: Future<Output: Drop>> Model for Driven<F> {
 
     ghost use Rattle.std.specs.Prelude.{◌≡◌, vec_len, map};
     ghost use Rattle.std.specs.List.{range_with_len};
-    ghost use Rattle.futures_buffered_driven.specs.Seat.{seat_at};
+    ghost use Rattle.futures_buffered_driven.specs.Mailbox.{mailbox_at};
 
     ghost invariant = { λ s. (s.visited.capacity ≡ s.names.capacity)
-        × (vec_len s.seats ≡ s.names.capacity)
-        × (s.seats.items ≡ map (seat_at s.source) (range_with_len 0 s.names.capacity)) };
+        × (vec_len s.mailboxes ≡ s.names.capacity)
+        × (s.mailboxes.items ≡ map (mailbox_at s.source) (range_with_len 0 s.names.capacity)) };
 }
 
-// A seat for each of `cap` slots.
+// A mailbox for each of `cap` slots.
 #[tactic(auto, using(futures_buffered_core::proofs::RangeLemmas::range_push, std::proofs::lemmas::List::map_push))]
-fn new_seats<F: Future<Output: Drop>>(
+fn new_mailboxes<F: Future<Output: Drop>>(
     alloc: Global,
     source: u64,
     cap: usize,
-) -> Result<Vec<Seat<F>>, AllocError>
-    ensures count { IfOk result (λ seats. vec_len seats ≡ cap) }
-    ensures each { IfOk result (λ seats. seats.items
-        ≡ map (seat_at source) (range_with_len 0 cap)) }
+) -> Result<Vec<Mailbox<F>>, AllocError>
+    ensures count { IfOk result (λ mailboxes. vec_len mailboxes ≡ cap) }
+    ensures each { IfOk result (λ mailboxes. mailboxes.items
+        ≡ map (mailbox_at source) (range_with_len 0 cap)) }
 {
-    let mut seats = Vec::with_capacity(alloc, cap)?;
+    let mut mailboxes = Vec::with_capacity(alloc, cap)?;
     for slot in 0..cap {
-        seats.push(Seat::new(source, slot))?;
+        mailboxes.push(Mailbox::new(source, slot))?;
     }
-    Ok(seats)
+    Ok(mailboxes)
 }
 
-// Leaves the outputs that wait at the desk in their seats, and marks their slots.
+// Leaves the outputs that wait at the desk in their mailboxes, and marks their slots.
 fn collect_at<F: Future<Output: Drop>>(
     desk: &mut Desk<F>,
-    seats: &Vec<Seat<F>>,
+    mailboxes: &Vec<Mailbox<F>>,
     names: &mut ReadyCore,
 )
-    requires { names.old.capacity ≡ vec_len seats.now }
+    requires { names.old.capacity ≡ vec_len mailboxes.now }
     ensures { names.new.capacity ≡ names.old.capacity }
 {
-    for _count in 0..seats.len() {
+    for _count in 0..mailboxes.len() {
         let Some(slot) = desk.next_slot() else {
             return;
         };
@@ -83,62 +83,62 @@ fn collect_at<F: Future<Output: Drop>>(
             continue;
         };
         let Finished { ticket, output } = finished;
-        if slot < seats.len() && seats[slot].leave(ticket, output) {
+        if slot < mailboxes.len() && mailboxes[slot].leave(ticket, output) {
             let _woke = names.mark(slot);
         }
     }
 }
 
-// Leaves the outputs that wait for this source in their seats, and marks their slots.
+// Leaves the outputs that wait for this source in their mailboxes, and marks their slots.
 fn collect<F: Future<Output: Drop>>(
     driver: &mut Driver<F>,
     source: u64,
-    seats: &Vec<Seat<F>>,
+    mailboxes: &Vec<Mailbox<F>>,
     names: &mut ReadyCore,
 )
-    requires { names.old.capacity ≡ vec_len seats.now }
+    requires { names.old.capacity ≡ vec_len mailboxes.now }
     ensures { names.new.capacity ≡ names.old.capacity }
 {
     if let Some(desk) = driver.desk(source) {
-        collect_at(desk, seats, names);
+        collect_at(desk, mailboxes, names);
     }
 }
 
-// Has what was handed to this seat taken over. Whether there was anything.
+// Has what was handed to this mailbox taken over. Whether there was anything.
 fn take_over<F: Future<Output: Drop>>(
     driver: &mut Driver<F>,
-    seat: &Seat<F>,
+    mailbox: &Mailbox<F>,
     visited: &mut ReadyCore,
     slot: usize,
 ) -> bool
     requires { slot < visited.old.capacity }
     ensures { visited.new.capacity ≡ visited.old.capacity }
 {
-    let Some(future) = seat.take_handed() else {
+    let Some(future) = mailbox.take_handed() else {
         return false;
     };
-    if let Err(back) = driver.start(seat.ticket(), future) {
-        seat.put_back(back);
+    if let Err(back) = driver.start(mailbox.ticket(), future) {
+        mailbox.put_back(back);
         let _woke = visited.mark(slot);
     }
     true
 }
 
-// Has what was handed to the seats of the slots that were named taken over. Whether there was anything.
+// Has what was handed to the mailboxes of the slots that were named taken over. Whether there was anything.
 fn take_all_over<F: Future<Output: Drop>>(
     driver: &mut Driver<F>,
-    seats: &Vec<Seat<F>>,
+    mailboxes: &Vec<Mailbox<F>>,
     visited: &mut ReadyCore,
 ) -> bool
-    requires { visited.old.capacity ≡ vec_len seats.now }
+    requires { visited.old.capacity ≡ vec_len mailboxes.now }
     ensures { visited.new.capacity ≡ visited.old.capacity }
 {
     let mut any = false;
-    for _count in 0..seats.len() {
+    for _count in 0..mailboxes.len() {
         let Taken::Slot(slot) = visited.take() else {
             return any;
         };
-        if take_over(driver, &seats[slot], visited, slot) {
+        if take_over(driver, &mailboxes[slot], visited, slot) {
             any = true;
         }
     }
@@ -150,50 +150,73 @@ fn new_driver<F: Future<Output: Drop>>(alloc: Global) -> Result<Arc<Mutex<Driver
     Ok(Arc::new(alloc, Mutex::new(driver))?)
 }
 
-// A desk of this driver for one source more, where no other thread is at it.
-fn add_source<F: Future<Output: Drop>>(
-    driver: &Mutex<Driver<F>>,
-    alloc: Global,
-    cap: usize,
-) -> Result<u64, NewFault>
-    requires { cap ≤ MAX_CAPACITY }
-    ensures { RefusesTooLarge cap result }
-{
+// A number of this driver for one source more, where no other thread is at it.
+fn number_source<F: Future<Output: Drop>>(driver: &Mutex<Driver<F>>) -> Result<u64, AllocError> {
     match driver.try_lock() {
-        Some(mut driver) => driver.add_source(alloc, cap),
-        None => Err(NewFault::Memory),
+        Some(mut driver) => Ok(driver.number_source()),
+        None => Err(AllocError),
+    }
+}
+
+// Gives the driver the desk of a source, where no other thread is at it.
+fn add_desk<F: Future<Output: Drop>>(
+    driver: &Mutex<Driver<F>>,
+    desk: Desk<F>,
+) -> Result<(), AllocError> {
+    match driver.try_lock() {
+        Some(mut driver) => driver.add_desk(desk),
+        None => Err(AllocError),
     }
 }
 
 impl<F: Future<Output: Drop>> Driven<F> {
-    // A source of `cap` slots beside those of this driver.
-    fn over(driver: &Arc<Mutex<Driver<F>>>, alloc: Global, cap: usize) -> Result<Self, NewFault>
+    // A source of this number, for which the driver has no desk yet.
+    fn numbered(
+        driver: &Arc<Mutex<Driver<F>>>,
+        alloc: Global,
+        source: u64,
+        cap: usize,
+    ) -> Result<Self, NewFault>
         ensures made { IfOk result (IsNewDriven cap) }
         ensures refuses { RefusesTooLarge cap result }
     {
         let names = ReadyCore::new(alloc, cap)?;
         let visited = ReadyCore::new(alloc, cap)?;
         let driver = Arc::try_clone(driver)?;
-        let source = add_source(&driver, alloc, cap)?;
-        let seats = new_seats(alloc, source, cap)?;
+        let mailboxes = new_mailboxes(alloc, source, cap)?;
         Ok(Driven {
             names,
             visited,
-            seats,
+            mailboxes,
             source,
             driver,
         })
     }
 
-    // Asks the driver for what came, and hands it what the seats have. Whether the task is to poll again.
+    // A source of `cap` slots beside those of this driver. Its desk comes last, so that a refusal leaves nothing with the driver.
+    fn over(driver: &Arc<Mutex<Driver<F>>>, alloc: Global, cap: usize) -> Result<Self, NewFault>
+        ensures made { IfOk result (IsNewDriven cap) }
+        ensures refuses { RefusesTooLarge cap result }
+    {
+        if cap > MAX_CAPACITY {
+            return Err(NewFault::TooLarge);
+        }
+        let source = number_source(driver)?;
+        let made = Self::numbered(driver, alloc, source, cap)?;
+        let desk = Desk::new(alloc, source, cap)?;
+        add_desk(driver, desk)?;
+        Ok(made)
+    }
+
+    // Asks the driver for what came, and hands it what the mailboxes have. Whether the task is to poll again.
     fn settle(&mut self) -> bool
         ensures { self.new.capacity ≡ self.old.capacity }
     {
         let Some(mut driver) = self.driver.try_lock() else {
             return true;
         };
-        collect(&mut driver, self.source, &self.seats, &mut self.names);
-        take_all_over(&mut driver, &self.seats, &mut self.visited)
+        collect(&mut driver, self.source, &self.mailboxes, &mut self.names);
+        take_all_over(&mut driver, &self.mailboxes, &mut self.visited)
     }
 
     // A taking from the names, where those that are named are visited.
@@ -219,7 +242,7 @@ impl<F: Future<Output: Drop>> Drop for Driven<F> {
         let Self {
             names: _names,
             visited: _visited,
-            seats: _seats,
+            mailboxes: _mailboxes,
             source,
             driver,
         } = self;
@@ -235,7 +258,7 @@ impl<F: Future<Output: Drop>> ReadySource for Driven<F> {
     ghost use Rattle.std.specs.Prelude.{◌≡◌};
     ghost use Rattle.futures.specs.Task.{Keeps};
 
-    type Waker = Seat<F>;
+    type Waker = Mailbox<F>;
 
     ghost slots = { λ s. s.capacity };
 
@@ -260,7 +283,7 @@ impl<F: Future<Output: Drop>> ReadySource for Driven<F> {
     ghost register_needs = { λ old new h n k. k };
 
     fn capacity(&self) -> usize {
-        self.seats.len()
+        self.mailboxes.len()
     }
 
     fn mark(&mut self, i: usize) -> Woke {
@@ -279,8 +302,8 @@ impl<F: Future<Output: Drop>> ReadySource for Driven<F> {
         }
     }
 
-    fn waker(&self, i: usize) -> &Seat<F> {
-        &self.seats[i]
+    fn waker(&self, i: usize) -> &Mailbox<F> {
+        &self.mailboxes[i]
     }
 
     /// Polls the futures of this source and of those beside it that were woken. Where another thread polls them, the task yields.

@@ -1,15 +1,13 @@
 //! What polls the futures of sources beside one another.
 ghost use Rattle.std.specs.Prelude.{◌<◌, IfSome, vec_len};
 ghost use Rattle.futures.specs.Task.{Covers, Keeps};
-ghost use Rattle.futures_buffered_table.specs.Answer.{RefusesTooLarge};
 
 use crate::desk::{Desk, Finished};
 use crate::held::Held;
+use crate::mailbox::Ticket;
 use crate::running::Running;
-use crate::seat::Ticket;
 use futures::Future;
 use futures::task::Context;
-use futures_buffered_core::ready_core::NewFault;
 use std::alloc::{AllocError, Global};
 
 /// The futures of all sources beside one another, and a desk of each source for what they gave. So one registration polls the futures of all.
@@ -17,7 +15,7 @@ use std::alloc::{AllocError, Global};
 pub(crate) struct Driver<F: Future<Output: Drop>> {
     running: Running<F>,
     desks: Vec<Desk<F>>,
-    // How many sources there were. No two have one number.
+    // How many numbers were given. No two sources have one number.
     sources: u64,
 }
 
@@ -31,17 +29,17 @@ impl<F: Future<Output: Drop>> Driver<F> {
         })
     }
 
-    /// A desk for one source more. Its number.
-    pub(crate) fn add_source(&mut self, alloc: Global, cap: usize) -> Result<u64, NewFault>
-        ensures { RefusesTooLarge cap result }
-    {
+    /// A number for one source more.
+    pub(crate) fn number_source(&mut self) -> u64 {
         let source = self.sources;
-        let desk = Desk::new(alloc, source, cap)?;
-        if self.desks.push(desk).is_err() {
-            return Err(NewFault::Memory);
-        }
         self.sources = source.wrapping_add(1);
-        Ok(source)
+        source
+    }
+
+    /// Adds the desk of a source. Where there is no room the desk is dropped here.
+    pub(crate) fn add_desk(&mut self, desk: Desk<F>) -> Result<(), AllocError> {
+        self.desks.push(desk)?;
+        Ok(())
     }
 
     fn place_of(&self, source: u64) -> Option<usize>

@@ -2,7 +2,7 @@
 ghost use Rattle.std.specs.Prelude.{◌≡◌, Some};
 
 use crate::held::Held;
-use crate::seat::{Seat, Ticket};
+use crate::mailbox::{Mailbox, Ticket};
 use futures::Future;
 use futures::task::Poll;
 use futures_buffered_unordered_bounded::slot_future::SlotFuture;
@@ -40,19 +40,19 @@ impl<F: Future<Output: Drop>> Foreign<F> {
     }
 }
 
-impl<F: Future<Output: Drop>> SlotFuture<Seat<F>> for Foreign<F> {
+impl<F: Future<Output: Drop>> SlotFuture<Mailbox<F>> for Foreign<F> {
     ghost use Rattle.futures_buffered_driven.specs.Given.{HandsOverOrGives};
 
     type Output = F::Output;
 
     ghost polled = { λ _. HandsOverOrGives F.gives };
 
-    fn poll(&mut self, seat: &Seat<F>) -> Poll<F::Output> {
+    fn poll(&mut self, mailbox: &Mailbox<F>) -> Poll<F::Output> {
         if let Some(future) = self.future.take() {
-            self.ticket = seat.hand_over(future);
+            self.ticket = mailbox.hand_over(future);
             return Poll::Pending;
         }
-        match seat.take_left(self.ticket) {
+        match mailbox.take_left(self.ticket) {
             Some(output) => Poll::Ready(output.into_inner()),
             None => Poll::Pending,
         }

@@ -4,7 +4,7 @@ ghost use Rattle.futures.specs.declared.stream.ext.into_future.StreamFuture.{Str
 
 use crate::driven::Driven;
 use crate::foreign::Foreign;
-use crate::seat::Seat;
+use crate::mailbox::Mailbox;
 use futures::stream::StreamFuture;
 use futures::task::Poll;
 use futures::{Stream, StreamExt};
@@ -32,10 +32,13 @@ impl<St: Stream<Item: Drop>> Model for ForeignStream<St> {
 }
 
 /// A merge of streams of the kit.
-pub type ForeignMerge<St> = MergeBounded<ForeignStream<St>, Driven<StreamFuture<St>>>;
+pub type ForeignMerge<St, T = ForeignStream<St>> = MergeBounded<T, Driven<StreamFuture<St>>>;
 
 /// A growing merge of streams of the kit.
-pub type GrowingForeignMerge<St> = MergeUnbounded<ForeignStream<St>, Driven<StreamFuture<St>>>;
+pub type GrowingForeignMerge<St, T = ForeignStream<St>> = MergeUnbounded<
+    T,
+    Driven<StreamFuture<St>>,
+>;
 
 impl<St: Stream<Item: Drop>> ForeignStream<St> {
     /// Takes no memory, and polls nothing.
@@ -49,15 +52,15 @@ impl<St: Stream<Item: Drop>> ForeignStream<St> {
     }
 }
 
-impl<St: Stream<Item: Drop>> SlotStream<Seat<StreamFuture<St>>> for ForeignStream<St> {
+impl<St: Stream<Item: Drop>> SlotStream<Mailbox<StreamFuture<St>>> for ForeignStream<St> {
     ghost use Rattle.futures_buffered_driven.specs.Given.{HandsOverOrYields};
 
     type Item = St::Item;
 
     ghost polled = { λ _. HandsOverOrYields St.yields };
 
-    fn poll_next(&mut self, seat: &Seat<StreamFuture<St>>) -> Poll<Option<St::Item>> {
-        let Poll::Ready((item, rest)) = self.next.poll(seat) else {
+    fn poll_next(&mut self, mailbox: &Mailbox<StreamFuture<St>>) -> Poll<Option<St::Item>> {
+        let Poll::Ready((item, rest)) = self.next.poll(mailbox) else {
             return Poll::Pending;
         };
         if item.is_some() {

@@ -5,7 +5,7 @@
 //! In the order in which to read them:
 //!
 //! - `held`: `Held`, a future that may be polled, and `Given`, an output with the fact that a future may give it.
-//! - `seat`: `Seat`, by which a slot hands its future over and gets the output back, and `Ticket`, which says whose output it is.
+//! - `mailbox`: `Mailbox`, by which a slot hands its future over and gets the output back, and `Ticket`, which says whose output it is.
 //! - `foreign`: `Foreign`, what a set holds in place of a future.
 //! - `foreigns`: `Foreigns`, the stand-ins of a stream's futures, as a stream.
 //! - `foreign_stream`: `ForeignStream`, what a merge holds in place of a stream.
@@ -13,7 +13,7 @@
 //! - `running`: the futures that were handed over, in a set of the kit.
 //! - `driver`: what polls the futures of all sources beside one another.
 //! - `driven`: `Driven`, a source that names the slots whose outputs have come.
-//! - `foreign_sets`: sets and queues over it, by short names.
+//! - `foreign_sets`: sets, queues and joins over it, by short names.
 #![tactic(auto)]
 
 mod desk;
@@ -24,13 +24,15 @@ pub mod foreign_sets;
 pub mod foreign_stream;
 pub mod foreigns;
 mod held;
+pub mod mailbox;
 mod running;
-pub mod seat;
 
 pub use driven::Driven;
 pub use foreign::Foreign;
 pub use foreign_sets::{
-    ForeignQueue, ForeignSet, GrowingForeignQueue, GrowingForeignSet, foreign_set,
+    ForeignJoin, ForeignQueue, ForeignSet, ForeignTryJoin, GrowingForeignQueue, GrowingForeignSet,
+    foreign_join_all, foreign_queue, foreign_set, foreign_try_join_all, growing_foreign_queue,
+    growing_foreign_set,
 };
 pub use foreign_stream::{ForeignMerge, ForeignStream, GrowingForeignMerge};
 pub use foreigns::Foreigns;

@@ -5,7 +5,7 @@ ghost use Rattle.futures.specs.Queued.{AllPollable, set_places, set_len};
 
 use crate::desk::Finished;
 use crate::held::{Given, Held};
-use crate::seat::Ticket;
+use crate::mailbox::Ticket;
 use futures::stream::FuturesUnordered;
 use futures::task::{Context, Poll, Source, Waker};
 use futures::{Future, Stream};

@@ -1,6 +1,6 @@
 //! Sets of futures that are polled by name: a poll asks a source which slots were woken, and polls what these hold.
 //!
-//! Everything here is found under its own module, and the types by their names alone as well.
+//! Everything here is found under its own module, and the types and the functions that make joins by their names alone as well.
 //!
 //! In the order in which to read them:
 //!
@@ -11,16 +11,16 @@
 //! - `futures_unordered`: `FuturesUnordered`, any number of futures, in groups of slots.
 //! - `futures_ordered_bounded`: `FuturesOrderedBounded`, as many futures in progress as it has slots, yielded in the order of a list.
 //! - `futures_ordered`: `FuturesOrdered`, the same for any number of futures.
-//! - `join_all`: `JoinAll`, all of some futures, whose outputs come together.
-//! - `try_join_all`: `TryJoinAll`, the same where futures may fail.
+//! - `join`: `join_all` and `JoinAll`, all of some futures, whose outputs come together.
+//! - `try_join`: `try_join_all` and `TryJoinAll`, the same where futures may fail.
 //! - `slot_stream`: `SlotStream`, what a merge holds: a stream that is polled with the waker of its slot.
 //! - `merge_bounded`: `MergeBounded`, also by the name `Merge`: as many streams as it has slots, polled as one.
 //! - `merge_unbounded`: `MergeUnbounded`, any number of streams, in groups of slots.
 #![tactic(auto)]
 
-pub use futures_buffered_joins::join_all::JoinAll;
-pub use futures_buffered_joins::try_join_all::TryJoinAll;
-pub use futures_buffered_joins::{join_all, try_join_all};
+pub use futures_buffered_joins::join::{JoinAll, join_all};
+pub use futures_buffered_joins::try_join::{TryJoinAll, try_join_all};
+pub use futures_buffered_joins::{join, try_join};
 pub use futures_buffered_merges::merge_bounded::{Merge, MergeBounded};
 pub use futures_buffered_merges::merge_unbounded::MergeUnbounded;
 pub use futures_buffered_merges::slot_stream::{PollStream, SlotStream};

@@ -3,3 +3,4 @@ pub mod PollFn
 pub mod Map
 pub mod Either
 pub mod Iter
+pub mod Then

@@ -1,9 +1,11 @@
 //! The futures of this crate, and the functions that make them. None takes memory.
 ghost use Rattle.std.specs.Prelude.{◌≡◌, Some};
+ghost use Rattle.futures_buffered_slot_futures.specs.declared.then.Then.TheVariants.{First};
 
 pub use crate::map::Map;
 pub use crate::poll_fn::PollFn;
 pub use crate::ready::Ready;
+pub use crate::then::Then;
 
 /// A future that gives this value.
 pub fn ready<T>(value: T) -> Ready<T>
@@ -26,4 +28,11 @@ pub fn map<F, C>(future: F, change: C) -> Map<F, C>
     Map {
         inner: Some((future, change)),
     }
+}
+
+/// A future that goes on as the one that `change` makes of the output of `future`.
+pub fn then<F, B, C>(future: F, change: C) -> Then<F, B, C>
+    ensures { result ≡ First future change }
+{
+    Then::First(future, change)
 }

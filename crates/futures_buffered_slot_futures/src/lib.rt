@@ -5,6 +5,7 @@
 //! - `ready`: `Ready`, which gives a value at its first poll.
 //! - `poll_fn`: `PollFn`, which asks a closure at each poll.
 //! - `map`: `Map`, a future whose output goes through a closure.
+//! - `then`: `Then`, a future and the one that a closure makes of its output.
 //! - `either`: `Either`, one of two futures, or of two streams.
 //! - `iter`: `Iter`, the items of an iterator as a stream.
 //! - `future` and `stream`: the functions that make these.
@@ -19,5 +20,6 @@ pub mod oneshot;
 pub mod poll_fn;
 pub mod ready;
 pub mod stream;
+pub mod then;
 
 pub use either::Either;

@@ -1,6 +1,6 @@
 use Rattle.std.proofs.Common.{ap, arith}
 use Rattle.futures_buffered_core.specs.ReadyCore.{Standing}
-use Rattle.futures_buffered_driven.proofs.SeatLemmas.{slot_at_place}
+use Rattle.futures_buffered_driven.proofs.MailboxLemmas.{slot_at_place}
 use Rattle.futures_buffered_driven.proofs.driven.DrivenReadySource.waker.Goals as goal
 
 pub returns : goal.returns

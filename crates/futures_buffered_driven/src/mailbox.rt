@@ -1,6 +1,6 @@
 //! By what a slot's future is handed over, and its output comes back.
 ghost use Rattle.std.specs.Prelude.{◌≡◌};
-ghost use Rattle.futures_buffered_driven.specs.Seat.{seat_at};
+ghost use Rattle.futures_buffered_driven.specs.Mailbox.{mailbox_at};
 
 use crate::held::{Given, Held};
 use futures::Future;
@@ -17,7 +17,7 @@ pub(crate) struct Ticket {
 }
 
 impl Ticket {
-    /// Of no handing over: a seat's first turn is 1.
+    /// Of no handing over: a mailbox's first turn is 1.
     pub(crate) const fn none() -> Ticket {
         Ticket {
             source: 0,
@@ -31,7 +31,7 @@ impl Ticket {
 ///
 /// An output is left under the ticket of its future, so that what a slot held before gives nothing to what it holds now. A contract sees the numbers of the source and of the slot.
 #[derive(Drop)]
-pub struct Seat<F: Future<Output: Drop>> {
+pub struct Mailbox<F: Future<Output: Drop>> {
     source: u64,
     slot: usize,
     turn: Cell<u64>,
@@ -39,26 +39,26 @@ pub struct Seat<F: Future<Output: Drop>> {
     left: Cell<Option<Given<F>>>,
 }
 
-impl<F: Future<Output: Drop>> Model for Seat<F> {
-    ghost use Rattle.futures_buffered_driven.specs.Seat.{SeatName, seat_at};
+impl<F: Future<Output: Drop>> Model for Mailbox<F> {
+    ghost use Rattle.futures_buffered_driven.specs.Mailbox.{MailboxName, mailbox_at};
 
-    ghost Value = { SeatName };
+    ghost Value = { MailboxName };
 
-    ghost view = { λ seat. seat_at seat.source seat.slot };
+    ghost view = { λ mailbox. mailbox_at mailbox.source mailbox.slot };
 }
 
-/// The source names the slot by itself when an output has come, so nothing wakes by a seat.
-impl<F: Future<Output: Drop>> NamesSlot for Seat<F> {
+/// The source names the slot by itself when an output has come, so nothing wakes by a mailbox.
+impl<F: Future<Output: Drop>> NamesSlot for Mailbox<F> {
     ghost use Rattle.std.specs.Prelude.{◌≡◌};
 
-    ghost wakes = { λ seat i. seat.slot ≡ i };
+    ghost wakes = { λ mailbox i. mailbox.slot ≡ i };
 }
 
-impl<F: Future<Output: Drop>> Seat<F> {
-    pub(crate) fn new(source: u64, slot: usize) -> Seat<F>
-        ensures { result ≡ seat_at source slot }
+impl<F: Future<Output: Drop>> Mailbox<F> {
+    pub(crate) fn new(source: u64, slot: usize) -> Mailbox<F>
+        ensures { result ≡ mailbox_at source slot }
     {
-        Seat {
+        Mailbox {
             source,
             slot,
             turn: Cell::new(0),
