@@ -46,6 +46,12 @@ pub enum Kind {
     TryBufferedUnordered,
     TryBufferedOrdered,
     ForEach,
+    ForeignSet,
+    ForeignQueue,
+    ForeignJoin,
+    ForeignTryJoin,
+    ForeignMerge,
+    ForeignBufferedOrdered,
 }
 
 /// Where a future is added: sets and merges have no ends.
@@ -83,6 +89,12 @@ fn kind_of(word: &str) -> Option<Kind> {
         "try_buffered_unordered" => Kind::TryBufferedUnordered,
         "try_buffered_ordered" => Kind::TryBufferedOrdered,
         "for_each" => Kind::ForEach,
+        "foreign_set" => Kind::ForeignSet,
+        "foreign_queue" => Kind::ForeignQueue,
+        "foreign_join" => Kind::ForeignJoin,
+        "foreign_try_join" => Kind::ForeignTryJoin,
+        "foreign_merge" => Kind::ForeignMerge,
+        "foreign_buffered_ordered" => Kind::ForeignBufferedOrdered,
         _ => return None,
     })
 }

@@ -10,9 +10,7 @@ use futures::Future;
 use futures::task::Context;
 use futures_buffered_core::ready_core::NewFault;
 use futures_buffered_core::ready_shared::SharedReady;
-use futures_buffered_sets::join_all::join_all;
-use futures_buffered_sets::try_join_all::try_join_all;
-use futures_buffered_sets::{FusedFuture, JoinAll, TryJoinAll};
+use futures_buffered_sets::{FusedFuture, JoinAll, TryJoinAll, join_all, try_join_all};
 
 impl Subject for JoinAll<NumberFuture, SharedReady> {
     fn poll(&mut self, cx: &mut Context<'_>, outputs: &mut Vec<u64>) -> Answer {

@@ -3,6 +3,7 @@ use crate::adaptors::{
     run_buffer, run_for_each, run_ordered_buffer, run_try_buffer, run_try_ordered_buffer,
 };
 use crate::command::Kind;
+use crate::foreigns;
 use crate::joins::{run_join, run_try_join};
 use crate::merges::{run_bounded_merge, run_growing_merge};
 use crate::queues::{run_growing_queue, run_growing_queue_of, run_queue, run_queue_of};
@@ -35,5 +36,11 @@ pub fn run_kind(
         Kind::TryBufferedUnordered => run_try_buffer(session, numbers, lines),
         Kind::TryBufferedOrdered => run_try_ordered_buffer(session, numbers, lines),
         Kind::ForEach => run_for_each(session, numbers, lines),
+        Kind::ForeignSet => foreigns::run_set(session, numbers, lines),
+        Kind::ForeignQueue => foreigns::run_queue(session, numbers, lines),
+        Kind::ForeignJoin => foreigns::run_join(session, numbers, lines),
+        Kind::ForeignTryJoin => foreigns::run_try_join(session, numbers, lines),
+        Kind::ForeignMerge => foreigns::run_merge(session, numbers, lines),
+        Kind::ForeignBufferedOrdered => foreigns::run_buffer(session, numbers, lines),
     }
 }

@@ -28,7 +28,7 @@ pub struct Turn {
 
 /// The script of one value. Its polls and its drop are seen.
 pub struct Script {
-    id: usize,
+    pub id: usize,
     pub role: Role,
     steps: Option<Rc<Vec<Step>>>,
     // The place of the next step.

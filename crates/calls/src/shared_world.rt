@@ -3,7 +3,7 @@ use crate::effects::{Event, append_events};
 use crate::memory;
 use crate::step::Step;
 use crate::text::Text;
-use crate::world::{SOURCE, World};
+use crate::world::World;
 use futures_buffered_core::ready_shared::SharedWaker;
 use futures_buffered_slot_futures::oneshot::{Receiver, Sender};
 use std::alloc::{AllocError, Global};
@@ -137,8 +137,7 @@ impl SharedWorld {
     /// Wakes the waker that the value kept last. Whether there is one.
     pub fn wake(&self, id: usize) -> bool {
         match self.world.try_borrow_mut() {
-            Ok(mut world) if id == SOURCE => world.wake_source(),
-            Ok(world) => world.wake(id),
+            Ok(mut world) => world.wake(id),
             Err(_) => false,
         }
     }

@@ -5,10 +5,11 @@ ghost use Rattle.futures.specs.Poll.{OnPending};
 use crate::script::{Role, Script};
 use crate::shared_world::SharedWorld;
 use crate::step::Action;
+use crate::task_script::TaskScript;
 use crate::values::{Scripted, TryFuture};
 use crate::world::SOURCE;
 use futures::Stream;
-use futures::task::{Context, Poll, Source};
+use futures::task::{Context, Poll};
 use futures_buffered_sets::SizeHint;
 use std::alloc::AllocError;
 use std::marker::PhantomData;
@@ -29,8 +30,7 @@ enum Drawn {
 
 #[derive(Drop)]
 struct ScriptedSource {
-    script: Script,
-    source: Source,
+    script: TaskScript,
     is_hint_fixed: bool,
     least: usize,
     most: Option<usize>,
@@ -47,8 +47,7 @@ impl ScriptedSource {
             None => (left, Some(left)),
         };
         Ok(ScriptedSource {
-            script,
-            source: Source::new(),
+            script: TaskScript::new(script),
             is_hint_fixed: fixed.is_some(),
             least,
             most,
@@ -56,11 +55,8 @@ impl ScriptedSource {
     }
 
     // One item or error fewer is left.
-    fn set_hint(&mut self, action: Action) {
-        if self.is_hint_fixed {
-            return;
-        }
-        if let Action::Value(_) | Action::Error(_) = action {
+    fn set_hint(&mut self) {
+        if !self.is_hint_fixed {
             self.least = self.least.saturating_sub(1);
             self.most = Some(self.least);
         }
@@ -70,32 +66,19 @@ impl ScriptedSource {
         ensures armed { OnPending result (IsArmed cx.new) }
         ensures kept { Keeps cx.old cx.new }
     {
-        let turn = self.script.begin_poll();
-        self.set_hint(turn.action);
-        let Ok(mut guard) = self.script.world.world.try_borrow_mut() else {
-            return cx.yield_now();
+        let drawn = match self.script.poll(cx) {
+            Poll::Pending => return Poll::Pending,
+            Poll::Ready(Action::Value(id)) => Drawn::Value(id as usize),
+            Poll::Ready(Action::Error(error)) => Drawn::Error(error),
+            Poll::Ready(_) => return Poll::Ready(Drawn::End),
         };
-        let world = &mut *guard;
-        if turn.keeps {
-            world.source_has_kept = true;
-            let _: Poll<()> = cx.register(&self.source, &mut world.source_waker);
-        }
-        if turn.wakes {
-            let _ = world.wake_source();
-        }
-        match turn.action {
-            Action::Pending => cx.register(&self.source, &mut world.source_waker),
-            Action::Value(id) => Poll::Ready(Drawn::Value(id as usize)),
-            Action::Error(error) => Poll::Ready(Drawn::Error(error)),
-            Action::Slot | Action::Output(_) | Action::Receive | Action::End => {
-                Poll::Ready(Drawn::End)
-            }
-        }
+        self.set_hint();
+        Poll::Ready(drawn)
     }
 
     // The script of the value with this number.
     fn draw(&self, id: usize) -> Option<Script> {
-        let world = &self.script.world;
+        let world = &self.script.script.world;
         match Script::new(world, id) {
             Ok(script) => Some(script),
             Err(_) => {
@@ -136,10 +119,7 @@ impl<T: Scripted> Stream for FutureSource<T> {
                 Some(script) => Poll::Ready(Some(T::new(script))),
                 None => cx.yield_now(),
             },
-            Poll::Ready(Drawn::Error(_)) => {
-                self.source.script.world.misuse();
-                cx.yield_now()
-            }
+            Poll::Ready(Drawn::Error(_)) => { self.source.script.misuse(cx) }
         }
     }
 }

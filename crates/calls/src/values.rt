@@ -56,14 +56,15 @@ impl Drop for Output {
 }
 
 impl Output {
-    fn new(number: u64) -> Output {
+    pub fn new(number: u64) -> Output {
         Output {
             number,
             world: None,
         }
     }
 
-    fn watched(number: u64, world: &SharedWorld) -> Output {
+    /// One whose drop is seen.
+    pub fn watched(number: u64, world: &SharedWorld) -> Output {
         Output {
             number,
             world: world.share().ok(),

@@ -13,6 +13,12 @@ use std::rc::Rc;
 /// The number of the source, whose place in the tables is the first.
 pub const SOURCE: usize = 0;
 
+/// The place of a task's waker, which is used up when it is woken.
+#[derive(Drop)]
+pub struct TaskWaker {
+    pub waker: Option<Waker>,
+}
+
 /// What values and session share.
 #[derive(Drop)]
 pub struct World {
@@ -20,8 +26,8 @@ pub struct World {
     steps: Vec<Option<Rc<Vec<Step>>>>,
     wakers: Vec<Option<SharedWaker>>,
     senders: Vec<Option<Sender<u64>>>,
-    pub source_waker: Option<Waker>,
-    pub source_has_kept: bool,
+    // Of the source and of what is polled with a task's context.
+    task_wakers: Vec<Option<TaskWaker>>,
     pub events: Vec<Event>,
     dropped: Vec<u64>,
     dropped_outputs: Vec<u64>,
@@ -53,8 +59,7 @@ impl World {
             steps: Vec::new(alloc),
             wakers: Vec::new(alloc),
             senders: Vec::new(alloc),
-            source_waker: None,
-            source_has_kept: false,
+            task_wakers: Vec::new(alloc),
             events: Vec::new(alloc),
             dropped: Vec::new(alloc),
             dropped_outputs: Vec::new(alloc),
@@ -145,29 +150,44 @@ impl World {
         self.need(had_memory);
     }
 
+    /// Where this value keeps the waker of the task that polls it. `None` where memory lacks.
+    pub fn task_waker(&mut self, id: usize) -> Option<&mut TaskWaker> {
+        if !matches!(self.task_wakers.get(id), Some(Some(_)))
+            && !put(&mut self.task_wakers, id, TaskWaker { waker: None })
+        {
+            self.is_out_of_memory = true;
+        }
+        self.task_wakers.get_mut(id)?.as_mut()
+    }
+
     pub fn forget(&mut self, id: usize) {
         if let Some(place) = self.wakers.get_mut(id) {
             *place = None;
         }
     }
 
-    /// Wakes the waker that this value kept last. Whether there is one.
-    pub fn wake(&self, id: usize) -> bool {
-        match self.wakers.get(id) {
-            Some(Some(waker)) => {
-                waker.wake();
+    // Wakes the task's waker that this value kept last. Whether it ever kept one.
+    fn wake_task(&mut self, id: usize) -> bool {
+        match self.task_wakers.get_mut(id) {
+            Some(Some(place)) => {
+                if let Some(waker) = place.waker.take() {
+                    waker.wake();
+                }
                 true
             }
             _ => false,
         }
     }
 
-    /// The same of the source, whose waker is used up.
-    pub fn wake_source(&mut self) -> bool {
-        if let Some(waker) = self.source_waker.take() {
-            waker.wake();
+    /// Wakes the waker that this value kept last. Whether there is one.
+    pub fn wake(&mut self, id: usize) -> bool {
+        match self.wakers.get(id) {
+            Some(Some(waker)) => {
+                waker.wake();
+                true
+            }
+            _ => self.wake_task(id),
         }
-        self.source_has_kept
     }
 
     /// Forgets what was done up to here.
