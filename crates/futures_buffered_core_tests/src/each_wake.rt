@@ -1,5 +1,6 @@
 // Two threads make a wake each in one round after another, and the next round begins once both slots are named. So no later wake stands in for one that was lost: whoever takes is woken, or the test fails.
 use crate::same::assert_same;
+use crate::slots::waker_of;
 use futures_buffered_core::ready_core::Taken;
 use futures_buffered_core::ready_shared::{OuterWaker, SharedReady, SharedWaker};
 use futures_buffered_core::ready_source::SlotWaker;
@@ -117,21 +118,7 @@ fn wake_often(shared: &Shared, slot: usize, waker: &SharedWaker<Says>) {
     }
 }
 
-fn waker_of(source: &SharedReady<Says>, slot: usize) -> Result<SharedWaker<Says>, Fail> {
-    if slot < source.capacity() {
-        Ok(source.waker(slot).try_clone()?)
-    } else {
-        Err("no such slot".into())
-    }
-}
-
-// A thread that finds no room is let go here, so that a caller's `?` has none to drop.
-fn keep(started: &mut Vec<JoinHandle<()>>, thread: JoinHandle<()>) -> Result<(), AllocError> {
-    started.push(thread)?;
-    Ok(())
-}
-
-fn start_one<R: Threads>(
+fn start<R: Threads>(
     rt: &R,
     source: &SharedReady<Says>,
     shared: &Arc<Shared>,
@@ -140,33 +127,6 @@ fn start_one<R: Threads>(
     let waker = waker_of(source, slot)?;
     let shared = Arc::try_clone(shared)?;
     Ok(thread::spawn(rt, move || { wake_often(&shared, slot, &waker) })?)
-}
-
-fn start_next<R: Threads>(
-    rt: &R,
-    source: &SharedReady<Says>,
-    shared: &Arc<Shared>,
-    slot: usize,
-    started: &mut Vec<JoinHandle<()>>,
-) -> Result<(), Fail> {
-    let thread = start_one(rt, source, shared, slot)?;
-    Ok(keep(started, thread)?)
-}
-
-fn start_both<R: Threads>(
-    rt: &R,
-    source: &SharedReady<Says>,
-    shared: &Arc<Shared>,
-    started: &mut Vec<JoinHandle<()>>,
-) -> Result<(), Fail> {
-    start_next(rt, source, shared, 0, started)?;
-    start_next(rt, source, shared, 1, started)
-}
-
-fn join_all<R: Threads>(rt: &R, started: Vec<JoinHandle<()>>) {
-    for thread in started {
-        thread.join(rt);
-    }
 }
 
 // Takes until no slot is marked.
@@ -249,35 +209,34 @@ fn answer_all<C: Clock>(
     Ok(true)
 }
 
-fn start_and_answer<R: Threads + Clock>(
-    rt: &R,
+fn answer_in_time<C: Clock>(
+    clock: &C,
     source: &mut SharedReady<Says>,
     shared: &Arc<Shared>,
-    started: &mut Vec<JoinHandle<()>>,
 ) -> Result<bool, Fail> {
-    start_both(rt, source, shared, started)?;
-    let start = Instant::now(rt)?;
-    Ok(answer_all(rt, &start, source, shared)?)
+    let start = Instant::now(clock)?;
+    Ok(answer_all(clock, &start, source, shared)?)
 }
 
-// The same, and each thread that was started has ended.
-fn answer_and_join<R: Threads + Clock>(
+// The same while two threads wake, each of which has ended then.
+fn answer_both<R: Threads + Clock>(
     rt: &R,
-    alloc: Global,
     source: &mut SharedReady<Says>,
     shared: &Arc<Shared>,
 ) -> Result<bool, Fail> {
-    let mut started = Vec::new(alloc);
-    let answered = start_and_answer(rt, source, shared, &mut started);
+    let first = start(rt, source, shared, 0)?;
+    let second = start(rt, source, shared, 1)?;
+    let answered = answer_in_time(rt, source, shared);
     shared.stops.store(1, SeqCst);
-    join_all(rt, started);
+    first.join(rt);
+    second.join(rt);
     answered
 }
 
 fn is_each_answered<R: Threads + Clock>(rt: &R, alloc: Global) -> Result<bool, Fail> {
     let mut source = SharedReady::new(alloc, 2)?;
     let shared = new_shared(alloc)?;
-    answer_and_join(rt, alloc, &mut source, &shared)
+    answer_both(rt, &mut source, &shared)
 }
 
 #[test]

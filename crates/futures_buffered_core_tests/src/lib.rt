@@ -2,22 +2,18 @@
 //!
 //! - `table`: the list and the machine of its steps.
 //! - `ready_core`, `slot_map`: lists of events with their replies, and slots that are filled and emptied.
-//! - `core_source`, `ready_source`: the two sources for one caller.
+//! - `ready_source`: the two sources for one caller, and the waker that they keep.
 //! - `ready_shared`: the source whose slots are woken from any thread, with the outer wakers of `outer`.
-//! - `who_is_woken`, `replaced`, `each_wake`: which task a wake finds, an outer waker put in where another is kept, and two
-//!   threads whose wakes are each answered.
-//! - `sizes`, `long_runs`, `faults`: many slots, many events, and the texts of faults.
-//! - `same`: an assertion as a call.
+//! - `who_is_woken`, `each_wake`: which task a wake finds, and two threads whose wakes are each answered.
+//! - `sizes`: many slots, and many calls against a plain list, by the calls of `names`.
+//! - `texts`: the texts of faults.
+//! - `same`, `slots`: an assertion as a call, and calls on one slot.
 #![tactic(auto)]
 
 #[cfg(test)]
-mod core_source;
-#[cfg(test)]
 mod each_wake;
 #[cfg(test)]
-mod faults;
-#[cfg(test)]
-mod long_runs;
+mod names;
 #[cfg(test)]
 mod outer;
 #[cfg(test)]
@@ -27,14 +23,16 @@ mod ready_shared;
 #[cfg(test)]
 mod ready_source;
 #[cfg(test)]
-mod replaced;
-#[cfg(test)]
 mod same;
 #[cfg(test)]
 mod sizes;
 #[cfg(test)]
 mod slot_map;
 #[cfg(test)]
+mod slots;
+#[cfg(test)]
 mod table;
+#[cfg(test)]
+mod texts;
 #[cfg(test)]
 mod who_is_woken;

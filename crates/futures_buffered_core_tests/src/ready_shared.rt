@@ -1,45 +1,35 @@
 // Outer wakers that are no task's.
-use crate::outer::{AskingWaker, CountingWaker, Either, is_set_within};
+use crate::outer::{Asks, Counts, Watched, is_set, put_in, wakes_when_asked};
 use crate::same::assert_same;
+use crate::slots::{wake, waker_of};
 use futures_buffered_core::ready_core::{MAX_CAPACITY, NewFault, Taken, Woke};
-use futures_buffered_core::ready_shared::{OuterWaker, SharedReady, SharedWaker};
+use futures_buffered_core::ready_shared::SharedReady;
 use futures_buffered_core::ready_source::SlotWaker;
-use std::alloc::{AllocError, Global};
+use std::alloc::AllocError;
 use std::process::Abort;
 use std::sync::Arc;
-use std::sync::atomic::AtomicU64;
 use std::sync::atomic::Ordering::SeqCst;
 use std::test::Fail;
 use std::thread::{self, JoinHandle, Threads};
 
+type Source = SharedReady<Watched>;
+
 // The answers of the next four takings.
-fn take_four<O: OuterWaker>(source: &mut SharedReady<O>) -> [Taken; 4] {
+fn take_four(source: &mut Source) -> [Taken; 4] {
     [source.take(), source.take(), source.take(), source.take()]
 }
 
-// Lays out an outer waker that counts its wake.
-fn counts(
-    source: &mut SharedReady<CountingWaker>,
-    wakes: &Arc<AtomicU64>,
-) -> Result<(), AllocError> {
-    source.set_outer(CountingWaker::new(Arc::try_clone(wakes)?));
-    Ok(())
-}
-
-fn wake_slot<O: OuterWaker>(source: &SharedReady<O>, slot: usize) {
-    if slot < source.capacity() {
-        source.waker(slot).wake();
-    }
-}
+// Slot 0, then 2, then 1, and no more.
+const ZERO_TWO_ONE: [Taken; 4] = [Taken::Slot(0), Taken::Slot(2), Taken::Slot(1), Taken::Empty];
 
 // How many wakes were counted once this slot was woken.
-fn counted<O: OuterWaker>(source: &SharedReady<O>, slot: usize, wakes: &AtomicU64) -> u64 {
-    wake_slot(source, slot);
-    wakes.load(SeqCst)
+fn wakes_after(source: &Source, slot: usize, counts: &Counts) -> u64 {
+    wake(source, slot);
+    counts.wakes.load(SeqCst)
 }
 
 // The answers of two marks of slot 0.
-fn mark_twice(source: &mut SharedReady<CountingWaker>) -> Option<[Woke; 2]> {
+fn mark_twice(source: &mut Source) -> Option<[Woke; 2]> {
     if source.capacity() == 0 {
         return None;
     }
@@ -49,160 +39,146 @@ fn mark_twice(source: &mut SharedReady<CountingWaker>) -> Option<[Woke; 2]> {
 // Slot 1 is marked, so its wake takes nothing out, and a mark wakes nobody.
 fn wakes_at_slot_two(
     rt: &impl Abort,
-    source: &mut SharedReady<CountingWaker>,
-    wakes: &Arc<AtomicU64>,
+    source: &mut Source,
+    counts: &Arc<Counts>,
 ) -> Result<(), AllocError> {
-    counts(source, wakes)?;
-    assert_same(rt, counted(source, 1, wakes), 0);
+    put_in(source, counts, Asks::Never)?;
+    assert_same(rt, wakes_after(source, 1, counts), 0);
     assert_same(rt, mark_twice(source), Some([Woke::Fresh, Woke::Already]));
-    assert_same(rt, counted(source, 2, wakes), 1);
-    assert_same(
-        rt,
-        (source.take(), counted(source, 1, wakes)),
-        (Taken::Slot(1), 1),
-    );
+    assert_same(rt, wakes_after(source, 2, counts), 1);
+    assert_same(rt, source.take(), Taken::Slot(1));
+    assert_same(rt, wakes_after(source, 1, counts), 1);
     Ok(())
 }
 
 fn wakes_at_slot_zero(
     rt: &impl Abort,
-    source: &mut SharedReady<CountingWaker>,
-    wakes: &Arc<AtomicU64>,
+    source: &mut Source,
+    counts: &Arc<Counts>,
 ) -> Result<(), AllocError> {
-    counts(source, wakes)?;
-    assert_same(
-        rt,
-        take_four(source),
-        [Taken::Slot(0), Taken::Slot(2), Taken::Slot(1), Taken::Empty],
-    );
-    assert_same(rt, counted(source, 0, wakes), 2);
+    put_in(source, counts, Asks::Never)?;
+    assert_same(rt, take_four(source), ZERO_TWO_ONE);
+    assert_same(rt, wakes_after(source, 0, counts), 2);
     Ok(())
 }
 
 #[test]
 fn a_fresh_wake_takes_the_outer_waker(rt: HostRuntime) -> Result<(), Fail> {
-    let wakes = Arc::new(rt.alloc(), AtomicU64::new(0))?;
-    let mut source: SharedReady<CountingWaker> = SharedReady::new(rt.alloc(), 3)?;
-    assert_same(
-        &rt,
-        (source.take(), source.mark(1)),
-        (Taken::Empty, Woke::Fresh),
-    );
-    wakes_at_slot_two(&rt, &mut source, &wakes)?;
-    wakes_at_slot_zero(&rt, &mut source, &wakes)?;
+    let counts = Counts::new(rt.alloc())?;
+    let mut source: Source = SharedReady::new(rt.alloc(), 3)?;
+    assert_same(&rt, source.take(), Taken::Empty);
+    assert_same(&rt, source.mark(1), Woke::Fresh);
+    wakes_at_slot_two(&rt, &mut source, &counts)?;
+    wakes_at_slot_zero(&rt, &mut source, &counts)?;
     Ok(())
 }
 
-const TURNS: u64 = 10000000;
-
-fn wakes_both_when_asked<W: SlotWaker>(
-    asked: &AtomicU64,
-    answered: &AtomicU64,
-    first: &W,
-    second: &W,
-) {
-    if is_set_within(asked, TURNS) {
-        first.wake();
-        second.wake();
-        answered.store(1, SeqCst);
-    }
-}
-
-fn waker_of<O: OuterWaker>(source: &SharedReady<O>, slot: usize) -> Result<SharedWaker<O>, Fail> {
-    if slot < source.capacity() {
-        Ok(source.waker(slot).try_clone()?)
-    } else {
-        Err("no such slot".into())
-    }
-}
-
-fn asking(asked: &Arc<AtomicU64>, answered: &Arc<AtomicU64>) -> Result<AskingWaker, AllocError> {
-    let asked = Arc::try_clone(asked)?;
-    Ok(AskingWaker::new(asked, Arc::try_clone(answered)?, TURNS))
-}
-
-// A thread that wakes slots 2 and 1 once the outer waker asks it.
-fn wakes_two_when_asked<R: Threads>(
-    rt: &R,
-    alloc: Global,
-    source: &mut SharedReady<AskingWaker>,
-    asked: &Arc<AtomicU64>,
-) -> Result<JoinHandle<()>, Fail> {
-    let answered = Arc::new(alloc, AtomicU64::new(0))?;
-    source.set_outer(asking(asked, &answered)?);
-    let first = waker_of(source, 2)?;
-    let second = waker_of(source, 1)?;
-    let asked = Arc::try_clone(asked)?;
-    Ok(thread::spawn(rt, move || {
-        wakes_both_when_asked(&asked, &answered, &first, &second)
-    })?)
-}
-
-// Two slots are woken while the outer waker is at its wake, by a thread that it waits for. No wake waits for
-// another, and none is lost.
+// Two slots are woken while the outer waker is at its wake, by a thread that it waits for. No wake waits for another, and none is lost.
 #[test]
 fn two_slots_are_woken_from_inside_the_outer_wake(rt: HostRuntime) -> Result<(), Fail> {
-    let asked = Arc::new(rt.alloc(), AtomicU64::new(0))?;
-    let mut source = SharedReady::new(rt.alloc(), 3)?;
-    let helper = wakes_two_when_asked(&rt, rt.alloc(), &mut source, &asked)?;
-    wake_slot(&source, 0);
+    let counts = Counts::new(rt.alloc())?;
+    let mut source: Source = SharedReady::new(rt.alloc(), 3)?;
+    put_in(&mut source, &counts, Asks::AtItsWake)?;
+    let helper = wakes_when_asked(&rt, &source, [2, 1], &counts)?;
+    wake(&source, 0);
     helper.join(&rt);
-    assert_same(&rt, asked.load(SeqCst), 2);
-    assert_same(
-        &rt,
-        take_four(&mut source),
-        [Taken::Slot(0), Taken::Slot(2), Taken::Slot(1), Taken::Empty],
-    );
+    assert_same(&rt, counts.asked.load(SeqCst), 2);
+    assert_same(&rt, take_four(&mut source), ZERO_TWO_ONE);
     Ok(())
 }
 
 // A thread that wakes slot 0, and with it the outer waker, which stops there until it is answered.
 fn stops_at_its_wake<R: Threads>(
     rt: &R,
-    source: &mut SharedReady<Either>,
-    asked: &Arc<AtomicU64>,
-    answered: &Arc<AtomicU64>,
+    source: &mut Source,
+    counts: &Arc<Counts>,
 ) -> Result<JoinHandle<()>, Fail> {
-    source.set_outer(Either::Asks(asking(asked, answered)?));
+    put_in(source, counts, Asks::AtItsWake)?;
     let waker = waker_of(source, 0)?;
     Ok(thread::spawn(rt, move || waker.wake())?)
 }
 
-// What two outer wakers say, of which the first stops inside its wake, on another thread, until the second is put in: where the first had got by its end, and the wakes that the second has counted by then.
+// Puts the second in while the first is inside its wake, on another thread: whether that was asked for by then.
 fn puts_in_the_next<R: Threads>(
     rt: &R,
-    alloc: Global,
-    source: &mut SharedReady<Either>,
-    wakes: &Arc<AtomicU64>,
-) -> Result<(bool, u64, u64), Fail> {
-    let asked = Arc::new(alloc, AtomicU64::new(0))?;
-    let answered = Arc::new(alloc, AtomicU64::new(0))?;
-    let helper = stops_at_its_wake(rt, source, &asked, &answered)?;
-    let stopped = is_set_within(&asked, TURNS);
-    source.set_outer(Either::Counts(CountingWaker::new(Arc::try_clone(wakes)?)));
-    answered.store(1, SeqCst);
+    source: &mut Source,
+    first: &Arc<Counts>,
+    second: &Arc<Counts>,
+) -> Result<bool, Fail> {
+    let helper = stops_at_its_wake(rt, source, first)?;
+    let stopped = is_set(&first.asked);
+    let put = put_in(source, second, Asks::Never);
+    first.answered.store(1, SeqCst);
     helper.join(rt);
-    Ok((stopped, asked.load(SeqCst), wakes.load(SeqCst)))
+    put?;
+    Ok(stopped)
 }
 
 // The outer waker that is put in while another is at its wake would be woken at once if that wake still had the place.
 #[test]
 fn the_place_is_free_while_the_outer_waker_is_woken(rt: HostRuntime) -> Result<(), Fail> {
-    let wakes = Arc::new(rt.alloc(), AtomicU64::new(0))?;
-    let mut source = SharedReady::new(rt.alloc(), 2)?;
-    let said = puts_in_the_next(&rt, rt.alloc(), &mut source, &wakes)?;
-    assert_same(&rt, said, (true, 2, 0));
-    assert_same(&rt, counted(&source, 1, &wakes), 1);
+    let first = Counts::new(rt.alloc())?;
+    let second = Counts::new(rt.alloc())?;
+    let mut source: Source = SharedReady::new(rt.alloc(), 2)?;
+    let stopped = puts_in_the_next(&rt, &mut source, &first, &second)?;
+    assert_same(&rt, (stopped, first.asked.load(SeqCst)), (true, 2));
+    assert_same(&rt, (first.seen(), second.seen()), ((1, 1), (0, 0)));
+    assert_same(&rt, wakes_after(&source, 1, &second), 1);
     Ok(())
 }
 
 #[test]
 fn a_source_that_is_too_large(rt: HostRuntime) {
-    let made: Result<SharedReady<CountingWaker>, _> = SharedReady::new(
-        rt.alloc(),
-        MAX_CAPACITY + 1,
-    );
+    let made: Result<Source, _> = SharedReady::new(rt.alloc(), MAX_CAPACITY + 1);
     assert!(rt; matches!(made, Err(NewFault::TooLarge)));
-    let made: Result<SharedReady<CountingWaker>, _> = SharedReady::new(rt.alloc(), MAX_CAPACITY);
+    let made: Result<Source, _> = SharedReady::new(rt.alloc(), MAX_CAPACITY);
     assert!(rt; matches!(made, Err(NewFault::Memory)));
+}
+
+// The first is let go, and is not woken; a wake then finds the second.
+#[test]
+fn the_outer_waker_is_replaced(rt: HostRuntime) -> Result<(), Fail> {
+    let first = Counts::new(rt.alloc())?;
+    let second = Counts::new(rt.alloc())?;
+    let mut source: Source = SharedReady::new(rt.alloc(), 2)?;
+    put_in(&mut source, &first, Asks::Never)?;
+    assert_same(&rt, first.seen(), (0, 0));
+    put_in(&mut source, &second, Asks::Never)?;
+    assert_same(&rt, (first.seen(), second.seen()), ((0, 1), (0, 0)));
+    wake(&source, 0);
+    assert_same(&rt, (first.seen(), second.seen()), ((0, 1), (1, 1)));
+    wake(&source, 1);
+    assert_same(&rt, (first.seen(), second.seen()), ((0, 1), (1, 1)));
+    put_in(&mut source, &first, Asks::Never)?;
+    assert_same(&rt, first.seen(), (0, 1));
+    Ok(())
+}
+
+// Puts the second in while the first is kept, whose drop has two slots woken.
+fn replaces<R: Threads>(
+    rt: &R,
+    source: &mut Source,
+    first: &Arc<Counts>,
+    second: &Arc<Counts>,
+) -> Result<(), Fail> {
+    put_in(source, first, Asks::AtItsDrop)?;
+    let helper = wakes_when_asked(rt, source, [2, 1], first)?;
+    let put = put_in(source, second, Asks::Never);
+    helper.join(rt);
+    Ok(put?)
+}
+
+// The first is dropped once the place is free again and the second lies there: a slot that its drop has woken finds the second.
+#[test]
+fn the_drop_of_an_outer_waker_wakes_a_slot(rt: HostRuntime) -> Result<(), Fail> {
+    let first = Counts::new(rt.alloc())?;
+    let second = Counts::new(rt.alloc())?;
+    let mut source: Source = SharedReady::new(rt.alloc(), 3)?;
+    replaces(&rt, &mut source, &first, &second)?;
+    assert_same(&rt, first.asked.load(SeqCst), 2);
+    assert_same(&rt, (first.seen(), second.seen()), ((0, 1), (1, 1)));
+    wake(&source, 0);
+    let two_one_zero = [Taken::Slot(2), Taken::Slot(1), Taken::Slot(0), Taken::Empty];
+    assert_same(&rt, take_four(&mut source), two_one_zero);
+    Ok(())
 }

@@ -1,5 +1,7 @@
-// The two sources for one caller.
+// The two sources for one caller, and the waker that they keep.
 use crate::same::assert_same;
+use crate::slots::mark;
+use futures::test::MockTask;
 use futures_buffered_core::ready_core::{RunFault, Taken, Woke};
 use futures_buffered_core::ready_source::{
     CoreSource, NewSource, ReadySource, ScriptSource, SlotWaker,
@@ -8,7 +10,7 @@ use std::process::Abort;
 use std::test::Fail;
 
 // Takes, and wants these answers.
-fn takes(rt: &impl Abort, source: &mut ScriptSource, wanted: &[Taken]) {
+fn takes<S: ReadySource>(rt: &impl Abort, source: &mut S, wanted: &[Taken]) {
     for want in wanted {
         assert_same(rt, source.take(), *want);
     }
@@ -19,18 +21,10 @@ fn gives_the_answers_and_then_empty(rt: HostRuntime) -> Result<(), Fail> {
     let answers = vec![in rt.alloc(); Taken::Slot(1), Taken::Pause]?;
     let mut source = ScriptSource::new(rt.alloc(), 2, answers)?;
     assert_same(&rt, source.capacity(), 2);
-    if source.capacity() > 1 {
-        assert_same(
-            &rt,
-            (source.mark(0), source.mark(0)),
-            (Woke::Fresh, Woke::Fresh),
-        );
-    }
-    takes(
-        &rt,
-        &mut source,
-        &[Taken::Slot(1), Taken::Pause, Taken::Empty, Taken::Empty],
-    );
+    assert_same(&rt, mark(&mut source, 0), Some(Woke::Fresh));
+    assert_same(&rt, mark(&mut source, 0), Some(Woke::Fresh));
+    let wanted = [Taken::Slot(1), Taken::Pause, Taken::Empty, Taken::Empty];
+    takes(&rt, &mut source, &wanted);
     Ok(())
 }
 
@@ -45,14 +39,49 @@ fn refuses_an_answer_that_names_no_slot(rt: HostRuntime) -> Result<(), Fail> {
 #[test]
 fn makes_a_core(rt: HostRuntime) -> Result<(), Fail> {
     let mut source = CoreSource::make(&(), rt.alloc(), 2)?;
+    assert_same(&rt, mark(&mut source, 1), Some(Woke::Fresh));
     if source.capacity() > 1 {
-        assert_same(&rt, source.mark(1), Woke::Fresh);
         source.waker(1).wake();
     }
-    assert_same(
-        &rt,
-        (source.take(), source.take()),
-        (Taken::Slot(1), Taken::Empty),
-    );
+    takes(&rt, &mut source, &[Taken::Slot(1), Taken::Empty]);
+    Ok(())
+}
+
+fn register<S: ReadySource>(task: &MockTask, source: &mut S) {
+    task.enter(|cx| source.register(cx));
+}
+
+// Whether each of the two is woken.
+fn are_woken(one: &MockTask, two: &MockTask) -> (bool, bool) {
+    (one.is_woken(), two.is_woken())
+}
+
+// A waker of a task wakes it when it is dropped. So one that was kept in no source, or by a plain yield, would show at once, and one that is kept in place of the waker of another task lets that go.
+fn keeps_the_last<S: ReadySource>(rt: &impl Abort, one: &MockTask, two: &MockTask, mut source: S) {
+    two.enter(|_cx| ());
+    register(one, &mut source);
+    assert_same(rt, are_woken(one, two), (false, false));
+    register(two, &mut source);
+    assert_same(rt, are_woken(one, two), (true, false));
+    drop(source);
+    assert_same(rt, two.is_woken(), true);
+}
+
+#[test]
+fn a_core_source_keeps_the_tasks_waker(rt: HostRuntime) -> Result<(), Fail> {
+    let one = MockTask::new(&rt)?;
+    let two = MockTask::new(&rt)?;
+    let source = CoreSource::make(&(), rt.alloc(), 1)?;
+    keeps_the_last(&rt, &one, &two, source);
+    Ok(())
+}
+
+#[test]
+fn a_script_source_keeps_the_tasks_waker(rt: HostRuntime) -> Result<(), Fail> {
+    let one = MockTask::new(&rt)?;
+    let two = MockTask::new(&rt)?;
+    let answers = vec![in rt.alloc(); Taken::Empty]?;
+    let source = ScriptSource::new(rt.alloc(), 1, answers)?;
+    keeps_the_last(&rt, &one, &two, source);
     Ok(())
 }

@@ -1,8 +1,13 @@
-// Cores, sources and slot maps of no slot, of a thousand and of many.
+// Sources, lists and slot maps of no slot, of a thousand and of many.
+use crate::names::{
+    Marked, Names, Woken, is_as_plain, mark_all, names_each_once, slot_at, take_all,
+};
 use crate::same::assert_same;
-use futures_buffered_core::ready_core::{Taken, Woke};
+use crate::slots::wake;
+use crate::table::alone::Alone;
+use futures_buffered_core::ready_core::{NewFault, Taken, Woke};
 use futures_buffered_core::ready_shared::SharedReady;
-use futures_buffered_core::ready_source::{CoreSource, NewSource, ReadySource, SlotWaker};
+use futures_buffered_core::ready_source::{CoreSource, NewSource};
 use futures_buffered_core::slot_map::PinSlotMap;
 use std::alloc::Global;
 use std::process::Abort;
@@ -10,96 +15,34 @@ use std::test::Fail;
 
 const SIZES: [usize; 3] = [0, 1_000, 70_000];
 
-// The slot that comes at this place of an order in which none stands beside its neighbour.
-fn slot_at(place: usize, slots: usize) -> usize {
-    place.wrapping_mul(37).checked_rem(slots).unwrap_or(0)
+type Three<S> = (Marked<S>, Marked<S>, Marked<S>);
+
+// A source, one beside another, and this other one, of one slot.
+fn three_of<S: NewSource<Env = ()>>(alloc: Global, slots: usize) -> Result<Three<S>, NewFault> {
+    let mut other = S::make(&(), alloc, 1)?;
+    let beside = other.make_beside(alloc, slots)?;
+    let source = S::make(&(), alloc, slots)?;
+    Ok((
+        Marked { source },
+        Marked { source: beside },
+        Marked { source: other },
+    ))
 }
 
-fn mark<S: ReadySource>(source: &mut S, slot: usize) -> Option<Woke> {
-    if slot < source.capacity() {
-        Some(source.mark(slot))
-    } else {
-        None
-    }
-}
-
-// Marks each slot of a source, and wants this answer each time.
-fn mark_all<S: ReadySource>(rt: &impl Abort, source: &mut S, slots: usize, wanted: Woke) {
-    for place in 0..slots {
-        assert_same(rt, mark(source, slot_at(place, slots)), Some(wanted));
-    }
-}
-
-// Takes each slot of a source, in the order of the marks.
-fn take_all<S: ReadySource>(rt: &impl Abort, source: &mut S, slots: usize) {
-    for place in 0..slots {
-        assert_same(rt, source.take(), Taken::Slot(slot_at(place, slots)));
-    }
-    assert_same(rt, source.take(), Taken::Empty);
-}
-
-fn try_source<S: ReadySource>(rt: &impl Abort, source: &mut S, slots: usize) {
-    assert_same(
-        rt,
-        (source.capacity(), source.take()),
-        (slots, Taken::Empty),
-    );
-    mark_all(rt, source, slots, Woke::Fresh);
-    mark_all(rt, source, slots, Woke::Already);
-    take_all(rt, source, slots);
-    assert_same(rt, mark(source, slots), None);
-}
-
-fn try_core_source(rt: &impl Abort, alloc: Global, slots: usize) -> Result<(), Fail> {
-    let mut source = CoreSource::make(&(), alloc, slots)?;
-    try_source(rt, &mut source, slots);
+fn try_core_sources(rt: &impl Abort, alloc: Global, slots: usize) -> Result<(), Fail> {
+    let (mut alone, mut beside, mut other) = three_of::<CoreSource>(alloc, slots)?;
+    names_each_once(rt, &mut alone, slots);
+    names_each_once(rt, &mut beside, slots);
+    assert_same(rt, other.take_slot(), Taken::Empty);
     Ok(())
 }
 
 #[test]
 fn a_core_source_names_each_slot_once(rt: HostRuntime) -> Result<(), Fail> {
     for slots in SIZES {
-        try_core_source(&rt, rt.alloc(), slots)?;
+        try_core_sources(&rt, rt.alloc(), slots)?;
     }
     Ok(())
-}
-
-fn try_beside_core(
-    rt: &impl Abort,
-    alloc: Global,
-    first: &mut CoreSource,
-    slots: usize,
-) -> Result<(), Fail> {
-    let mut source = first.make_beside(alloc, slots)?;
-    try_source(rt, &mut source, slots);
-    Ok(())
-}
-
-fn try_each_beside_core(
-    rt: &impl Abort,
-    alloc: Global,
-    first: &mut CoreSource,
-) -> Result<(), Fail> {
-    for slots in SIZES {
-        try_beside_core(rt, alloc, first, slots)?;
-    }
-    Ok(())
-}
-
-#[test]
-fn a_source_beside_a_core_source_names_each_slot_once(rt: HostRuntime) -> Result<(), Fail> {
-    let mut first = CoreSource::make(&(), rt.alloc(), 1)?;
-    try_each_beside_core(&rt, rt.alloc(), &mut first)
-}
-
-// Wakes the slot by its own waker.
-fn wake(source: &SharedReady, slot: usize) {
-    if slot < source.capacity() {
-        let waker = source.waker(slot);
-        if waker.slot() == slot {
-            waker.wake();
-        }
-    }
 }
 
 fn wake_all(source: &SharedReady, slots: usize) {
@@ -108,53 +51,72 @@ fn wake_all(source: &SharedReady, slots: usize) {
     }
 }
 
-// The same by wakes in place of marks.
-fn try_wakes(rt: &impl Abort, source: &mut SharedReady, slots: usize) {
-    wake_all(source, slots);
-    mark_all(rt, source, slots, Woke::Already);
-    wake_all(source, slots);
-    take_all(rt, source, slots);
+// Each slot is named once by marks, and once by wakes.
+fn try_shared(rt: &impl Abort, shared: &mut Marked<SharedReady>, slots: usize) {
+    names_each_once(rt, shared, slots);
+    wake_all(&shared.source, slots);
+    mark_all(rt, shared, slots, Woke::Already);
+    wake_all(&shared.source, slots);
+    take_all(rt, shared, slots);
 }
 
-fn try_shared(rt: &impl Abort, alloc: Global, slots: usize) -> Result<(), Fail> {
-    let mut source: SharedReady = SharedReady::new(alloc, slots)?;
-    try_source(rt, &mut source, slots);
-    try_wakes(rt, &mut source, slots);
+fn try_shared_sources(rt: &impl Abort, alloc: Global, slots: usize) -> Result<(), Fail> {
+    let (mut alone, mut beside, mut other) = three_of::<SharedReady>(alloc, slots)?;
+    try_shared(rt, &mut alone, slots);
+    try_shared(rt, &mut beside, slots);
+    assert_same(rt, other.take_slot(), Taken::Empty);
     Ok(())
 }
 
 #[test]
 fn a_shared_source_names_each_slot_once(rt: HostRuntime) -> Result<(), Fail> {
     for slots in SIZES {
-        try_shared(&rt, rt.alloc(), slots)?;
+        try_shared_sources(&rt, rt.alloc(), slots)?;
     }
     Ok(())
 }
 
-fn try_beside(
-    rt: &impl Abort,
-    alloc: Global,
-    first: &mut SharedReady,
-    slots: usize,
-) -> Result<(), Fail> {
-    let mut source = first.make_beside(alloc, slots)?;
-    try_source(rt, &mut source, slots);
-    try_wakes(rt, &mut source, slots);
+fn try_list(rt: &impl Abort, alloc: Global, slots: usize) -> Result<bool, Fail> {
+    let list = Alone::new(rt, alloc, slots);
+    let mut woken = Woken { list, wakes: 0 };
+    names_each_once(rt, &mut woken, slots);
+    Ok(woken.list.closes_with(alloc, &[])?)
+}
+
+#[test]
+fn a_list_names_each_slot_once(rt: HostRuntime) -> Result<(), Fail> {
+    for slots in SIZES {
+        assert!(rt; try_list(&rt, rt.alloc(), slots)?);
+    }
     Ok(())
 }
 
-fn try_each_beside(rt: &impl Abort, alloc: Global, first: &mut SharedReady) -> Result<(), Fail> {
-    for slots in SIZES {
-        try_beside(rt, alloc, first, slots)?;
+fn core_is_as_plain(alloc: Global, slots: usize) -> Result<bool, Fail> {
+    let source = CoreSource::make(&(), alloc, slots)?;
+    Ok(is_as_plain(&mut Marked { source }, &mut Vec::new(alloc))?)
+}
+
+fn shared_is_as_plain(alloc: Global, slots: usize) -> Result<bool, Fail> {
+    let source: SharedReady = SharedReady::new(alloc, slots)?;
+    Ok(is_as_plain(&mut Marked { source }, &mut Vec::new(alloc))?)
+}
+
+#[test]
+fn names_what_a_plain_list_names(rt: HostRuntime) -> Result<(), Fail> {
+    for slots in [1, 2, 6, 11] {
+        assert!(rt; core_is_as_plain(rt.alloc(), slots)?);
+        assert!(rt; shared_is_as_plain(rt.alloc(), slots)?);
     }
     Ok(())
 }
 
 #[test]
-fn a_source_beside_a_shared_one_names_each_slot_once(rt: HostRuntime) -> Result<(), Fail> {
-    let mut first: SharedReady = SharedReady::new(rt.alloc(), 1)?;
-    try_each_beside(&rt, rt.alloc(), &mut first)?;
-    assert_same(&rt, first.take(), Taken::Empty);
+fn many_calls(rt: HostRuntime) -> Result<(), Fail> {
+    let list = Alone::new(&rt, rt.alloc(), 100);
+    let mut woken = Woken { list, wakes: 0 };
+    let mut plain = Vec::new(rt.alloc());
+    assert!(rt; is_as_plain(&mut woken, &mut plain)?);
+    assert!(rt; woken.list.closes_with(rt.alloc(), plain.as_slice())?);
     Ok(())
 }
 

@@ -1,9 +1,12 @@
 // Which task a wake finds, and where its waker lies, on one thread.
 use crate::same::assert_same;
+use crate::slots::{mark, wake};
+use futures::task::{Poll, Source, Waker};
 use futures::test::MockTask;
 use futures_buffered_core::ready_core::{Taken, Woke};
 use futures_buffered_core::ready_shared::SharedReady;
-use futures_buffered_core::ready_source::{NewSource, ReadySource, SlotWaker};
+use futures_buffered_core::ready_source::{NewSource, ReadySource};
+use std::alloc::Global;
 use std::process::Abort;
 use std::test::Fail;
 
@@ -19,24 +22,10 @@ fn poll(task: &MockTask, source: &mut SharedReady) -> (Taken, bool) {
     (taken, task.is_woken())
 }
 
-fn wake(source: &SharedReady, slot: usize) {
-    if slot < source.capacity() {
-        source.waker(slot).wake();
-    }
-}
-
 // Whether the task is woken once this slot was.
 fn is_woken_by(task: &MockTask, source: &SharedReady, slot: usize) -> bool {
     wake(source, slot);
     task.is_woken()
-}
-
-fn mark(source: &mut SharedReady, slot: usize) -> Option<Woke> {
-    if slot < source.capacity() {
-        Some(source.mark(slot))
-    } else {
-        None
-    }
 }
 
 // A poll that ends with a name leaves the task's waker with the poller, where no wake finds it: that task polls again by itself.
@@ -189,5 +178,60 @@ fn a_wake_beside_finds_the_task_after_a_name(rt: HostRuntime) -> Result<(), Fail
     assert_same(&rt, is_woken_by(&task, &second, 0), true);
     assert_same(&rt, poll(&task, &mut second), (Taken::Slot(0), false));
     assert_same(&rt, is_woken_by(&task, &first, 0), true);
+    Ok(())
+}
+
+// A wake of this slot wakes the task that waits, and marks the slot.
+fn try_slot(rt: &impl Abort, task: &MockTask, source: &mut SharedReady, slot: usize) {
+    assert_same(rt, poll(task, source), (Taken::Empty, false));
+    assert_same(rt, is_woken_by(task, source, slot), true);
+    assert_same(rt, source.take(), Taken::Slot(slot));
+}
+
+// The last slot of so many, the one in the middle and the first.
+fn try_slots(rt: &impl Abort, alloc: Global, task: &MockTask, slots: usize) -> Result<(), Fail> {
+    let mut source: SharedReady = SharedReady::new(alloc, slots)?;
+    try_slot(rt, task, &mut source, slots.saturating_sub(1));
+    try_slot(rt, task, &mut source, slots / 2);
+    try_slot(rt, task, &mut source, 0);
+    Ok(())
+}
+
+// Numbers of slots about those at which a word, a byte or two bytes are full.
+const FULL: [usize; 16] = [
+    1, 2, 31, 32, 33, 63, 64, 65, 127, 128, 129, 256, 257, 65_536, 131_072, 200_000,
+];
+
+#[test]
+fn a_wake_of_the_last_slot_wakes_the_task(rt: HostRuntime) -> Result<(), Fail> {
+    let task = MockTask::new(&rt)?;
+    for slots in FULL {
+        try_slots(&rt, rt.alloc(), &task, slots)?;
+    }
+    Ok(())
+}
+
+// A waker of this task.
+fn waker_of(task: &MockTask) -> Option<Waker> {
+    let place = Source::new();
+    let mut kept = None;
+    let _: Poll<()> = task.enter(|cx| cx.register(&place, &mut kept));
+    kept
+}
+
+// The waker of a task that is registered lies where wakes find it before its poll finds nothing, in place of one that was handed in.
+#[test]
+fn a_task_that_waits_takes_the_place_of_what_was_handed_in(rt: HostRuntime) -> Result<(), Fail> {
+    let one = MockTask::new(&rt)?;
+    let two = MockTask::new(&rt)?;
+    let mut source: SharedReady = SharedReady::new(rt.alloc(), 1)?;
+    register(&one, &mut source);
+    source.set_outer(waker_of(&two).ok_or("no waker")?);
+    assert_same(&rt, are_woken(&one, &two), (false, false));
+    assert_same(&rt, source.take(), Taken::Empty);
+    assert_same(&rt, are_woken(&one, &two), (false, true));
+    poll_nothing(&two);
+    wake(&source, 0);
+    assert_same(&rt, are_woken(&one, &two), (true, false));
     Ok(())
 }

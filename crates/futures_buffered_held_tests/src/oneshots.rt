@@ -37,6 +37,20 @@ fn the_waker_of_the_last_poll_is_woken(rt: HostRuntime) -> Result<(), Fail> {
     Ok(())
 }
 
+// The slot has the same number in both sources.
+#[test]
+fn a_receiver_that_moved_to_another_source(rt: HostRuntime) -> Result<(), Fail> {
+    let mut first: SharedReady = SharedReady::new(rt.alloc(), 1)?;
+    let mut second: SharedReady = SharedReady::new(rt.alloc(), 1)?;
+    let (sender, mut receiver) = channel::<u64>(rt.alloc())?;
+    assert_same(&rt, receiver.poll(first.waker(0)), Poll::Pending);
+    assert_same(&rt, receiver.poll(second.waker(0)), Poll::Pending);
+    assert_same(&rt, sender.send(7), Ok(()));
+    assert_same(&rt, name_of(&mut first), None);
+    assert_same(&rt, name_of(&mut second), Some(0));
+    Ok(())
+}
+
 // A value that does not come is dropped with the second end, and one that is handed back by whoever has it.
 #[test]
 fn a_value_that_does_not_come(rt: HostRuntime) -> Result<(), Fail> {

@@ -2,8 +2,7 @@
 use crate::same::assert_same;
 use futures::task::Poll;
 use futures::test::MockTask;
-use futures_buffered_sets::join_all::join_all;
-use futures_buffered_sets::try_join_all::try_join_all;
+use futures_buffered_sets::{join_all, try_join_all};
 use std::test::Fail;
 use test_support::called::Called;
 use test_support::polling::{poll_join, poll_try_join};

@@ -4,12 +4,13 @@ use futures::task::Poll;
 use futures::test::MockTask;
 use futures_buffered_core::ready_source::{CoreSource, ReadySource};
 use futures_buffered_sets::{JoinAll, TryJoinAll};
+use std::alloc::{AllocError, Global};
 use std::sync::atomic::Ordering::SeqCst;
 use std::test::Fail;
 use test_support::attempt::{Attempt, at_once};
 use test_support::counted_source::{CountedSource, SourceLog};
 use test_support::polling::{poll_join, poll_try_join};
-use test_support::timed::{Timed, late, ready};
+use test_support::timed::{Timed, late, ready, ready_up_to};
 
 #[derive(Clone, Copy, Debug, PartialEq, Eq)]
 enum Given {
@@ -17,7 +18,7 @@ enum Given {
     None,
     Three(u64, u64, u64),
     Error(u64),
-    Others,
+    Many(usize),
 }
 
 // What a poll gave, whether it woke its task, and how often a source was dropped by then.
@@ -41,7 +42,7 @@ fn all_of(outputs: &[u64]) -> Given {
     match outputs {
         [] => Given::None,
         [first, second, third] => Given::Three(*first, *second, *third),
-        _ => Given::Others,
+        _ => Given::Many(outputs.len()),
     }
 }
 
@@ -145,5 +146,55 @@ fn the_call_that_answers_an_error_drops_the_source_and_wakes_nobody(
     assert_same(&rt, first, quiet(Given::Error(7), 1));
     let second = try_polled(&task, &log, &mut join);
     assert_same(&rt, second, quiet(Given::None, 1));
+    Ok(())
+}
+
+// How many futures a long join is made of.
+const MANY: u64 = 2_000;
+
+#[test]
+fn the_end_of_a_long_join_drops_its_source(rt: HostRuntime) -> Result<(), Fail> {
+    let task = MockTask::new(&rt)?;
+    let log = SourceLog::new(rt.alloc())?;
+    let futures = ready_up_to(rt.alloc(), MANY)?;
+    let mut join = JoinAll::over(&log, rt.alloc(), futures)?;
+    let first = polled(&task, &log, &mut join);
+    assert_same(&rt, first, quiet(Given::Many(MANY as usize), 1));
+    Ok(())
+}
+
+// As many, of which the one at this place fails.
+fn attempts(alloc: Global, fails: u64) -> Result<Vec<Attempt>, AllocError> {
+    let mut attempts = Vec::new(alloc);
+    for place in 0..MANY {
+        let given = if place == fails {
+            Err(place)
+        } else {
+            Ok(place)
+        };
+        attempts.push(at_once(given))?;
+    }
+    Ok(attempts)
+}
+
+// The first poll of a try join of these.
+fn first_of_many(
+    alloc: Global,
+    task: &MockTask,
+    log: &SourceLog,
+    fails: u64,
+) -> Result<Seen, Fail> {
+    let mut join = TryJoinAll::over(log, alloc, attempts(alloc, fails)?)?;
+    Ok(try_polled(task, log, &mut join))
+}
+
+#[test]
+fn the_end_of_a_long_try_join_drops_its_source(rt: HostRuntime) -> Result<(), Fail> {
+    let task = MockTask::new(&rt)?;
+    let log = SourceLog::new(rt.alloc())?;
+    let first = first_of_many(rt.alloc(), &task, &log, MANY)?;
+    assert_same(&rt, first, quiet(Given::Many(MANY as usize), 1));
+    let second = first_of_many(rt.alloc(), &task, &log, MANY - 1)?;
+    assert_same(&rt, second, quiet(Given::Error(MANY - 1), 2));
     Ok(())
 }

@@ -1,8 +1,7 @@
 // Joins under `block_on`, whose futures another thread wakes.
 use crate::same::assert_same;
 use futures::executor::block_on;
-use futures_buffered_sets::join_all::join_all;
-use futures_buffered_sets::try_join_all::try_join_all;
+use futures_buffered_sets::{join_all, try_join_all};
 use std::test::Fail;
 use std::thread;
 use test_support::cells::{Cells, new_cells, send_each};

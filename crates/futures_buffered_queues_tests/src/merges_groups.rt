@@ -27,8 +27,13 @@ struct Log {
 
 impl Log {
     fn new(alloc: Global) -> Result<Log, AllocError> {
+        Log::of(alloc, u64::MAX)
+    }
+
+    // Where no more sources than these are made.
+    fn of(alloc: Global, most: u64) -> Result<Log, AllocError> {
         let streams = new_counter(alloc)?;
-        let sources = SourceLog::new(alloc)?;
+        let sources = SourceLog::of(alloc, most)?;
         Ok(Log { streams, sources })
     }
 
@@ -100,32 +105,98 @@ fn a_merge_that_is_dropped_drops_the_sources_of_all_groups(rt: HostRuntime) -> R
     Ok(())
 }
 
-// A stream that never has an item.
-#[derive(Clone, Copy, Debug)]
-struct Idle;
+#[test]
+fn a_merge_that_is_refused_drops_all_streams(rt: HostRuntime) -> Result<(), Fail> {
+    let log = Log::of(rt.alloc(), 1)?;
+    let refused = new_merge(rt.alloc(), &log);
+    assert_same(&rt, refused.err(), Some(NewFault::Memory));
+    assert_same(&rt, log.drops(), (97, 1));
+    Ok(())
+}
 
-impl<W: NamesSlot> SlotStream<W> for Idle {
+// Never has an item: waits for good, or ends at its first poll.
+#[derive(Clone, Copy, Debug)]
+enum Barren {
+    Waits,
+    Ends,
+}
+
+impl<W: NamesSlot> SlotStream<W> for Barren {
     type Item = u64;
 
     fn poll_next(&mut self, _waker: &W) -> Poll<Option<u64>> {
-        Poll::Pending
+        match self {
+            Barren::Waits => Poll::Pending,
+            Barren::Ends => Poll::Ready(None),
+        }
     }
 }
 
-fn idle_merge(
-    alloc: Global,
-    sources: &SourceLog,
-) -> Result<MergeUnbounded<Idle, CountedSource>, NewFault> {
-    MergeUnbounded::over(sources.try_clone()?, alloc, [Idle; 33])
+type BarrenMerge = MergeUnbounded<Barren, CountedSource>;
+
+// A first group that is full of streams that wait.
+fn barren_merge(alloc: Global, sources: &SourceLog) -> Result<BarrenMerge, NewFault> {
+    MergeUnbounded::over(sources.try_clone()?, alloc, [Barren::Waits; 32])
 }
 
-// A second registration would hold the place of the task's waker, and a wake of a slot of the first group would leave that slot to nobody.
+// Whether each was taken.
+fn push_all(merge: &mut BarrenMerge, stream: Barren, count: usize) -> bool {
+    for _ in 0..count {
+        if merge.push(stream).is_err() {
+            return false;
+        }
+    }
+    true
+}
+
+// So many that end, and one that waits, behind those of the first group: the answer of a poll, and the registrations by then.
+fn registrations_with<R: Abort>(
+    rt: &R,
+    task: &MockTask,
+    sources: &SourceLog,
+    merge: &mut BarrenMerge,
+    ends: usize,
+) -> u64 {
+    assert_same(rt, push_all(merge, Barren::Ends, ends), true);
+    assert_same(rt, push_all(merge, Barren::Waits, 1), true);
+    assert_same(rt, poll_growing_merge(task, merge), Poll::Pending);
+    sources.registrations.load(SeqCst)
+}
+
+// A second registration would hold the place of the task's waker, and a wake of a slot of the first group would leave that slot to nobody. A push that makes a group registers nothing, and wakes nobody.
 #[test]
 fn a_poll_of_two_groups_registers_once(rt: HostRuntime) -> Result<(), Fail> {
-    let sources = SourceLog::new(rt.alloc())?;
-    let mut merge = idle_merge(rt.alloc(), &sources)?;
     let task = MockTask::new(&rt)?;
-    assert_same(&rt, poll_growing_merge(&task, &mut merge), Poll::Pending);
-    assert_same(&rt, sources.registrations.load(SeqCst), 1);
+    let sources = SourceLog::new(rt.alloc())?;
+    let mut merge = barren_merge(rt.alloc(), &sources)?;
+    let registrations = registrations_with(&rt, &task, &sources, &mut merge, 0);
+    assert_same(&rt, (registrations, task.is_woken()), (1, false));
+    assert_same(&rt, push_all(&mut merge, Barren::Waits, 2_000), true);
+    let registrations = sources.registrations.load(SeqCst);
+    assert_same(&rt, (registrations, task.is_woken()), (1, false));
+    let answer = poll_growing_merge(&task, &mut merge);
+    let registrations = sources.registrations.load(SeqCst);
+    assert_same(&rt, (answer, registrations), (Poll::Pending, 2));
+    Ok(())
+}
+
+// The second group takes a further count of names behind the end of a stream.
+#[test]
+fn a_group_of_two_counts_beside_one_that_registered(rt: HostRuntime) -> Result<(), Fail> {
+    let task = MockTask::new(&rt)?;
+    let sources = SourceLog::new(rt.alloc())?;
+    let mut merge = barren_merge(rt.alloc(), &sources)?;
+    let registrations = registrations_with(&rt, &task, &sources, &mut merge, 1);
+    assert_same(&rt, (registrations, sources.drops.load(SeqCst)), (1, 0));
+    Ok(())
+}
+
+#[test]
+fn a_group_in_the_middle_that_leaves_drops_its_source(rt: HostRuntime) -> Result<(), Fail> {
+    let task = MockTask::new(&rt)?;
+    let sources = SourceLog::new(rt.alloc())?;
+    let mut merge = barren_merge(rt.alloc(), &sources)?;
+    let registrations = registrations_with(&rt, &task, &sources, &mut merge, 64);
+    assert_same(&rt, (registrations, sources.drops.load(SeqCst)), (1, 1));
     Ok(())
 }

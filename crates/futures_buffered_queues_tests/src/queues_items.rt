@@ -9,7 +9,7 @@ use std::alloc::Global;
 use std::sync::atomic::Ordering::SeqCst;
 use std::test::Fail;
 use test_support::counter::{Counter, new_counter};
-use test_support::timed::{Timed, ready, ready_up_to};
+use test_support::timed::{Timed, drawn, ready, ready_up_to};
 
 type Queue = FuturesOrderedBounded<Timed, CoreSource>;
 
@@ -30,30 +30,19 @@ fn extend_stops_at_the_first_refusal(rt: HostRuntime) -> Result<(), Fail> {
     Ok(())
 }
 
-fn drawn(value: u64, draws: &Counter) -> Timed {
-    draws.fetch_add(1, SeqCst);
-    ready(value)
-}
-
-// Why no queue is made of so many items, if none is.
-fn fault(alloc: Global, count: u64, draws: &Counter) -> Option<NewFault> {
-    let made: Result<FuturesOrdered<Timed, SharedReady>, NewFault> = FuturesOrdered::from_iter(
-        alloc,
-        (0..count).map(|value| drawn(value, draws)),
+// Why no queue is made where one more is promised than a group can have slots, if none is.
+fn fault(alloc: Global, draws: &Counter) -> Option<NewFault> {
+    let items = (0..MAX_CAPACITY as u64 + 1).map(|value| drawn(value, draws));
+    let made: Result<FuturesOrdered<Timed, SharedReady>, _> = FuturesOrdered::from_iter(
+        alloc, items,
     );
     made.err()
 }
 
-// One more is promised than a group can have slots.
 #[test]
 fn draws_nothing_where_too_many_items_are_promised(rt: HostRuntime) -> Result<(), Fail> {
     let draws = new_counter(rt.alloc())?;
-    let past = MAX_CAPACITY as u64 + 1;
-    assert_same(
-        &rt,
-        fault(rt.alloc(), past, &draws),
-        Some(NewFault::TooLarge),
-    );
+    assert_same(&rt, fault(rt.alloc(), &draws), Some(NewFault::TooLarge));
     assert_same(&rt, draws.load(SeqCst), 0);
     Ok(())
 }

@@ -13,7 +13,6 @@ use std::sync::{Arc, Mutex};
 use std::test::Fail;
 use std::thread::{self, JoinHandle, Threads, yield_now};
 use std::time::{Clock, Instant};
-use test_support::keep::keep;
 use test_support::polling::poll_set;
 
 // How long the threads ask.
@@ -74,29 +73,16 @@ fn new_seat(alloc: Global) -> Result<Arc<Seat>, AllocError> {
     Ok(Arc::new(alloc, seat)?)
 }
 
-// A future of the set, whose seat is kept.
-fn add_seat(alloc: Global, set: &mut Set, seats: &mut Vec<Arc<Seat>>) -> Result<(), AllocError> {
-    let seat = new_seat(alloc)?;
+// A set that is full of one future, which was polled once, with this seat.
+fn new_set(alloc: Global, task: &MockTask, seat: &Arc<Seat>) -> Result<Set, Fail> {
+    let mut set: Set = FuturesUnorderedBounded::new(alloc, 1)?;
     let future = Answers {
-        seat: Arc::try_clone(&seat)?,
+        seat: Arc::try_clone(seat)?,
         is_polled: false,
     };
     let _ = set.try_push(future);
-    keep(seats, seat)
-}
-
-// Fills the set.
-fn add_seats(alloc: Global, set: &mut Set, seats: &mut Vec<Arc<Seat>>) -> Result<(), AllocError> {
-    for _ in 0..set.capacity() {
-        add_seat(alloc, set, seats)?;
-    }
-    Ok(())
-}
-
-fn seated(alloc: Global, set: &mut Set) -> Result<Vec<Arc<Seat>>, AllocError> {
-    let mut seats = Vec::new(alloc);
-    add_seats(alloc, set, &mut seats)?;
-    Ok(seats)
+    let _ = poll_set(task, &mut set);
+    Ok(set)
 }
 
 fn waker_of(seat: &Seat) -> Result<SharedWaker, Fail> {
@@ -142,7 +128,7 @@ fn ask_all(seat: &Seat, waker: &SharedWaker, stop: &AtomicU64) {
     }
 }
 
-fn start_one<R: Threads>(
+fn start<R: Threads>(
     rt: &R,
     seat: &Arc<Seat>,
     stop: &Arc<AtomicU64>,
@@ -153,28 +139,6 @@ fn start_one<R: Threads>(
     Ok(thread::spawn(rt, move || { ask_all(&seat, &waker, &stop) })?)
 }
 
-fn start_next<R: Threads>(
-    rt: &R,
-    seat: &Arc<Seat>,
-    stop: &Arc<AtomicU64>,
-    started: &mut Vec<JoinHandle<()>>,
-) -> Result<(), Fail> {
-    let thread = start_one(rt, seat, stop)?;
-    Ok(keep(started, thread)?)
-}
-
-fn start_all<R: Threads>(
-    rt: &R,
-    seats: &[Arc<Seat>],
-    stop: &Arc<AtomicU64>,
-    started: &mut Vec<JoinHandle<()>>,
-) -> Result<(), Fail> {
-    for seat in seats {
-        start_next(rt, seat, stop, started)?;
-    }
-    Ok(())
-}
-
 fn is_over<C: Clock>(clock: &C, start: &Instant) -> bool {
     match start.elapsed(clock) {
         Ok(time) => time.as_millis() >= MILLISECONDS,
@@ -182,26 +146,11 @@ fn is_over<C: Clock>(clock: &C, start: &Instant) -> bool {
     }
 }
 
-// How many threads have made a wake and wait for the answer.
-fn waiting_in(seats: &[Arc<Seat>]) -> usize {
-    let mut waiting = 0_usize;
-    for seat in seats {
-        if seat.woken.load(SeqCst) > seat.answered.load(SeqCst) {
-            waiting = waiting.wrapping_add(1);
-        }
-    }
-    waiting
-}
-
-// Waits until the task is woken: whether it is. Once all threads wait for an answer no wake is under way, and it has to be. A look at the task takes a lock that its wakes need, so these looks are rare.
-fn is_woken(task: &MockTask, seats: &[Arc<Seat>]) -> bool {
+// Waits until the task is woken: whether it is. Once the wake has ended and waits for its answer, it has to be.
+fn is_woken(task: &MockTask, seat: &Seat) -> bool {
     for turn in 0..u64::MAX {
-        let waiting = waiting_in(seats);
-        if waiting == seats.len() {
+        if seat.woken.load(SeqCst) > seat.answered.load(SeqCst) {
             return task.is_woken();
-        }
-        if waiting > 0 && turn % 64 == 0 && task.is_woken() {
-            return true;
         }
         if turn > BUSY_TURNS {
             yield_now();
@@ -216,71 +165,52 @@ fn answer_all<C: Clock>(
     start: &Instant,
     task: &MockTask,
     set: &mut Set,
-    seats: &[Arc<Seat>],
+    seat: &Seat,
 ) -> bool {
     for poll in 1..u64::MAX {
+        if !is_woken(task, seat) {
+            return false;
+        }
         let _ = poll_set(task, set);
         if poll % 64 == 0 && is_over(clock, start) {
             return true;
-        }
-        if !is_woken(task, seats) {
-            return false;
         }
     }
     true
 }
 
-fn join_all<R: Threads>(rt: &R, started: Vec<JoinHandle<()>>) {
-    for thread in started {
-        thread.join(rt);
-    }
-}
-
-fn start_and_answer<R: Threads + Clock>(
-    rt: &R,
+fn answer_in_time<C: Clock>(
+    clock: &C,
     task: &MockTask,
     set: &mut Set,
-    seats: &[Arc<Seat>],
-    stop: &Arc<AtomicU64>,
-    started: &mut Vec<JoinHandle<()>>,
+    seat: &Seat,
 ) -> Result<bool, Fail> {
-    start_all(rt, seats, stop, started)?;
-    let start = Instant::now(rt)?;
-    Ok(answer_all(rt, &start, task, set, seats))
+    let start = Instant::now(clock)?;
+    Ok(answer_all(clock, &start, task, set, seat))
 }
 
-// The same, and each thread that was started has ended.
+// The same while a thread wakes, which has ended then.
 fn answer_and_join<R: Threads + Clock>(
     rt: &R,
     alloc: Global,
     task: &MockTask,
     set: &mut Set,
-    seats: &[Arc<Seat>],
+    seat: &Arc<Seat>,
 ) -> Result<bool, Fail> {
     let stop = new_word(alloc)?;
-    let mut started = Vec::new(alloc);
-    let answered = start_and_answer(rt, task, set, seats, &stop, &mut started);
+    let thread = start(rt, seat, &stop)?;
+    let answered = answer_in_time(rt, task, set, seat);
     stop.store(1, SeqCst);
-    join_all(rt, started);
+    thread.join(rt);
     answered
-}
-
-// Whether the task was always woken, where a set of so many slots is full of futures that threads wake.
-fn is_each_answered<R: Threads + Clock>(
-    rt: &R,
-    alloc: Global,
-    task: &MockTask,
-    slots: usize,
-) -> Result<bool, Fail> {
-    let mut set: Set = FuturesUnorderedBounded::new(alloc, slots)?;
-    let seats = seated(alloc, &mut set)?;
-    let _ = poll_set(task, &mut set);
-    answer_and_join(rt, alloc, task, &mut set, seats.as_slice())
 }
 
 #[test]
 fn each_wake_is_answered(rt: HostRuntime) -> Result<(), Fail> {
     let task = MockTask::new(&rt)?;
-    assert_same(&rt, is_each_answered(&rt, rt.alloc(), &task, 1)?, true);
+    let seat = new_seat(rt.alloc())?;
+    let mut set = new_set(rt.alloc(), &task, &seat)?;
+    let answered = answer_and_join(&rt, rt.alloc(), &task, &mut set, &seat)?;
+    assert_same(&rt, answered, true);
     Ok(())
 }

@@ -11,8 +11,11 @@ use std::alloc::Global;
 use std::sync::Arc;
 use std::sync::atomic::Ordering::SeqCst;
 use std::test::Fail;
+use test_support::counted_source::{CountedSource, SourceLog};
 use test_support::counter::{Counter, new_counter};
-use test_support::holds::{Holds, add_each};
+use test_support::dropped::Dropped;
+use test_support::holds::{Holds, add_each, is_emptied};
+use test_support::keep::keep;
 use test_support::timed::{Timed, late, ready};
 
 // A set of two slots, whose source names the second, pauses, and names the first.
@@ -82,6 +85,29 @@ fn a_refused_source_is_dropped(rt: HostRuntime) -> Result<(), Fail> {
     Ok(())
 }
 
+// Why no set is made of two futures where no source is, if none is.
+fn items_fault(alloc: Global, drops: &Counter) -> Result<Option<NewFault>, Fail> {
+    let mut items = Vec::new(alloc);
+    keep(&mut items, Dropped::new(Arc::try_clone(drops)?))?;
+    keep(&mut items, Dropped::new(Arc::try_clone(drops)?))?;
+    let sources = SourceLog::of(alloc, 0)?;
+    let made: Result<FuturesUnorderedBounded<Dropped, CountedSource>, _> =
+        FuturesUnorderedBounded::over(&sources, alloc, items);
+    Ok(made.err())
+}
+
+#[test]
+fn a_set_that_is_refused_drops_its_items(rt: HostRuntime) -> Result<(), Fail> {
+    let drops = new_counter(rt.alloc())?;
+    let fault = items_fault(rt.alloc(), &drops)?;
+    assert_same(
+        &rt,
+        (fault, drops.load(SeqCst)),
+        (Some(NewFault::Memory), 2),
+    );
+    Ok(())
+}
+
 // Makes a set, and how often its source is dropped while it is there.
 fn drops_of_a_held_source(alloc: Global, drops: &Counter) -> Result<u64, Fail> {
     let source = unnamed_source(alloc, drops, 3)?;
@@ -141,5 +167,57 @@ fn a_group_that_leaves_drops_its_source(rt: HostRuntime) -> Result<(), Fail> {
     );
     drop(set);
     assert_same(&rt, drops.load(SeqCst), 3);
+    Ok(())
+}
+
+// Of groups with 1, 2, 4 slots and so on up to 64 all have left but the last.
+#[test]
+fn each_of_six_groups_that_leave_drops_its_source(rt: HostRuntime) -> Result<(), Fail> {
+    let task = MockTask::new(&rt)?;
+    let drops = new_counter(rt.alloc())?;
+    let mut set: Sourced = FuturesUnordered::over(Arc::try_clone(&drops)?, rt.alloc(), 1)?;
+    assert_same(&rt, add_each(&mut set, 127), 127);
+    assert_same(&rt, is_emptied(&task, &mut set, 127), true);
+    assert_same(&rt, drops.load(SeqCst), 6);
+    drop(set);
+    assert_same(&rt, drops.load(SeqCst), 7);
+    Ok(())
+}
+
+type Logged = FuturesUnordered<Timed, CountedSource>;
+
+// Adds so many that are pending at their first poll: whether each was taken.
+fn add_late(set: &mut Logged, count: usize) -> bool {
+    for _ in 0..count {
+        if set.push(late(7)).is_err() {
+            return false;
+        }
+    }
+    true
+}
+
+// One poll: its answer, whether the task is woken then, and how often a source was registered with by then.
+fn logged_poll(
+    task: &MockTask,
+    sources: &SourceLog,
+    set: &mut Logged,
+) -> (Poll<Option<u64>>, bool, u64) {
+    let answer = set.poll(task);
+    (answer, task.is_woken(), sources.registrations.load(SeqCst))
+}
+
+// Groups of 1, 2, 4 slots and so on up to 32, and then one of 64 more, which a push makes.
+#[test]
+fn a_poll_of_many_groups_registers_once(rt: HostRuntime) -> Result<(), Fail> {
+    let task = MockTask::new(&rt)?;
+    let sources = SourceLog::new(rt.alloc())?;
+    let mut set: Logged = FuturesUnordered::over(sources.try_clone()?, rt.alloc(), 1)?;
+    assert_same(&rt, add_late(&mut set, 63), true);
+    let first = logged_poll(&task, &sources, &mut set);
+    assert_same(&rt, first, (Poll::Pending, false, 1));
+    assert_same(&rt, add_late(&mut set, 1), true);
+    assert_same(&rt, task.is_woken(), false);
+    let second = logged_poll(&task, &sources, &mut set);
+    assert_same(&rt, second, (Poll::Pending, false, 2));
     Ok(())
 }

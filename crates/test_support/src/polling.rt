@@ -7,12 +7,11 @@ use futures_buffered_sets::futures_ordered::FuturesOrdered;
 use futures_buffered_sets::futures_ordered_bounded::FuturesOrderedBounded;
 use futures_buffered_sets::futures_unordered::FuturesUnordered;
 use futures_buffered_sets::futures_unordered_bounded::FuturesUnorderedBounded;
-use futures_buffered_sets::join_all::JoinAll;
 use futures_buffered_sets::merge_bounded::MergeBounded;
 use futures_buffered_sets::merge_unbounded::MergeUnbounded;
 use futures_buffered_sets::slot_future::SlotFuture;
 use futures_buffered_sets::slot_stream::SlotStream;
-use futures_buffered_sets::try_join_all::TryJoinAll;
+use futures_buffered_sets::{JoinAll, TryJoinAll};
 
 /// Polls nothing: the task is not woken right after it.
 pub fn poll_nothing(task: &MockTask) {

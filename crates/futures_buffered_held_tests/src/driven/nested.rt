@@ -3,9 +3,8 @@ use crate::same::assert_same;
 use futures::Stream;
 use futures::task::Poll;
 use futures::test::MockTask;
-use futures_buffered::join_all::join_all;
 use futures_buffered::oneshot::{Receiver, channel};
-use futures_buffered::{Foreign, ForeignSet, JoinAll, SharedReady, foreign_set};
+use futures_buffered::{Foreign, ForeignSet, JoinAll, SharedReady, foreign_set, join_all};
 use std::test::Fail;
 
 type Join = JoinAll<Receiver<u64>, SharedReady>;
