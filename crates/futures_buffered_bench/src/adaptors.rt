@@ -1,6 +1,6 @@
 //! Workloads of the adaptors and of a merge, over what is always ready.
-use crate::clock::Workload;
 use crate::holders::Yields;
+use crate::report::Workload;
 use futures::task::{Context, Poll};
 use futures::{Future, Stream, stream};
 use futures_buffered_adaptors::buffer::Buffer;
@@ -67,87 +67,46 @@ pub type Ordered = Buffer<Ready, OrderedQueue<Yields, (), SharedReady>>;
 
 pub type Unordered = Buffer<Ready, UnorderedQueue<Yields, SharedReady>>;
 
-pub type TryOrdered = TryBuffer<Attempts, OrderedQueue<Succeeds, Result<(), ()>, SharedReady>>;
-
 pub type TryUnordered = TryBuffer<Attempts, UnorderedQueue<Succeeds, SharedReady>>;
 
 pub type Merge = MergeBounded<Feed, SharedReady>;
 
 impl Workload for Ordered {
-    fn calls(&self) -> u64 {
-        12_800
-    }
-
     fn run(&mut self, cx: &mut Context<'_>) {
-        for _ in 0..12_800 {
-            let _ = self.poll_next(cx);
-        }
+        let _ = self.poll_next(cx);
     }
 }
 
 impl Workload for Unordered {
-    fn calls(&self) -> u64 {
-        12_800
-    }
-
     fn run(&mut self, cx: &mut Context<'_>) {
-        for _ in 0..12_800 {
-            let _ = self.poll_next(cx);
-        }
-    }
-}
-
-impl Workload for TryOrdered {
-    fn calls(&self) -> u64 {
-        12_800
-    }
-
-    fn run(&mut self, cx: &mut Context<'_>) {
-        for _ in 0..12_800 {
-            let _ = self.poll_next(cx);
-        }
+        let _ = self.poll_next(cx);
     }
 }
 
 impl Workload for TryUnordered {
-    fn calls(&self) -> u64 {
-        12_800
-    }
-
     fn run(&mut self, cx: &mut Context<'_>) {
-        for _ in 0..12_800 {
-            let _ = self.poll_next(cx);
-        }
+        let _ = self.poll_next(cx);
     }
 }
 
 impl Workload for Merge {
-    fn calls(&self) -> u64 {
-        12_800
-    }
-
     fn run(&mut self, cx: &mut Context<'_>) {
-        for _ in 0..12_800 {
-            let _ = self.poll_next(cx);
-        }
+        let _ = self.poll_next(cx);
     }
 }
 
-const ITEMS: u64 = 12_800;
+/// How many items a round of `ForEach` has.
+pub const ITEMS: usize = 12_800;
 
-/// A for-each whose closure makes ready futures, 100 at a time. A run makes it and polls it to its end: a call is the way of one item.
+/// A for-each whose closure makes ready futures, 100 at a time. A round makes it and polls it to its end.
 #[derive(Drop)]
 pub struct ForEach(pub Global);
 
-fn ready_for(_item: u64) -> Yields {
+fn ready_for(_item: usize) -> Yields {
     Yields { left: 0 }
 }
 
 impl Workload for ForEach {
-    fn calls(&self) -> u64 {
-        ITEMS
-    }
-
     fn run(&mut self, cx: &mut Context<'_>) {
         let items = stream::iter(0..ITEMS);
         let made = ForEachConcurrent::with_limit(self.0, items, 100, 61, |item| ready_for(item));

@@ -1,13 +1,11 @@
 //! Outputs that a thread waits for by `block_on`.
-use crate::clock::tenths;
-use crate::holders::{GrowingSet, fill};
-use crate::waiting::keep;
+use crate::holders::{GrowingSet, Set, Yields, fill};
+use crate::report::tenths;
+use crate::sources::keep;
 use futures::executor::block_on;
 use futures::{StreamExt, future};
-use futures_buffered_core::ready_shared::SharedReady;
 use futures_buffered_slot_futures::oneshot::{Receiver, Sender, channel};
 use futures_buffered_unordered::futures_unordered::FuturesUnordered;
-use futures_buffered_unordered_bounded::futures_unordered_bounded::FuturesUnorderedBounded;
 use std::alloc::{AllocError, AllocGlobal, Global};
 use std::random::RandomSource;
 use std::sync::Wait;
@@ -20,19 +18,23 @@ use std::{io, thread};
 /// How many outputs one run waits for.
 const OUTPUTS: u64 = 1_000;
 
-fn ready(alloc: Global) -> GrowingSet {
+fn ready(alloc: Global) -> GrowingSet<Yields> {
     let mut set = FuturesUnordered::new(alloc);
     fill(&mut set, OUTPUTS as usize, 0);
     set
+}
+
+fn wait_for_each<R: RandomSource + AllocGlobal + Wait>(rt: &R, set: &mut GrowingSet<Yields>) {
+    for _ in 0..OUTPUTS {
+        let _ = block_on(rt, set.next());
+    }
 }
 
 /// The time of an output where each is waited for by a `block_on` of its own, in tenths of a nanosecond.
 pub fn one_by_one<R: Clock + RandomSource + AllocGlobal + Wait>(rt: &R) -> io::Result<u128> {
     let mut set = ready(rt.alloc());
     let start = Instant::now(rt)?;
-    for _ in 0..OUTPUTS {
-        let _ = block_on(rt, set.next());
-    }
+    wait_for_each(rt, &mut set);
     Ok(tenths(start.elapsed(rt)?, OUTPUTS))
 }
 
@@ -59,28 +61,40 @@ fn wait_for(asked: &AtomicU64, wanted: u64) {
     }
 }
 
-// Sends each as soon as it is asked for.
-fn send_each(asked: &AtomicU64, senders: Vec<Sender<u64>>) {
-    for (before, sender) in senders.into_iter().enumerate() {
-        wait_for(asked, (before as u64).saturating_add(1));
-        let _ = sender.send(1);
+// Sends one more as soon as one more is asked for, the last first.
+fn send_each(asked: &AtomicU64, senders: &mut Vec<Sender<u64>>) {
+    for sent in 0..OUTPUTS {
+        wait_for(asked, sent.saturating_add(1));
+        if let Some(sender) = senders.pop() {
+            let _ = sender.send(1);
+        }
     }
 }
 
-// Asks for each, by a set of one slot, and waits for its output.
+// Asks for each in the same order, and waits for its output.
+fn take_each_by<R: Wait + RandomSource + AllocGlobal>(
+    rt: &R,
+    asked: &AtomicU64,
+    set: &mut Set<Receiver<u64>>,
+    receivers: &mut Vec<Receiver<u64>>,
+) {
+    for _ in 0..OUTPUTS {
+        if let Some(receiver) = receivers.pop() {
+            let _ = set.try_push(receiver);
+        }
+        asked.fetch_add(1, SeqCst);
+        let _ = block_on(rt, set.next());
+    }
+}
+
+// The same by a set of one slot.
 fn take_each<R: Wait + RandomSource + AllocGlobal>(
     rt: &R,
     asked: &AtomicU64,
-    receivers: Vec<Receiver<u64>>,
+    receivers: &mut Vec<Receiver<u64>>,
 ) {
-    let made = FuturesUnorderedBounded::<Receiver<u64>, SharedReady>::new(rt.alloc(), 1);
-    let Ok(mut set) = made else {
-        return;
-    };
-    for receiver in receivers {
-        let _ = set.try_push(receiver);
-        asked.fetch_add(1, SeqCst);
-        let _ = block_on(rt, set.next());
+    if let Ok(mut set) = Set::new(rt.alloc(), 1) {
+        take_each_by(rt, asked, &mut set, receivers);
     }
 }
 
@@ -108,8 +122,8 @@ where
     let start = Instant::now(rt)?;
     thread::join(
         rt,
-        || send_each(&asked, senders),
-        || take_each(rt, &asked, receivers),
+        || send_each(&asked, &mut senders),
+        || take_each(rt, &asked, &mut receivers),
     );
     Ok(tenths(start.elapsed(rt)?, OUTPUTS))
 }

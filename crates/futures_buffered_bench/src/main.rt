@@ -3,7 +3,6 @@
 
 mod adaptors;
 mod blocking;
-mod clock;
 mod holders;
 mod one_shots;
 mod ready_list;

@@ -1,14 +1,12 @@
 //! One-shots, from channel to output: those of the kit in the kit's own set and in a set over the source that has futures of the kit polled, and those of this library in a set over the shared source.
-use crate::clock::Workload;
+use crate::holders::Set;
+use crate::report::Workload;
 use futures::Stream;
 use futures::channel::oneshot as kit;
-use futures::stream::FuturesUnordered;
+use futures::stream::FuturesUnordered as KitSet;
 use futures::task::Context;
-use futures_buffered_core::ready_core::NewFault;
-use futures_buffered_core::ready_shared::SharedReady;
-use futures_buffered_driven::{Foreign, ForeignSet, foreign_set};
+use futures_buffered_driven::{Foreign, ForeignSet};
 use futures_buffered_slot_futures::oneshot;
-use futures_buffered_unordered_bounded::futures_unordered_bounded::FuturesUnorderedBounded;
 use std::alloc::Global;
 
 /// A set that is given receivers, and is polled.
@@ -20,17 +18,10 @@ pub trait Receives: Drop {
 
     fn send(sender: Self::Sender);
 
-    /// One poll.
     fn poll(&mut self, cx: &mut Context<'_>);
 }
 
-pub type KitSet = FuturesUnordered<kit::Receiver<u64>>;
-
-pub type DrivenSet = ForeignSet<kit::Receiver<u64>>;
-
-pub type SharedSet = FuturesUnorderedBounded<oneshot::Receiver<u64>, SharedReady>;
-
-impl Receives for KitSet {
+impl Receives for KitSet<kit::Receiver<u64>> {
     type Sender = kit::Sender<u64>;
 
     fn hold(&mut self, alloc: Global) -> Option<kit::Sender<u64>> {
@@ -48,7 +39,7 @@ impl Receives for KitSet {
     }
 }
 
-impl Receives for DrivenSet {
+impl Receives for ForeignSet<kit::Receiver<u64>> {
     type Sender = kit::Sender<u64>;
 
     fn hold(&mut self, alloc: Global) -> Option<kit::Sender<u64>> {
@@ -66,7 +57,7 @@ impl Receives for DrivenSet {
     }
 }
 
-impl Receives for SharedSet {
+impl Receives for Set<oneshot::Receiver<u64>> {
     type Sender = oneshot::Sender<u64>;
 
     fn hold(&mut self, alloc: Global) -> Option<oneshot::Sender<u64>> {
@@ -84,7 +75,7 @@ impl Receives for SharedSet {
     }
 }
 
-/// A set of one-shots. A run makes as many as there are slots, lets each be polled, sends to all, and takes their outputs.
+/// A set of one-shots. A round makes as many as there are slots, lets each be polled, sends to all, and takes their outputs.
 #[derive(Drop)]
 pub struct OneShots<H: Receives> {
     alloc: Global,
@@ -93,37 +84,16 @@ pub struct OneShots<H: Receives> {
     senders: Vec<H::Sender>,
 }
 
-/// Those of the kit, in its own set.
-pub fn of_kit(alloc: Global, slots: usize) -> Result<OneShots<KitSet>, NewFault> {
-    Ok(OneShots {
-        alloc,
-        set: FuturesUnordered::new(alloc)?,
-        slots,
-        senders: Vec::with_capacity(alloc, slots)?,
-    })
-}
-
-/// Those of the kit, in a set over the source that has futures of the kit polled.
-pub fn driven(alloc: Global, slots: usize) -> Result<OneShots<DrivenSet>, NewFault> {
-    Ok(OneShots {
-        alloc,
-        set: foreign_set(alloc, slots)?,
-        slots,
-        senders: Vec::with_capacity(alloc, slots)?,
-    })
-}
-
-/// Those of this library, in a set over the shared source.
-pub fn shared(alloc: Global, slots: usize) -> Result<OneShots<SharedSet>, NewFault> {
-    Ok(OneShots {
-        alloc,
-        set: FuturesUnorderedBounded::new(alloc, slots)?,
-        slots,
-        senders: Vec::with_capacity(alloc, slots)?,
-    })
-}
-
 impl<H: Receives> OneShots<H> {
+    pub fn new(alloc: Global, made: Option<H>, slots: usize) -> Option<OneShots<H>> {
+        made.map(|set| OneShots {
+            alloc,
+            set,
+            slots,
+            senders: Vec::new(alloc),
+        })
+    }
+
     fn fill(&mut self) {
         for _ in 0..self.slots {
             if let Some(sender) = self.set.hold(self.alloc) {
@@ -148,10 +118,6 @@ impl<H: Receives> OneShots<H> {
 }
 
 impl<H: Receives> Workload for OneShots<H> {
-    fn calls(&self) -> u64 {
-        self.slots as u64
-    }
-
     // A set polls 32 at least in each poll, so after `each` of them all have been polled once.
     fn run(&mut self, cx: &mut Context<'_>) {
         let each = self.slots / 32 + 3;

@@ -1,6 +1,5 @@
 //! Workloads of shared sources without a set.
-use crate::clock::{Workload, tenths};
-use crate::waiting::keep;
+use crate::report::{Workload, tenths};
 use futures::task::{Context, Poll, Source as TaskSource, Waker};
 use futures_buffered_core::ready_core::{NewFault, Taken};
 use futures_buffered_core::ready_shared::{OuterWaker, SharedReady, SharedWaker};
@@ -10,22 +9,22 @@ use std::thread::Threads;
 use std::time::{Clock, Instant};
 use std::{io, thread};
 
+/// Adds at the end. An item that finds no room is dropped here, so that a caller's `?` has none to drop.
+pub fn keep<T: Drop>(row: &mut Vec<T>, item: T) -> Result<(), AllocError> {
+    row.push(item)?;
+    Ok(())
+}
+
 /// The kit alone. Each call leaves the task's waker in a place of its own, takes it out, and wakes the task.
 #[derive(Drop)]
-pub struct TaskAlone(pub TaskSource);
+pub struct TaskAlone;
 
 impl Workload for TaskAlone {
-    fn calls(&self) -> u64 {
-        10_000
-    }
-
     fn run(&mut self, cx: &mut Context<'_>) {
         let mut slot: Option<Waker> = None;
-        for _ in 0..10_000 {
-            let _: Poll<()> = cx.register(&self.0, &mut slot);
-            if let Some(waker) = slot.take() {
-                waker.wake();
-            }
+        let _: Poll<()> = cx.register(&TaskSource::new(), &mut slot);
+        if let Some(waker) = slot.take() {
+            waker.wake();
         }
     }
 }
@@ -73,18 +72,12 @@ impl Beside {
 }
 
 impl Workload for Beside {
-    fn calls(&self) -> u64 {
-        10_000
-    }
-
     fn run(&mut self, cx: &mut Context<'_>) {
-        for _ in 0..10_000 {
-            if let Some(first) = self.0.first_mut() {
-                ReadySource::register(first, cx);
-            }
-            self.wake_last();
-            self.ask_each();
+        if let Some(first) = self.0.first_mut() {
+            ReadySource::register(first, cx);
         }
+        self.wake_last();
+        self.ask_each();
     }
 }
 
@@ -126,12 +119,6 @@ fn add_wakers(wakers: &mut Vec<SharedWaker<Nobody>>, source: &Source) -> Result<
         }
     }
     Ok(())
-}
-
-fn wakers_of(alloc: Global, source: &Source) -> Result<Vec<SharedWaker<Nobody>>, AllocError> {
-    let mut wakers = Vec::new(alloc);
-    add_wakers(&mut wakers, source)?;
-    Ok(wakers)
 }
 
 fn two<T: Threads>(rt: &T, wakers: &[SharedWaker<Nobody>]) {
@@ -176,9 +163,10 @@ pub fn four_wakers<R: Clock + Threads + Sync>(
     let Ok(mut source) = Source::new(alloc, slots) else {
         return Ok(None);
     };
-    let Ok(wakers) = wakers_of(alloc, &source) else {
+    let mut wakers = Vec::new(alloc);
+    if add_wakers(&mut wakers, &source).is_err() {
         return Ok(None);
-    };
+    }
     let takings = (slots as u64).saturating_mul(ROUNDS);
     Ok(Some(quickest(rt, wakers.as_slice(), &mut source, takings)?))
 }

@@ -1,47 +1,31 @@
 //! Sets and joins that are made, polled to their end and dropped.
-use crate::clock::Workload;
-use crate::holders::{GrowingSet, Holder, Yields, fill};
+use crate::holders::{GrowingSet, Yields, fill, poll_often};
+use crate::report::Workload;
 use futures::Future;
 use futures::task::Context;
-use futures_buffered_joins::join_all::join_all;
+use futures_buffered_joins::join::join_all;
 use futures_buffered_unordered::futures_unordered::FuturesUnordered;
 use std::alloc::Global;
 
-/// A growing set. A run makes it without a group, pushes so many ready futures, and takes their outputs: a call is the way of one.
+/// A growing set. A round makes it without a group, pushes so many ready futures, and takes their outputs.
 #[derive(Drop)]
-pub struct DrainedSet {
-    pub alloc: Global,
-    pub count: usize,
-}
+pub struct DrainedSet(pub Global, pub usize);
 
 impl Workload for DrainedSet {
-    fn calls(&self) -> u64 {
-        self.count as u64
-    }
-
     fn run(&mut self, cx: &mut Context<'_>) {
-        let mut set: GrowingSet = FuturesUnordered::new(self.alloc);
-        fill(&mut set, self.count, 0);
-        for _ in 0..self.count {
-            let _ = set.gives(cx);
-        }
+        let mut set: GrowingSet<Yields> = FuturesUnordered::new(self.0);
+        fill(&mut set, self.1, 0);
+        poll_often(&mut set, self.1, cx);
     }
 }
 
-/// A join. A run makes it of so many ready futures, and polls it once: a call is the way of one.
+/// A join. A round makes it of so many ready futures, and polls it once.
 #[derive(Drop)]
-pub struct Joined {
-    pub alloc: Global,
-    pub count: u64,
-}
+pub struct Joined(pub Global, pub u64);
 
 impl Workload for Joined {
-    fn calls(&self) -> u64 {
-        self.count
-    }
-
     fn run(&mut self, cx: &mut Context<'_>) {
-        let made = join_all(self.alloc, (0..self.count).map(|_| Yields { left: 0 }));
+        let made = join_all(self.0, (0..self.1).map(|_| Yields { left: 0 }));
         if let Ok(mut join) = made {
             let _ = join.poll(cx);
         }

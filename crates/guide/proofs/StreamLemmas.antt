@@ -11,7 +11,7 @@ use Rattle.futures.specs.Runs.{Runs, Turns, Resolves, Chains, firsts, seconds}
 use Rattle.futures_buffered.specs.Buffer.{Ahead}
 use Rattle.futures_buffered.specs.OrderedEntries.{InTurn}
 use Rattle.futures_buffered.specs.Joining.{Places, IsNewJoin}
-use Rattle.futures_buffered.specs.JoinAll.{JoinMayGive}
+use Rattle.futures_buffered.specs.Join.{JoinMayGive}
 
 -- all that the iterator of a vector gives is the vector's elements
 pub gave_all : {A Z : Type 0} (it : IntoIter A Z) (elements given : List A) → into_iter_items it ≡ elements

@@ -44,17 +44,6 @@ where
     Ok(())
 }
 
-pub fn in_any_order_up_to_an_error<R>(rt: &R) -> Result<(), anyhow::Error>
-where
-    R: Wait + RandomSource + AllocGlobal + Print,
-{
-    let jobs = vec![in rt.alloc(); Ok(Half(2)), Err(Odd(9)), Ok(Half(4))]?;
-    let outputs = stream::iter(jobs).try_buffered_unordered(rt.alloc(), 2)?;
-    let outputs = block_on(rt, outputs.collect(rt.alloc()))??;
-    println!(rt; "{outputs:?}")?;
-    Ok(())
-}
-
 pub fn of_an_iterator<R>(rt: &R) -> Result<(), anyhow::Error>
 where
     R: Wait + RandomSource + AllocGlobal + Print,

@@ -1,11 +1,12 @@
 //! Futures and streams of the kit.
-use futures::channel::{mpsc, oneshot};
+use futures::channel::mpsc::{TrySendError, UnboundedReceiver, UnboundedSender, unbounded};
+use futures::channel::oneshot::{Canceled, Receiver, channel};
 use futures::executor::block_on;
-use futures::{StreamExt, stream};
-use futures_buffered::{
-    BufferedStreamExt, Foreign, ForeignStream, GrowingForeignMerge, foreign_set,
-};
-use std::alloc::AllocGlobal;
+use futures::{StreamExt, future, stream};
+use futures_buffered::foreign_sets::{foreign_join_all, foreign_set};
+use futures_buffered::future::{map, then};
+use futures_buffered::{BufferedOrdered, Driven, Foreign, ForeignMerge, ForeignStream};
+use std::alloc::{AllocError, AllocGlobal, Global};
 use std::io::Print;
 use std::random::RandomSource;
 use std::sync::Wait;
@@ -14,40 +15,114 @@ pub fn one_receiver<R>(rt: &R) -> Result<(), anyhow::Error>
 where
     R: Wait + RandomSource + AllocGlobal + Print,
 {
-    let (sender, receiver) = oneshot::channel::<u64>(rt.alloc())?;
+    let (sender, receiver) = channel::<u64>(rt.alloc())?;
     let mut set = foreign_set(rt.alloc(), 8)?;
-    set.push(Foreign::new(receiver));
+    set.push(map(
+        Foreign::new(receiver),
+        |sent: Result<u64, Canceled>| sent.unwrap_or(0),
+    ));
     let _ = sender.send(7);
     println!(rt; "{:?}", block_on(rt, set.next())?)?;
     Ok(())
+}
+
+pub fn one_after_another<R>(rt: &R) -> Result<(), anyhow::Error>
+where
+    R: Wait + RandomSource + AllocGlobal + Print,
+{
+    let (first_sender, first) = channel::<u64>(rt.alloc())?;
+    let (second_sender, second) = channel::<u64>(rt.alloc())?;
+    let mut set = foreign_set(rt.alloc(), 8)?;
+    set.push(then(Foreign::new(first), move |one: Result<u64, Canceled>| {
+        map(Foreign::new(second), move |other: Result<u64, Canceled>| {
+            other.unwrap_or(0).wrapping_add(one.unwrap_or(0))
+        })
+    }));
+    let _ = first_sender.send(40);
+    let _ = second_sender.send(2);
+    println!(rt; "{:?}", block_on(rt, set.next())?)?;
+    Ok(())
+}
+
+// A receiver whose value has been sent.
+fn sent(alloc: Global, value: u64) -> Result<Receiver<u64>, AllocError> {
+    let (sender, receiver) = channel(alloc)?;
+    let _ = sender.send(value);
+    Ok(receiver)
 }
 
 pub fn two_at_a_time<R>(rt: &R) -> Result<(), anyhow::Error>
 where
     R: Wait + RandomSource + AllocGlobal + Print,
 {
-    let (first, first_receiver) = oneshot::channel::<u64>(rt.alloc())?;
-    let (second, second_receiver) = oneshot::channel::<u64>(rt.alloc())?;
-    let receivers = vec![in rt.alloc(); first_receiver, second_receiver]?;
-    let outputs = stream::iter(receivers).foreign_buffered_ordered(rt.alloc(), 2)?;
-    let _ = second.send(2);
-    let _ = first.send(1);
-    println!(rt; "{:?}", block_on(rt, outputs.collect(rt.alloc()))??)?;
+    let alloc = rt.alloc();
+    let receivers = vec![in alloc; sent(alloc, 1)?, sent(alloc, 2)?, sent(alloc, 3)?]?;
+    let futures = stream::iter(receivers).map(|receiver| {
+        map(
+            Foreign::new(receiver),
+            |sent: Result<u64, Canceled>| sent.unwrap_or(0),
+        )
+    });
+    let outputs = BufferedOrdered::<_, Driven<Receiver<u64>>>::over(&(), alloc, futures, 2)?;
+    println!(rt; "{:?}", block_on(rt, outputs.collect(alloc))??)?;
     Ok(())
 }
 
-pub fn two_channels<R>(rt: &R) -> Result<(), anyhow::Error>
+pub fn joined<R>(rt: &R) -> Result<(), anyhow::Error>
 where
     R: Wait + RandomSource + AllocGlobal + Print,
 {
-    let (numbers, first) = mpsc::unbounded::<u64>(rt.alloc())?;
-    let (others, second) = mpsc::unbounded::<u64>(rt.alloc())?;
-    let held = vec![in rt.alloc(); ForeignStream::new(first), ForeignStream::new(second)]?;
-    let merge = GrowingForeignMerge::over((), rt.alloc(), held)?;
-    numbers.unbounded_send(1)?;
-    others.unbounded_send(10)?;
-    numbers.unbounded_send(2)?;
-    drop((numbers, others));
-    println!(rt; "{:?}", block_on(rt, merge.collect(rt.alloc()))??)?;
+    let alloc = rt.alloc();
+    let jobs = vec![in alloc;
+        Foreign::new(sent(alloc, 1)?),
+        Foreign::new(sent(alloc, 2)?),
+    ]?;
+    println!(rt; "{:?}", block_on(rt, foreign_join_all(alloc, jobs)?)?)?;
+    Ok(())
+}
+
+pub fn ended_early<R>(rt: &R) -> Result<(), anyhow::Error>
+where
+    R: Wait + RandomSource + AllocGlobal + Print,
+{
+    let (sender, receiver) = channel::<u64>(rt.alloc())?;
+    let (job, handle) = future::abortable(rt.alloc(), receiver)?;
+    let mut set = foreign_set(rt.alloc(), 8)?;
+    set.push(Foreign::new(job));
+    handle.abort();
+    let output = block_on(rt, set.next())?;
+    println!(rt; "{output:?}, nobody receives: {}", sender.is_canceled())?;
+    Ok(())
+}
+
+fn send_each(sender: &UnboundedSender<u64>, items: &[u64]) -> Result<(), TrySendError<u64>> {
+    for item in items {
+        sender.unbounded_send(*item)?;
+    }
+    Ok(())
+}
+
+// The stream of a channel into which these have been sent, and no more can be.
+fn items_of(
+    alloc: Global,
+    items: &[u64],
+) -> Result<ForeignStream<UnboundedReceiver<u64>>, anyhow::Error> {
+    let (sender, receiver) = unbounded(alloc)?;
+    send_each(&sender, items)?;
+    Ok(ForeignStream::new(receiver))
+}
+
+pub fn three_channels<R>(rt: &R) -> Result<(), anyhow::Error>
+where
+    R: Wait + RandomSource + AllocGlobal + Print,
+{
+    let alloc = rt.alloc();
+    let streams = vec![in alloc;
+        items_of(alloc, &[1, 2])?,
+        items_of(alloc, &[10])?,
+        items_of(alloc, &[20])?,
+    ]?;
+    let merge = ForeignMerge::over(&(), alloc, streams)?;
+    println!(rt; "{:?}", block_on(rt, merge.collect(alloc))??)?;
     Ok(())
 }

@@ -2,8 +2,7 @@
 use crate::checked::Half;
 use crate::countdown::after;
 use futures::executor::block_on;
-use futures_buffered::join_all::join_all;
-use futures_buffered::try_join_all::try_join_all;
+use futures_buffered::{join_all, try_join_all};
 use std::alloc::AllocGlobal;
 use std::io::Print;
 use std::random::RandomSource;

@@ -1,13 +1,50 @@
-//! A set that is pushed into while it is drained, in one task.
+//! Sets that are pushed into while they are drained.
 use crate::countdown::{Countdown, after};
 use futures::executor::block_on;
 use futures::task::{Context, Poll};
-use futures::{Future, Stream};
-use futures_buffered::{FuturesUnordered, NewFault, SharedReady};
+use futures::{Future, Stream, StreamExt, future};
+use futures_buffered::{FuturesUnordered, FuturesUnorderedBounded, NewFault, SharedReady};
 use std::alloc::AllocGlobal;
+use std::io;
 use std::io::Print;
+use std::ops::Range;
 use std::random::RandomSource;
 use std::sync::Wait;
+
+// At most 128 jobs are under way.
+type Jobs = FuturesUnorderedBounded<Countdown, SharedReady>;
+
+fn begin_each(jobs: &mut Jobs, numbers: Range<u64>) {
+    for number in numbers {
+        let _ = jobs.try_push(after(1, number));
+    }
+}
+
+// Begins one as soon as another has ended. The sum of what these gave.
+fn replace_each<R>(rt: &R, jobs: &mut Jobs, numbers: Range<u64>) -> io::Result<u64>
+where
+    R: Wait + RandomSource + AllocGlobal,
+{
+    let mut sum = 0u64;
+    for number in numbers {
+        let output = block_on(rt, jobs.next())?;
+        sum = sum.wrapping_add(output.unwrap_or(0));
+        let _ = jobs.try_push(after(1, number));
+    }
+    Ok(sum)
+}
+
+pub fn at_most_128<R>(rt: &R) -> Result<(), anyhow::Error>
+where
+    R: Wait + RandomSource + AllocGlobal + Print,
+{
+    let mut jobs = Jobs::new(rt.alloc(), 128)?;
+    begin_each(&mut jobs, 0..128);
+    let sum = replace_each(rt, &mut jobs, 128..1_024)?;
+    let sum = jobs.fold(sum, |sum, output| future::ready(sum.wrapping_add(output)));
+    println!(rt; "sum {}", block_on(rt, sum)?)?;
+    Ok(())
+}
 
 // Halves numbers until each part is 1, and counts these.
 #[derive(Drop)]

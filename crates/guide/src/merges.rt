@@ -2,7 +2,7 @@
 use crate::numbers::Numbers;
 use futures::StreamExt;
 use futures::executor::block_on;
-use futures_buffered::{MergeBounded, MergeUnbounded};
+use futures_buffered::MergeBounded;
 use std::alloc::AllocGlobal;
 use std::io::Print;
 use std::random::RandomSource;
@@ -18,18 +18,6 @@ where
         Numbers { next: 20, end: 21 },
     ]?;
     let merge = MergeBounded::from_iter(rt.alloc(), streams)?;
-    let items = block_on(rt, merge.collect(rt.alloc()))??;
-    println!(rt; "{items:?}")?;
-    Ok(())
-}
-
-pub fn growing_merge<R>(rt: &R) -> Result<(), anyhow::Error>
-where
-    R: Wait + RandomSource + AllocGlobal + Print,
-{
-    let mut merge = MergeUnbounded::new(rt.alloc());
-    merge.add(Numbers { next: 0, end: 2 })?;
-    merge.add(Numbers { next: 10, end: 12 })?;
     let items = block_on(rt, merge.collect(rt.alloc()))??;
     println!(rt; "{items:?}")?;
     Ok(())

@@ -1,6 +1,5 @@
 //! Ordered queues.
 use crate::countdown::after;
-use anyhow::bail;
 use futures::StreamExt;
 use futures::executor::block_on;
 use futures_buffered::{FuturesOrdered, FuturesOrderedBounded};
@@ -14,15 +13,11 @@ where
     R: Wait + RandomSource + AllocGlobal + Print,
 {
     let mut queue = FuturesOrderedBounded::new(rt.alloc(), 2)?;
-    let (Ok(()), Ok(())) = (
-        queue.try_push_back(after(3, 1)),
-        queue.try_push_back(after(0, 2)),
-    ) else {
-        bail!("out of memory");
-    };
-    println!(rt; "full: {}", queue.is_full())?;
+    let _ = queue.try_push_back(after(3, 1));
+    let _ = queue.try_push_back(after(0, 2));
+    let was_full = queue.is_full();
     let first = block_on(rt, queue.next())?;
-    println!(rt; "{first:?}, then full: {}", queue.is_full())?;
+    println!(rt; "full: {was_full}, {first:?}, full: {}", queue.is_full())?;
     let rest = block_on(rt, queue.collect(rt.alloc()))??;
     println!(rt; "{rest:?}")?;
     Ok(())
@@ -33,9 +28,9 @@ where
     R: Wait + RandomSource + AllocGlobal + Print,
 {
     let mut queue = FuturesOrdered::new(rt.alloc());
-    for value in 0..5 {
-        queue.add_back(after(5 - value, value))?;
-    }
+    queue.add_back(after(2, 1))?;
+    queue.add_back(after(0, 2))?;
+    queue.add_front(after(1, 0))?;
     let outputs = block_on(rt, queue.collect(rt.alloc()))??;
     println!(rt; "{outputs:?}")?;
     Ok(())

@@ -1,10 +1,11 @@
 //! Sets.
-use crate::countdown::after;
+use crate::countdown::{Countdown, after};
 use futures::executor::block_on;
 use futures::{StreamExt, future};
-use futures_buffered::{FuturesUnordered, FuturesUnorderedBounded};
+use futures_buffered::{FuturesUnordered, FuturesUnorderedBounded, NewFault, SharedReady};
 use std::alloc::AllocGlobal;
 use std::io::Print;
+use std::ops::Range;
 use std::random::RandomSource;
 use std::sync::Wait;
 
@@ -23,14 +24,22 @@ where
     Ok(())
 }
 
+fn add_each(
+    work: &mut FuturesUnordered<Countdown, SharedReady>,
+    values: Range<u64>,
+) -> Result<(), NewFault> {
+    for value in values {
+        work.add(after(1, value))?;
+    }
+    Ok(())
+}
+
 pub fn work_list<R>(rt: &R) -> Result<(), anyhow::Error>
 where
     R: Wait + RandomSource + AllocGlobal + Print,
 {
     let mut work = FuturesUnordered::new(rt.alloc());
-    for value in 0..100 {
-        work.add(after(1, value))?;
-    }
+    add_each(&mut work, 0..100)?;
     println!(rt; "{} held, room for {}", work.len(), work.capacity())?;
     let sum = work.fold(0u64, |sum, value| future::ready(sum.wrapping_add(value)));
     println!(rt; "sum {}", block_on(rt, sum)?)?;

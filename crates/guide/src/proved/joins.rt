@@ -3,7 +3,7 @@ ghost use Rattle.std.specs.Prelude.{◌≡◌, vec_len, IfOk};
 
 use crate::proved::doubling::Doubling;
 use futures::executor::block_on;
-use futures_buffered::join_all::join_all;
+use futures_buffered::join_all;
 use std::alloc::AllocGlobal;
 use std::random::RandomSource;
 use std::sync::Wait;
