@@ -8,17 +8,26 @@ but for its indent and empty lines.
 A path with a folder in capitals, as `crates/CRATE/src`, stands for any, and is passed over. A name is a word in backquotes with an
 underscore or an inner capital. It has to stand in a source, a proof, a refused body or a script,
 as a word of its text or as a file's name. Names of the Rust crate, of the kit and of the system alone are listed below.
-The last line is 'N names, M paths and L blocks, K faults', and the status is 0 where there is none.
+
+The contracts that CALLING.md quotes stand in a source: each signature up to its bounds, in a file that names the type, and each clause by
+its name, with `self` for `self.old` and `self.now`, and `self'` for `self.new`. README and the newest entry of CHANGELOG name the same
+version and the same kit, and `rt version`, where there is one, answers that kit.
+
+The last line is 'N names, M paths, L blocks and K contracts, F faults', and the status is 0 where there is none.
 """
 import pathlib
 import re
+import shutil
+import subprocess
 import sys
 
 ROOT = pathlib.Path(__file__).resolve().parent.parent
-DOCUMENTS = [ROOT / "README.md", ROOT / "CONTRIBUTING.md", ROOT / "CHANGELOG.md", *sorted((ROOT / "docs").glob("*.md"))]
+AT_THE_TOP = ["README.md", "CALLING.md", "CONTRIBUTING.md", "CHANGELOG.md"]
+DOCUMENTS = [*(ROOT / name for name in AT_THE_TOP), *sorted((ROOT / "docs").glob("*.md")), *sorted((ROOT / "crates").glob("*/README.md"))]
 SOURCES = {".rt", ".antt", ".calls", ".edit", ".py", ".sh", ".txt", ""}
 ELSEWHERE = {
     "FromIterator", "Extend", "TryFuture", "TryStream",  # of Rust's library and of the Rust crate
+    "must_use", "track_caller",  # marks of Rust
     "WakerList",  # of the Rust crate
     "VmHWM",  # of the system
 }
@@ -88,16 +97,86 @@ def faults_of(document, words, sources, count):
                     yield f"no name {word}"
 
 
-def main():
+def flat(text):
+    """The text in one line, as CALLING.md quotes it."""
+    text = re.sub(r"\s+", " ", text).replace("( ", "(").replace(", )", ")").strip()
+    return re.sub(r"\bself\.new\b", "self'", re.sub(r"\bself\.(old|now)\b", "self", text))
+
+
+def clauses_of(text):
+    """Each clause of a contract, as a line `ensures name: text`."""
+    for found in re.finditer(r"\b(requires|ensures)( \w+)? \{", text):
+        end, depth = found.end(), 1
+        while depth:
+            depth += {"{": 1, "}": -1}.get(text[end], 0)
+            end += 1
+        yield f"{found[1]}{found[2] or ''}: {flat(text[found.end() : end - 1])}"
+
+
+def contracts_of(sources):
+    """Each function of these texts: its signature up to its bounds, its clauses, and the words of its file."""
+    for text in sources:
+        begins = [found.start() for found in re.finditer(r"^ *(?:pub |final )*fn \w+", text, re.M)]
+        for begin, end in zip(begins, [*begins[1:], len(text)]):
+            item = text[begin:end]
+            signature = re.split(r"\n *(?:where|requires|ensures)\b|\{|;", item)[0]
+            yield flat(re.sub(r"\b(?:pub|final) ", "", signature)), set(clauses_of(item)), text
+
+
+def quoted_contracts(text):
+    """Each function that the text quotes: its type or nothing, its signature without that, and its clauses."""
+    for block in re.findall(r"^```text\n(.*?)^```", text, re.M | re.S):
+        for item in re.split(r"^(?=fn )", block, flags=re.M):
+            head, *clauses = item.strip().splitlines() or [""]
+            if head.startswith("fn "):
+                named = re.match(r"fn (?:(\w+)::)?(.*)", head)
+                yield named[1] or "", f"fn {named[2]}", {clause.strip() for clause in clauses}
+
+
+def faults_of_contracts(text, count):
+    sources = [path.read_text(encoding="utf-8") for path in tracked() if path.suffix == ".rt"]
+    contracts = list(contracts_of(sources))
+    for named, signature, clauses in quoted_contracts(text):
+        count["contracts"] += 1
+        if not any(signature == there and clauses <= held and named in source for there, held, source in contracts):
+            yield f"no source has the contract that is quoted of {named} {signature!r}"
+
+
+def faults_of_version(readme, changes):
+    """README and the newest entry of the changes have one version and one kit, which is that of this machine."""
+    version = re.search(r"^## (\S+)$", changes, re.M)
+    kit = re.search(r"^Proved with `(.+?)`", changes, re.M)
+    if not version or not kit:
+        yield "no heading of a version, or no line 'Proved with' and the kit"
+        return
+    if f"Version {version[1]}, proved with `{kit[1]}`" not in readme:
+        yield f"README does not name version {version[1]} and the kit `{kit[1]}`"
+    if shutil.which("rt"):
+        here = subprocess.run(["rt", "version"], capture_output=True, text=True, check=False).stdout.strip()
+        if here != kit[1]:
+            yield f"the kit here is `{here}`, and not `{kit[1]}`"
+
+
+def all_faults(count):
     words = words_of_sources()
     sources = [lines_of(path.read_text(encoding="utf-8")) for path in tracked() if path.suffix in {".rt", ".antt"}]
-    count = {"names": 0, "paths": 0, "blocks": 0}
-    faults = 0
     for document in DOCUMENTS:
         for fault in faults_of(document, words, sources, count):
-            faults += 1
-            print(f"{document.relative_to(ROOT)}: {fault}")
-    print(f"{count['names']} names, {count['paths']} paths and {count['blocks']} blocks, {faults} faults")
+            yield document.relative_to(ROOT), fault
+    readme, calling, changes = ((ROOT / name).read_text(encoding="utf-8") for name in ("README.md", "CALLING.md", "CHANGELOG.md"))
+    for fault in faults_of_contracts(calling, count):
+        yield "CALLING.md", fault
+    for fault in faults_of_version(readme, changes):
+        yield "CHANGELOG.md", fault
+
+
+def main():
+    count = {"names": 0, "paths": 0, "blocks": 0, "contracts": 0}
+    faults = 0
+    for document, fault in all_faults(count):
+        faults += 1
+        print(f"{document}: {fault}")
+    print(f"{count['names']} names, {count['paths']} paths, {count['blocks']} blocks and {count['contracts']} contracts, {faults} faults")
     sys.exit(1 if faults else 0)
 
 

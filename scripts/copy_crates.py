@@ -3,10 +3,11 @@
 
     scripts/copy_crates.py FOLDER [CRATE]
 
-FOLDER is the top of the other repository, and CRATE is `futures_buffered` where none is named. The toolchain looks for a crate in the
-repository's own `crates/` alone, so a repository that uses these crates has a copy of them. Of each crate `src/`, `specs/` and
-`proofs/` are copied, in place of a copy that is there already, and not `must-fail/`, which the gate tries here. The licence lies
-with CRATE. A line for each crate that FOLDER/crates.txt lacks is written at its end, and printed.
+FOLDER is the top of the other repository, which is made where it is not there, and CRATE is `futures_buffered` where none is named.
+The toolchain looks for a crate in the repository's own `crates/` alone, so a repository that uses these crates has a copy of them. Of
+each crate `src/`, `specs/` and `proofs/` are copied, in place of a copy that is there already, and not its wrong bodies, which the
+gate tries here. The licence lies with CRATE. The line of each crate in FOLDER/crates.txt becomes the one that it has here, where it
+stands or else at the end; each that was not there before is printed.
 """
 import pathlib
 import re
@@ -17,11 +18,20 @@ ROOT = pathlib.Path(__file__).resolve().parent.parent
 PARTS = ("src", "specs", "proofs")
 
 
+def name_of(line):
+    """The crate that a line of a crates.txt lists, or nothing where it lists none."""
+    found = re.match(r"[\w-]+", line.partition("#")[0].strip())
+    return found[0] if found else None
+
+
 def lines_in(file):
+    """The lines of a crates.txt, or none where it is not there."""
+    return file.read_text(encoding="utf-8").splitlines() if file.exists() else []
+
+
+def listed_in(file):
     """The line of each crate that a crates.txt lists, by the crate's name."""
-    text = file.read_text(encoding="utf-8") if file.exists() else ""
-    lines = (line.partition("#")[0].strip() for line in text.splitlines())
-    return {re.match(r"[\w-]+", line)[0]: line for line in lines if line}
+    return {name_of(line): line.partition("#")[0].strip() for line in lines_in(file) if name_of(line)}
 
 
 def with_those_below(crate, lines):
@@ -39,22 +49,31 @@ def copy_crate(crate, to):
             shutil.copytree(ROOT / "crates" / crate / part, to / part)
 
 
+def list_crates(file, wanted):
+    """Gives each of these crates its line in a crates.txt, and returns the lines that were not there."""
+    lines = [wanted.get(name_of(line), line) for line in lines_in(file)]
+    listed = {name_of(line) for line in lines}
+    lines += [line for name, line in wanted.items() if name not in listed]
+    added = [line for line in wanted.values() if line not in lines_in(file)]
+    file.write_text("".join(line + "\n" for line in lines), encoding="utf-8")
+    return added
+
+
 def main():
     if len(sys.argv) not in (2, 3):
         sys.exit("usage: scripts/copy_crates.py FOLDER [CRATE]")
     folder, crate = pathlib.Path(sys.argv[1]), (sys.argv[2:] or ["futures_buffered"])[0]
-    lines = lines_in(ROOT / "crates.txt")
-    if crate not in lines or not folder.is_dir():
-        sys.exit(f"there is no crate {crate}, or no folder {folder}")
-    listed = lines_in(folder / "crates.txt")
+    lines = listed_in(ROOT / "crates.txt")
+    if crate not in lines:
+        sys.exit(f"crates.txt lists no crate {crate}")
+    if folder.exists() and not folder.is_dir():
+        sys.exit(f"{folder} is no folder")
     crates = with_those_below(crate, lines)
     for name in crates:
         copy_crate(name, folder / "crates" / name)
     shutil.copy(ROOT / "LICENSE", folder / "crates" / crate / "LICENSE")
-    added = [lines[name] for name in crates if name not in listed]
-    with (folder / "crates.txt").open("a", encoding="utf-8") as text:
-        text.writelines(line + "\n" for line in added)
-    print(*added, sep="\n")
+    for line in list_crates(folder / "crates.txt", {name: lines[name] for name in crates}):
+        print(line)
 
 
 main()

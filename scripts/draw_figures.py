@@ -1,11 +1,10 @@
 #!/usr/bin/env python3
-"""Draws the pictures of docs/FIGURES.md from docs/figures/figures.txt.
+"""Draws the pictures of docs/FIGURES.md from docs/figures/figures.txt and docs/figures/rust.txt.
 
     scripts/draw_figures.py
 
-A line of the text is one that `futures_buffered_bench` prints: a time, the name of a workload, and a number of slots, as
-'  43.0 ns  set: a ready future, replaced, held, 256'. 'A to B ns' stands for a range, which is drawn at its upper end. The lines of
-the other two sets begin with 'kit set: ' and 'rust crate: ' in place of 'set: '. Lines that begin with '#' are passed over.
+A line of these texts is a time, a name and a number, as '  43.0 ns  set: a ready future, replaced, held, 256'. The first text has what
+`futures_buffered_bench` prints; the second says in its head what was measured. Lines that begin with '#' are passed over.
 It writes docs/figures/workloads.svg and docs/figures/growth.svg.
 """
 import math
@@ -14,37 +13,59 @@ import re
 from xml.sax.saxutils import escape
 
 FOLDER = pathlib.Path(__file__).resolve().parent.parent / "docs" / "figures"
-LINE = re.compile(r"\s*(?:[\d.]+ to )?([\d.]+) ns  (.+), (\d+)$")
+LINE = re.compile(r"\s*([\d.]+) ns  (.+), (\d+)$")
 
-# The sets that are compared, each with the word that its lines begin with, and its colour.
-SETS = [("this library", "set", "#1f6fb4"), ("the kit's own set", "kit set", "#e08a1e"), ("the Rust crate", "rust crate", "#6a6a6a")]
-WORKLOADS = [
-    ("a ready future,", "polled and replaced", "a ready future, replaced, held"),
-    ("a future that wakes itself once,", "polled twice and replaced", "a future that wakes itself once, replaced, held"),
-    ("a random waker is woken,", "its future ends and is replaced", "a random wake, its output, replaced, held"),
-    ("a waker is woken,", "and the poll is Pending", "a wake and a pending poll, held"),
+BLUE, LIGHT_BLUE, ORANGE, GREY, LIGHT_GREY, GREEN, PURPLE = "#1f6fb4", "#5aa9e6", "#e08a1e", "#555555", "#9a9a9a", "#2e8b57", "#8a5ab8"
+
+# The sets whose bars stand side by side, each with the word that its lines begin with, and its colour.
+SETS = [
+    ("this library", "set", BLUE),
+    ("the kit's own set", "kit set", ORANGE),
+    ("the Rust crate", "rust crate", GREY),
+    ("Rust's futures", "rust futures", GREEN),
 ]
 HELD = 256
-GROWTH = [
-    ("set: a wake and a pending poll", "set: a wake and a pending poll, held", "#1f6fb4"),
-    ("growing queue: added, kept, yielded", "growing ordered queue: added at the back, kept and yielded, held", "#8a5ab8"),
-    ("growing queue: a ready front, replaced", "growing ordered queue: a ready front, replaced at the back, held", "#c0569a"),
-    ("list: a fresh wake and its taking", "list: a Fresh wake and its taking, slots", "#6a6a6a"),
-    ("queue: added, kept, yielded", "ordered queue: added at the back, kept and yielded, held", "#2e8b57"),
-    ("queue: a ready front, replaced", "ordered queue: a ready front, replaced at the back, held", "#e08a1e"),
-    ("buffered_ordered: an output", "buffered_ordered: an output of a ready future, at most held", "#c33c3c"),
+PENDING = "a wake and a pending poll, held"
+WORKLOADS = [
+    ("a ready future is polled,", "yields and is replaced", "a ready future, replaced, held"),
+    ("a future wakes itself once, is polled", "twice, yields and is replaced", "a future that wakes itself once, replaced, held"),
+    ("a random waker is woken, its future", "is polled, yields and is replaced", "a random wake, its output, replaced, held"),
+    ("a waker is woken, its future is polled,", "and the set's poll is Pending", PENDING),
 ]
 SIZES = [16, 256, 4096, 65536]
+# A growing set's line is told by its groups: so many futures lie in so many groups.
+HELD_IN_GROUPS = {1: SIZES[0], 11: SIZES[-1]}
+GROWING = "a wake in the last group and a pending poll, groups"
+
+# The lines of the two parts of the picture of growth: what each is called, its name in the texts, and its colour.
+WAKES = [
+    ("the Rust crate, growing", f"rust crate growing: {PENDING}", LIGHT_GREY),
+    ("Rust's futures", f"rust futures: {PENDING}", GREEN),
+    ("this library, growing: the last group", f"growing set: {GROWING}", LIGHT_BLUE),
+    ("this library, bounded", f"set: {PENDING}", BLUE),
+    ("the Rust crate, bounded", f"rust crate: {PENDING}", GREY),
+]
+QUEUES = [
+    ("growing: added, kept, yielded", "growing ordered queue: added at the back, kept and yielded, held", PURPLE),
+    ("growing: a ready front, replaced", "growing ordered queue: a ready front, replaced at the back, held", ORANGE),
+    ("bounded: added, kept, yielded", "ordered queue: added at the back, kept and yielded, held", GREEN),
+    ("bounded: a ready front, replaced", "ordered queue: a ready front, replaced at the back, held", BLUE),
+]
 
 
 def read_figures(text):
-    """The time in nanoseconds of each workload at each number of slots."""
+    """The time in nanoseconds of each workload at each number."""
     lines = (LINE.match(line) for line in text.splitlines() if not line.startswith("#"))
     return {(found[2], int(found[3])): float(found[1]) for found in lines if found}
 
 
 def label(x, y, text, size=13, anchor="start", colour="#222222"):
     return f'<text x="{x:.1f}" y="{y:.1f}" font-size="{size}" text-anchor="{anchor}" fill="{colour}">{escape(text)}</text>'
+
+
+def upright(x, y, text):
+    """A label that is read from below, beside an axis."""
+    return f'<text transform="translate({x:.1f} {y:.1f}) rotate(-90)" font-size="12" text-anchor="middle" fill="#444444">{escape(text)}</text>'
 
 
 def line(x1, y1, x2, y2, colour="#d8d8d8", width=1.0):
@@ -60,90 +81,112 @@ def picture(width, height, parts):
     return "\n".join([head, box(0, 0, width, height, "#ffffff"), *parts, "</svg>"]) + "\n"
 
 
-def step_of(top):
-    """The distance of the lines of a scale that ends at `top`."""
-    return next(step for step in (10, 20, 50, 100, 200, 500, 1000) if top / step <= 8)
+def scale_for(highest):
+    """The end of a scale that reaches so high, and the distance of its lines."""
+    step = next(step for step in (10, 20, 50, 100, 200, 500, 1000) if highest / step <= 8)
+    return math.ceil(highest / step) * step, step
+
+
+BAR, BETWEEN = 19, 18
 
 
 def workload_rows(figures, left, scale, top):
-    """Three bars for each workload, with their times. A set that was not measured has no bar."""
-    y = top
-    for first, second, name in WORKLOADS:
-        yield label(left - 12, y + 24, first, anchor="end")
-        yield label(left - 12, y + 41, second, anchor="end")
-        for _, prefix, colour in SETS:
-            time = figures.get((f"{prefix}: {name}", HELD))
-            if time is not None:
-                yield box(left, y, time * scale, 16, colour)
-                yield label(left + time * scale + 6, y + 13, f"{time:.0f} ns", size=12)
-            y += 19
-        y += 17
+    """A bar for each set at each workload, with its time, and the words of the workload at half their height."""
+    for number, (first, second, name) in enumerate(WORKLOADS):
+        y = top + number * (len(SETS) * BAR + BETWEEN)
+        middle = y + (len(SETS) * BAR - 3) / 2
+        yield label(left - 12, middle - 4, first, anchor="end")
+        yield label(left - 12, middle + 13, second, anchor="end")
+        for place, (_, prefix, colour) in enumerate(SETS):
+            time = figures[f"{prefix}: {name}", HELD]
+            yield box(left, y + place * BAR, time * scale, BAR - 3, colour)
+            yield label(left + time * scale + 6, y + place * BAR + 13, f"{math.floor(time + 0.5)} ns", size=12)
 
 
 def workloads(figures):
-    names = [(f"{prefix}: {name}", HELD) for _, prefix, _ in SETS for _, _, name in WORKLOADS]
-    highest = max(figures[name] for name in names if name in figures)
-    step = step_of(highest)
-    top = math.ceil(highest / step) * step
-    left, right, first, last = 270, 760, 62, 62 + 74 * len(WORKLOADS)
+    top, step = scale_for(max(figures[f"{prefix}: {name}", HELD] for _, prefix, _ in SETS for _, _, name in WORKLOADS))
+    left, right, first = 270, 770, 84
+    last = first + len(WORKLOADS) * (len(SETS) * BAR + BETWEEN) - BETWEEN + 4
     scale = (right - left) / top
-    parts = [label(20, 26, f"One call, at {HELD} held", size=16)]
+    parts = [label(20, 26, f"Four kinds of round, in a set that holds {HELD} futures", size=16)]
     for time in range(0, top + 1, step):
         x = left + time * scale
-        parts += [line(x, first - 6, x, last - 10), label(x, last + 8, f"{time} ns", size=11, anchor="middle", colour="#666666")]
+        parts += [line(x, first - 6, x, last), label(x, last + 18, f"{time} ns", size=11, anchor="middle", colour="#666666")]
+    for number, (name, _, colour) in enumerate(SETS):
+        x = left + 145 * number
+        parts += [box(x, 46, 12, 12, colour), label(x + 18, 57, name)]
     parts += workload_rows(figures, left, scale, first)
-    x = left
-    for name, prefix, colour in SETS:
-        if any(word.startswith(f"{prefix}: ") for word, _ in figures):
-            parts += [box(x, last + 24, 12, 12, colour), label(x + 18, last + 34, name)]
-            x += 150
-    return picture(840, last + 50, parts)
+    parts.append(label((left + right) / 2, last + 38, "time of one round", size=12, anchor="middle", colour="#444444"))
+    return picture(840, last + 52, parts)
 
 
-def curve(figures, name, at, colour):
-    """A line through the times of one workload at each size, and a dot for each."""
-    points = [at(size, figures[name, size]) for size in SIZES if (name, size) in figures]
-    yield f'<polyline fill="none" stroke="{colour}" stroke-width="2" points="{" ".join(f"{x:.1f},{y:.1f}" for x, y in points)}"/>'
+def times_of(figures, name):
+    """The time at each number held, as far as it was measured."""
+    if name.endswith("groups"):
+        return [(held, figures[name, groups]) for groups, held in HELD_IN_GROUPS.items()]
+    return [(size, figures[name, size]) for size in SIZES if (name, size) in figures]
+
+
+def curve(times, at, colour):
+    """A line through the times, with a dot for each: broken where those between were not measured."""
+    points = [at(size, time) for size, time in times]
+    dashes = ' stroke-dasharray="6 4"' if len(times) < len(SIZES) else ""
+    corners = " ".join(f"{x:.1f},{y:.1f}" for x, y in points)
+    yield f'<polyline fill="none" stroke="{colour}" stroke-width="2"{dashes} points="{corners}"/>'
     for x, y in points:
         yield f'<circle cx="{x:.1f}" cy="{y:.1f}" r="3.5" fill="{colour}"/>'
 
 
 def spread(places, gap):
-    """The same heights, moved down where two are nearer than the gap."""
-    moved = []
+    """The same heights, in their order, at least the gap apart: those that are nearer move up and down alike."""
+    groups = []
     for place in sorted(places):
-        moved.append(max(place, moved[-1] + gap) if moved else place)
-    return moved
+        groups.append([place, 1])
+        while len(groups) > 1 and groups[-1][0] - groups[-2][0] < gap * (groups[-1][1] + groups[-2][1]) / 2:
+            (middle, count), (before, others) = groups.pop(), groups.pop()
+            groups.append([(middle * count + before * others) / (count + others), count + others])
+    return [middle + gap * (number - (count - 1) / 2) for middle, count in groups for number in range(count)]
 
 
-def growth(figures):
-    shown = [entry for entry in GROWTH if (entry[1], SIZES[-1]) in figures]
-    highest = max(time for (name, _), time in figures.items() if name in [entry[1] for entry in shown])
-    step = step_of(highest)
-    top = math.ceil(highest / step) * step
-    left, right, first, last = 70, 520, 50, 370
+def part_of_growth(figures, title, shown, first):
+    """One part of the picture: lines over the number held, each with its words at its end."""
+    left, right, last = 90, 500, first + 250
+    times = {name: times_of(figures, name) for _, name, _ in shown}
+    top, step = scale_for(max(time for row in times.values() for _, time in row))
 
     def at(size, time):
         share = math.log(size / SIZES[0]) / math.log(SIZES[-1] / SIZES[0])
         return left + share * (right - left), last - time / top * (last - first)
 
-    parts = [label(20, 26, "One call, against the number held", size=16)]
+    yield label(20, first - 18, title, size=15)
     for time in range(0, top + 1, step):
         y = at(SIZES[0], time)[1]
-        parts += [line(left, y, right, y), label(left - 8, y + 4, f"{time} ns", size=11, anchor="end", colour="#666666")]
+        yield line(left, y, right, y)
+        yield label(left - 8, y + 4, f"{time} ns", size=11, anchor="end", colour="#666666")
     for size in SIZES:
         x = at(size, 0)[0]
-        parts += [line(x, first, x, last), label(x, last + 18, f"{size:,}", size=11, anchor="middle", colour="#666666")]
-    shown.sort(key=lambda entry: at(SIZES[-1], figures[entry[1], SIZES[-1]])[1])
-    heights = spread([at(SIZES[-1], figures[name, SIZES[-1]])[1] for _, name, _ in shown], 17)
-    for (words, name, colour), height in zip(shown, heights):
-        parts += curve(figures, name, at, colour)
-        parts.append(label(right + 14, height + 4, words, size=12, colour=colour))
-    return picture(820, last + 36, parts)
+        yield line(x, first, x, last)
+        yield label(x, last + 18, f"{size:,}", size=11, anchor="middle", colour="#666666")
+    yield label((left + right) / 2, last + 38, "futures held, each step 16 times as many", size=12, anchor="middle", colour="#444444")
+    yield upright(30, (first + last) / 2, "time of one round")
+    ends = sorted((at(*times[name][-1]), words, colour) for words, name, colour in shown)
+    ends.sort(key=lambda end: end[0][1])
+    for ((x, y), words, colour), height in zip(ends, spread([y for (_, y), _, _ in ends], 17)):
+        yield line(x + 6, y, x + 26, height, colour)
+        yield label(x + 30, height + 4, words, size=12, colour=colour)
+    for _, name, colour in shown:
+        yield from curve(times[name], at, colour)
+
+
+def growth(figures):
+    parts = part_of_growth(figures, "Sets: a waker is woken, and the set's poll is Pending", WAKES, 50)
+    more = part_of_growth(figures, "Ordered queues: a future comes and an output goes", QUEUES, 400)
+    return picture(820, 702, [*parts, *more])
 
 
 def main():
-    figures = read_figures((FOLDER / "figures.txt").read_text(encoding="utf-8"))
+    texts = [(FOLDER / name).read_text(encoding="utf-8") for name in ("figures.txt", "rust.txt")]
+    figures = {name: time for text in texts for name, time in read_figures(text).items()}
     (FOLDER / "workloads.svg").write_text(workloads(figures), encoding="utf-8")
     (FOLDER / "growth.svg").write_text(growth(figures), encoding="utf-8")
     print(f"{len(figures)} figures, 2 pictures")
