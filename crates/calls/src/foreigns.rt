@@ -13,7 +13,7 @@ use futures::task::Context;
 use futures::{Future, Stream};
 use futures_buffered_adaptors::buffered_ordered::BufferedOrdered;
 use futures_buffered_core::ready_core::NewFault;
-use futures_buffered_driven::{
+use futures_buffered_held::{
     Driven, Foreign, ForeignStream, GrowingForeignMerge, GrowingForeignQueue, GrowingForeignSet,
 };
 use futures_buffered_sets::{

@@ -5,7 +5,7 @@ use crate::step::Step;
 use crate::text::Text;
 use crate::world::World;
 use futures_buffered_core::ready_shared::SharedWaker;
-use futures_buffered_slot_futures::oneshot::{Receiver, Sender};
+use futures_buffered_held::oneshot::{Receiver, Sender};
 use std::alloc::{AllocError, Global};
 use std::cell::RefCell;
 use std::rc::Rc;

@@ -8,7 +8,7 @@ use crate::step::Action;
 use crate::values::{Output, Scripted};
 use futures::task::{Context, Poll, Source};
 use futures::{Future, Stream};
-use futures_buffered_driven::{Foreign, ForeignStream};
+use futures_buffered_held::{Foreign, ForeignStream};
 
 /// A script that is polled with a task's context.
 #[derive(Drop)]

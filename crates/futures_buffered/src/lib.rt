@@ -37,10 +37,10 @@ pub use futures_buffered_core::slot_map::PinSlotMap;
 pub use futures_buffered_core::{
     core_source, ready_core, ready_shared, ready_source, ready_table, script_source, slot_map,
 };
-pub use futures_buffered_driven::{
-    Driven, Foreign, ForeignMerge, ForeignQueue, ForeignSet, ForeignStream, Foreigns,
+pub use futures_buffered_held::{
+    Driven, Either, Foreign, ForeignMerge, ForeignQueue, ForeignSet, ForeignStream, Foreigns,
     GrowingForeignMerge, GrowingForeignQueue, GrowingForeignSet, driven, foreign, foreign_set,
-    foreign_sets, foreign_stream, foreigns, mailbox,
+    foreign_sets, foreign_stream, foreigns, future, mailbox, oneshot, stream,
 };
 pub use futures_buffered_sets::{
     FusedFuture, FusedStream, FuturesOrdered, FuturesOrderedBounded, FuturesUnordered,
@@ -50,6 +50,5 @@ pub use futures_buffered_sets::{
     join_all, merge_bounded, merge_unbounded, poll_one, slot_future, slot_stream, try_join,
     try_join_all,
 };
-pub use futures_buffered_slot_futures::{Either, future, oneshot, stream};
 pub use iter_ext::IterExt;
 pub use try_buffered::{BufferedTryStreamExt, TryBufferUnordered, TryBufferedOrdered};

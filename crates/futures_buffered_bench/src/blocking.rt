@@ -4,7 +4,7 @@ use crate::report::tenths;
 use crate::sources::keep;
 use futures::executor::block_on;
 use futures::{StreamExt, future};
-use futures_buffered_slot_futures::oneshot::{Receiver, Sender, channel};
+use futures_buffered_held::oneshot::{Receiver, Sender, channel};
 use futures_buffered_unordered::futures_unordered::FuturesUnordered;
 use std::alloc::{AllocError, AllocGlobal, Global};
 use std::random::RandomSource;

@@ -5,8 +5,7 @@ use futures::Stream;
 use futures::channel::oneshot as kit;
 use futures::stream::FuturesUnordered as KitSet;
 use futures::task::Context;
-use futures_buffered_driven::{Foreign, ForeignSet};
-use futures_buffered_slot_futures::oneshot;
+use futures_buffered_held::{Foreign, ForeignSet, oneshot};
 use std::alloc::Global;
 
 /// A set that is given receivers, and is polled.

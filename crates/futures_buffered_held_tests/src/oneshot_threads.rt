@@ -5,7 +5,7 @@ use futures::{StreamExt, stream};
 use futures_buffered_adaptors::buffer_unordered::BufferUnordered;
 use futures_buffered_adaptors::buffered_ordered::BufferedOrdered;
 use futures_buffered_core::ready_shared::SharedReady;
-use futures_buffered_slot_futures::oneshot::{Canceled, Receiver, Sender, channel};
+use futures_buffered_held::oneshot::{Canceled, Receiver, Sender, channel};
 use std::alloc::{AllocError, Global};
 use std::test::Fail;
 use std::thread;

@@ -6,12 +6,12 @@ use futures::task::Poll;
 use futures::test::MockTask;
 use futures_buffered_core::ready_shared::{SharedReady, SharedWaker};
 use futures_buffered_core::ready_source::SlotWaker;
+use futures_buffered_held::future::{map, poll_fn, ready};
+use futures_buffered_held::stream::iter;
+use futures_buffered_held::{Either, oneshot};
 use futures_buffered_sets::futures_unordered_bounded::FuturesUnorderedBounded;
 use futures_buffered_sets::merge_bounded::MergeBounded;
 use futures_buffered_sets::slot_future::SlotFuture;
-use futures_buffered_slot_futures::future::{map, poll_fn, ready};
-use futures_buffered_slot_futures::stream::iter;
-use futures_buffered_slot_futures::{Either, oneshot};
 use std::test::Fail;
 use test_support::polling::poll_set;
 

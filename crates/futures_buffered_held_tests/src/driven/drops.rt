@@ -7,7 +7,7 @@ use futures::task::Poll;
 use futures::test::MockTask;
 use futures_buffered_core::ready_core::Taken;
 use futures_buffered_core::ready_source::{NewSource, ReadySource};
-use futures_buffered_driven::{Driven, Foreign};
+use futures_buffered_held::{Driven, Foreign};
 use futures_buffered_sets::slot_future::SlotFuture;
 use std::sync::Arc;
 use std::sync::atomic::Ordering::SeqCst;

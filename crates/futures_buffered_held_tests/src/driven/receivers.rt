@@ -2,7 +2,7 @@
 use futures::Future;
 use futures::channel::oneshot;
 use futures::task::{Context, Poll};
-use futures_buffered_driven::Foreign;
+use futures_buffered_held::Foreign;
 use std::alloc::{AllocError, Global};
 use std::sync::Arc;
 use std::sync::atomic::AtomicU64;

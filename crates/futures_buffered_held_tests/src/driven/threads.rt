@@ -4,7 +4,7 @@ use crate::same::assert_same;
 use futures::executor::block_on;
 use futures::task::{Context, Poll};
 use futures::{Future, Stream, StreamExt};
-use futures_buffered_driven::{Foreign, ForeignQueue, ForeignSet, GrowingForeignSet, foreign_set};
+use futures_buffered_held::{Foreign, ForeignQueue, ForeignSet, GrowingForeignSet, foreign_set};
 use std::alloc::{AllocError, AllocGlobal};
 use std::test::Fail;
 use std::thread::{self, JoinHandle, Threads};

@@ -1,4 +1,0 @@
-pub mod Given
-pub mod Mailbox
-pub mod Driven
-pub mod Foreigns

@@ -1,0 +1,10 @@
+pub mod Ready
+pub mod PollFn
+pub mod Map
+pub mod Either
+pub mod Iter
+pub mod Then
+pub mod Given
+pub mod Mailbox
+pub mod Driven
+pub mod Foreigns

@@ -1,0 +1,49 @@
+//! One of two futures, or of two streams.
+use futures::task::Poll;
+use futures_buffered_merges::slot_stream::SlotStream;
+use futures_buffered_unordered_bounded::slot_future::{NamesSlot, SlotFuture};
+
+/// One of two, of whichever type. As a future it gives the output of the one that it is, and as a stream the items of that.
+#[derive(Drop)]
+pub enum Either<A, B> {
+    Left(A),
+    Right(B),
+}
+
+impl<W: NamesSlot, A: SlotFuture<W>, B: SlotFuture<W, Output = A::Output>> SlotFuture<W>
+    for Either<A, B> {
+    ghost use Rattle.futures_buffered_held.specs.Either.{PollsSide};
+    ghost use Rattle.futures_buffered_held.specs.declared.either.Either.TheVariants.{Left, Right};
+
+    type Output = A::Output;
+
+    ghost can_poll = { elim [ Left a ↦ A.can_poll a | Right b ↦ B.can_poll b ] };
+
+    ghost polled = { λ slot. PollsSide (A.polled slot) (B.polled slot) };
+
+    fn poll(&mut self, waker: &W) -> Poll<A::Output> {
+        match self {
+            Either::Left(a) => a.poll(waker),
+            Either::Right(b) => b.poll(waker),
+        }
+    }
+}
+
+impl<W: NamesSlot, A: SlotStream<W>, B: SlotStream<W, Item = A::Item>> SlotStream<W>
+    for Either<A, B> {
+    ghost use Rattle.futures_buffered_held.specs.Either.{PollsSide};
+    ghost use Rattle.futures_buffered_held.specs.declared.either.Either.TheVariants.{Left, Right};
+
+    type Item = A::Item;
+
+    ghost can_poll = { elim [ Left a ↦ A.can_poll a | Right b ↦ B.can_poll b ] };
+
+    ghost polled = { λ slot. PollsSide (A.polled slot) (B.polled slot) };
+
+    fn poll_next(&mut self, waker: &W) -> Poll<Option<A::Item>> {
+        match self {
+            Either::Left(a) => a.poll_next(waker),
+            Either::Right(b) => b.poll_next(waker),
+        }
+    }
+}

@@ -1,0 +1,145 @@
+//! Sets, queues and joins of futures of the kit, each by a short name and made in one call.
+//!
+//! A slot holds a `Foreign`, or any future made of one: `map(Foreign::new(receiver), closure)`.
+ghost use Rattle.std.specs.Prelude.{◌≡◌, ◌≤◌, IfOk, IsOk, Err};
+ghost use Rattle.std.specs.Iterator.{IsFiniteIterable};
+ghost use Rattle.futures_buffered_core.specs.Drawn.{Draws, DrawsMoreThan};
+ghost use Rattle.futures_buffered_core.specs.ReadyCore.{Marks};
+ghost use Rattle.futures_buffered_core.specs.SlotMap.{no_slots};
+ghost use Rattle.futures_buffered_table.specs.Answer.{RefusesTooLarge};
+ghost use Rattle.futures_buffered_unordered.specs.SlotGroups.{IsNewGrowing};
+ghost use Rattle.futures_buffered_ordered.specs.FuturesOrderedBounded.{IsNewBoundedQueue};
+ghost use Rattle.futures_buffered_ordered.specs.FuturesOrdered.{IsNewGrowingQueue};
+ghost use Rattle.futures_buffered_joins.specs.JoinMade.{IsMadeOf};
+ghost use Rattle.futures_buffered_held.specs.Driven.{IsNewDriven};
+
+use crate::driven::Driven;
+use crate::foreign::Foreign;
+use crate::mailbox::Mailbox;
+use futures::Future;
+use futures_buffered_core::ready_core::{MAX_CAPACITY, NewFault};
+use futures_buffered_joins::join::{Join, JoinAll};
+use futures_buffered_joins::try_join::{TryJoin, TryJoinAll};
+use futures_buffered_ordered::futures_ordered::FuturesOrdered;
+use futures_buffered_ordered::futures_ordered_bounded::FuturesOrderedBounded;
+use futures_buffered_unordered::futures_unordered::FuturesUnordered;
+use futures_buffered_unordered_bounded::SlotFuture;
+use futures_buffered_unordered_bounded::futures_unordered_bounded::{
+    FuturesUnorderedBounded, POLL_LIMIT,
+};
+use std::alloc::Global;
+
+/// A set of futures of the kit.
+pub type ForeignSet<F, T = Foreign<F>> = FuturesUnorderedBounded<T, Driven<F>>;
+
+/// A growing set of futures of the kit.
+pub type GrowingForeignSet<F, T = Foreign<F>> = FuturesUnordered<T, Driven<F>>;
+
+/// An ordered queue of futures of the kit.
+pub type ForeignQueue<F, T = Foreign<F>> = FuturesOrderedBounded<T, Driven<F>>;
+
+/// A growing ordered queue of futures of the kit.
+pub type GrowingForeignQueue<F, T = Foreign<F>> = FuturesOrdered<T, Driven<F>>;
+
+/// A join of futures of the kit.
+pub type ForeignJoin<F, T = Foreign<F>> = JoinAll<T, Driven<F>>;
+
+/// A join of futures of the kit that may fail.
+pub type ForeignTryJoin<F, T = Foreign<F>> = TryJoinAll<T, Driven<F>>;
+
+/// An empty set of `cap` slots.
+///
+/// Takes time and memory in proportion to `cap`. `Memory` where a request for it was refused.
+pub fn foreign_set<F: Future<Output: Drop>, T: Drop>(
+    alloc: Global,
+    cap: usize,
+) -> Result<ForeignSet<F, T>, NewFault>
+    ensures empty { IfOk result (λ set. set.slots ≡ no_slots cap) }
+    ensures source { IfOk result (λ set. IsNewDriven cap set.source) }
+    ensures limit { IfOk result (λ set. set.limit ≡ POLL_LIMIT) }
+    ensures refuses { RefusesTooLarge cap result }
+{
+    FuturesUnorderedBounded::with_new_source(&(), alloc, cap, POLL_LIMIT)
+}
+
+/// An empty set that grows, with one group of `cap` slots, or none where `cap` is 0, and no request for memory then.
+///
+/// Takes time and memory in proportion to `cap`. `Memory` where a request for it was refused.
+pub fn growing_foreign_set<F: Future<Output: Drop>, T: Drop>(
+    alloc: Global,
+    cap: usize,
+) -> Result<GrowingForeignSet<F, T>, NewFault>
+    ensures empty { IfOk result (IsNewGrowing IsNewDriven cap POLL_LIMIT) }
+    ensures refuses { RefusesTooLarge cap result }
+    ensures none { cap ≡ 0 → IsOk result }
+{
+    FuturesUnordered::over((), alloc, cap)
+}
+
+/// An empty queue of `cap` slots, whose outputs come in the order of the pushes.
+///
+/// Takes time and memory in proportion to `cap`. `Memory` where a request for it was refused.
+pub fn foreign_queue<F: Future<Output: Drop>, T: SlotFuture<Mailbox<F>>>(
+    alloc: Global,
+    cap: usize,
+) -> Result<ForeignQueue<F, T>, NewFault>
+where
+    T::Output: Drop,
+    ensures empty { IfOk result (IsNewBoundedQueue IsNewDriven cap POLL_LIMIT) }
+    ensures refuses { RefusesTooLarge cap result }
+{
+    FuturesOrderedBounded::over(&(), alloc, cap)
+}
+
+/// An empty queue that grows, as `growing_foreign_set`, whose outputs come in the order of the pushes.
+///
+/// Takes time and memory in proportion to `cap`. `Memory` where a request for it was refused.
+pub fn growing_foreign_queue<F: Future<Output: Drop>, T: SlotFuture<Mailbox<F>>>(
+    alloc: Global,
+    cap: usize,
+) -> Result<GrowingForeignQueue<F, T>, NewFault>
+where
+    T::Output: Drop,
+    ensures empty { IfOk result (IsNewGrowingQueue IsNewDriven cap POLL_LIMIT) }
+    ensures refuses { RefusesTooLarge cap result }
+    ensures none { cap ≡ 0 → IsOk result }
+{
+    FuturesOrdered::over((), alloc, cap)
+}
+
+/// A join of what this iterator gives, in its order. Nothing is polled, and it refuses as `JoinAll::over` does.
+pub fn foreign_join_all<F: Future<Output: Drop>, I: IntoIterator>(
+    alloc: Global,
+    iter: I,
+) -> Result<ForeignJoin<F, I::Item>, NewFault>
+where
+    I::Item: SlotFuture<Mailbox<F>>,
+    <I::Item as SlotFuture<Mailbox<F>>>::Output: Drop,
+    requires { IsFiniteIterable I.into_iter_gives I.IntoIter.can_next
+        I.IntoIter.remaining iter }
+    ensures made { IfOk result (IsMadeOf
+        (Draws I.into_iter_gives I.IntoIter.next_gives iter)
+        IsNewDriven Marks POLL_LIMIT MAX_CAPACITY) }
+    ensures large { result ≡ Err NewFault.TooLarge
+        → DrawsMoreThan I.into_iter_gives I.IntoIter.next_gives iter MAX_CAPACITY }
+{
+    Join::over(&(), alloc, iter)
+}
+
+/// As `foreign_join_all`, of what may fail: it is ready as soon as one gives an error.
+pub fn foreign_try_join_all<F: Future<Output: Drop>, I: IntoIterator, A: Drop, E>(
+    alloc: Global,
+    iter: I,
+) -> Result<ForeignTryJoin<F, I::Item>, NewFault>
+where
+    I::Item: SlotFuture<Mailbox<F>, Output = Result<A, E>>,
+    requires { IsFiniteIterable I.into_iter_gives I.IntoIter.can_next
+        I.IntoIter.remaining iter }
+    ensures made { IfOk result (IsMadeOf
+        (Draws I.into_iter_gives I.IntoIter.next_gives iter)
+        IsNewDriven Marks POLL_LIMIT MAX_CAPACITY) }
+    ensures large { result ≡ Err NewFault.TooLarge
+        → DrawsMoreThan I.into_iter_gives I.IntoIter.next_gives iter MAX_CAPACITY }
+{
+    TryJoin::over(&(), alloc, iter)
+}

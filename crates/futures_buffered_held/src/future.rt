@@ -1,0 +1,38 @@
+//! Futures to hold as they are, and the functions that make them. None takes memory.
+ghost use Rattle.std.specs.Prelude.{◌≡◌, Some};
+ghost use Rattle.futures_buffered_held.specs.declared.then.Then.TheVariants.{First};
+
+pub use crate::map::Map;
+pub use crate::poll_fn::PollFn;
+pub use crate::ready::Ready;
+pub use crate::then::Then;
+
+/// A future that gives this value.
+pub fn ready<T>(value: T) -> Ready<T>
+    ensures { result ≡ Some value }
+{
+    Ready { value: Some(value) }
+}
+
+/// A future that calls this closure at each poll. The closure is one that may be called at any waker, and again after each call.
+pub fn poll_fn<C>(call: C) -> PollFn<C>
+    ensures { result ≡ call }
+{
+    PollFn { call }
+}
+
+/// A future that gives what `change` makes of the output of `future`.
+pub fn map<F, C>(future: F, change: C) -> Map<F, C>
+    ensures { result ≡ Some (future, change) }
+{
+    Map {
+        inner: Some((future, change)),
+    }
+}
+
+/// A future that goes on as the one that `change` makes of the output of `future`.
+pub fn then<F, B, C>(future: F, change: C) -> Then<F, B, C>
+    ensures { result ≡ First future change }
+{
+    Then::First(future, change)
+}

@@ -1,0 +1,33 @@
+//! The items of an iterator as a stream.
+use futures::task::Poll;
+use futures_buffered_merges::slot_stream::SlotStream;
+use futures_buffered_unordered_bounded::slot_future::NamesSlot;
+use std::marker::Model;
+
+/// Gives the next item of its iterator at each poll.
+///
+/// A contract sees the iterator.
+#[derive(Drop)]
+pub struct Iter<I> {
+    pub(crate) items: I,
+}
+
+impl<I> Model for Iter<I> {
+    ghost Value = { I };
+
+    ghost view = { λ iter. iter.items };
+}
+
+impl<W: NamesSlot, I: Iterator> SlotStream<W> for Iter<I> {
+    ghost use Rattle.futures_buffered_held.specs.Iter.{GivesNext};
+
+    type Item = I::Item;
+
+    ghost can_poll = { I.can_next };
+
+    ghost polled = { λ _. GivesNext I.next_gives };
+
+    fn poll_next(&mut self, _waker: &W) -> Poll<Option<I::Item>> {
+        Poll::Ready(self.items.next())
+    }
+}

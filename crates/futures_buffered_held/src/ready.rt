@@ -1,0 +1,35 @@
+//! A future that is ready from the start.
+use futures::task::Poll;
+use futures_buffered_unordered_bounded::slot_future::{NamesSlot, SlotFuture};
+use std::marker::Model;
+
+/// Gives its value at its first poll. Polled again, it stays pending.
+///
+/// A contract sees the value, until it is given.
+#[derive(Drop)]
+pub struct Ready<T> {
+    pub(crate) value: Option<T>,
+}
+
+impl<T> Model for Ready<T> {
+    ghost use Rattle.std.specs.Prelude.{Option};
+
+    ghost Value = { Option T };
+
+    ghost view = { λ ready. ready.value };
+}
+
+impl<W: NamesSlot, T: Drop> SlotFuture<W> for Ready<T> {
+    ghost use Rattle.futures_buffered_held.specs.Ready.{GivesValue};
+
+    type Output = T;
+
+    ghost polled = { λ _. GivesValue };
+
+    fn poll(&mut self, _waker: &W) -> Poll<T> {
+        match self.value.take() {
+            Some(value) => Poll::Ready(value),
+            None => Poll::Pending,
+        }
+    }
+}
