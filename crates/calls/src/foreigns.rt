@@ -11,7 +11,7 @@ use crate::values::{new_value, new_values};
 use futures::stream::StreamFuture;
 use futures::task::Context;
 use futures::{Future, Stream};
-use futures_buffered_adaptors::buffered_ordered::BufferedOrdered;
+use futures_buffered::buffered_ordered::BufferedOrdered;
 use futures_buffered_core::ready_core::NewFault;
 use futures_buffered_held::{
     Driven, Foreign, ForeignStream, GrowingForeignMerge, GrowingForeignQueue, GrowingForeignSet,

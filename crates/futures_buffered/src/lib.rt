@@ -16,16 +16,24 @@
 //! - `iter_ext`: `IterExt`, the constructors of sets, queues, joins and merges as methods of what gives the items.
 #![tactic(auto)]
 
+pub mod buffer;
+pub mod buffer_unordered;
 pub mod buffered;
+pub mod buffered_ordered;
+pub mod for_each_concurrent;
+pub mod future_queue;
 pub mod iter_ext;
+pub mod try_buffer;
+pub mod try_buffer_unordered;
 pub mod try_buffered;
+pub mod try_buffered_ordered;
 
-pub use buffered::{BufferUnordered, BufferedOrdered, BufferedStreamExt, ForEachConcurrent};
-pub use futures_buffered_adaptors::{
-    Buffer, FutureQueue, NewQueue, OrderedQueue, TryBuffer, UnorderedQueue, buffer,
-    buffer_unordered, buffered_ordered, for_each_concurrent, future_queue, try_buffer,
-    try_buffer_unordered, try_buffered_ordered,
-};
+pub use buffer::Buffer;
+pub use buffer_unordered::{BufferUnordered, UnorderedQueue};
+pub use buffered::BufferedStreamExt;
+pub use buffered_ordered::{BufferedOrdered, OrderedQueue};
+pub use for_each_concurrent::ForEachConcurrent;
+pub use future_queue::{FutureQueue, NewQueue};
 pub use futures_buffered_core::core_source::CoreSource;
 pub use futures_buffered_core::ready_core::{
     Event, MAX_CAPACITY, NewFault, ReadyCore, Reply, RunFault, Taken, Woke, run,
@@ -51,4 +59,7 @@ pub use futures_buffered_sets::{
     try_join_all,
 };
 pub use iter_ext::IterExt;
-pub use try_buffered::{BufferedTryStreamExt, TryBufferUnordered, TryBufferedOrdered};
+pub use try_buffer::TryBuffer;
+pub use try_buffer_unordered::TryBufferUnordered;
+pub use try_buffered::BufferedTryStreamExt;
+pub use try_buffered_ordered::TryBufferedOrdered;

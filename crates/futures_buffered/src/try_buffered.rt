@@ -5,12 +5,12 @@ ghost use Rattle.futures_buffered_unordered_bounded.specs.FuturesUnorderedBounde
 ghost use Rattle.std.specs.Prelude.{◌<◌, IfOk};
 ghost use Rattle.futures_buffered_core.specs.Answer.{RefusesTooLarge};
 ghost use Rattle.futures_buffered_core.specs.ReadyShared.{IsNewShared};
-ghost use Rattle.futures_buffered_adaptors.specs.Buffer.{IsNewBuffer};
+ghost use Rattle.futures_buffered.specs.Buffer.{IsNewBuffer};
 ghost use Rattle.futures_buffered_ordered.specs.FuturesOrderedBounded.{IsNewBoundedQueue};
 
+pub use crate::try_buffer_unordered::TryBufferUnordered;
+pub use crate::try_buffered_ordered::TryBufferedOrdered;
 use futures::Stream;
-pub use futures_buffered_adaptors::try_buffer_unordered::TryBufferUnordered;
-pub use futures_buffered_adaptors::try_buffered_ordered::TryBufferedOrdered;
 use futures_buffered_core::ready_core::NewFault;
 use futures_buffered_core::ready_shared::{SharedReady, SharedWaker};
 use futures_buffered_unordered_bounded::SlotFuture;

@@ -2,8 +2,8 @@
 use crate::same::assert_same;
 use futures::executor::block_on;
 use futures::{StreamExt, stream};
-use futures_buffered_adaptors::buffer_unordered::BufferUnordered;
-use futures_buffered_adaptors::buffered_ordered::BufferedOrdered;
+use futures_buffered::buffer_unordered::BufferUnordered;
+use futures_buffered::buffered_ordered::BufferedOrdered;
 use futures_buffered_core::ready_shared::SharedReady;
 use futures_buffered_held::oneshot::{Canceled, Receiver, Sender, channel};
 use std::alloc::{AllocError, Global};

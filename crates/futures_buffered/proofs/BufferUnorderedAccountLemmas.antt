@@ -1,0 +1,230 @@
+-- Where each value held came from, and that no item drawn is lost or counted twice.
+use Rattle.std.proofs.Common.{◌≡◌, ℕ, zero, suc, ◌<◌, List, [], ◌∷◌, ◌++◌, length, set, get_or, filter_map, Option, Some, None, Result, MatchOption, is_some, count_by, cond, refl, sym, subst, inl, inr, arith, append-nil, append_assoc}
+use Rattle.std.specs.Prelude.{IsPermutation, ⊤}
+use Rattle.std.specs.Option.{option_to_list}
+use Rattle.std.specs.List.{FoldsTo, AllZip}
+use Rattle.std.proofs.lemmas.Fn.{FoldsTo-push}
+use Rattle.std.proofs.lemmas.List.Sorted.{IsPermutation-refl, IsPermutation-sym, IsPermutation-trans, IsPermutation-cons, IsPermutation-middle, IsPermutation-append_right, IsPermutation-push_more, IsPermutation-pop_more}
+use Rattle.std.proofs.lemmas.List.Sums.{sum_by-cons}
+use Rattle.futures.specs.declared.task.Poll.{Poll}
+use Rattle.futures.specs.declared.task.Poll.TheVariants.{Ready, Pending}
+use Rattle.futures.specs.Runs.{Runs}
+use Rattle.futures_buffered_core.specs.SlotMap.{Slots, value_in, with_value, with_slot_freed, Inserts}
+use Rattle.futures_buffered_table.specs.declared.answer.Woke.{Woke}
+use Rattle.futures_buffered_core.specs.ReadySource.{SourceSteps}
+use Rattle.futures_buffered_unordered_bounded.specs.Held.{Passes, Yields}
+use Rattle.futures_buffered_unordered_bounded.specs.FuturesUnorderedBounded.{Bounded, Pushes, PollGives, held_in}
+use Rattle.futures_buffered.proofs.TryBufferAccountLemmas.{many_calls_with_errors}
+use Rattle.futures_buffered.specs.Buffer.{Buffering, PollsStream, DrawsOne, DrawsNone, Calls, CallsInTurn, all_drawn, all_outputs, output_of, answer_from}
+use Rattle.futures_buffered.specs.BufferUnordered.{PendsTo, WaitsInSlot, MayGiveInSlot, LosesNothing, TryLosesNothing}
+
+abbrev pub somes : {F : Type 0} → List (Option F) → List F
+somes = filter_map (λ o. o)
+
+None-Some : {X : Type 0} {F : Type 0} {f : F} → None ≡ Some f → X
+None-Some e = cc
+
+Some-same : {F : Type 0} {f g : F} → Some f ≡ Some g → f ≡ g
+Some-same e = cc
+
+module _ {F A : Type 0} where
+  -- how a value is polled with the waker of each slot, where the first slot is left out
+  abbrev from_next : (ℕ → F → Poll A → F → Type 0) → ℕ → F → Poll A → F → Type 0
+  from_next polled slot = polled (suc slot)
+
+  -- pending polls took the item to what the place holds, or there is neither
+  abbrev Origin : (F → Poll A → F → Type 0) → Option F → Option F → Type 0
+  Origin polled None None = ⊤
+  Origin polled None (Some g) = ⊥
+  Origin polled (Some f) None = ⊥
+  Origin polled (Some f) (Some g) = PendsTo polled f g
+
+  -- the same at each slot, with the waker of that slot
+  abbrev Origins : (ℕ → F → Poll A → F → Type 0) → List (Option F) → List (Option F) → Type 0
+  Origins polled [] [] = ⊤
+  Origins polled [] (p ∷ ps) = ⊥
+  Origins polled (o ∷ os) [] = ⊥
+  Origins polled (o ∷ os) (p ∷ ps) = Origin (polled 0) o p × Origins (from_next polled) os ps
+
+  pub waits_more : (polled : F → Poll A → F → Type 0) (f g h : F) → PendsTo polled f g → polled g Pending h → PendsTo polled f h
+  waits_more polled f g h w p = (w.0 ++ h ∷ [], FoldsTo-push (λ a b c. polled a Pending b × (c ≡ b)) f w.0 g h h w.1 (p, refl))
+
+  -- an item went into an empty place
+  put_in : (polled : ℕ → F → Poll A → F → Type 0) (os ps : List (Option F)) (i : ℕ) (f : F) → Origins polled os ps → i < length ps → get_or ps i None ≡ None
+      → (os2 : List (Option F)) × Origins polled os2 (set ps i (Some f)) × IsPermutation (f ∷ somes os) (somes os2)
+  put_in polled [] [] i f came below empty = absurd (omega arith)
+  put_in polled [] (p ∷ ps) i f came below empty = absurd came
+  put_in polled (o ∷ os) [] i f came below empty = absurd came
+  put_in polled (None ∷ os) (None ∷ ps) zero f came below empty = (Some f ∷ os, (([], refl), came.1), IsPermutation-refl (f ∷ somes os))
+  put_in polled (None ∷ os) (Some p ∷ ps) zero f came below empty = absurd came.0
+  put_in polled (Some o ∷ os) (None ∷ ps) zero f came below empty = absurd came.0
+  put_in polled (Some o ∷ os) (Some p ∷ ps) zero f came below empty = None-Some (sym empty)
+  put_in polled (None ∷ os) (p ∷ ps) (suc i) f came below empty =
+      let more = put_in (from_next polled) os ps i f came.1 (omega arith) empty in
+      (None ∷ more.0, (came.0, more.1), more.2)
+  put_in polled (Some o ∷ os) (p ∷ ps) (suc i) f came below empty =
+      let more = put_in (from_next polled) os ps i f came.1 (omega arith) empty in
+      (Some o ∷ more.0, (came.0, more.1), IsPermutation-trans _ _ _ (IsPermutation-middle (f ∷ []) o (somes os)) (IsPermutation-cons o _ _ more.2))
+
+  -- a pending poll of what a place holds
+  left_at : (polled : ℕ → F → Poll A → F → Type 0) (os ps : List (Option F)) (i : ℕ) (f g : F) → Origins polled os ps → get_or ps i None ≡ Some f → polled i f Pending g → Origins polled os (set ps i (Some g))
+  left_at polled [] [] i f g came found p = None-Some found
+  left_at polled [] (q ∷ ps) i f g came found p = absurd came
+  left_at polled (o ∷ os) [] i f g came found p = absurd came
+  left_at polled (None ∷ os) (None ∷ ps) zero f g came found p = None-Some found
+  left_at polled (None ∷ os) (Some q ∷ ps) zero f g came found p = absurd came.0
+  left_at polled (Some o ∷ os) (None ∷ ps) zero f g came found p = absurd came.0
+  left_at polled (Some o ∷ os) (Some q ∷ ps) zero f g came found p = (waits_more (polled 0) o f g (subst (PendsTo (polled 0) o) (Some-same found) came.0) p, came.1)
+  left_at polled (o ∷ os) (q ∷ ps) (suc i) f g came found p = (came.0, left_at (from_next polled) os ps i f g came.1 found p)
+
+  -- a place whose value gave an output was emptied
+  taken_out : (polled : ℕ → F → Poll A → F → Type 0) (os ps : List (Option F)) (i : ℕ) (f g h : F) (x : A) → Origins polled os ps → get_or ps i None ≡ Some f → polled i f (Ready x) g
+      → (o : F) × (os2 : List (Option F)) × MayGiveInSlot polled o x × Origins polled os2 (set (set ps i (Some h)) i None) × IsPermutation (somes os) (o ∷ somes os2)
+  taken_out polled [] [] i f g h x came found p = None-Some found
+  taken_out polled [] (q ∷ ps) i f g h x came found p = absurd came
+  taken_out polled (o ∷ os) [] i f g h x came found p = absurd came
+  taken_out polled (None ∷ os) (None ∷ ps) zero f g h x came found p = None-Some found
+  taken_out polled (None ∷ os) (Some q ∷ ps) zero f g h x came found p = absurd came.0
+  taken_out polled (Some o ∷ os) (None ∷ ps) zero f g h x came found p = absurd came.0
+  taken_out polled (Some o ∷ os) (Some q ∷ ps) zero f g h x came found p =
+      let w = subst (PendsTo (polled 0) o) (Some-same found) came.0 in
+      (o, None ∷ os, (0, (w.0, f, g, w.1, p)), (tt, came.1), IsPermutation-refl (o ∷ somes os))
+  taken_out polled (None ∷ os) (q ∷ ps) (suc i) f g h x came found p =
+      let more = taken_out (from_next polled) os ps i f g h x came.1 found p in
+      (more.0, None ∷ more.1, (suc more.2.0, more.2.1), (came.0, more.3), more.4)
+  taken_out polled (Some o ∷ os) (q ∷ ps) (suc i) f g h x came found p =
+      let more = taken_out (from_next polled) os ps i f g h x came.1 found p in
+      (more.0, Some o ∷ more.1, (suc more.2.0, more.2.1), (came.0, more.3), IsPermutation-trans _ _ _ (IsPermutation-cons o _ _ more.4) (IsPermutation-middle (o ∷ []) more.0 (somes more.1)))
+
+  pub nothing : (polled : ℕ → F → Poll A → F → Type 0) (os : List (Option F)) → count_by is_some os ≡ 0 → Origins polled os os × (somes os ≡ [])
+  nothing polled [] e = (tt, refl)
+  nothing polled (None ∷ os) e = let more = nothing (from_next polled) os e in ((tt, more.0), more.1)
+  nothing polled (Some f ∷ os) e = absurd (omega (arith, e, sum_by-cons (λ (o : Option F). cond (is_some o) 1 0) (Some f) os))
+
+  -- what is held came from what it came from, in order
+  pub kept_came : (polled whole : ℕ → F → Poll A → F → Type 0) (shift : (f g : F) → WaitsInSlot polled f g → WaitsInSlot whole f g) (os ps : List (Option F)) → Origins polled os ps → AllZip (WaitsInSlot whole) (somes os) (somes ps)
+  kept_came polled whole shift [] [] came = tt
+  kept_came polled whole shift [] (p ∷ ps) came = absurd came
+  kept_came polled whole shift (o ∷ os) [] came = absurd came
+  kept_came polled whole shift (None ∷ os) (None ∷ ps) came = kept_came (from_next polled) whole (λ f g w. shift f g (suc w.0, w.1)) os ps came.1
+  kept_came polled whole shift (None ∷ os) (Some p ∷ ps) came = absurd came.0
+  kept_came polled whole shift (Some o ∷ os) (None ∷ ps) came = absurd came.0
+  kept_came polled whole shift (Some o ∷ os) (Some p ∷ ps) came = (shift o p (0, came.0), kept_came (from_next polled) whole (λ f g w. shift f g (suc w.0, w.1)) os ps came.1)
+
+module _ {F A : Type 0} (polled : ℕ → F → Poll A → F → Type 0) where
+  -- a name was passed
+  passed : (os : List (Option F)) (m : Slots F) (i : ℕ) (new : Slots F) → Origins polled os m.places → Passes polled m i new → Origins polled os new.places
+  passed os m i new came = by_value (value_in m i) refl
+    where
+      by_value : (o : Option F) → value_in m i ≡ o → MatchOption o (new ≡ m) (λ f. (left : F) × polled i f Pending left × (new ≡ with_value m i left)) → Origins polled os new.places
+      by_value None e h = subst (λ (w : Slots F). Origins polled os w.places) (sym h) came
+      by_value (Some f) e h = subst (λ (w : Slots F). Origins polled os w.places) (sym h.2) (left_at polled os m.places i f h.0 came e h.1)
+
+  -- a run of names
+  ran_on : (os : List (Option F)) (names : List ℕ) (m left : Slots F) → Origins polled os m.places → FoldsTo (Passes polled) m names left → Origins polled os left.places
+  ran_on os [] m left came passes = subst (λ (w : Slots F). Origins polled os w.places) passes came
+  ran_on os (i ∷ names) m left came passes = ran_on os names passes.0 left (passed os m i passes.0 came passes.1) passes.2
+
+  -- the last name gave an output, and its slot was emptied
+  ran_out : (os : List (Option F)) (m new : Slots F) (i : ℕ) (x : A) → Origins polled os m.places → Yields polled m i x new
+      → (o : F) × (os2 : List (Option F)) × MayGiveInSlot polled o x × Origins polled os2 (with_slot_freed new i).places × IsPermutation (somes os) (o ∷ somes os2)
+  ran_out os m new i x came yields =
+      let out = taken_out polled os m.places i yields.value yields.left yields.left x came yields.held yields.gave in
+      (out.0, out.1, out.2, subst (λ (w : Slots F). Origins polled out.1 (with_slot_freed w i).places) (sym yields.now_holds) out.3, out.4)
+
+  -- the items whose outputs were given, the items of what is held, and the items drawn
+  pub record SoFar (drawn : List F) (outputs : List A) (m : Slots F) : Type 0 where
+    pub gone : List F
+    pub origins : List (Option F)
+    pub all : IsPermutation drawn (gone ++ somes origins)
+    pub gave : AllZip (MayGiveInSlot polled) gone outputs
+    pub came : Origins polled origins m.places
+
+  zip-push : (fs : List F) (xs : List A) (f : F) (x : A) → AllZip (MayGiveInSlot polled) fs xs → MayGiveInSlot polled f x → AllZip (MayGiveInSlot polled) (fs ++ f ∷ []) (xs ++ x ∷ [])
+  zip-push [] [] f x zip may = (may, tt)
+  zip-push [] (y ∷ xs) f x zip may = absurd zip
+  zip-push (g ∷ fs) [] f x zip may = absurd zip
+  zip-push (g ∷ fs) (y ∷ xs) f x zip may = (zip.0, zip-push fs xs f x zip.1 may)
+
+  pub drew : (drawn : List F) (outputs : List A) (old new : Slots F) (i : ℕ) (f : F) → SoFar drawn outputs old → Inserts old i f new → SoFar (drawn ++ f ∷ []) outputs new
+  drew drawn outputs old new i f so into =
+      let put = put_in polled so.origins old.places i f so.came into.within into.was_empty in
+      record {
+        gone = so.gone;
+        origins = put.0;
+        all = IsPermutation-push_more drawn (so.gone ++ somes so.origins) (so.gone ++ somes put.0) f so.all (IsPermutation-trans _ _ _ (IsPermutation-sym _ _ (IsPermutation-middle so.gone f (somes so.origins))) (IsPermutation-append_right so.gone _ _ put.2));
+        gave = so.gave;
+        came = rw into.now_held put.1;
+      }
+
+module _ {F A S : Type 0} (polled : ℕ → F → Poll A → F → Type 0) (steps : SourceSteps S) where
+  pub gave_one : (drawn : List F) (outputs : List A) (old new : Bounded F S) (answer : Poll (Option A)) → SoFar polled drawn outputs old.slots → PollGives polled steps old answer new → SoFar polled drawn (outputs ++ option_to_list (output_of answer)) new.slots
+  gave_one drawn outputs old new (Ready None) so h = rw (append-nil outputs) (subst (λ (b : Bounded F S). SoFar polled drawn outputs b.slots) (sym h.1) so)
+  gave_one drawn outputs old new (Ready (Some x)) so h =
+      let asks = h.1.2 in
+      let ran = ran_on polled so.origins asks.0 old.slots asks.2 so.came asks.3.passes in
+      let out = ran_out polled so.origins asks.2 _ _ x ran asks.4 in
+      record {
+        gone = so.gone ++ out.0 ∷ [];
+        origins = out.1;
+        all = IsPermutation-pop_more drawn so.gone (somes so.origins) (somes out.1) out.0 so.all out.4;
+        gave = zip-push polled so.gone outputs out.0 x so.gave out.2;
+        came = rw h.1.3 out.3;
+      }
+  gave_one drawn outputs old new Pending so h =
+      rw (append-nil outputs) (record { gone = so.gone; origins = so.origins; all = so.all; gave = so.gave; came = ran_on polled so.origins h.1.0 old.slots new.slots so.came h.1.3.passes })
+
+module _ {St F A S : Type 0} (yields : St → Runs F) (polled : ℕ → F → Poll A → F → Type 0) (steps : SourceSteps S) (marks : S → ℕ → Woke → S → Type 0) (n : ℕ) where
+  abbrev So : List F → List A → Buffering St (Bounded F S) → Type 0
+  So drawn outputs b = SoFar polled drawn outputs b.queue.slots
+
+  drew_all : (items drawn : List F) (outputs : List A) (old full : Buffering St (Bounded F S)) → So drawn outputs old → FoldsTo (DrawsOne (PollsStream yields) held_in n (Pushes marks)) old items full → So (drawn ++ items) outputs full
+  drew_all [] drawn outputs old full so ran = rw (append-nil drawn) (subst (So drawn outputs) ran so)
+  drew_all (f ∷ items) drawn outputs old full so ran =
+      rw (← append_assoc drawn (f ∷ []) items) (drew_all items (drawn ++ f ∷ []) outputs ran.0 full (drew polled drawn outputs old.queue.slots ran.0.queue.slots ran.1.pushed.0 f so ran.1.pushed.1.inserted) ran.2)
+
+  drew_none : (drawn : List F) (outputs : List A) (full new : Buffering St (Bounded F S)) → So drawn outputs full → DrawsNone (PollsStream yields) held_in n full new → So drawn outputs new
+  drew_none drawn outputs full new so (inl h) = subst (So drawn outputs) (sym h.1) so
+  drew_none drawn outputs full new so (inr (inl h)) = rw h.2 so
+  drew_none drawn outputs full new so (inr (inr h)) = rw h.2 so
+
+  pub same_output : (stream : Option St) (queue_answer : Poll (Option A)) → output_of (answer_from stream queue_answer) ≡ output_of queue_answer
+  same_output stream (Ready (Some x)) = refl
+  same_output None (Ready None) = refl
+  same_output (Some s) (Ready None) = refl
+  same_output stream Pending = refl
+
+  one_call : (items drawn : List F) (outputs : List A) (answer : Poll (Option A)) (old new : Buffering St (Bounded F S)) → So drawn outputs old → Calls (PollsStream yields) held_in n (Pushes marks) (PollGives polled steps) old items answer new
+      → So (drawn ++ items) (outputs ++ option_to_list (output_of answer)) new
+  one_call items drawn outputs answer old new so call =
+      let filled = drew_none (drawn ++ items) outputs call.draws.full call.filled (drew_all items drawn outputs old call.draws.full so call.draws.items) call.draws.last in
+      rw (call.gives, same_output call.filled.stream call.queue_answer) (gave_one polled steps (drawn ++ items) outputs call.filled.queue new.queue call.queue_answer filled call.polls_queue)
+
+  pub outputs_cons : (items : List F) (answer : Poll (Option A)) (calls : List (List F × Poll (Option A))) → all_outputs ((items, answer) ∷ calls) ≡ option_to_list (output_of answer) ++ all_outputs calls
+  outputs_cons items (Ready None) calls = refl
+  outputs_cons items (Ready (Some x)) calls = refl
+  outputs_cons items Pending calls = refl
+
+  many_calls : (calls : List (List F × Poll (Option A))) (drawn : List F) (outputs : List A) (old new : Buffering St (Bounded F S)) → So drawn outputs old → CallsInTurn (PollsStream yields) held_in n (Pushes marks) (PollGives polled steps) old calls new
+      → So (drawn ++ all_drawn calls) (outputs ++ all_outputs calls) new
+  many_calls [] drawn outputs old new so ran = rw (append-nil drawn, append-nil outputs) (subst (So drawn outputs) ran so)
+  many_calls ((items, answer) ∷ calls) drawn outputs old new so ran =
+      rw (outputs_cons items answer calls, ← append_assoc drawn items (all_drawn calls), ← append_assoc outputs (option_to_list (output_of answer)) (all_outputs calls))
+      (many_calls calls (drawn ++ items) (outputs ++ option_to_list (output_of answer)) ran.0 new (one_call items drawn outputs answer old ran.0 so ran.1) ran.2)
+
+pub loses_nothing : {St F A S : Type 0} (yields : St → Runs F) (polled : ℕ → F → Poll A → F → Type 0) (steps : SourceSteps S) (marks : S → ℕ → Woke → S → Type 0) → LosesNothing yields polled steps marks
+loses_nothing yields polled steps marks n old new calls empty ran =
+    let none = nothing polled old.queue.slots.places empty in
+    let so = many_calls yields polled steps marks n calls [] [] old new (record { gone = []; origins = old.queue.slots.places; all = rw none.1 (IsPermutation-refl []); gave = tt; came = none.0 }) ran in
+    record { gone = so.gone; kept = somes so.origins; all = so.all; gave = so.gave; became = kept_came polled polled (λ f g w. w) so.origins new.queue.slots.places so.came }
+
+-- the same where the stream gives errors as well
+pub try_loses_nothing : {St F T E S : Type 0} (yields : St → Runs (Result F E)) (polled : ℕ → F → Poll (Result T E) → F → Type 0) (steps : SourceSteps S) (marks : S → ℕ → Woke → S → Type 0) → TryLosesNothing yields polled steps marks
+try_loses_nothing {St} {F} {T} {E} {S} yields polled steps marks n old new calls empty ran =
+    let none = nothing polled old.queue.slots.places empty in
+    let start : SoFar polled [] [] old.queue.slots = record { gone = []; origins = old.queue.slots.places; all = rw none.1 (IsPermutation-refl []); gave = tt; came = none.0 } in
+    let so = many_calls_with_errors (PollsStream yields) held_in n (Pushes marks) (PollGives polled steps) (λ drawn outputs (b : Bounded F S). SoFar polled drawn outputs b.slots)
+    (λ drawn outputs before after f so push. drew polled drawn outputs before.slots after.slots push.0 f so push.1.inserted)
+    (λ drawn outputs before after answer so gives. gave_one polled steps drawn outputs before after answer so gives)
+    calls [] [] old new ([], start, ([], (refl, refl))) ran in
+    (so.0, so.2, record { gone = so.1.gone; kept = somes so.1.origins; all = so.1.all; gave = so.1.gave; became = kept_came polled polled (λ f g w. w) so.1.origins new.queue.slots.places so.1.came })

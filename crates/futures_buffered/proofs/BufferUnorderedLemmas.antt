@@ -1,0 +1,48 @@
+-- What a push leaves of a bounded set as what a buffer holds.
+use Rattle.std.proofs.Common.{◌≡◌, ◌⊎◌, ℕ, ◌<◌, [], length, Option, Some, None, false, is_some, cond, sym, subst, inl, inr, arith, ◌∙◌}
+use Rattle.std.proofs.lemmas.List.{get_or-set_same, get_or-set_other, get_or_past}
+use Rattle.std.proofs.lemmas.List.Sums.{get_or-le-sum_by}
+use Rattle.std.proofs.lemmas.Bool.{cases_eq, cases_lt}
+use Rattle.futures.specs.declared.task.Poll.{Poll}
+use Rattle.futures_buffered_core.specs.SlotMap.{Slots, value_in, held_count, with_value, Inserts}
+use Rattle.futures_buffered_table.specs.declared.answer.Woke.{Woke}
+use Rattle.futures_buffered_unordered_bounded.specs.Held.{MayGive, AllHeld, ComesFrom}
+use Rattle.futures_buffered_unordered_bounded.specs.FuturesUnorderedBounded.{Bounded, Pushes}
+use Rattle.futures_buffered_unordered_bounded.proofs.HeldLemmas.{AllHeld-push}
+use Rattle.futures_buffered.specs.FutureQueue.{AddsOutput}
+use Rattle.futures_buffered.specs.BufferUnordered.{MayGiveInSlot}
+
+Some-same : {F : Type 0} {f g : F} → Some f ≡ Some g → f ≡ g
+Some-same e = cc
+
+-- a value held after an insertion is the one that went in, or was held before
+held-inserts : {F : Type 0} (old new : Slots F) (i j : ℕ) (f g : F) → Inserts old i f new → value_in new j ≡ Some g → (g ≡ f) ⊎ (value_in old j ≡ Some g)
+held-inserts {F} old new i j f g into found =
+    let found_set : value_in (with_value old i f) j ≡ Some g = rw (← into.now_held) found in
+    elim (cases_eq j i) [
+      | inl same ↦ inl (Some-same (sym found_set ∙ rw same (get_or-set_same old.places i (Some f) None into.within)))
+      | inr other ↦ inr (sym (get_or-set_other old.places i j (Some f) None other) ∙ found_set)
+    ]
+
+-- a value that is held counts
+some_held : {F : Type 0} (m : Slots F) (i : ℕ) (f : F) → value_in m i ≡ Some f → 0 < held_count m
+some_held {F} m i f found =
+    let within : i < length m.places = elim (cases_lt i (length m.places)) [
+      | inl below ↦ below
+      | inr past ↦ let none : value_in m i ≡ None = get_or_past m.places i None past in cc
+    ] in
+    omega (arith, rw found at (get_or-le-sum_by (λ (o : Option F). cond (is_some o) 1 0) m.places i None within))
+
+module _ {F S : Type 0} (marks : S → ℕ → Woke → S → Type 0) (old new : Bounded F S) (f : F) (pushed : Pushes marks old f new) where
+  -- one output more may come, of the future that went in
+  pub adds_one : {A : Type 0} (polled : ℕ → F → Poll A → F → Type 0) → AddsOutput false (ComesFrom polled old.slots) (MayGiveInSlot polled f) (ComesFrom polled new.slots)
+  adds_one polled x came =
+      let any = came.1.ends.0 in
+      elim (held-inserts old.slots new.slots pushed.0 any.0 f any.1 pushed.1.inserted any.2) [
+        | inl is ↦ inr (any.0, subst (λ g. MayGive (polled any.0) g x) is any.3)
+        | inr was ↦ inl ([], record { each = tt; ends = ((any.0, any.1, was, any.3), some_held old.slots any.0 any.1 was) })
+      ]
+
+  -- each future may be polled, where those held and the new one may be
+  pub pushed_can : (can_poll : F → Type 0) → AllHeld can_poll old.slots → can_poll f → AllHeld can_poll new.slots
+  pushed_can can_poll held fit = AllHeld-push can_poll old.slots pushed.0 f new.slots pushed.1.inserted held fit

@@ -1,0 +1,344 @@
+-- That the outputs of an ordered buffer are those of the first items drawn, in order, and that no item drawn is lost.
+use Rattle.std.proofs.Common.{◌≡◌, ◌≢◌, ℕ, zero, suc, ◌+◌, ◌≤◌, Bool, List, [], ◌∷◌, ◌++◌, set, Option, Some, None, Result, MatchOption, cond, count_by, refl, sym, ap, subst, inl, inr, ◌∙◌, append-nil, append_assoc, length, arith}
+use Rattle.std.specs.Prelude.{⊤}
+use Rattle.std.specs.Option.{option_to_list}
+use Rattle.std.specs.List.{FoldsTo, AllZip, slice_get}
+use Rattle.std.proofs.lemmas.List.{get_or-set_other}
+use Rattle.std.proofs.lemmas.List.Sums.{sum_by-cons, sum_by_push}
+use Rattle.std.proofs.lemmas.Bool.{cases_eq}
+use Rattle.std.proofs.lemmas.Bool.Decides.{eqb_tells}
+use Rattle.futures.specs.declared.task.Poll.{Poll}
+use Rattle.futures.specs.declared.task.Poll.TheVariants.{Ready, Pending}
+use Rattle.futures.specs.Runs.{Runs}
+use Rattle.futures_buffered_core.specs.SlotMap.{Slots, value_in, with_value, with_slot_freed, Inserts}
+use Rattle.futures_buffered_table.specs.declared.answer.Woke.{Woke}
+use Rattle.futures_buffered_core.specs.ReadySource.{SourceSteps}
+use Rattle.futures_buffered_unordered_bounded.specs.Held.{Passes, Yields}
+use Rattle.futures_buffered_unordered_bounded.specs.FuturesUnorderedBounded.{held_in}
+use Rattle.futures_buffered_unordered_bounded.proofs.HeldLemmas.{apart, value_in-with_value, value_inserted, value_inserted_other}
+use Rattle.futures_buffered_unordered_bounded.proofs.HeldGivesLemmas.{value_in-with_slot_freed_other}
+use Rattle.futures_buffered_ordered.specs.Numbered.{PollsNumbered, held_with, one_at}
+use Rattle.futures_buffered_ordered.specs.OrderedEntries.{AddsBack, IsUnused, LastStep, OrderedGives, SetYields, runs_with}
+use Rattle.futures_buffered_ordered.specs.FuturesOrderedBounded.{OrderedBounded, PushesNumber, SetGives}
+use Rattle.futures_buffered_ordered.specs.declared.numbered.Numbered.{Numbered}
+use Rattle.futures_buffered_ordered.specs.declared.ordered_entries.Entry.{Entry}
+use Rattle.futures_buffered_ordered.specs.declared.ordered_entries.Entry.TheVariants.{Running, Kept}
+use Rattle.futures_buffered_ordered.proofs.NumberedLemmas.{count-names, in_slots, none_held, numbers_inserted, numbers_polled}
+use Rattle.futures_buffered_ordered.proofs.OrderedEntriesInvariantLemmas.{runs-set}
+use Rattle.futures_buffered.proofs.TryBufferAccountLemmas.{many_calls_with_errors}
+use Rattle.futures_buffered.specs.Buffer.{Buffering, PollsStream, DrawsOne, DrawsNone, Calls, CallsInTurn, all_drawn, all_outputs, output_of}
+use Rattle.futures_buffered.specs.BufferUnordered.{PendsTo, MayGiveInSlot}
+use Rattle.futures_buffered.specs.BufferedOrdered.{BecomesEntry, GivesInOrder, TryGivesInOrder, queue_len}
+use Rattle.futures_buffered.proofs.BufferedOrderedLemmas.{one_slot}
+use Rattle.futures_buffered.proofs.BufferUnorderedAccountLemmas.{waits_more, outputs_cons, same_output}
+
+None-Some : {X F : Type 0} {f : F} → None ≡ Some f → X
+None-Some e = cc
+
+Some-same : {F : Type 0} {f g : F} → Some f ≡ Some g → f ≡ g
+Some-same e = cc
+
+running_same : {A : Type 0} {i j : ℕ} → ◌≡◌ {A = Option (Entry A)} (Some (Running i)) (Some (Running j)) → i ≡ j
+running_same e = cc
+
+not_running : {X A : Type 0} {x : A} {i : ℕ} → ◌≡◌ {A = Option (Entry A)} (Some (Kept x)) (Some (Running i)) → X
+not_running e = cc
+
+zip_push : {E G : Type 0} (P : E → G → Type 0) (es : List E) (gs : List G) (e : E) (g : G) → AllZip P es gs → P e g → AllZip P (es ++ e ∷ []) (gs ++ g ∷ [])
+zip_push P [] [] e g zip p = (p, tt)
+zip_push P [] (d ∷ gs) e g zip p = absurd zip
+zip_push P (d ∷ es) [] e g zip p = absurd zip
+zip_push P (c ∷ es) (d ∷ gs) e g zip p = (zip.0, zip_push P es gs e g zip.1 p)
+
+module _ {A : Type 0} where
+  -- no entry is in progress with this number
+  abbrev FreeOf : ℕ → List (Entry A) → Type 0
+  FreeOf i [] = ⊤
+  FreeOf i (Running j ∷ es) = (j ≢ i) × FreeOf i es
+  FreeOf i (Kept x ∷ es) = FreeOf i es
+
+  -- each entry in progress has a number of its own
+  abbrev Apart : List (Entry A) → Type 0
+  Apart [] = ⊤
+  Apart (Running i ∷ es) = FreeOf i es × Apart es
+  Apart (Kept x ∷ es) = Apart es
+
+  free_push : (i j : ℕ) (es : List (Entry A)) → FreeOf i es → j ≢ i → FreeOf i (es ++ Running j ∷ [])
+  free_push i j [] free other = (other, tt)
+  free_push i j (Running k ∷ es) free other = (free.0, free_push i j es free.1 other)
+  free_push i j (Kept x ∷ es) free other = free_push i j es free other
+
+  apart_push : (i : ℕ) (es : List (Entry A)) → Apart es → FreeOf i es → Apart (es ++ Running i ∷ [])
+  apart_push i [] each free = (tt, tt)
+  apart_push i (Running j ∷ es) each free = (free_push j i es each.0 (λ same. free.0 (sym same)), apart_push i es each.1 free.1)
+  apart_push i (Kept x ∷ es) each free = apart_push i es each free
+
+  free_set : (i k : ℕ) (x : A) (es : List (Entry A)) → FreeOf i es → FreeOf i (set es k (Kept x))
+  free_set i k x [] free = tt
+  free_set i zero x (Running j ∷ es) free = free.1
+  free_set i zero x (Kept y ∷ es) free = free
+  free_set i (suc k) x (Running j ∷ es) free = (free.0, free_set i k x es free.1)
+  free_set i (suc k) x (Kept y ∷ es) free = free_set i k x es free
+
+  apart_set : (k : ℕ) (x : A) (es : List (Entry A)) → Apart es → Apart (set es k (Kept x))
+  apart_set k x [] each = tt
+  apart_set zero x (Running j ∷ es) each = each.1
+  apart_set zero x (Kept y ∷ es) each = each
+  apart_set (suc k) x (Running j ∷ es) each = (free_set j k x es each.0, apart_set k x es each.1)
+  apart_set (suc k) x (Kept y ∷ es) each = apart_set k x es each
+
+  -- an entry of the list has another number
+  not_in : (i j k : ℕ) (es : List (Entry A)) → FreeOf j es → slice_get es k ≡ Some (Running i) → j ≢ i
+  not_in i j k [] free at = λ same. None-Some at
+  not_in i j zero (Running l ∷ es) free at = λ same. free.0 (running_same at ∙ sym same)
+  not_in i j zero (Kept y ∷ es) free at = not_running at
+  not_in i j (suc k) (Running l ∷ es) free at = not_in i j k es free.1 at
+  not_in i j (suc k) (Kept y ∷ es) free at = not_in i j k es free at
+
+  -- a number of which no entry is in progress
+  free_of : (i : ℕ) (es : List (Entry A)) → IsUnused i es → FreeOf i es
+  free_of i [] unused = tt
+  free_of i (Running j ∷ es) unused = (λ same. unused 0 (ap (λ (n : ℕ). Some (Running n)) same), free_of i es (λ k at. unused (suc k) at))
+  free_of i (Kept x ∷ es) unused = free_of i es (λ k at. unused (suc k) at)
+
+  abbrev runs : ℕ → Entry A → ℕ
+  runs i e = cond (runs_with i e) 1 0
+
+  none_runs : (i : ℕ) (es : List (Entry A)) → FreeOf i es → count_by (runs_with i) es ≡ 0
+  none_runs i [] free = refl
+  none_runs i (Running j ∷ es) free = elim (eqb_tells j i) [
+    | inl same ↦ absurd (free.0 same.1)
+    | inr other ↦ let none : one_at i j ≡ 0 = ap (λ (b : Bool). cond b 1 0) other.0 in omega (arith, sum_by-cons (runs i) (Running j) es, none, none_runs i es free.1)
+  ]
+  none_runs i (Kept x ∷ es) free = omega (arith, sum_by-cons (runs i) (Kept x) es, none_runs i es free)
+
+  -- one entry at most has a number
+  one_runs : (i : ℕ) (es : List (Entry A)) → Apart es → count_by (runs_with i) es ≤ 1
+  one_runs i [] each = omega arith
+  one_runs i (Running j ∷ es) each = elim (eqb_tells j i) [
+    | inl same ↦
+        let one : one_at i j ≡ 1 = ap (λ (b : Bool). cond b 1 0) same.0 in
+        omega (arith, sum_by-cons (runs i) (Running j) es, one, none_runs i es (subst (λ (n : ℕ). FreeOf n es) same.1 each.0))
+    | inr other ↦ let none : one_at i j ≡ 0 = ap (λ (b : Bool). cond b 1 0) other.0 in omega (arith, sum_by-cons (runs i) (Running j) es, none, one_runs i es each.1)
+  ]
+  one_runs i (Kept x ∷ es) each = omega (arith, sum_by-cons (runs i) (Kept x) es, one_runs i es each)
+
+module _ {F A : Type 0} (polled : ℕ → F → Poll A → F → Type 0) where
+  -- where each entry keeps what it came from, so do all
+  came_on : (m w : Slots (Numbered F)) (fs : List F) (es : List (Entry A)) → ((e : Entry A) (f : F) → BecomesEntry polled m f e → BecomesEntry polled w f e) → AllZip (BecomesEntry polled m) fs es → AllZip (BecomesEntry polled w) fs es
+  came_on m w [] [] on came = tt
+  came_on m w [] (e ∷ es) on came = absurd came
+  came_on m w (f ∷ fs) [] on came = absurd came
+  came_on m w (f ∷ fs) (e ∷ es) on came = (on e f came.0, came_on m w fs es on came.1)
+
+  -- another future went into an empty slot
+  pushed_on : (m w : Slots (Numbered F)) (s : ℕ) (put : Numbered F) → Inserts m s put w → (e : Entry A) (f : F) → BecomesEntry polled m f e → BecomesEntry polled w f e
+  pushed_on m w s put into (Running j) f came = (came.0, came.1, value_inserted_other m w s put into came.0 (apart m w s put into came.0 _ came.2) ∙ came.2, came.3)
+  pushed_on m w s put into (Kept x) f came = came
+
+  -- a name was passed
+  pending_on : (m : Slots (Numbered F)) (s : ℕ) (g left : Numbered F) → value_in m s ≡ Some g → PollsNumbered polled s g Pending left → (e : Entry A) (f : F) → BecomesEntry polled m f e → BecomesEntry polled (with_value m s left) f e
+  pending_on m s g left held p (Running j) f came =
+      elim (cases_eq came.0 s) [
+        | inl same ↦ here (ap (λ (n : ℕ). value_in m n) (sym same) ∙ came.2) (subst (λ (n : ℕ). PendsTo (polled n) f came.1) same came.3)
+        | inr other ↦ (came.0, came.1, get_or-set_other m.places s came.0 (Some left) None other ∙ came.2, came.3)
+      ]
+    where
+      here : value_in m s ≡ Some (record { future = came.1; number = j }) → PendsTo (polled s) f came.1 → BecomesEntry polled (with_value m s left) f (Running j)
+      here found waits =
+          let is : g ≡ record { future = came.1; number = j } = Some-same (sym held ∙ found) in
+          let number : left.number ≡ j = p.1 ∙ ap (λ (n : Numbered F). n.number) is in
+          let pends : polled s came.1 Pending left.future = subst (λ (n : Numbered F). polled s n.future Pending left.future) is p.0 in
+          (s, left.future, value_in-with_value m s g left (sym held) ∙ ap (λ (n : ℕ). Some (record { future = left.future; number = n })) number, waits_more (polled s) f came.1 left.future waits pends)
+  pending_on m s g left held p (Kept x) f came = came
+
+  passed_on : (m w : Slots (Numbered F)) (s : ℕ) → Passes (PollsNumbered polled) m s w → (e : Entry A) (f : F) → BecomesEntry polled m f e → BecomesEntry polled w f e
+  passed_on m w s = by_value (value_in m s) refl
+    where
+      by_value : (o : Option (Numbered F)) → value_in m s ≡ o → MatchOption o (w ≡ m) (λ g. (left : Numbered F) × PollsNumbered polled s g Pending left × (w ≡ with_value m s left)) → (e : Entry A) (f : F) → BecomesEntry polled m f e → BecomesEntry polled w f e
+      by_value None is h e f came = subst (λ (v : Slots (Numbered F)). BecomesEntry polled v f e) (sym h) came
+      by_value (Some g) is h e f came = subst (λ (v : Slots (Numbered F)). BecomesEntry polled v f e) (sym h.2) (pending_on m s g h.0 is h.1 e f came)
+
+  ran_on : (names : List ℕ) (m w : Slots (Numbered F)) (fs : List F) (es : List (Entry A)) → FoldsTo (Passes (PollsNumbered polled)) m names w → AllZip (BecomesEntry polled m) fs es → AllZip (BecomesEntry polled w) fs es
+  ran_on [] m w fs es passes came = subst (λ (v : Slots (Numbered F)). AllZip (BecomesEntry polled v) fs es) passes came
+  ran_on (s ∷ names) m w fs es passes came = ran_on names passes.0 w fs es passes.2 (came_on m passes.0 fs es (passed_on m passes.0 s passes.1) came)
+
+  module _ (m w : Slots (Numbered F)) (s i : ℕ) (x : A) (gave : Yields (PollsNumbered polled) m s (i, x) w) where
+    has_number : gave.value.number ≡ i
+    has_number = sym gave.gave.2
+
+    -- the slot of an output was emptied
+    other_on : (j : ℕ) (f : F) → j ≢ i → BecomesEntry polled m f (Running j) → BecomesEntry polled (with_slot_freed w s) f (Running j)
+    other_on j f other came =
+        let apart : came.0 ≢ s = λ same. other (sym (ap (λ (n : Numbered F). n.number) (Some-same (sym gave.held ∙ (ap (λ (n : ℕ). value_in m n) (sym same) ∙ came.2)))) ∙ has_number) in
+        (came.0, came.1, ap (λ (v : Slots (Numbered F)). value_in (with_slot_freed v s) came.0) gave.now_holds ∙ (value_in-with_slot_freed_other (with_value m s gave.left) s came.0 apart ∙ (get_or-set_other m.places s came.0 (Some gave.left) None apart ∙ came.2)), came.3)
+
+    others_on : (fs : List F) (es : List (Entry A)) → FreeOf i es → AllZip (BecomesEntry polled m) fs es → AllZip (BecomesEntry polled (with_slot_freed w s)) fs es
+    others_on [] [] free came = tt
+    others_on [] (e ∷ es) free came = absurd came
+    others_on (f ∷ fs) [] free came = absurd came
+    others_on (f ∷ fs) (Running j ∷ es) free came = (other_on j f free.0 came.0, others_on fs es free.1 came.1)
+    others_on (f ∷ fs) (Kept y ∷ es) free came = (came.0, others_on fs es free came.1)
+
+    -- and its entry keeps the output, since no other slot has its number
+    gave_here : (f : F) → in_slots i m ≤ 1 → BecomesEntry polled m f (Running i) → MayGiveInSlot polled f x
+    gave_here f one came =
+        let same : came.0 ≡ s = one_slot i m s came.0 gave.value _ gave.held has_number came.2 refl one in
+        let is : came.1 ≡ gave.value.future = ap (λ (n : Numbered F). n.future) (Some-same (sym came.2 ∙ (ap (λ (n : ℕ). value_in m n) same ∙ gave.held))) in
+        let waits : PendsTo (polled s) f gave.value.future = subst (λ (v : F). PendsTo (polled s) f v) is (subst (λ (n : ℕ). PendsTo (polled n) f came.1) same came.3) in
+        (s, (waits.0, gave.value.future, gave.left.future, waits.1, gave.gave.0))
+
+    finished_on : in_slots i m ≤ 1 → (k : ℕ) (fs : List F) (es : List (Entry A)) → Apart es → slice_get es k ≡ Some (Running i) → AllZip (BecomesEntry polled m) fs es → AllZip (BecomesEntry polled (with_slot_freed w s)) fs (set es k (Kept x))
+    finished_on one k [] [] each at came = tt
+    finished_on one k [] (e ∷ es) each at came = absurd came
+    finished_on one k (f ∷ fs) [] each at came = absurd came
+    finished_on one zero (f ∷ fs) (Running j ∷ es) each at came =
+        let same : j ≡ i = running_same at in
+        (gave_here f one (subst (λ (n : ℕ). BecomesEntry polled m f (Running n)) same came.0), others_on fs es (subst (λ (n : ℕ). FreeOf n es) same each.0) came.1)
+    finished_on one zero (f ∷ fs) (Kept y ∷ es) each at came = not_running at
+    finished_on one (suc k) (f ∷ fs) (Running j ∷ es) each at came = (other_on j f (not_in i j k es each.0 at) came.0, finished_on one k fs es each.1 at came.1)
+    finished_on one (suc k) (f ∷ fs) (Kept y ∷ es) each at came = (came.0, finished_on one k fs es each at came.1)
+
+module _ {F A S : Type 0} (polled : ℕ → F → Poll A → F → Type 0) where
+  -- the items whose outputs were given, and the items of the entries
+  pub record SoFar (drawn : List F) (outputs : List A) (q : OrderedBounded F A S) : Type 0 where
+    pub gone : List F
+    pub kept : List F
+    pub all : drawn ≡ gone ++ kept
+    pub gave : AllZip (MayGiveInSlot polled) gone outputs
+    pub came : AllZip (BecomesEntry polled q.set.slots) kept q.entries
+    pub each : Apart q.entries
+    pub as_many : (n : ℕ) → held_with n q.set ≡ count_by (runs_with n) q.entries
+
+  pub drew : (marks : S → ℕ → Woke → S → Type 0) (drawn : List F) (outputs : List A) (old new : OrderedBounded F A S) (f : F) → SoFar drawn outputs old → AddsBack (PushesNumber marks) old f new → SoFar (drawn ++ f ∷ []) outputs new
+  drew marks drawn outputs old new f so added =
+      let i = added.0 in
+      let put : Numbered F = record { future = f; number = i } in
+      let pushed = added.1.pushed in
+      let into = pushed.1.inserted in
+      record {
+        gone = so.gone;
+        kept = so.kept ++ f ∷ [];
+        all = ap (λ (l : List F). l ++ f ∷ []) so.all ∙ append_assoc so.gone so.kept (f ∷ []);
+        gave = so.gave;
+        came = subst (λ (l : List (Entry A)). AllZip (BecomesEntry polled new.set.slots) (so.kept ++ f ∷ []) l) (sym added.2)
+            (zip_push (BecomesEntry polled new.set.slots) so.kept old.entries f (Running i)
+            (came_on polled old.set.slots new.set.slots so.kept old.entries (pushed_on polled old.set.slots new.set.slots pushed.0 put into) so.came)
+            (pushed.0, f, value_inserted old.set.slots new.set.slots pushed.0 put into, ([], refl)));
+        each = subst Apart (sym added.2) (apart_push i old.entries so.each (free_of i old.entries added.1.unused));
+        as_many = λ n.
+            let more : count_by (runs_with n) (old.entries ++ Running i ∷ []) ≡ count_by (runs_with n) old.entries + one_at n i = sum_by_push (runs n) old.entries (Running i) in
+            omega (arith, so.as_many n, numbers_inserted n marks old.set new.set put pushed, more, ap (λ (l : List (Entry A)). count_by (runs_with n) l) added.2);
+      }
+
+module _ {F A S : Type 0} (polled : ℕ → F → Poll A → F → Type 0) (steps : SourceSteps S) where
+  -- a poll of the set gave an output, which its entry keeps
+  one_kept : (drawn : List F) (outputs : List A) (old new : OrderedBounded F A S) (i : ℕ) (x : A) → SoFar polled drawn outputs old → SetYields (SetGives polled steps) old (i, x) new → SoFar polled drawn outputs new
+  one_kept drawn outputs old new i x so h =
+      let s = h.gave.1.0 in
+      let left = h.gave.1.1 in
+      let asks = h.gave.1.2 in
+      let ran = ran_on polled asks.0 old.set.slots asks.2 so.kept old.entries asks.3.passes so.came in
+      let one : in_slots i asks.2 ≤ 1 = omega (arith, count-names i polled asks.0 old.set.slots asks.2 asks.3.passes, so.as_many i, one_runs i old.entries so.each) in
+      let done = finished_on polled asks.2 left.slots s i x asks.4 one h.at so.kept old.entries so.each h.was_running ran in
+      record {
+        gone = so.gone;
+        kept = so.kept;
+        all = so.all;
+        gave = so.gave;
+        came = rw (h.gave.1.3, h.entries) done;
+        each = rw h.entries (apart_set h.at x old.entries so.each);
+        as_many = λ n.
+            omega (arith, so.as_many n, numbers_polled n polled steps old.set new.set (Ready (Some (i, x))) h.gave, runs-set n i h.at old.entries x h.was_running, ap (λ (l : List (Entry A)). count_by (runs_with n) l) h.entries);
+      }
+
+  row_kept : (row : List (ℕ × A)) (drawn : List F) (outputs : List A) (old before : OrderedBounded F A S) → SoFar polled drawn outputs old → FoldsTo (SetYields (SetGives polled steps)) old row before → SoFar polled drawn outputs before
+  row_kept [] drawn outputs old before so h = subst (SoFar polled drawn outputs) h so
+  row_kept ((i, x) ∷ row) drawn outputs old before so h = row_kept row drawn outputs h.0 before (one_kept drawn outputs old h.0 i x so h.1) h.2
+
+  -- the front left with its output
+  front_gave : (drawn : List F) (outputs : List A) (before new : OrderedBounded F A S) (x : A) → SoFar polled drawn outputs before → before.entries ≡ Kept x ∷ new.entries → new.set ≡ before.set → SoFar polled drawn (outputs ++ x ∷ []) new
+  front_gave drawn outputs before new x so front same = by_kept so.kept so.all (subst (λ (l : List (Entry A)). AllZip (BecomesEntry polled before.set.slots) so.kept l) front so.came)
+    where
+      by_kept : (kept : List F) → drawn ≡ so.gone ++ kept → AllZip (BecomesEntry polled before.set.slots) kept (Kept x ∷ new.entries) → SoFar polled drawn (outputs ++ x ∷ []) new
+      by_kept [] all came = absurd came
+      by_kept (f ∷ fs) all came =
+          record {
+            gone = so.gone ++ f ∷ [];
+            kept = fs;
+            all = all ∙ sym (append_assoc so.gone (f ∷ []) fs);
+            gave = zip_push (MayGiveInSlot polled) so.gone outputs f x so.gave came.0;
+            came = rw same came.1;
+            each = subst Apart front so.each;
+            as_many = λ n. rw same (so.as_many n ∙ ap (λ (l : List (Entry A)). count_by (runs_with n) l) front);
+          }
+
+  pub one_poll : (drawn : List F) (outputs : List A) (old new : OrderedBounded F A S) (answer : Poll (Option A)) → SoFar polled drawn outputs old → OrderedGives (SetGives polled steps) held_in old answer new → SoFar polled drawn (outputs ++ option_to_list (output_of answer)) new
+  one_poll drawn outputs old new answer so h = last_one answer h.last_step
+    where
+      then : SoFar polled drawn outputs h.before
+      then = row_kept h.yielded drawn outputs old h.before so h.row
+
+      last_one : (answer : Poll (Option A)) → LastStep (SetGives polled steps) h.before answer new → SoFar polled drawn (outputs ++ option_to_list (output_of answer)) new
+      last_one (Ready None) step = rw (append-nil outputs) (subst (SoFar polled drawn outputs) (sym step.1) then)
+      last_one (Ready (Some x)) step = front_gave drawn outputs h.before new x then step.0 step.1
+      last_one Pending step =
+          let asks = step.1.1 in
+          rw (append-nil outputs)
+          (record {
+            gone = then.gone;
+            kept = then.kept;
+            all = then.all;
+            gave = then.gave;
+            came = rw step.2 (ran_on polled asks.0 h.before.set.slots new.set.slots then.kept h.before.entries asks.3.passes then.came);
+            each = rw step.2 then.each;
+            as_many = λ n. omega (arith, then.as_many n, numbers_polled n polled steps h.before.set new.set Pending step.1, ap (λ (l : List (Entry A)). count_by (runs_with n) l) step.2);
+          })
+
+module _ {St F A S : Type 0} (yields : St → Runs F) (polled : ℕ → F → Poll A → F → Type 0) (steps : SourceSteps S) (marks : S → ℕ → Woke → S → Type 0) (n : ℕ) where
+  abbrev So : List F → List A → Buffering St (OrderedBounded F A S) → Type 0
+  So drawn outputs b = SoFar polled drawn outputs b.queue
+
+  drew_all : (items drawn : List F) (outputs : List A) (old full : Buffering St (OrderedBounded F A S)) → So drawn outputs old → FoldsTo (DrawsOne (PollsStream yields) queue_len n (AddsBack (PushesNumber marks))) old items full → So (drawn ++ items) outputs full
+  drew_all [] drawn outputs old full so ran = rw (append-nil drawn) (subst (So drawn outputs) ran so)
+  drew_all (f ∷ items) drawn outputs old full so ran =
+      rw (← append_assoc drawn (f ∷ []) items) (drew_all items (drawn ++ f ∷ []) outputs ran.0 full (drew polled marks drawn outputs old.queue ran.0.queue f so ran.1.pushed) ran.2)
+
+  drew_none : (drawn : List F) (outputs : List A) (full new : Buffering St (OrderedBounded F A S)) → So drawn outputs full → DrawsNone (PollsStream yields) queue_len n full new → So drawn outputs new
+  drew_none drawn outputs full new so (inl h) = subst (So drawn outputs) (sym h.1) so
+  drew_none drawn outputs full new so (inr (inl h)) = rw h.2 so
+  drew_none drawn outputs full new so (inr (inr h)) = rw h.2 so
+
+  one_call : (items drawn : List F) (outputs : List A) (answer : Poll (Option A)) (old new : Buffering St (OrderedBounded F A S)) → So drawn outputs old → Calls (PollsStream yields) queue_len n (AddsBack (PushesNumber marks)) (OrderedGives (SetGives polled steps) held_in) old items answer new
+      → So (drawn ++ items) (outputs ++ option_to_list (output_of answer)) new
+  one_call items drawn outputs answer old new so call =
+      let filled = drew_none (drawn ++ items) outputs call.draws.full call.filled (drew_all items drawn outputs old call.draws.full so call.draws.items) call.draws.last in
+      rw (call.gives, same_output yields polled steps marks n call.filled.stream call.queue_answer) (one_poll polled steps (drawn ++ items) outputs call.filled.queue new.queue call.queue_answer filled call.polls_queue)
+
+  many_calls : (calls : List (List F × Poll (Option A))) (drawn : List F) (outputs : List A) (old new : Buffering St (OrderedBounded F A S)) → So drawn outputs old → CallsInTurn (PollsStream yields) queue_len n (AddsBack (PushesNumber marks)) (OrderedGives (SetGives polled steps) held_in) old calls new
+      → So (drawn ++ all_drawn calls) (outputs ++ all_outputs calls) new
+  many_calls [] drawn outputs old new so ran = rw (append-nil drawn, append-nil outputs) (subst (So drawn outputs) ran so)
+  many_calls ((items, answer) ∷ calls) drawn outputs old new so ran =
+      rw (outputs_cons yields polled steps marks n items answer calls, ← append_assoc drawn items (all_drawn calls), ← append_assoc outputs (option_to_list (output_of answer)) (all_outputs calls))
+      (many_calls calls (drawn ++ items) (outputs ++ option_to_list (output_of answer)) ran.0 new (one_call items drawn outputs answer old ran.0 so ran.1) ran.2)
+
+pub nil_of : {X : Type 0} (xs : List X) → length xs ≡ 0 → xs ≡ []
+nil_of [] none = refl
+nil_of (x ∷ xs) none = absurd (omega (arith, none))
+
+pub gives_in_order : {St F A S : Type 0} (yields : St → Runs F) (polled : ℕ → F → Poll A → F → Type 0) (steps : SourceSteps S) (marks : S → ℕ → Woke → S → Type 0) → GivesInOrder yields polled steps marks
+gives_in_order yields polled steps marks n old new calls empty none_in ran =
+    let none = nil_of old.queue.entries empty in
+    let so = many_calls yields polled steps marks n calls [] [] old new (record { gone = []; kept = []; all = refl; gave = tt; came = rw none tt; each = rw none tt; as_many = λ i. rw none (none_held i old.queue.set.slots none_in) }) ran in
+    record { gone = so.gone; kept = so.kept; all = so.all; gave = so.gave; became = so.came }
+
+-- the same where the stream gives errors as well
+pub try_gives_in_order : {St F T E S : Type 0} (yields : St → Runs (Result F E)) (polled : ℕ → F → Poll (Result T E) → F → Type 0) (steps : SourceSteps S) (marks : S → ℕ → Woke → S → Type 0) → TryGivesInOrder yields polled steps marks
+try_gives_in_order {St} {F} {T} {E} {S} yields polled steps marks n old new calls empty none_in ran =
+    let none = nil_of old.queue.entries empty in
+    let start : SoFar polled [] [] old.queue = record { gone = []; kept = []; all = refl; gave = tt; came = rw none tt; each = rw none tt; as_many = λ i. rw none (none_held i old.queue.set.slots none_in) } in
+    let so = many_calls_with_errors (PollsStream yields) queue_len n (AddsBack (PushesNumber marks)) (OrderedGives (SetGives polled steps) held_in) (λ drawn outputs q. SoFar polled drawn outputs q)
+    (λ drawn outputs before after f so added. drew polled marks drawn outputs before after f so added)
+    (λ drawn outputs before after answer so gives. one_poll polled steps drawn outputs before after answer so gives)
+    calls [] [] old new ([], start, ([], (refl, refl))) ran in
+    (so.0, so.2, record { gone = so.1.gone; kept = so.1.kept; all = so.1.all; gave = so.1.gave; became = so.1.came })

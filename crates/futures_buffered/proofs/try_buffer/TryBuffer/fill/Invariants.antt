@@ -1,0 +1,24 @@
+use Rattle.std.proofs.Common.{◌≡◌, ◌-◌, List, Result}
+use Rattle.std.specs.List.{FoldsTo}
+use Rattle.futures.specs.Task.{Keeps}
+use Rattle.futures.specs.Runs.{Within}
+use Rattle.futures_buffered.specs.Buffer.{PollsStream, HasNoTurn, DrawsOne}
+use Rattle.futures_buffered.specs.TryBuffer.{PushesOk, CanTryDraw, TryBufferGives}
+use Rattle.futures_buffered.proofs.try_buffer.TryBuffer.fill.Given as goal
+
+abbrev pub invariant-draws : goal.invariant-draws
+invariant-draws g l =
+    let stream = g.St.Stream in
+    let queue = g.Q.FutureQueue in
+    record {
+      drawn : List (Result g.row.F.Denot g.row.E.Denot);
+      items : FoldsTo (DrawsOne (PollsStream stream.yields) queue.count (queue.room l.fn.self.queue) (PushesOk queue.pushes)) l.fn.self drawn l.self;
+      room : queue.room l.self.queue ≡ queue.room l.fn.self.queue;
+      again : CanTryDraw stream.can_poll stream.yields queue.is_fit queue.can_poll l.self;
+      within : Within (TryBufferGives stream.yields queue.gives queue.count queue.yields l.fn.self) (TryBufferGives stream.yields queue.gives queue.count queue.yields l.self);
+      no_turn : HasNoTurn (PollsStream stream.yields) queue.count (queue.room l.fn.self.queue) l.fn.self → (l.self ≡ l.fn.self) × (l.cx ≡ l.fn.cx);
+      kept : Keeps l.fn.cx l.cx;
+    }
+
+abbrev pub decreases-draws : goal.decreases-draws
+decreases-draws g l = g.Q.FutureQueue.room l.self.queue - g.Q.FutureQueue.count l.self.queue

@@ -1,0 +1,213 @@
+-- One call of a buffer, which draws from a stream while there is room and then polls its queue
+-- once; what many calls make together; and what may come. The queue may be any that has a number of
+-- entries, a push and a poll.
+use Rattle.std.specs.Prelude.{◌≡◌, ℕ, ◌+◌, ◌-◌, ◌<◌, ◌≤◌, ◌^◌, List, [], ◌++◌, Option, Some, None}
+use Rattle.std.specs.Prelude.{IfSome, IsSomeAnd, Bool, true, false, ◌⊎◌, cond, min, nat_lt, refl}
+use Rattle.std.specs.Prelude.{filter_map, flat_map}
+use Rattle.std.specs.Option.{option_and_then}
+use Rattle.std.specs.List.{FoldsTo, AllZip}
+use Rattle.std.specs.Coded.{Coded, code_by, coded×, coded_option}
+use Rattle.futures.specs.Task.{Keeps}
+use Rattle.futures.specs.declared.task.context.Context.{Context}
+use Rattle.futures.specs.declared.task.Poll.{Poll}
+use Rattle.futures.specs.declared.task.Poll.TheVariants.{Ready, Pending}
+use Rattle.futures.specs.Poll.{IfReady, OnPending}
+use Rattle.futures.specs.Runs.{Runs, After, Within, Ends, AllItems, Chains, Resolves}
+use Rattle.futures.specs.Buffered.{AnyItemGives, GathersWith}
+use Rattle.futures_buffered.specs.FutureQueue.{MayCome}
+
+-- the stream, or nothing once it has ended, and the queue of what was drawn
+pub record Buffering (St Q : Type 0) : Type 0 where
+  pub stream : Option St
+  pub queue : Q
+
+-- its code, made of those of its parts
+abbrev pub buffer_code : {St Q : Type 0} → Coded St → Coded Q → Coded (Buffering St Q)
+buffer_code {St} {Q} stream_code queue_code =
+    code_by
+    (Option St × Q)
+    (coded× (coded_option stream_code) queue_code)
+    (λ b. (b.stream, b.queue))
+    (λ p. record { stream = p.0; queue = p.1 })
+    (λ _. refl)
+
+-- one poll of a stream, in the words of `futures`: its answer was one that might come, and what may
+-- come after it might come before
+pub record PollsStream {St F : Type 0} (yields : St → Runs F) (old : St) (answer : Poll (Option F))
+    (new : St) : Type 0 where
+  pub value : IfReady answer (yields old [])
+  pub rest : IfReady answer (λ o. IfSome o (λ x. After (yields old) x (yields new)))
+  pub same : OnPending answer (Within (yields old) (yields new))
+
+-- what may come from a stream, and nothing more once it has ended
+abbrev pub Ahead : {St F : Type 0} → (St → Runs F) → Option St → Runs F
+Ahead yields None = Ends
+Ahead yields (Some stream) = yields stream
+
+-- where the queue holds nothing: the end if the stream has ended, and else Pending
+abbrev pub answer_of_none : {St A : Type 0} → Option St → Poll (Option A)
+answer_of_none None = Ready None
+answer_of_none (Some _) = Pending
+
+-- the answer of a call, from that of the queue: its outputs and its Pending are passed on
+abbrev pub answer_from : {St A : Type 0} → Option St → Poll (Option A) → Poll (Option A)
+answer_from stream (Ready (Some x)) = Ready (Some x)
+answer_from stream (Ready None) = answer_of_none stream
+answer_from stream Pending = Pending
+
+-- the output that a call gave, if any
+abbrev pub output_of : {A : Type 0} → Poll (Option A) → Option A
+output_of (Ready o) = o
+output_of Pending = None
+
+module _ {St X Q : Type 0} (next : St → Poll (Option X) → St → Type 0) (count : Q → ℕ) (n : ℕ) where
+  -- the stream was polled: it had not ended, and fewer than n were held
+  pub record AsksStream (old : Buffering St Q) (answer : Poll (Option X)) (left : St) : Type 0 where
+    pub stream : St
+    pub not_ended : old.stream ≡ Some stream
+    pub has_room : count old.queue < n
+    pub answers : next stream answer left
+
+  -- the stream was not polled, since it has ended or as many as n are held
+  abbrev pub HasNoTurn : Buffering St Q → Type 0
+  HasNoTurn old = (old.stream ≡ None) ⊎ (n ≤ count old.queue)
+
+  -- no item came: the stream had no turn, or it was pending, or it ended and was dropped
+  abbrev pub DrawsNone : Buffering St Q → Buffering St Q → Type 0
+  DrawsNone old new = (HasNoTurn old × (new ≡ old))
+      ⊎ (((left : St) × AsksStream old Pending left × (new ≡ record old { stream = Some left }))
+      ⊎ ((left : St) × AsksStream old (Ready None) left × (new ≡ record old { stream = None })))
+
+  module _ (pushes : Q → X → Q → Type 0) where
+    -- an item came, and was pushed
+    pub record DrawsOne (old : Buffering St Q) (item : X) (new : Buffering St Q) : Type 0 where
+      pub left : St
+      pub asks : AsksStream old (Ready (Some item)) left
+      pub stream_left : new.stream ≡ Some left
+      pub pushed : pushes old.queue item new.queue
+
+    -- these items came one after another and were pushed, each while fewer than n were held, and
+    -- then none came
+    pub record DrawsAll (old : Buffering St Q) (drawn : List X)
+        (new : Buffering St Q) : Type 0 where
+      pub full : Buffering St Q
+      pub items : FoldsTo DrawsOne old drawn full
+      pub last : DrawsNone full new
+
+    module _ {A : Type 0} (polls : Q → Poll (Option A) → Q → Type 0) where
+      -- one call: these items were drawn, and then the queue was polled once
+      pub record Calls (old : Buffering St Q) (drawn : List X) (answer : Poll (Option A))
+          (new : Buffering St Q) : Type 0 where
+        pub filled : Buffering St Q
+        pub draws : DrawsAll old drawn filled
+        pub queue_answer : Poll (Option A)
+        pub polls_queue : polls filled.queue queue_answer new.queue
+        pub same_stream : new.stream ≡ filled.stream
+        pub gives : answer ≡ answer_from filled.stream queue_answer
+
+      -- the same, where it does not matter which items were drawn
+      abbrev pub CallGives : Buffering St Q → Poll (Option A) → Buffering St Q → Type 0
+      CallGives old answer new = (drawn : List X) × Calls old drawn answer new
+
+      -- many calls in a row, each with the items that it drew and with its answer
+      abbrev pub CallsInTurn : Buffering St Q → List (List X × Poll (Option A)) → Buffering St Q
+          → Type 0
+      CallsInTurn = FoldsTo (λ old call new. Calls old call.0 call.1 new)
+
+-- a poll of the queue that takes the task from one context to another, as the queue leaves it
+abbrev pub PollsWithTask : {Q A : Type 0}
+    → (Q → Poll (Option A) → Q → Type 0)
+    → (Q → Poll (Option A) → Q → Context → Context → Type 0)
+    → Context → Context → Q → Poll (Option A) → Q → Type 0
+PollsWithTask polls leaves cx left old answer new =
+    polls old answer new × leaves old answer new cx left
+
+-- What a call leaves of its task. The polls of the stream took the task to a context of which it is
+-- known that nothing was lost, and which is the first one where the stream had no turn. From there
+-- the poll of the queue left it as that poll does.
+pub record CallLeavesTask
+    {Q A : Type 0}
+    (call : (Q → Poll (Option A) → Q → Type 0) → Type 0)
+    (no_turn : Type 0)
+    (polls : Q → Poll (Option A) → Q → Type 0)
+    (leaves : Q → Poll (Option A) → Q → Context → Context → Type 0)
+    (cx left : Context)
+    : Type 0 where
+  pub drawn : Context
+  pub kept : Keeps cx drawn
+  pub not_polled : no_turn → drawn ≡ cx
+  pub called : call (PollsWithTask polls leaves drawn left)
+
+-- the items that these calls drew, in order, and the outputs that they gave
+abbrev pub all_drawn : {F A : Type 0} → List (List F × Poll (Option A)) → List F
+all_drawn = flat_map (λ call. call.0)
+
+abbrev pub all_outputs : {F A : Type 0} → List (List F × Poll (Option A)) → List A
+all_outputs = filter_map (λ call. output_of call.1)
+
+-- Each item drawn is accounted for once: either it gave the output at its place among those given,
+-- or it became the entry at its place among those held. `matches` compares the items drawn with
+-- these: by equality where the order is kept, as a permutation where it is not.
+pub record Accounts {F A E : Type 0} (matches : List F → List F → Type 0) (gives : F → A → Type 0)
+    (becomes : F → E → Type 0) (drawn : List F) (outputs : List A) (held : List E) : Type 0 where
+  pub gone : List F
+  pub kept : List F
+  pub all : matches drawn (gone ++ kept)
+  pub gave : AllZip gives gone outputs
+  pub became : AllZip becomes kept held
+
+-- what bounds the number of items left where a stream leaves so many, or has ended, and n more are
+-- held: a least number past 64 bits stops there, and a greatest past them is not known
+abbrev pub sum_below : ℕ → Option ℕ
+sum_below sum = cond (nat_lt sum (2 ^ 64)) (Some sum) None
+
+abbrev pub hint_with : ℕ → ℕ × Option ℕ → ℕ × Option ℕ
+hint_with n hint =
+    (min (hint.0 + n) (2 ^ 64 - 1), option_and_then (λ most. sum_below (most + n)) hint.1)
+
+abbrev pub hint_ahead : {St : Type 0} → (St → ℕ × Option ℕ) → Option St → ℕ × Option ℕ
+hint_ahead hint None = (0, Some 0)
+hint_ahead hint (Some stream) = hint stream
+
+-- nothing was drawn: the stream is as it was given, and the queue is a new one
+pub record IsNewBuffer {St Q : Type 0} (is_new : Q → Type 0) (stream : St)
+    (b : Buffering St Q) : Type 0 where
+  pub same_stream : b.stream ≡ Some stream
+  pub new_queue : is_new b.queue
+
+-- The stream may be polled, unless it has ended; each item that may still come is fit to be drawn;
+-- and the queue may be polled.
+pub record CanDraw {St X Q : Type 0} (can_next : St → Type 0) (yields : St → Runs X)
+    (is_fit : X → Type 0) (can_poll : Q → Type 0) (b : Buffering St Q) : Type 0 where
+  pub stream : IfSome b.stream can_next
+  pub to_come : AllItems (Ahead yields b.stream) is_fit
+  pub held : can_poll b.queue
+
+-- where a pending call waits: with the queue, if anything is held; with the stream, if it has not
+-- ended and there is room
+abbrev pub WaitsAt : {St Q : Type 0} → (St → ℕ → Type 0) → (Q → ℕ → Type 0) → (Q → ℕ) → (Q → ℕ)
+    → Buffering St Q → ℕ → Type 0
+WaitsAt stream_needs queue_needs count room b place =
+    ((0 < count b.queue) × queue_needs b.queue place)
+    ⊎ ((count b.queue < room b.queue) × IsSomeAnd b.stream (λ stream. stream_needs stream place))
+
+module _ {St X A Q : Type 0} (yields : St → Runs X) (item_gives : X → A → Type 0) (count : Q → ℕ)
+    (comes : Q → Runs A) where
+  -- an output that comes from the queue, or one that an item gives which may still come
+  abbrev pub OneComes : Buffering St Q → A → Type 0
+  OneComes b x = MayCome (comes b.queue) x ⊎ AnyItemGives item_gives (Ahead yields b.stream) x
+
+  -- as many answers as are held and as items come from the stream, each of one of these, and then
+  -- the end
+  abbrev pub Comes : Buffering St Q → Runs A
+  Comes b = GathersWith (OneComes b) (count b.queue) (Ahead yields b.stream)
+
+  -- all that comes from the queue; then an answer of each item that comes from the stream, in
+  -- order; and then the end
+  abbrev pub ComesInTurn : Buffering St Q → Runs A
+  ComesInTurn b = Chains (comes b.queue) (Resolves item_gives (Ahead yields b.stream))
+
+  -- what may come from a buffer, by whether its queue keeps the order
+  abbrev pub BufferGives : Bool → Buffering St Q → Runs A
+  BufferGives true b = ComesInTurn b
+  BufferGives false b = Comes b

@@ -1,0 +1,70 @@
+-- What a contract sees of a `BufferUnordered`: the words on buffers at a bounded set.
+use Rattle.std.specs.Prelude.{◌≡◌, ℕ, List, Option, Result, IsPermutation, filter_map}
+use Rattle.std.specs.List.{FoldsTo}
+use Rattle.futures.specs.declared.task.Poll.{Poll}
+use Rattle.futures.specs.declared.task.Poll.TheVariants.{Pending}
+use Rattle.futures.specs.Runs.{Runs}
+use Rattle.futures_buffered_core.specs.SlotMap.{Slots}
+use Rattle.futures_buffered_table.specs.declared.answer.Woke.{Woke}
+use Rattle.futures_buffered_core.specs.ReadySource.{SourceSteps}
+use Rattle.futures_buffered_unordered_bounded.specs.Held.{MayGive}
+use Rattle.futures_buffered_unordered_bounded.specs.FuturesUnorderedBounded.{Bounded, Pushes, PollGives}
+use Rattle.futures_buffered_unordered_bounded.specs.FuturesUnorderedBounded.{held_in}
+use Rattle.futures_buffered.specs.Buffer.{Buffering, PollsStream, CallsInTurn, Accounts}
+use Rattle.futures_buffered.specs.Buffer.{all_drawn, all_outputs}
+use Rattle.futures_buffered.specs.TryBuffer.{TryCallsInTurn, WithErrors, futures_of}
+
+-- a pending poll of a set waits with its source
+abbrev pub SetWaitsAt : {F S : Type 0} → (S → ℕ → Type 0) → Bounded F S → ℕ → Type 0
+SetWaitsAt source_needs set place = source_needs set.source place
+
+-- the futures that are held, by rising slot
+abbrev pub held_values : {F : Type 0} → Slots F → List F
+held_values m = filter_map (λ o. o) m.places
+
+-- pending polls took a future from f to g
+abbrev pub PendsTo : {F A : Type 0} → (F → Poll A → F → Type 0) → F → F → Type 0
+PendsTo {F} polled f g = (later : List F)
+    × FoldsTo (λ a b c. polled a Pending b × (c ≡ b)) f later g
+
+-- the same, each with the waker of one slot
+abbrev pub WaitsInSlot : {F A : Type 0} → (ℕ → F → Poll A → F → Type 0) → F → F → Type 0
+WaitsInSlot polled f g = (slot : ℕ) × PendsTo (polled slot) f g
+
+-- after some pending polls a poll may answer x, each with the waker of one slot
+abbrev pub MayGiveInSlot : {F A : Type 0} → (ℕ → F → Poll A → F → Type 0) → F → A → Type 0
+MayGiveInSlot polled f x = (slot : ℕ) × MayGive (polled slot) f x
+
+-- Where nothing was held at first, after any calls each item drawn either gave one of the outputs
+-- or is held still, as pending polls left it: no output is of two items or of none, and no item is
+-- lost.
+abbrev pub LosesNothing : {St F A S : Type 0}
+    → (St → Runs F)
+    → (ℕ → F → Poll A → F → Type 0)
+    → SourceSteps S
+    → (S → ℕ → Woke → S → Type 0)
+    → Type 0
+LosesNothing {St} {F} {A} {S} yields polled steps marks =
+    (n : ℕ) (old new : Buffering St (Bounded F S))
+    (calls : List (List F × Poll (Option A))) → held_in old.queue ≡ 0
+    → CallsInTurn (PollsStream yields) held_in n (Pushes marks)
+    (PollGives polled steps) old calls new
+    → Accounts IsPermutation (MayGiveInSlot polled) (WaitsInSlot polled)
+    (all_drawn calls) (all_outputs calls) (held_values new.queue.slots)
+
+-- The same where the stream gives errors as well: these come among the outputs, and of the futures
+-- drawn none is lost.
+abbrev pub TryLosesNothing : {St F T E S : Type 0}
+    → (St → Runs (Result F E))
+    → (ℕ → F → Poll (Result T E) → F → Type 0)
+    → SourceSteps S
+    → (S → ℕ → Woke → S → Type 0)
+    → Type 0
+TryLosesNothing {St} {F} {T} {E} {S} yields polled steps marks =
+    (n : ℕ) (old new : Buffering St (Bounded F S))
+    (calls : List (List (Result F E) × Poll (Option (Result T E)))) → held_in old.queue ≡ 0
+    → TryCallsInTurn (PollsStream yields) held_in n (Pushes marks)
+    (PollGives polled steps) old calls new
+    → (outputs : List (Result T E)) × WithErrors outputs (all_outputs calls)
+    × Accounts IsPermutation (MayGiveInSlot polled) (WaitsInSlot polled)
+    (futures_of (all_drawn calls)) outputs (held_values new.queue.slots)

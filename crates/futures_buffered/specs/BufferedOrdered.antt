@@ -1,0 +1,75 @@
+-- What a contract sees of a `BufferedOrdered`: the words on buffers at a bounded ordered queue.
+use Rattle.std.specs.Prelude.{◌≡◌, ℕ, List, length, Option, Some, Result}
+use Rattle.futures.specs.declared.task.Poll.{Poll}
+use Rattle.futures.specs.Runs.{Runs}
+use Rattle.futures_buffered_core.specs.SlotMap.{Slots, value_in, slot_count}
+use Rattle.futures_buffered_table.specs.declared.answer.Woke.{Woke}
+use Rattle.futures_buffered_core.specs.ReadySource.{SourceSteps}
+use Rattle.futures_buffered_unordered_bounded.specs.FuturesUnorderedBounded.{held_in}
+use Rattle.futures_buffered_ordered.specs.OrderedEntries.{AddsBack, OrderedGives}
+use Rattle.futures_buffered_ordered.specs.FuturesOrderedBounded.{OrderedBounded, PushesNumber}
+use Rattle.futures_buffered_ordered.specs.FuturesOrderedBounded.{SetGives}
+use Rattle.futures_buffered_ordered.specs.declared.numbered.Numbered.{Numbered}
+use Rattle.futures_buffered_ordered.specs.declared.ordered_entries.Entry.{Entry}
+use Rattle.futures_buffered_ordered.specs.declared.ordered_entries.Entry.TheVariants.{Running, Kept}
+use Rattle.futures_buffered.specs.Buffer.{Buffering, PollsStream, CallsInTurn, Accounts}
+use Rattle.futures_buffered.specs.Buffer.{all_drawn, all_outputs}
+use Rattle.futures_buffered.specs.BufferUnordered.{PendsTo, MayGiveInSlot, SetWaitsAt}
+use Rattle.futures_buffered.specs.TryBuffer.{TryCallsInTurn, WithErrors, futures_of}
+
+-- how many entries a queue has, futures in progress and outputs that are kept
+abbrev pub queue_len : {F A S : Type 0} → OrderedBounded F A S → ℕ
+queue_len queue = length queue.entries
+
+-- how many futures can be in progress
+abbrev pub queue_room : {F A S : Type 0} → OrderedBounded F A S → ℕ
+queue_room queue = slot_count queue.set.slots
+
+-- a pending poll of a queue waits with the source of its set
+abbrev pub QueueWaitsAt : {F A S : Type 0} → (S → ℕ → Type 0) → OrderedBounded F A S → ℕ → Type 0
+QueueWaitsAt source_needs queue = SetWaitsAt source_needs queue.set
+
+-- a future became an entry: a slot holds it with the number of the entry, as pending polls with the
+-- waker of that slot left it; or it gave the output that is kept
+abbrev pub BecomesEntry : {F A : Type 0}
+    → (ℕ → F → Poll A → F → Type 0) → Slots (Numbered F) → F → Entry A → Type 0
+BecomesEntry {F = F} polled slots future (Running number) = (slot : ℕ) × (now : F)
+    × (value_in slots slot ≡ Some (record { future = now; number = number }))
+    × PendsTo (polled slot) future now
+BecomesEntry polled slots future (Kept output) = MayGiveInSlot polled future output
+
+-- Where nothing was held at first, after any calls the outputs given so far are those of the first
+-- items drawn, in the order of these; and the other items are the entries held, in the same order.
+abbrev pub GivesInOrder : {St F A S : Type 0}
+    → (St → Runs F)
+    → (ℕ → F → Poll A → F → Type 0)
+    → SourceSteps S
+    → (S → ℕ → Woke → S → Type 0)
+    → Type 0
+GivesInOrder {St} {F} {A} {S} yields polled steps marks =
+    (n : ℕ) (old new : Buffering St (OrderedBounded F A S))
+    (calls : List (List F × Poll (Option A))) → queue_len old.queue ≡ 0
+    → held_in old.queue.set ≡ 0
+    → CallsInTurn (PollsStream yields) queue_len n (AddsBack (PushesNumber marks))
+    (OrderedGives (SetGives polled steps) held_in) old calls new
+    → Accounts (λ drawn items. drawn ≡ items) (MayGiveInSlot polled)
+    (BecomesEntry polled new.queue.set.slots)
+    (all_drawn calls) (all_outputs calls) new.queue.entries
+
+-- The same where the stream gives errors as well: these come among the outputs.
+abbrev pub TryGivesInOrder : {St F T E S : Type 0}
+    → (St → Runs (Result F E))
+    → (ℕ → F → Poll (Result T E) → F → Type 0)
+    → SourceSteps S
+    → (S → ℕ → Woke → S → Type 0)
+    → Type 0
+TryGivesInOrder {St} {F} {T} {E} {S} yields polled steps marks =
+    (n : ℕ) (old new : Buffering St (OrderedBounded F (Result T E) S))
+    (calls : List (List (Result F E) × Poll (Option (Result T E)))) → queue_len old.queue ≡ 0
+    → held_in old.queue.set ≡ 0
+    → TryCallsInTurn (PollsStream yields) queue_len n (AddsBack (PushesNumber marks))
+    (OrderedGives (SetGives polled steps) held_in) old calls new
+    → (outputs : List (Result T E)) × WithErrors outputs (all_outputs calls)
+    × Accounts (λ drawn items. drawn ≡ items) (MayGiveInSlot polled)
+    (BecomesEntry polled new.queue.set.slots)
+    (futures_of (all_drawn calls)) outputs new.queue.entries

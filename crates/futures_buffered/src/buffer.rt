@@ -1,0 +1,218 @@
+//! Some futures of a stream at a time, in any queue of futures.
+ghost use Rattle.std.specs.Prelude.{◌≡◌, ◌<◌, ◌≤◌, ◌+◌, [], List, IfOk, IfSome, IfNone, OnSome, None, true, false};
+ghost use Rattle.futures.specs.Task.{Covers, Keeps};
+ghost use Rattle.futures.specs.Runs.{After, Within};
+ghost use Rattle.futures.specs.Poll.{IfReady, OnPending};
+ghost use Rattle.futures_buffered_core.specs.Answer.{RefusesTooLarge};
+ghost use Rattle.futures_buffered.specs.Buffer.{PollsStream, DrawsAll, DrawsOne, DrawsNone, CallGives, CallLeavesTask, HasNoTurn, IsNewBuffer, CanDraw, WaitsAt, BufferGives, hint_with, hint_ahead};
+
+use crate::future_queue::{FutureQueue, NewQueue};
+use futures::Stream;
+use futures::task::{Context, Poll};
+use futures_buffered_core::ready_core::NewFault;
+use futures_buffered_unordered_bounded::futures_unordered_bounded::POLL_LIMIT;
+use futures_buffered_unordered_bounded::{FusedStream, SizeHint};
+use std::alloc::Global;
+use std::fmt;
+use std::marker::Model;
+
+/// Futures of a stream, at most as many at a time as its queue has room for.
+///
+/// A contract sees the stream, or nothing once it has ended, and what it sees of the queue. A poll takes no memory. A stream that ended is dropped at once.
+#[derive(Drop)]
+pub struct Buffer<St: Drop, Q: Drop> {
+    stream: Option<St>,
+    queue: Q,
+}
+
+impl<St: Drop, Q: Drop> Model for Buffer<St, Q> {
+    ghost use Rattle.futures_buffered.specs.Buffer.{Buffering, buffer_code};
+
+    ghost Value = { Buffering St Q };
+
+    ghost coded = { buffer_code St.code Q.code };
+
+    ghost view = { λ s. record { stream = s.stream; queue = s.queue } };
+}
+
+impl<St: Drop, Q: NewQueue> Buffer<St, Q> {
+    /// Over this stream, with at most `n` held at a time and a queue made for them. Nothing is polled.
+    ///
+    /// Takes time and memory in proportion to `n`. The stream is dropped where it is refused: `TooLarge` where `n` is above `MAX_CAPACITY`, and `Memory` where a request for memory was refused.
+    pub fn over(env: &Q::Env, alloc: Global, stream: St, n: usize) -> Result<Self, NewFault>
+        requires { 0 < n }
+        ensures new { IfOk result (IsNewBuffer (Q.made n POLL_LIMIT) stream) }
+        ensures refuses { RefusesTooLarge n result }
+    {
+        Self::over_limit(env, alloc, stream, n, POLL_LIMIT)
+    }
+
+    /// As `over`, where one poll of the queue's set takes at most `limit` names.
+    pub fn over_limit(
+        env: &Q::Env,
+        alloc: Global,
+        stream: St,
+        n: usize,
+        limit: usize,
+    ) -> Result<Self, NewFault>
+        requires room { 0 < n }
+        requires some { 1 ≤ limit }
+        ensures new { IfOk result (IsNewBuffer (Q.made n limit) stream) }
+        ensures refuses { RefusesTooLarge n result }
+    {
+        let queue = Q::make(env, alloc, n, limit)?;
+        Ok(Buffer {
+            stream: Some(stream),
+            queue,
+        })
+    }
+}
+
+impl<St: Stream, Q: FutureQueue<St::Item>> Buffer<St, Q> {
+    // Draws one item, if the stream has not ended, there is room, and an item comes. Says whether one was drawn.
+    fn draw_one(&mut self, cx: &mut Context<'_>) -> bool
+        requires { CanDraw St.can_poll St.yields Q.is_fit Q.can_poll self.old }
+        ensures one { result ≡ true → (item : St.Item) × DrawsOne (PollsStream St.yields)
+            Q.count (Q.room self.old.queue) Q.pushes self.old item self.new }
+        ensures none { result ≡ false → DrawsNone (PollsStream St.yields)
+            Q.count (Q.room self.old.queue) self.old self.new }
+        ensures count { result ≡ true → Q.count self.new.queue ≡ Q.count self.old.queue + 1 }
+        ensures fits { result ≡ true → Q.count self.old.queue < Q.room self.old.queue }
+        ensures room { Q.room self.new.queue ≡ Q.room self.old.queue }
+        ensures again { CanDraw St.can_poll St.yields Q.is_fit Q.can_poll self.new }
+        ensures within { Within (BufferGives St.yields Q.gives Q.count Q.yields Q.in_order self.old)
+            (BufferGives St.yields Q.gives Q.count Q.yields Q.in_order self.new) }
+        ensures covered { result ≡ false → Q.count self.new.queue < Q.room self.new.queue
+            → IfSome self.new.stream (λ stream. Covers cx.new (St.needs stream)) }
+        ensures no_turn { HasNoTurn (PollsStream St.yields) Q.count (Q.room self.old.queue) self.old
+            → cx.new ≡ cx.old }
+        ensures kept { Keeps cx.old cx.new }
+    {
+        if self.queue.len() >= self.queue.capacity() {
+            return false;
+        }
+        let Some(stream) = &mut self.stream else {
+            return false;
+        };
+        match stream.poll_next(cx) {
+            Poll::Ready(Some(item)) => {
+                self.queue.push(item);
+                true
+            }
+            Poll::Ready(None) => {
+                self.stream = None;
+                false
+            }
+            Poll::Pending => false,
+        }
+    }
+
+    // Draws while the stream has not ended, there is room, and an item comes.
+    fn fill(&mut self, cx: &mut Context<'_>)
+        requires { CanDraw St.can_poll St.yields Q.is_fit Q.can_poll self.old }
+        ensures draws { (drawn : List St.Item) × DrawsAll (PollsStream St.yields)
+            Q.count (Q.room self.old.queue) Q.pushes self.old drawn self.new }
+        ensures room { Q.room self.new.queue ≡ Q.room self.old.queue }
+        ensures again { CanDraw St.can_poll St.yields Q.is_fit Q.can_poll self.new }
+        ensures within { Within (BufferGives St.yields Q.gives Q.count Q.yields Q.in_order self.old)
+            (BufferGives St.yields Q.gives Q.count Q.yields Q.in_order self.new) }
+        ensures covered { Q.count self.new.queue < Q.room self.new.queue
+            → IfSome self.new.stream (λ stream. Covers cx.new (St.needs stream)) }
+        ensures no_turn { HasNoTurn (PollsStream St.yields) Q.count (Q.room self.old.queue) self.old
+            → cx.new ≡ cx.old }
+        ensures kept { Keeps cx.old cx.new }
+    {
+        'draws: while self.draw_one(cx) {}
+    }
+}
+
+impl<St: Stream, Q: FutureQueue<St::Item>> Stream for Buffer<St, Q> {
+    type Item = Q::Output;
+
+    ghost can_poll = { CanDraw St.can_poll St.yields Q.is_fit Q.can_poll };
+
+    ghost needs = { WaitsAt St.needs Q.needs Q.count Q.room };
+
+    ghost yields = { BufferGives St.yields Q.gives Q.count Q.yields Q.in_order };
+
+    /// Draws items while there is room, the stream has not ended, and an item comes at once; then polls the queue once. `Ready(None)` where the stream has ended and nothing is held, and then again.
+    ///
+    /// Takes no memory, and waits for nobody where the source's calls do not. Takes time in proportion to the items drawn and the names that one poll of the queue takes, besides the polls.
+    fn poll_next(&mut self, cx: &mut Context<'_>) -> Poll<Option<Q::Output>>
+        requires { CanDraw St.can_poll St.yields Q.is_fit Q.can_poll self.old }
+        ensures called { CallGives (PollsStream St.yields) Q.count (Q.room self.old.queue)
+            Q.pushes Q.polls self.old result self.new }
+        ensures ended { IfReady result (λ o. IfNone o
+            ((self.new.stream ≡ None) × (Q.count self.new.queue ≡ 0))) }
+        ensures room { Q.room self.new.queue ≡ Q.room self.old.queue }
+        ensures bound { Q.count self.new.queue ≤ Q.room self.new.queue }
+        ensures value { IfReady result
+            (BufferGives St.yields Q.gives Q.count Q.yields Q.in_order self.old []) }
+        ensures rest { IfReady result (λ o. IfSome o (λ x.
+            After (BufferGives St.yields Q.gives Q.count Q.yields Q.in_order self.old) x
+            (BufferGives St.yields Q.gives Q.count Q.yields Q.in_order self.new))) }
+        ensures same { OnPending result
+            (Within (BufferGives St.yields Q.gives Q.count Q.yields Q.in_order self.old)
+            (BufferGives St.yields Q.gives Q.count Q.yields Q.in_order self.new)) }
+        ensures goes { IfReady result (λ o. OnSome o
+            (CanDraw St.can_poll St.yields Q.is_fit Q.can_poll self.new)) }
+        ensures again { OnPending result
+            (CanDraw St.can_poll St.yields Q.is_fit Q.can_poll self.new) }
+        ensures registered { OnPending result
+            (Covers cx.new (WaitsAt St.needs Q.needs Q.count Q.room self.new)) }
+        ensures leaves { CallLeavesTask (λ polls. CallGives (PollsStream St.yields) Q.count
+            (Q.room self.old.queue) Q.pushes polls self.old result self.new)
+            (HasNoTurn (PollsStream St.yields) Q.count (Q.room self.old.queue) self.old)
+            Q.polls Q.leaves cx.old cx.new }
+        ensures kept { Keeps cx.old cx.new }
+    {
+        self.fill(cx);
+        match self.queue.poll_output(cx) {
+            Poll::Ready(Some(output)) => return Poll::Ready(Some(output)),
+            Poll::Ready(None) => {}
+            Poll::Pending => return Poll::Pending,
+        }
+        if self.stream.is_some() {
+            return Poll::Pending;
+        }
+        Poll::Ready(None)
+    }
+}
+
+/// Whether the stream has ended and nothing is held. Takes the same time at any capacity.
+impl<St: Stream, Q: FutureQueue<St::Item>> FusedStream for Buffer<St, Q> {
+    ghost use Rattle.std.specs.Prelude.{◌≡◌, None};
+
+    ghost is_over = { λ b. (b.stream ≡ None) × (Q.count b.queue ≡ 0) };
+
+    fn is_terminated(&self) -> bool {
+        self.stream.is_none() && self.queue.len() == 0
+    }
+}
+
+/// What the stream says of itself, or nothing once it has ended, and as many more as are held.
+impl<St: Stream + SizeHint, Q: FutureQueue<St::Item>> SizeHint for Buffer<St, Q> {
+    ghost items_left = { λ b. hint_with (Q.count b.queue) (hint_ahead St.items_left b.stream) };
+
+    fn size_hint(&self) -> (usize, Option<usize>) {
+        let held = self.queue.len();
+        let (least, most) = match &self.stream {
+            Some(stream) => stream.size_hint(),
+            None => (0, Some(0)),
+        };
+        (
+            least.saturating_add(held),
+            most.and_then(|most| most.checked_add(held)),
+        )
+    }
+}
+
+/// Prints whether the stream has ended, and how many are held.
+impl<St: Stream, Q: FutureQueue<St::Item>> fmt::Debug for Buffer<St, Q> {
+    fn fmt<W: fmt::Write>(&self, f: &mut fmt::Formatter<W>) -> fmt::Result {
+        f.debug_struct("Buffer")
+            .field("has_ended", &self.stream.is_none())
+            .field("len", &self.queue.len())
+            .finish_non_exhaustive()
+    }
+}

@@ -1,0 +1,118 @@
+//! Some futures of a stream at a time, whose outputs come as they finish.
+ghost use Rattle.std.specs.Prelude.{◌<◌, ◌≤◌, IfOk, false};
+ghost use Rattle.futures_buffered_core.specs.Answer.{RefusesTooLarge};
+ghost use Rattle.futures_buffered_core.specs.ReadyShared.{IsNewShared};
+ghost use Rattle.futures_buffered_unordered_bounded.specs.Held.{AllHeld, ComesFrom};
+ghost use Rattle.futures_buffered_unordered_bounded.specs.FuturesUnorderedBounded.{Pushes, PollGives, PollLeavesTask, IsNewSet, held_in, slots_in};
+ghost use Rattle.futures_buffered.specs.Buffer.{IsNewBuffer};
+ghost use Rattle.futures_buffered.specs.BufferUnordered.{LosesNothing, MayGiveInSlot, SetWaitsAt};
+
+use crate::buffer::Buffer;
+use crate::future_queue::{FutureQueue, NewQueue};
+use futures::Stream;
+use futures::task::{Context, Poll};
+use futures_buffered_core::ready_core::NewFault;
+use futures_buffered_core::ready_shared::{SharedReady, SharedWaker};
+use futures_buffered_core::ready_source::{NewSource, ReadySource};
+use futures_buffered_unordered_bounded::SlotFuture;
+use futures_buffered_unordered_bounded::futures_unordered_bounded::FuturesUnorderedBounded;
+use std::alloc::Global;
+use std::marker::Model;
+
+/// A bounded set of one slot at least, as what a buffer holds. A contract sees what it sees of the set.
+#[derive(Drop)]
+pub struct UnorderedQueue<F: Drop, S: ReadySource> {
+    set: FuturesUnorderedBounded<F, S>,
+}
+
+impl<F: Drop, S: ReadySource> Model for UnorderedQueue<F, S> {
+    ghost use Rattle.futures_buffered_unordered_bounded.specs.FuturesUnorderedBounded.{Bounded, bounded_code};
+
+    ghost Value = { Bounded F S };
+
+    ghost coded = { bounded_code F.code S.code };
+
+    ghost use Rattle.std.specs.Prelude.{◌<◌};
+    ghost use Rattle.futures_buffered_core.specs.SlotMap.{slot_count};
+
+    ghost view = { λ s. s.set };
+
+    ghost invariant = { λ s. 0 < slot_count s.set.slots };
+}
+
+impl<F: Drop, S: NewSource> NewQueue for UnorderedQueue<F, S> {
+    type Env = S::Env;
+
+    ghost made = { IsNewSet S.made };
+
+    fn make(env: &S::Env, alloc: Global, n: usize, limit: usize) -> Result<Self, NewFault> {
+        let set = FuturesUnorderedBounded::with_new_source(env, alloc, n, limit)?;
+        Ok(UnorderedQueue { set })
+    }
+}
+
+impl<F: SlotFuture<S::Waker>, S: ReadySource> FutureQueue<F> for UnorderedQueue<F, S> {
+    type Output = F::Output;
+
+    ghost count = { held_in };
+
+    ghost room = { slots_in };
+
+    ghost pushes = { Pushes S.marks };
+
+    ghost polls = { PollGives F.polled S.steps };
+
+    ghost leaves = { PollLeavesTask F.polled S.steps S.registers_poll };
+
+    ghost is_fit = { F.can_poll };
+
+    ghost can_poll = { λ set. AllHeld F.can_poll set.slots };
+
+    ghost gives = { MayGiveInSlot F.polled };
+
+    ghost yields = { λ set. ComesFrom F.polled set.slots };
+
+    ghost in_order = { false };
+
+    ghost needs = { SetWaitsAt S.needs };
+
+    fn len(&self) -> usize {
+        self.set.len()
+    }
+
+    fn capacity(&self) -> usize {
+        self.set.capacity()
+    }
+
+    fn push(&mut self, future: F) {
+        self.set.push(future);
+    }
+
+    fn poll_output(&mut self, cx: &mut Context<'_>) -> Poll<Option<F::Output>> {
+        self.set.poll_next(cx)
+    }
+}
+
+/// Futures of a stream, at most as many at a time as its set has slots, whose outputs come as they finish.
+pub type BufferUnordered<St, S> = Buffer<St, UnorderedQueue<<St as Stream>::Item, S>>;
+
+impl<St: Drop, F: Drop> Buffer<St, UnorderedQueue<F, SharedReady>> {
+    /// As `over_limit`, with a shared source, whose futures are woken from any thread.
+    pub fn with_limit(alloc: Global, stream: St, n: usize, limit: usize) -> Result<Self, NewFault>
+        requires room { 0 < n }
+        requires some { 1 ≤ limit }
+        ensures new { IfOk result (IsNewBuffer (IsNewSet IsNewShared n limit) stream) }
+        ensures refuses { RefusesTooLarge n result }
+    {
+        Self::over_limit(&(), alloc, stream, n, limit)
+    }
+}
+
+/// After any calls of one buffer that held nothing at first, each item drawn either gave one of the outputs given, or is held still: no output is of two items or of none, and no item is lost.
+///
+/// This is of the words that a poll's contract says of each call. Nothing is done.
+pub fn calls_lose_nothing<St: Stream, S: ReadySource>()
+where
+    St::Item: SlotFuture<S::Waker>,
+    ensures { LosesNothing St.yields St.Item.polled S.steps S.marks }
+{}

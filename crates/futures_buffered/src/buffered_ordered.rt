@@ -1,0 +1,138 @@
+//! Some futures of a stream at a time, whose outputs come in the order of the items.
+ghost use Rattle.std.specs.Prelude.{◌<◌, ◌≤◌, IfOk, true};
+ghost use Rattle.futures_buffered_core.specs.Answer.{RefusesTooLarge};
+ghost use Rattle.futures_buffered_core.specs.ReadyShared.{IsNewShared};
+ghost use Rattle.futures_buffered_unordered_bounded.specs.FuturesUnorderedBounded.{held_in};
+ghost use Rattle.futures_buffered_ordered.specs.OrderedEntries.{AddsBack, ComesInOrder, OrderedGives, OrderedLeavesTask};
+ghost use Rattle.futures_buffered_ordered.specs.FuturesOrderedBounded.{EachRunning, IsNewBoundedQueue, PushesNumber, SetGives, SetLeavesTask, SetMayGive};
+ghost use Rattle.futures_buffered.specs.Buffer.{IsNewBuffer};
+ghost use Rattle.futures_buffered.specs.BufferUnordered.{MayGiveInSlot};
+ghost use Rattle.futures_buffered.specs.BufferedOrdered.{GivesInOrder, QueueWaitsAt, queue_len, queue_room};
+
+use crate::buffer::Buffer;
+use crate::future_queue::{FutureQueue, NewQueue};
+use futures::Stream;
+use futures::task::{Context, Poll};
+use futures_buffered_core::ready_core::NewFault;
+use futures_buffered_core::ready_shared::{SharedReady, SharedWaker};
+use futures_buffered_core::ready_source::{NewSource, ReadySource};
+use futures_buffered_ordered::BoundedQueue;
+use futures_buffered_unordered_bounded::SlotFuture;
+use std::alloc::Global;
+use std::marker::Model;
+
+/// A bounded ordered queue of one slot at least, and with no more entries than slots, as what a buffer holds: an output that waits for its turn counts as held. A contract sees what it sees of the queue.
+#[derive(Drop)]
+pub struct OrderedQueue<F: Drop, A: Drop, S: ReadySource> {
+    queue: BoundedQueue<F, A, S>,
+}
+
+impl<F: Drop, A: Drop, S: ReadySource> Model for OrderedQueue<F, A, S> {
+    ghost use Rattle.futures_buffered_ordered.specs.FuturesOrderedBounded.{OrderedBounded};
+
+    ghost Value = { OrderedBounded F A S };
+
+    ghost use Rattle.std.specs.Prelude.{◌<◌, ◌≤◌};
+    ghost use Rattle.futures_buffered.specs.BufferedOrdered.{queue_len, queue_room};
+
+    ghost view = { λ s. s.queue };
+
+    ghost invariant = { λ s. (0 < queue_room s.queue) × (queue_len s.queue ≤ queue_room s.queue) };
+}
+
+impl<F: SlotFuture<S::Waker, Output = A>, A: Drop, S: NewSource> NewQueue
+    for OrderedQueue<F, A, S> {
+    type Env = S::Env;
+
+    ghost made = { IsNewBoundedQueue S.made };
+
+    fn make(env: &S::Env, alloc: Global, n: usize, limit: usize) -> Result<Self, NewFault> {
+        let queue = BoundedQueue::over_limit(env, alloc, n, limit)?;
+        Ok(OrderedQueue { queue })
+    }
+}
+
+impl<F, A, S> FutureQueue<F> for OrderedQueue<F, A, S>
+where
+    F: SlotFuture<S::Waker, Output = A>,
+    A: Drop,
+    S: ReadySource,
+{
+    type Output = A;
+
+    ghost count = { queue_len };
+
+    ghost room = { queue_room };
+
+    ghost pushes = { AddsBack (PushesNumber S.marks) };
+
+    ghost polls = { OrderedGives (SetGives F.polled S.steps) held_in };
+
+    ghost leaves = { OrderedLeavesTask (SetGives F.polled S.steps)
+        (SetLeavesTask F.polled S.steps S.registers_poll) held_in };
+
+    ghost is_fit = { F.can_poll };
+
+    ghost can_poll = { λ queue. EachRunning F.can_poll queue.set };
+
+    ghost gives = { MayGiveInSlot F.polled };
+
+    ghost yields = { ComesInOrder (SetMayGive F.polled) };
+
+    ghost in_order = { true };
+
+    ghost needs = { QueueWaitsAt S.needs };
+
+    fn len(&self) -> usize {
+        self.queue.len()
+    }
+
+    fn capacity(&self) -> usize {
+        self.queue.capacity()
+    }
+
+    fn push(&mut self, future: F) {
+        prove!(self.queue.len() < self.queue.capacity());
+        self.queue.push_back(future);
+    }
+
+    fn poll_output(&mut self, cx: &mut Context<'_>) -> Poll<Option<A>> {
+        self.queue.poll_next(cx)
+    }
+}
+
+/// Futures of a stream, whose outputs come in the order in which the stream gave the futures. At most as many as there are slots are held at a time, where an output that waits for its turn counts as held.
+pub type BufferedOrdered<St, S> = Buffer<
+    St,
+    OrderedQueue<
+        <St as Stream>::Item,
+        <<St as Stream>::Item as SlotFuture<<S as ReadySource>::Waker>>::Output,
+        S,
+    >,
+>;
+
+impl<St, F, A> Buffer<St, OrderedQueue<F, A, SharedReady>>
+where
+    St: Drop,
+    F: SlotFuture<SharedWaker, Output = A>,
+    A: Drop,
+{
+    /// As `over_limit`, with a shared source, whose futures are woken from any thread.
+    pub fn with_limit(alloc: Global, stream: St, n: usize, limit: usize) -> Result<Self, NewFault>
+        requires room { 0 < n }
+        requires some { 1 ≤ limit }
+        ensures new { IfOk result (IsNewBuffer (IsNewBoundedQueue IsNewShared n limit) stream) }
+        ensures refuses { RefusesTooLarge n result }
+    {
+        Self::over_limit(&(), alloc, stream, n, limit)
+    }
+}
+
+/// After any calls of one buffer that held nothing at first, the outputs given so far are those of the first items drawn, in the order in which these were drawn, and the other items are held still, in that order.
+///
+/// This is of the words that a poll's contract says of each call. Nothing is done.
+pub fn calls_give_in_order<St: Stream, S: ReadySource>()
+where
+    St::Item: SlotFuture<S::Waker>,
+    ensures { GivesInOrder St.yields St.Item.polled S.steps S.marks }
+{}

@@ -1,0 +1,248 @@
+//! A closure called with each item of a stream, and some of the futures that it makes at a time.
+ghost use Rattle.std.specs.Prelude.{◌≡◌, ◌<◌, ◌≤◌, Option, IfOk, IfSome, true, false};
+ghost use Rattle.futures.specs.Task.{Covers, Keeps};
+ghost use Rattle.futures.specs.Runs.{Calls};
+ghost use Rattle.futures.specs.Poll.{IfReady, OnPending};
+ghost use Rattle.futures.specs.declared.task.Poll.{Poll};
+ghost use Rattle.futures_buffered_core.specs.Answer.{RefusesTooLarge};
+ghost use Rattle.futures_buffered_core.specs.ReadyShared.{IsNewShared};
+ghost use Rattle.futures_buffered_unordered_bounded.specs.FuturesUnorderedBounded.{Pushes, PollGives, PollLeavesTask, IsWoken, held_in, slots_in};
+ghost use Rattle.futures_buffered.specs.Buffer.{PollsStream, HasNoTurn, WaitsAt};
+ghost use Rattle.futures_buffered.specs.BufferUnordered.{SetWaitsAt};
+ghost use Rattle.futures_buffered.specs.ForEachConcurrent.{IsNewForEach, IsDone, DrawsOnce, ForEachCall, CanForEach, ForEachGives, drew_one};
+
+use futures::task::{Context, Poll};
+use futures::{Future, Stream};
+use futures_buffered_core::ready_core::NewFault;
+use futures_buffered_core::ready_shared::SharedReady;
+use futures_buffered_core::ready_source::{NewSource, ReadySource};
+use futures_buffered_unordered_bounded::futures_unordered_bounded::{
+    FuturesUnorderedBounded, POLL_LIMIT,
+};
+use futures_buffered_unordered_bounded::{FusedFuture, SlotFuture};
+use std::alloc::Global;
+use std::fmt;
+use std::marker::Model;
+
+/// Gives each item of a stream to a closure, once and in order, and runs the futures that it makes, at most as many at a time as its set has slots.
+///
+/// A contract sees the stream, or nothing once it has ended, what it sees of the set, and the closure. A poll takes no memory of its own. A stream that ended is dropped at once.
+#[derive(Drop)]
+pub struct ForEachConcurrent<St: Drop, F: Drop, Fut: Drop, S: ReadySource> {
+    stream: Option<St>,
+    closure: F,
+    queue: FuturesUnorderedBounded<Fut, S>,
+}
+
+impl<St: Drop, F: Drop, Fut: Drop, S: ReadySource> Model for ForEachConcurrent<St, F, Fut, S> {
+    ghost use Rattle.futures_buffered_unordered_bounded.specs.FuturesUnorderedBounded.{Bounded, bounded_code};
+    ghost use Rattle.futures_buffered.specs.ForEachConcurrent.{ForEach, for_each_code};
+
+    ghost Value = { ForEach St F (Bounded Fut S) };
+
+    ghost coded = { for_each_code St.code F.code (bounded_code Fut.code S.code) };
+
+    ghost use Rattle.std.specs.Prelude.{◌<◌, ◌≤◌};
+    ghost use Rattle.futures_buffered_core.specs.SlotMap.{slot_count};
+
+    ghost view = { λ s. record {
+      buffer = record { stream = s.stream; queue = s.queue };
+      closure = s.closure;
+    } };
+
+    ghost invariant = { λ s. (0 < slot_count s.queue.slots) × (1 ≤ s.queue.limit) };
+}
+
+impl<St: Drop, F: Drop, Fut: Drop, S: ReadySource> ForEachConcurrent<St, F, Fut, S> {
+    /// Over this stream and closure, with at most `n` futures at a time and a source made for them. Nothing is polled.
+    ///
+    /// Takes time and memory in proportion to `n`. Stream and closure are dropped where they are refused: `TooLarge` where `n` is above `MAX_CAPACITY`, and `Memory` where a request for memory was refused.
+    pub fn over(
+        env: &S::Env,
+        alloc: Global,
+        stream: St,
+        n: usize,
+        closure: F,
+    ) -> Result<Self, NewFault>
+    where
+        S: NewSource,
+        requires { 0 < n }
+        ensures new { IfOk result (IsNewForEach S.made POLL_LIMIT stream closure n) }
+        ensures refuses { RefusesTooLarge n result }
+    {
+        Self::over_limit(env, alloc, stream, n, POLL_LIMIT, closure)
+    }
+
+    /// As `over`, where one poll takes at most `limit` turns, and its polls of the set at most as many names each.
+    pub fn over_limit(
+        env: &S::Env,
+        alloc: Global,
+        stream: St,
+        n: usize,
+        limit: usize,
+        closure: F,
+    ) -> Result<Self, NewFault>
+    where
+        S: NewSource,
+        requires room { 0 < n }
+        requires some { 1 ≤ limit }
+        ensures new { IfOk result (IsNewForEach S.made limit stream closure n) }
+        ensures refuses { RefusesTooLarge n result }
+    {
+        let queue = FuturesUnorderedBounded::with_new_source(env, alloc, n, limit)?;
+        Ok(ForEachConcurrent {
+            stream: Some(stream),
+            closure,
+            queue,
+        })
+    }
+}
+
+impl<St: Drop, F: Drop, Fut: Drop> ForEachConcurrent<St, F, Fut, SharedReady> {
+    /// As `over_limit`, with a shared source, whose futures are woken from any thread.
+    pub fn with_limit(
+        alloc: Global,
+        stream: St,
+        n: usize,
+        limit: usize,
+        closure: F,
+    ) -> Result<Self, NewFault>
+        requires room { 0 < n }
+        requires some { 1 ≤ limit }
+        ensures new { IfOk result (IsNewForEach IsNewShared limit stream closure n) }
+        ensures refuses { RefusesTooLarge n result }
+    {
+        Self::over_limit(&(), alloc, stream, n, limit, closure)
+    }
+}
+
+impl<
+    St: Stream,
+    F: FnMut(St::Item) -> Fut + Drop,
+    Fut: SlotFuture<S::Waker, Output = ()>,
+    S: ReadySource,
+> ForEachConcurrent<St, F, Fut, S> {
+    // How many turns one poll takes, at most.
+    fn turn_limit(&self) -> usize
+        ensures value { result ≡ self.now.buffer.queue.limit }
+        ensures some { 1 ≤ result }
+    {
+        self.queue.limit()
+    }
+
+    // Draws at most one item, gives it to the closure, and pushes the future that comes of it. Says whether one was drawn.
+    fn draw(&mut self, cx: &mut Context<'_>) -> bool
+        requires { CanForEach St.can_poll St.yields F.pre (Calls F.FnMut) Fut.can_poll self.old }
+        ensures drew { (asked : Option (Poll (Option St.Item))) × (drew_one asked ≡ result)
+            × DrawsOnce (PollsStream St.yields) held_in (slots_in self.old.buffer.queue)
+            (Pushes S.marks) (Calls F.FnMut) self.old asked self.new }
+        ensures count { result ≡ true → 0 < held_in self.new.buffer.queue }
+        ensures capacity { slots_in self.new.buffer.queue ≡ slots_in self.old.buffer.queue }
+        ensures limit { self.new.buffer.queue.limit ≡ self.old.buffer.queue.limit }
+        ensures bound { held_in self.new.buffer.queue ≤ slots_in self.new.buffer.queue }
+        ensures again { CanForEach St.can_poll St.yields F.pre (Calls F.FnMut) Fut.can_poll self.new }
+        ensures gives { ForEachGives St.yields self.new tt → ForEachGives St.yields self.old tt }
+        ensures covered { result ≡ false
+            → held_in self.new.buffer.queue < slots_in self.new.buffer.queue
+            → IfSome self.new.buffer.stream (λ stream. Covers cx.new (St.needs stream)) }
+        ensures no_turn { HasNoTurn (PollsStream St.yields) held_in
+            (slots_in self.old.buffer.queue) self.old.buffer → cx.new ≡ cx.old }
+        ensures kept { Keeps cx.old cx.new }
+    {
+        if self.queue.len() >= self.queue.capacity() {
+            return false;
+        }
+        let Some(stream) = &mut self.stream else {
+            return false;
+        };
+        match stream.poll_next(cx) {
+            Poll::Ready(Some(item)) => {
+                let future = (self.closure)(item);
+                self.queue.push(future);
+                true
+            }
+            Poll::Ready(None) => {
+                self.stream = None;
+                false
+            }
+            Poll::Pending => false,
+        }
+    }
+}
+
+impl<
+    St: Stream,
+    F: FnMut(St::Item) -> Fut + Drop,
+    Fut: SlotFuture<S::Waker, Output = ()>,
+    S: ReadySource,
+> Future for ForEachConcurrent<St, F, Fut, S> {
+    type Output = ();
+
+    ghost can_poll = { CanForEach St.can_poll St.yields F.pre (Calls F.FnMut) Fut.can_poll };
+
+    ghost needs = { λ b. WaitsAt St.needs (SetWaitsAt S.needs) held_in slots_in b.buffer };
+
+    ghost gives = { ForEachGives St.yields };
+
+    /// At most as many turns as the limit is. A turn draws at most one item, where there is room, calls the closure with it, holds the future that comes of it, and polls the set once. Another follows where an item was drawn or a future was done. `Ready` where the stream has ended and nothing is held, and then again; at the limit the task is woken at once.
+    ///
+    /// Takes no memory but what the closure takes, and waits for nobody where the source's calls do not. Takes time in proportion to the turns and the names that their polls of the set take, besides the polls and the closure's calls.
+    fn poll(&mut self, cx: &mut Context<'_>) -> Poll<()>
+        requires { CanForEach St.can_poll St.yields F.pre (Calls F.FnMut) Fut.can_poll self.old }
+        ensures called { ForEachCall (PollsStream St.yields) held_in
+            (slots_in self.old.buffer.queue) (Pushes S.marks) (Calls F.FnMut)
+            (PollGives Fut.polled S.steps) (PollLeavesTask Fut.polled S.steps S.registers_poll)
+            IsWoken self.old.buffer.queue.limit self.old result self.new cx.old cx.new }
+        ensures ended { IfReady result (λ _. IsDone held_in self.new) }
+        ensures capacity { slots_in self.new.buffer.queue ≡ slots_in self.old.buffer.queue }
+        ensures limit { self.new.buffer.queue.limit ≡ self.old.buffer.queue.limit }
+        ensures bound { held_in self.new.buffer.queue ≤ slots_in self.new.buffer.queue }
+        ensures value { IfReady result (ForEachGives St.yields self.old) }
+        ensures again { OnPending result
+            (CanForEach St.can_poll St.yields F.pre (Calls F.FnMut) Fut.can_poll self.new) }
+        ensures same { OnPending result
+            (ForEachGives St.yields self.new tt → ForEachGives St.yields self.old tt) }
+        ensures registered { OnPending result
+            (Covers cx.new
+            (WaitsAt St.needs (SetWaitsAt S.needs) held_in slots_in self.new.buffer)) }
+        ensures kept { Keeps cx.old cx.new }
+    {
+        'turns: for _turn in 0..self.turn_limit() {
+            let drew = self.draw(cx);
+            match self.queue.poll_next(cx) {
+                Poll::Ready(Some(())) => {}
+                Poll::Ready(None) if self.stream.is_none() => return Poll::Ready(()),
+                Poll::Ready(None) | Poll::Pending => {
+                    if !drew {
+                        return Poll::Pending;
+                    }
+                }
+            }
+        }
+        cx.yield_now()
+    }
+}
+
+/// Whether the stream has ended and no future is held. Takes the same time at any capacity.
+impl<
+    St: Stream,
+    F: FnMut(St::Item) -> Fut + Drop,
+    Fut: SlotFuture<S::Waker, Output = ()>,
+    S: ReadySource,
+> FusedFuture for ForEachConcurrent<St, F, Fut, S> {
+    ghost is_over = { IsDone held_in };
+
+    fn is_terminated(&self) -> bool {
+        self.stream.is_none() && self.queue.is_empty()
+    }
+}
+
+/// Prints whether the stream has ended, and how many are held.
+impl<St: Drop, F: Drop, Fut: Drop, S: ReadySource> fmt::Debug for ForEachConcurrent<St, F, Fut, S> {
+    fn fmt<W: fmt::Write>(&self, f: &mut fmt::Formatter<W>) -> fmt::Result {
+        f.debug_struct("ForEachConcurrent")
+            .field("has_ended", &self.stream.is_none())
+            .field("len", &self.queue.len())
+            .finish_non_exhaustive()
+    }
+}

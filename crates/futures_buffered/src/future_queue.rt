@@ -1,0 +1,114 @@
+//! What a buffer holds: futures, of each of which one output comes.
+//!
+//! A buffer is written once, for any such queue. `UnorderedQueue` is one whose outputs come as the futures finish, `OrderedQueue` one that keeps the order of the pushes.
+ghost use Rattle.std.specs.Prelude.{◌≡◌, ◌<◌, ◌≤◌, ◌+◌, ℕ, Bool, List, [], Option, IfOk, IfSome, IfNone, OnSome};
+ghost use Rattle.futures.specs.Task.{Covers, Keeps};
+ghost use Rattle.futures.specs.Runs.{After, Within};
+ghost use Rattle.futures.specs.Poll.{IfReady, OnPending};
+ghost use Rattle.futures_buffered_core.specs.Answer.{RefusesTooLarge};
+ghost use Rattle.futures_buffered.specs.FutureQueue.{AddsOutput};
+
+use futures::task::{Context, Poll};
+use futures_buffered_core::ready_core::NewFault;
+use std::alloc::Global;
+
+/// Holds some futures at a time, and gives an output of each.
+///
+/// Beside the calls an impl states what they may do: relations between what it holds before, the answer, and what it holds after. A push adds one output to those that may come, in the place that `in_order` says.
+pub trait FutureQueue<F>: Drop {
+    ghost use Rattle.futures.specs.declared.task.Poll.{Poll};
+    ghost use Rattle.futures.specs.declared.task.context.Context.{Context};
+
+    /// What a future gives when it is done.
+    type Output;
+
+    // How many are held, outputs that wait for their turn among them.
+    ghost count: { Self → ℕ };
+
+    // How many can be held.
+    ghost room: { Self → ℕ };
+
+    // What a push makes of it.
+    ghost pushes: { Self → F → Self → Type 0 };
+
+    // What a poll may answer, and make of it.
+    ghost polls: { Self → Poll (Option Self.Output) → Self → Type 0 };
+
+    // What a poll leaves of its task.
+    ghost leaves: { Self → Poll (Option Self.Output) → Self → Context → Context → Type 0 };
+
+    // The futures that may be pushed.
+    ghost is_fit: { F → Type 0 };
+
+    // Holds where each future that is held may be polled.
+    ghost can_poll: { Self → Type 0 };
+
+    // What a future may give.
+    ghost gives: { F → Self.Output → Type 0 };
+
+    // The outputs that may come, and one more answer.
+    ghost yields: { Self → List Self.Output → Option Self.Output → Type 0 };
+
+    // Whether the outputs come in the order of the pushes.
+    ghost in_order: { Bool };
+
+    // The places of a task's wakes at which a pending poll waits, by their names.
+    ghost needs: { Self → ℕ → Type 0 };
+
+    /// How many are held. Takes the same time at any number.
+    fn len(&self) -> usize
+        ensures value { result ≡ count self.now }
+        ensures bound { count self.now ≤ room self.now };
+
+    /// How many can be held, which never changes. Takes the same time at any number.
+    fn capacity(&self) -> usize
+        ensures { result ≡ room self.now };
+
+    /// Adds a future, so that a later poll polls it. Takes no memory, polls nothing, and wakes nobody.
+    fn push(&mut self, future: F)
+        requires { count self.old < room self.old }
+        ensures pushed { pushes self.old future self.new }
+        ensures one_more { count self.new ≡ count self.old + 1 }
+        ensures same_room { room self.new ≡ room self.old }
+        ensures adds { AddsOutput in_order (yields self.old) (gives future) (yields self.new) }
+        ensures again { can_poll self.old → is_fit future → can_poll self.new };
+
+    /// One poll. `Ready(None)` where nothing is held. Takes no memory.
+    fn poll_output(&mut self, cx: &mut Context<'_>) -> Poll<Option<Self::Output>>
+        requires { can_poll self.old }
+        ensures polled { polls self.old result self.new }
+        ensures empty { IfReady result (λ o. IfNone o
+            ((count self.old ≡ 0) × (self.new ≡ self.old))) }
+        ensures fewer { IfReady result (λ o. OnSome o (count self.new + 1 ≡ count self.old)) }
+        ensures same_count { OnPending result (count self.new ≡ count self.old) }
+        ensures same_room { room self.new ≡ room self.old }
+        ensures bound { count self.new ≤ room self.new }
+        ensures some { 0 < room self.new }
+        ensures value { IfReady result (yields self.old []) }
+        ensures rest { IfReady result (λ o. IfSome o (λ x.
+            After (yields self.old) x (yields self.new))) }
+        ensures same { OnPending result (Within (yields self.old) (yields self.new)) }
+        ensures goes { IfReady result (λ o. OnSome o (can_poll self.new)) }
+        ensures again { OnPending result (can_poll self.new) }
+        ensures registered { OnPending result (Covers cx.new (needs self.new)) }
+        ensures leaves { leaves self.old result self.new cx.old cx.new }
+        ensures kept { Keeps cx.old cx.new };
+}
+
+/// A queue that a buffer can make for itself.
+pub trait NewQueue: Drop {
+    /// What making one needs besides memory.
+    type Env: Drop;
+
+    // What a new queue that can hold so many, and one poll of which takes so many names at most, may be.
+    ghost made: { ℕ → ℕ → Self → Type 0 };
+
+    /// An empty queue that can hold `n`. One poll of its set takes at most `limit` names.
+    ///
+    /// Takes time and memory in proportion to `n`. `TooLarge` where `n` is above `MAX_CAPACITY`, and `Memory` where a request for memory was refused.
+    fn make(env: &Self::Env, alloc: Global, n: usize, limit: usize) -> Result<Self, NewFault>
+        requires room { 0 < n }
+        requires some { 1 ≤ limit }
+        ensures made { IfOk result (made n limit) }
+        ensures refuses { RefusesTooLarge n result };
+}

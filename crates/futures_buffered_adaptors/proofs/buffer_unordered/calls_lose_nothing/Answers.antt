@@ -1,5 +1,0 @@
-use Rattle.futures_buffered_adaptors.proofs.BufferUnorderedAccountLemmas.{loses_nothing}
-use Rattle.futures_buffered_adaptors.proofs.buffer_unordered.calls_lose_nothing.Goals as goal
-
-pub returns : goal.returns
-returns g c = loses_nothing g.St.Stream.yields g.St.Item.SlotFuture.polled g.S.ReadySource.steps g.S.ReadySource.marks

@@ -1,5 +1,0 @@
-use Rattle.futures_buffered_adaptors.proofs.BufferUnorderedAccountLemmas.{try_loses_nothing}
-use Rattle.futures_buffered_adaptors.proofs.try_buffer_unordered.try_calls_lose_nothing.Goals as goal
-
-pub returns : goal.returns
-returns g c = try_loses_nothing g.St.Stream.yields g.F.SlotFuture.polled g.S.ReadySource.steps g.S.ReadySource.marks

@@ -1,5 +1,0 @@
-use Rattle.futures_buffered_adaptors.proofs.BufferedOrderedAccountLemmas.{try_gives_in_order}
-use Rattle.futures_buffered_adaptors.proofs.try_buffered_ordered.try_calls_give_in_order.Goals as goal
-
-pub returns : goal.returns
-returns g c = try_gives_in_order g.St.Stream.yields g.F.SlotFuture.polled g.S.ReadySource.steps g.S.ReadySource.marks
