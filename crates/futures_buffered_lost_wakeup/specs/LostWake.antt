@@ -16,10 +16,10 @@ use Rattle.futures_buffered_table.specs.Schedule.{after_step, found_at, view_at}
 use Rattle.futures_buffered_table.specs.Step.{CanStep, role_at, seat_of}
 use Rattle.futures_buffered_table.specs.View.{role_of}
 use Rattle.futures_buffered_table.specs.Words.{mark}
-use Rattle.futures_buffered_wake_law.specs.Scene.{Scene, at_first, with_errand}
-use Rattle.futures_buffered_wake_law.specs.Scene.{Errand, Rests, Looks, Tries, Inside, Wakes}
-use Rattle.futures_buffered_wake_law.specs.Scene.{Place, Bare, Keeps, WakeHas, PollerHas}
-use Rattle.futures_buffered_wake_law.specs.Scene.{Turn, Parked, Registers, TakesBack, Asks, LaysOut}
+use Rattle.futures_buffered_lost_wakeup.specs.Scene.{Scene, at_first, with_errand}
+use Rattle.futures_buffered_lost_wakeup.specs.Scene.{Errand, Rests, Looks, Tries, Inside, Wakes}
+use Rattle.futures_buffered_lost_wakeup.specs.Scene.{Place, Bare, Keeps, WakeHas, PollerHas}
+use Rattle.futures_buffered_lost_wakeup.specs.Scene.{Turn, Parked, Registers, TakesBack, Asks, LaysOut}
 
 -- the seat by which whoever holds the source marks slots itself, between polls
 abbrev pub owner_seat : ℕ

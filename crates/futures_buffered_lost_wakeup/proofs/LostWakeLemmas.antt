@@ -26,14 +26,14 @@ use Rattle.futures_buffered_table.specs.Words.{mark}
 use Rattle.futures_buffered_table.proofs.ListLemmas.{by_test, elem_at, last_at, place_low}
 use Rattle.futures_buffered_table.proofs.RowLemmas.{answered_by, put_by, row_slots, total_none}
 use Rattle.futures_buffered_table.proofs.ScheduleLemmas.{IsReachable, pending, reachable_start, step_reaches}
-use Rattle.futures_buffered_wake_law.specs.Scene.{Scene, at_first, with_errand}
-use Rattle.futures_buffered_wake_law.specs.Scene.{Rests, Looks, Inside, Wakes}
-use Rattle.futures_buffered_wake_law.specs.Scene.{Turn, Parked, Asks}
-use Rattle.futures_buffered_wake_law.specs.LostWake.{Event, InList, OnErrand, AtPlace, FromBeside, Begin, GoBack, KeepOwn, Lacks, LayOut, Misses, Stop}
-use Rattle.futures_buffered_wake_law.specs.LostWake.{AllRest, CanDo, IsAtStart, IsAtStub, IsBetween, Legal, NoWakeIsLost, after, after_reply, owner_seat, poller_role, run}
-use Rattle.futures_buffered_wake_law.proofs.SceneLemmas.{IsEmpty, IsPolls, IsTaken, IsWoke, empty_at_stub, hand_at_start, none_at_stub, polls_of, polls_wake_none, stub_polls, taken_starts, times_none}
-use Rattle.futures_buffered_wake_law.proofs.SceneInvariantLemmas.{Armed, ArmedIn, Busy, IsKept, IsSwapped, IsThere, IsWaiting, OnItsWay, PollerHolds, Seen, SwapsIn, Waits, armed_woken, errand_kept, holds_else, wakes_else, way_here}
-use Rattle.futures_buffered_wake_law.proofs.PlaceLemmas.{armed_by_place, at_place_kept, begin_kept, go_back_kept, keep_own_kept, lacks_kept, lay_out_kept, misses_kept, on_errand_kept, poller_view, stop_kept}
+use Rattle.futures_buffered_lost_wakeup.specs.Scene.{Scene, at_first, with_errand}
+use Rattle.futures_buffered_lost_wakeup.specs.Scene.{Rests, Looks, Inside, Wakes}
+use Rattle.futures_buffered_lost_wakeup.specs.Scene.{Turn, Parked, Asks}
+use Rattle.futures_buffered_lost_wakeup.specs.LostWake.{Event, InList, OnErrand, AtPlace, FromBeside, Begin, GoBack, KeepOwn, Lacks, LayOut, Misses, Stop}
+use Rattle.futures_buffered_lost_wakeup.specs.LostWake.{AllRest, CanDo, IsAtStart, IsAtStub, IsBetween, Legal, NoWakeIsLost, after, after_reply, owner_seat, poller_role, run}
+use Rattle.futures_buffered_lost_wakeup.proofs.SceneLemmas.{IsEmpty, IsPolls, IsTaken, IsWoke, empty_at_stub, hand_at_start, none_at_stub, polls_of, polls_wake_none, stub_polls, taken_starts, times_none}
+use Rattle.futures_buffered_lost_wakeup.proofs.SceneInvariantLemmas.{Armed, ArmedIn, Busy, IsKept, IsSwapped, IsThere, IsWaiting, OnItsWay, PollerHolds, Seen, SwapsIn, Waits, armed_woken, errand_kept, holds_else, wakes_else, way_here}
+use Rattle.futures_buffered_lost_wakeup.proofs.PlaceLemmas.{armed_by_place, at_place_kept, begin_kept, go_back_kept, keep_own_kept, lacks_kept, lay_out_kept, misses_kept, on_errand_kept, poller_view, stop_kept}
 
 -- a step of the list, by a wake: how the row goes on
 module _ (n : ℕ) (s : Scene) (kept : IsKept n s) (step : Step) (low : seat_of step < WAKE_SEATS) (can : CanStep n (map role_of s.list.views) step) (between : IsBetween s (seat_of step)) where

@@ -7,12 +7,12 @@ use Rattle.futures_buffered_table.specs.declared.view.Role.{Role}
 use Rattle.futures_buffered_table.specs.declared.view.Role.TheVariants.{Swapped}
 use Rattle.futures_buffered_table.specs.declared.view.View.{View}
 use Rattle.futures_buffered_table.proofs.ScheduleLemmas.{IsReachable, pending}
-use Rattle.futures_buffered_wake_law.specs.Scene.{Scene, set_errand, with_errand}
-use Rattle.futures_buffered_wake_law.specs.Scene.{Errand, Rests, Inside, Wakes}
-use Rattle.futures_buffered_wake_law.specs.Scene.{Place, Bare, Keeps, WakeHas, PollerHas}
-use Rattle.futures_buffered_wake_law.specs.Scene.{Turn, Parked, Registers, TakesBack, Asks, LaysOut}
-use Rattle.futures_buffered_wake_law.specs.LostWake.{IsAtStart}
-use Rattle.futures_buffered_wake_law.proofs.SceneLemmas.{errand_here, errand_stays}
+use Rattle.futures_buffered_lost_wakeup.specs.Scene.{Scene, set_errand, with_errand}
+use Rattle.futures_buffered_lost_wakeup.specs.Scene.{Errand, Rests, Inside, Wakes}
+use Rattle.futures_buffered_lost_wakeup.specs.Scene.{Place, Bare, Keeps, WakeHas, PollerHas}
+use Rattle.futures_buffered_lost_wakeup.specs.Scene.{Turn, Parked, Registers, TakesBack, Asks, LaysOut}
+use Rattle.futures_buffered_lost_wakeup.specs.LostWake.{IsAtStart}
+use Rattle.futures_buffered_lost_wakeup.proofs.SceneLemmas.{errand_here, errand_stays}
 
 -- no taking is under way
 abbrev pub IsWaiting : Turn → Type 0

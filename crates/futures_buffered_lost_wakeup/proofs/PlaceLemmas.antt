@@ -10,13 +10,13 @@ use Rattle.futures_buffered_table.specs.Schedule.{view_at}
 use Rattle.futures_buffered_table.specs.View.{spent_view}
 use Rattle.futures_buffered_table.proofs.ListLemmas.{elem_at}
 use Rattle.futures_buffered_table.proofs.ScheduleLemmas.{IsReachable}
-use Rattle.futures_buffered_wake_law.specs.Scene.{Scene, set_errand, with_errand}
-use Rattle.futures_buffered_wake_law.specs.Scene.{Errand, Rests, Looks, Tries, Inside, Wakes}
-use Rattle.futures_buffered_wake_law.specs.Scene.{Place, Bare, Keeps, WakeHas, PollerHas}
-use Rattle.futures_buffered_wake_law.specs.Scene.{Turn, Parked, Registers, TakesBack, Asks, LaysOut}
-use Rattle.futures_buffered_wake_law.specs.LostWake.{IsAtStart, after_errand, after_place, after_try, go_back, is_kept, lay_out, poller_role}
-use Rattle.futures_buffered_wake_law.proofs.SceneLemmas.{errand_here}
-use Rattle.futures_buffered_wake_law.proofs.SceneInvariantLemmas.{Armed, ArmedIn, IsKept, IsThere, IsWaiting, PollerHolds, armed_parked, armed_woken, errand_kept, holds_else, wakes_else, way_by_another, way_here}
+use Rattle.futures_buffered_lost_wakeup.specs.Scene.{Scene, set_errand, with_errand}
+use Rattle.futures_buffered_lost_wakeup.specs.Scene.{Errand, Rests, Looks, Tries, Inside, Wakes}
+use Rattle.futures_buffered_lost_wakeup.specs.Scene.{Place, Bare, Keeps, WakeHas, PollerHas}
+use Rattle.futures_buffered_lost_wakeup.specs.Scene.{Turn, Parked, Registers, TakesBack, Asks, LaysOut}
+use Rattle.futures_buffered_lost_wakeup.specs.LostWake.{IsAtStart, after_errand, after_place, after_try, go_back, is_kept, lay_out, poller_role}
+use Rattle.futures_buffered_lost_wakeup.proofs.SceneLemmas.{errand_here}
+use Rattle.futures_buffered_lost_wakeup.proofs.SceneInvariantLemmas.{Armed, ArmedIn, IsKept, IsThere, IsWaiting, PollerHolds, armed_parked, armed_woken, errand_kept, holds_else, wakes_else, way_by_another, way_here}
 
 -- what is armed stays so, where the place changes under the hand of a wake
 pub armed_by_place : (turn : Turn) (s now : Scene) → (Armed s → Armed now) → (s.own ≡ true → now.own ≡ true) → ArmedIn turn s → ArmedIn turn now

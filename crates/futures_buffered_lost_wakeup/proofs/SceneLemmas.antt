@@ -20,8 +20,8 @@ use Rattle.futures_buffered_table.specs.Row.{last_entry, times}
 use Rattle.futures_buffered_table.specs.RowInvariant.{KeepsRow}
 use Rattle.futures_buffered_table.proofs.ListLemmas.{by_test, if_no, if_yes}
 use Rattle.futures_buffered_table.proofs.RowLemmas.{alone, answered_by, in_hand, put_by, row_slots, same_else, slots_slot, slots_stub}
-use Rattle.futures_buffered_wake_law.specs.Scene.{Errand, set_errand}
-use Rattle.futures_buffered_wake_law.specs.LostWake.{IsAtStart, IsAtStub}
+use Rattle.futures_buffered_lost_wakeup.specs.Scene.{Errand, set_errand}
+use Rattle.futures_buffered_lost_wakeup.specs.LostWake.{IsAtStart, IsAtStub}
 
 pub errand_here : (errands : ℕ → Errand) (seat : ℕ) (errand : Errand) → set_errand errands seat errand seat ≡ errand
 errand_here errands seat errand = if_yes (seat == seat) errand (errands seat) (grind (arith, nat_tests))

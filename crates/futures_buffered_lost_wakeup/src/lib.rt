@@ -15,7 +15,7 @@
 //! | `FromBeside` | a wake of a source beside this one, whose list stands for itself |
 #![tactic(auto)]
 
-ghost use Rattle.futures_buffered_wake_law.specs.LostWake.{NoWakeIsLost};
+ghost use Rattle.futures_buffered_lost_wakeup.specs.LostWake.{NoWakeIsLost};
 
 /// In every order of steps: where each wake has ended and the task is not woken, and no poll is under way, no slot is marked.
 ///
