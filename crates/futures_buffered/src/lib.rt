@@ -47,8 +47,9 @@ pub use futures_buffered_core::{
 };
 pub use futures_buffered_held::{
     Driven, Either, Foreign, ForeignMerge, ForeignQueue, ForeignSet, ForeignStream, Foreigns,
-    GrowingForeignMerge, GrowingForeignQueue, GrowingForeignSet, driven, foreign, foreign_set,
-    foreign_sets, foreign_stream, foreigns, future, mailbox, oneshot, stream,
+    GrowingForeignMerge, GrowingForeignQueue, GrowingForeignSet, TryForeigns, driven, foreign,
+    foreign_set, foreign_sets, foreign_stream, foreigns, future, mailbox, oneshot, stream,
+    try_foreigns,
 };
 pub use futures_buffered_sets::{
     FusedFuture, FusedStream, FuturesOrdered, FuturesOrderedBounded, FuturesUnordered,

@@ -5,14 +5,16 @@ ghost use Rattle.futures_buffered_unordered_bounded.specs.FuturesUnorderedBounde
 ghost use Rattle.std.specs.Prelude.{◌<◌, IfOk};
 ghost use Rattle.futures_buffered_core.specs.Answer.{RefusesTooLarge};
 ghost use Rattle.futures_buffered_core.specs.ReadyShared.{IsNewShared};
+ghost use Rattle.futures_buffered_held.specs.Driven.{IsNewDriven};
 ghost use Rattle.futures_buffered.specs.Buffer.{IsNewBuffer};
 ghost use Rattle.futures_buffered_ordered.specs.FuturesOrderedBounded.{IsNewBoundedQueue};
 
 pub use crate::try_buffer_unordered::TryBufferUnordered;
 pub use crate::try_buffered_ordered::TryBufferedOrdered;
-use futures::Stream;
+use futures::{Future, Stream};
 use futures_buffered_core::ready_core::NewFault;
 use futures_buffered_core::ready_shared::{SharedReady, SharedWaker};
+use futures_buffered_held::{Driven, Foreign, TryForeigns};
 use futures_buffered_unordered_bounded::SlotFuture;
 use futures_buffered_unordered_bounded::futures_unordered_bounded::POLL_LIMIT;
 use std::alloc::Global;
@@ -57,6 +59,48 @@ pub trait BufferedTryStreamExt: Stream {
         ensures refuses { RefusesTooLarge n result }
     {
         TryBufferUnordered::over(&(), alloc, self, n)
+    }
+
+    /// As `try_buffered_ordered`, of a stream of futures of the kit and errors. The futures are polled with the task's own context.
+    ///
+    /// Takes time and memory in proportion to `n`. Where it is refused, so is `try_buffered_ordered`.
+    final fn foreign_try_buffered_ordered<F, T, E>(
+        self,
+        alloc: Global,
+        n: usize,
+    ) -> Result<TryBufferedOrdered<TryForeigns<Self>, Foreign<F>, Driven<F>>, NewFault>
+    where
+        Self: Stream<Item = Result<F, E>> + Sized,
+        F: Future<Output = Result<T, E>>,
+        T: Drop,
+        E: Drop,
+        requires { 0 < n }
+        ensures new { IfOk result
+            (IsNewBuffer (IsNewBoundedQueue IsNewDriven n POLL_LIMIT) self) }
+        ensures refuses { RefusesTooLarge n result }
+    {
+        TryBufferedOrdered::over(&(), alloc, TryForeigns::new(self), n)
+    }
+
+    /// As `try_buffered_unordered`, of a stream of futures of the kit and errors. The futures are polled with the task's own context.
+    ///
+    /// Takes time and memory in proportion to `n`. Where it is refused, so is `try_buffered_unordered`.
+    final fn foreign_try_buffered_unordered<F, T, E>(
+        self,
+        alloc: Global,
+        n: usize,
+    ) -> Result<TryBufferUnordered<TryForeigns<Self>, Foreign<F>, Driven<F>>, NewFault>
+    where
+        Self: Stream<Item = Result<F, E>> + Sized,
+        F: Future<Output = Result<T, E>>,
+        T: Drop,
+        E: Drop,
+        requires { 0 < n }
+        ensures new { IfOk result
+            (IsNewBuffer (IsNewSet IsNewDriven n POLL_LIMIT) self) }
+        ensures refuses { RefusesTooLarge n result }
+    {
+        TryBufferUnordered::over(&(), alloc, TryForeigns::new(self), n)
     }
 }
 

@@ -16,7 +16,7 @@
 //! - `held`: `Held`, a future that may be polled, and `Given`, an output with the fact that a future may give it.
 //! - `mailbox`: `Mailbox`, by which a slot hands its future over and gets the output back, and `Ticket`, which says whose output it is.
 //! - `foreign`: `Foreign`, what a set holds in place of a future.
-//! - `foreigns`: `Foreigns`, the stand-ins of a stream's futures, as a stream.
+//! - `foreigns` and `try_foreigns`: `Foreigns`, the stand-ins of a stream's futures, as a stream, and `TryForeigns`, where the stream gives errors as well.
 //! - `foreign_stream`: `ForeignStream`, what a merge holds in place of a stream.
 //! - `desk`: where the outputs of one source wait until it asks for them.
 //! - `running`: the futures that were handed over, in a set of the kit.
@@ -44,6 +44,7 @@ pub mod ready;
 mod running;
 pub mod stream;
 pub mod then;
+pub mod try_foreigns;
 
 pub use driven::Driven;
 pub use either::Either;
@@ -55,3 +56,4 @@ pub use foreign_sets::{
 };
 pub use foreign_stream::{ForeignMerge, ForeignStream, GrowingForeignMerge};
 pub use foreigns::Foreigns;
+pub use try_foreigns::TryForeigns;

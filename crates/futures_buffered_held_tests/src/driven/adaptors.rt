@@ -5,7 +5,7 @@ use futures::executor::block_on;
 use futures::future::{Ready, ready};
 use futures::{StreamExt, stream};
 use futures_buffered::{
-    BufferedStreamExt, Driven, ForEachConcurrent, Foreign, TryBufferUnordered, TryBufferedOrdered,
+    BufferedStreamExt, BufferedTryStreamExt, Driven, ForEachConcurrent, Foreign,
 };
 use std::alloc::{AllocError, Global};
 use std::sync::Arc;
@@ -16,8 +16,6 @@ use test_support::counter::new_counter;
 use test_support::keep::keep;
 
 type Answer = Result<u64, Canceled>;
-
-type Source = Driven<Receiver<u64>>;
 
 // Twenty receivers, and their senders in the other order.
 fn twenty(alloc: Global) -> Result<(Vec<Sender<u64>>, Vec<Receiver<u64>>), AllocError> {
@@ -75,13 +73,8 @@ fn as_they_finish(rt: HostRuntime) -> Result<(), Fail> {
 fn in_the_order_of_a_stream_that_may_fail(rt: HostRuntime) -> Result<(), Fail> {
     let (senders, receivers) = twenty(rt.alloc())?;
     let thread = thread::spawn(&rt, move || send_all(senders))?;
-    let held = stream::iter(receivers).map(|receiver| Ok::<_, Canceled>(Foreign::new(receiver)));
-    let outputs = TryBufferedOrdered::<_, Foreign<Receiver<u64>>, Source>::over(
-        &(),
-        rt.alloc(),
-        held,
-        4,
-    )?;
+    let jobs = stream::iter(receivers).map(Ok::<_, Canceled>);
+    let outputs = jobs.foreign_try_buffered_ordered(rt.alloc(), 4)?;
     let all = block_on(&rt, outputs.collect(rt.alloc()))??;
     thread.join(&rt);
     assert_same(&rt, (all.len(), are_in_order(&all)), (20, true));
@@ -92,13 +85,8 @@ fn in_the_order_of_a_stream_that_may_fail(rt: HostRuntime) -> Result<(), Fail> {
 fn as_those_of_a_stream_that_may_fail_finish(rt: HostRuntime) -> Result<(), Fail> {
     let (senders, receivers) = twenty(rt.alloc())?;
     let thread = thread::spawn(&rt, move || send_all(senders))?;
-    let held = stream::iter(receivers).map(|receiver| Ok::<_, Canceled>(Foreign::new(receiver)));
-    let outputs = TryBufferUnordered::<_, Foreign<Receiver<u64>>, Source>::over(
-        &(),
-        rt.alloc(),
-        held,
-        4,
-    )?;
+    let jobs = stream::iter(receivers).map(Ok::<_, Canceled>);
+    let outputs = jobs.foreign_try_buffered_unordered(rt.alloc(), 4)?;
     let all = block_on(&rt, outputs.collect(rt.alloc()))??;
     thread.join(&rt);
     assert_same(&rt, (all.len(), sum_of(&all)), (20, 190));
