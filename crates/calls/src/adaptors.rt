@@ -47,6 +47,9 @@ impl Subject for BufferUnordered<FutureSource<NumberFuture>, SharedReady> {
     fn call(&mut self, call: Call<'_>, _world: &SharedWorld, text: &mut String) -> Reply {
         match call {
             Call::Ask(Query::SizeHint) => of_hint(self.size_hint()),
+            Call::Ask(Query::Len) => Reply::Number(self.len()),
+            Call::Ask(Query::IsEmpty) => Reply::Is(self.is_empty()),
+            Call::Ask(Query::Capacity) => Reply::Number(self.capacity()),
             Call::Ask(Query::IsTerminated) => Reply::Is(self.is_terminated()),
             Call::Ask(Query::Debug) => of_debug(write!(text, "{self:?}")),
             _ => Reply::Nothing,
@@ -95,6 +98,9 @@ impl Subject for BufferedOrdered<FutureSource<NumberFuture>, SharedReady> {
     fn call(&mut self, call: Call<'_>, _world: &SharedWorld, text: &mut String) -> Reply {
         match call {
             Call::Ask(Query::SizeHint) => of_hint(self.size_hint()),
+            Call::Ask(Query::Len) => Reply::Number(self.len()),
+            Call::Ask(Query::IsEmpty) => Reply::Is(self.is_empty()),
+            Call::Ask(Query::Capacity) => Reply::Number(self.capacity()),
             Call::Ask(Query::IsTerminated) => Reply::Is(self.is_terminated()),
             Call::Ask(Query::Debug) => of_debug(write!(text, "{self:?}")),
             _ => Reply::Nothing,
@@ -143,6 +149,9 @@ impl Subject for TryBufferUnordered<TryFutureSource, TryFuture, SharedReady> {
     fn call(&mut self, call: Call<'_>, _world: &SharedWorld, text: &mut String) -> Reply {
         match call {
             Call::Ask(Query::SizeHint) => of_hint(self.size_hint()),
+            Call::Ask(Query::Len) => Reply::Number(self.len()),
+            Call::Ask(Query::IsEmpty) => Reply::Is(self.is_empty()),
+            Call::Ask(Query::Capacity) => Reply::Number(self.capacity()),
             Call::Ask(Query::IsTerminated) => Reply::Is(self.is_terminated()),
             Call::Ask(Query::Debug) => of_debug(write!(text, "{self:?}")),
             _ => Reply::Nothing,
@@ -188,6 +197,9 @@ impl Subject for TryBufferedOrdered<TryFutureSource, TryFuture, SharedReady> {
     fn call(&mut self, call: Call<'_>, _world: &SharedWorld, text: &mut String) -> Reply {
         match call {
             Call::Ask(Query::SizeHint) => of_hint(self.size_hint()),
+            Call::Ask(Query::Len) => Reply::Number(self.len()),
+            Call::Ask(Query::IsEmpty) => Reply::Is(self.is_empty()),
+            Call::Ask(Query::Capacity) => Reply::Number(self.capacity()),
             Call::Ask(Query::IsTerminated) => Reply::Is(self.is_terminated()),
             Call::Ask(Query::Debug) => of_debug(write!(text, "{self:?}")),
             _ => Reply::Nothing,
@@ -235,6 +247,9 @@ impl<F: FnMut(UnitFuture) -> UnitFuture + Drop> Subject
 
     fn call(&mut self, call: Call<'_>, _world: &SharedWorld, text: &mut String) -> Reply {
         match call {
+            Call::Ask(Query::Len) => Reply::Number(self.len()),
+            Call::Ask(Query::IsEmpty) => Reply::Is(self.is_empty()),
+            Call::Ask(Query::Capacity) => Reply::Number(self.capacity()),
             Call::Ask(Query::IsTerminated) => Reply::Is(self.is_terminated()),
             Call::Ask(Query::Debug) => of_debug(write!(text, "{self:?}")),
             _ => Reply::Nothing,

@@ -66,6 +66,7 @@ pub enum End {
 #[derive(Clone, Copy)]
 pub enum Query {
     Len,
+    IsEmpty,
     Capacity,
     Limit,
     IsFull,
@@ -113,6 +114,7 @@ pub fn kind_of_values(kind: Kind) -> Kind {
 fn query_of(word: &str) -> Option<Query> {
     Some(match word {
         "len" => Query::Len,
+        "is_empty" => Query::IsEmpty,
         "capacity" => Query::Capacity,
         "limit" => Query::Limit,
         "is_full" => Query::IsFull,

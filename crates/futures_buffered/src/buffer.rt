@@ -1,5 +1,5 @@
 //! Some futures of a stream at a time, in any queue of futures.
-ghost use Rattle.std.specs.Prelude.{◌≡◌, ◌<◌, ◌≤◌, ◌+◌, [], List, IfOk, IfSome, IfNone, OnSome, None, true, false};
+ghost use Rattle.std.specs.Prelude.{◌≡◌, ◌<◌, ◌≤◌, ◌+◌, ◌↔◌, [], List, IfOk, IfSome, IfNone, IsTrue, OnSome, None, true, false};
 ghost use Rattle.futures.specs.Task.{Covers, Keeps};
 ghost use Rattle.futures.specs.Runs.{After, Within};
 ghost use Rattle.futures.specs.Poll.{IfReady, OnPending};
@@ -69,6 +69,28 @@ impl<St: Drop, Q: NewQueue> Buffer<St, Q> {
 }
 
 impl<St: Stream, Q: FutureQueue<St::Item>> Buffer<St, Q> {
+    /// How many are held: futures in progress, and outputs that wait for their turn. Takes the same time at any number.
+    pub fn len(&self) -> usize
+        ensures value { result ≡ Q.count self.now.queue }
+        ensures bound { Q.count self.now.queue ≤ Q.room self.now.queue }
+    {
+        self.queue.len()
+    }
+
+    /// Whether nothing is held. The stream may have more to give. Takes the same time at any number.
+    pub fn is_empty(&self) -> bool
+        ensures { IsTrue result ↔ (Q.count self.now.queue ≡ 0) }
+    {
+        self.queue.len() == 0
+    }
+
+    /// How many can be held at a time, which never changes. Takes the same time at any number.
+    pub fn capacity(&self) -> usize
+        ensures { result ≡ Q.room self.now.queue }
+    {
+        self.queue.capacity()
+    }
+
     // Draws one item, if the stream has not ended, there is room, and an item comes. Says whether one was drawn.
     fn draw_one(&mut self, cx: &mut Context<'_>) -> bool
         requires { CanDraw St.can_poll St.yields Q.is_fit Q.can_poll self.old }

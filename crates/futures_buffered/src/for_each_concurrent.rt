@@ -1,5 +1,5 @@
 //! A closure called with each item of a stream, and some of the futures that it makes at a time.
-ghost use Rattle.std.specs.Prelude.{◌≡◌, ◌<◌, ◌≤◌, Option, IfOk, IfSome, true, false};
+ghost use Rattle.std.specs.Prelude.{◌≡◌, ◌<◌, ◌≤◌, ◌↔◌, Option, IfOk, IfSome, IsTrue, true, false};
 ghost use Rattle.futures.specs.Task.{Covers, Keeps};
 ghost use Rattle.futures.specs.Runs.{Calls};
 ghost use Rattle.futures.specs.Poll.{IfReady, OnPending};
@@ -95,6 +95,29 @@ impl<St: Drop, F: Drop, Fut: Drop, S: ReadySource> ForEachConcurrent<St, F, Fut,
             closure,
             queue,
         })
+    }
+}
+
+impl<St: Drop, F: Drop, Fut: Drop, S: ReadySource> ForEachConcurrent<St, F, Fut, S> {
+    /// How many futures are held. Takes the same time at any number.
+    pub fn len(&self) -> usize
+        ensures { result ≡ held_in self.now.buffer.queue }
+    {
+        self.queue.len()
+    }
+
+    /// Whether no future is held. The stream may have more to give. Takes the same time at any number.
+    pub fn is_empty(&self) -> bool
+        ensures { IsTrue result ↔ (held_in self.now.buffer.queue ≡ 0) }
+    {
+        self.queue.is_empty()
+    }
+
+    /// How many futures can be held at a time, which never changes. Takes the same time at any number.
+    pub fn capacity(&self) -> usize
+        ensures { result ≡ slots_in self.now.buffer.queue }
+    {
+        self.queue.capacity()
     }
 }
 

@@ -1,5 +1,5 @@
 //! Some futures of a stream at a time, in any queue of futures, where the stream gives errors as well.
-ghost use Rattle.std.specs.Prelude.{◌≡◌, ◌<◌, ◌≤◌, ◌+◌, [], List, Option, Result, Ok, Err, IfOk, IfErr, IfSome, IfNone, OnSome, OnOk, Some, None, true, false};
+ghost use Rattle.std.specs.Prelude.{◌≡◌, ◌<◌, ◌≤◌, ◌+◌, ◌↔◌, [], List, Option, Result, Ok, Err, IfOk, IfErr, IfSome, IfNone, IsTrue, OnSome, OnOk, Some, None, true, false};
 ghost use Rattle.futures.specs.Task.{Covers, Keeps};
 ghost use Rattle.futures.specs.Runs.{After, Within};
 ghost use Rattle.futures.specs.Poll.{IfReady, OnPending};
@@ -75,6 +75,28 @@ where
     Q: FutureQueue<F, Output = Result<T, E>>,
     E: Drop,
 {
+    /// How many are held: futures in progress, and outputs that wait for their turn. Takes the same time at any number.
+    pub fn len(&self) -> usize
+        ensures value { result ≡ Q.count self.now.queue }
+        ensures bound { Q.count self.now.queue ≤ Q.room self.now.queue }
+    {
+        self.queue.len()
+    }
+
+    /// Whether nothing is held. The stream may have more to give. Takes the same time at any number.
+    pub fn is_empty(&self) -> bool
+        ensures { IsTrue result ↔ (Q.count self.now.queue ≡ 0) }
+    {
+        self.queue.len() == 0
+    }
+
+    /// How many can be held at a time, which never changes. Takes the same time at any number.
+    pub fn capacity(&self) -> usize
+        ensures { result ≡ Q.room self.now.queue }
+    {
+        self.queue.capacity()
+    }
+
     // Draws one future, if the stream has not ended, there is room, and one comes. Says whether one was drawn, or the error that came in its place.
     fn draw_one(&mut self, cx: &mut Context<'_>) -> Result<bool, E>
         requires { CanTryDraw St.can_poll St.yields Q.is_fit Q.can_poll self.old }
