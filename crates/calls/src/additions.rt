@@ -1,7 +1,7 @@
 //! What an object is given and asked besides polls. Where memory is refused to a call, the object must be as before and the values must be back; then the call is made once more.
 use crate::answer::{Reply, append_reply};
 use crate::command::{End, Query};
-use crate::numbers::push_numbers;
+use crate::numbers::{number, push_numbers};
 use crate::session::Session;
 use crate::shared_world::SharedWorld;
 use crate::subject::{Call, Subject};
@@ -17,12 +17,26 @@ const QUERIES: [Query; 6] = [
     Query::IsTerminated,
 ];
 
-// What the object says of itself.
-fn describe<O: Subject>(object: &mut O, world: &SharedWorld, unused: &mut String, text: &mut Text) {
+// What the object says of itself, and what `Debug` prints of it. Whether there was memory for that.
+fn describe_once<O: Subject>(
+    object: &mut O,
+    world: &SharedWorld,
+    unused: &mut String,
+    text: &mut Text,
+) -> bool {
     text.clear();
     for query in &QUERIES {
         append_reply(text, object.call(Call::Ask(*query), world, unused));
         text.append(" ");
+    }
+    let printed = object.call(Call::Ask(Query::Debug), world, &mut text.string);
+    !matches!(printed, Reply::Refused)
+}
+
+// What the object says of itself. Where there is no memory for what `Debug` prints, it is asked once more.
+fn describe<O: Subject>(object: &mut O, world: &SharedWorld, unused: &mut String, text: &mut Text) {
+    if !describe_once(object, world, unused, text) {
+        let _ = describe_once(object, world, unused, text);
     }
 }
 
@@ -111,6 +125,37 @@ impl Session {
             self.push_each(object, end)
         } else {
             Reply::Nothing
+        };
+        append_reply(&mut self.reply, reply);
+    }
+
+    fn beside_once<O: Subject>(&mut self, object: &mut O, slots: usize) -> Reply {
+        object.call(Call::Beside(slots), &self.world, &mut self.reply.string)
+    }
+
+    // Memory was refused to the source beside.
+    fn beside_again<O: Subject>(&mut self, object: &mut O, slots: usize) -> Reply {
+        if !self.is_as_before(object) {
+            return Reply::Changed;
+        }
+        let reply = self.beside_once(object, slots);
+        self.count_refused(reply);
+        reply
+    }
+
+    fn beside<O: Subject>(&mut self, object: &mut O, slots: usize) -> Reply {
+        self.describe_before(object);
+        match self.beside_once(object, slots) {
+            Reply::Refused => self.beside_again(object, slots),
+            reply => reply,
+        }
+    }
+
+    /// Has the object keep a source beside its own, of as many slots as the line says.
+    pub fn make_beside<O: Subject>(&mut self, object: &mut O, rest: &str) {
+        let reply = match number(rest) {
+            Some(slots) => self.beside(object, slots),
+            None => Reply::Nothing,
         };
         append_reply(&mut self.reply, reply);
     }

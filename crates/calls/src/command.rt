@@ -22,6 +22,7 @@ pub enum Command {
     DropSender,
     Push(End),
     Extend,
+    Beside,
     Drop,
     Ask(Query),
 }
@@ -52,6 +53,7 @@ pub enum Kind {
     ForeignTryJoin,
     ForeignMerge,
     ForeignBufferedOrdered,
+    ForeignSource,
 }
 
 /// Where a future is added: sets and merges have no ends.
@@ -96,6 +98,7 @@ fn kind_of(word: &str) -> Option<Kind> {
         "foreign_try_join" => Kind::ForeignTryJoin,
         "foreign_merge" => Kind::ForeignMerge,
         "foreign_buffered_ordered" => Kind::ForeignBufferedOrdered,
+        "foreign_source" => Kind::ForeignSource,
         _ => return None,
     })
 }
@@ -146,6 +149,7 @@ pub fn command_of(word: &str) -> Option<Command> {
         "push_back" => Command::Push(End::Back),
         "push_front" => Command::Push(End::Front),
         "extend" => Command::Extend,
+        "beside" => Command::Beside,
         "drop" => Command::Drop,
         _ => match kind_of(word) {
             Some(kind) => Command::Begin(kind),

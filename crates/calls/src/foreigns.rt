@@ -1,5 +1,7 @@
-//! What holds futures and streams of the kit, over `Driven`: sets, queues, joins, a merge and a buffer.
-use crate::answer::{Answer, Reply, of_growth, of_item, of_output, of_outputs, of_results};
+//! What holds futures and streams of the kit, over `Driven`: sets, queues, joins, a merge and a buffer; and the source itself.
+use crate::answer::{
+    Answer, Reply, of_debug, of_growth, of_item, of_output, of_outputs, of_results,
+};
 use crate::command::{End, Query};
 use crate::lines::run_made;
 use crate::session::Session;
@@ -13,12 +15,14 @@ use futures::task::Context;
 use futures::{Future, Stream};
 use futures_buffered::buffered_ordered::BufferedOrdered;
 use futures_buffered_core::ready_core::NewFault;
+use futures_buffered_core::ready_source::{NewSource, ReadySource};
 use futures_buffered_held::{
     Driven, Foreign, ForeignStream, GrowingForeignMerge, GrowingForeignQueue, GrowingForeignSet,
 };
 use futures_buffered_sets::{
     FuturesOrdered, FuturesUnordered, JoinAll, MergeUnbounded, TryJoinAll,
 };
+use std::alloc::Global;
 
 impl Subject for FuturesUnordered<Foreign<KitFuture>, Driven<KitFuture>> {
     fn poll(&mut self, cx: &mut Context<'_>, _outputs: &mut Vec<u64>) -> Answer {
@@ -181,5 +185,59 @@ pub fn run_buffer(
         BufferedOrdered<FutureSource<Foreign<KitFuture>>, Driven<KitFuture>>,
         NewFault,
     > = BufferedOrdered::over(&(), session.options.alloc, source, n);
+    run_made(session, made, lines)
+}
+
+/// A source, and those that were made beside it.
+#[derive(Drop)]
+struct Sources {
+    source: Driven<KitFuture>,
+    beside: Vec<Driven<KitFuture>>,
+}
+
+impl Sources {
+    fn make_beside(&mut self, alloc: Global, slots: usize) -> Result<(), NewFault> {
+        let source = self.source.make_beside(alloc, slots)?;
+        match self.beside.push(source) {
+            Ok(()) => Ok(()),
+            Err(_) => Err(NewFault::Memory),
+        }
+    }
+}
+
+impl Subject for Sources {
+    fn poll(&mut self, _cx: &mut Context<'_>, _outputs: &mut Vec<u64>) -> Answer {
+        Answer::Nothing
+    }
+
+    fn call(&mut self, call: Call<'_>, world: &SharedWorld, text: &mut String) -> Reply {
+        match call {
+            Call::Beside(slots) => match self.make_beside(world.alloc, slots) {
+                Ok(()) => Reply::Ok,
+                Err(NewFault::TooLarge) => Reply::Full,
+                Err(NewFault::Memory) => Reply::Refused,
+            },
+            Call::Ask(Query::Capacity) => Reply::Number(self.source.capacity()),
+            Call::Ask(Query::Debug) => of_debug(write!(text, "{:?}", self.source)),
+            _ => Reply::Nothing,
+        }
+    }
+}
+
+fn new_sources(alloc: Global, slots: usize) -> Result<Sources, NewFault> {
+    Ok(Sources {
+        source: Driven::make(&(), alloc, slots)?,
+        beside: Vec::new(alloc),
+    })
+}
+
+/// Begins a source of as many slots as the line says, which no set has.
+pub fn run_source(
+    session: &mut Session,
+    numbers: &[usize],
+    lines: &[&str],
+) -> Result<usize, NewFault> {
+    let slots = numbers.first().copied().unwrap_or(0);
+    let made = new_sources(session.options.alloc, slots);
     run_made(session, made, lines)
 }

@@ -42,5 +42,6 @@ pub fn run_kind(
         Kind::ForeignTryJoin => foreigns::run_try_join(session, numbers, lines),
         Kind::ForeignMerge => foreigns::run_merge(session, numbers, lines),
         Kind::ForeignBufferedOrdered => foreigns::run_buffer(session, numbers, lines),
+        Kind::ForeignSource => foreigns::run_source(session, numbers, lines),
     }
 }

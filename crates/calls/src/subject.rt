@@ -11,6 +11,8 @@ pub enum Call<'a> {
     Push(End, usize),
     /// To take those with these numbers.
     Extend(&'a [usize]),
+    /// To have a source of so many slots beside its own, which it keeps.
+    Beside(usize),
     Ask(Query),
 }
 

@@ -14,6 +14,7 @@ use futures::task::{Context, Poll};
 use futures_buffered_core::ready_core::{MAX_CAPACITY, NewFault, ReadyCore, Taken, Woke};
 use futures_buffered_core::ready_source::{NewSource, ReadySource};
 use std::alloc::{AllocError, Global};
+use std::fmt;
 use std::marker::Model;
 use std::sync::{Arc, Mutex};
 
@@ -208,6 +209,12 @@ impl<F: Future<Output: Drop>> Driven<F> {
         Ok(made)
     }
 
+    // How many desks the driver has, where no other thread is at it.
+    fn desk_count(&self) -> Option<usize> {
+        let driver = self.driver.try_lock()?;
+        Some(driver.desk_count())
+    }
+
     // Asks the driver for what came, and hands it what the mailboxes have. Whether the task is to poll again.
     fn settle(&mut self) -> bool
         ensures { self.new.capacity ≡ self.old.capacity }
@@ -251,6 +258,16 @@ impl<F: Future<Output: Drop>> Drop for Driven<F> {
             None => None,
         };
         drop(desk);
+    }
+}
+
+/// Prints how many slots there are, and how many sources stand beside one another, this one among them: each has a desk. `None` where another thread is with them.
+impl<F: Future<Output: Drop>> fmt::Debug for Driven<F> {
+    fn fmt<W: fmt::Write>(&self, f: &mut fmt::Formatter<W>) -> fmt::Result {
+        f.debug_struct("Driven")
+            .field("capacity", &self.mailboxes.len())
+            .field("desks", &self.desk_count())
+            .finish_non_exhaustive()
     }
 }
 

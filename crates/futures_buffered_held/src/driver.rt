@@ -36,6 +36,11 @@ impl<F: Future<Output: Drop>> Driver<F> {
         source
     }
 
+    /// How many desks there are: one for each source.
+    pub(crate) fn desk_count(&self) -> usize {
+        self.desks.len()
+    }
+
     /// Adds the desk of a source. Where there is no room the desk is dropped here.
     pub(crate) fn add_desk(&mut self, desk: Desk<F>) -> Result<(), AllocError> {
         self.desks.push(desk)?;
