@@ -7,12 +7,10 @@ use futures_buffered::buffer::Buffer;
 use futures_buffered::buffer_unordered::UnorderedQueue;
 use futures_buffered::buffered_ordered::OrderedQueue;
 use futures_buffered::for_each_concurrent::ForEachConcurrent;
-use futures_buffered::try_buffer::TryBuffer;
 use futures_buffered_core::ready_shared::SharedReady;
 use futures_buffered_core::ready_source::NamesSlot;
 use futures_buffered_merges::merge_bounded::MergeBounded;
 use futures_buffered_merges::slot_stream::SlotStream;
-use futures_buffered_unordered_bounded::slot_future::SlotFuture;
 use std::alloc::Global;
 
 /// A stream of ready futures that does not end.
@@ -24,30 +22,6 @@ impl Stream for Ready {
 
     fn poll_next(&mut self, _cx: &mut Context<'_>) -> Poll<Option<Yields>> {
         Poll::Ready(Some(Yields { left: 0 }))
-    }
-}
-
-/// Is ready at its first poll, and succeeds.
-#[derive(Drop)]
-pub struct Succeeds;
-
-impl<W: NamesSlot> SlotFuture<W> for Succeeds {
-    type Output = Result<(), ()>;
-
-    fn poll(&mut self, _waker: &W) -> Poll<Result<(), ()>> {
-        Poll::Ready(Ok(()))
-    }
-}
-
-/// A stream of such futures that does not end.
-#[derive(Drop)]
-pub struct Attempts;
-
-impl Stream for Attempts {
-    type Item = Result<Succeeds, ()>;
-
-    fn poll_next(&mut self, _cx: &mut Context<'_>) -> Poll<Option<Result<Succeeds, ()>>> {
-        Poll::Ready(Some(Ok(Succeeds)))
     }
 }
 
@@ -67,8 +41,6 @@ pub type Ordered = Buffer<Ready, OrderedQueue<Yields, (), SharedReady>>;
 
 pub type Unordered = Buffer<Ready, UnorderedQueue<Yields, SharedReady>>;
 
-pub type TryUnordered = TryBuffer<Attempts, UnorderedQueue<Succeeds, SharedReady>>;
-
 pub type Merge = MergeBounded<Feed, SharedReady>;
 
 impl Workload for Ordered {
@@ -83,33 +55,28 @@ impl Workload for Unordered {
     }
 }
 
-impl Workload for TryUnordered {
-    fn run(&mut self, cx: &mut Context<'_>) {
-        let _ = self.poll_next(cx);
-    }
-}
-
 impl Workload for Merge {
     fn run(&mut self, cx: &mut Context<'_>) {
         let _ = self.poll_next(cx);
     }
 }
 
-/// How many items a round of `ForEach` has.
-pub const ITEMS: usize = 12_800;
+// How many items a round of `ForEach` has.
+const ITEMS: usize = 12_800;
 
 /// A for-each whose closure makes ready futures, 100 at a time. A round makes it and polls it to its end.
 #[derive(Drop)]
 pub struct ForEach(pub Global);
 
-fn ready_for(_item: usize) -> Yields {
-    Yields { left: 0 }
-}
-
 impl Workload for ForEach {
+    fn calls(&self) -> usize {
+        ITEMS
+    }
+
     fn run(&mut self, cx: &mut Context<'_>) {
         let items = stream::iter(0..ITEMS);
-        let made = ForEachConcurrent::with_limit(self.0, items, 100, 61, |item| ready_for(item));
+        let ready = |_item| Yields { left: 0 };
+        let made = ForEachConcurrent::with_limit(self.0, items, 100, 61, ready);
         let Ok(mut each) = made else {
             return;
         };

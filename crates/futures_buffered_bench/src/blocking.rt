@@ -1,11 +1,10 @@
 //! Outputs that a thread waits for by `block_on`.
-use crate::holders::{GrowingSet, Set, Yields, fill};
+use crate::holders::{Set, ready_set};
 use crate::report::tenths;
 use crate::sources::keep;
 use futures::executor::block_on;
 use futures::{StreamExt, future};
 use futures_buffered_held::oneshot::{Receiver, Sender, channel};
-use futures_buffered_unordered::futures_unordered::FuturesUnordered;
 use std::alloc::{AllocError, AllocGlobal, Global};
 use std::random::RandomSource;
 use std::sync::Wait;
@@ -18,29 +17,19 @@ use std::{io, thread};
 /// How many outputs one run waits for.
 const OUTPUTS: u64 = 1_000;
 
-fn ready(alloc: Global) -> GrowingSet<Yields> {
-    let mut set = FuturesUnordered::new(alloc);
-    fill(&mut set, OUTPUTS as usize, 0);
-    set
-}
-
-fn wait_for_each<R: RandomSource + AllocGlobal + Wait>(rt: &R, set: &mut GrowingSet<Yields>) {
+/// The time of an output where each is waited for by a `block_on` of its own, in tenths of a nanosecond.
+pub fn one_by_one<R: Clock + RandomSource + AllocGlobal + Wait>(rt: &R) -> io::Result<u128> {
+    let mut set = ready_set(rt.alloc(), OUTPUTS as usize);
+    let start = Instant::now(rt)?;
     for _ in 0..OUTPUTS {
         let _ = block_on(rt, set.next());
     }
-}
-
-/// The time of an output where each is waited for by a `block_on` of its own, in tenths of a nanosecond.
-pub fn one_by_one<R: Clock + RandomSource + AllocGlobal + Wait>(rt: &R) -> io::Result<u128> {
-    let mut set = ready(rt.alloc());
-    let start = Instant::now(rt)?;
-    wait_for_each(rt, &mut set);
     Ok(tenths(start.elapsed(rt)?, OUTPUTS))
 }
 
 /// The same, where one `block_on` waits for all.
 pub fn all_in_one<R: Clock + RandomSource + AllocGlobal + Wait>(rt: &R) -> io::Result<u128> {
-    let set = ready(rt.alloc());
+    let set = ready_set(rt.alloc(), OUTPUTS as usize);
     let start = Instant::now(rt)?;
     let _ = block_on(rt, set.for_each(|_output| future::ready(())));
     Ok(tenths(start.elapsed(rt)?, OUTPUTS))
@@ -71,30 +60,21 @@ fn send_each(asked: &AtomicU64, senders: &mut Vec<Sender<u64>>) {
     }
 }
 
-// Asks for each in the same order, and waits for its output.
-fn take_each_by<R: Wait + RandomSource + AllocGlobal>(
+// Asks for each in the same order, and waits for its output, by a set of one slot.
+fn take_each<R: Wait + RandomSource + AllocGlobal>(
     rt: &R,
     asked: &AtomicU64,
-    set: &mut Set<Receiver<u64>>,
     receivers: &mut Vec<Receiver<u64>>,
 ) {
+    let Ok(mut set) = Set::new(rt.alloc(), 1) else {
+        return;
+    };
     for _ in 0..OUTPUTS {
         if let Some(receiver) = receivers.pop() {
             let _ = set.try_push(receiver);
         }
         asked.fetch_add(1, SeqCst);
         let _ = block_on(rt, set.next());
-    }
-}
-
-// The same by a set of one slot.
-fn take_each<R: Wait + RandomSource + AllocGlobal>(
-    rt: &R,
-    asked: &AtomicU64,
-    receivers: &mut Vec<Receiver<u64>>,
-) {
-    if let Ok(mut set) = Set::new(rt.alloc(), 1) {
-        take_each_by(rt, asked, &mut set, receivers);
     }
 }
 

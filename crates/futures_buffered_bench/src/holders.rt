@@ -4,11 +4,13 @@ use futures::stream::FuturesUnordered as KitSet;
 use futures::task::{Context, Poll};
 use futures::{Future, Stream};
 use futures_buffered_core::ready_shared::SharedReady;
+use futures_buffered_joins::join::join_all;
 use futures_buffered_ordered::futures_ordered::FuturesOrdered;
 use futures_buffered_ordered::futures_ordered_bounded::FuturesOrderedBounded;
 use futures_buffered_unordered::futures_unordered::FuturesUnordered;
 use futures_buffered_unordered_bounded::futures_unordered_bounded::FuturesUnorderedBounded;
 use futures_buffered_unordered_bounded::slot_future::{SlotFuture, SlotWaker};
+use std::alloc::Global;
 
 /// Wakes itself at so many polls, and is ready at the next.
 #[derive(Drop)]
@@ -48,10 +50,6 @@ pub type GrowingSet<F> = FuturesUnordered<F, SharedReady>;
 pub type Queue<F> = FuturesOrderedBounded<F, SharedReady>;
 
 pub type GrowingQueue<F> = FuturesOrdered<F, SharedReady>;
-
-/// A queue that is fed at its front.
-#[derive(Drop)]
-pub struct Front(pub Queue<Yields>);
 
 /// A set or a queue of such futures.
 pub trait Holder<F>: Drop {
@@ -112,18 +110,8 @@ impl Holder<Yields> for GrowingQueue<Yields> {
     }
 }
 
-impl Holder<Yields> for Front {
-    fn add(&mut self, future: Yields) {
-        let _ = self.0.try_push_front(future);
-    }
-
-    fn gives(&mut self, cx: &mut Context<'_>) -> bool {
-        self.0.gives(cx)
-    }
-}
-
-/// Adds so many futures, which wake themselves so often.
-pub fn fill<H: Holder<Yields>>(holder: &mut H, count: usize, yields: u64) {
+// Adds so many futures, each of which wakes itself so often.
+fn fill<H: Holder<Yields>>(holder: &mut H, count: usize, yields: u64) {
     for _ in 0..count {
         holder.add(Yields { left: yields });
     }
@@ -159,32 +147,56 @@ impl<H: Holder<Yields>> Workload for Refilled<H> {
     }
 }
 
-/// What is filled and drained. A round adds so many futures, of which number `slow` wakes itself once and the others are ready, and polls so often.
+/// What is filled and drained. A round adds so many futures, of which the first wakes itself once and the others are ready, and polls so often.
 #[derive(Drop)]
-pub struct Drained<H> {
-    holder: H,
-    adds: usize,
-    slow: usize,
-    polls: usize,
-}
+pub struct Drained<H>(pub H, pub usize);
 
-impl<H: Holder<Yields>> Drained<H> {
-    pub fn new(made: Option<H>, adds: usize, slow: usize, polls: usize) -> Option<Drained<H>> {
-        made.map(|holder| Drained {
-            holder,
-            adds,
-            slow,
-            polls,
-        })
+impl<H: Holder<Yields>> Workload for Drained<H> {
+    fn calls(&self) -> usize {
+        self.1
+    }
+
+    fn run(&mut self, cx: &mut Context<'_>) {
+        fill(&mut self.0, 1, 1);
+        fill(&mut self.0, self.1.saturating_sub(1), 0);
+        poll_often(&mut self.0, self.1, cx);
     }
 }
 
-impl<H: Holder<Yields>> Workload for Drained<H> {
+/// A growing set of so many ready futures.
+pub fn ready_set(alloc: Global, count: usize) -> GrowingSet<Yields> {
+    let mut set = FuturesUnordered::new(alloc);
+    fill(&mut set, count, 0);
+    set
+}
+
+/// A growing set. A round makes it without a group, pushes so many ready futures, and takes their outputs.
+#[derive(Drop)]
+pub struct DrainedSet(pub Global, pub usize);
+
+impl Workload for DrainedSet {
+    fn calls(&self) -> usize {
+        self.1
+    }
+
     fn run(&mut self, cx: &mut Context<'_>) {
-        for number in 0..self.adds {
-            let left = u64::from(number == self.slow);
-            self.holder.add(Yields { left });
+        let mut set = ready_set(self.0, self.1);
+        poll_often(&mut set, self.1, cx);
+    }
+}
+
+/// A join. A round makes it of so many ready futures, and polls it once.
+#[derive(Drop)]
+pub struct Joined(pub Global, pub usize);
+
+impl Workload for Joined {
+    fn calls(&self) -> usize {
+        self.1
+    }
+
+    fn run(&mut self, cx: &mut Context<'_>) {
+        if let Ok(mut join) = join_all(self.0, (0..self.1).map(|_| Yields { left: 0 })) {
+            let _ = join.poll(cx);
         }
-        poll_often(&mut self.holder, self.polls, cx);
     }
 }

@@ -5,12 +5,10 @@ mod adaptors;
 mod blocking;
 mod holders;
 mod one_shots;
-mod ready_list;
 mod report;
 mod rows;
 mod sources;
 mod waiting;
-mod whole;
 
 use report::Report;
 use std::io::Write;

@@ -1,5 +1,5 @@
 //! One-shots, from channel to output: those of the kit in the kit's own set and in a set over the source that has futures of the kit polled, and those of this library in a set over the shared source.
-use crate::holders::Set;
+use crate::holders::{Holder, Set, poll_often};
 use crate::report::Workload;
 use futures::Stream;
 use futures::channel::oneshot as kit;
@@ -8,83 +8,80 @@ use futures::task::Context;
 use futures_buffered_held::{Foreign, ForeignSet, oneshot};
 use std::alloc::Global;
 
-/// A set that is given receivers, and is polled.
-pub trait Receives: Drop {
+/// The receiver of a one-shot.
+pub trait Channel: Drop {
     type Sender: Drop;
 
-    /// One more receiver is held. Its sender, where there was memory.
-    fn hold(&mut self, alloc: Global) -> Option<Self::Sender>;
+    fn open(alloc: Global) -> Option<(Self::Sender, Self)>;
 
     fn send(sender: Self::Sender);
-
-    fn poll(&mut self, cx: &mut Context<'_>);
 }
 
-impl Receives for KitSet<kit::Receiver<u64>> {
+impl Channel for kit::Receiver<u64> {
     type Sender = kit::Sender<u64>;
 
-    fn hold(&mut self, alloc: Global) -> Option<kit::Sender<u64>> {
-        let (sender, receiver) = kit::channel(alloc).ok()?;
-        let _ = self.push(receiver);
-        Some(sender)
+    fn open(alloc: Global) -> Option<(kit::Sender<u64>, kit::Receiver<u64>)> {
+        kit::channel(alloc).ok()
     }
 
     fn send(sender: kit::Sender<u64>) {
         let _ = sender.send(1);
     }
-
-    fn poll(&mut self, cx: &mut Context<'_>) {
-        let _ = self.poll_next(cx);
-    }
 }
 
-impl Receives for ForeignSet<kit::Receiver<u64>> {
-    type Sender = kit::Sender<u64>;
-
-    fn hold(&mut self, alloc: Global) -> Option<kit::Sender<u64>> {
-        let (sender, receiver) = kit::channel(alloc).ok()?;
-        let _ = self.try_push(Foreign::new(receiver));
-        Some(sender)
-    }
-
-    fn send(sender: kit::Sender<u64>) {
-        let _ = sender.send(1);
-    }
-
-    fn poll(&mut self, cx: &mut Context<'_>) {
-        let _ = self.poll_next(cx);
-    }
-}
-
-impl Receives for Set<oneshot::Receiver<u64>> {
+impl Channel for oneshot::Receiver<u64> {
     type Sender = oneshot::Sender<u64>;
 
-    fn hold(&mut self, alloc: Global) -> Option<oneshot::Sender<u64>> {
-        let (sender, receiver) = oneshot::channel(alloc).ok()?;
-        let _ = self.try_push(receiver);
-        Some(sender)
+    fn open(alloc: Global) -> Option<(oneshot::Sender<u64>, oneshot::Receiver<u64>)> {
+        oneshot::channel(alloc).ok()
     }
 
     fn send(sender: oneshot::Sender<u64>) {
         let _ = sender.send(1);
     }
+}
 
-    fn poll(&mut self, cx: &mut Context<'_>) {
-        let _ = self.poll_next(cx);
+impl Holder<kit::Receiver<u64>> for KitSet<kit::Receiver<u64>> {
+    fn add(&mut self, receiver: kit::Receiver<u64>) {
+        let _ = self.push(receiver);
+    }
+
+    fn gives(&mut self, cx: &mut Context<'_>) -> bool {
+        self.poll_next(cx).is_ready()
+    }
+}
+
+impl Holder<kit::Receiver<u64>> for ForeignSet<kit::Receiver<u64>> {
+    fn add(&mut self, receiver: kit::Receiver<u64>) {
+        let _ = self.try_push(Foreign::new(receiver));
+    }
+
+    fn gives(&mut self, cx: &mut Context<'_>) -> bool {
+        self.poll_next(cx).is_ready()
+    }
+}
+
+impl Holder<oneshot::Receiver<u64>> for Set<oneshot::Receiver<u64>> {
+    fn add(&mut self, receiver: oneshot::Receiver<u64>) {
+        let _ = self.try_push(receiver);
+    }
+
+    fn gives(&mut self, cx: &mut Context<'_>) -> bool {
+        self.poll_next(cx).is_ready()
     }
 }
 
 /// A set of one-shots. A round makes as many as there are slots, lets each be polled, sends to all, and takes their outputs.
 #[derive(Drop)]
-pub struct OneShots<H: Receives> {
+pub struct OneShots<H, C: Channel> {
     alloc: Global,
     set: H,
     slots: usize,
-    senders: Vec<H::Sender>,
+    senders: Vec<C::Sender>,
 }
 
-impl<H: Receives> OneShots<H> {
-    pub fn new(alloc: Global, made: Option<H>, slots: usize) -> Option<OneShots<H>> {
+impl<C: Channel, H: Holder<C>> OneShots<H, C> {
+    pub fn new(alloc: Global, made: Option<H>, slots: usize) -> Option<OneShots<H, C>> {
         made.map(|set| OneShots {
             alloc,
             set,
@@ -95,8 +92,9 @@ impl<H: Receives> OneShots<H> {
 
     fn fill(&mut self) {
         for _ in 0..self.slots {
-            if let Some(sender) = self.set.hold(self.alloc) {
+            if let Some((sender, receiver)) = C::open(self.alloc) {
                 let _ = self.senders.push(sender);
+                self.set.add(receiver);
             }
         }
     }
@@ -104,26 +102,24 @@ impl<H: Receives> OneShots<H> {
     fn send_all(&mut self) {
         for _ in 0..self.slots {
             if let Some(sender) = self.senders.pop() {
-                H::send(sender);
+                C::send(sender);
             }
-        }
-    }
-
-    fn poll(&mut self, cx: &mut Context<'_>, times: usize) {
-        for _ in 0..times {
-            self.set.poll(cx);
         }
     }
 }
 
-impl<H: Receives> Workload for OneShots<H> {
+impl<C: Channel, H: Holder<C>> Workload for OneShots<H, C> {
+    fn calls(&self) -> usize {
+        self.slots
+    }
+
     // A set polls 32 at least in each poll, so after `each` of them all have been polled once.
     fn run(&mut self, cx: &mut Context<'_>) {
         let each = self.slots / 32 + 3;
         self.fill();
-        self.poll(cx, each);
+        poll_often(&mut self.set, each, cx);
         self.send_all();
-        self.poll(cx, self.slots);
-        self.poll(cx, each);
+        poll_often(&mut self.set, self.slots, cx);
+        poll_often(&mut self.set, each, cx);
     }
 }

@@ -1,9 +1,12 @@
-//! Workloads of shared sources without a set.
+//! Workloads without a set: of the list, of the kit, and of a source beside threads.
+ghost use Rattle.std.specs.Prelude.{◌≡◌, ◌<◌};
+
 use crate::report::{Workload, tenths};
 use futures::task::{Context, Poll, Source as TaskSource, Waker};
-use futures_buffered_core::ready_core::{NewFault, Taken};
+use futures_buffered_core::ready_core::NewFault;
 use futures_buffered_core::ready_shared::{OuterWaker, SharedReady, SharedWaker};
 use futures_buffered_core::ready_source::{NewSource, ReadySource, SlotWaker};
+use futures_buffered_core::ready_table::{PollSeat, ReadyList, WakeSeat};
 use std::alloc::{AllocError, Global};
 use std::thread::Threads;
 use std::time::{Clock, Instant};
@@ -13,6 +16,44 @@ use std::{io, thread};
 pub fn keep<T: Drop>(row: &mut Vec<T>, item: T) -> Result<(), AllocError> {
     row.push(item)?;
     Ok(())
+}
+
+/// A list and its seats. Each call wakes a slot that is not marked and takes it, slot after slot; or wakes one that is marked.
+#[derive(Drop)]
+pub struct Listed {
+    list: ReadyList,
+    seat: WakeSeat,
+    poll: PollSeat,
+    slot: usize,
+    takes: bool,
+    ghost fits: { (seat.list ≡ list.list) × (poll.list ≡ list.list) × (slot < list.capacity) },
+}
+
+impl Listed {
+    pub fn new(alloc: Global, slots: usize, takes: bool) -> Result<Listed, NewFault> {
+        let (list, poll, seat) = ReadyList::new(alloc, slots)?;
+        if slots == 0 {
+            return Err(NewFault::TooLarge);
+        }
+        Ok(Listed {
+            list,
+            seat,
+            poll,
+            slot: 0,
+            takes,
+        })
+    }
+}
+
+impl Workload for Listed {
+    fn run(&mut self, _cx: &mut Context<'_>) {
+        self.list.wake(&mut self.seat, self.slot);
+        if self.takes {
+            self.list.take(&mut self.poll);
+            let next = self.slot.wrapping_add(1);
+            self.slot = if next < self.list.capacity() { next } else { 0 };
+        }
+    }
 }
 
 /// The kit alone. Each call leaves the task's waker in a place of its own, takes it out, and wakes the task.
@@ -26,58 +67,6 @@ impl Workload for TaskAlone {
         if let Some(waker) = slot.take() {
             waker.wake();
         }
-    }
-}
-
-/// Sources that stand beside one another. Each call registers once, wakes a slot of the last source, and asks each until it is empty.
-#[derive(Drop)]
-pub struct Beside(Vec<SharedReady>);
-
-fn add_beside(
-    alloc: Global,
-    sources: &mut Vec<SharedReady>,
-    first: &mut SharedReady,
-    count: usize,
-) -> Result<(), NewFault> {
-    for _ in 1..count {
-        keep(sources, first.make_beside(alloc, 64)?)?;
-    }
-    Ok(())
-}
-
-impl Beside {
-    pub fn new(alloc: Global, count: usize) -> Result<Beside, NewFault> {
-        let mut first = SharedReady::new(alloc, 64)?;
-        let mut sources = Vec::with_capacity(alloc, count)?;
-        add_beside(alloc, &mut sources, &mut first, count)?;
-        keep(&mut sources, first)?;
-        Ok(Beside(sources))
-    }
-
-    fn wake_last(&self) {
-        if let Some(last) = self.0.last() {
-            if last.capacity() > 7 {
-                last.waker(7).wake();
-            }
-        }
-    }
-
-    fn ask_each(&mut self) {
-        for source in &mut self.0 {
-            if let Taken::Slot(_) = source.take() {
-                source.take();
-            }
-        }
-    }
-}
-
-impl Workload for Beside {
-    fn run(&mut self, cx: &mut Context<'_>) {
-        if let Some(first) = self.0.first_mut() {
-            ReadySource::register(first, cx);
-        }
-        self.wake_last();
-        self.ask_each();
     }
 }
 
@@ -101,15 +90,10 @@ fn wake_all(wakers: &[SharedWaker<Nobody>]) {
     }
 }
 
-// Takes so often, and counts the slots.
-fn take_all(source: &mut Source, takings: u64) -> u64 {
-    let mut slots = 0u64;
+fn take_often(source: &mut Source, takings: u64) {
     for _ in 0..takings {
-        if let Taken::Slot(_) = source.take() {
-            slots = slots.wrapping_add(1);
-        }
+        source.take();
     }
-    slots
 }
 
 fn add_wakers(wakers: &mut Vec<SharedWaker<Nobody>>, source: &Source) -> Result<(), AllocError> {
@@ -129,44 +113,27 @@ fn four<T: Threads + Sync>(rt: &T, wakers: &[SharedWaker<Nobody>]) {
     thread::join(rt, || two(rt, wakers), || two(rt, wakers));
 }
 
-fn one_run<R: Clock + Threads + Sync>(
-    rt: &R,
-    wakers: &[SharedWaker<Nobody>],
-    source: &mut Source,
-    takings: u64,
-) -> io::Result<u128> {
-    let start = Instant::now(rt)?;
-    thread::join(rt, || four(rt, wakers), || take_all(source, takings));
-    Ok(tenths(start.elapsed(rt)?, takings))
+/// Four threads wake the slots one after another, while this one takes as often as each of them wakes.
+#[derive(Drop)]
+pub struct FourWakers {
+    source: Source,
+    wakers: Vec<SharedWaker<Nobody>>,
 }
 
-// The least time of several runs.
-fn quickest<R: Clock + Threads + Sync>(
-    rt: &R,
-    wakers: &[SharedWaker<Nobody>],
-    source: &mut Source,
-    takings: u64,
-) -> io::Result<u128> {
-    let mut least = u128::MAX;
-    for _ in 0..8 {
-        least = least.min(one_run(rt, wakers, source, takings)?);
+impl FourWakers {
+    pub fn new(alloc: Global, slots: usize) -> Result<FourWakers, NewFault> {
+        let source = Source::new(alloc, slots)?;
+        let mut wakers = Vec::new(alloc);
+        add_wakers(&mut wakers, &source)?;
+        Ok(FourWakers { source, wakers })
     }
-    Ok(least)
-}
 
-/// Four threads wake the slots one after another, while this one takes as often as each of them wakes: the time of one taking in the quickest of several runs, in tenths of a nanosecond. `None` where memory is lacking.
-pub fn four_wakers<R: Clock + Threads + Sync>(
-    rt: &R,
-    alloc: Global,
-    slots: usize,
-) -> io::Result<Option<u128>> {
-    let Ok(mut source) = Source::new(alloc, slots) else {
-        return Ok(None);
-    };
-    let mut wakers = Vec::new(alloc);
-    if add_wakers(&mut wakers, &source).is_err() {
-        return Ok(None);
+    /// The time of one taking, in tenths of a nanosecond.
+    pub fn run<R: Clock + Threads + Sync>(&mut self, rt: &R) -> io::Result<u128> {
+        let (source, wakers) = (&mut self.source, self.wakers.as_slice());
+        let takings = (source.capacity() as u64).saturating_mul(ROUNDS);
+        let start = Instant::now(rt)?;
+        thread::join(rt, || four(rt, wakers), || take_often(source, takings));
+        Ok(tenths(start.elapsed(rt)?, takings))
     }
-    let takings = (slots as u64).saturating_mul(ROUNDS);
-    Ok(Some(quickest(rt, wakers.as_slice(), &mut source, takings)?))
 }

@@ -7,7 +7,7 @@ use futures::{Future, Stream};
 use futures_buffered_core::ready_shared::SharedWaker;
 use futures_buffered_unordered_bounded::slot_future::{SlotFuture, SlotWaker};
 use std::alloc::{AllocError, Global};
-use std::sync::{Arc, Mutex};
+use std::sync::{Arc, Mutex, MutexGuard};
 
 /// Where futures leave their wakers, each at a place of its own.
 #[derive(Drop)]
@@ -22,31 +22,25 @@ impl<W: Drop> Board<W> {
             source: Source::new(),
             places: Vec::with_capacity(alloc, places)?,
         };
-        board.clear(places);
+        for _ in 0..places {
+            let _ = board.places.push(Mutex::new(None));
+        }
         Ok(Arc::new(alloc, board)?)
     }
 
-    fn clear(&mut self, places: usize) {
-        for _ in 0..places {
-            let _ = self.places.push(Mutex::new(None));
-        }
+    fn place(&self, at: usize) -> Option<MutexGuard<'_, Option<W>>> {
+        self.places.get(at)?.try_lock()
     }
 
     fn take(&self, at: usize) -> Option<W> {
-        let Some(place) = self.places.get(at) else {
-            return None;
-        };
-        match place.try_lock() {
-            Some(mut kept) => kept.take(),
-            None => None,
-        }
+        self.place(at)?.take()
     }
 }
 
 /// What wakes such a future.
 pub trait Wakes: Drop {
     /// Takes from the board, before the first wake, what serves for all.
-    fn collect(board: &Board<Self>, wakers: &mut Vec<Self>);
+    fn collect(_board: &Board<Self>, _wakers: &mut Vec<Self>) {}
 
     /// Wakes the future whose place stands there.
     fn wake(board: &Board<Self>, wakers: &[Self], at: usize);
@@ -70,8 +64,6 @@ impl Wakes for SharedWaker {
 
 // Each poll leaves a waker anew, which the next wake takes.
 impl Wakes for Waker {
-    fn collect(_board: &Board<Waker>, _wakers: &mut Vec<Waker>) {}
-
     fn wake(board: &Board<Waker>, _wakers: &[Waker], at: usize) {
         if let Some(waker) = board.take(at) {
             waker.wake();
@@ -89,46 +81,33 @@ pub struct Kept<W: Drop> {
 }
 
 impl SlotFuture<SharedWaker> for Kept<SharedWaker> {
-    type Output = usize;
+    type Output = ();
 
-    fn poll(&mut self, waker: &SharedWaker) -> Poll<usize> {
-        if self.was_polled && self.ends {
-            return Poll::Ready(self.place);
-        }
+    fn poll(&mut self, waker: &SharedWaker) -> Poll<()> {
         if !self.was_polled {
             self.was_polled = true;
-            if let Some(place) = self.board.places.get(self.place) {
-                if let Some(mut kept) = place.try_lock() {
-                    *kept = waker.try_clone().ok();
-                }
+            if let Some(mut place) = self.board.place(self.place) {
+                *place = waker.try_clone().ok();
             }
+        } else if self.ends {
+            return Poll::Ready(());
         }
         Poll::Pending
     }
 }
 
 impl Future for Kept<Waker> {
-    type Output = usize;
+    type Output = ();
 
-    fn poll(&mut self, cx: &mut Context<'_>) -> Poll<usize> {
+    fn poll(&mut self, cx: &mut Context<'_>) -> Poll<()> {
         if self.was_polled && self.ends {
-            return Poll::Ready(self.place);
+            return Poll::Ready(());
         }
         self.was_polled = true;
-        let Some(place) = self.board.places.get(self.place) else {
-            return cx.yield_now();
-        };
-        match place.try_lock() {
-            Some(mut waker) => cx.register(&self.board.source, &mut *waker),
+        match self.board.place(self.place) {
+            Some(mut place) => cx.register(&self.board.source, &mut *place),
             None => cx.yield_now(),
         }
-    }
-}
-
-fn has_ended(answer: Poll<Option<usize>>) -> bool {
-    match answer {
-        Poll::Ready(ended) => ended.is_some(),
-        Poll::Pending => false,
     }
 }
 
@@ -138,7 +117,7 @@ impl Holder<Kept<SharedWaker>> for Set<Kept<SharedWaker>> {
     }
 
     fn gives(&mut self, cx: &mut Context<'_>) -> bool {
-        has_ended(self.poll_next(cx))
+        self.poll_next(cx) == Poll::Ready(Some(()))
     }
 }
 
@@ -148,7 +127,7 @@ impl Holder<Kept<SharedWaker>> for GrowingSet<Kept<SharedWaker>> {
     }
 
     fn gives(&mut self, cx: &mut Context<'_>) -> bool {
-        has_ended(self.poll_next(cx))
+        self.poll_next(cx) == Poll::Ready(Some(()))
     }
 }
 
@@ -158,7 +137,7 @@ impl Holder<Kept<Waker>> for KitSet<Kept<Waker>> {
     }
 
     fn gives(&mut self, cx: &mut Context<'_>) -> bool {
-        has_ended(self.poll_next(cx))
+        self.poll_next(cx) == Poll::Ready(Some(()))
     }
 }
 
@@ -190,14 +169,10 @@ impl<W: Wakes, H: Holder<Kept<W>>> Woken<H, W> {
             ends,
             number: 88_172_645_463_325_252,
         };
-        woken.fill();
-        Some(woken)
-    }
-
-    fn fill(&mut self) {
-        for place in (0..self.held).rev() {
-            self.add(place);
+        for place in (0..held).rev() {
+            woken.add(place);
         }
+        Some(woken)
     }
 
     fn add(&mut self, place: usize) {
