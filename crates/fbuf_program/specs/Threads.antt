@@ -1,10 +1,16 @@
--- The line that a run of threads writes.
-use Rattle.std.specs.Prelude.{◌≡◌, ℕ, ◌*◌, List, ◌++◌, Option, Some, None, codes, length}
-use Rattle.std.specs.List.{flat_map}
+-- The line that a run of threads writes, and the numbers that the futures of its set give.
+use Rattle.std.specs.Prelude.{◌≡◌, ℕ, ◌+◌, ◌*◌, ◌==◌, ◌≤◌, Bool, false, List, ◌++◌, Option, Some, None}
+use Rattle.std.specs.Prelude.{codes, count_by}
+use Rattle.std.specs.List.{flat_map, range_with_len}
+use Rattle.std.specs.Option.{option_to_list}
 use Rattle.std.specs.Fmt.{decimal}
 use Rattle.std.specs.Io.KnownBytes.{Appends}
+use Rattle.futures.specs.declared.task.Poll.{Poll}
+use Rattle.futures.specs.Poll.{IfReady}
+use Rattle.futures_buffered_core.specs.SlotMap.{Slots}
 use Rattle.fbuf_lines.specs.Command.{spaced_number}
 use Rattle.fbuf_lines.specs.Reply.{line_feed}
+use Rattle.fbuf_program.specs.declared.threads.AllWakes.{AllWakes}
 
 -- how many threads ran, and how many wakes they made together
 abbrev pub threads_text : ℕ → ℕ → List ℕ
@@ -16,13 +22,40 @@ threads_text n m =
 abbrev pub threads_line : ℕ → ℕ → List ℕ → List ℕ
 threads_line n m outputs = threads_text n m ++ flat_map spaced_number outputs ++ line_feed
 
--- how many outputs a poll has answered
-abbrev pub output_count : Option ℕ → ℕ
-output_count None = 0
-output_count (Some number) = 1
+-- the line of a run was appended: its outputs are 0 to n - 1, in order
+abbrev pub AppendsThreadsLine : ℕ → ℕ → Option (List ℕ) → Option (List ℕ) → Type 0
+AppendsThreadsLine n m old new = Appends old new (threads_line n m (range_with_len 0 n))
 
--- the line of a run was appended, with as many outputs as there are futures
-pub record AppendsThreadsLine (n m : ℕ) (old new : Option (List ℕ)) : Type 0 where
-  pub outputs : List ℕ
-  pub count : length outputs ≡ n
-  pub appended : Appends old new (threads_line n m outputs)
+-- how often a number is among these
+abbrev pub times_in : List ℕ → ℕ → ℕ
+times_in numbers k = count_by (λ number. number == k) numbers
+
+module _ {R : Type 0} where
+  -- a poll leaves a future its number, which is all that it answers
+  abbrev pub AnswersNumber : ℕ → AllWakes R → Poll ℕ → AllWakes R → Type 0
+  AnswersNumber slot old answer new = (new.number ≡ old.number)
+      × IfReady answer (λ number. number ≡ old.number)
+
+  -- what a slot holds has this number
+  abbrev pub has_number : ℕ → Option (AllWakes R) → Bool
+  has_number k None = false
+  has_number k (Some future) = future.number == k
+
+  -- how many futures of this number are held
+  abbrev pub times_held : Slots (AllWakes R) → ℕ → ℕ
+  times_held slots k = count_by (has_number k) slots.places
+
+  -- these are the numbers of the futures that are held, in any order
+  abbrev pub HoldsNumbers : Slots (AllWakes R) → List ℕ → Type 0
+  HoldsNumbers slots numbers = (k : ℕ) → times_in numbers k ≡ times_held slots k
+
+  -- a future that was held gave its number, and is gone; or none gave one
+  abbrev pub GaveNumber : Slots (AllWakes R) → Option ℕ → Slots (AllWakes R) → Type 0
+  GaveNumber old given new = (k : ℕ)
+      → times_in (option_to_list given) k + times_held new k ≡ times_held old k
+
+  -- each future that is held gives its number once, and then the end comes
+  pub record GiveNumbers (slots : Slots (AllWakes R)) (xs : List ℕ)
+      (last : Option ℕ) : Type 0 where
+    pub once : (k : ℕ) → times_in (xs ++ option_to_list last) k ≤ times_held slots k
+    pub each : last ≡ None → HoldsNumbers slots xs

@@ -5,13 +5,17 @@ ghost use Rattle.std.specs.Arc.{arc_value};
 ghost use Rattle.std.specs.IoError.{error_kind};
 ghost use Rattle.std.specs.declared.io.ErrorKind.TheVariants.{OutOfMemory};
 ghost use Rattle.std.specs.Io.KnownBytes.{Appends};
-ghost use Rattle.futures_buffered_core.specs.SlotMap.{no_slots, held_count};
+ghost use Rattle.futures_buffered_core.specs.SlotMap.{no_slots};
 ghost use Rattle.futures_buffered_unordered_bounded.specs.Held.{AllHeld};
-ghost use Rattle.fbuf_program.specs.Threads.{AppendsThreadsLine, threads_line, output_count};
+ghost use Rattle.std.specs.List.{range_with_len};
+ghost use Rattle.std.specs.List.Sorted.{IsNonDecreasing};
+ghost use Rattle.std.specs.Option.{option_to_list};
+ghost use Rattle.fbuf_program.specs.Threads.{AppendsThreadsLine, threads_line, times_in};
+ghost use Rattle.fbuf_program.specs.Threads.{HoldsNumbers, GaveNumber};
 
-use futures::StreamExt;
 use futures::executor::block_on;
-use futures::task::{Doorbell, Poll, Solo};
+use futures::task::{Context, Doorbell, Poll, Solo};
+use futures::{Stream, StreamExt};
 use futures_buffered_core::ready_core::NewFault;
 use futures_buffered_core::ready_shared::{SharedReady, SharedWaker};
 use futures_buffered_core::ready_source::SlotWaker;
@@ -111,12 +115,11 @@ struct AllWakes<R> {
 }
 
 impl<R: Wait + Drop> SlotFuture<SharedWaker> for AllWakes<R> {
-    ghost use Rattle.std.specs.Prelude.{◌≡◌};
-    ghost use Rattle.futures.specs.Poll.{IfReady};
+    ghost use Rattle.fbuf_program.specs.Threads.{AnswersNumber};
 
     type Output = usize;
 
-    ghost polled = { λ _ old answer new. IfReady answer (λ number. number ≡ old.number) };
+    ghost polled = { AnswersNumber };
 
     fn poll(&mut self, waker: &SharedWaker) -> Poll<usize> {
         if self.seat.wakes.load(SeqCst) >= self.goal {
@@ -132,6 +135,24 @@ impl<R: Wait + Drop> SlotFuture<SharedWaker> for AllWakes<R> {
 
 type Set<R> = FuturesUnorderedBounded<AllWakes<R>, SharedReady>;
 
+// What the futures of a set answer, as a stream of numbers.
+#[derive(Drop)]
+struct Numbers<R: Wait + Drop> {
+    set: Set<R>,
+}
+
+impl<R: Wait + Drop> Stream for Numbers<R> {
+    ghost use Rattle.fbuf_program.specs.Threads.{GiveNumbers};
+
+    type Item = usize;
+
+    ghost yields = { λ numbers. GiveNumbers numbers.set.slots };
+
+    fn poll_next(&mut self, cx: &mut Context<'_>) -> Poll<Option<usize>> {
+        self.set.poll_next(cx)
+    }
+}
+
 // One thread's wakes.
 fn wake_slot<G: Gate>(gate: &G, thread: usize, m: usize, seat: &Seat, waker: &SharedWaker)
     requires { (wake : ℕ) → wake < m → G.opens gate.now thread wake }
@@ -144,7 +165,7 @@ fn wake_slot<G: Gate>(gate: &G, thread: usize, m: usize, seat: &Seat, waker: &Sh
     }
 }
 
-// A seat for each future, in order. The set then holds them all.
+// A seat for each future, in order. The set then holds a future of each number below n.
 fn seated<R: Wait + Clone + Drop>(
     rt: &R,
     alloc: Global,
@@ -154,7 +175,7 @@ fn seated<R: Wait + Clone + Drop>(
 ) -> Result<Vec<Arc<Seat>>, ThreadsFault>
     requires { set.old.slots ≡ no_slots n }
     ensures seats { IfOk result (λ seats. vec_len seats ≡ n) }
-    ensures held { OnOk result (held_count set.new.slots ≡ n) }
+    ensures numbers { OnOk result (HoldsNumbers set.new.slots (range_with_len 0 n)) }
     ensures goals { OnOk result (AllHeld (λ future. future.goal ≡ m) set.new.slots) }
     ensures fault { IfErr result (λ fault. fault ≡ ThreadsFault.Memory) }
 {
@@ -241,8 +262,7 @@ fn poll_once<R: Wait + RandomSource + AllocGlobal + Drop>(
     rt: &R,
     set: &mut Set<R>,
 ) -> Result<Option<usize>, ThreadsFault>
-    ensures count { IfOk result (λ first.
-        held_count set.new.slots + output_count first ≡ held_count set.old.slots) }
+    ensures numbers { IfOk result (λ first. GaveNumber set.old.slots first set.new.slots) }
     ensures fault { IfErr result (λ fault. fault ≢ ThreadsFault.Write) }
 {
     let solo = match Solo::new(rt, Doorbell::spinning()) {
@@ -264,10 +284,10 @@ fn outputs_of<R: Wait + RandomSource + AllocGlobal + Drop>(
     alloc: Global,
     set: Set<R>,
 ) -> Result<Vec<usize>, ThreadsFault>
-    ensures count { IfOk result (λ outputs. vec_len outputs ≡ held_count set.slots) }
+    ensures numbers { IfOk result (λ outputs. HoldsNumbers set.slots outputs.items) }
     ensures fault { IfErr result (λ fault. fault ≢ ThreadsFault.Write) }
 {
-    match block_on(rt, set.collect(alloc)) {
+    match block_on(rt, Numbers { set }.collect(alloc)) {
         Ok(Ok(outputs)) => Ok(outputs),
         Ok(Err(_)) => Err(ThreadsFault::Memory),
         Err(error) => Err(fault_of(error)),
@@ -290,7 +310,7 @@ where
     requires room { vec_len started.old + length seats.now ≤ vec_capacity started.old }
     requires opens { (thread wake : ℕ) → thread < length seats.now → wake < m →
         G.opens (arc_value gate.now) thread wake }
-    ensures count { IfOk result (λ outputs. vec_len outputs ≡ held_count set.slots) }
+    ensures numbers { IfOk result (λ outputs. HoldsNumbers set.slots outputs.items) }
     ensures fault { IfErr result (λ fault. fault ≢ ThreadsFault.Write) }
 {
     start(rt, m, gate, seats, started)?;
@@ -299,7 +319,9 @@ where
 
 // All outputs in rising order: those of the threads, and that of the first poll if there was one.
 fn in_rising_order(outputs: Vec<usize>, first: Option<usize>) -> Result<Vec<usize>, ThreadsFault>
-    ensures count { IfOk result (λ all. vec_len all ≡ vec_len outputs + output_count first) }
+    ensures all { IfOk result (λ all. (k : ℕ) → times_in all.items k
+        ≡ times_in outputs.items k + times_in (option_to_list first) k) }
+    ensures rising { IfOk result (λ all. IsNonDecreasing all.items) }
     ensures fault { IfErr result (λ fault. fault ≡ ThreadsFault.Memory) }
 {
     let mut all = outputs;
@@ -330,7 +352,7 @@ where
     G: Gate + Drop + Send + Sync + 'static,
     requires threads { n ≤ MAX_THREADS }
     requires opens { (thread wake : ℕ) → thread < n → wake < m → G.opens gate thread wake }
-    ensures count { IfOk result (λ outputs. vec_len outputs ≡ n) }
+    ensures outputs { IfOk result (λ outputs. outputs.items ≡ range_with_len 0 n) }
     ensures fault { IfErr result (λ fault. fault ≢ ThreadsFault.Write) }
 {
     let mut set = new_set(alloc, n)?;

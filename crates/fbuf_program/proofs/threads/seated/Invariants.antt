@@ -1,13 +1,14 @@
 use Rattle.std.proofs.Common.{◌≡◌, ◌+◌, ◌≤◌, length, vec_len, vec_capacity}
-use Rattle.futures_buffered_core.specs.SlotMap.{held_count}
+use Rattle.std.specs.List.{range_with_len}
 use Rattle.futures_buffered_unordered_bounded.specs.Held.{AllHeld}
+use Rattle.fbuf_program.specs.Threads.{HoldsNumbers}
 use Rattle.fbuf_program.proofs.threads.seated.Given as goal
 
 abbrev pub invariant-loop-number : goal.invariant-loop-number
 invariant-loop-number g l = record {
   len : vec_len l.seats ≡ l.number;
   room : l.n ≤ vec_capacity l.seats;
-  held : held_count l.set.slots ≡ l.number;
   free : length l.set.slots.free + l.number ≡ l.n;
+  numbers : HoldsNumbers l.set.slots (range_with_len 0 l.number);
   goals : AllHeld (λ future. future.goal ≡ l.m) l.set.slots;
 }
