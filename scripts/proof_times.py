@@ -13,8 +13,8 @@ import os
 import re
 import sys
 
-# A longer pause is the time between two checks.
-PAUSE = 120.0
+# A longer pause is the time between two checks. One part of one function of an example has taken 290 seconds.
+PAUSE = 600.0
 MODULE = re.compile(r"Rattle-[a-z_0-9]+[.-](?:proofs|specs|below)\.(.*?)(?:\.decls)?\.oantt")
 
 
