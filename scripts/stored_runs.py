@@ -3,6 +3,7 @@ import dataclasses
 import itertools
 import os
 import pathlib
+import resource
 import shlex
 import subprocess
 import sys
@@ -25,7 +26,8 @@ class Ended:
 
 @dataclasses.dataclass(frozen=True)
 class StoredRun:
-    """What a program is run on, and how it has to end. Output and errors go where `to` says, in this order, and else are kept."""
+    """What a program is run on, and how it has to end. Output and errors go where `to` says, in this order, and else are kept. A limit is
+    what is limited, as `resource` numbers it, and how much of it there is."""
 
     name: str
     program: str
@@ -34,6 +36,7 @@ class StoredRun:
     folder: pathlib.Path
     to: tuple[str, ...]
     wanted: Ended
+    limits: tuple[tuple[int, int], ...] = ()
 
 
 def bytes_of(path):
@@ -45,6 +48,12 @@ def status_in(path):
     return int(bytes_of(path) or b"0")
 
 
+def limits_in(path):
+    """What the file limits, a line each, as `as 8388608` for RLIMIT_AS."""
+    lines = (line.split() for line in bytes_of(path).decode().splitlines())
+    return tuple((getattr(resource, f"RLIMIT_{what.upper()}"), int(most)) for what, most in lines)
+
+
 def runs_of_fbuf():
     """Each case of crates/fbuf/scripts, once for each line of its `.args`."""
     for name in sorted({path.name.partition(".")[0] for path in SCRIPTS.iterdir()}):
@@ -54,10 +63,11 @@ def runs_of_fbuf():
             given = pathlib.Path(part("from").read_text().strip())
         wanted = Ended(status_in(part("status")), bytes_of(part("out")), bytes_of(part("err")))
         to = tuple(bytes_of(part("to")).decode().split())
+        limits = limits_in(part("limit"))
         calls = bytes_of(part("args")).decode(errors="surrogateescape").splitlines() or [""]
         for call in calls:
             shown = call.encode(errors="surrogateescape").decode(errors="backslashreplace")
-            yield StoredRun(f"{name} {shown}".strip(), "fbuf", tuple(shlex.split(call)), given, SCRIPTS, to, wanted)
+            yield StoredRun(f"{name} {shown}".strip(), "fbuf", tuple(shlex.split(call)), given, SCRIPTS, to, wanted, limits)
 
 
 def run_of_crate(name):
@@ -99,6 +109,11 @@ def opened(place):
     return writer
 
 
+def set_limits(limits):
+    for what, most in limits:
+        resource.setrlimit(what, (most, most))
+
+
 def end_of(run, program, environment=None):
     """Runs the program, in an environment of its own, and says how it ended."""
     given = os.open(run.given, os.O_RDONLY)
@@ -106,6 +121,8 @@ def end_of(run, program, environment=None):
     output, errors = [*places, subprocess.PIPE, subprocess.PIPE][:2]
     words = [os.path.abspath(program), *run.words]
     how = {"stdin": given, "stdout": output, "stderr": errors, "cwd": run.folder, "env": environment or {}}
+    if run.limits:
+        how["preexec_fn"] = lambda: set_limits(run.limits)
     try:
         ended = subprocess.run(words, timeout=SECONDS, **how)
         return Ended(ended.returncode, ended.stdout or b"", ended.stderr or b"")
