@@ -56,13 +56,21 @@ fn are_woken(one: &MockTask, two: &MockTask) -> (bool, bool) {
     (one.is_woken(), two.is_woken())
 }
 
-// A waker of a task wakes it when it is dropped. So one that was kept in no source, or by a plain yield, would show at once, and one that is kept in place of the waker of another task lets that go.
-fn keeps_the_last<S: ReadySource>(rt: &impl Abort, one: &MockTask, two: &MockTask, mut source: S) {
+// A waker of a task wakes it when it is dropped. So one that was kept in no source, or by a plain yield, would show at once, and one that is kept in place of the waker of another task lets that go. No taking lets it go.
+fn keeps_the_last<S: ReadySource>(
+    rt: &impl Abort,
+    one: &MockTask,
+    two: &MockTask,
+    mut source: S,
+    answers: &[Taken],
+) {
     two.enter(|_cx| ());
     register(one, &mut source);
     assert_same(rt, are_woken(one, two), (false, false));
     register(two, &mut source);
     assert_same(rt, are_woken(one, two), (true, false));
+    takes(rt, &mut source, answers);
+    assert_same(rt, two.is_woken(), false);
     drop(source);
     assert_same(rt, two.is_woken(), true);
 }
@@ -71,8 +79,10 @@ fn keeps_the_last<S: ReadySource>(rt: &impl Abort, one: &MockTask, two: &MockTas
 fn a_core_source_keeps_the_tasks_waker(rt: HostRuntime) -> Result<(), Fail> {
     let one = MockTask::new(&rt)?;
     let two = MockTask::new(&rt)?;
-    let source = CoreSource::make(&(), rt.alloc(), 1)?;
-    keeps_the_last(&rt, &one, &two, source);
+    let mut source = CoreSource::make(&(), rt.alloc(), 1)?;
+    assert_same(&rt, mark(&mut source, 0), Some(Woke::Fresh));
+    let answers = [Taken::Slot(0), Taken::Empty];
+    keeps_the_last(&rt, &one, &two, source, &answers);
     Ok(())
 }
 
@@ -80,8 +90,9 @@ fn a_core_source_keeps_the_tasks_waker(rt: HostRuntime) -> Result<(), Fail> {
 fn a_script_source_keeps_the_tasks_waker(rt: HostRuntime) -> Result<(), Fail> {
     let one = MockTask::new(&rt)?;
     let two = MockTask::new(&rt)?;
-    let answers = vec![in rt.alloc(); Taken::Empty]?;
+    let answers = vec![in rt.alloc(); Taken::Slot(0), Taken::Pause]?;
     let source = ScriptSource::new(rt.alloc(), 1, answers)?;
-    keeps_the_last(&rt, &one, &two, source);
+    let answers = [Taken::Slot(0), Taken::Pause, Taken::Empty];
+    keeps_the_last(&rt, &one, &two, source, &answers);
     Ok(())
 }
