@@ -70,3 +70,11 @@ fn a_value_that_does_not_come(rt: HostRuntime) -> Result<(), Fail> {
     assert_same(&rt, drops.load(SeqCst), 2);
     Ok(())
 }
+
+#[test]
+fn the_word_that_the_sender_left(rt: HostRuntime) -> Result<(), Fail> {
+    let text = format!(in rt.alloc(); "{Canceled}")?;
+    let wanted = "the sender of a one-shot left before it sent a value";
+    assert_same(&rt, text.as_str(), wanted);
+    Ok(())
+}
