@@ -3,10 +3,12 @@
 // - `receivers`: receivers that count their polls, and their senders.
 // - `turns`: outputs of a slot that holds another future by now.
 // - `drops`: what a source that leaves lets go.
+// - `busy`: a source that is asked while another thread has the futures polled.
 // - `adaptors`: the five adaptors over streams of futures that a thread completes.
 // - `nested`: joins as futures of a set.
 // - `threads`: futures that are completed from threads.
 mod adaptors;
+mod busy;
 mod drops;
 mod nested;
 mod receivers;

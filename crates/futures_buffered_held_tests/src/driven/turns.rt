@@ -3,10 +3,11 @@ use crate::driven::receivers::{Counted, Receivers};
 use crate::same::assert_same;
 use futures::task::Poll;
 use futures::test::MockTask;
-use futures_buffered_core::ready_core::Taken;
+use futures_buffered_core::ready_core::{NewFault, Taken};
 use futures_buffered_core::ready_source::{NewSource, ReadySource};
 use futures_buffered_held::{Driven, Foreign};
 use futures_buffered_sets::slot_future::SlotFuture;
+use std::alloc::{AllocError, Global};
 use std::test::Fail;
 
 type Source = Driven<Counted>;
@@ -54,6 +55,46 @@ fn an_output_of_the_one_before(rt: HostRuntime) -> Result<(), Fail> {
     assert_same(&rt, source.take(), Taken::Slot(0));
     assert_same(&rt, poll_at(&source, &mut new, 0), Poll::Ready(2));
     assert_same(&rt, source.take(), Taken::Empty);
+    Ok(())
+}
+
+// Hands one more future over, in place of the one before. Its sender is gone.
+fn hand_over_one(receivers: &Receivers, source: &mut Source) -> Result<Poll<u64>, AllocError> {
+    let (_sender, mut held) = receivers.foreign()?;
+    Ok(poll_slot(source, &mut held, 0))
+}
+
+fn hand_over_each(
+    receivers: &Receivers,
+    source: &mut Source,
+    count: usize,
+) -> Result<(), AllocError> {
+    for _ in 0..count {
+        let _pending = hand_over_one(receivers, source)?;
+    }
+    Ok(())
+}
+
+// The future that was handed over 256 turns before is done, and gives nothing.
+#[test]
+fn an_output_of_256_turns_before(rt: HostRuntime) -> Result<(), Fail> {
+    let task = MockTask::new(&rt)?;
+    let receivers = Receivers::new(rt.alloc())?;
+    let mut source: Source = Driven::make(&(), rt.alloc(), 1)?;
+    let (old_sender, mut old) = receivers.foreign()?;
+    let (new_sender, mut new) = receivers.foreign()?;
+    assert_same(&rt, poll_slot(&mut source, &mut old, 0), Poll::Pending);
+    assert_same(&rt, source.take(), Taken::Pause);
+    hand_over_each(&receivers, &mut source, 255)?;
+    assert_same(&rt, poll_slot(&mut source, &mut new, 0), Poll::Pending);
+    assert_same(&rt, source.take(), Taken::Pause);
+    assert_same(&rt, old_sender.send(1), Ok(()));
+    drive(&task, &mut source);
+    assert_same(&rt, source.take(), Taken::Empty);
+    assert_same(&rt, new_sender.send(2), Ok(()));
+    drive(&task, &mut source);
+    assert_same(&rt, source.take(), Taken::Slot(0));
+    assert_same(&rt, poll_at(&source, &mut new, 0), Poll::Ready(2));
     Ok(())
 }
 
@@ -177,6 +218,40 @@ fn a_source_that_left(rt: HostRuntime) -> Result<(), Fail> {
     assert_same(&rt, other.take(), Taken::Empty);
     assert_same(&rt, first_sender.send(1), Ok(()));
     drive(&task, &mut other);
+    assert_same(&rt, source.take(), Taken::Slot(0));
+    assert_same(&rt, poll_at(&source, &mut first, 0), Poll::Ready(1));
+    Ok(())
+}
+
+// Makes so many sources beside this one, each of which goes at once.
+fn make_beside_often(source: &mut Source, alloc: Global, count: usize) -> Result<(), NewFault> {
+    for _ in 0..count {
+        let _gone = source.make_beside(alloc, 1)?;
+    }
+    Ok(())
+}
+
+// No two have one number: what a future of the later one gives does not come to the first.
+#[test]
+fn a_source_that_comes_after_255_others(rt: HostRuntime) -> Result<(), Fail> {
+    let task = MockTask::new(&rt)?;
+    let receivers = Receivers::new(rt.alloc())?;
+    let mut source: Source = Driven::make(&(), rt.alloc(), 1)?;
+    make_beside_often(&mut source, rt.alloc(), 255)?;
+    let mut beside = source.make_beside(rt.alloc(), 1)?;
+    let (first_sender, mut first) = receivers.foreign()?;
+    let (second_sender, mut second) = receivers.foreign()?;
+    assert_same(&rt, poll_slot(&mut source, &mut first, 0), Poll::Pending);
+    assert_same(&rt, poll_slot(&mut beside, &mut second, 0), Poll::Pending);
+    assert_same(&rt, source.take(), Taken::Pause);
+    assert_same(&rt, beside.take(), Taken::Pause);
+    assert_same(&rt, second_sender.send(2), Ok(()));
+    drive(&task, &mut source);
+    assert_same(&rt, source.take(), Taken::Empty);
+    assert_same(&rt, beside.take(), Taken::Slot(0));
+    assert_same(&rt, poll_at(&beside, &mut second, 0), Poll::Ready(2));
+    assert_same(&rt, first_sender.send(1), Ok(()));
+    drive(&task, &mut beside);
     assert_same(&rt, source.take(), Taken::Slot(0));
     assert_same(&rt, poll_at(&source, &mut first, 0), Poll::Ready(1));
     Ok(())

@@ -1,0 +1,127 @@
+//! A source that is asked while another thread has the futures polled.
+ghost use Rattle.std.specs.Prelude.{◌<◌};
+
+use crate::same::assert_same;
+use futures::Future;
+use futures::task::{Context, Poll};
+use futures::test::MockTask;
+use futures_buffered_core::ready_core::{NewFault, Taken};
+use futures_buffered_core::ready_source::{NewSource, ReadySource};
+use futures_buffered_held::{Driven, Foreign};
+use futures_buffered_sets::slot_future::SlotFuture;
+use std::alloc::{AllocError, AllocGlobal, Global};
+use std::sync::Arc;
+use std::sync::atomic::AtomicU64;
+use std::sync::atomic::Ordering::SeqCst;
+use std::test::Fail;
+use std::thread::{self, JoinHandle, Threads, yield_now};
+
+const TURNS: u64 = 10_000_000;
+
+// Whether the poll has begun, and whether it may end; whether meanwhile a taking answered `Pause`, a registration woke its task, and memory was said to lack for a source more.
+#[derive(Drop)]
+struct Door {
+    has_begun: AtomicU64,
+    may_end: AtomicU64,
+    has_paused: AtomicU64,
+    has_woken: AtomicU64,
+    has_refused: AtomicU64,
+}
+
+fn new_door(alloc: Global) -> Result<Arc<Door>, AllocError> {
+    let door = Door {
+        has_begun: AtomicU64::new(0),
+        may_end: AtomicU64::new(0),
+        has_paused: AtomicU64::new(0),
+        has_woken: AtomicU64::new(0),
+        has_refused: AtomicU64::new(0),
+    };
+    Ok(Arc::new(alloc, door)?)
+}
+
+// Whether a word becomes other than 0 within many turns.
+fn is_set(word: &AtomicU64) -> bool {
+    for _ in 0..TURNS {
+        if word.load(SeqCst) != 0 {
+            return true;
+        }
+        yield_now();
+    }
+    false
+}
+
+// Its poll ends once it may.
+#[derive(Drop)]
+struct Stays {
+    door: Arc<Door>,
+}
+
+impl Future for Stays {
+    type Output = bool;
+
+    fn poll(&mut self, _cx: &mut Context<'_>) -> Poll<bool> {
+        self.door.has_begun.store(1, SeqCst);
+        Poll::Ready(is_set(&self.door.may_end))
+    }
+}
+
+type Source = Driven<Stays>;
+
+// Hands the future over by slot 0.
+fn begin(source: &mut Source, held: &mut Foreign<Stays>) -> Taken
+    requires { 0 < source.old.capacity }
+{
+    let _woke = source.mark(0);
+    let _taken = source.take();
+    let _pending: Poll<bool> = held.poll(source.waker(0));
+    source.take()
+}
+
+fn note(word: &AtomicU64, is_so: bool) {
+    word.store(u64::from(is_so), SeqCst);
+}
+
+// Asks the source beside, and then lets the poll end.
+fn ask(door: &Door, alloc: Global, task: &MockTask, source: &mut Source) {
+    if is_set(&door.has_begun) {
+        task.enter(|cx| source.register(cx));
+        note(&door.has_woken, task.is_woken());
+        note(&door.has_paused, source.take() == Taken::Pause);
+        let refused = source.make_beside(alloc, 1).err();
+        note(&door.has_refused, refused == Some(NewFault::Memory));
+    }
+    note(&door.may_end, true);
+}
+
+fn start<R: Threads + AllocGlobal>(
+    rt: &R,
+    door: &Arc<Door>,
+    task: MockTask,
+    mut source: Source,
+) -> Result<JoinHandle<()>, Fail> {
+    let door = Arc::try_clone(door)?;
+    let alloc = rt.alloc();
+    Ok(thread::spawn(rt, move || ask(&door, alloc, &task, &mut source))?)
+}
+
+// Nothing is said to be empty then: the task polls again.
+#[test]
+fn a_source_beside_is_asked_meanwhile(rt: HostRuntime) -> Result<(), Fail> {
+    let task = MockTask::new(&rt)?;
+    let other = MockTask::new(&rt)?;
+    let door = new_door(rt.alloc())?;
+    let mut source: Source = Driven::make(&(), rt.alloc(), 1)?;
+    let beside = source.make_beside(rt.alloc(), 1)?;
+    let mut held = Foreign::new(Stays {
+        door: Arc::try_clone(&door)?,
+    });
+    assert_same(&rt, begin(&mut source, &mut held), Taken::Pause);
+    let thread = start(&rt, &door, other, beside)?;
+    task.enter(|cx| source.register(cx));
+    thread.join(&rt);
+    assert_same(&rt, door.has_paused.load(SeqCst), 1);
+    assert_same(&rt, door.has_woken.load(SeqCst), 1);
+    assert_same(&rt, door.has_refused.load(SeqCst), 1);
+    assert_same(&rt, source.take(), Taken::Slot(0));
+    Ok(())
+}
