@@ -25,3 +25,13 @@ fn a_source_prints_its_slots_and_a_waker_its_own(rt: HostRuntime) -> Result<(), 
     }
     Ok(())
 }
+
+#[test]
+fn a_source_of_many_slots_prints_them(rt: HostRuntime) -> Result<(), Fail> {
+    let source: SharedReady = SharedReady::new(rt.alloc(), 300)?;
+    assert_text(&rt, &source, "SharedReady { capacity: 300, .. }")?;
+    if source.capacity() > 299 {
+        assert_text(&rt, source.waker(299), "SharedWaker { slot: 299, .. }")?;
+    }
+    Ok(())
+}
