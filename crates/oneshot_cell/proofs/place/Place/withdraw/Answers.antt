@@ -1,6 +1,0 @@
-use Rattle.std.proofs.Common.{rules}
-use Rattle.oneshot_cell.proofs.PlaceLemmas.{withdraws}
-use Rattle.oneshot_cell.proofs.place.Place.withdraw.Goals as goal
-
-pub compare_exchange-requires : goal.compare_exchange-requires
-compare_exchange-requires g c = (search rules, search rules, withdraws _ _ _ c.requires.1)
