@@ -3,11 +3,12 @@ use crate::ready_at_once::ReadyAtOnce;
 use crate::same::assert_same;
 use futures::executor::block_on;
 use futures::{StreamExt, stream};
-use futures_buffered::BufferedStreamExt;
+use futures_buffered::{BufferedStreamExt, NewFault};
 use std::sync::Arc;
 use std::sync::atomic::Ordering::SeqCst;
 use std::test::Fail;
 use test_support::counter::new_counter;
+use test_support::dropped::Dropped;
 
 #[test]
 fn a_map_under_for_each_concurrent(rt: HostRuntime) -> Result<(), Fail> {
@@ -22,5 +23,21 @@ fn a_map_under_for_each_concurrent(rt: HostRuntime) -> Result<(), Fail> {
     let each = BufferedStreamExt::for_each_concurrent(doubles, rt.alloc(), 2, call)?;
     block_on(&rt, each)?;
     assert_same(&rt, sum.load(SeqCst), 12);
+    Ok(())
+}
+
+// What the closure holds goes with it.
+#[test]
+fn a_refused_closure_is_dropped(rt: HostRuntime) -> Result<(), Fail> {
+    let drops = new_counter(rt.alloc())?;
+    let mark = Dropped::new(Arc::try_clone(&drops)?);
+    let call = move |_number: u64| {
+        let _ = &mark;
+        ReadyAtOnce
+    };
+    let numbers = stream::iter(vec![in rt.alloc(); 1, 2, 3]?);
+    let refused = BufferedStreamExt::for_each_concurrent(numbers, rt.alloc(), usize::MAX, call);
+    assert_same(&rt, refused.err(), Some(NewFault::TooLarge));
+    assert_same(&rt, drops.load(SeqCst), 1);
     Ok(())
 }
