@@ -152,7 +152,7 @@ impl Session {
     }
 
     /// Has the object keep a source beside its own, of as many slots as the line says.
-    pub fn make_beside<O: Subject>(&mut self, object: &mut O, rest: &str) {
+    pub fn make_sibling<O: Subject>(&mut self, object: &mut O, rest: &str) {
         let reply = match number(rest) {
             Some(slots) => self.beside(object, slots),
             None => Reply::Nothing,

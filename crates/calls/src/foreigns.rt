@@ -196,8 +196,8 @@ struct Sources {
 }
 
 impl Sources {
-    fn make_beside(&mut self, alloc: Global, slots: usize) -> Result<(), NewFault> {
-        let source = self.source.make_beside(alloc, slots)?;
+    fn make_sibling(&mut self, alloc: Global, slots: usize) -> Result<(), NewFault> {
+        let source = self.source.make_sibling(alloc, slots)?;
         match self.beside.push(source) {
             Ok(()) => Ok(()),
             Err(_) => Err(NewFault::Memory),
@@ -212,7 +212,7 @@ impl Subject for Sources {
 
     fn call(&mut self, call: Call<'_>, world: &SharedWorld, text: &mut String) -> Reply {
         match call {
-            Call::Beside(slots) => match self.make_beside(world.alloc, slots) {
+            Call::Beside(slots) => match self.make_sibling(world.alloc, slots) {
                 Ok(()) => Reply::Ok,
                 Err(NewFault::TooLarge) => Reply::Full,
                 Err(NewFault::Memory) => Reply::Refused,

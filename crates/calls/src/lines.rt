@@ -28,7 +28,7 @@ impl Session {
             Command::Drain => self.drain(object, rest),
             Command::Push(end) => self.push(object, end, rest),
             Command::Extend => self.extend(object, rest),
-            Command::Beside => self.make_beside(object, rest),
+            Command::Beside => self.make_sibling(object, rest),
             Command::Ask(query) => self.query(object, query),
             Command::Drop => self.append_drop(),
             other => {

@@ -5,8 +5,8 @@ use Rattle.futures_buffered_table.specs.declared.answer.Woke.{Woke}
 use Rattle.futures_buffered_core.specs.ReadyCore.{Standing, Marks, Takes}
 use Rattle.futures_buffered_core.specs.ReadySource.{SourceSteps}
 use Rattle.futures_buffered_core.specs.SlotMap.{no_slots, slot_count, held_count}
-use Rattle.futures_buffered_unordered_bounded.specs.FuturesUnorderedBounded.{Bounded, Pushes}
-use Rattle.futures_buffered_unordered_bounded.specs.FuturesUnorderedBounded.{PollGives}
+use Rattle.futures_buffered_unordered.specs.FuturesUnorderedBounded.{Bounded, Pushes}
+use Rattle.futures_buffered_unordered.specs.FuturesUnorderedBounded.{PollGives}
 use Rattle.fbuf_lines.specs.Timed.{PollsTimed}
 use Rattle.fbuf_lines.specs.Reply.{woke_reply, poll_reply}
 use Rattle.fbuf_lines.specs.declared.timed.Timed.{Timed}

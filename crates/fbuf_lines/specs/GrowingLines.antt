@@ -2,7 +2,7 @@
 use Rattle.std.specs.Prelude.{◌≡◌, ◌⊎◌, ℕ, Option}
 use Rattle.futures.specs.declared.task.Poll.{Poll as PollAnswer}
 use Rattle.futures_buffered_core.specs.ReadyCore.{Standing, Marks}
-use Rattle.futures_buffered_unordered_bounded.specs.Groups.{GroupsGive}
+use Rattle.futures_buffered_unordered.specs.Groups.{GroupsGive}
 use Rattle.futures_buffered_unordered.specs.SlotGroups.{Growing, GrowingPushes, IsAtBound}
 use Rattle.futures_buffered_unordered.specs.SlotGroups.{LastIsFull, all_held}
 use Rattle.futures_buffered_unordered.specs.declared.slot_groups.TheConstants.{FIRST_GROUP}

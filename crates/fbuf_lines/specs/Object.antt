@@ -2,7 +2,7 @@
 use Rattle.std.specs.Prelude.{◌≡◌, ℕ, ◌<◌, ◌≤◌, List, Option, Some, MatchOption, ◌⊎◌}
 use Rattle.futures_buffered_table.specs.declared.answer.TheConstants.{MAX_CAPACITY}
 use Rattle.futures_buffered_table.specs.StepMachine.{Machine, IsNew}
-use Rattle.futures_buffered_unordered_bounded.specs.declared.futures_unordered_bounded.TheConstants.{
+use Rattle.futures_buffered_unordered.specs.declared.futures_unordered_bounded.TheConstants.{
   POLL_LIMIT,
 }
 use Rattle.futures_buffered_ordered.specs.OrderedEntries.{Stays}

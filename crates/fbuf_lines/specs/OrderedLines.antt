@@ -4,7 +4,7 @@ use Rattle.futures.specs.declared.task.Poll.{Poll as PollAnswer}
 use Rattle.futures_buffered_table.specs.declared.answer.Woke.{Woke}
 use Rattle.futures_buffered_core.specs.ReadyCore.{Standing, Marks}
 use Rattle.futures_buffered_core.specs.SlotMap.{slot_count}
-use Rattle.futures_buffered_unordered_bounded.specs.FuturesUnorderedBounded.{held_in}
+use Rattle.futures_buffered_unordered.specs.FuturesUnorderedBounded.{held_in}
 use Rattle.futures_buffered_ordered.specs.OrderedEntries.{AddsBack, AddsFront, OrderedGives}
 use Rattle.futures_buffered_ordered.specs.FuturesOrderedBounded.{OrderedBounded, QueueIsFull}
 use Rattle.futures_buffered_ordered.specs.FuturesOrderedBounded.{PushesNumber, SetGives}

@@ -2,7 +2,7 @@
 ghost use Rattle.fbuf_lines.specs.Timed.{PollsTimed};
 
 use futures::task::Poll;
-use futures_buffered_core::ready_source::NamesSlot;
+use futures_buffered_core::ready_source::SlotHandle;
 use futures_buffered_sets::poll_one::PollOne;
 use futures_buffered_sets::slot_future::SlotFuture;
 
@@ -18,7 +18,7 @@ pub struct Timed {
 #[derive(Clone, Copy, Debug)]
 pub struct PollTimed;
 
-impl<W: NamesSlot> PollOne<Timed, W> for PollTimed {
+impl<W: SlotHandle> PollOne<Timed, W> for PollTimed {
     ghost use Rattle.std.specs.Prelude.{⊤};
 
     type Output = u64;
@@ -37,7 +37,7 @@ impl<W: NamesSlot> PollOne<Timed, W> for PollTimed {
 }
 
 /// The same poll.
-impl<W: NamesSlot> SlotFuture<W> for Timed {
+impl<W: SlotHandle> SlotFuture<W> for Timed {
     type Output = u64;
 
     ghost polled = { λ _. PollsTimed };

@@ -23,9 +23,9 @@ use Rattle.futures_buffered_core.specs.SlotMap.{Slots, Inserts, value_in, slot_c
 use Rattle.futures_buffered_core.specs.SlotMap.{held_count, no_slots, with_value, with_slot_freed}
 use Rattle.futures_buffered_core.specs.ReadySource.{SourceSteps}
 use Rattle.futures_buffered_core.proofs.SlotMapLemmas.{value_within}
-use Rattle.futures_buffered_unordered_bounded.specs.Held.{Passes, Yields}
-use Rattle.futures_buffered_unordered_bounded.specs.FuturesUnorderedBounded.{Bounded, PollGives}
-use Rattle.futures_buffered_unordered_bounded.proofs.HeldLemmas.{value_in-with_value}
+use Rattle.futures_buffered_unordered.specs.Held.{Passes, Yields}
+use Rattle.futures_buffered_unordered.specs.FuturesUnorderedBounded.{Bounded, PollGives}
+use Rattle.futures_buffered_unordered.proofs.HeldLemmas.{value_in-with_value}
 use Rattle.fbuf_lines.specs.Command.{spaced_number}
 use Rattle.fbuf_program.specs.declared.threads.AllWakes.{AllWakes}
 use Rattle.fbuf_program.specs.Threads.{times_in, has_number, times_held, AnswersNumber}

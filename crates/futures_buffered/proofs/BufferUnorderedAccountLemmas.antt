@@ -12,8 +12,8 @@ use Rattle.futures.specs.Runs.{Runs}
 use Rattle.futures_buffered_core.specs.SlotMap.{Slots, value_in, with_value, with_slot_freed, Inserts}
 use Rattle.futures_buffered_table.specs.declared.answer.Woke.{Woke}
 use Rattle.futures_buffered_core.specs.ReadySource.{SourceSteps}
-use Rattle.futures_buffered_unordered_bounded.specs.Held.{Passes, Yields}
-use Rattle.futures_buffered_unordered_bounded.specs.FuturesUnorderedBounded.{Bounded, Pushes, PollGives, held_in}
+use Rattle.futures_buffered_unordered.specs.Held.{Passes, Yields}
+use Rattle.futures_buffered_unordered.specs.FuturesUnorderedBounded.{Bounded, Pushes, PollGives, held_in}
 use Rattle.futures_buffered.proofs.TryBufferAccountLemmas.{many_calls_with_errors}
 use Rattle.futures_buffered.specs.Buffer.{Buffering, PollsStream, DrawsOne, DrawsNone, Calls, CallsInTurn, all_drawn, all_outputs, output_of, answer_from}
 use Rattle.futures_buffered.specs.BufferUnordered.{PendsTo, WaitsInSlot, MayGiveInSlot, LosesNothing, TryLosesNothing}

@@ -6,9 +6,9 @@ use Rattle.std.proofs.lemmas.Bool.{cases_eq, cases_lt}
 use Rattle.futures.specs.declared.task.Poll.{Poll}
 use Rattle.futures_buffered_core.specs.SlotMap.{Slots, value_in, held_count, with_value, Inserts}
 use Rattle.futures_buffered_table.specs.declared.answer.Woke.{Woke}
-use Rattle.futures_buffered_unordered_bounded.specs.Held.{MayGive, AllHeld, ComesFrom}
-use Rattle.futures_buffered_unordered_bounded.specs.FuturesUnorderedBounded.{Bounded, Pushes}
-use Rattle.futures_buffered_unordered_bounded.proofs.HeldLemmas.{AllHeld-push}
+use Rattle.futures_buffered_unordered.specs.Held.{MayGive, AllHeld, ComesFrom}
+use Rattle.futures_buffered_unordered.specs.FuturesUnorderedBounded.{Bounded, Pushes}
+use Rattle.futures_buffered_unordered.proofs.HeldLemmas.{AllHeld-push}
 use Rattle.futures_buffered.specs.FutureQueue.{AddsOutput}
 use Rattle.futures_buffered.specs.BufferUnordered.{MayGiveInSlot}
 

@@ -13,10 +13,10 @@ use Rattle.futures.specs.Runs.{Runs}
 use Rattle.futures_buffered_core.specs.SlotMap.{Slots, value_in, with_value, with_slot_freed, Inserts}
 use Rattle.futures_buffered_table.specs.declared.answer.Woke.{Woke}
 use Rattle.futures_buffered_core.specs.ReadySource.{SourceSteps}
-use Rattle.futures_buffered_unordered_bounded.specs.Held.{Passes, Yields}
-use Rattle.futures_buffered_unordered_bounded.specs.FuturesUnorderedBounded.{held_in}
-use Rattle.futures_buffered_unordered_bounded.proofs.HeldLemmas.{apart, value_in-with_value, value_inserted, value_inserted_other}
-use Rattle.futures_buffered_unordered_bounded.proofs.HeldGivesLemmas.{value_in-with_slot_freed_other}
+use Rattle.futures_buffered_unordered.specs.Held.{Passes, Yields}
+use Rattle.futures_buffered_unordered.specs.FuturesUnorderedBounded.{held_in}
+use Rattle.futures_buffered_unordered.proofs.HeldLemmas.{apart, value_in-with_value, value_inserted, value_inserted_other}
+use Rattle.futures_buffered_unordered.proofs.HeldGivesLemmas.{value_in-with_slot_freed_other}
 use Rattle.futures_buffered_ordered.specs.Numbered.{PollsNumbered, held_with, one_at}
 use Rattle.futures_buffered_ordered.specs.OrderedEntries.{AddsBack, IsUnused, LastStep, OrderedGives, SetYields, runs_with}
 use Rattle.futures_buffered_ordered.specs.FuturesOrderedBounded.{OrderedBounded, PushesNumber, SetGives}

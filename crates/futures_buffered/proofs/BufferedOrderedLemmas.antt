@@ -12,9 +12,9 @@ use Rattle.futures_buffered_core.specs.SlotMap.{Slots, value_in}
 use Rattle.futures_buffered_core.proofs.SlotMapLemmas.{value_within}
 use Rattle.futures_buffered_table.specs.declared.answer.Woke.{Woke}
 use Rattle.futures_buffered_core.specs.ReadySource.{SourceSteps}
-use Rattle.futures_buffered_unordered_bounded.specs.Held.{MayGive}
-use Rattle.futures_buffered_unordered_bounded.specs.FuturesUnorderedBounded.{held_in}
-use Rattle.futures_buffered_unordered_bounded.proofs.HeldLemmas.{AllHeld-push, value_inserted, value_inserted_other}
+use Rattle.futures_buffered_unordered.specs.Held.{MayGive}
+use Rattle.futures_buffered_unordered.specs.FuturesUnorderedBounded.{held_in}
+use Rattle.futures_buffered_unordered.proofs.HeldLemmas.{AllHeld-push, value_inserted, value_inserted_other}
 use Rattle.futures_buffered_ordered.specs.Numbered.{CanPollFuture, PollsNumbered, held_with}
 use Rattle.futures_buffered_ordered.specs.OrderedEntries.{AddsBack, ComesInOrder, EachHasOne, EntryGives, InTurn, IsUnused, OrderedGives, SetYields, runs_with, starts_running}
 use Rattle.futures_buffered_ordered.specs.FuturesOrderedBounded.{EachRunning, OrderedBounded, PushesNumber, SetGives, SetMayGive}

@@ -9,12 +9,12 @@ use Rattle.futures.specs.declared.task.Poll.TheVariants.{Ready, Pending}
 use Rattle.futures.specs.Runs.{Runs, After, Within, firsts}
 use Rattle.futures_buffered_table.specs.declared.answer.Woke.{Woke}
 use Rattle.futures_buffered_core.specs.ReadySource.{SourceSteps}
-use Rattle.futures_buffered_unordered_bounded.specs.FuturesUnorderedBounded.{Bounded, Pushes, PollGives}
-use Rattle.futures_buffered_unordered_bounded.specs.Held.{AllHeld}
+use Rattle.futures_buffered_unordered.specs.FuturesUnorderedBounded.{Bounded, Pushes, PollGives}
+use Rattle.futures_buffered_unordered.specs.Held.{AllHeld}
 use Rattle.futures.specs.Poll.{IfReady, OnPending}
 use Rattle.futures_buffered.specs.Buffer.{HasNoTurn}
 use Rattle.futures_buffered.specs.ForEachConcurrent.{ForEach, DrawAndPoll, TurnGives, EndsAfter, ForEachCall, DrawsOnce, drew_one, gave_one, goes_on, CanForEach, ForEachGives}
-use Rattle.futures_buffered_unordered_bounded.proofs.HeldLemmas.{AllHeld-push}
+use Rattle.futures_buffered_unordered.proofs.HeldLemmas.{AllHeld-push}
 
 module _ {St X F Fn Q : Type 0} (next : St → Poll (Option X) → St → Type 0) (count : Q → ℕ) (n : ℕ) (pushes : Q → F → Q → Type 0) (calls : Fn → X → F → Fn → Type 0) where
   pub draws_item : (old : ForEach St Fn Q) (s left : St) (x : X) (q q2 : Q) (f f1 : Fn) (future : F) → old ≡ record { buffer = record { stream = Some s; queue = q }; closure = f } → count q < n → next s (Ready (Some x)) left → calls f x future f1 → pushes q future q2

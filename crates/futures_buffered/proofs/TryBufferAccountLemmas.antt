@@ -5,7 +5,7 @@ use Rattle.std.specs.List.{FoldsTo}
 use Rattle.std.proofs.lemmas.List.{map-append}
 use Rattle.futures.specs.declared.task.Poll.{Poll}
 use Rattle.futures.specs.declared.task.Poll.TheVariants.{Ready, Pending}
-use Rattle.futures_buffered_unordered_bounded.specs.Interleaves.{Interleaves}
+use Rattle.futures_buffered_unordered.specs.Interleaves.{Interleaves}
 use Rattle.futures_buffered.specs.Buffer.{Buffering, DrawsOne, DrawsNone, all_drawn, all_outputs, output_of, answer_from}
 use Rattle.futures_buffered.specs.TryBuffer.{PushesOk, TryCalls, TryCallsInTurn, WithErrors, futures_of}
 

@@ -7,9 +7,9 @@ use Rattle.futures.specs.Runs.{Runs}
 use Rattle.futures_buffered_core.specs.SlotMap.{Slots}
 use Rattle.futures_buffered_table.specs.declared.answer.Woke.{Woke}
 use Rattle.futures_buffered_core.specs.ReadySource.{SourceSteps}
-use Rattle.futures_buffered_unordered_bounded.specs.Held.{MayGive}
-use Rattle.futures_buffered_unordered_bounded.specs.FuturesUnorderedBounded.{Bounded, Pushes, PollGives}
-use Rattle.futures_buffered_unordered_bounded.specs.FuturesUnorderedBounded.{held_in}
+use Rattle.futures_buffered_unordered.specs.Held.{MayGive}
+use Rattle.futures_buffered_unordered.specs.FuturesUnorderedBounded.{Bounded, Pushes, PollGives}
+use Rattle.futures_buffered_unordered.specs.FuturesUnorderedBounded.{held_in}
 use Rattle.futures_buffered.specs.Buffer.{Buffering, PollsStream, CallsInTurn, Accounts}
 use Rattle.futures_buffered.specs.Buffer.{all_drawn, all_outputs}
 use Rattle.futures_buffered.specs.TryBuffer.{TryCallsInTurn, WithErrors, futures_of}

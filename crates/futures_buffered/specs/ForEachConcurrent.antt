@@ -9,8 +9,8 @@ use Rattle.futures.specs.declared.task.context.Context.{Context}
 use Rattle.futures.specs.declared.task.Poll.{Poll}
 use Rattle.futures.specs.declared.task.Poll.TheVariants.{Ready, Pending}
 use Rattle.futures.specs.Runs.{Runs, AtEachItem}
-use Rattle.futures_buffered_unordered_bounded.specs.Held.{AllHeld}
-use Rattle.futures_buffered_unordered_bounded.specs.FuturesUnorderedBounded.{Bounded, IsNewSet}
+use Rattle.futures_buffered_unordered.specs.Held.{AllHeld}
+use Rattle.futures_buffered_unordered.specs.FuturesUnorderedBounded.{Bounded, IsNewSet}
 use Rattle.futures_buffered.specs.Buffer.{Buffering, buffer_code, Ahead, AsksStream}
 use Rattle.futures_buffered.specs.Buffer.{HasNoTurn, IsNewBuffer}
 

@@ -5,7 +5,7 @@ use Rattle.std.specs.List.{FoldsTo}
 use Rattle.futures.specs.declared.task.Poll.{Poll}
 use Rattle.futures.specs.declared.task.Poll.TheVariants.{Ready}
 use Rattle.futures.specs.Runs.{Runs}
-use Rattle.futures_buffered_unordered_bounded.specs.Interleaves.{Interleaves}
+use Rattle.futures_buffered_unordered.specs.Interleaves.{Interleaves}
 use Rattle.futures_buffered.specs.Buffer.{Buffering, AsksStream, DrawsOne, Calls, CanDraw}
 use Rattle.futures_buffered.specs.Buffer.{Comes}
 

@@ -2,8 +2,8 @@
 ghost use Rattle.std.specs.Prelude.{◌<◌, ◌≤◌, IfOk, false};
 ghost use Rattle.futures_buffered_core.specs.Answer.{RefusesTooLarge};
 ghost use Rattle.futures_buffered_core.specs.ReadyShared.{IsNewShared};
-ghost use Rattle.futures_buffered_unordered_bounded.specs.Held.{AllHeld, ComesFrom};
-ghost use Rattle.futures_buffered_unordered_bounded.specs.FuturesUnorderedBounded.{Pushes, PollGives, PollLeavesTask, IsNewSet, held_in, slots_in};
+ghost use Rattle.futures_buffered_unordered.specs.Held.{AllHeld, ComesFrom};
+ghost use Rattle.futures_buffered_unordered.specs.FuturesUnorderedBounded.{Pushes, PollGives, PollLeavesTask, IsNewSet, held_in, slots_in};
 ghost use Rattle.futures_buffered.specs.Buffer.{IsNewBuffer};
 ghost use Rattle.futures_buffered.specs.BufferUnordered.{LosesNothing, MayGiveInSlot, SetWaitsAt};
 
@@ -14,8 +14,8 @@ use futures::task::{Context, Poll};
 use futures_buffered_core::ready_core::NewFault;
 use futures_buffered_core::ready_shared::{SharedReady, SharedWaker};
 use futures_buffered_core::ready_source::{NewSource, ReadySource};
-use futures_buffered_unordered_bounded::SlotFuture;
-use futures_buffered_unordered_bounded::futures_unordered_bounded::FuturesUnorderedBounded;
+use futures_buffered_unordered::SlotFuture;
+use futures_buffered_unordered::futures_unordered_bounded::FuturesUnorderedBounded;
 use std::alloc::Global;
 use std::marker::Model;
 
@@ -26,7 +26,7 @@ pub struct UnorderedQueue<F: Drop, S: ReadySource> {
 }
 
 impl<F: Drop, S: ReadySource> Model for UnorderedQueue<F, S> {
-    ghost use Rattle.futures_buffered_unordered_bounded.specs.FuturesUnorderedBounded.{Bounded, bounded_code};
+    ghost use Rattle.futures_buffered_unordered.specs.FuturesUnorderedBounded.{Bounded, bounded_code};
 
     ghost Value = { Bounded F S };
 

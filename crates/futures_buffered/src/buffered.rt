@@ -1,7 +1,7 @@
 //! Adaptors of a stream of futures, as methods of the stream.
 //!
 //! Each is its type's `over` with a shared source, so that what it holds is woken from any thread.
-ghost use Rattle.futures_buffered_unordered_bounded.specs.FuturesUnorderedBounded.{IsNewSet};
+ghost use Rattle.futures_buffered_unordered.specs.FuturesUnorderedBounded.{IsNewSet};
 ghost use Rattle.std.specs.Prelude.{◌<◌, IfOk};
 ghost use Rattle.futures_buffered_core.specs.Answer.{RefusesTooLarge};
 ghost use Rattle.futures_buffered_core.specs.ReadyShared.{IsNewShared};
@@ -18,8 +18,8 @@ use futures_buffered_core::ready_core::NewFault;
 use futures_buffered_core::ready_shared::{SharedReady, SharedWaker};
 use futures_buffered_held::mailbox::Mailbox;
 use futures_buffered_held::{Driven, Foreigns};
-use futures_buffered_unordered_bounded::SlotFuture;
-use futures_buffered_unordered_bounded::futures_unordered_bounded::POLL_LIMIT;
+use futures_buffered_unordered::SlotFuture;
+use futures_buffered_unordered::futures_unordered_bounded::POLL_LIMIT;
 use std::alloc::Global;
 
 /// Adaptors that keep some futures of a stream in progress.

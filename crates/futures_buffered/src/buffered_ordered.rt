@@ -2,7 +2,7 @@
 ghost use Rattle.std.specs.Prelude.{◌<◌, ◌≤◌, IfOk, true};
 ghost use Rattle.futures_buffered_core.specs.Answer.{RefusesTooLarge};
 ghost use Rattle.futures_buffered_core.specs.ReadyShared.{IsNewShared};
-ghost use Rattle.futures_buffered_unordered_bounded.specs.FuturesUnorderedBounded.{held_in};
+ghost use Rattle.futures_buffered_unordered.specs.FuturesUnorderedBounded.{held_in};
 ghost use Rattle.futures_buffered_ordered.specs.OrderedEntries.{AddsBack, ComesInOrder, OrderedGives, OrderedLeavesTask};
 ghost use Rattle.futures_buffered_ordered.specs.FuturesOrderedBounded.{EachRunning, IsNewBoundedQueue, PushesNumber, SetGives, SetLeavesTask, SetMayGive};
 ghost use Rattle.futures_buffered.specs.Buffer.{IsNewBuffer};
@@ -17,7 +17,7 @@ use futures_buffered_core::ready_core::NewFault;
 use futures_buffered_core::ready_shared::{SharedReady, SharedWaker};
 use futures_buffered_core::ready_source::{NewSource, ReadySource};
 use futures_buffered_ordered::BoundedQueue;
-use futures_buffered_unordered_bounded::SlotFuture;
+use futures_buffered_unordered::SlotFuture;
 use std::alloc::Global;
 use std::marker::Model;
 

@@ -6,7 +6,7 @@ ghost use Rattle.futures.specs.Poll.{IfReady, OnPending};
 ghost use Rattle.futures.specs.declared.task.Poll.{Poll};
 ghost use Rattle.futures_buffered_core.specs.Answer.{RefusesTooLarge};
 ghost use Rattle.futures_buffered_core.specs.ReadyShared.{IsNewShared};
-ghost use Rattle.futures_buffered_unordered_bounded.specs.FuturesUnorderedBounded.{Pushes, PollGives, PollLeavesTask, IsWoken, held_in, slots_in};
+ghost use Rattle.futures_buffered_unordered.specs.FuturesUnorderedBounded.{Pushes, PollGives, PollLeavesTask, IsWoken, held_in, slots_in};
 ghost use Rattle.futures_buffered.specs.Buffer.{PollsStream, HasNoTurn, WaitsAt};
 ghost use Rattle.futures_buffered.specs.BufferUnordered.{SetWaitsAt};
 ghost use Rattle.futures_buffered.specs.ForEachConcurrent.{IsNewForEach, IsDone, DrawsOnce, ForEachCall, CanForEach, ForEachGives, drew_one};
@@ -16,10 +16,10 @@ use futures::{Future, Stream};
 use futures_buffered_core::ready_core::NewFault;
 use futures_buffered_core::ready_shared::SharedReady;
 use futures_buffered_core::ready_source::{NewSource, ReadySource};
-use futures_buffered_unordered_bounded::futures_unordered_bounded::{
+use futures_buffered_unordered::futures_unordered_bounded::{
     FuturesUnorderedBounded, POLL_LIMIT,
 };
-use futures_buffered_unordered_bounded::{FusedFuture, SlotFuture};
+use futures_buffered_unordered::{FusedFuture, SlotFuture};
 use std::alloc::Global;
 use std::fmt;
 use std::marker::Model;
@@ -35,7 +35,7 @@ pub struct ForEachConcurrent<St: Drop, F: Drop, Fut: Drop, S: ReadySource> {
 }
 
 impl<St: Drop, F: Drop, Fut: Drop, S: ReadySource> Model for ForEachConcurrent<St, F, Fut, S> {
-    ghost use Rattle.futures_buffered_unordered_bounded.specs.FuturesUnorderedBounded.{Bounded, bounded_code};
+    ghost use Rattle.futures_buffered_unordered.specs.FuturesUnorderedBounded.{Bounded, bounded_code};
     ghost use Rattle.futures_buffered.specs.ForEachConcurrent.{ForEach, for_each_code};
 
     ghost Value = { ForEach St F (Bounded Fut S) };

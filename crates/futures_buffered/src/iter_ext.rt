@@ -4,7 +4,7 @@ ghost use Rattle.std.specs.Iterator.{IsFiniteIterable};
 ghost use Rattle.futures_buffered_core.specs.Drawn.{Draws, DrawsMoreThan, SaysAtLeast};
 ghost use Rattle.futures_buffered_core.specs.ReadyShared.{IsNewShared, MarksShared, Shared};
 ghost use Rattle.futures_buffered_core.specs.SlotMap.{slot_count};
-ghost use Rattle.futures_buffered_unordered_bounded.specs.FuturesUnorderedBounded.{HoldsEach};
+ghost use Rattle.futures_buffered_unordered.specs.FuturesUnorderedBounded.{HoldsEach};
 ghost use Rattle.futures_buffered_unordered.specs.SlotGroups.{Growing, IsNewGrowing, PushesEach, StopsAtBound, no_groups};
 ghost use Rattle.futures_buffered_joins.specs.JoinMade.{IsMadeOf};
 ghost use Rattle.futures_buffered_ordered.specs.OrderedEntries.{AddsEachBack};
@@ -17,8 +17,8 @@ use futures_buffered_joins::{JoinAll, TryJoinAll};
 use futures_buffered_merges::{MergeBounded, MergeUnbounded, SlotStream};
 use futures_buffered_ordered::{FuturesOrdered, FuturesOrderedBounded};
 use futures_buffered_unordered::futures_unordered::{FIRST_GROUP, FuturesUnordered};
-use futures_buffered_unordered_bounded::SlotFuture;
-use futures_buffered_unordered_bounded::futures_unordered_bounded::{
+use futures_buffered_unordered::SlotFuture;
+use futures_buffered_unordered::futures_unordered_bounded::{
     FuturesUnorderedBounded, POLL_LIMIT,
 };
 use std::alloc::Global;

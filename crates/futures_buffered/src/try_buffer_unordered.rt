@@ -1,5 +1,5 @@
 //! Some futures of a stream at a time, where the stream gives errors as well, whose outputs come as they finish.
-ghost use Rattle.futures_buffered_unordered_bounded.specs.FuturesUnorderedBounded.{IsNewSet};
+ghost use Rattle.futures_buffered_unordered.specs.FuturesUnorderedBounded.{IsNewSet};
 ghost use Rattle.std.specs.Prelude.{◌<◌, ◌≤◌, IfOk};
 ghost use Rattle.futures_buffered_core.specs.Answer.{RefusesTooLarge};
 ghost use Rattle.futures_buffered_core.specs.ReadyShared.{IsNewShared};
@@ -12,7 +12,7 @@ use futures::Stream;
 use futures_buffered_core::ready_core::NewFault;
 use futures_buffered_core::ready_shared::SharedReady;
 use futures_buffered_core::ready_source::ReadySource;
-use futures_buffered_unordered_bounded::SlotFuture;
+use futures_buffered_unordered::SlotFuture;
 use std::alloc::Global;
 
 /// Futures of a stream that gives errors as well, at most as many at a time as its set has slots, whose outputs come as they finish. An error of the stream comes as soon as it is met, and ends nothing.

@@ -12,7 +12,7 @@ use futures::Stream;
 use futures_buffered_core::ready_core::NewFault;
 use futures_buffered_core::ready_shared::{SharedReady, SharedWaker};
 use futures_buffered_core::ready_source::ReadySource;
-use futures_buffered_unordered_bounded::SlotFuture;
+use futures_buffered_unordered::SlotFuture;
 use std::alloc::Global;
 
 /// Futures of a stream that gives errors as well, whose outputs come in the order in which the stream gave the futures. At most as many as there are slots are held at a time, where an output that waits for its turn counts as held. An error of the stream comes as soon as it is met, before what is held, and ends nothing.

@@ -8,7 +8,7 @@ use futures_buffered::buffer_unordered::UnorderedQueue;
 use futures_buffered::buffered_ordered::OrderedQueue;
 use futures_buffered::for_each_concurrent::ForEachConcurrent;
 use futures_buffered_core::ready_shared::SharedReady;
-use futures_buffered_core::ready_source::NamesSlot;
+use futures_buffered_core::ready_source::SlotHandle;
 use futures_buffered_merges::merge_bounded::MergeBounded;
 use futures_buffered_merges::slot_stream::SlotStream;
 use std::alloc::Global;
@@ -29,7 +29,7 @@ impl Stream for Ready {
 #[derive(Drop)]
 pub struct Feed;
 
-impl<W: NamesSlot> SlotStream<W> for Feed {
+impl<W: SlotHandle> SlotStream<W> for Feed {
     type Item = u64;
 
     fn poll_next(&mut self, _waker: &W) -> Poll<Option<u64>> {

@@ -8,8 +8,8 @@ use futures_buffered_joins::join::join_all;
 use futures_buffered_ordered::futures_ordered::FuturesOrdered;
 use futures_buffered_ordered::futures_ordered_bounded::FuturesOrderedBounded;
 use futures_buffered_unordered::futures_unordered::FuturesUnordered;
-use futures_buffered_unordered_bounded::futures_unordered_bounded::FuturesUnorderedBounded;
-use futures_buffered_unordered_bounded::slot_future::{SlotFuture, SlotWaker};
+use futures_buffered_unordered::futures_unordered_bounded::FuturesUnorderedBounded;
+use futures_buffered_unordered::slot_future::{SlotFuture, SlotWaker};
 use std::alloc::Global;
 
 /// Wakes itself at so many polls, and is ready at the next.

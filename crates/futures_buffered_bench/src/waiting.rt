@@ -5,7 +5,7 @@ use futures::stream::FuturesUnordered as KitSet;
 use futures::task::{Context, Poll, Source, Waker};
 use futures::{Future, Stream};
 use futures_buffered_core::ready_shared::SharedWaker;
-use futures_buffered_unordered_bounded::slot_future::{SlotFuture, SlotWaker};
+use futures_buffered_unordered::slot_future::{SlotFuture, SlotWaker};
 use std::alloc::{AllocError, Global};
 use std::sync::{Arc, Mutex, MutexGuard};
 

@@ -3,7 +3,7 @@ ghost use Rattle.std.specs.Prelude.{◌≡◌};
 ghost use Rattle.futures_buffered_core.specs.ReadyCore.{Marks, Takes};
 
 use crate::ready_core::{NewFault, ReadyCore, Taken, Woke};
-use crate::ready_source::{NamesSlot, NewSource, ReadySource, SlotWaker};
+use crate::ready_source::{NewSource, ReadySource, SlotHandle, SlotWaker};
 use futures::task::{Context, Poll, Source, Waker};
 use std::alloc::Global;
 use std::marker::Model;
@@ -12,7 +12,7 @@ use std::marker::Model;
 #[derive(Drop)]
 pub struct Silent;
 
-impl NamesSlot for Silent {
+impl SlotHandle for Silent {
     ghost use Rattle.std.specs.Prelude.{⊤};
 
     ghost wakes = { λ _ _. ⊤ };
@@ -116,7 +116,7 @@ impl NewSource for CoreSource {
         })
     }
 
-    fn make_beside(&mut self, alloc: Global, cap: usize) -> Result<CoreSource, NewFault> {
+    fn make_sibling(&mut self, alloc: Global, cap: usize) -> Result<CoreSource, NewFault> {
         CoreSource::make(&(), alloc, cap)
     }
 }

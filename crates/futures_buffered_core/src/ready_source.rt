@@ -17,13 +17,13 @@ use futures::task::Context;
 use std::alloc::Global;
 
 /// What a set sees of a slot's waker: which slot it wakes, and no call that wakes it. So a set can hand a waker on, and cannot use it.
-pub trait NamesSlot {
+pub trait SlotHandle {
     // The slots of which it is a waker: the one that a wake marks. A waker that does nothing is one of each slot.
     ghost wakes: { Self → ℕ → Type 0 };
 }
 
 /// Wakes one slot, any number of times, also once the set that it came from is gone.
-pub trait SlotWaker: NamesSlot {
+pub trait SlotWaker: SlotHandle {
     /// Marks the slot; where that mark was fresh, wakes the task that registered last.
     fn wake(&self);
 }
@@ -33,7 +33,7 @@ pub trait SlotWaker: NamesSlot {
 /// Beside the calls a source states what they may do: relations between its content before, the answer, and its content after. Each named slot is below the capacity, and the capacity stays: these are laws below.
 pub trait ReadySource: Drop {
     /// What wakes one slot.
-    type Waker: NamesSlot;
+    type Waker: SlotHandle;
 
     // The capacity: how many slots it has.
     ghost slots: { Self → ℕ };
@@ -112,7 +112,7 @@ pub trait NewSource: ReadySource {
     /// A source of `cap` slots beside this one: a fresh wake of either wakes the task that registered last at either. So in one poll that asks both, one registration covers both.
     ///
     /// Takes time and memory as `make` does, and where it is refused nothing changes.
-    fn make_beside(&mut self, alloc: Global, cap: usize) -> Result<Self, NewFault>
+    fn make_sibling(&mut self, alloc: Global, cap: usize) -> Result<Self, NewFault>
         ensures made { IfOk result (made cap) }
         ensures beside { IfOk result (WaitsAlike Self.needs self.old) }
         ensures same { self.new ≡ self.old }

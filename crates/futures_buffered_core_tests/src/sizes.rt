@@ -20,7 +20,7 @@ type Three<S> = (Marked<S>, Marked<S>, Marked<S>);
 // A source, one beside another, and this other one, of one slot.
 fn three_of<S: NewSource<Env = ()>>(alloc: Global, slots: usize) -> Result<Three<S>, NewFault> {
     let mut other = S::make(&(), alloc, 1)?;
-    let beside = other.make_beside(alloc, slots)?;
+    let beside = other.make_sibling(alloc, slots)?;
     let source = S::make(&(), alloc, slots)?;
     Ok((
         Marked { source },

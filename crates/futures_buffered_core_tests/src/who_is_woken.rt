@@ -114,7 +114,7 @@ fn a_source_made_beside_finds_the_task_that_waits(rt: HostRuntime) -> Result<(),
     let mut first: SharedReady = SharedReady::new(rt.alloc(), 1)?;
     assert_same(&rt, mark(&mut first, 0), Some(Woke::Fresh));
     assert_same(&rt, poll(&task, &mut first), (Taken::Slot(0), false));
-    let mut second = first.make_beside(rt.alloc(), 2)?;
+    let mut second = first.make_sibling(rt.alloc(), 2)?;
     assert_same(&rt, task.is_woken(), false);
     assert_same(&rt, is_woken_by(&task, &second, 1), true);
     assert_same(
@@ -158,8 +158,8 @@ fn try_pair(
 fn sources_beside_one_another_wake_one_task(rt: HostRuntime) -> Result<(), Fail> {
     let task = MockTask::new(&rt)?;
     let mut first: SharedReady = SharedReady::new(rt.alloc(), 1)?;
-    let mut second = first.make_beside(rt.alloc(), 1)?;
-    let mut third = second.make_beside(rt.alloc(), 1)?;
+    let mut second = first.make_sibling(rt.alloc(), 1)?;
+    let mut third = second.make_sibling(rt.alloc(), 1)?;
     try_pair(&rt, &task, &mut first, &mut second);
     try_pair(&rt, &task, &mut second, &mut first);
     try_pair(&rt, &task, &mut first, &mut third);
@@ -172,7 +172,7 @@ fn sources_beside_one_another_wake_one_task(rt: HostRuntime) -> Result<(), Fail>
 fn a_wake_beside_finds_the_task_after_a_name(rt: HostRuntime) -> Result<(), Fail> {
     let task = MockTask::new(&rt)?;
     let mut first: SharedReady = SharedReady::new(rt.alloc(), 1)?;
-    let mut second = first.make_beside(rt.alloc(), 1)?;
+    let mut second = first.make_sibling(rt.alloc(), 1)?;
     assert_same(&rt, mark(&mut first, 0), Some(Woke::Fresh));
     assert_same(&rt, poll(&task, &mut first), (Taken::Slot(0), false));
     assert_same(&rt, is_woken_by(&task, &second, 0), true);

@@ -361,7 +361,7 @@ impl<F: Future<Output: Drop>> NewSource for Driven<F> {
     }
 
     /// The driver is that of this source. Where another thread polls a source beside this one, it answers `Memory`.
-    fn make_beside(&mut self, alloc: Global, cap: usize) -> Result<Driven<F>, NewFault> {
+    fn make_sibling(&mut self, alloc: Global, cap: usize) -> Result<Driven<F>, NewFault> {
         Driven::over(&self.driver, alloc, cap)
     }
 }

@@ -1,7 +1,7 @@
 //! One of two futures, or of two streams.
 use futures::task::Poll;
 use futures_buffered_merges::slot_stream::SlotStream;
-use futures_buffered_unordered_bounded::slot_future::{NamesSlot, SlotFuture};
+use futures_buffered_unordered::slot_future::{SlotHandle, SlotFuture};
 
 /// One of two, of whichever type. As a future it gives the output of the one that it is, and as a stream the items of that.
 #[derive(Drop)]
@@ -10,7 +10,7 @@ pub enum Either<A, B> {
     Right(B),
 }
 
-impl<W: NamesSlot, A: SlotFuture<W>, B: SlotFuture<W, Output = A::Output>> SlotFuture<W>
+impl<W: SlotHandle, A: SlotFuture<W>, B: SlotFuture<W, Output = A::Output>> SlotFuture<W>
     for Either<A, B> {
     ghost use Rattle.futures_buffered_held.specs.Either.{PollsSide};
     ghost use Rattle.futures_buffered_held.specs.declared.either.Either.TheVariants.{Left, Right};
@@ -29,7 +29,7 @@ impl<W: NamesSlot, A: SlotFuture<W>, B: SlotFuture<W, Output = A::Output>> SlotF
     }
 }
 
-impl<W: NamesSlot, A: SlotStream<W>, B: SlotStream<W, Item = A::Item>> SlotStream<W>
+impl<W: SlotHandle, A: SlotStream<W>, B: SlotStream<W, Item = A::Item>> SlotStream<W>
     for Either<A, B> {
     ghost use Rattle.futures_buffered_held.specs.Either.{PollsSide};
     ghost use Rattle.futures_buffered_held.specs.declared.either.Either.TheVariants.{Left, Right};

@@ -5,7 +5,7 @@ use crate::held::Held;
 use crate::mailbox::{Mailbox, Ticket};
 use futures::Future;
 use futures::task::Poll;
-use futures_buffered_unordered_bounded::slot_future::SlotFuture;
+use futures_buffered_unordered::slot_future::SlotFuture;
 use std::marker::Model;
 
 /// Stands for a future in a set, queue, join or adaptor over `Driven`. Its first poll hands the future over to the source, and a later one gives the output that has come.

@@ -23,8 +23,8 @@ use futures_buffered_joins::try_join::{TryJoin, TryJoinAll};
 use futures_buffered_ordered::futures_ordered::FuturesOrdered;
 use futures_buffered_ordered::futures_ordered_bounded::FuturesOrderedBounded;
 use futures_buffered_unordered::futures_unordered::FuturesUnordered;
-use futures_buffered_unordered_bounded::SlotFuture;
-use futures_buffered_unordered_bounded::futures_unordered_bounded::{
+use futures_buffered_unordered::SlotFuture;
+use futures_buffered_unordered::futures_unordered_bounded::{
     FuturesUnorderedBounded, POLL_LIMIT,
 };
 use std::alloc::Global;

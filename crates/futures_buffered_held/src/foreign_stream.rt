@@ -11,7 +11,7 @@ use futures::{Stream, StreamExt};
 use futures_buffered_merges::merge_bounded::MergeBounded;
 use futures_buffered_merges::merge_unbounded::MergeUnbounded;
 use futures_buffered_merges::slot_stream::SlotStream;
-use futures_buffered_unordered_bounded::slot_future::SlotFuture;
+use futures_buffered_unordered::slot_future::SlotFuture;
 use std::marker::Model;
 
 /// Stands for a stream in a merge over `Driven`. Its stream is handed over for each item, and comes back with it. So each item costs a poll of the task more than the wake for it.

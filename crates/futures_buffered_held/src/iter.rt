@@ -1,7 +1,7 @@
 //! The items of an iterator as a stream.
 use futures::task::Poll;
 use futures_buffered_merges::slot_stream::SlotStream;
-use futures_buffered_unordered_bounded::slot_future::NamesSlot;
+use futures_buffered_unordered::slot_future::SlotHandle;
 use std::marker::Model;
 
 /// Gives the next item of its iterator at each poll.
@@ -18,7 +18,7 @@ impl<I> Model for Iter<I> {
     ghost view = { λ iter. iter.items };
 }
 
-impl<W: NamesSlot, I: Iterator> SlotStream<W> for Iter<I> {
+impl<W: SlotHandle, I: Iterator> SlotStream<W> for Iter<I> {
     ghost use Rattle.futures_buffered_held.specs.Iter.{GivesNext};
 
     type Item = I::Item;

@@ -4,7 +4,7 @@ ghost use Rattle.futures_buffered_held.specs.Mailbox.{mailbox_at};
 
 use crate::held::{Given, Held};
 use futures::Future;
-use futures_buffered_core::ready_source::NamesSlot;
+use futures_buffered_core::ready_source::SlotHandle;
 use std::cell::Cell;
 use std::marker::Model;
 
@@ -48,7 +48,7 @@ impl<F: Future<Output: Drop>> Model for Mailbox<F> {
 }
 
 /// The source names the slot by itself when an output has come, so nothing wakes by a mailbox.
-impl<F: Future<Output: Drop>> NamesSlot for Mailbox<F> {
+impl<F: Future<Output: Drop>> SlotHandle for Mailbox<F> {
     ghost use Rattle.std.specs.Prelude.{◌≡◌};
 
     ghost wakes = { λ mailbox i. mailbox.slot ≡ i };

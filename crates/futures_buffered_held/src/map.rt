@@ -1,6 +1,6 @@
 //! A future whose output goes through a closure.
 use futures::task::Poll;
-use futures_buffered_unordered_bounded::slot_future::{NamesSlot, SlotFuture};
+use futures_buffered_unordered::slot_future::{SlotHandle, SlotFuture};
 use std::marker::Model;
 
 /// Gives what its closure makes of the output of its future, which is dropped before the call. Polled again, it stays pending.
@@ -19,7 +19,7 @@ impl<F, C> Model for Map<F, C> {
     ghost view = { λ map. map.inner };
 }
 
-impl<W: NamesSlot, U, F: SlotFuture<W>, C: FnOnce(F::Output) -> U + Drop> SlotFuture<W>
+impl<W: SlotHandle, U, F: SlotFuture<W>, C: FnOnce(F::Output) -> U + Drop> SlotFuture<W>
     for Map<F, C> {
     ghost use Rattle.std.specs.Prelude.{IfSome};
     ghost use Rattle.futures_buffered_held.specs.Map.{Changes};

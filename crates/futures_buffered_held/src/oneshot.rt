@@ -9,7 +9,7 @@ ghost use Rattle.std.specs.Prelude.{◌≡◌, ◌⊎◌, IfErr, IfSome};
 use counted_slot::{Claim, Counted, FREE, Fits, MARKED, PRESENT, TAKEN};
 use futures::task::Poll;
 use futures_buffered_core::ready_shared::SharedWaker;
-use futures_buffered_unordered_bounded::slot_future::{SlotFuture, SlotWaker};
+use futures_buffered_unordered::slot_future::{SlotFuture, SlotWaker};
 use std::alloc::{AllocError, Global};
 use std::sync::{Arc, Mutex};
 use thiserror::Error;

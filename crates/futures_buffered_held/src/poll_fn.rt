@@ -1,6 +1,6 @@
 //! A future of a closure.
 use futures::task::Poll;
-use futures_buffered_unordered_bounded::slot_future::{NamesSlot, SlotFuture};
+use futures_buffered_unordered::slot_future::{SlotHandle, SlotFuture};
 use std::marker::Model;
 
 /// Calls its closure at each poll, with the waker of its slot, and answers what that returns.
@@ -17,7 +17,7 @@ impl<C> Model for PollFn<C> {
     ghost view = { λ future. future.call };
 }
 
-impl<W: NamesSlot, T, C: FnMut(&W) -> Poll<T> + Drop> SlotFuture<W> for PollFn<C> {
+impl<W: SlotHandle, T, C: FnMut(&W) -> Poll<T> + Drop> SlotFuture<W> for PollFn<C> {
     ghost use Rattle.futures_buffered_held.specs.PollFn.{CallsWith};
 
     type Output = T;

@@ -1,6 +1,6 @@
 //! A future that is ready from the start.
 use futures::task::Poll;
-use futures_buffered_unordered_bounded::slot_future::{NamesSlot, SlotFuture};
+use futures_buffered_unordered::slot_future::{SlotHandle, SlotFuture};
 use std::marker::Model;
 
 /// Gives its value at its first poll. Polled again, it stays pending.
@@ -19,7 +19,7 @@ impl<T> Model for Ready<T> {
     ghost view = { λ ready. ready.value };
 }
 
-impl<W: NamesSlot, T: Drop> SlotFuture<W> for Ready<T> {
+impl<W: SlotHandle, T: Drop> SlotFuture<W> for Ready<T> {
     ghost use Rattle.futures_buffered_held.specs.Ready.{GivesValue};
 
     type Output = T;

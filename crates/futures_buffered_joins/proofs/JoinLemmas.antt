@@ -7,7 +7,7 @@ use Rattle.futures.specs.declared.task.Poll.TheVariants.{Ready, Pending}
 use Rattle.futures.specs.Poll.{IfReady, OnPending}
 use Rattle.futures_buffered_table.specs.declared.answer.Woke.{Woke}
 use Rattle.futures_buffered_core.specs.ReadySource.{SourceSteps}
-use Rattle.futures_buffered_unordered_bounded.specs.Held.{AllHeld}
+use Rattle.futures_buffered_unordered.specs.Held.{AllHeld}
 use Rattle.futures_buffered_joins.specs.Joining.{Places, MayBeAll}
 use Rattle.futures_buffered_joins.specs.Join.{JoinGives, JoinMayGive, JoinsByPlace}
 use Rattle.futures_buffered_joins.specs.JoinTask.{PollsJoin}

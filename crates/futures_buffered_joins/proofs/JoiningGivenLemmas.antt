@@ -9,10 +9,10 @@ use Rattle.futures.specs.declared.task.Poll.TheVariants.{Pending}
 use Rattle.futures_buffered_core.specs.SlotMap.{Slots, value_in, with_value, with_slot_freed}
 use Rattle.futures_buffered_table.specs.declared.answer.Woke.{Woke}
 use Rattle.futures_buffered_core.specs.ReadySource.{SourceSteps}
-use Rattle.futures_buffered_unordered_bounded.specs.Held.{Passes, Yields, MayGive, AnyMayGive}
-use Rattle.futures_buffered_unordered_bounded.specs.FuturesUnorderedBounded.{Bounded}
-use Rattle.futures_buffered_unordered_bounded.proofs.HeldLemmas.{value_in-with_value}
-use Rattle.futures_buffered_unordered_bounded.proofs.HeldGivesLemmas.{gives_passed, gives_others, value_in-with_slot_freed, value_in-with_slot_freed_other, None-Some}
+use Rattle.futures_buffered_unordered.specs.Held.{Passes, Yields, MayGive, AnyMayGive}
+use Rattle.futures_buffered_unordered.specs.FuturesUnorderedBounded.{Bounded}
+use Rattle.futures_buffered_unordered.proofs.HeldLemmas.{value_in-with_value}
+use Rattle.futures_buffered_unordered.proofs.HeldGivesLemmas.{gives_passed, gives_others, value_in-with_slot_freed, value_in-with_slot_freed_other, None-Some}
 use Rattle.futures_buffered_joins.specs.Joining.{Places, IsNewJoin, Fills, PollsPending, MayGiveAt, MayBeAt, MayBeAll, CameByPlace, output_at}
 
 Some-same : {F : Type 0} {f g : F} → Some f ≡ Some g → f ≡ g

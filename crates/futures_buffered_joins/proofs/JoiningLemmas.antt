@@ -10,9 +10,9 @@ use Rattle.futures.specs.declared.task.Poll.TheVariants.{Ready}
 use Rattle.futures_buffered_core.specs.SlotMap.{Slots, value_in, held_count, slot_count, with_slot_freed}
 use Rattle.futures_buffered_table.specs.declared.answer.Woke.{Woke}
 use Rattle.futures_buffered_core.specs.ReadySource.{SourceSteps}
-use Rattle.futures_buffered_unordered_bounded.specs.FuturesUnorderedBounded.{Bounded, HoldsEach, AsksUntil, with_empty_slot}
-use Rattle.futures_buffered_unordered_bounded.proofs.HeldGivesLemmas.{value_in-with_slot_freed, value_in-with_slot_freed_other}
-use Rattle.futures_buffered_unordered_bounded.specs.Held.{AllHeld, AllHeldBut}
+use Rattle.futures_buffered_unordered.specs.FuturesUnorderedBounded.{Bounded, HoldsEach, AsksUntil, with_empty_slot}
+use Rattle.futures_buffered_unordered.proofs.HeldGivesLemmas.{value_in-with_slot_freed, value_in-with_slot_freed_other}
+use Rattle.futures_buffered_unordered.specs.Held.{AllHeld, AllHeldBut}
 use Rattle.futures_buffered_joins.specs.Joining.{Places, Fills, output_at}
 use Rattle.futures_buffered_joins.specs.JoiningInvariant.{KeepsJoinPlaces}
 use Rattle.futures_buffered_joins.specs.TryJoin.{Fails}

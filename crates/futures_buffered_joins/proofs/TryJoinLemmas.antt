@@ -7,8 +7,8 @@ use Rattle.futures.specs.declared.task.Poll.TheVariants.{Ready, Pending}
 use Rattle.futures.specs.Poll.{IfReady, OnPending}
 use Rattle.futures_buffered_table.specs.declared.answer.Woke.{Woke}
 use Rattle.futures_buffered_core.specs.ReadySource.{SourceSteps}
-use Rattle.futures_buffered_unordered_bounded.proofs.HeldGivesLemmas.{gives_passed, gives_output}
-use Rattle.futures_buffered_unordered_bounded.specs.Held.{AllHeld}
+use Rattle.futures_buffered_unordered.proofs.HeldGivesLemmas.{gives_passed, gives_output}
+use Rattle.futures_buffered_unordered.specs.Held.{AllHeld}
 use Rattle.futures_buffered_joins.specs.Joining.{Places, MayBeAll}
 use Rattle.futures_buffered_joins.specs.TryJoin.{TryJoinGives, TryJoinMayGive, TryJoinsByPlace}
 use Rattle.futures_buffered_joins.specs.JoinTask.{PollsJoin}

@@ -5,9 +5,9 @@ use Rattle.futures.specs.Poll.{IfReady, OnPending}
 use Rattle.futures.specs.declared.task.context.Context.{Context}
 use Rattle.futures.specs.declared.task.Poll.{Poll}
 use Rattle.futures_buffered_core.specs.ReadySource.{SourceSteps}
-use Rattle.futures_buffered_unordered_bounded.specs.Held.{AllHeld}
-use Rattle.futures_buffered_unordered_bounded.specs.FuturesUnorderedBounded.{IsWoken, OnlyRegisters}
-use Rattle.futures_buffered_unordered_bounded.specs.FuturesUnorderedBounded.{SaidEmpty}
+use Rattle.futures_buffered_unordered.specs.Held.{AllHeld}
+use Rattle.futures_buffered_unordered.specs.FuturesUnorderedBounded.{IsWoken, OnlyRegisters}
+use Rattle.futures_buffered_unordered.specs.FuturesUnorderedBounded.{SaidEmpty}
 use Rattle.futures_buffered_joins.specs.Joining.{Places, JoinLeavesTask}
 
 -- One poll of a join, which took it from old to new. `gives` says what a poll makes of a join,

@@ -9,10 +9,10 @@ use Rattle.futures.specs.declared.task.Poll.TheVariants.{Ready, Pending}
 use Rattle.futures_buffered_core.specs.SlotMap.{Slots, value_in, held_count}
 use Rattle.futures_buffered_table.specs.declared.answer.Woke.{Woke}
 use Rattle.futures_buffered_core.specs.ReadySource.{SourceSteps}
-use Rattle.futures_buffered_unordered_bounded.specs.Held.{MayGive}
-use Rattle.futures_buffered_unordered_bounded.specs.FuturesUnorderedBounded.{Bounded, HoldsEach, AsksUntil}
-use Rattle.futures_buffered_unordered_bounded.specs.FuturesUnorderedBounded.{with_empty_slot}
-use Rattle.futures_buffered_unordered_bounded.specs.FuturesUnorderedBounded.{LeavesTask, OnlyRegisters}
+use Rattle.futures_buffered_unordered.specs.Held.{MayGive}
+use Rattle.futures_buffered_unordered.specs.FuturesUnorderedBounded.{Bounded, HoldsEach, AsksUntil}
+use Rattle.futures_buffered_unordered.specs.FuturesUnorderedBounded.{with_empty_slot}
+use Rattle.futures_buffered_unordered.specs.FuturesUnorderedBounded.{LeavesTask, OnlyRegisters}
 
 -- the places of a join that has not ended: a set of the futures that it waits for, each in the slot
 -- of its place, and at each place the output that has come, or nothing

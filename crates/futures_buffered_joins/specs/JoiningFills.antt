@@ -7,9 +7,9 @@ use Rattle.futures.specs.declared.task.context.Context.{Context}
 use Rattle.futures.specs.declared.task.Poll.{Poll}
 use Rattle.futures_buffered_core.specs.SlotMap.{held_count}
 use Rattle.futures_buffered_core.specs.ReadySource.{SourceSteps}
-use Rattle.futures_buffered_unordered_bounded.specs.Held.{AllHeld}
-use Rattle.futures_buffered_unordered_bounded.specs.FuturesUnorderedBounded.{Bounded, IsWoken}
-use Rattle.futures_buffered_unordered_bounded.specs.FuturesUnorderedBounded.{LeavesTask, SaidEmpty}
+use Rattle.futures_buffered_unordered.specs.Held.{AllHeld}
+use Rattle.futures_buffered_unordered.specs.FuturesUnorderedBounded.{Bounded, IsWoken}
+use Rattle.futures_buffered_unordered.specs.FuturesUnorderedBounded.{LeavesTask, SaidEmpty}
 use Rattle.futures_buffered_joins.specs.Joining.{Places, Fills, PollsPending}
 
 module _

@@ -8,8 +8,8 @@ use Rattle.futures.specs.declared.task.Poll.TheVariants.{Ready, Pending}
 use Rattle.futures_buffered_core.specs.SlotMap.{held_count}
 use Rattle.futures_buffered_table.specs.declared.answer.Woke.{Woke}
 use Rattle.futures_buffered_core.specs.ReadySource.{SourceSteps}
-use Rattle.futures_buffered_unordered_bounded.specs.Held.{AnyMayGive}
-use Rattle.futures_buffered_unordered_bounded.specs.FuturesUnorderedBounded.{Bounded, AsksUntil}
+use Rattle.futures_buffered_unordered.specs.Held.{AnyMayGive}
+use Rattle.futures_buffered_unordered.specs.FuturesUnorderedBounded.{Bounded, AsksUntil}
 use Rattle.futures_buffered_joins.specs.Joining.{Places, IsNewJoin, Fills, PollsPending, MayBeAll}
 use Rattle.futures_buffered_joins.specs.Joining.{CameByPlace}
 

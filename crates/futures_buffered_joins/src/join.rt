@@ -3,7 +3,7 @@ ghost use Rattle.std.specs.Prelude.{◌≡◌, None, Err, IfOk, IfSome, IsSomeAn
 ghost use Rattle.std.specs.Iterator.{IsFiniteIterable};
 ghost use Rattle.futures_buffered_core.specs.Drawn.{Draws, DrawsMoreThan};
 ghost use Rattle.futures_buffered_core.specs.ReadyShared.{IsNewShared, MarksShared};
-ghost use Rattle.futures_buffered_unordered_bounded.specs.Held.{AllHeld};
+ghost use Rattle.futures_buffered_unordered.specs.Held.{AllHeld};
 ghost use Rattle.futures_buffered_joins.specs.Joining.{Places};
 ghost use Rattle.futures_buffered_joins.specs.JoinMade.{IsMadeOf};
 ghost use Rattle.futures_buffered_joins.specs.JoinTask.{PollsJoin, PollsTask};
@@ -15,8 +15,8 @@ use futures::task::{Context, Poll};
 use futures_buffered_core::ready_core::{MAX_CAPACITY, NewFault};
 use futures_buffered_core::ready_shared::{SharedReady, SharedWaker};
 use futures_buffered_core::ready_source::{NewSource, ReadySource};
-use futures_buffered_unordered_bounded::futures_unordered_bounded::POLL_LIMIT;
-use futures_buffered_unordered_bounded::{FusedFuture, SlotFuture};
+use futures_buffered_unordered::futures_unordered_bounded::POLL_LIMIT;
+use futures_buffered_unordered::{FusedFuture, SlotFuture};
 use std::alloc::Global;
 use std::fmt;
 use std::marker::Model;
@@ -36,7 +36,7 @@ pub type JoinAll<F, S> = Join<F, <F as SlotFuture<<S as ReadySource>::Waker>>::O
 impl<F: Drop, A: Drop, S: ReadySource> Model for Join<F, A, S> {
     ghost use Rattle.std.specs.Prelude.{Option};
     ghost use Rattle.std.specs.Coded.{coded_option};
-    ghost use Rattle.futures_buffered_unordered_bounded.specs.FuturesUnorderedBounded.{bounded_code};
+    ghost use Rattle.futures_buffered_unordered.specs.FuturesUnorderedBounded.{bounded_code};
     ghost use Rattle.futures_buffered_joins.specs.Joining.{Places, places_code};
 
     ghost Value = { Option (Places F A S) };

@@ -5,8 +5,8 @@ ghost use Rattle.futures.specs.Poll.{IfReady, OnPending};
 ghost use Rattle.futures.specs.declared.task.context.Context.{Context};
 ghost use Rattle.futures_buffered_core.specs.Drawn.{Draws, DrawsMoreThan};
 ghost use Rattle.futures_buffered_core.specs.SlotMap.{value_in, held_count};
-ghost use Rattle.futures_buffered_unordered_bounded.specs.Held.{AllHeld};
-ghost use Rattle.futures_buffered_unordered_bounded.specs.FuturesUnorderedBounded.{with_empty_slot};
+ghost use Rattle.futures_buffered_unordered.specs.Held.{AllHeld};
+ghost use Rattle.futures_buffered_unordered.specs.FuturesUnorderedBounded.{with_empty_slot};
 ghost use Rattle.futures_buffered_joins.specs.Joining.{Places};
 ghost use Rattle.futures_buffered_joins.specs.JoinMade.{IsMadeOf};
 ghost use Rattle.futures_buffered_joins.specs.JoinTask.{PollsTask};
@@ -17,10 +17,10 @@ use futures::task::{Context, Poll};
 use futures_buffered_core::ready_core::{MAX_CAPACITY, NewFault};
 use futures_buffered_core::ready_source::{NewSource, ReadySource};
 use futures_buffered_core::slot_map::empty_places;
-use futures_buffered_unordered_bounded::futures_unordered_bounded::{
+use futures_buffered_unordered::futures_unordered_bounded::{
     FuturesUnorderedBounded, POLL_LIMIT,
 };
-use futures_buffered_unordered_bounded::{PollFuture, SlotFuture};
+use futures_buffered_unordered::{PollFuture, SlotFuture};
 use std::alloc::Global;
 use std::marker::Model;
 
@@ -33,7 +33,7 @@ pub struct Joining<F: Drop, A: Drop, S: ReadySource> {
 }
 
 impl<F: Drop, A: Drop, S: ReadySource> Model for Joining<F, A, S> {
-    ghost use Rattle.futures_buffered_unordered_bounded.specs.FuturesUnorderedBounded.{bounded_code};
+    ghost use Rattle.futures_buffered_unordered.specs.FuturesUnorderedBounded.{bounded_code};
     ghost use Rattle.futures_buffered_joins.specs.Joining.{Places, places_code};
 
     ghost Value = { Places F A S };

@@ -4,7 +4,7 @@ ghost use Rattle.std.specs.Iterator.{IsFiniteIterable};
 ghost use Rattle.std.specs.declared.alloc.Global.{Global};
 ghost use Rattle.futures_buffered_core.specs.Drawn.{Draws, DrawsMoreThan};
 ghost use Rattle.futures_buffered_core.specs.ReadyShared.{IsNewShared, MarksShared};
-ghost use Rattle.futures_buffered_unordered_bounded.specs.Held.{AllHeld};
+ghost use Rattle.futures_buffered_unordered.specs.Held.{AllHeld};
 ghost use Rattle.futures_buffered_joins.specs.JoinMade.{IsMadeOf};
 ghost use Rattle.futures_buffered_joins.specs.JoinTask.{PollsJoin, PollsTask};
 ghost use Rattle.futures_buffered_joins.specs.TryJoin.{TryJoinGives, TryJoinMayGive, TryJoinsByPlace};
@@ -16,8 +16,8 @@ use futures::task::{Context, Poll};
 use futures_buffered_core::ready_core::{MAX_CAPACITY, NewFault};
 use futures_buffered_core::ready_shared::{SharedReady, SharedWaker};
 use futures_buffered_core::ready_source::{NewSource, ReadySource};
-use futures_buffered_unordered_bounded::futures_unordered_bounded::POLL_LIMIT;
-use futures_buffered_unordered_bounded::{FusedFuture, SlotFuture};
+use futures_buffered_unordered::futures_unordered_bounded::POLL_LIMIT;
+use futures_buffered_unordered::{FusedFuture, SlotFuture};
 use std::alloc::Global;
 use std::fmt;
 use std::marker::Model;
@@ -41,7 +41,7 @@ pub type TryJoinAll<F, S> = TryJoin<
 impl<F: Drop, T: Drop, S: ReadySource> Model for TryJoin<F, T, S> {
     ghost use Rattle.std.specs.Prelude.{Option};
     ghost use Rattle.std.specs.Coded.{coded_option};
-    ghost use Rattle.futures_buffered_unordered_bounded.specs.FuturesUnorderedBounded.{bounded_code};
+    ghost use Rattle.futures_buffered_unordered.specs.FuturesUnorderedBounded.{bounded_code};
     ghost use Rattle.futures_buffered_joins.specs.Joining.{Places, places_code};
 
     ghost Value = { Option (Places F T S) };

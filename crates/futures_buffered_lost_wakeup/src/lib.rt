@@ -1,14 +1,14 @@
 //! That no wake is lost, as a law over every order of the steps of any wakes and of one poller.
 //!
-//! The ready list is the one of `futures_buffered_table`, step by step. What its wakes and its poller do at the place of the task's waker is defined here, a step for each atomic step of `futures_buffered_outer`, so that a reader can lay the two side by side. Nothing ties the two but this reading and the tests; the steps of the list are tied to the code by contracts.
+//! The ready list is the one of `futures_buffered_table`, step by step. What its wakes and its poller do at the place of the task's waker is defined here, a step for each atomic step of `waker_place` in `futures_buffered_core`, so that a reader can lay the two side by side. Nothing ties the two but this reading and the tests; the steps of the list are tied to the code by contracts.
 //!
 //! | Step here | Step of the code |
 //! |---|---|
-//! | `Looks`, `Tries`, `Inside`, then `Wakes` | `OuterPlace::wake`: in `take_out` the load of the word, the compare-exchange, and the store of `put`; then `wake_outer` |
-//! | `GoBack`, and `AtPlace` from `TakesBack` | `TaskPlace::register`, where the poller keeps no waker: in `take_out` the compare-exchange, and the store of `put`. Where the word says that none is kept, or the exchange is lost, nothing changes |
+//! | `Looks`, `Tries`, `Inside`, then `Wakes` | `WakerPlace::wake`: in `take_out` the load of the word, the compare-exchange, and the store of `put`; then `wake_outer` |
+//! | `GoBack`, and `AtPlace` from `TakesBack` | `PollerWaker::register`, where the poller keeps no waker: in `take_out` the compare-exchange, and the store of `put`. Where the word says that none is kept, or the exchange is lost, nothing changes |
 //! | `KeepOwn` | `Context::register`, which leaves the task's waker with the poller |
 //! | `Lacks` | `Context::register` that finds no memory for the waker, and has the task woken |
-//! | `LayOut`, and `AtPlace` from `LaysOut` | `before_empty`, between the link read and the tail read of a taking, or `register` where the source stands beside another: `OuterPlace::put_in`, with its compare-exchange and the store of `put` |
+//! | `LayOut`, and `AtPlace` from `LaysOut` | `before_empty`, between the link read and the tail read of a taking, or `register` where the source stands beside another: `WakerPlace::put_in`, with its compare-exchange and the store of `put` |
 //! | `LayOut` that finds a wake at the place, `Misses` | `put_in` that finds the place taken, or loses the exchange, and wakes its waker |
 //! | `Stop` | a poll that ends with its task woken: by an output, after which the task polls again by itself, or at its limit |
 //! | `Stop`, `Begin` | the same poll registers once more, before it asks the list again |

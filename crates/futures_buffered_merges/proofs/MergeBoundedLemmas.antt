@@ -12,10 +12,10 @@ use Rattle.futures.specs.declared.task.Poll.TheVariants.{Ready, Pending}
 use Rattle.futures_buffered_core.specs.SlotMap.{Slots, value_in, held_count, with_value, with_slot_freed}
 use Rattle.futures_buffered_table.specs.declared.answer.Woke.{Woke}
 use Rattle.futures_buffered_core.specs.ReadySource.{SourceSteps}
-use Rattle.futures_buffered_unordered_bounded.specs.Held.{Passes}
-use Rattle.futures_buffered_unordered_bounded.specs.FuturesUnorderedBounded.{Bounded}
-use Rattle.futures_buffered_unordered_bounded.proofs.HeldLemmas.{value_in-with_value}
-use Rattle.futures_buffered_unordered_bounded.proofs.HeldGivesLemmas.{value_in-with_slot_freed, value_in-with_slot_freed_other}
+use Rattle.futures_buffered_unordered.specs.Held.{Passes}
+use Rattle.futures_buffered_unordered.specs.FuturesUnorderedBounded.{Bounded}
+use Rattle.futures_buffered_unordered.proofs.HeldLemmas.{value_in-with_value}
+use Rattle.futures_buffered_unordered.proofs.HeldGivesLemmas.{value_in-with_slot_freed, value_in-with_slot_freed_other}
 use Rattle.futures_buffered_merges.specs.SlotStream.{items_in, Gave}
 use Rattle.futures_buffered_merges.specs.Merging.{CountEnds, MergeGives}
 use Rattle.futures_buffered_merges.specs.MergeBounded.{items_at, StreamsGave, ComesFromStreams}

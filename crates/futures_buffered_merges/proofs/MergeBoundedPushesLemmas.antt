@@ -8,8 +8,8 @@ use Rattle.futures.specs.declared.task.Poll.{Poll}
 use Rattle.futures_buffered_core.specs.SlotMap.{Slots, value_in, Inserts}
 use Rattle.futures_buffered_table.specs.declared.answer.Woke.{Woke}
 use Rattle.futures_buffered_core.specs.ReadySource.{SourceSteps}
-use Rattle.futures_buffered_unordered_bounded.specs.FuturesUnorderedBounded.{Bounded}
-use Rattle.futures_buffered_unordered_bounded.proofs.HeldLemmas.{value_inserted, value_inserted_other}
+use Rattle.futures_buffered_unordered.specs.FuturesUnorderedBounded.{Bounded}
+use Rattle.futures_buffered_unordered.proofs.HeldLemmas.{value_inserted, value_inserted_other}
 use Rattle.futures_buffered_merges.specs.SlotStream.{item_of, items_in, Became}
 use Rattle.futures_buffered_merges.specs.MergeBounded.{items_at, answered, pushed, answers_of, streams_of, HeldInTurn, StreamsGave, SlotsGaveInTurn, KeepsOrderWithPushes}
 use Rattle.futures_buffered_merges.proofs.SlotStreamLemmas.{became_on}

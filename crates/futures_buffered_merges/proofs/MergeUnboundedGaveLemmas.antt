@@ -7,12 +7,12 @@ use Rattle.futures.specs.declared.task.Poll.{Poll}
 use Rattle.futures.specs.declared.task.Poll.TheVariants.{Ready, Pending}
 use Rattle.futures_buffered_table.specs.declared.answer.Woke.{Woke}
 use Rattle.futures_buffered_core.specs.ReadySource.{SourceSteps}
-use Rattle.futures_buffered_unordered_bounded.specs.FuturesUnorderedBounded.{Bounded}
-use Rattle.futures_buffered_unordered_bounded.specs.Groups.{Groups, Turn, TakesTurn, AsksLast, AsksAll, GroupsGive, ended, is_end, staying, GaveNoOutput, NotAsked, NoOutput}
+use Rattle.futures_buffered_unordered.specs.FuturesUnorderedBounded.{Bounded}
+use Rattle.futures_buffered_unordered.specs.Groups.{Groups, Turn, TakesTurn, AsksLast, AsksAll, GroupsGive, ended, is_end, staying, GaveNoOutput, NotAsked, NoOutput}
 use Rattle.futures_buffered_merges.specs.SlotStream.{items_in}
 use Rattle.futures_buffered_merges.specs.Merging.{MergeGives}
 use Rattle.futures_buffered_merges.specs.MergeBounded.{StreamsGave}
-use Rattle.futures_buffered_unordered_bounded.specs.Interleaves.{Interleaves}
+use Rattle.futures_buffered_unordered.specs.Interleaves.{Interleaves}
 use Rattle.futures_buffered_merges.specs.MergeUnbounded.{HoldsNone, GroupsGave, KeepsOrderInGroups}
 use Rattle.futures_buffered_merges.proofs.MergeBoundedLemmas.{streams_none, streams_on, item_gave, pending_gave, end_gave}
 

@@ -11,15 +11,15 @@ use Rattle.futures_buffered_core.specs.ReadySource.{WaitsAlike, SourceSteps}
 use Rattle.futures_buffered_core.specs.SlotMap.{held_count, slot_count}
 use Rattle.futures_buffered_table.specs.declared.answer.Taken.{Taken}
 use Rattle.futures_buffered_table.specs.declared.answer.Woke.{Woke}
-use Rattle.futures_buffered_unordered_bounded.specs.FuturesUnorderedBounded.{Bounded, AsksUntil, held_in}
-use Rattle.futures_buffered_unordered_bounded.specs.Groups.{AnyOf, Groups, GroupsGive}
-use Rattle.futures_buffered_unordered_bounded.proofs.HeldLemmas.{count-with}
+use Rattle.futures_buffered_unordered.specs.FuturesUnorderedBounded.{Bounded, AsksUntil, held_in}
+use Rattle.futures_buffered_unordered.specs.Groups.{AnyOf, Groups, GroupsGive}
+use Rattle.futures_buffered_unordered.proofs.HeldLemmas.{count-with}
 use Rattle.futures_buffered_unordered.specs.SlotGroups.{all_held, EachCovered, AnyNeeds}
 use Rattle.futures_buffered_unordered.specs.SlotGroupsInvariant.{KeepsGroup}
 use Rattle.futures_buffered_unordered.proofs.SlotGroupsInvariantLemmas.{alike_self, alike_on}
 use Rattle.futures_buffered_unordered.proofs.SlotGroupsLemmas.{covered_of}
 use Rattle.futures_buffered_unordered.proofs.SlotGroupsPollLemmas.{any_left, any_output, ends_empty}
-use Rattle.futures_buffered_unordered_bounded.proofs.FuturesUnorderedBoundedLemmas.{passed_held}
+use Rattle.futures_buffered_unordered.proofs.FuturesUnorderedBoundedLemmas.{passed_held}
 use Rattle.futures_buffered_merges.specs.Merging.{CountEnds, LastCount, MergeGives}
 use Rattle.futures_buffered_merges.specs.MergeUnbounded.{GroupMayGive, ItemsComeFromGroups}
 use Rattle.futures_buffered_merges.proofs.MergeBoundedLemmas.{value_of, rest_of, same_of, ended_of}

@@ -9,10 +9,10 @@ use Rattle.futures_buffered_merges.specs.Merging.{CountGives}
 use Rattle.std.proofs.lemmas.Bool.{cases_eq}
 use Rattle.futures_buffered_core.specs.SlotMap.{Slots, held_count, with_slot_freed}
 use Rattle.futures_buffered_core.specs.ReadySource.{SourceSteps}
-use Rattle.futures_buffered_unordered_bounded.specs.Held.{AllHeld, AllHeldBut}
-use Rattle.futures_buffered_unordered_bounded.specs.FuturesUnorderedBounded.{Bounded, AsksUntil, MarksSlot, OnlyRegisters, with_empty_slot, with_source}
-use Rattle.futures_buffered_unordered_bounded.proofs.FuturesUnorderedBoundedLemmas.{registers_once}
-use Rattle.futures_buffered_unordered_bounded.proofs.HeldGivesLemmas.{value_in-with_slot_freed, value_in-with_slot_freed_other}
+use Rattle.futures_buffered_unordered.specs.Held.{AllHeld, AllHeldBut}
+use Rattle.futures_buffered_unordered.specs.FuturesUnorderedBounded.{Bounded, AsksUntil, MarksSlot, OnlyRegisters, with_empty_slot, with_source}
+use Rattle.futures_buffered_unordered.proofs.FuturesUnorderedBoundedLemmas.{registers_once}
+use Rattle.futures_buffered_unordered.proofs.HeldGivesLemmas.{value_in-with_slot_freed, value_in-with_slot_freed_other}
 
 -- what holds of all but one value holds of all once that slot is empty
 pub AllHeld-without : {F : Type 0} (P : F → Type 0) (m : Slots F) (i : ℕ) → AllHeldBut i P m → AllHeld P (with_slot_freed m i)

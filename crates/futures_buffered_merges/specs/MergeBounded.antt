@@ -7,7 +7,7 @@ use Rattle.futures.specs.Runs.{Runs, seconds}
 use Rattle.futures_buffered_core.specs.SlotMap.{Slots, value_in}
 use Rattle.futures_buffered_table.specs.declared.answer.Woke.{Woke}
 use Rattle.futures_buffered_core.specs.ReadySource.{SourceSteps}
-use Rattle.futures_buffered_unordered_bounded.specs.FuturesUnorderedBounded.{Bounded, Pushes}
+use Rattle.futures_buffered_unordered.specs.FuturesUnorderedBounded.{Bounded, Pushes}
 use Rattle.futures_buffered_merges.specs.SlotStream.{items_in, Became}
 use Rattle.futures_buffered_merges.specs.Merging.{MergeGives}
 

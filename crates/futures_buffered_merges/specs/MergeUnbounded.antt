@@ -6,9 +6,9 @@ use Rattle.futures.specs.Runs.{Runs, ItemsWhere, seconds}
 use Rattle.futures_buffered_core.specs.SlotMap.{Slots, value_in}
 use Rattle.futures_buffered_table.specs.declared.answer.Woke.{Woke}
 use Rattle.futures_buffered_core.specs.ReadySource.{SourceSteps}
-use Rattle.futures_buffered_unordered_bounded.specs.FuturesUnorderedBounded.{Bounded}
-use Rattle.futures_buffered_unordered_bounded.specs.Interleaves.{Interleaves}
-use Rattle.futures_buffered_unordered_bounded.specs.Groups.{AnyOf, Groups, GroupsGive}
+use Rattle.futures_buffered_unordered.specs.FuturesUnorderedBounded.{Bounded}
+use Rattle.futures_buffered_unordered.specs.Interleaves.{Interleaves}
+use Rattle.futures_buffered_unordered.specs.Groups.{AnyOf, Groups, GroupsGive}
 use Rattle.futures_buffered_unordered.specs.SlotGroups.{Growing, GrowingPushes}
 use Rattle.futures_buffered_unordered.specs.declared.slot_groups.TheConstants.{FIRST_GROUP}
 use Rattle.futures_buffered_merges.specs.SlotStream.{items_in}

@@ -9,9 +9,9 @@ ghost use Rattle.futures.specs.Task.{Covers, Keeps};
 ghost use Rattle.futures_buffered_core.specs.Drawn.{Draws, DrawsMoreThan};
 ghost use Rattle.futures_buffered_core.specs.ReadyShared.{IsNewShared, MarksShared};
 ghost use Rattle.futures_buffered_core.specs.SlotMap.{held_count, slot_count, IsFull};
-ghost use Rattle.futures_buffered_unordered_bounded.specs.Held.{AllHeld};
-ghost use Rattle.futures_buffered_unordered_bounded.specs.FuturesUnorderedBounded.{HoldsEach, IsWoken, OnlyRegisters, Pushes, SaidEmpty};
-ghost use Rattle.futures_buffered_unordered_bounded.specs.Groups.{GroupLeavesTask};
+ghost use Rattle.futures_buffered_unordered.specs.Held.{AllHeld};
+ghost use Rattle.futures_buffered_unordered.specs.FuturesUnorderedBounded.{HoldsEach, IsWoken, OnlyRegisters, Pushes, SaidEmpty};
+ghost use Rattle.futures_buffered_unordered.specs.Groups.{GroupLeavesTask};
 ghost use Rattle.futures_buffered_merges.specs.Merging.{MergeAsksToEmpty, MergeGives, MergeStops};
 ghost use Rattle.futures_buffered_merges.specs.MergeBounded.{KeepsOrder, KeepsOrderWithPushes, ComesFromStreams};
 
@@ -22,8 +22,8 @@ use futures::task::{Context, Poll};
 use futures_buffered_core::ready_core::{MAX_CAPACITY, NewFault};
 use futures_buffered_core::ready_shared::SharedReady;
 use futures_buffered_core::ready_source::{NewSource, ReadySource};
-use futures_buffered_unordered_bounded::fused::{FusedStream, SizeHint};
-use futures_buffered_unordered_bounded::futures_unordered_bounded::{
+use futures_buffered_unordered::fused::{FusedStream, SizeHint};
+use futures_buffered_unordered::futures_unordered_bounded::{
     FuturesUnorderedBounded, POLL_LIMIT,
 };
 use std::alloc::Global;
@@ -42,7 +42,7 @@ pub struct MergeBounded<St: Drop, S: ReadySource> {
 pub type Merge<St, S> = MergeBounded<St, S>;
 
 impl<St: Drop, S: ReadySource> Model for MergeBounded<St, S> {
-    ghost use Rattle.futures_buffered_unordered_bounded.specs.FuturesUnorderedBounded.{Bounded, bounded_code};
+    ghost use Rattle.futures_buffered_unordered.specs.FuturesUnorderedBounded.{Bounded, bounded_code};
 
     ghost Value = { Bounded St S };
 

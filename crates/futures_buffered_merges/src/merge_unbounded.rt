@@ -8,8 +8,8 @@ ghost use Rattle.futures.specs.Runs.{After, Within};
 ghost use Rattle.futures.specs.Task.{Covers, Keeps};
 ghost use Rattle.futures_buffered_core.specs.Drawn.{Draws};
 ghost use Rattle.futures_buffered_core.specs.ReadyShared.{IsNewShared, MarksShared};
-ghost use Rattle.futures_buffered_unordered_bounded.specs.FuturesUnorderedBounded.{OnlyRegisters};
-ghost use Rattle.futures_buffered_unordered_bounded.specs.Groups.{GroupsGive, GroupsLeaveTask};
+ghost use Rattle.futures_buffered_unordered.specs.FuturesUnorderedBounded.{OnlyRegisters};
+ghost use Rattle.futures_buffered_unordered.specs.Groups.{GroupsGive, GroupsLeaveTask};
 ghost use Rattle.futures_buffered_unordered.specs.SlotGroups.{EachHeld, EachCovered, AnyNeeds, GrowingPushes, IsAtBound, LastIsFull, PushesEach, StopsAtBound, no_groups, all_held};
 ghost use Rattle.futures_buffered_merges.specs.Merging.{MergeAsksToEmpty, MergeGives, MergeStops};
 ghost use Rattle.futures_buffered_merges.specs.MergeUnbounded.{ItemsComeFromGroups, KeepsOrderInGroups, KeepsOrderInGroupsWithPushes};
@@ -22,8 +22,8 @@ use futures_buffered_core::ready_core::NewFault;
 use futures_buffered_core::ready_shared::SharedReady;
 use futures_buffered_core::ready_source::NewSource;
 use futures_buffered_unordered::slot_groups::{AskGroup, FIRST_GROUP, MAX_HELD, SlotGroups};
-use futures_buffered_unordered_bounded::fused::{FusedStream, SizeHint};
-use futures_buffered_unordered_bounded::futures_unordered_bounded::{
+use futures_buffered_unordered::fused::{FusedStream, SizeHint};
+use futures_buffered_unordered::futures_unordered_bounded::{
     FuturesUnorderedBounded, POLL_LIMIT,
 };
 use std::alloc::Global;

@@ -3,15 +3,15 @@ ghost use Rattle.std.specs.Prelude.{◌≡◌, ◌<◌, ◌+◌, ◌≤◌, ◌�
 ghost use Rattle.futures.specs.Poll.{IfReady, OnPending};
 ghost use Rattle.futures.specs.Task.{Covers, Keeps};
 ghost use Rattle.futures_buffered_core.specs.SlotMap.{held_count, slot_count, value_in};
-ghost use Rattle.futures_buffered_unordered_bounded.specs.Held.{AllHeld, AllHeldBut, EndsWith};
-ghost use Rattle.futures_buffered_unordered_bounded.specs.FuturesUnorderedBounded.{AsksUntil, IsWoken, LeavesTask, OnlyRegisters, SaidEmpty};
-ghost use Rattle.futures_buffered_unordered_bounded.specs.Groups.{GroupLeavesTask};
+ghost use Rattle.futures_buffered_unordered.specs.Held.{AllHeld, AllHeldBut, EndsWith};
+ghost use Rattle.futures_buffered_unordered.specs.FuturesUnorderedBounded.{AsksUntil, IsWoken, LeavesTask, OnlyRegisters, SaidEmpty};
+ghost use Rattle.futures_buffered_unordered.specs.Groups.{GroupLeavesTask};
 ghost use Rattle.futures_buffered_merges.specs.Merging.{CountGives, MergeAsksToEmpty, MergeGives, MergeStops};
 
 use crate::slot_stream::{PollStream, SlotStream};
 use futures::task::{Context, Poll};
 use futures_buffered_core::ready_source::ReadySource;
-use futures_buffered_unordered_bounded::futures_unordered_bounded::FuturesUnorderedBounded;
+use futures_buffered_unordered::futures_unordered_bounded::FuturesUnorderedBounded;
 
 // The takings of one count of names, after a registration where the task is not registered yet.
 fn ask_streams<St: SlotStream<S::Waker>, S: ReadySource>(
@@ -41,7 +41,7 @@ fn ask_streams<St: SlotStream<S::Waker>, S: ReadySource>(
     ensures kept { Keeps cx.old cx.new }
 {
     if is_registered {
-        set.poll_first_covered(&PollStream, cx)
+        set.poll_first_registered(&PollStream, cx)
     } else {
         set.poll_first(&PollStream, cx)
     }

@@ -2,13 +2,13 @@
 ghost use Rattle.std.specs.Prelude.{ℕ};
 
 use futures::task::Poll;
-use futures_buffered_core::ready_source::NamesSlot;
-use futures_buffered_unordered_bounded::poll_one::PollOne;
+use futures_buffered_core::ready_source::SlotHandle;
+use futures_buffered_unordered::poll_one::PollOne;
 
 /// A stream that is polled with the waker `W` of its slot, in place of a task's context.
 ///
 /// A merge polls it when its slot is named, so a pending stream arranges for that waker to be woken, or is polled no more. An impl says by `can_poll` which values may be polled, by default all, and by `polled` what a poll with the waker of a slot may answer and leave, by default anything. After an item, and after a pending answer, it may be polled again. One that keeps its waker, or wakes it, asks for a `W: SlotWaker`.
-pub trait SlotStream<W: NamesSlot>: Drop {
+pub trait SlotStream<W: SlotHandle>: Drop {
     ghost use Rattle.std.specs.Prelude.{⊤, Option, OnSome};
     ghost use Rattle.futures.specs.Poll.{IfReady, OnPending};
     ghost use Rattle.futures.specs.declared.task.Poll.{Poll};
@@ -35,7 +35,7 @@ pub trait SlotStream<W: NamesSlot>: Drop {
 #[derive(Clone, Copy)]
 pub struct PollStream;
 
-impl<W: NamesSlot, St: SlotStream<W>> PollOne<St, W> for PollStream {
+impl<W: SlotHandle, St: SlotStream<W>> PollOne<St, W> for PollStream {
     ghost use Rattle.std.specs.Prelude.{IsSome};
 
     type Output = Option<St::Item>;

@@ -11,8 +11,8 @@ use Rattle.futures_buffered_core.specs.SlotMap.{slot_count, held_count, no_slots
 use Rattle.futures_buffered_table.specs.declared.answer.Taken.{Taken}
 use Rattle.futures_buffered_table.specs.declared.answer.Taken.TheVariants.{Slot, Empty, Pause}
 use Rattle.futures_buffered_core.specs.ReadySource.{SourceSteps}
-use Rattle.futures_buffered_unordered_bounded.specs.FuturesUnorderedBounded.{Bounded, EndsWaiting, held_in, names_taken}
-use Rattle.futures_buffered_unordered_bounded.proofs.FuturesUnorderedBoundedLemmas.{poll_gave, poll_still}
+use Rattle.futures_buffered_unordered.specs.FuturesUnorderedBounded.{Bounded, EndsWaiting, held_in, names_taken}
+use Rattle.futures_buffered_unordered.proofs.FuturesUnorderedBoundedLemmas.{poll_gave, poll_still}
 use Rattle.futures_buffered_ordered.specs.Numbered.{PollsNumbered, held_with}
 use Rattle.futures_buffered_ordered.specs.OrderedEntries.{SetYields, MayRefuse}
 use Rattle.futures_buffered_ordered.specs.OrderedEntriesInvariant.{Numbering}

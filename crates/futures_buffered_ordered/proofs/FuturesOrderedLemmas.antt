@@ -9,8 +9,8 @@ use Rattle.futures.specs.declared.task.Poll.{Poll}
 use Rattle.futures.specs.declared.task.Poll.TheVariants.{Ready, Pending}
 use Rattle.futures_buffered_table.specs.declared.answer.Woke.{Woke}
 use Rattle.futures_buffered_core.specs.ReadySource.{SourceSteps}
-use Rattle.futures_buffered_unordered_bounded.specs.FuturesUnorderedBounded.{Bounded, PollGives, held_in}
-use Rattle.futures_buffered_unordered_bounded.specs.Groups.{Groups, GroupsGive}
+use Rattle.futures_buffered_unordered.specs.FuturesUnorderedBounded.{Bounded, PollGives, held_in}
+use Rattle.futures_buffered_unordered.specs.Groups.{Groups, GroupsGive}
 use Rattle.futures_buffered_unordered.specs.SlotGroups.{AnyNeeds, EachCovered, Growing, GrowingPushes, IsNewGrowing, all_held}
 use Rattle.futures_buffered_unordered.proofs.SlotGroupsLemmas.{covered_of, new_holds_none}
 use Rattle.futures_buffered_unordered.proofs.FuturesUnorderedLemmas.{gave, still}

@@ -7,9 +7,9 @@ use Rattle.futures.specs.declared.task.Poll.{Poll}
 use Rattle.futures_buffered_table.specs.declared.answer.Woke.{Woke}
 use Rattle.futures_buffered_core.specs.Drawn.{DrawsAndOne}
 use Rattle.futures_buffered_core.specs.ReadySource.{SourceSteps}
-use Rattle.futures_buffered_unordered_bounded.specs.FuturesUnorderedBounded.{AsksInPart, OnlyRegisters}
-use Rattle.futures_buffered_unordered_bounded.specs.FuturesUnorderedBounded.{PollAsksToEmpty, PollGives}
-use Rattle.futures_buffered_unordered_bounded.specs.Groups.{GroupsGive, GroupsLeaveTask}
+use Rattle.futures_buffered_unordered.specs.FuturesUnorderedBounded.{AsksInPart, OnlyRegisters}
+use Rattle.futures_buffered_unordered.specs.FuturesUnorderedBounded.{PollAsksToEmpty, PollGives}
+use Rattle.futures_buffered_unordered.specs.Groups.{GroupsGive, GroupsLeaveTask}
 use Rattle.futures_buffered_unordered.specs.SlotGroups.{Growing, GrowingPushes, IsNewGrowing}
 use Rattle.futures_buffered_unordered.specs.SlotGroups.{LastIsFull, IsAtBound, EachHeld, all_held}
 use Rattle.futures_buffered_unordered.specs.FuturesUnordered.{AnyGroupMayGive}

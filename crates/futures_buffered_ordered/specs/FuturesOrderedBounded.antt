@@ -7,10 +7,10 @@ use Rattle.futures.specs.declared.task.Poll.TheVariants.{Ready, Pending}
 use Rattle.futures_buffered_core.specs.SlotMap.{slot_count}
 use Rattle.futures_buffered_table.specs.declared.answer.Woke.{Woke}
 use Rattle.futures_buffered_core.specs.ReadySource.{SourceSteps}
-use Rattle.futures_buffered_unordered_bounded.specs.Held.{AllHeld, AnyMayGive}
-use Rattle.futures_buffered_unordered_bounded.specs.FuturesUnorderedBounded.{Bounded, IsNewSet}
-use Rattle.futures_buffered_unordered_bounded.specs.FuturesUnorderedBounded.{Pushes, PollGives, PollLeavesTask}
-use Rattle.futures_buffered_unordered_bounded.specs.FuturesUnorderedBounded.{held_in, names_taken}
+use Rattle.futures_buffered_unordered.specs.Held.{AllHeld, AnyMayGive}
+use Rattle.futures_buffered_unordered.specs.FuturesUnorderedBounded.{Bounded, IsNewSet}
+use Rattle.futures_buffered_unordered.specs.FuturesUnorderedBounded.{Pushes, PollGives, PollLeavesTask}
+use Rattle.futures_buffered_unordered.specs.FuturesUnorderedBounded.{held_in, names_taken}
 use Rattle.futures_buffered_ordered.specs.Numbered.{CanPollFuture, PollsNumbered}
 use Rattle.futures_buffered_ordered.specs.OrderedEntries.{Ordered, IsNewQueue, AddsEachBack}
 use Rattle.futures_buffered_ordered.specs.OrderedEntries.{SetYields, LastStep, OrderedGives}

@@ -1,7 +1,7 @@
 -- How a bounded ordered queue keeps itself. No public clause cites it.
 use Rattle.std.specs.Prelude.{◌^◌, ◌<◌, ◌≤◌}
 use Rattle.futures_buffered_core.specs.SlotMap.{slot_count}
-use Rattle.futures_buffered_unordered_bounded.specs.FuturesUnorderedBounded.{Bounded, held_in}
+use Rattle.futures_buffered_unordered.specs.FuturesUnorderedBounded.{Bounded, held_in}
 use Rattle.futures_buffered_ordered.specs.Numbered.{held_with}
 use Rattle.futures_buffered_ordered.specs.OrderedEntriesInvariant.{Numbering, IsNumbered}
 use Rattle.futures_buffered_ordered.specs.declared.numbered.Numbered.{Numbered}

@@ -20,9 +20,9 @@ use futures_buffered_core::ready_core::{MAX_CAPACITY, NewFault};
 use futures_buffered_core::ready_shared::{SharedReady, SharedWaker};
 use futures_buffered_core::ready_source::{NewSource, ReadySource};
 use futures_buffered_unordered::futures_unordered::{FIRST_GROUP, FuturesUnordered};
-use futures_buffered_unordered_bounded::futures_unordered_bounded::POLL_LIMIT;
-use futures_buffered_unordered_bounded::poll_one::PollOne;
-use futures_buffered_unordered_bounded::slot_future::SlotFuture;
+use futures_buffered_unordered::futures_unordered_bounded::POLL_LIMIT;
+use futures_buffered_unordered::poll_one::PollOne;
+use futures_buffered_unordered::slot_future::SlotFuture;
 use std::alloc::Global;
 use std::marker::Model;
 

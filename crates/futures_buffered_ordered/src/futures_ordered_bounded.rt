@@ -9,7 +9,7 @@ ghost use Rattle.futures_buffered_core.specs.Answer.{RefusesTooLarge};
 ghost use Rattle.futures_buffered_core.specs.Drawn.{Draws, DrawsMoreThan};
 ghost use Rattle.futures_buffered_core.specs.ReadyShared.{IsNewShared, MarksShared};
 ghost use Rattle.futures_buffered_core.specs.SlotMap.{slot_count};
-ghost use Rattle.futures_buffered_unordered_bounded.specs.FuturesUnorderedBounded.{SaidEmpty, IsWoken, held_in};
+ghost use Rattle.futures_buffered_unordered.specs.FuturesUnorderedBounded.{SaidEmpty, IsWoken, held_in};
 ghost use Rattle.futures_buffered_ordered.specs.Numbered.{held_with};
 ghost use Rattle.futures_buffered_ordered.specs.OrderedEntries.{AddsBack, AddsEachBack, AddsFront, EachHasOne, OrderedGives, OrderedLeavesTask, Stays, StopsAt, starts_running};
 ghost use Rattle.futures_buffered_ordered.specs.FuturesOrderedBounded.{EachRunning, HoldsInOrder, QueueIsFull, IsNewBoundedQueue, PushesNumber, SameSlots, SetGives, SetIsFull, SetLeavesTask, TakesFewNames};
@@ -22,17 +22,17 @@ use futures::task::{Context, Poll};
 use futures_buffered_core::ready_core::{MAX_CAPACITY, NewFault, Woke};
 use futures_buffered_core::ready_shared::{SharedReady, SharedWaker};
 use futures_buffered_core::ready_source::{NewSource, ReadySource};
-use futures_buffered_unordered_bounded::futures_unordered_bounded::{
+use futures_buffered_unordered::futures_unordered_bounded::{
     FuturesUnorderedBounded, POLL_LIMIT,
 };
-use futures_buffered_unordered_bounded::poll_one::PollOne;
-use futures_buffered_unordered_bounded::slot_future::SlotFuture;
+use futures_buffered_unordered::poll_one::PollOne;
+use futures_buffered_unordered::slot_future::SlotFuture;
 use std::alloc::Global;
 use std::marker::Model;
 
 impl<T: Drop, S: ReadySource> NumberedSet for FuturesUnorderedBounded<Numbered<T>, S> {
     ghost use Rattle.std.proofs.Common.{◌≡◌, ℕ, ◌+◌, OnOk, OnErr, IfErr, IsErr, refl, ◌∙◌};
-    ghost use Rattle.futures_buffered_unordered_bounded.specs.FuturesUnorderedBounded.{held_in};
+    ghost use Rattle.futures_buffered_unordered.specs.FuturesUnorderedBounded.{held_in};
     ghost use Rattle.futures_buffered_ordered.specs.Numbered.{held_with, one_at};
     ghost use Rattle.futures_buffered_ordered.specs.FuturesOrderedBounded.{PushesNumber, SameSlots, SetIsFull};
 

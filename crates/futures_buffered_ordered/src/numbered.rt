@@ -2,8 +2,8 @@
 ghost use Rattle.futures_buffered_ordered.specs.Numbered.{CanPollFuture, PollsNumbered};
 
 use futures::task::Poll;
-use futures_buffered_unordered_bounded::poll_one::PollOne;
-use futures_buffered_unordered_bounded::slot_future::NamesSlot;
+use futures_buffered_unordered::poll_one::PollOne;
+use futures_buffered_unordered::slot_future::SlotHandle;
 
 /// What the set of a queue holds: a future, and the number that its entry has.
 #[derive(Drop)]
@@ -27,7 +27,7 @@ impl<'a, R> PollNumbered<'a, R> {
     }
 }
 
-impl<'a, T: Drop, W: NamesSlot, R: PollOne<T, W>> PollOne<Numbered<T>, W> for PollNumbered<'a, R> {
+impl<'a, T: Drop, W: SlotHandle, R: PollOne<T, W>> PollOne<Numbered<T>, W> for PollNumbered<'a, R> {
     type Output = (usize, R::Output);
 
     ghost can_poll = { CanPollFuture R.can_poll };

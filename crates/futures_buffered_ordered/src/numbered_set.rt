@@ -2,7 +2,7 @@
 ghost use Rattle.std.specs.Prelude.{◌≡◌, ◌↔◌, ◌+◌, ℕ, Option, OnOk, OnErr, IfErr, IfNone, IsErr, IsTrue};
 ghost use Rattle.futures.specs.Task.{Keeps};
 ghost use Rattle.futures.specs.Poll.{IfReady, OnPending};
-ghost use Rattle.futures_buffered_unordered_bounded.specs.Groups.{outputs_in};
+ghost use Rattle.futures_buffered_unordered.specs.Groups.{outputs_in};
 ghost use Rattle.futures_buffered_ordered.specs.Numbered.{one_at, outputs_with};
 
 use crate::numbered::Numbered;

@@ -11,9 +11,9 @@ use crate::futures_ordered::GrowingQueue;
 use futures::Stream;
 use futures::task::{Context, Poll};
 use futures_buffered_core::ready_source::NewSource;
-use futures_buffered_unordered_bounded::fused::{FusedStream, SizeHint};
-use futures_buffered_unordered_bounded::poll_one::PollFuture;
-use futures_buffered_unordered_bounded::slot_future::SlotFuture;
+use futures_buffered_unordered::fused::{FusedStream, SizeHint};
+use futures_buffered_unordered::poll_one::PollFuture;
+use futures_buffered_unordered::slot_future::SlotFuture;
 use std::fmt;
 
 impl<T, A, S> Stream for GrowingQueue<T, A, S>

@@ -4,7 +4,7 @@ ghost use Rattle.futures.specs.Task.{Covers, Keeps};
 ghost use Rattle.futures.specs.Runs.{After, Within};
 ghost use Rattle.futures.specs.Poll.{IfReady, OnPending};
 ghost use Rattle.futures_buffered_core.specs.SlotMap.{slot_count};
-ghost use Rattle.futures_buffered_unordered_bounded.specs.FuturesUnorderedBounded.{SaidEmpty, IsWoken, held_in};
+ghost use Rattle.futures_buffered_unordered.specs.FuturesUnorderedBounded.{SaidEmpty, IsWoken, held_in};
 ghost use Rattle.futures_buffered_ordered.specs.OrderedEntries.{ComesInOrder, OrderedGives, OrderedLeavesTask, starts_running};
 ghost use Rattle.futures_buffered_ordered.specs.FuturesOrderedBounded.{EachRunning, SetGives, SetLeavesTask, SetMayGive};
 
@@ -12,9 +12,9 @@ use crate::futures_ordered_bounded::BoundedQueue;
 use futures::Stream;
 use futures::task::{Context, Poll};
 use futures_buffered_core::ready_source::ReadySource;
-use futures_buffered_unordered_bounded::fused::{FusedStream, SizeHint};
-use futures_buffered_unordered_bounded::poll_one::PollFuture;
-use futures_buffered_unordered_bounded::slot_future::SlotFuture;
+use futures_buffered_unordered::fused::{FusedStream, SizeHint};
+use futures_buffered_unordered::poll_one::PollFuture;
+use futures_buffered_unordered::slot_future::SlotFuture;
 use std::fmt;
 
 impl<T, A, S> Stream for BoundedQueue<T, A, S>

@@ -3,7 +3,7 @@ use crate::same::assert_same;
 use futures::task::Poll;
 use futures::test::MockTask;
 use futures_buffered_core::ready_core::NewFault;
-use futures_buffered_core::ready_source::NamesSlot;
+use futures_buffered_core::ready_source::SlotHandle;
 use futures_buffered_sets::merge_unbounded::MergeUnbounded;
 use futures_buffered_sets::slot_stream::SlotStream;
 use std::alloc::{AllocError, Global};
@@ -121,7 +121,7 @@ enum Barren {
     Ends,
 }
 
-impl<W: NamesSlot> SlotStream<W> for Barren {
+impl<W: SlotHandle> SlotStream<W> for Barren {
     type Item = u64;
 
     fn poll_next(&mut self, _waker: &W) -> Poll<Option<u64>> {

@@ -101,15 +101,15 @@ fn new_set(alloc: Global) -> Result<Shared, NewFault> {
 }
 
 // The set beside which it is made is gone once it is there.
-fn new_beside(alloc: Global) -> Result<Shared, NewFault> {
+fn make_sibling(alloc: Global) -> Result<Shared, NewFault> {
     let mut other = FuturesUnorderedBounded::new(alloc, 1)?;
-    other.new_beside(alloc, SLOTS)
+    other.make_sibling(alloc, SLOTS)
 }
 
 #[test]
 fn a_new_set_has_no_mark(rt: HostRuntime) -> Result<(), Fail> {
     fills(&rt, new_set(rt.alloc())?)?;
-    fills(&rt, new_beside(rt.alloc())?)
+    fills(&rt, make_sibling(rt.alloc())?)
 }
 
 // The first group is filled, and one more is pushed.

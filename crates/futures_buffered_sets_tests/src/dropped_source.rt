@@ -101,8 +101,8 @@ impl<S: NewSource<Env = ()>> NewSource for DroppedSource<S> {
         Ok(DroppedSource::over(source, env)?)
     }
 
-    fn make_beside(&mut self, alloc: Global, cap: usize) -> Result<DroppedSource<S>, NewFault> {
-        let source = self.source.make_beside(alloc, cap)?;
+    fn make_sibling(&mut self, alloc: Global, cap: usize) -> Result<DroppedSource<S>, NewFault> {
+        let source = self.source.make_sibling(alloc, cap)?;
         Ok(DroppedSource::over(source, &self.drops)?)
     }
 }

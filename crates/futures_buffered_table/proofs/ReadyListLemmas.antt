@@ -11,7 +11,7 @@ use Rattle.futures_buffered_table.specs.ReadyListInvariant.{KeepsList, KeepsSeat
 use Rattle.futures_buffered_table.specs.ReadyList.{AddsSteps, IsInRole, ListIdentity}
 use Rattle.futures_buffered_table.specs.Rule.{HoldsRow, MayFind, PlaysRole}
 use Rattle.futures_buffered_table.specs.Effect.{next_view, put_by_role, word_of_role}
-use Rattle.futures_buffered_table.proofs.RuleLemmas.{NamesSlot, seated, is_seated, allows_step, allows_store}
+use Rattle.futures_buffered_table.proofs.RuleLemmas.{SlotHandle, seated, is_seated, allows_step, allows_store}
 
 module _ (table : TableId) (key n : ℕ) (L : KeepsList table key n) (seen : ListIdentity)
     (view_is : record { list = table; capacity = n } ≡ seen) where
@@ -40,7 +40,7 @@ module _ (table : TableId) (key n : ℕ) (L : KeepsList table key n) (seen : Lis
   -- its step is at the word i
   module _ (seat : Seat ℕ View) (role : Role) (sits : IsInRole seen role seat)
       (i : ℕ) (lt : n ≡ seen.capacity →
-      NamesSlot n seat.id i seat.me.0.steps role) (there : i ≡ word_of_role n i role) (low : n ≡ seen.capacity → i < n + n + 2) where
+      SlotHandle n seat.id i seat.me.0.steps role) (there : i ≡ word_of_role n i role) (low : n ≡ seen.capacity → i < n + n + 2) where
     in_words : i < table.words
     in_words = let a = L.words in let b = low cap in omega arith
 

@@ -133,11 +133,11 @@ module _ (n id i : ℕ) (steps : List AtomicStep) where
       )
 
   -- an idle seat wakes a slot below the capacity
-  abbrev pub NamesSlot : Role → Type 0
-  NamesSlot Idle = i < n
-  NamesSlot _ = Unit {0}
+  abbrev pub SlotHandle : Role → Type 0
+  SlotHandle Idle = i < n
+  SlotHandle _ = Unit {0}
 
-  keeps_rule : (role : Role) → NamesSlot role → i ≡ word_of_role n i role
+  keeps_rule : (role : Role) → SlotHandle role → i ≡ word_of_role n i role
       → (s : State ℕ View) → HoldsRow n s → get_elem? s.views id ≡ some (seated n role steps).0 → Keeps role s
   keeps_rule Idle lt = wake_keeps_rule Idle (λ _. lt) (λ _ _ e. cc)
   keeps_rule (Won e) lt = wake_keeps_rule (Won e) (λ e. absurd cc) (λ _ _ e. cc)
@@ -146,7 +146,7 @@ module _ (n id i : ℕ) (steps : List AtomicStep) where
   keeps_rule (Polls h phase) lt = poll_keeps_rule h phase
 
   -- so the table lets the seat make it, by a step that puts what the role puts there
-  module _ (role : Role) (lt : NamesSlot role) (there : i ≡ word_of_role n i role) (slots key : ℕ) (is_key : key ≡ n) (me : Me ℕ View)
+  module _ (role : Role) (lt : SlotHandle role) (there : i ≡ word_of_role n i role) (slots key : ℕ) (is_key : key ≡ n) (me : Me ℕ View)
       (is_me : me ≡ seated n role steps) where
     pub allows_step : (a b : ℕ) (f : ℕ → ℕ) → ((found : ℕ) → put_by_role n role found ≡ f found)
         → Allows (HoldsRow key) slots id me i f (PlaysRole (table_step slots i a b none) me)

@@ -3,14 +3,14 @@ use crate::same::assert_same;
 use futures::executor::block_on;
 use futures::task::Poll;
 use futures::{StreamExt, stream};
-use futures_buffered::{BufferedStreamExt, BufferedTryStreamExt, NamesSlot, SlotFuture};
+use futures_buffered::{BufferedStreamExt, BufferedTryStreamExt, SlotHandle, SlotFuture};
 use std::test::Fail;
 
 // Gives the double of its number at its first poll.
 #[derive(Drop)]
 struct Double(u64);
 
-impl<W: NamesSlot> SlotFuture<W> for Double {
+impl<W: SlotHandle> SlotFuture<W> for Double {
     type Output = u64;
 
     fn poll(&mut self, _waker: &W) -> Poll<u64> {
@@ -22,7 +22,7 @@ impl<W: NamesSlot> SlotFuture<W> for Double {
 #[derive(Drop)]
 struct TryDouble(u64);
 
-impl<W: NamesSlot> SlotFuture<W> for TryDouble {
+impl<W: SlotHandle> SlotFuture<W> for TryDouble {
     type Output = Result<u64, u64>;
 
     fn poll(&mut self, _waker: &W) -> Poll<Result<u64, u64>> {

@@ -1,7 +1,7 @@
 //! A future whose drops are counted, and those of its output.
 use futures::task::Poll;
 use futures_buffered::SlotFuture;
-use futures_buffered_core::ready_source::NamesSlot;
+use futures_buffered_core::ready_source::SlotHandle;
 use test_support::dropped::Dropped;
 
 /// Counts its own drop, and gives a value that counts its drop, or an error; or it is pending for good.
@@ -18,7 +18,7 @@ impl Holder {
     }
 }
 
-impl<W: NamesSlot> SlotFuture<W> for Holder {
+impl<W: SlotHandle> SlotFuture<W> for Holder {
     type Output = Result<Dropped, u64>;
 
     fn poll(&mut self, _waker: &W) -> Poll<Result<Dropped, u64>> {

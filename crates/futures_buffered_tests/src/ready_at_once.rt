@@ -1,11 +1,11 @@
 //! A future that is ready at its first poll.
 use futures::task::Poll;
-use futures_buffered::{NamesSlot, SlotFuture};
+use futures_buffered::{SlotHandle, SlotFuture};
 
 #[derive(Drop)]
 pub struct ReadyAtOnce;
 
-impl<W: NamesSlot> SlotFuture<W> for ReadyAtOnce {
+impl<W: SlotHandle> SlotFuture<W> for ReadyAtOnce {
     type Output = ();
 
     fn poll(&mut self, _waker: &W) -> Poll<()> {

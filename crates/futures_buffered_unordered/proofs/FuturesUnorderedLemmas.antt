@@ -9,11 +9,11 @@ use Rattle.futures.specs.declared.task.Poll.TheVariants.{Ready, Pending}
 use Rattle.futures_buffered_core.specs.ReadySource.{WaitsAlike, SourceSteps}
 use Rattle.futures_buffered_core.specs.SlotMap.{slot_count}
 use Rattle.futures_buffered_table.specs.declared.answer.Taken.{Taken}
-use Rattle.futures_buffered_unordered_bounded.specs.Held.{AnyMayGive}
-use Rattle.futures_buffered_unordered_bounded.specs.FuturesUnorderedBounded.{AsksInPart, Bounded, OnlyRegisters, PollAsksToEmpty, PollGives, PollLeavesTask, held_in}
-use Rattle.futures_buffered_unordered_bounded.specs.Groups.{GroupLeavesTask, Groups, GroupsGive, outputs_in}
-use Rattle.futures_buffered_unordered_bounded.proofs.HeldGivesLemmas.{Gathers-Within, Gathers-After}
-use Rattle.futures_buffered_unordered_bounded.proofs.FuturesUnorderedBoundedLemmas.{registers_none, registers_once, poll_counted, poll_pending_holds, poll_end_is_empty, poll_gave, poll_still}
+use Rattle.futures_buffered_unordered.specs.Held.{AnyMayGive}
+use Rattle.futures_buffered_unordered.specs.FuturesUnorderedBounded.{AsksInPart, Bounded, OnlyRegisters, PollAsksToEmpty, PollGives, PollLeavesTask, held_in}
+use Rattle.futures_buffered_unordered.specs.Groups.{GroupLeavesTask, Groups, GroupsGive, outputs_in}
+use Rattle.futures_buffered_unordered.proofs.HeldGivesLemmas.{Gathers-Within, Gathers-After}
+use Rattle.futures_buffered_unordered.proofs.FuturesUnorderedBoundedLemmas.{registers_none, registers_once, poll_counted, poll_pending_holds, poll_end_is_empty, poll_gave, poll_still}
 use Rattle.futures_buffered_unordered.specs.SlotGroups.{all_held}
 use Rattle.futures_buffered_unordered.specs.SlotGroupsInvariant.{KeepsGroup}
 use Rattle.futures_buffered_unordered.specs.FuturesUnordered.{AnyGroupMayGive, ComesFromGroups}

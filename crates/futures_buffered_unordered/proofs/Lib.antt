@@ -1,3 +1,12 @@
+pub mod StreamAnswersLemmas
+pub mod HeldLemmas
+pub mod HeldGivesLemmas
+pub mod FuturesUnorderedBoundedLemmas
+pub mod GroupsLemmas
+pub mod GroupsStepLemmas
+pub mod GroupsRoundLemmas
+pub mod GroupsPollLemmas
+pub mod GroupsTaskLemmas
 pub mod SlotGroupsInvariantLemmas
 pub mod SlotGroupsLemmas
 pub mod SlotGroupsPollLemmas

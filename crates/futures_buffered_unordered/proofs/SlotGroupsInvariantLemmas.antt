@@ -11,10 +11,10 @@ use Rattle.futures.specs.declared.task.context.Context.{Context}
 use Rattle.futures.specs.declared.task.Poll.{Poll}
 use Rattle.futures.specs.declared.task.Poll.TheVariants.{Ready, Pending}
 use Rattle.futures_buffered_core.specs.ReadySource.{WaitsAlike}
-use Rattle.futures_buffered_unordered_bounded.specs.FuturesUnorderedBounded.{Bounded, held_in}
-use Rattle.futures_buffered_unordered_bounded.specs.Groups.{Groups}
-use Rattle.futures_buffered_unordered_bounded.specs.GroupsStep.{next_place}
-use Rattle.futures_buffered_unordered_bounded.proofs.GroupsStepLemmas.{All-removed, from_none}
+use Rattle.futures_buffered_unordered.specs.FuturesUnorderedBounded.{Bounded, held_in}
+use Rattle.futures_buffered_unordered.specs.Groups.{Groups}
+use Rattle.futures_buffered_unordered.specs.GroupsStep.{next_place}
+use Rattle.futures_buffered_unordered.proofs.GroupsStepLemmas.{All-removed, from_none}
 use Rattle.futures_buffered_unordered.specs.SlotGroups.{EachCovered}
 use Rattle.futures_buffered_unordered.specs.SlotGroupsInvariant.{IsGroup, AllWaitAlike, KeepsGroups, SameKind, KeepsGroup}
 

@@ -15,10 +15,10 @@ use Rattle.futures_buffered_core.specs.ReadySource.{WaitsAlike}
 use Rattle.futures_buffered_core.specs.SlotMap.{held_count, slot_count}
 use Rattle.futures_buffered_table.specs.declared.answer.TheConstants.{MAX_CAPACITY}
 use Rattle.futures_buffered_table.specs.declared.answer.Woke.{Woke}
-use Rattle.futures_buffered_unordered_bounded.specs.FuturesUnorderedBounded.{Bounded, Pushes, IsNewSet, held_in}
-use Rattle.futures_buffered_unordered_bounded.specs.Groups.{Groups, outputs_in}
-use Rattle.futures_buffered_unordered_bounded.proofs.GroupsLemmas.{same_parts}
-use Rattle.futures_buffered_unordered_bounded.proofs.GroupsStepLemmas.{split_at, split_set}
+use Rattle.futures_buffered_unordered.specs.FuturesUnorderedBounded.{Bounded, Pushes, IsNewSet, held_in}
+use Rattle.futures_buffered_unordered.specs.Groups.{Groups, outputs_in}
+use Rattle.futures_buffered_unordered.proofs.GroupsLemmas.{same_parts}
+use Rattle.futures_buffered_unordered.proofs.GroupsStepLemmas.{split_at, split_set}
 use Rattle.futures_buffered_unordered.specs.declared.slot_groups.TheConstants.{MAX_HELD}
 use Rattle.futures_buffered_unordered.specs.SlotGroups.{Growing, GrowingPushes, IsNewGrowing, LastIsFull, no_groups, all_held, spare_places, capacity_of, next_capacity, AnyNeeds, EachCovered}
 use Rattle.futures_buffered_unordered.specs.SlotGroupsInvariant.{IsGroup, KeepsGroups, SameKind, AddsGroup, PushesLast}

@@ -5,9 +5,9 @@ use Rattle.std.proofs.lemmas.List.{take-append-drop}
 use Rattle.std.proofs.lemmas.List.Sums.{sum_by-cons, sum_by-append, sum_by-take-drop}
 use Rattle.futures.specs.declared.task.Poll.{Poll}
 use Rattle.futures.specs.declared.task.Poll.TheVariants.{Ready, Pending}
-use Rattle.futures_buffered_unordered_bounded.specs.FuturesUnorderedBounded.{Bounded, held_in}
-use Rattle.futures_buffered_unordered_bounded.specs.Groups.{Groups, Turn, TakesTurn, AsksLast, GroupsGive, ended, is_end, staying, round_from, NotAsked, GaveNoOutput, NoOutput}
-use Rattle.futures_buffered_unordered_bounded.specs.Groups.{AnyOf, outputs_in}
+use Rattle.futures_buffered_unordered.specs.FuturesUnorderedBounded.{Bounded, held_in}
+use Rattle.futures_buffered_unordered.specs.Groups.{Groups, Turn, TakesTurn, AsksLast, GroupsGive, ended, is_end, staying, round_from, NotAsked, GaveNoOutput, NoOutput}
+use Rattle.futures_buffered_unordered.specs.Groups.{AnyOf, outputs_in}
 use Rattle.futures_buffered_unordered.specs.SlotGroups.{all_held}
 
 -- one of a list's parts is one of the list, and the other way round

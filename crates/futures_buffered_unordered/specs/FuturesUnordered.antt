@@ -3,9 +3,9 @@ use Rattle.std.specs.Prelude.{ℕ, List}
 use Rattle.futures.specs.Runs.{Runs}
 use Rattle.futures.specs.Queued.{Gathers}
 use Rattle.futures.specs.declared.task.Poll.{Poll}
-use Rattle.futures_buffered_unordered_bounded.specs.Held.{AnyMayGive}
-use Rattle.futures_buffered_unordered_bounded.specs.FuturesUnorderedBounded.{Bounded}
-use Rattle.futures_buffered_unordered_bounded.specs.Groups.{AnyOf}
+use Rattle.futures_buffered_unordered.specs.Held.{AnyMayGive}
+use Rattle.futures_buffered_unordered.specs.FuturesUnorderedBounded.{Bounded}
+use Rattle.futures_buffered_unordered.specs.Groups.{AnyOf}
 use Rattle.futures_buffered_unordered.specs.SlotGroups.{all_held}
 
 module _ {F A S : Type 0} (polled : ℕ → F → Poll A → F → Type 0) where

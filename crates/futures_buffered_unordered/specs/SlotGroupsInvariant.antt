@@ -9,9 +9,9 @@ use Rattle.futures_buffered_core.specs.ReadySource.{WaitsAlike}
 use Rattle.futures_buffered_core.specs.SlotMap.{slot_count}
 use Rattle.futures_buffered_table.specs.declared.answer.Woke.{Woke}
 use Rattle.futures_buffered_table.specs.declared.answer.TheConstants.{MAX_CAPACITY}
-use Rattle.futures_buffered_unordered_bounded.specs.FuturesUnorderedBounded.{Bounded, Pushes, IsNewSet}
-use Rattle.futures_buffered_unordered_bounded.specs.FuturesUnorderedBounded.{held_in}
-use Rattle.futures_buffered_unordered_bounded.specs.Groups.{Groups}
+use Rattle.futures_buffered_unordered.specs.FuturesUnorderedBounded.{Bounded, Pushes, IsNewSet}
+use Rattle.futures_buffered_unordered.specs.FuturesUnorderedBounded.{held_in}
+use Rattle.futures_buffered_unordered.specs.Groups.{Groups}
 use Rattle.futures_buffered_unordered.specs.SlotGroups.{Growing, all_held}
 use Rattle.futures_buffered_unordered.specs.declared.slot_groups.TheConstants.{MAX_HELD}
 

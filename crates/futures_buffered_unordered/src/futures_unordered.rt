@@ -1,27 +1,23 @@
 //! A set of futures that grows by groups, yielded as they finish.
 //!
 //! It holds its futures in groups of slots, and asks each group by a rule that says how one held value is polled. One registration of the task does for all groups.
-ghost use Rattle.std.specs.Prelude.{◌≡◌, ◌↔◌, ◌<◌, ◌≤◌, ◌+◌, ◌⊎◌, Err, IsTrue, OnOk, OnErr, IsOk, IsErr, IfOk, IfErr, IfNone};
-ghost use Rattle.futures.specs.Poll.{IfReady, OnPending};
+ghost use Rattle.std.specs.Prelude.{◌≡◌, ◌↔◌, ◌<◌, ◌≤◌, ◌+◌, ◌⊎◌, Err, IsTrue, OnOk, OnErr, IsOk, IsErr, IfOk, IfErr};
 ghost use Rattle.std.specs.Iterator.{IsFiniteIterable};
-ghost use Rattle.futures.specs.Task.{Keeps};
 ghost use Rattle.futures_buffered_core.specs.Answer.{RefusesTooLarge};
 ghost use Rattle.futures_buffered_core.specs.Drawn.{Draws, SaysAtLeast};
 ghost use Rattle.futures_buffered_core.specs.ReadyShared.{IsNewShared, MarksShared, Shared};
-ghost use Rattle.futures_buffered_unordered_bounded.specs.FuturesUnorderedBounded.{AsksInPart, OnlyRegisters, PollAsksToEmpty, PollGives};
-ghost use Rattle.futures_buffered_unordered_bounded.specs.Groups.{GroupsGive, GroupsLeaveTask, outputs_in};
-ghost use Rattle.futures_buffered_unordered.specs.SlotGroups.{EachHeld, EachCovered, Growing, GrowingPushes, IsAtBound, IsNewGrowing, LastIsFull, PushesEach, StopsAtBound, no_groups, all_held, capacity_of};
+ghost use Rattle.futures_buffered_unordered.specs.FuturesUnorderedBounded.{AsksInPart, OnlyRegisters, PollAsksToEmpty, PollGives};
+ghost use Rattle.futures_buffered_unordered.specs.Groups.{GroupsGive};
+ghost use Rattle.futures_buffered_unordered.specs.SlotGroups.{EachHeld, Growing, GrowingPushes, IsAtBound, IsNewGrowing, LastIsFull, PollsGroupsTask, PollsGrowing, PushesEach, StopsAtBound, no_groups, all_held, capacity_of};
 
+use crate::futures_unordered_bounded::{FuturesUnorderedBounded, POLL_LIMIT};
+use crate::poll_one::PollOne;
 use crate::slot_groups::{AskGroup, SlotGroups};
 pub use crate::slot_groups::{FIRST_GROUP, MAX_HELD};
 use futures::task::{Context, Poll};
 use futures_buffered_core::ready_core::{MAX_CAPACITY, NewFault};
 use futures_buffered_core::ready_shared::SharedReady;
 use futures_buffered_core::ready_source::NewSource;
-use futures_buffered_unordered_bounded::futures_unordered_bounded::{
-    FuturesUnorderedBounded, POLL_LIMIT,
-};
-use futures_buffered_unordered_bounded::poll_one::PollOne;
 use std::alloc::Global;
 use std::marker::Model;
 
@@ -69,7 +65,7 @@ impl<F: Drop, S: NewSource, R: PollOne<F, S::Waker>> AskGroup<F, S> for ByRule<'
         is_registered: bool,
     ) -> Poll<Option<R::Output>> {
         if is_registered {
-            group.poll_covered(self.0, cx)
+            group.poll_registered(self.0, cx)
         } else {
             group.poll_with(self.0, cx)
         }
@@ -188,17 +184,10 @@ impl<F: Drop, S: NewSource> FuturesUnordered<F, S> {
         requires { EachHeld R.can_poll self.old.groups.listed }
         ensures polled { GroupsGive (PollGives R.polled S.steps)
             self.old.groups result self.new.groups }
-        ensures ends { (result ≡ Poll.Ready None) ↔ (all_held self.old.groups.listed ≡ 0) }
-        ensures count { all_held self.new.groups.listed + outputs_in result
-            ≡ all_held self.old.groups.listed }
-        ensures limit { self.new.limit ≡ self.old.limit }
-        ensures pollable { EachHeld R.can_poll self.new.groups.listed }
-        ensures covered { OnPending result (EachCovered S.needs cx.new self.new.groups.listed) }
-        ensures untouched { IfReady result (λ o. IfNone o (cx.new ≡ cx.old)) }
-        ensures leaves { GroupsLeaveTask (PollAsksToEmpty R.polled S.steps)
-            (AsksInPart R.polled S.steps) (OnlyRegisters S.registers_poll)
-            self.old.groups result self.new.groups cx.old cx.new }
-        ensures kept { Keeps cx.old cx.new }
+        ensures set { PollsGrowing R.can_poll self.old result self.new }
+        ensures task { PollsGroupsTask (PollAsksToEmpty R.polled S.steps)
+            (AsksInPart R.polled S.steps) S.needs (OnlyRegisters S.registers_poll)
+            (λ was now. now ≡ was) self.old.groups result self.new.groups cx.old cx.new }
     {
         self.groups.poll_groups(&ByRule(rule), cx)
     }

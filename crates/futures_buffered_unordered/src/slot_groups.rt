@@ -7,17 +7,17 @@ ghost use Rattle.futures.specs.Poll.{IfReady, OnPending};
 ghost use Rattle.futures.specs.Task.{Covers, Keeps};
 ghost use Rattle.futures_buffered_core.specs.Answer.{RefusesTooLarge};
 ghost use Rattle.futures_buffered_core.specs.ReadySource.{WaitsAlike};
-ghost use Rattle.futures_buffered_unordered_bounded.specs.FuturesUnorderedBounded.{IsNewSet, OnlyRegisters};
-ghost use Rattle.futures_buffered_unordered_bounded.specs.Held.{AllHeld};
-ghost use Rattle.futures_buffered_unordered_bounded.specs.Groups.{GroupLeavesTask, GroupsGive, GroupsLeaveTask};
-ghost use Rattle.futures_buffered_unordered_bounded.specs.GroupsStep.{AsksOne, OneLeavesTask, next_place};
-ghost use Rattle.futures_buffered_unordered.specs.SlotGroups.{EachHeld, EachCovered, GrowingPushes, IsAtBound, IsNewGrowing, LastIsFull, no_groups, all_held, capacity_of, next_capacity, spare_places};
+ghost use Rattle.futures_buffered_unordered.specs.FuturesUnorderedBounded.{IsNewSet, OnlyRegisters};
+ghost use Rattle.futures_buffered_unordered.specs.Held.{AllHeld};
+ghost use Rattle.futures_buffered_unordered.specs.Groups.{GroupsGive};
+ghost use Rattle.futures_buffered_unordered.specs.GroupsStep.{AsksOne, OneLeavesTask, next_place};
+ghost use Rattle.futures_buffered_unordered.specs.SlotGroups.{EachHeld, EachCovered, GrowingPushes, IsAtBound, IsNewGrowing, LastIsFull, PollsGroupTask, PollsGroupsTask, no_groups, all_held, capacity_of, next_capacity, spare_places};
 ghost use Rattle.futures_buffered_unordered.specs.SlotGroupsInvariant.{AddsGroup, KeepsGroup, PushesLast};
 
+use crate::futures_unordered_bounded::FuturesUnorderedBounded;
 use futures::task::{Context, Poll};
 use futures_buffered_core::ready_core::{MAX_CAPACITY, NewFault};
 use futures_buffered_core::ready_source::NewSource;
-use futures_buffered_unordered_bounded::futures_unordered_bounded::FuturesUnorderedBounded;
 use std::alloc::Global;
 use std::marker::Model;
 
@@ -35,7 +35,7 @@ const _: () = prove!(FIRST_GROUP == 32);
 pub trait AskGroup<F: Drop, S: NewSource> {
     ghost use Rattle.futures.specs.declared.task.Poll.{Poll};
     ghost use Rattle.futures.specs.declared.task.context.Context.{Context};
-    ghost use Rattle.futures_buffered_unordered_bounded.specs.FuturesUnorderedBounded.{Bounded, IsNewSet};
+    ghost use Rattle.futures_buffered_unordered.specs.FuturesUnorderedBounded.{Bounded, IsNewSet};
     ghost use Rattle.std.specs.Prelude.{Option};
 
     /// What a group gives.
@@ -68,11 +68,8 @@ pub trait AskGroup<F: Drop, S: NewSource> {
         ensures asked { asks group.old result group.new }
         ensures keeps { KeepsGroup S.needs group.old result group.new }
         ensures pollable { AllHeld can_poll group.new.slots }
-        ensures covered { OnPending result (Covers cx.new (S.needs group.new.source)) }
-        ensures passes { IfReady result (λ o. IfNone o (passes cx.old cx.new)) }
-        ensures leaves { GroupLeavesTask asks_to_empty stops (OnlyRegisters S.registers_poll)
-            group.old result group.new cx.old cx.new }
-        ensures kept { Keeps cx.old cx.new };
+        ensures task { PollsGroupTask asks_to_empty stops S.needs
+            (OnlyRegisters S.registers_poll) passes group.old result group.new cx.old cx.new };
 
     // A task that several groups pass by is as one passes it by, or as it was.
     ghost passes_none: { (cx : Context) → passes cx cx };
@@ -227,7 +224,7 @@ impl<F: Drop, S: NewSource> SlotGroups<F, S> {
                 &self.env, self.alloc, capacity, self.limit,
             );
         }
-        self.groups[groups - 1].new_beside(self.alloc, capacity)
+        self.groups[groups - 1].make_sibling(self.alloc, capacity)
     }
 
     // Adds an empty group behind all others. Both growths are made before the list changes.
@@ -388,11 +385,9 @@ impl<F: Drop, S: NewSource> SlotGroups<F, S> {
         ensures polled { GroupsGive R.asks self.old.groups result self.new.groups }
         ensures limit { self.new.limit ≡ self.old.limit }
         ensures pollable { EachHeld R.can_poll self.new.groups.listed }
-        ensures covered { OnPending result (EachCovered S.needs cx.new self.new.groups.listed) }
-        ensures passes { IfReady result (λ o. IfNone o (R.passes cx.old cx.new)) }
-        ensures leaves { GroupsLeaveTask R.asks_to_empty R.stops (OnlyRegisters S.registers_poll)
+        ensures task { PollsGroupsTask R.asks_to_empty R.stops S.needs
+            (OnlyRegisters S.registers_poll) R.passes
             self.old.groups result self.new.groups cx.old cx.new }
-        ensures kept { Keeps cx.old cx.new }
     {
         let mut is_registered = false;
         for _asked in 0..self.groups.len() {

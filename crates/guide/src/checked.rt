@@ -1,6 +1,6 @@
 //! A future that may fail.
 use futures::task::Poll;
-use futures_buffered::{NamesSlot, SlotFuture};
+use futures_buffered::{SlotHandle, SlotFuture};
 
 /// Why a number was refused.
 #[derive(Debug, Drop)]
@@ -10,7 +10,7 @@ pub struct Odd(pub u64);
 #[derive(Drop)]
 pub struct Half(pub u64);
 
-impl<W: NamesSlot> SlotFuture<W> for Half {
+impl<W: SlotHandle> SlotFuture<W> for Half {
     type Output = Result<u64, Odd>;
 
     fn poll(&mut self, _waker: &W) -> Poll<Result<u64, Odd>> {

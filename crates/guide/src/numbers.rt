@@ -1,6 +1,6 @@
 //! A stream to merge.
 use futures::task::Poll;
-use futures_buffered::{NamesSlot, SlotStream};
+use futures_buffered::{SlotHandle, SlotStream};
 
 /// Gives the numbers from `next` up to, and without, `end`.
 #[derive(Drop)]
@@ -9,7 +9,7 @@ pub struct Numbers {
     pub end: u64,
 }
 
-impl<W: NamesSlot> SlotStream<W> for Numbers {
+impl<W: SlotHandle> SlotStream<W> for Numbers {
     type Item = u64;
 
     fn poll_next(&mut self, _waker: &W) -> Poll<Option<u64>> {

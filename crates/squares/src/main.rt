@@ -4,13 +4,13 @@
 use futures::executor::block_on;
 use futures::task::Poll;
 use futures::{StreamExt, stream};
-use futures_buffered::{BufferedStreamExt, NamesSlot, SlotFuture};
+use futures_buffered::{BufferedStreamExt, SlotHandle, SlotFuture};
 
 // Gives the square of its number at its first poll.
 #[derive(Drop)]
 struct Square(u64);
 
-impl<W: NamesSlot> SlotFuture<W> for Square {
+impl<W: SlotHandle> SlotFuture<W> for Square {
     type Output = u64;
 
     fn poll(&mut self, _waker: &W) -> Poll<u64> {

@@ -2,7 +2,7 @@
 ghost use Rattle.std.specs.Prelude.{◌≡◌};
 
 use futures::task::Poll;
-use futures_buffered_core::ready_source::NamesSlot;
+use futures_buffered_core::ready_source::SlotHandle;
 use futures_buffered_sets::slot_future::SlotFuture;
 use futures_buffered_sets::slot_stream::SlotStream;
 
@@ -24,7 +24,7 @@ impl<C> Called<C> {
     }
 }
 
-impl<W: NamesSlot, T, C: Fn() -> T + Drop> SlotFuture<W> for Called<C> {
+impl<W: SlotHandle, T, C: Fn() -> T + Drop> SlotFuture<W> for Called<C> {
     type Output = T;
 
     ghost can_poll = { λ s. C.IsAlwaysCallable s.call };
@@ -34,7 +34,7 @@ impl<W: NamesSlot, T, C: Fn() -> T + Drop> SlotFuture<W> for Called<C> {
     }
 }
 
-impl<W: NamesSlot, T, C: Fn() -> T + Drop> SlotStream<W> for Called<C> {
+impl<W: SlotHandle, T, C: Fn() -> T + Drop> SlotStream<W> for Called<C> {
     type Item = T;
 
     ghost can_poll = { λ s. C.IsAlwaysCallable s.call };

@@ -162,7 +162,7 @@ impl NewSource for CountedSource {
         })
     }
 
-    fn make_beside(&mut self, alloc: Global, cap: usize) -> Result<CountedSource, NewFault> {
+    fn make_sibling(&mut self, alloc: Global, cap: usize) -> Result<CountedSource, NewFault> {
         CountedSource::make(&self.log, alloc, cap)
     }
 }

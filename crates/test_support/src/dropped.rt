@@ -1,6 +1,6 @@
 //! A future whose drops are counted.
 use futures::task::Poll;
-use futures_buffered_core::ready_source::NamesSlot;
+use futures_buffered_core::ready_source::SlotHandle;
 use futures_buffered_sets::slot_future::SlotFuture;
 use std::sync::Arc;
 use std::sync::atomic::AtomicU64;
@@ -24,7 +24,7 @@ impl Drop for Dropped {
     }
 }
 
-impl<W: NamesSlot> SlotFuture<W> for Dropped {
+impl<W: SlotHandle> SlotFuture<W> for Dropped {
     type Output = ();
 
     fn poll(&mut self, _waker: &W) -> Poll<()> {

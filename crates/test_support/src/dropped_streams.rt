@@ -2,7 +2,7 @@
 use crate::counter::Counter;
 use crate::keep::keep;
 use futures::task::Poll;
-use futures_buffered_core::ready_source::NamesSlot;
+use futures_buffered_core::ready_source::SlotHandle;
 use futures_buffered_sets::slot_stream::SlotStream;
 use std::alloc::AllocError;
 use std::sync::Arc;
@@ -27,7 +27,7 @@ impl Drop for DroppedStream {
     }
 }
 
-impl<W: NamesSlot> SlotStream<W> for DroppedStream {
+impl<W: SlotHandle> SlotStream<W> for DroppedStream {
     type Item = u64;
 
     fn poll_next(&mut self, _waker: &W) -> Poll<Option<u64>> {

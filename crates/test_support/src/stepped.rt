@@ -1,6 +1,6 @@
 //! A stream whose items are known.
 use futures::task::Poll;
-use futures_buffered_core::ready_source::NamesSlot;
+use futures_buffered_core::ready_source::SlotHandle;
 use futures_buffered_sets::slot_stream::SlotStream;
 
 /// Gives `left` items, each at once: first `next`, and each further one `step` above the one before. Then it ends.
@@ -29,7 +29,7 @@ pub fn from(first: u64, times: u64) -> Stepped {
     }
 }
 
-impl<W: NamesSlot> SlotStream<W> for Stepped {
+impl<W: SlotHandle> SlotStream<W> for Stepped {
     type Item = u64;
 
     fn poll_next(&mut self, _waker: &W) -> Poll<Option<u64>> {

@@ -87,7 +87,7 @@ fn ask(door: &Door, alloc: Global, task: &MockTask, source: &mut Source) {
         task.enter(|cx| source.register(cx));
         note(&door.has_woken, task.is_woken());
         note(&door.has_paused, source.take() == Taken::Pause);
-        let refused = source.make_beside(alloc, 1).err();
+        let refused = source.make_sibling(alloc, 1).err();
         note(&door.has_refused, refused == Some(NewFault::Memory));
     }
     note(&door.may_end, true);
@@ -111,7 +111,7 @@ fn a_source_beside_is_asked_meanwhile(rt: HostRuntime) -> Result<(), Fail> {
     let other = MockTask::new(&rt)?;
     let door = new_door(rt.alloc())?;
     let mut source: Source = Driven::make(&(), rt.alloc(), 1)?;
-    let beside = source.make_beside(rt.alloc(), 1)?;
+    let beside = source.make_sibling(rt.alloc(), 1)?;
     let mut held = Foreign::new(Stays {
         door: Arc::try_clone(&door)?,
     });

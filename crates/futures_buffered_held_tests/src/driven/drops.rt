@@ -33,7 +33,7 @@ fn an_output_of_a_source_that_left(rt: HostRuntime) -> Result<(), Fail> {
     let task = MockTask::new(&rt)?;
     let drops = new_counter(rt.alloc())?;
     let mut source: Source = Driven::make(&(), rt.alloc(), 1)?;
-    let mut beside = source.make_beside(rt.alloc(), 1)?;
+    let mut beside = source.make_sibling(rt.alloc(), 1)?;
     let mut held = Foreign::new(ready(Dropped::new(Arc::try_clone(&drops)?)));
     assert_same(&rt, begin(&mut beside, &mut held), Taken::Pause);
     task.enter(|cx| source.register(cx));

@@ -172,7 +172,7 @@ fn a_future_that_was_moved(rt: HostRuntime) -> Result<(), Fail> {
     let task = MockTask::new(&rt)?;
     let receivers = Receivers::new(rt.alloc())?;
     let mut source: Source = Driven::make(&(), rt.alloc(), 2)?;
-    let mut beside = source.make_beside(rt.alloc(), 2)?;
+    let mut beside = source.make_sibling(rt.alloc(), 2)?;
     let (first_sender, mut first) = receivers.foreign()?;
     let (second_sender, mut second) = receivers.foreign()?;
     let (third_sender, mut third) = receivers.foreign()?;
@@ -203,7 +203,7 @@ fn a_source_that_left(rt: HostRuntime) -> Result<(), Fail> {
     let task = MockTask::new(&rt)?;
     let receivers = Receivers::new(rt.alloc())?;
     let mut source: Source = Driven::make(&(), rt.alloc(), 1)?;
-    let mut beside = source.make_beside(rt.alloc(), 1)?;
+    let mut beside = source.make_sibling(rt.alloc(), 1)?;
     let (first_sender, mut first) = receivers.foreign()?;
     let (second_sender, mut second) = receivers.foreign()?;
     assert_same(&rt, poll_slot(&mut source, &mut first, 0), Poll::Pending);
@@ -211,7 +211,7 @@ fn a_source_that_left(rt: HostRuntime) -> Result<(), Fail> {
     assert_same(&rt, source.take(), Taken::Pause);
     assert_same(&rt, beside.take(), Taken::Pause);
     drop(beside);
-    let mut other = source.make_beside(rt.alloc(), 1)?;
+    let mut other = source.make_sibling(rt.alloc(), 1)?;
     assert_same(&rt, second_sender.send(2), Ok(()));
     drive(&task, &mut source);
     assert_same(&rt, source.take(), Taken::Empty);
@@ -224,9 +224,9 @@ fn a_source_that_left(rt: HostRuntime) -> Result<(), Fail> {
 }
 
 // Makes so many sources beside this one, each of which goes at once.
-fn make_beside_often(source: &mut Source, alloc: Global, count: usize) -> Result<(), NewFault> {
+fn make_sibling_often(source: &mut Source, alloc: Global, count: usize) -> Result<(), NewFault> {
     for _ in 0..count {
-        let _gone = source.make_beside(alloc, 1)?;
+        let _gone = source.make_sibling(alloc, 1)?;
     }
     Ok(())
 }
@@ -237,8 +237,8 @@ fn a_source_that_comes_after_255_others(rt: HostRuntime) -> Result<(), Fail> {
     let task = MockTask::new(&rt)?;
     let receivers = Receivers::new(rt.alloc())?;
     let mut source: Source = Driven::make(&(), rt.alloc(), 1)?;
-    make_beside_often(&mut source, rt.alloc(), 255)?;
-    let mut beside = source.make_beside(rt.alloc(), 1)?;
+    make_sibling_often(&mut source, rt.alloc(), 255)?;
+    let mut beside = source.make_sibling(rt.alloc(), 1)?;
     let (first_sender, mut first) = receivers.foreign()?;
     let (second_sender, mut second) = receivers.foreign()?;
     assert_same(&rt, poll_slot(&mut source, &mut first, 0), Poll::Pending);

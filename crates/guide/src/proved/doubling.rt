@@ -2,7 +2,7 @@
 ghost use Rattle.guide.specs.Doubling.{Doubles};
 
 use futures::task::Poll;
-use futures_buffered::{NamesSlot, SlotFuture};
+use futures_buffered::{SlotHandle, SlotFuture};
 
 /// Ready at its first poll, with twice its number.
 #[derive(Drop)]
@@ -10,7 +10,7 @@ pub struct Doubling {
     pub number: u32,
 }
 
-impl<W: NamesSlot> SlotFuture<W> for Doubling {
+impl<W: SlotHandle> SlotFuture<W> for Doubling {
     type Output = u64;
 
     ghost polled = { λ _. Doubles };

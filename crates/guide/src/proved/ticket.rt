@@ -2,7 +2,7 @@
 ghost use Rattle.std.specs.Prelude.{IsSome};
 
 use futures::task::Poll;
-use futures_buffered::{NamesSlot, SlotFuture};
+use futures_buffered::{SlotHandle, SlotFuture};
 
 /// Gives its number away at its first poll. After that it may not be polled, which no set does.
 #[derive(Drop)]
@@ -18,7 +18,7 @@ impl Ticket {
     }
 }
 
-impl<W: NamesSlot> SlotFuture<W> for Ticket {
+impl<W: SlotHandle> SlotFuture<W> for Ticket {
     type Output = u64;
 
     ghost can_poll = { λ ticket. IsSome ticket.number };

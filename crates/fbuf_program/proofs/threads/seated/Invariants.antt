@@ -1,6 +1,6 @@
 use Rattle.std.proofs.Common.{◌≡◌, ◌+◌, ◌≤◌, length, vec_len, vec_capacity}
 use Rattle.std.specs.List.{range_with_len}
-use Rattle.futures_buffered_unordered_bounded.specs.Held.{AllHeld}
+use Rattle.futures_buffered_unordered.specs.Held.{AllHeld}
 use Rattle.fbuf_program.specs.Threads.{HoldsNumbers}
 use Rattle.fbuf_program.proofs.threads.seated.Given as goal
 

@@ -1,9 +1,9 @@
 use Rattle.std.proofs.Common.{[], ◌∷◌, ◌++◌, inl, inr, refl, ap, arith, rules}
 use Rattle.std.proofs.lemmas.Fn.{FoldsTo-push}
 use Rattle.futures_buffered_core.specs.SlotMap.{held_count}
-use Rattle.futures_buffered_unordered_bounded.specs.FuturesUnorderedBounded.{Bounded}
+use Rattle.futures_buffered_unordered.specs.FuturesUnorderedBounded.{Bounded}
 use Rattle.futures_buffered_merges.specs.Merging.{CountEnds}
-use Rattle.futures_buffered_unordered_bounded.proofs.FuturesUnorderedBoundedLemmas.{registers_more}
+use Rattle.futures_buffered_unordered.proofs.FuturesUnorderedBoundedLemmas.{registers_more}
 use Rattle.futures_buffered_merges.proofs.merging.poll_streams.Goals as goal
 
 pub returns-in-Ready-Some-clause-polled : goal.returns-in-Ready-Some-clause-polled

@@ -2,8 +2,8 @@ use Rattle.std.proofs.Common.{◌≡◌, ◌≤◌, ℕ, List, IsTrue}
 use Rattle.std.specs.List.{FoldsTo}
 use Rattle.futures.specs.Task.{Covers, Keeps}
 use Rattle.futures_buffered_core.specs.SlotMap.{held_count, slot_count}
-use Rattle.futures_buffered_unordered_bounded.specs.Held.{AllHeld}
-use Rattle.futures_buffered_unordered_bounded.specs.FuturesUnorderedBounded.{OnlyRegisters}
+use Rattle.futures_buffered_unordered.specs.Held.{AllHeld}
+use Rattle.futures_buffered_unordered.specs.FuturesUnorderedBounded.{OnlyRegisters}
 use Rattle.futures_buffered_merges.specs.Merging.{CountEnds}
 use Rattle.futures_buffered_merges.proofs.merging.poll_streams.Given as goal
 

@@ -1,8 +1,8 @@
 use Rattle.std.proofs.Common.{IfSome, subst}
 use Rattle.futures.specs.Poll.{IfReady, OnPending}
 use Rattle.futures.specs.Runs.{After, Within}
-use Rattle.futures_buffered_unordered_bounded.specs.Held.{ComesFrom}
-use Rattle.futures_buffered_unordered_bounded.specs.FuturesUnorderedBounded.{Bounded}
+use Rattle.futures_buffered_unordered.specs.Held.{ComesFrom}
+use Rattle.futures_buffered_unordered.specs.FuturesUnorderedBounded.{Bounded}
 use Rattle.futures_buffered.proofs.buffer_unordered.UnorderedQueueFutureQueue.poll_output.Goals as goal
 
 pub returns-clause-rest : goal.returns-clause-rest

@@ -1,6 +1,6 @@
 use Rattle.std.proofs.Common.{false, subst}
-use Rattle.futures_buffered_unordered_bounded.specs.Held.{ComesFrom}
-use Rattle.futures_buffered_unordered_bounded.specs.FuturesUnorderedBounded.{Bounded}
+use Rattle.futures_buffered_unordered.specs.Held.{ComesFrom}
+use Rattle.futures_buffered_unordered.specs.FuturesUnorderedBounded.{Bounded}
 use Rattle.futures_buffered.specs.FutureQueue.{AddsOutput}
 use Rattle.futures_buffered.specs.BufferUnordered.{MayGiveInSlot}
 use Rattle.futures_buffered.proofs.BufferUnorderedLemmas.{adds_one}

@@ -1,7 +1,7 @@
 use Rattle.std.proofs.Common.{◌≡◌, ◌+◌, IfNone, IfSome, OnSome, subst}
 use Rattle.futures.specs.Poll.{IfReady, OnPending}
 use Rattle.futures.specs.Runs.{After, Within}
-use Rattle.futures_buffered_unordered_bounded.specs.FuturesUnorderedBounded.{held_in}
+use Rattle.futures_buffered_unordered.specs.FuturesUnorderedBounded.{held_in}
 use Rattle.futures_buffered_ordered.specs.OrderedEntries.{ComesInOrder, OrderedLeavesTask}
 use Rattle.futures_buffered_ordered.specs.FuturesOrderedBounded.{OrderedBounded, SetGives, SetLeavesTask, SetMayGive}
 use Rattle.futures_buffered.specs.BufferedOrdered.{queue_len}

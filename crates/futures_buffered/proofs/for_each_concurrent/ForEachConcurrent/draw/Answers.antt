@@ -1,6 +1,6 @@
 use Rattle.std.proofs.Common.{rules, ◌≡◌, ◌<◌, Some, [], refl}
 use Rattle.futures.specs.Runs.{Calls}
-use Rattle.futures_buffered_unordered_bounded.specs.FuturesUnorderedBounded.{Pushes, held_in, slots_in}
+use Rattle.futures_buffered_unordered.specs.FuturesUnorderedBounded.{Pushes, held_in, slots_in}
 use Rattle.futures_buffered.specs.Buffer.{PollsStream}
 use Rattle.futures_buffered.proofs.BufferLemmas.{had_turn}
 use Rattle.futures_buffered.proofs.ForEachConcurrentLemmas.{draws_item, draws_end, draws_pending, each_item_can, each_pending_can, item_ends}

@@ -5,7 +5,7 @@ use Rattle.std.proofs.lemmas.Fn.{FoldsTo-push}
 use Rattle.std.proofs.lemmas.List.{length_push}
 use Rattle.futures.proofs.SentLemmas.{AllByRecursion-push}
 use Rattle.futures.specs.Runs.{Calls}
-use Rattle.futures_buffered_unordered_bounded.specs.FuturesUnorderedBounded.{Bounded, IsWoken, Pushes, PollGives, PollLeavesTask, held_in, slots_in}
+use Rattle.futures_buffered_unordered.specs.FuturesUnorderedBounded.{Bounded, IsWoken, Pushes, PollGives, PollLeavesTask, held_in, slots_in}
 use Rattle.futures_buffered.specs.Buffer.{PollsStream}
 use Rattle.futures_buffered.specs.ForEachConcurrent.{ForEach, TurnGives, goes_on, gave_one}
 use Rattle.futures_buffered.proofs.ForEachConcurrentLemmas.{still_held, none_drew, some_not_none, goes_if_drew, goes_if_gave, stops, turn_of, last_call, full_call}

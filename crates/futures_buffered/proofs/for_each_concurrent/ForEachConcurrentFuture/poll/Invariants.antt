@@ -2,7 +2,7 @@ use Rattle.std.proofs.Common.{◌≡◌, List, length, true}
 use Rattle.std.specs.List.{FoldsTo, AllByRecursion}
 use Rattle.futures.specs.Task.{Keeps}
 use Rattle.futures.specs.Runs.{Calls}
-use Rattle.futures_buffered_unordered_bounded.specs.FuturesUnorderedBounded.{Pushes, PollGives, PollLeavesTask, held_in, slots_in}
+use Rattle.futures_buffered_unordered.specs.FuturesUnorderedBounded.{Pushes, PollGives, PollLeavesTask, held_in, slots_in}
 use Rattle.futures_buffered.specs.Buffer.{PollsStream}
 use Rattle.futures_buffered.specs.ForEachConcurrent.{DrawAndPoll, TurnGives, CanForEach, ForEachGives, goes_on}
 use Rattle.futures_buffered.proofs.for_each_concurrent.ForEachConcurrentFuture.poll.Given as goal

@@ -1,5 +1,5 @@
 use Rattle.std.proofs.Common.{rules, sym}
-use Rattle.futures_buffered_unordered_bounded.proofs.HeldLemmas.{some_from_end}
+use Rattle.futures_buffered_unordered.proofs.HeldLemmas.{some_from_end}
 use Rattle.futures_buffered_joins.proofs.JoiningLemmas.{fills_place, held_once_empty}
 use Rattle.futures_buffered_joins.proofs.joining.Joining+F+F+Output+S.fill_one.Goals as goal
 

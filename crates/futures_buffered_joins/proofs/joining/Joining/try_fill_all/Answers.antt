@@ -1,6 +1,6 @@
 use Rattle.std.proofs.Common.{[], ◌∷◌, ◌++◌, inl, inr, Ok}
 use Rattle.std.proofs.lemmas.Fn.{FoldsTo-push}
-use Rattle.futures_buffered_unordered_bounded.proofs.FuturesUnorderedBoundedLemmas.{registers_more, registers_once}
+use Rattle.futures_buffered_unordered.proofs.FuturesUnorderedBoundedLemmas.{registers_more, registers_once}
 use Rattle.futures_buffered_joins.specs.Joining.{Fills}
 use Rattle.futures_buffered_joins.proofs.joining.Joining.try_fill_all.Goals as goal
 

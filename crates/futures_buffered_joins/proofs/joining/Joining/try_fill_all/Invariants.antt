@@ -2,8 +2,8 @@ use Rattle.std.proofs.Common.{ℕ, List, Ok}
 use Rattle.std.specs.List.{FoldsTo}
 use Rattle.futures.specs.Task.{Keeps}
 use Rattle.futures_buffered_core.specs.SlotMap.{held_count}
-use Rattle.futures_buffered_unordered_bounded.specs.Held.{AllHeld}
-use Rattle.futures_buffered_unordered_bounded.specs.FuturesUnorderedBounded.{OnlyRegisters}
+use Rattle.futures_buffered_unordered.specs.Held.{AllHeld}
+use Rattle.futures_buffered_unordered.specs.FuturesUnorderedBounded.{OnlyRegisters}
 use Rattle.futures_buffered_joins.specs.Joining.{Fills}
 use Rattle.futures_buffered_joins.proofs.joining.Joining.try_fill_all.Given as goal
 

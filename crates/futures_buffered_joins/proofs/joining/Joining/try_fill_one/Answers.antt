@@ -1,6 +1,6 @@
 use Rattle.std.proofs.Common.{Ok, sym, arith}
 use Rattle.std.proofs.lemmas.Grind.{common_steps}
-use Rattle.futures_buffered_unordered_bounded.proofs.HeldLemmas.{some_from_end}
+use Rattle.futures_buffered_unordered.proofs.HeldLemmas.{some_from_end}
 use Rattle.futures_buffered_joins.proofs.JoiningLemmas.{fills_place, fails_place}
 use Rattle.futures_buffered_joins.proofs.joining.Joining.try_fill_one.Goals as goal
 

@@ -1,5 +1,5 @@
 use Rattle.futures_buffered_ordered.specs.Numbered.{held_with}
-use Rattle.futures_buffered_unordered_bounded.specs.FuturesUnorderedBounded.{held_in}
+use Rattle.futures_buffered_unordered.specs.FuturesUnorderedBounded.{held_in}
 use Rattle.futures_buffered_ordered.proofs.OrderedEntriesInvariantLemmas.{each_has_one}
 use Rattle.futures_buffered_ordered.proofs.futures_ordered_bounded.BoundedQueue.len.Goals as goal
 

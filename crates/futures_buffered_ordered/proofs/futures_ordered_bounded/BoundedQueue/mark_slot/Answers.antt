@@ -1,5 +1,5 @@
 use Rattle.std.proofs.Common.{◌∙◌, ap, sym, subst}
-use Rattle.futures_buffered_unordered_bounded.specs.FuturesUnorderedBounded.{Bounded}
+use Rattle.futures_buffered_unordered.specs.FuturesUnorderedBounded.{Bounded}
 use Rattle.futures_buffered_ordered.specs.OrderedEntriesInvariant.{Numbering}
 use Rattle.futures_buffered_ordered.specs.FuturesOrderedBoundedInvariant.{KeepsBoundedQueue}
 use Rattle.futures_buffered_ordered.specs.declared.numbered.Numbered.{Numbered}

@@ -1,5 +1,5 @@
 use Rattle.std.proofs.Common.{subst}
-use Rattle.futures_buffered_unordered_bounded.specs.FuturesUnorderedBounded.{held_in}
+use Rattle.futures_buffered_unordered.specs.FuturesUnorderedBounded.{held_in}
 use Rattle.futures_buffered_ordered.specs.OrderedEntries.{OrderedLeavesTask}
 use Rattle.futures_buffered_ordered.specs.FuturesOrderedBounded.{OrderedBounded, SetGives, SetLeavesTask}
 use Rattle.futures_buffered_ordered.proofs.futures_ordered_bounded.BoundedQueue.poll_with.Goals as goal

@@ -2,7 +2,7 @@ use Rattle.std.proofs.lemmas.Grind.{common_steps}
 use Rattle.std.proofs.Common.{◌≡◌, ◌+◌, ℕ, Option, true, refl, sym, subst, arith}
 use Rattle.std.proofs.lemmas.Option.{slice_get_within}
 use Rattle.futures.specs.declared.task.Poll.TheVariants.{Ready}
-use Rattle.futures_buffered_unordered_bounded.specs.Groups.{outputs_in}
+use Rattle.futures_buffered_unordered.specs.Groups.{outputs_in}
 use Rattle.futures_buffered_ordered.specs.Numbered.{one_at, outputs_with}
 use Rattle.futures_buffered_ordered.specs.OrderedEntries.{GivesWithTask, starts_running}
 use Rattle.futures_buffered_ordered.specs.OrderedEntriesInvariant.{IsNumbered, KeepsNumbers, Numbering, place_of}

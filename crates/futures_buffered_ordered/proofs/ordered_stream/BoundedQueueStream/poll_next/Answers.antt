@@ -1,4 +1,4 @@
-use Rattle.futures_buffered_unordered_bounded.specs.FuturesUnorderedBounded.{held_in}
+use Rattle.futures_buffered_unordered.specs.FuturesUnorderedBounded.{held_in}
 use Rattle.futures_buffered_ordered.specs.FuturesOrderedBounded.{SetGives, SetMayGive}
 use Rattle.futures_buffered_ordered.proofs.FuturesOrderedBoundedLemmas.{set_gave, set_still}
 use Rattle.futures_buffered_ordered.proofs.OrderedEntriesLemmas.{value_of, rest_of, same_of}

@@ -1,5 +1,5 @@
 use Rattle.std.proofs.Common.{◌∷◌, ◌++◌, [], List, sym, ap, subst, ◌∙◌}
-use Rattle.futures_buffered_unordered_bounded.specs.FuturesUnorderedBounded.{Bounded, IsNewSet}
+use Rattle.futures_buffered_unordered.specs.FuturesUnorderedBounded.{Bounded, IsNewSet}
 use Rattle.futures_buffered_unordered.specs.SlotGroups.{Growing, LastIsFull}
 use Rattle.std.specs.List.{All}
 use Rattle.futures_buffered_core.specs.ReadySource.{WaitsAlike}

@@ -1,8 +1,8 @@
 use Rattle.std.proofs.Common.{true, false, is_some, arith, subst, ap, sym, refl, length, ◌≤◌, ◌∙◌, true≢false}
-use Rattle.futures_buffered_unordered_bounded.proofs.GroupsPollLemmas.{so_far_some, so_far_none, so_far_none_left, so_far_pending, so_far_some_left, so_far_end, SoFar}
-use Rattle.futures_buffered_unordered_bounded.specs.FuturesUnorderedBounded.{OnlyRegisters}
-use Rattle.futures_buffered_unordered_bounded.proofs.FuturesUnorderedBoundedLemmas.{registers_more, registers_none}
-use Rattle.futures_buffered_unordered_bounded.proofs.GroupsTaskLemmas.{LeftSoFar, left_end, left_ended, left_none, left_output, left_pending}
+use Rattle.futures_buffered_unordered.proofs.GroupsPollLemmas.{so_far_some, so_far_none, so_far_none_left, so_far_pending, so_far_some_left, so_far_end, SoFar}
+use Rattle.futures_buffered_unordered.specs.FuturesUnorderedBounded.{OnlyRegisters}
+use Rattle.futures_buffered_unordered.proofs.FuturesUnorderedBoundedLemmas.{registers_more, registers_none}
+use Rattle.futures_buffered_unordered.proofs.GroupsTaskLemmas.{LeftSoFar, left_end, left_ended, left_none, left_output, left_pending}
 use Rattle.futures_buffered_unordered.specs.SlotGroups.{Growing}
 use Rattle.futures_buffered_unordered.proofs.slot_groups.SlotGroups.poll_groups.Goals.{in-Pending, in-Ready+in_default}
 use Rattle.futures_buffered_unordered.proofs.slot_groups.SlotGroups.poll_groups.Goals as goal
@@ -81,26 +81,37 @@ loop-asked-preserved g c =
       })
     ]
 
-pub returns-then-is_registered-clause-covered : goal.returns-then-is_registered-clause-covered
-returns-then-is_registered-clause-covered g c =
-    c.loop-asked.invariant.covered c.if-is_registered.true
-
-pub returns-in-Some-clause-leaves : goal.returns-in-Some-clause-leaves
-returns-in-Some-clause-leaves g c =
+pub returns-in-Some-clause-task : goal.returns-in-Some-clause-task
+returns-in-Some-clause-task g c =
     let rule = g.R.AskGroup in
     let long = ap (λ (v : Growing g.row.F.Denot g.row.S.Denot). length v.groups.listed) c.self.view_is in
-    left_output rule.asks rule.asks_to_empty rule.stops (OnlyRegisters g.S.ReadySource.registers_poll) c.args.self.now.groups c.loop-asked._asked c.loop-asked.is_registered c.loop-asked.self.groups _ _ _ _ (registers_more g.S.ReadySource.registers_poll _ _ _) c.ask_one.ensures.kept _ _ c.in-Some.is c.loop-asked.invariant.leaves (omega (arith, long)) c.in-Ready.ensures.asked c.in-Ready.ensures.leaves
+    record {
+      covered = tt;
+      passed = tt;
+      leaves = left_output rule.asks rule.asks_to_empty rule.stops (OnlyRegisters g.S.ReadySource.registers_poll) c.args.self.now.groups c.loop-asked._asked c.loop-asked.is_registered c.loop-asked.self.groups _ _ _ _ (registers_more g.S.ReadySource.registers_poll _ _ _) c.ask_one.ensures.kept _ _ c.in-Some.is c.loop-asked.invariant.leaves (omega (arith, long)) c.in-Ready.ensures.asked c.in-Ready.ensures.leaves;
+      kept = λ fact h. c.ask_one.ensures.kept fact (c.loop-asked.invariant.kept fact h);
+    }
 
-pub returns-then-is_registered-clause-leaves : goal.returns-then-is_registered-clause-leaves
-returns-then-is_registered-clause-leaves g c =
-    let rule = g.R.AskGroup in
-    let registers = OnlyRegisters g.S.ReadySource.registers_poll in
-    let long = ap (λ (v : Growing g.row.F.Denot g.row.S.Denot). length v.groups.listed) c.self.view_is in
-    left_end rule.asks rule.asks_to_empty rule.stops registers c.args.self.now.groups c.loop-asked._asked true c.loop-asked.self.groups _ _ (subst (λ b. LeftSoFar rule.asks rule.asks_to_empty rule.stops registers c.args.self.now.groups c.loop-asked._asked b c.loop-asked.self.groups c.args.cx.now c.loop-asked.cx) c.if-is_registered.true c.loop-asked.invariant.leaves) (omega (arith, long))
-
-pub returns-else-is_registered-clause-leaves : goal.returns-else-is_registered-clause-leaves
-returns-else-is_registered-clause-leaves g c =
+pub returns-then-is_registered-clause-task : goal.returns-then-is_registered-clause-task
+returns-then-is_registered-clause-task g c =
     let rule = g.R.AskGroup in
     let registers = OnlyRegisters g.S.ReadySource.registers_poll in
     let long = ap (λ (v : Growing g.row.F.Denot g.row.S.Denot). length v.groups.listed) c.self.view_is in
-    left_end rule.asks rule.asks_to_empty rule.stops registers c.args.self.now.groups c.loop-asked._asked false c.loop-asked.self.groups _ _ (subst (λ b. LeftSoFar rule.asks rule.asks_to_empty rule.stops registers c.args.self.now.groups c.loop-asked._asked b c.loop-asked.self.groups c.args.cx.now c.loop-asked.cx) c.if-is_registered.false c.loop-asked.invariant.leaves) (omega (arith, long))
+    record {
+      covered = c.loop-asked.invariant.covered c.if-is_registered.true;
+      passed = tt;
+      leaves = left_end rule.asks rule.asks_to_empty rule.stops registers c.args.self.now.groups c.loop-asked._asked true c.loop-asked.self.groups _ _ (subst (λ b. LeftSoFar rule.asks rule.asks_to_empty rule.stops registers c.args.self.now.groups c.loop-asked._asked b c.loop-asked.self.groups c.args.cx.now c.loop-asked.cx) c.if-is_registered.true c.loop-asked.invariant.leaves) (omega (arith, long));
+      kept = c.loop-asked.invariant.kept;
+    }
+
+pub returns-else-is_registered-clause-task : goal.returns-else-is_registered-clause-task
+returns-else-is_registered-clause-task g c =
+    let rule = g.R.AskGroup in
+    let registers = OnlyRegisters g.S.ReadySource.registers_poll in
+    let long = ap (λ (v : Growing g.row.F.Denot g.row.S.Denot). length v.groups.listed) c.self.view_is in
+    record {
+      covered = tt;
+      passed = c.loop-asked.invariant.passes c.if-is_registered.false;
+      leaves = left_end rule.asks rule.asks_to_empty rule.stops registers c.args.self.now.groups c.loop-asked._asked false c.loop-asked.self.groups _ _ (subst (λ b. LeftSoFar rule.asks rule.asks_to_empty rule.stops registers c.args.self.now.groups c.loop-asked._asked b c.loop-asked.self.groups c.args.cx.now c.loop-asked.cx) c.if-is_registered.false c.loop-asked.invariant.leaves) (omega (arith, long));
+      kept = c.loop-asked.invariant.kept;
+    }

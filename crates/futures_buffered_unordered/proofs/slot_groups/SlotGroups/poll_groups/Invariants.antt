@@ -1,8 +1,8 @@
 use Rattle.std.proofs.Common.{◌≡◌, false, IsTrue}
 use Rattle.futures.specs.Task.{Keeps}
-use Rattle.futures_buffered_unordered_bounded.specs.FuturesUnorderedBounded.{OnlyRegisters}
-use Rattle.futures_buffered_unordered_bounded.proofs.GroupsPollLemmas.{SoFar}
-use Rattle.futures_buffered_unordered_bounded.proofs.GroupsTaskLemmas.{LeftSoFar}
+use Rattle.futures_buffered_unordered.specs.FuturesUnorderedBounded.{OnlyRegisters}
+use Rattle.futures_buffered_unordered.proofs.GroupsPollLemmas.{SoFar}
+use Rattle.futures_buffered_unordered.proofs.GroupsTaskLemmas.{LeftSoFar}
 use Rattle.futures_buffered_unordered.specs.SlotGroups.{EachHeld, EachCovered}
 use Rattle.futures_buffered_unordered.proofs.slot_groups.SlotGroups.poll_groups.Given as goal
 

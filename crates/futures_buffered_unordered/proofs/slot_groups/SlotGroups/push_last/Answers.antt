@@ -1,7 +1,7 @@
 use Rattle.std.proofs.Common.{◌≡◌, ◌+◌, ◌-◌, ◌<◌, length, sym, ap, subst, arith}
 use Rattle.std.proofs.lemmas.Grind.{common_steps}
 use Rattle.futures_buffered_core.specs.SlotMap.{slot_count}
-use Rattle.futures_buffered_unordered_bounded.specs.FuturesUnorderedBounded.{Bounded, held_in}
+use Rattle.futures_buffered_unordered.specs.FuturesUnorderedBounded.{Bounded, held_in}
 use Rattle.futures_buffered_unordered.specs.SlotGroups.{Growing, all_held, spare_places}
 use Rattle.futures_buffered_unordered.proofs.SlotGroupsLemmas.{spare_last, spare_some, keeps_grown, pushes_last}
 use Rattle.futures_buffered_unordered.specs.SlotGroupsInvariant.{SameKind}

@@ -1,4 +1,0 @@
-//! Where a source keeps the waker of its task, and where a fresh wake of a slot finds it.
-#![tactic(auto)]
-
-pub mod outer_place;

@@ -1,0 +1,291 @@
+-- Groups in a list, and their turns: which stay and where they stand.
+use Rattle.std.proofs.Common.{◌≡◌, ◌⊎◌, ℕ, suc, ◌+◌, ◌<◌, ◌≤◌, Bool, true, false, not, ◌&&◌, cond, List, [], ◌∷◌, ◌++◌, length, take, drop, Option, Some, None, MatchOption, nat_lt, true≢false, refl, sym, ap, subst, inl, inr, arith, append-nil, ◌∙◌}
+use Rattle.std.specs.List.{AllZip, AllByRecursion, enumerate_from, count_by}
+use Rattle.std.proofs.lemmas.List.{length-append, take_at, drop_at, length_push, take_all, drop_all}
+use Rattle.std.proofs.lemmas.List.FromFn.{length-enumerate_from}
+use Rattle.std.proofs.lemmas.List.Sums.{sum_by-cons}
+use Rattle.std.proofs.lemmas.Bool.{lt-ltb, le-ltb}
+use Rattle.futures.specs.declared.task.Poll.{Poll}
+use Rattle.futures.specs.declared.task.Poll.TheVariants.{Ready, Pending}
+use Rattle.futures_buffered_unordered.specs.Groups.{AnyOf, OneStopped, Groups, Turn, round_from, NoOutput, is_end, NotAsked, ended, staying, stands_at, TakesTurn}
+use Rattle.futures_buffered_unordered.specs.GroupsStep.{AsksOne, LeavesBetween, next_place}
+
+-- lists that are put together alike, with first parts of one length, have the same parts
+pub same_parts : {X : Type 0} (ps qs rs ts : List X) → length ps ≡ length qs → ps ++ rs ≡ qs ++ ts → (ps ≡ qs) × (rs ≡ ts)
+same_parts {X} ps qs rs ts same e = (
+  sym (take_at ps rs (length qs) same) ∙ ap (take (length qs)) e ∙ take_at qs ts (length qs) refl,
+  sym (drop_at ps rs (length qs) same) ∙ ap (drop (length qs)) e ∙ drop_at qs ts (length qs) refl,
+)
+
+-- the places go on over an appended list
+pub enumerate-append : {X : Type 0} (n : ℕ) (xs ys : List X) → enumerate_from n (xs ++ ys) ≡ enumerate_from n xs ++ enumerate_from (n + length xs) ys
+enumerate-append {X} n [] ys =
+    let same : n ≡ n + 0 = omega arith in
+    ap (λ (k : ℕ). enumerate_from k ys) same
+enumerate-append {X} n (x ∷ xs) ys =
+    let same : n + 1 + length xs ≡ n + suc (length xs) = omega arith in
+    ap (λ (l : List (ℕ × X)). (n, x) ∷ l) (enumerate-append (n + 1) xs ys ∙ ap (λ (k : ℕ). enumerate_from (n + 1) xs ++ enumerate_from k ys) same)
+
+-- a list begun at its second part is gone round from there
+pub round-at : {X : Type 0} (place : ℕ) (xs ys : List X) → (place ≡ length xs) ⊎ ((length (xs ++ ys) ≤ place) × (xs ≡ [])) → round_from place (enumerate_from 0 (xs ++ ys)) ≡ enumerate_from (length xs) ys ++ enumerate_from 0 xs
+round-at {X} place xs ys where_at = ap (round_from place) numbered ∙ turned where_at
+  where
+    firsts : List (ℕ × X)
+    firsts = enumerate_from 0 xs
+
+    seconds : List (ℕ × X)
+    seconds = enumerate_from (length xs) ys
+
+    numbered : enumerate_from 0 (xs ++ ys) ≡ firsts ++ seconds
+    numbered =
+        let same : 0 + length xs ≡ length xs = omega arith in
+        enumerate-append 0 xs ys ∙ ap (λ (k : ℕ). firsts ++ enumerate_from k ys) same
+
+    turned : (place ≡ length xs) ⊎ ((length (xs ++ ys) ≤ place) × (xs ≡ [])) → round_from place (firsts ++ seconds) ≡ seconds ++ firsts
+    turned (inl e) =
+        let long : length firsts ≡ place = length-enumerate_from 0 xs ∙ sym e in
+        ap (λ (l : List (ℕ × X)). l ++ take place (firsts ++ seconds)) (drop_at firsts seconds place long) ∙ ap (λ (l : List (ℕ × X)). seconds ++ l) (take_at firsts seconds place long)
+    turned (inr h) =
+        let none : firsts ≡ [] = ap (λ (l : List X). enumerate_from 0 l) h.1 in
+        let long : length (firsts ++ seconds) ≤ place = omega (arith, length-append firsts seconds, length-append xs ys, length-enumerate_from 0 xs, length-enumerate_from (length xs) ys, h.0) in
+        ap (λ (l : List (ℕ × X)). l ++ take place (firsts ++ seconds)) (drop_all place (firsts ++ seconds) long) ∙ take_all place (firsts ++ seconds) long
+        ∙ ap (λ (l : List (ℕ × X)). l ++ seconds) none ∙ sym (append-nil seconds) ∙ ap (λ (l : List (ℕ × X)). seconds ++ l) (sym none)
+
+-- what holds of each element holds of each with its place
+pub each-numbered : {X : Type 0} (P : X → Type 0) (n : ℕ) (xs : List X) → AllByRecursion P xs → AllByRecursion (λ (p : ℕ × X). P p.1) (enumerate_from n xs)
+each-numbered P n [] all = tt
+each-numbered P n (x ∷ xs) all = (all.0, each-numbered P (n + 1) xs all.1)
+
+pub each-append : {X : Type 0} (P : X → Type 0) (xs ys : List X) → AllByRecursion P xs → AllByRecursion P ys → AllByRecursion P (xs ++ ys)
+each-append P [] ys all more = more
+each-append P (x ∷ xs) ys all more = (all.0, each-append P xs ys all.1 more)
+
+pub zip-append : {X Y : Type 0} (R : X → Y → Type 0) (xs : List X) (ys : List Y) (us : List X) (vs : List Y) → AllZip R xs ys → AllZip R us vs → AllZip R (xs ++ us) (ys ++ vs)
+zip-append R [] [] us vs zip more = more
+zip-append R [] (y ∷ ys) us vs zip more = absurd zip
+zip-append R (x ∷ xs) [] us vs zip more = absurd zip
+zip-append R (x ∷ xs) (y ∷ ys) us vs zip more = (zip.0, zip-append R xs ys us vs zip.1 more)
+
+module _ {X A : Type 0} where
+  -- the turns of groups that were not asked
+  abbrev pub waiting : List X → List (Turn X A)
+  waiting [] = []
+  waiting (x ∷ xs) = record { answer = None; left = x } ∷ waiting xs
+
+  -- what is left of groups of which none is the last
+  abbrev pub kept : List (Turn X A) → List X
+  kept [] = []
+  kept (turn ∷ turns) = cond (ended turn) (kept turns) (turn.left ∷ kept turns)
+
+module _ {X : Type 0} where
+  pub cond-append : (b : Bool) (x : X) (ys zs : List X) → cond b (ys ++ zs) (x ∷ (ys ++ zs)) ≡ cond b ys (x ∷ ys) ++ zs
+  cond-append true x ys zs = refl
+  cond-append false x ys zs = refl
+
+  pub length-cond : (b : Bool) (x : X) (n : ℕ) (ys : List X) → n ≡ length ys → cond (not b) 1 0 + n ≡ length (cond b ys (x ∷ ys))
+  length-cond true x n ys e =
+      let same : 0 + n ≡ length ys = omega (arith, e) in
+      same
+  length-cond false x n ys e =
+      let more : 1 + n ≡ suc (length ys) = omega (arith, e) in
+      more
+
+module _ {X : Type 0} (A : Type 0) where
+  pub length-waiting : (xs : List X) → length (waiting {A = A} xs) ≡ length xs
+  length-waiting [] = refl
+  length-waiting (x ∷ xs) = ap suc (length-waiting xs)
+
+  pub kept-waiting : (xs : List X) → kept (waiting {A = A} xs) ≡ xs
+  kept-waiting [] = refl
+  kept-waiting (x ∷ xs) = ap (λ (l : List X). x ∷ l) (kept-waiting xs)
+
+  pub waiting-not_asked : (xs : List X) → AllByRecursion NotAsked (waiting {A = A} xs)
+  waiting-not_asked [] = tt
+  waiting-not_asked (x ∷ xs) = (refl, waiting-not_asked xs)
+
+  pub staying-waiting : (xs : List X) → staying (waiting {A = A} xs) ≡ xs
+  staying-waiting [] = refl
+  staying-waiting (x ∷ []) = refl
+  staying-waiting (x ∷ y ∷ xs) = ap (λ (l : List X). x ∷ l) (staying-waiting (y ∷ xs))
+
+module _ {X A : Type 0} where
+  pub kept-append : (ps qs : List (Turn X A)) → kept (ps ++ qs) ≡ kept ps ++ kept qs
+  kept-append [] qs = refl
+  kept-append (p ∷ ps) qs = ap (λ (l : List X). cond (ended p) l (p.left ∷ l)) (kept-append ps qs) ∙ cond-append (ended p) p.left (kept ps) (kept qs)
+
+  -- of the groups before another stay those that have not ended
+  pub staying-append : (ps : List (Turn X A)) (turn : Turn X A) (turns : List (Turn X A)) → staying (ps ++ turn ∷ turns) ≡ kept ps ++ staying (turn ∷ turns)
+  staying-append [] turn turns = refl
+  staying-append (p ∷ []) turn turns = cond-append (ended p) p.left [] (staying (turn ∷ turns))
+  staying-append (p ∷ q ∷ ps) turn turns =
+      ap (λ (l : List X). cond (ended p) l (p.left ∷ l)) (staying-append (q ∷ ps) turn turns) ∙ cond-append (ended p) p.left (kept (q ∷ ps)) (staying (turn ∷ turns))
+
+  -- a group that has not ended stays before groups that were not asked
+  pub staying-before_waiting : (turn : Turn X A) (xs : List X) → ended turn ≡ false → staying (turn ∷ waiting xs) ≡ turn.left ∷ xs
+  staying-before_waiting turn [] e = refl
+  staying-before_waiting turn (x ∷ xs) e = ap (λ (b : Bool). cond b (staying (waiting {A = A} (x ∷ xs))) (turn.left ∷ staying (waiting {A = A} (x ∷ xs)))) e ∙ ap (λ (l : List X). turn.left ∷ l) (staying-waiting A (x ∷ xs))
+
+  -- a group that has ended leaves if one stands behind it
+  pub kept-push : (ps : List (Turn X A)) (turn : Turn X A) → kept (ps ++ turn ∷ []) ≡ kept ps ++ cond (ended turn) [] (turn.left ∷ [])
+  kept-push ps turn = kept-append ps (turn ∷ [])
+
+  pub count-kept : (ps : List (Turn X A)) → count_by (λ (turn : Turn X A). not (ended turn)) ps ≡ length (kept ps)
+  count-kept [] = refl
+  count-kept (p ∷ ps) = sum_by-cons (λ (turn : Turn X A). cond (not (ended turn)) 1 0) p ps ∙ length-cond (ended p) p.left _ (kept ps) (count-kept ps)
+
+  -- group k stands behind those before it that stay
+  pub stands-at : (ps qs : List (Turn X A)) → stands_at (ps ++ qs) (length ps) ≡ length (kept ps)
+  stands-at ps qs = ap (count_by (λ (turn : Turn X A). not (ended turn))) (take_at ps qs (length ps) refl) ∙ count-kept ps
+
+-- the group that is asked next stands between these
+pub record AsksHere {X A : Type 0} (asks : X → Poll (Option A) → X → Type 0) (earlier rest : List X) (answer : Poll (Option A)) (new : Groups X) : Type 0 where
+  pub group : X
+  pub left : X
+  pub later : List X
+  pub rest_is : rest ≡ group ∷ later
+  pub asked : asks group answer left
+  pub leaves : LeavesBetween earlier later left answer new
+
+module _ {X A : Type 0} (asks : X → Poll (Option A) → X → Type 0) where
+  pub zip-waiting : (xs : List X) → AllZip (TakesTurn asks) xs (waiting xs)
+  zip-waiting [] = tt
+  zip-waiting (x ∷ xs) = (refl, zip-waiting xs)
+
+  pub asks_here : (now new : Groups X) (answer : Poll (Option A)) (earlier rest : List X) → AsksOne asks now answer new → now.listed ≡ earlier ++ rest → next_place now ≡ length earlier → AsksHere asks earlier rest answer new
+  asks_here now new answer earlier rest one is place =
+      let front : take (next_place now) now.listed ≡ earlier = ap (take (next_place now)) is ∙ take_at earlier rest (next_place now) (sym place) in
+      let parts = same_parts (take (next_place now) now.listed) earlier (one.group ∷ drop (next_place now + 1) now.listed) rest (ap length front) (sym one.stood ∙ is) in
+      record {
+        group = one.group;
+        left = one.left;
+        later = drop (next_place now + 1) now.listed;
+        rest_is = sym parts.1;
+        asked = one.asked;
+        leaves = subst (λ (l : List X). LeavesBetween l (drop (next_place now + 1) now.listed) one.left answer new) front one.leaves;
+      }
+
+-- whether an answer is Pending
+abbrev pub is_pending : {A : Type 0} → Poll (Option A) → Bool
+is_pending Pending = true
+is_pending (Ready o) = false
+
+-- where the next poll begins behind the last group of n
+abbrev pub behind_last : {A : Type 0} → ℕ → Poll (Option A) → ℕ
+behind_last n Pending = n
+behind_last n (Ready o) = 0
+
+-- the place is that of a group
+pub next_at : {X : Type 0} (g : Groups X) (k : ℕ) → g.place ≡ k → k < length g.listed → next_place g ≡ k
+next_at g k e within = by_test (nat_lt g.place (length g.listed)) (lt-ltb g.place (length g.listed) (omega (arith, e, within)))
+  where
+    by_test : (b : Bool) → b ≡ true → cond b g.place 0 ≡ k
+    by_test true h = e
+    by_test false h = absurd (true≢false (sym h))
+
+-- the place is the first, or past the last group
+pub next_zero : {X : Type 0} (g : Groups X) → (length g.listed ≤ g.place) ⊎ (g.place ≡ 0) → next_place g ≡ 0
+next_zero g (inl past) = by_test (nat_lt g.place (length g.listed)) (le-ltb g.place (length g.listed) past)
+  where
+    by_test : (b : Bool) → b ≡ false → cond b g.place 0 ≡ 0
+    by_test true h = absurd (true≢false h)
+    by_test false h = refl
+next_zero g (inr first) = by_test (nat_lt g.place (length g.listed))
+  where
+    by_test : (b : Bool) → cond b g.place 0 ≡ 0
+    by_test true = first
+    by_test false = refl
+
+module _ {X A : Type 0} where
+  -- what stays of a group that is not the last
+  abbrev pub gone : Poll (Option A) → X → List X
+  gone answer left = cond (is_end (Some answer)) [] (left ∷ [])
+
+  -- a group that gave no output, with a group behind it
+  pub after_group : (earlier later : List X) (left : X) (answer : Poll (Option A)) (new : Groups X) → 0 < length later → NoOutput answer → LeavesBetween earlier later left answer new
+      → (new.listed ≡ earlier ++ (gone answer left ++ later)) × (new.place ≡ length earlier + length (gone answer left))
+  after_group earlier [] left answer new some none h = absurd (omega (arith, some))
+  after_group earlier (next ∷ later) left Pending new some none h = h
+  after_group earlier (next ∷ later) left (Ready None) new some none h = (h.0, omega (arith, h.1))
+  after_group earlier (next ∷ later) left (Ready (Some x)) new some none h = absurd none
+
+  -- the last group, which gave no output
+  pub after_last : (earlier : List X) (left : X) (answer : Poll (Option A)) (new : Groups X) → NoOutput answer → LeavesBetween earlier [] left answer new
+      → (new.listed ≡ earlier ++ left ∷ []) × (new.place ≡ behind_last (length new.listed) answer)
+  after_last earlier left Pending new none h = (h.0, h.1 ∙ sym (length_push earlier left) ∙ sym (ap length h.0))
+  after_last earlier left (Ready None) new none h = h
+  after_last earlier left (Ready (Some x)) new none h = absurd none
+
+pub ends_more : (b e pending p : Bool) → b ≡ not pending → e ≡ not p → (b && e) ≡ not (cond pending true p)
+ends_more b e true p h i = ap (λ (x : Bool). x && e) h
+ends_more b e false p h i = ap (λ (x : Bool). x && e) h ∙ i
+
+pub end_or_pending : {A : Type 0} (answer : Poll (Option A)) → NoOutput answer → is_end (Some answer) ≡ not (is_pending answer)
+end_or_pending Pending none = refl
+end_or_pending (Ready None) none = refl
+end_or_pending (Ready (Some x)) none = absurd none
+
+pub and_true : (b : Bool) → (b && true) ≡ b
+and_true true = refl
+and_true false = refl
+
+pub and_assoc : (a b c : Bool) → ((a && b) && c) ≡ (a && (b && c))
+and_assoc true b c = refl
+and_assoc false b c = refl
+
+pub and_swap : (a b c : Bool) → ((a && c) && b) ≡ ((a && b) && c)
+and_swap true true true = refl
+and_swap true true false = refl
+and_swap true false true = refl
+and_swap true false false = refl
+and_swap false b c = refl
+
+pub from_no_length : {X : Type 0} (xs : List X) → length xs ≡ 0 → xs ≡ []
+from_no_length [] e = refl
+from_no_length (x ∷ xs) e = absurd (omega (arith, e))
+
+pub last_of : {X : Type 0} (xs : List X) → 0 < length xs → (ys : List X) × (y : X) × (xs ≡ ys ++ y ∷ [])
+last_of [] some = absurd (omega (arith, some))
+last_of (x ∷ []) some = ([], x, refl)
+last_of {X} (x ∷ y ∷ xs) some =
+    let more = last_of (y ∷ xs) (omega arith) in
+    (x ∷ more.0, more.1, ap (λ (l : List X). x ∷ l) more.2)
+
+pub each-last : {X : Type 0} (P : X → Type 0) (xs : List X) (x : X) → AllByRecursion P (xs ++ x ∷ []) → P x
+each-last P [] x all = all.0
+each-last P (y ∷ ys) x all = each-last P ys x all.1
+
+pub each-front : {X : Type 0} (P : X → Type 0) (xs ys : List X) → AllByRecursion P (xs ++ ys) → AllByRecursion P xs
+each-front P [] ys all = tt
+each-front P (x ∷ xs) ys all = (all.0, each-front P xs ys all.1)
+
+pub answered : {X A : Type 0} (o : Option (Poll (Option A))) (left : X) → MatchOption o ⊥ NoOutput → (answer : Poll (Option A)) × NoOutput answer × (◌≡◌ {A = Turn X A} (record { answer = o; left = left }) (record { answer = Some answer; left = left }))
+answered None left h = absurd h
+answered (Some answer) left h = (answer, h, refl)
+
+-- what holds of one of a list holds of one of a longer list
+pub any_front : {X : Type 0} (P : X → Type 0) (xs ys : List X) → AnyOf P xs → AnyOf P (xs ++ ys)
+any_front P [] ys any = absurd any
+any_front P (x ∷ xs) ys (inl here) = inl here
+any_front P (x ∷ xs) ys (inr any) = inr (any_front P xs ys any)
+
+pub any_back : {X : Type 0} (P : X → Type 0) (xs ys : List X) → AnyOf P ys → AnyOf P (xs ++ ys)
+any_back P [] ys any = any
+any_back P (x ∷ xs) ys any = inr (any_back P xs ys any)
+
+pub any_weaker : {X : Type 0} (P Q : X → Type 0) → ((x : X) → P x → Q x) → (xs : List X) → AnyOf P xs → AnyOf Q xs
+any_weaker P Q weaker [] any = any
+any_weaker P Q weaker (x ∷ xs) (inl here) = inl (weaker x here)
+any_weaker P Q weaker (x ∷ xs) (inr any) = inr (any_weaker P Q weaker xs any)
+
+module _ {X : Type 0} (stops : X → X → Type 0) where
+  -- a group that stopped is seen in longer lists
+  pub stopped_front : (groups left more others : List X) → OneStopped stops groups left → OneStopped stops (groups ++ more) (left ++ others)
+  stopped_front groups left more others one =
+      any_front (λ (g : X). AnyOf (stops g) (left ++ others)) groups more (any_weaker (λ (g : X). AnyOf (stops g) left) (λ (g : X). AnyOf (stops g) (left ++ others)) (λ g any. any_front (stops g) left others any) groups one)
+
+  pub stopped_back : (more others groups left : List X) → OneStopped stops groups left → OneStopped stops (more ++ groups) (others ++ left)
+  stopped_back more others groups left one =
+      any_back (λ (g : X). AnyOf (stops g) (others ++ left)) more groups (any_weaker (λ (g : X). AnyOf (stops g) left) (λ (g : X). AnyOf (stops g) (others ++ left)) (λ g any. any_back (stops g) others left any) groups one)
+
+  pub stopped_last : (groups left : List X) (g l : X) → stops g l → OneStopped stops (groups ++ g ∷ []) (left ++ l ∷ [])
+  stopped_last groups left g l stop = stopped_back groups left (g ∷ []) (l ∷ []) (inl (inl stop))

@@ -1,0 +1,422 @@
+-- Going round the groups: those from the place on are asked first, and then those before it.
+use Rattle.std.proofs.Common.{◌≡◌, ◌⊎◌, ℕ, ◌+◌, ◌<◌, ◌≤◌, Bool, true, not, ◌&&◌, cond, List, [], ◌∷◌, ◌++◌, length, drop, Option, Some, refl, sym, ap, subst, inl, inr, arith, ◌∙◌}
+use Rattle.std.specs.List.{AllZip, AllByRecursion, enumerate_from, list_all}
+use Rattle.std.proofs.lemmas.List.{append_assoc, length-append, length_push}
+use Rattle.std.proofs.lemmas.List.Folds.{list_all-append}
+use Rattle.std.proofs.lemmas.Slice.Zip.{AllZip-long}
+use Rattle.futures.specs.declared.task.Poll.{Poll}
+use Rattle.futures.specs.declared.task.Poll.TheVariants.{Ready, Pending}
+use Rattle.futures_buffered_unordered.specs.Groups.{OneStopped, Groups, Turn, round_from, NoOutput, is_end, NotAsked, GaveNoOutput, ended, staying, stands_at, TakesTurn, GroupsGive}
+use Rattle.futures_buffered_unordered.specs.GroupsStep.{AsksOne, LeavesBetween, next_place}
+use Rattle.futures_buffered_unordered.proofs.GroupsLemmas.{enumerate-append, round-at, each-numbered, each-append, zip-append, waiting, kept, length-waiting, kept-waiting, waiting-not_asked, kept-append, staying-append, staying-before_waiting, kept-push, stands-at, AsksHere, zip-waiting, asks_here, is_pending, behind_last, next_at, next_zero, gone, after_group, after_last, ends_more, end_or_pending, and_true, and_swap, stopped_front, stopped_last}
+
+-- the first of a list, or else x
+head_or : {X : Type 0} → X → List X → X
+head_or x [] = x
+head_or x (y ∷ ys) = y
+
+module _ {X A : Type 0} (asks : X → Poll (Option A) → X → Type 0) (old : Groups X) where
+  -- the groups from the place on are asked, and one of them is next
+  pub record First (count : ℕ) (pending : Bool) (now : Groups X) : Type 0 where
+    pub before : List X
+    pub asked : List X
+    pub todo : List X
+    pub turns : List (Turn X A)
+    pub old_is : old.listed ≡ before ++ (asked ++ todo)
+    pub begins : (old.place ≡ length before) ⊎ ((length old.listed ≤ old.place) × (before ≡ []))
+    pub each : AllZip (TakesTurn asks) asked turns
+    pub none : AllByRecursion GaveNoOutput turns
+    pub now_is : now.listed ≡ before ++ (kept turns ++ todo)
+    pub some : 0 < length todo
+    pub place : next_place now ≡ length before + length (kept turns)
+    pub counted : length turns ≡ count
+    pub ends : list_all ended turns ≡ not pending
+
+  -- the last group was asked, and the groups before the place are next
+  pub record Second (count : ℕ) (pending : Bool) (now : Groups X) : Type 0 where
+    pub again : List X
+    pub todo : List X
+    pub asked : List X
+    pub last : X
+    pub left : X
+    pub answer : Poll (Option A)
+    pub again_turns : List (Turn X A)
+    pub turns : List (Turn X A)
+    pub old_is : old.listed ≡ again ++ (todo ++ (asked ++ last ∷ []))
+    pub begins : (old.place ≡ length (again ++ todo)) ⊎ ((length old.listed ≤ old.place) × (again ++ todo ≡ []))
+    pub each_again : AllZip (TakesTurn asks) again again_turns
+    pub each : AllZip (TakesTurn asks) asked turns
+    pub last_asked : asks last answer left
+    pub none_again : AllByRecursion GaveNoOutput again_turns
+    pub none : AllByRecursion GaveNoOutput turns
+    pub none_last : NoOutput answer
+    pub now_is : now.listed ≡ kept again_turns ++ (todo ++ (kept turns ++ left ∷ []))
+    pub place : ((again_turns ≡ []) × (now.place ≡ behind_last (length now.listed) answer)) ⊎ ((0 < length again_turns) × (now.place ≡ length (kept again_turns)))
+    pub counted : length again_turns + (length turns + 1) ≡ count
+    pub ends : (list_all ended again_turns && (list_all ended turns && is_end (Some answer))) ≡ not pending
+
+  -- a group that was asked stopped, and what is left of it is seen
+  abbrev pub FirstSaw : (X → X → Type 0) → (count : ℕ) (pending : Bool) (now : Groups X) → First count pending now → Type 0
+  FirstSaw stops count pending now so = OneStopped stops so.asked (kept so.turns)
+
+  abbrev pub SecondSaw : (X → X → Type 0) → (count : ℕ) (pending : Bool) (now : Groups X) → Second count pending now → Type 0
+  SecondSaw stops count pending now so = OneStopped stops so.again (kept so.again_turns) ⊎ OneStopped stops (so.asked ++ so.last ∷ []) (kept so.turns ++ so.left ∷ [])
+
+  abbrev pub RoundSaw : (X → X → Type 0) → (count : ℕ) (pending : Bool) (now : Groups X) → First count pending now ⊎ Second count pending now → Type 0
+  RoundSaw stops count pending now (inl so) = FirstSaw stops count pending now so
+  RoundSaw stops count pending now (inr so) = SecondSaw stops count pending now so
+
+  -- each group that is asked in this way is pending, and stopped
+  abbrev pub AllStop : (X → Poll (Option A) → X → Type 0) → (X → X → Type 0) → Poll (Option A) → Type 0
+  AllStop asks_now stops answer = (group left : X) → asks_now group answer left → (answer ≡ Pending) × stops group left
+
+  -- an output before the end of the list is come to
+  pub first_output : (count : ℕ) (pending : Bool) (now new : Groups X) (x : A) → First count pending now → AsksOne asks now (Ready (Some x)) new → GroupsGive asks old (Ready (Some x)) new
+  first_output count pending now new x so one = (
+    turns,
+    enumerate_from (length so.before + length so.turns + 1) (waiting here.later) ++ enumerate_from 0 (waiting so.before),
+    record {
+      each = subst (λ (l : List X). AllZip (TakesTurn asks) l turns) (sym old_parts) zipped;
+      asked_before = enumerate_from (length so.before) so.turns;
+      k = length so.before + length so.turns;
+      left = here.left;
+      in_order = order;
+      no_output_before = each-numbered GaveNoOutput (length so.before) so.turns so.none;
+      none_asked_after = each-append _ (enumerate_from (length so.before + length so.turns + 1) (waiting here.later)) (enumerate_from 0 (waiting so.before)) (each-numbered NotAsked _ (waiting here.later) (waiting-not_asked A here.later)) (each-numbered NotAsked 0 (waiting so.before) (waiting-not_asked A so.before));
+      leaves = here.leaves.0 ∙ sym stays;
+      goes_on = here.leaves.1 ∙ sym stands;
+    },
+  )
+    where
+      here : AsksHere asks (so.before ++ kept so.turns) so.todo (Ready (Some x)) new
+      here = asks_here asks now new (Ready (Some x)) (so.before ++ kept so.turns) so.todo one (so.now_is ∙ sym (append_assoc so.before (kept so.turns) so.todo)) (so.place ∙ sym (length-append so.before (kept so.turns)))
+
+      turn : Turn X A
+      turn = record { answer = Some (Ready (Some x)); left = here.left }
+
+      behind : List (Turn X A)
+      behind = so.turns ++ turn ∷ waiting here.later
+
+      turns : List (Turn X A)
+      turns = waiting so.before ++ behind
+
+      old_parts : old.listed ≡ so.before ++ (so.asked ++ here.group ∷ here.later)
+      old_parts = so.old_is ∙ ap (λ (l : List X). so.before ++ (so.asked ++ l)) here.rest_is
+
+      zipped : AllZip (TakesTurn asks) (so.before ++ (so.asked ++ here.group ∷ here.later)) turns
+      zipped = zip-append (TakesTurn asks) so.before (waiting so.before) _ _ (zip-waiting asks so.before) (zip-append (TakesTurn asks) so.asked so.turns _ _ so.each (here.asked, zip-waiting asks here.later))
+
+      long : length turns ≡ length old.listed
+      long = AllZip-long (TakesTurn asks) (so.before ++ (so.asked ++ here.group ∷ here.later)) turns zipped ∙ ap length (sym old_parts)
+
+      begins : (old.place ≡ length (waiting {A = A} so.before)) ⊎ ((length turns ≤ old.place) × (waiting {A = A} so.before ≡ []))
+      begins = elim so.begins [ inl e ↦ inl (e ∙ sym (length-waiting A so.before)) | inr h ↦ inr (omega (arith, long, h.0), ap (waiting {A = A}) h.1) ]
+
+      order : round_from old.place (enumerate_from 0 turns) ≡ enumerate_from (length so.before) so.turns ++ (length so.before + length so.turns, turn) ∷ (enumerate_from (length so.before + length so.turns + 1) (waiting here.later) ++ enumerate_from 0 (waiting so.before))
+      order =
+          round-at old.place (waiting so.before) behind begins
+          ∙ ap (λ (k : ℕ). enumerate_from k behind ++ enumerate_from 0 (waiting so.before)) (length-waiting A so.before)
+          ∙ ap (λ (l : List (ℕ × Turn X A)). l ++ enumerate_from 0 (waiting so.before)) (enumerate-append (length so.before) so.turns (turn ∷ waiting here.later))
+          ∙ append_assoc (enumerate_from (length so.before) so.turns) (enumerate_from (length so.before + length so.turns) (turn ∷ waiting here.later)) (enumerate_from 0 (waiting so.before))
+
+      front : List (Turn X A)
+      front = waiting so.before ++ so.turns
+
+      kept-front : kept front ≡ so.before ++ kept so.turns
+      kept-front = kept-append (waiting so.before) so.turns ∙ ap (λ (l : List X). l ++ kept so.turns) (kept-waiting A so.before)
+
+      turns_are : turns ≡ front ++ turn ∷ waiting here.later
+      turns_are = sym (append_assoc (waiting so.before) so.turns (turn ∷ waiting here.later))
+
+      stays : staying turns ≡ (so.before ++ kept so.turns) ++ here.left ∷ here.later
+      stays = ap staying turns_are ∙ staying-append front turn (waiting here.later) ∙ ap (λ (l : List X). kept front ++ l) (staying-before_waiting turn here.later refl) ∙ ap (λ (l : List X). l ++ here.left ∷ here.later) kept-front
+
+      front_long : length front ≡ length so.before + length so.turns
+      front_long = length-append (waiting {A = A} so.before) so.turns ∙ ap (λ (n : ℕ). n + length so.turns) (length-waiting A so.before)
+
+      stands : stands_at turns (length so.before + length so.turns) ≡ length (so.before ++ kept so.turns)
+      stands = ap (stands_at turns) (sym front_long) ∙ ap (λ (l : List (Turn X A)). stands_at l (length front)) turns_are ∙ stands-at front (turn ∷ waiting here.later) ∙ ap length kept-front
+
+  -- the group that is asked next, behind those that were asked a second time round
+  pub second_place : (count : ℕ) (pending : Bool) (now : Groups X) → (so : Second count pending now) → next_place now ≡ length (kept so.again_turns)
+  second_place count pending now so =
+      elim so.place [
+        | inl h ↦ next_zero now (behind now.place so.answer h.1) ∙ ap length (ap kept (sym h.0))
+        | inr h ↦ next_at now (length (kept so.again_turns)) h.1 (omega (arith, ap length so.now_is, length-append (kept so.again_turns) (so.todo ++ (kept so.turns ++ so.left ∷ [])), length-append so.todo (kept so.turns ++ so.left ∷ []), length_push (kept so.turns) so.left))
+      ]
+    where
+      behind : (place : ℕ) (answer : Poll (Option A)) → place ≡ behind_last (length now.listed) answer → (length now.listed ≤ place) ⊎ (place ≡ 0)
+      behind place Pending e = inl (omega (arith, e))
+      behind place (Ready o) e = inr e
+
+  pub second_some : (count : ℕ) (pending : Bool) (now : Groups X) → (so : Second count pending now) → count < length old.listed → 0 < length so.todo
+  second_some count pending now so more =
+      omega (
+        arith,
+        more,
+        so.counted,
+        ap length so.old_is,
+        length-append so.again (so.todo ++ (so.asked ++ so.last ∷ [])),
+        length-append so.todo (so.asked ++ so.last ∷ []),
+        length_push so.asked so.last,
+        AllZip-long (TakesTurn asks) so.again so.again_turns so.each_again,
+        AllZip-long (TakesTurn asks) so.asked so.turns so.each,
+      )
+
+  pub first_of : (xs ys : List X) (z : X) (zs : List X) → 0 < length xs → xs ++ ys ≡ z ∷ zs → (xs ≡ z ∷ drop 1 xs) × (zs ≡ drop 1 xs ++ ys)
+  unfolding head_or
+  first_of [] ys z zs some e = absurd (omega (arith, some))
+  first_of (x ∷ xs) ys z zs some e = (ap (λ (w : X). w ∷ xs) (ap (head_or x) e), ap (drop 1) (sym e))
+
+  -- an output after the end of the list was come to
+  pub second_output : (count : ℕ) (pending : Bool) (now new : Groups X) (x : A) → (so : Second count pending now) → count < length old.listed → AsksOne asks now (Ready (Some x)) new → GroupsGive asks old (Ready (Some x)) new
+  second_output count pending now new x so more one = (
+    turns,
+    enumerate_from (length so.again_turns + 1) (waiting here_later),
+    record {
+      each = subst (λ (l : List X). AllZip (TakesTurn asks) l turns) (sym old_parts) zipped;
+      asked_before = enumerate_from (length so.again + length so.todo) round1 ++ enumerate_from 0 so.again_turns;
+      k = length so.again_turns;
+      left = here.left;
+      in_order = order;
+      no_output_before = each-append _ (enumerate_from (length so.again + length so.todo) round1) (enumerate_from 0 so.again_turns) (each-numbered GaveNoOutput _ round1 (each-append GaveNoOutput so.turns (last_turn ∷ []) so.none (so.none_last, tt))) (each-numbered GaveNoOutput 0 so.again_turns so.none_again);
+      none_asked_after = each-numbered NotAsked _ (waiting here_later) (waiting-not_asked A here_later);
+      leaves = here.leaves.0 ∙ ap (λ (l : List X). kept so.again_turns ++ here.left ∷ l) later_is ∙ sym stays;
+      goes_on = here.leaves.1 ∙ sym stands;
+    },
+  )
+    where
+      last_turn : Turn X A
+      last_turn = record { answer = Some so.answer; left = so.left }
+
+      round1 : List (Turn X A)
+      round1 = so.turns ++ last_turn ∷ []
+
+      rest : List X
+      rest = kept so.turns ++ so.left ∷ []
+
+      next_is : next_place now ≡ length (kept so.again_turns)
+      next_is = second_place count pending now so
+
+      here : AsksHere asks (kept so.again_turns) (so.todo ++ rest) (Ready (Some x)) new
+      here = asks_here asks now new (Ready (Some x)) (kept so.again_turns) (so.todo ++ rest) one so.now_is next_is
+
+      todo_some : 0 < length so.todo
+      todo_some = second_some count pending now so more
+
+      here_later : List X
+      here_later = drop 1 so.todo
+
+      split : (so.todo ≡ here.group ∷ here_later) × (here.later ≡ here_later ++ rest)
+      split = first_of so.todo rest here.group here.later todo_some here.rest_is
+
+      later_is : here.later ≡ here_later ++ rest
+      later_is = split.1
+
+      turn : Turn X A
+      turn = record { answer = Some (Ready (Some x)); left = here.left }
+
+      front : List (Turn X A)
+      front = so.again_turns ++ turn ∷ waiting here_later
+
+      turns : List (Turn X A)
+      turns = front ++ round1
+
+      old_parts : old.listed ≡ (so.again ++ here.group ∷ here_later) ++ (so.asked ++ so.last ∷ [])
+      old_parts = so.old_is ∙ ap (λ (l : List X). so.again ++ (l ++ (so.asked ++ so.last ∷ []))) split.0 ∙ sym (append_assoc so.again (here.group ∷ here_later) (so.asked ++ so.last ∷ []))
+
+      zipped : AllZip (TakesTurn asks) ((so.again ++ here.group ∷ here_later) ++ (so.asked ++ so.last ∷ [])) turns
+      zipped = zip-append (TakesTurn asks) (so.again ++ here.group ∷ here_later) front _ _ (zip-append (TakesTurn asks) so.again so.again_turns _ _ so.each_again (here.asked, zip-waiting asks here_later)) (zip-append (TakesTurn asks) so.asked so.turns _ _ so.each (so.last_asked, tt))
+
+      long : length turns ≡ length old.listed
+      long = AllZip-long (TakesTurn asks) _ turns zipped ∙ ap length (sym old_parts)
+
+      again_long : length so.again_turns ≡ length so.again
+      again_long = AllZip-long (TakesTurn asks) so.again so.again_turns so.each_again
+
+      front_long : length front ≡ length so.again + length so.todo
+      front_long = omega (arith, length-append so.again_turns (turn ∷ waiting here_later), length-waiting A here_later, again_long, ap length split.0)
+
+      begins : (old.place ≡ length front) ⊎ ((length turns ≤ old.place) × (front ≡ []))
+      begins = elim so.begins [ inl e ↦ inl (e ∙ length-append so.again so.todo ∙ sym front_long) | inr h ↦ absurd (omega (arith, ap length h.1, length-append so.again so.todo, todo_some)) ]
+
+      order : round_from old.place (enumerate_from 0 turns) ≡ (enumerate_from (length so.again + length so.todo) round1 ++ enumerate_from 0 so.again_turns) ++ (length so.again_turns, turn) ∷ enumerate_from (length so.again_turns + 1) (waiting here_later)
+      order =
+          let same : 0 + length so.again_turns ≡ length so.again_turns = omega arith in
+          round-at old.place front round1 begins
+          ∙ ap (λ (k : ℕ). enumerate_from k round1 ++ enumerate_from 0 front) front_long
+          ∙ ap (λ (l : List (ℕ × Turn X A)). enumerate_from (length so.again + length so.todo) round1 ++ l) (enumerate-append 0 so.again_turns (turn ∷ waiting here_later) ∙ ap (λ (k : ℕ). enumerate_from 0 so.again_turns ++ enumerate_from k (turn ∷ waiting here_later)) same)
+          ∙ sym (append_assoc (enumerate_from (length so.again + length so.todo) round1) (enumerate_from 0 so.again_turns) (enumerate_from (length so.again_turns) (turn ∷ waiting here_later)))
+
+      turns_are : turns ≡ so.again_turns ++ turn ∷ (waiting here_later ++ round1)
+      turns_are = append_assoc so.again_turns (turn ∷ waiting here_later) round1
+
+      stays_behind : staying (turn ∷ (waiting here_later ++ round1)) ≡ here.left ∷ (here_later ++ rest)
+      stays_behind =
+          ap staying (sym (append_assoc (turn ∷ waiting here_later) so.turns (last_turn ∷ [])))
+          ∙ staying-append ((turn ∷ waiting here_later) ++ so.turns) last_turn []
+          ∙ ap (λ (l : List X). l ++ so.left ∷ []) (kept-append (turn ∷ waiting here_later) so.turns ∙ ap (λ (l : List X). here.left ∷ (l ++ kept so.turns)) (kept-waiting A here_later))
+          ∙ append_assoc (here.left ∷ here_later) (kept so.turns) (so.left ∷ [])
+
+      stays : staying turns ≡ kept so.again_turns ++ here.left ∷ (here_later ++ rest)
+      stays = ap staying turns_are ∙ staying-append so.again_turns turn (waiting here_later ++ round1) ∙ ap (λ (l : List X). kept so.again_turns ++ l) stays_behind
+
+      stands : stands_at turns (length so.again_turns) ≡ length (kept so.again_turns)
+      stands = ap (λ (l : List (Turn X A)). stands_at l (length so.again_turns)) turns_are ∙ stands-at so.again_turns (turn ∷ (waiting here_later ++ round1))
+
+  -- the group that was asked now is seen behind those before it
+  saw_more : (asks_now : X → Poll (Option A) → X → Type 0) (stops : X → X → Type 0) (answer : Poll (Option A)) (groups left_before : List X) (group left : X) → asks_now group answer left
+      → OneStopped stops groups left_before ⊎ AllStop asks_now stops answer → OneStopped stops (groups ++ group ∷ []) (left_before ++ gone answer left)
+  saw_more asks_now stops answer groups left_before group left asked (inl before) = stopped_front stops groups left_before (group ∷ []) (gone answer left) before
+  saw_more asks_now stops answer groups left_before group left asked (inr all) =
+      let stop = all group left asked in
+      subst (λ (a : Poll (Option A)). OneStopped stops (groups ++ group ∷ []) (left_before ++ gone a left)) (sym stop.0) (stopped_last stops groups left_before group left stop.1)
+
+  pub list_all-push : (turns : List (Turn X A)) (turn : Turn X A) → list_all ended (turns ++ turn ∷ []) ≡ (list_all ended turns && ended turn)
+  list_all-push turns turn = list_all-append ended turns (turn ∷ []) ∙ ap (λ (b : Bool). list_all ended turns && b) (and_true (ended turn))
+
+  -- one more group, before the end of the list is come to
+  pub first_step : (asks_now : X → Poll (Option A) → X → Type 0) (stops : X → X → Type 0) → ((group left : X) (answer : Poll (Option A)) → asks_now group answer left → asks group answer left)
+      → (count : ℕ) (pending : Bool) (now new : Groups X) (answer : Poll (Option A)) → NoOutput answer → (so : First count pending now) → AsksOne asks_now now answer new
+      → (r : First (count + 1) (cond pending true (is_pending answer)) new ⊎ Second (count + 1) (cond pending true (is_pending answer)) new)
+      × (FirstSaw stops count pending now so ⊎ AllStop asks_now stops answer → RoundSaw stops (count + 1) (cond pending true (is_pending answer)) new r)
+  first_step asks_now stops as_asked count pending now new answer no_output so one = by_later here.later here.rest_is here.leaves
+    where
+      earlier : List X
+      earlier = so.before ++ kept so.turns
+
+      here : AsksHere asks_now earlier so.todo answer new
+      here = asks_here asks_now now new answer earlier so.todo one (so.now_is ∙ sym (append_assoc so.before (kept so.turns) so.todo)) (so.place ∙ sym (length-append so.before (kept so.turns)))
+
+      asked : asks here.group answer here.left
+      asked = as_asked here.group here.left answer here.asked
+
+      turn : Turn X A
+      turn = record { answer = Some answer; left = here.left }
+
+      more_ends : (list_all ended so.turns && ended turn) ≡ not (cond pending true (is_pending answer))
+      more_ends = ends_more (list_all ended so.turns) (ended turn) pending (is_pending answer) so.ends (end_or_pending answer no_output)
+
+      by_later : (later : List X) → so.todo ≡ here.group ∷ later → LeavesBetween earlier later here.left answer new
+          → (r : First (count + 1) (cond pending true (is_pending answer)) new ⊎ Second (count + 1) (cond pending true (is_pending answer)) new)
+          × (FirstSaw stops count pending now so ⊎ AllStop asks_now stops answer → RoundSaw stops (count + 1) (cond pending true (is_pending answer)) new r)
+      by_later [] is leaves =
+          let left_is = after_last earlier here.left answer new no_output leaves in
+          let saw : FirstSaw stops count pending now so ⊎ AllStop asks_now stops answer → OneStopped stops (so.asked ++ here.group ∷ []) (kept so.turns ++ here.left ∷ []) = λ seen. elim seen [
+            | inl before ↦ stopped_front stops so.asked (kept so.turns) (here.group ∷ []) (here.left ∷ []) before
+            | inr all ↦ stopped_last stops so.asked (kept so.turns) here.group here.left (all here.group here.left here.asked).1
+          ] in (
+            inr (record {
+              again = [];
+              todo = so.before;
+              asked = so.asked;
+              last = here.group;
+              left = here.left;
+              answer = answer;
+              again_turns = [];
+              turns = so.turns;
+              old_is = so.old_is ∙ ap (λ (l : List X). so.before ++ (so.asked ++ l)) is;
+              begins = so.begins;
+              each_again = tt;
+              each = so.each;
+              last_asked = asked;
+              none_again = tt;
+              none = so.none;
+              none_last = no_output;
+              now_is = left_is.0 ∙ append_assoc so.before (kept so.turns) (here.left ∷ []);
+              place = inl (refl, left_is.1);
+              counted = omega (arith, so.counted);
+              ends = more_ends;
+            }),
+            λ seen. inr (saw seen),
+          )
+      by_later (next ∷ later) is leaves =
+          let left_is = after_group earlier (next ∷ later) here.left answer new (omega arith) no_output leaves in
+          let kept_is = kept-push so.turns turn in
+          let now_is : new.listed ≡ so.before ++ (kept (so.turns ++ turn ∷ []) ++ next ∷ later) = left_is.0 ∙ append_assoc so.before (kept so.turns) (gone answer here.left ++ next ∷ later)
+          ∙ ap (λ (l : List X). so.before ++ l) (sym (append_assoc (kept so.turns) (gone answer here.left) (next ∷ later)) ∙ ap (λ (l : List X). l ++ next ∷ later) (sym kept_is)) in
+          let place_is : new.place ≡ length so.before + length (kept (so.turns ++ turn ∷ [])) = omega (arith, left_is.1, length-append so.before (kept so.turns), ap length kept_is, length-append (kept so.turns) (gone answer here.left)) in (
+            inl (record {
+              before = so.before;
+              asked = so.asked ++ here.group ∷ [];
+              todo = next ∷ later;
+              turns = so.turns ++ turn ∷ [];
+              old_is = so.old_is ∙ ap (λ (l : List X). so.before ++ (so.asked ++ l)) is ∙ ap (λ (l : List X). so.before ++ l) (sym (append_assoc so.asked (here.group ∷ []) (next ∷ later)));
+              begins = so.begins;
+              each = zip-append (TakesTurn asks) so.asked so.turns _ _ so.each (asked, tt);
+              none = each-append GaveNoOutput so.turns (turn ∷ []) so.none (no_output, tt);
+              now_is = now_is;
+              some = omega arith;
+              place = next_at new _ place_is (omega (arith, ap length now_is, length-append so.before (kept (so.turns ++ turn ∷ []) ++ next ∷ later), length-append (kept (so.turns ++ turn ∷ [])) (next ∷ later)));
+              counted = omega (arith, so.counted, length_push so.turns turn);
+              ends = list_all-push so.turns turn ∙ more_ends;
+            }),
+            λ seen. subst (OneStopped stops (so.asked ++ here.group ∷ [])) (sym kept_is) (saw_more asks_now stops answer so.asked (kept so.turns) here.group here.left here.asked seen),
+          )
+
+  -- one more group, after the end of the list was come to
+  pub second_step : (asks_now : X → Poll (Option A) → X → Type 0) (stops : X → X → Type 0) → ((group left : X) (answer : Poll (Option A)) → asks_now group answer left → asks group answer left)
+      → (count : ℕ) (pending : Bool) (now new : Groups X) (answer : Poll (Option A)) → NoOutput answer → (so : Second count pending now) → count < length old.listed → AsksOne asks_now now answer new
+      → (r : Second (count + 1) (cond pending true (is_pending answer)) new)
+      × (SecondSaw stops count pending now so ⊎ AllStop asks_now stops answer → SecondSaw stops (count + 1) (cond pending true (is_pending answer)) new r)
+  second_step asks_now stops as_asked count pending now new answer no_output so more one = (
+    record {
+      again = so.again ++ here.group ∷ [];
+      todo = later;
+      asked = so.asked;
+      last = so.last;
+      left = so.left;
+      answer = so.answer;
+      again_turns = so.again_turns ++ turn ∷ [];
+      turns = so.turns;
+      old_is = so.old_is ∙ ap (λ (l : List X). so.again ++ (l ++ (so.asked ++ so.last ∷ []))) split.0 ∙ sym (append_assoc so.again (here.group ∷ []) (later ++ (so.asked ++ so.last ∷ [])));
+      begins = elim so.begins [ inl e ↦ inl (e ∙ ap length again_is) | inr h ↦ inr (h.0, sym again_is ∙ h.1) ];
+      each_again = zip-append (TakesTurn asks) so.again so.again_turns _ _ so.each_again (as_asked here.group here.left answer here.asked, tt);
+      each = so.each;
+      last_asked = so.last_asked;
+      none_again = each-append GaveNoOutput so.again_turns (turn ∷ []) so.none_again (no_output, tt);
+      none = so.none;
+      none_last = so.none_last;
+      now_is = left_is.0 ∙ ap (λ (l : List X). kept so.again_turns ++ (gone answer here.left ++ l)) split.1 ∙ sym (append_assoc (kept so.again_turns) (gone answer here.left) (later ++ rest)) ∙ ap (λ (l : List X). l ++ (later ++ rest)) (sym kept_is);
+      place = inr (omega (arith, length_push so.again_turns turn), left_is.1 ∙ sym (length-append (kept so.again_turns) (gone answer here.left)) ∙ ap length (sym kept_is));
+      counted = omega (arith, so.counted, length_push so.again_turns turn);
+      ends = ap (λ (b : Bool). b && others) (list_all-push so.again_turns turn) ∙ and_swap (list_all ended so.again_turns) others (ended turn) ∙ ends_more (list_all ended so.again_turns && others) (ended turn) pending (is_pending answer) so.ends (end_or_pending answer no_output);
+    },
+    λ seen. elim seen [
+      | inl before ↦ elim before [ inl again ↦ inl (saw (inl again)) | inr others ↦ inr others ]
+      | inr all ↦ inl (saw (inr all))
+    ],
+  )
+    where
+      rest : List X
+      rest = kept so.turns ++ so.left ∷ []
+
+      others : Bool
+      others = list_all ended so.turns && is_end (Some so.answer)
+
+      here : AsksHere asks_now (kept so.again_turns) (so.todo ++ rest) answer new
+      here = asks_here asks_now now new answer (kept so.again_turns) (so.todo ++ rest) one so.now_is (second_place count pending now so)
+
+      later : List X
+      later = drop 1 so.todo
+
+      split : (so.todo ≡ here.group ∷ later) × (here.later ≡ later ++ rest)
+      split = first_of so.todo rest here.group here.later (second_some count pending now so more) here.rest_is
+
+      turn : Turn X A
+      turn = record { answer = Some answer; left = here.left }
+
+      again_is : so.again ++ so.todo ≡ (so.again ++ here.group ∷ []) ++ later
+      again_is = ap (λ (l : List X). so.again ++ l) split.0 ∙ sym (append_assoc so.again (here.group ∷ []) later)
+
+      some_later : 0 < length here.later
+      some_later = omega (arith, ap length split.1, length-append later rest, length_push (kept so.turns) so.left)
+
+      left_is : (new.listed ≡ kept so.again_turns ++ (gone answer here.left ++ here.later)) × (new.place ≡ length (kept so.again_turns) + length (gone answer here.left))
+      left_is = after_group (kept so.again_turns) here.later here.left answer new some_later no_output here.leaves
+
+      kept_is : kept (so.again_turns ++ turn ∷ []) ≡ kept so.again_turns ++ gone answer here.left
+      kept_is = kept-push so.again_turns turn
+
+      saw : OneStopped stops so.again (kept so.again_turns) ⊎ AllStop asks_now stops answer → OneStopped stops (so.again ++ here.group ∷ []) (kept (so.again_turns ++ turn ∷ []))
+      saw seen = subst (OneStopped stops (so.again ++ here.group ∷ [])) (sym kept_is) (saw_more asks_now stops answer so.again (kept so.again_turns) here.group here.left here.asked seen)

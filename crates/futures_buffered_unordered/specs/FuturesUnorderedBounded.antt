@@ -1,0 +1,308 @@
+-- What a contract sees of a bounded set, and what its calls make of it.
+use Rattle.std.specs.Prelude.{◌≡◌, ◌⊎◌, ℕ, ◌+◌, ◌<◌, List, ◌++◌, map, length, Option, Some, None}
+use Rattle.std.specs.Prelude.{IfNone, OnSome, is_some, refl}
+use Rattle.std.specs.List.{FoldsTo, range_with_len}
+use Rattle.std.specs.Option.{option_to_list}
+use Rattle.std.specs.Coded.{Coded, code_by, coded×, coded_ℕ}
+use Rattle.futures.specs.Task.{Covers, Hears, Keeps}
+use Rattle.futures.specs.Poll.{IfReady, OnPending}
+use Rattle.futures.specs.declared.task.context.Context.{Context}
+use Rattle.futures.specs.declared.task.Poll.{Poll}
+use Rattle.futures.specs.declared.task.Poll.TheVariants.{Ready, Pending}
+use Rattle.futures_buffered_core.specs.SlotMap.{Slots, slots_code, held_count, slot_count, no_slots}
+use Rattle.futures_buffered_core.specs.SlotMap.{all_slots, value_in, with_slot_freed, Inserts}
+use Rattle.futures_buffered_table.specs.declared.answer.Taken.{Taken}
+use Rattle.futures_buffered_table.specs.declared.answer.Taken.TheVariants.{Slot, Empty, Pause}
+use Rattle.futures_buffered_table.specs.declared.answer.Woke.{Woke}
+use Rattle.futures_buffered_core.specs.ReadySource.{SourceSteps}
+use Rattle.futures_buffered_unordered.specs.Held.{AllHeld, AllHeldBut, EndsWith, Passes, Yields}
+
+-- what each slot holds, the content of the source, and how many names one poll takes at most
+pub record Bounded (F S : Type 0) : Type 0 where
+  pub slots : Slots F
+  pub source : S
+  pub limit : ℕ
+
+-- its code, made of those of its parts
+abbrev pub bounded_code : {F S : Type 0} → Coded F → Coded S → Coded (Bounded F S)
+bounded_code {F} {S} code source_code =
+    code_by
+    (Slots F × (S × ℕ))
+    (coded× (slots_code code) (coded× source_code coded_ℕ))
+    (λ b. (b.slots, (b.source, b.limit)))
+    (λ p. record { slots = p.0; source = p.1.0; limit = p.1.1 })
+    (λ _. refl)
+
+-- how many values a set holds
+abbrev pub held_in : {F S : Type 0} → Bounded F S → ℕ
+held_in set = held_count set.slots
+
+-- how many it can hold
+abbrev pub slots_in : {F S : Type 0} → Bounded F S → ℕ
+slots_in set = slot_count set.slots
+
+-- no value is held in n slots, the source was made for these, and one poll takes so many names at
+-- most
+pub record IsNewSet {F S : Type 0} (made : ℕ → S → Type 0) (n names : ℕ)
+    (set : Bounded F S) : Type 0 where
+  pub none_held : set.slots ≡ no_slots n
+  pub new_source : made n set.source
+  pub takes_at_most : set.limit ≡ names
+
+-- the slot is emptied, and is the first free one; the source and the limit stay
+abbrev pub with_empty_slot : {F S : Type 0} → Bounded F S → ℕ → Bounded F S
+with_empty_slot b i = record b { slots = with_slot_freed b.slots i }
+
+-- the same set over another source
+abbrev pub with_source : {F S : Type 0} → Bounded F S → S → Bounded F S
+with_source b source = record b { source = source }
+
+-- one mark of a slot, whatever it answered
+abbrev pub MarksSlot : {S : Type 0} → (S → ℕ → Woke → S → Type 0) → S → ℕ → S → Type 0
+MarksSlot marks old i new = (woke : Woke) × marks old i woke new
+
+-- one mark of each of these slots, in order, took the source from old to new
+abbrev pub MarksEach : {S : Type 0} → (S → ℕ → Woke → S → Type 0) → S → List ℕ → S → Type 0
+MarksEach marks = FoldsTo (MarksSlot marks)
+
+-- item k is held in slot k, no slot is free, and each slot was marked, in order, in a source made
+-- for this number of slots
+pub record HoldsEach
+    {F S : Type 0}
+    (made : ℕ → S → Type 0)
+    (marks : S → ℕ → Woke → S → Type 0)
+    (names : ℕ)
+    (items : List F)
+    (set : Bounded F S)
+    : Type 0 where
+  pub slots_hold : set.slots ≡ all_slots items
+  pub new_source : S
+  pub was_made : made (length items) new_source
+  pub marked : MarksEach marks new_source (range_with_len 0 (length items)) set.source
+  pub takes_at_most : set.limit ≡ names
+
+-- a value went into the first free slot, i, which was then marked
+pub record PushesAt
+    {F S : Type 0}
+    (marks : S → ℕ → Woke → S → Type 0)
+    (old : Bounded F S)
+    (i : ℕ)
+    (value : F)
+    (new : Bounded F S)
+    : Type 0 where
+  pub inserted : Inserts old.slots i value new.slots
+  pub woke : Woke
+  pub marked : marks old.source i woke new.source
+  pub same_limit : new.limit ≡ old.limit
+
+-- the same, where it does not matter which slot that was
+abbrev pub Pushes : {F S : Type 0}
+    → (S → ℕ → Woke → S → Type 0) → Bounded F S → F → Bounded F S → Type 0
+Pushes marks old value new = (i : ℕ) × PushesAt marks old i value new
+
+-- fewer names than the limit came, and then Empty or Pause; or as many as the limit, and nothing
+-- more was asked
+abbrev pub EndsWaiting : ℕ → List ℕ → Option Taken → Type 0
+EndsWaiting limit names (Some Empty) = length names < limit
+EndsWaiting limit names (Some Pause) = length names < limit
+EndsWaiting limit names (Some (Slot i)) = ⊥
+EndsWaiting limit names None = length names ≡ limit
+
+-- the same but for Empty: further names may come
+abbrev pub StopsEarly : ℕ → List ℕ → Option Taken → Type 0
+StopsEarly limit names (Some Empty) = ⊥
+StopsEarly limit names (Some Pause) = length names < limit
+StopsEarly limit names (Some (Slot i)) = ⊥
+StopsEarly limit names None = length names ≡ limit
+
+-- the last answer of a source with this content was Empty
+abbrev pub SaidEmpty : {S : Type 0} → SourceSteps S → S → Type 0
+SaidEmpty {S} steps new = (before : S) × steps.takes before Empty new
+
+-- the task was asked to poll again
+abbrev pub IsWoken : Context → Type 0
+IsWoken cx = (s : ℕ) → Hears cx s
+
+-- the task is as registrations with sources leave it, or as it was
+abbrev pub OnlyRegisters : {S : Type 0} → (S → Context → Context → Type 0)
+    → Context → Context → Type 0
+OnlyRegisters {S} registers_poll old new = (sources : List S)
+    × FoldsTo (λ cx source next. registers_poll source cx next) old sources new
+
+module _
+    {F A S : Type 0}
+    (polled : ℕ → F → Poll A → F → Type 0)
+    (steps : SourceSteps S)
+  where
+    -- The task was registered first. The source then gave these names, in order, and one last
+    -- answer where there was one. The slots named were passed, in order, which took what the slots
+    -- hold to this.
+    pub record Asks
+        (old : Bounded F S)
+        (names : List ℕ)
+        (last : Option Taken)
+        (slots : Slots F)
+        (source : S)
+        : Type 0 where
+      pub registered : S
+      pub registers_first : steps.registers old.source registered
+      pub answers : FoldsTo steps.takes registered (map Slot names ++ option_to_list last) source
+      pub passes : FoldsTo (Passes polled) old.slots names slots
+
+    -- one count of names: until one more name gave an output, which is given with its slot, or
+    -- until the asking ended without one
+    abbrev pub AsksUntil : Bounded F S → Poll (ℕ × A) → Bounded F S → Type 0
+    AsksUntil old (Ready (i, x)) new = (names : List ℕ)
+        × (length names < old.limit)
+        × (slots : Slots F)
+        × Asks old names (Some (Slot i)) slots new.source
+        × Yields polled slots i x new.slots
+        × (new.limit ≡ old.limit)
+    AsksUntil old Pending new = (names : List ℕ)
+        × (last : Option Taken)
+        × EndsWaiting old.limit names last
+        × Asks old names last new.slots new.source
+        × (new.limit ≡ old.limit)
+
+    -- one count of names that gave no output and ended at Empty: no further name came
+    abbrev pub AsksToEmpty : Bounded F S → Bounded F S → Type 0
+    AsksToEmpty old new = (names : List ℕ)
+        × (length names < old.limit)
+        × Asks old names (Some Empty) new.slots new.source
+
+    -- one that gave no output and stopped though a further name may come
+    abbrev pub AsksInPart : Bounded F S → Bounded F S → Type 0
+    AsksInPart old new = (names : List ℕ)
+        × (last : Option Taken)
+        × StopsEarly old.limit names last
+        × Asks old names last new.slots new.source
+
+    -- What a pending poll leaves of its task. At Empty the task is as the registration left it;
+    -- where the asking stopped earlier, the task is asked to poll again.
+    abbrev pub LeavesTask : (S → Context → Context → Type 0)
+        → Bounded F S → Bounded F S → Context → Context → Type 0
+    LeavesTask registers_poll old new cx left =
+        (AsksToEmpty old new × registers_poll old.source cx left)
+        ⊎ (AsksInPart old new × IsWoken left)
+
+    -- one poll: the end exactly where nothing is held, and then nothing changes; the output of the
+    -- last name, whose slot is emptied; or Pending, where the asking ended without an output
+    abbrev pub PollGives : Bounded F S → Poll (Option A) → Bounded F S → Type 0
+    PollGives old (Ready None) new = (held_count old.slots ≡ 0) × (new ≡ old)
+    PollGives old (Ready (Some x)) new = (0 < held_count old.slots)
+        × ((i : ℕ) × (left : Bounded F S)
+        × AsksUntil old (Ready (i, x)) left × (new ≡ with_empty_slot left i))
+    PollGives old Pending new = (0 < held_count old.slots) × AsksUntil old Pending new
+
+    -- one poll, which is pending only where no further name came
+    abbrev pub PollAsksToEmpty : Bounded F S → Poll (Option A) → Bounded F S → Type 0
+    PollAsksToEmpty old (Ready o) new = PollGives old (Ready o) new
+    PollAsksToEmpty old Pending new = (0 < held_count old.slots) × AsksToEmpty old new
+
+    -- What a poll leaves of its task, by its answer: the end leaves it as it was, an output as the
+    -- registration did, and Pending as a pending poll does.
+    abbrev pub PollLeavesTask : (S → Context → Context → Type 0)
+        → Bounded F S → Poll (Option A) → Bounded F S → Context → Context → Type 0
+    PollLeavesTask registers_poll old (Ready None) new cx left = left ≡ cx
+    PollLeavesTask registers_poll old (Ready (Some x)) new cx left =
+        registers_poll old.source cx left
+    PollLeavesTask registers_poll old Pending new cx left =
+        LeavesTask registers_poll old new cx left
+
+    -- how many names a poll took
+    abbrev pub names_taken : (old : Bounded F S) (answer : Poll (Option A)) (new : Bounded F S)
+        → PollGives old answer new → ℕ
+    names_taken old (Ready None) new poll = 0
+    names_taken old (Ready (Some x)) new poll = length poll.1.2.0 + 1
+    names_taken old Pending new poll = length poll.1.0
+
+    -- What one poll leaves of its task, which it took from cx to left.
+    pub record PollsSetTask
+        (needs : S → ℕ → Type 0)
+        (registers_poll : S → Context → Context → Type 0)
+        (old : Bounded F S)
+        (answer : Poll (Option A))
+        (new : Bounded F S)
+        (cx left : Context)
+        : Type 0 where
+      -- the task of a pending set hears of its source
+      pub covered : OnPending answer (Covers left (needs new.source))
+      -- where it is pending, the task was asked to poll again, or it was registered and no further
+      -- name came
+      pub woken : OnPending answer
+          (IsWoken left ⊎ (SaidEmpty steps new.source × registers_poll old.source cx left))
+      -- by each answer, what the poll made of the task
+      pub leaves : PollLeavesTask registers_poll old answer new cx left
+      -- the end leaves the task alone
+      pub untouched : IfReady answer (λ o. IfNone o (left ≡ cx))
+      -- an output only registers it
+      pub only_registered : IfReady answer (λ o. OnSome o (registers_poll old.source cx left))
+      -- nothing of the task is lost
+      pub kept : Keeps cx left
+
+-- What one count of names, from old to new, leaves of a set. `continues` says after which outputs
+-- the value may be polled again.
+pub record AsksSet
+    {F A S : Type 0}
+    (can_poll : F → Type 0)
+    (polled : ℕ → F → Poll A → F → Type 0)
+    (continues : A → Type 0)
+    (old : Bounded F S)
+    (answer : Poll (ℕ × A))
+    (new : Bounded F S)
+    : Type 0 where
+  -- where none was ready, each value can be polled again
+  pub pollable : OnPending answer (AllHeld can_poll new.slots)
+  -- where one was, each other value can be polled again
+  pub others : IfReady answer (λ p. AllHeldBut p.0 can_poll new.slots)
+  -- and that one too, if it continues after such an output
+  pub goes_on : IfReady answer (λ p. continues p.1 → AllHeld can_poll new.slots)
+  -- its slot holds what was left by the poll that gave the output
+  pub last : IfReady answer (λ p. EndsWith (polled p.0) p.1 (value_in new.slots p.0))
+  -- no value comes and none goes
+  pub count : held_count new.slots ≡ held_count old.slots
+  pub same_slots : (j : ℕ) → is_some (value_in new.slots j) ≡ is_some (value_in old.slots j)
+  -- the number of slots and the limit stay
+  pub capacity : slot_count new.slots ≡ slot_count old.slots
+  pub limit : new.limit ≡ old.limit
+
+-- What one count of names leaves of its task, which it took from cx to left: an output as
+-- `registers` says, and Pending as `pends` does.
+pub record AsksSetTask
+    {S B : Type 0}
+    (steps : SourceSteps S)
+    (needs : S → ℕ → Type 0)
+    (registers pends : Context → Context → Type 0)
+    (source : S)
+    (answer : Poll B)
+    (cx left : Context)
+    : Type 0 where
+  -- the task of a pending set hears of its source
+  pub covered : OnPending answer (Covers left (needs source))
+  -- where it is pending, the task was asked to poll again, or it was registered and no further name
+  -- came
+  pub woken : OnPending answer (IsWoken left ⊎ (SaidEmpty steps source × registers cx left))
+  -- a pending one leaves the task so
+  pub leaves : OnPending answer (pends cx left)
+  -- one that gave an output only registered it
+  pub only_registered : IfReady answer (λ _. registers cx left)
+  -- nothing of the task is lost
+  pub kept : Keeps cx left
+
+-- What one poll, from old to new, leaves of a set.
+pub record PollsSet
+    {F A S : Type 0}
+    (can_poll : F → Type 0)
+    (old : Bounded F S)
+    (answer : Poll (Option A))
+    (new : Bounded F S)
+    : Type 0 where
+  -- each value that is held can be polled again
+  pub pollable : AllHeld can_poll new.slots
+  -- an output leaves one value fewer
+  pub fewer : IfReady answer (λ o. OnSome o (held_count new.slots + 1 ≡ held_count old.slots))
+  -- a pending poll leaves as many as before
+  pub same : OnPending answer (held_count new.slots ≡ held_count old.slots)
+  -- the number of slots and the limit stay
+  pub capacity : slot_count new.slots ≡ slot_count old.slots
+  pub limit : new.limit ≡ old.limit

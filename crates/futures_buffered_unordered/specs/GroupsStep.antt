@@ -1,0 +1,64 @@
+-- How a poll asks one group of a list and goes on to the next. Private calls keep to this, and no
+-- public clause cites it.
+use Rattle.std.specs.Prelude.{◌≡◌, ℕ, ◌+◌, cond, nat_lt, List, [], ◌∷◌, ◌++◌, length, take, drop}
+use Rattle.std.specs.Prelude.{Option, Some, None, ◌⊎◌}
+use Rattle.futures.specs.declared.task.context.Context.{Context}
+use Rattle.futures.specs.declared.task.Poll.{Poll}
+use Rattle.futures.specs.declared.task.Poll.TheVariants.{Ready, Pending}
+use Rattle.futures_buffered_unordered.specs.FuturesUnorderedBounded.{IsWoken}
+use Rattle.futures_buffered_unordered.specs.Groups.{Groups}
+
+-- the place of the group that is asked next: the kept one, or the first where that is past the last
+abbrev pub next_place : {X : Type 0} → Groups X → ℕ
+next_place g = cond (nat_lt g.place (length g.listed)) g.place 0
+
+-- what the list is once a group between earlier and later ones gave an answer and left this: with
+-- an output the place is its own, and with Pending the next; where it ended it leaves, unless none
+-- stands behind it
+abbrev pub LeavesBetween : {X A : Type 0}
+    → List X → List X → X → Poll (Option A) → Groups X → Type 0
+LeavesBetween earlier later left (Ready (Some x)) new =
+    (new.listed ≡ earlier ++ left ∷ later) × (new.place ≡ length earlier)
+LeavesBetween earlier later left Pending new =
+    (new.listed ≡ earlier ++ left ∷ later) × (new.place ≡ length earlier + 1)
+LeavesBetween earlier [] left (Ready None) new =
+    (new.listed ≡ earlier ++ left ∷ []) × (new.place ≡ 0)
+LeavesBetween earlier (next ∷ later) left (Ready None) new =
+    (new.listed ≡ earlier ++ next ∷ later) × (new.place ≡ length earlier)
+
+-- the group at the next place was asked, and gave this answer
+pub record AsksOne
+    {X A : Type 0}
+    (asks : X → Poll (Option A) → X → Type 0)
+    (old : Groups X)
+    (answer : Poll (Option A))
+    (new : Groups X)
+    : Type 0 where
+  pub group : X
+  pub left : X
+  pub stood : old.listed
+      ≡ take (next_place old) old.listed ++ group ∷ drop (next_place old + 1) old.listed
+  pub asked : asks group answer left
+  pub leaves : LeavesBetween
+      (take (next_place old) old.listed)
+      (drop (next_place old + 1) old.listed)
+      left
+      answer
+      new
+
+-- a group was asked, was pending, and stopped though a further name may come
+abbrev pub AsksAndStops : {X A : Type 0} → (X → Poll (Option A) → X → Type 0) → (X → X → Type 0)
+    → X → Poll (Option A) → X → Type 0
+AsksAndStops asks stops group answer left =
+    asks group answer left × ((answer ≡ Pending) × stops group left)
+
+-- what asking the group at the next place leaves of the task
+abbrev pub OneLeavesTask : {X A : Type 0}
+    → (X → Poll (Option A) → X → Type 0)
+    → (X → Poll (Option A) → X → Type 0)
+    → (X → X → Type 0)
+    → (Context → Context → Type 0)
+    → Groups X → Poll (Option A) → Groups X → Context → Context → Type 0
+OneLeavesTask asks asks_to_empty stops registers old answer new cx left =
+    (AsksOne asks_to_empty old answer new × registers cx left)
+    ⊎ (AsksOne (AsksAndStops asks stops) old answer new × IsWoken left)

@@ -1,0 +1,70 @@
+//! The bounded set as a stream, which says how much is left and whether it has ended.
+ghost use Rattle.std.specs.Prelude.{◌≡◌, ◌<◌};
+ghost use Rattle.futures_buffered_core.specs.SlotMap.{held_count};
+ghost use Rattle.futures_buffered_unordered.specs.StreamAnswers.{StreamAnswers};
+ghost use Rattle.futures_buffered_unordered.specs.Held.{AllHeld, ComesFrom};
+ghost use Rattle.futures_buffered_unordered.specs.FuturesUnorderedBounded.{PollGives, PollsSet, PollsSetTask};
+
+use crate::fused::{FusedStream, SizeHint};
+use crate::futures_unordered_bounded::FuturesUnorderedBounded;
+use crate::poll_one::PollFuture;
+use crate::slot_future::SlotFuture;
+use futures::Stream;
+use futures::task::{Context, Poll};
+use futures_buffered_core::ready_source::ReadySource;
+use std::fmt;
+
+impl<F: SlotFuture<S::Waker>, S: ReadySource> Stream for FuturesUnorderedBounded<F, S> {
+    type Item = F::Output;
+
+    ghost can_poll = { λ set. AllHeld F.can_poll set.slots };
+
+    ghost needs = { λ set n. (0 < held_count set.slots) × S.needs set.source n };
+
+    ghost yields = { λ set. ComesFrom F.polled set.slots };
+
+    /// One poll, as `poll_with` by the rule that polls the future itself.
+    ///
+    /// Takes no memory. Names at most as many slots as the set's limit and polls only what these hold, so its time is that of these polls, at any capacity. Holds no lock of the source while it polls a future.
+    fn poll_next(&mut self, cx: &mut Context<'_>) -> Poll<Option<F::Output>>
+        requires { AllHeld F.can_poll self.old.slots }
+        ensures polled { PollGives F.polled S.steps self.old result self.new }
+        ensures stream { StreamAnswers (λ set. AllHeld F.can_poll set.slots)
+            (λ set n. (0 < held_count set.slots) × S.needs set.source n)
+            (λ set. ComesFrom F.polled set.slots) self.old result self.new cx.old cx.new }
+        ensures set { PollsSet F.can_poll self.old result self.new }
+        ensures task { PollsSetTask F.polled S.steps S.needs S.registers_poll
+            self.old result self.new cx.old cx.new }
+    {
+        self.poll_with(&PollFuture, cx)
+    }
+}
+
+impl<F: SlotFuture<S::Waker>, S: ReadySource> FusedStream for FuturesUnorderedBounded<F, S> {
+    ghost use Rattle.std.specs.Prelude.{◌≡◌};
+
+    ghost is_over = { λ set. held_count set.slots ≡ 0 };
+
+    fn is_terminated(&self) -> bool {
+        self.is_empty()
+    }
+}
+
+impl<F: Drop, S: ReadySource> SizeHint for FuturesUnorderedBounded<F, S> {
+    ghost use Rattle.std.specs.Prelude.{Some};
+
+    ghost items_left = { λ set. (held_count set.slots, Some (held_count set.slots)) };
+
+    fn size_hint(&self) -> (usize, Option<usize>) {
+        (self.len(), Some(self.len()))
+    }
+}
+
+/// Prints the number of futures held.
+impl<F: Drop, S: ReadySource> fmt::Debug for FuturesUnorderedBounded<F, S> {
+    fn fmt<W: fmt::Write>(&self, f: &mut fmt::Formatter<W>) -> fmt::Result {
+        f.debug_struct("FuturesUnorderedBounded")
+            .field("len", &self.len())
+            .finish_non_exhaustive()
+    }
+}

@@ -1,0 +1,416 @@
+//! A set of as many futures as it has slots, yielded as they finish.
+//!
+//! Each future stands in a slot. A push marks its slot, and a future's waker marks it again. A poll takes the names of marked slots from the set's source, at most as many as its limit, and polls what these slots hold until one is ready. A slot that nobody marked costs nothing.
+ghost use Rattle.std.specs.Prelude.{◌≡◌, ◌<◌, ◌≤◌, ◌+◌, ◌==◌, ◌↔◌, ℕ, List, IfOk, IfErr, OnOk, IsSome, IsTrue};
+ghost use Rattle.futures.specs.Task.{Covers};
+ghost use Rattle.futures.specs.Poll.{IfReady};
+ghost use Rattle.std.specs.Iterator.{IsFiniteIterable};
+ghost use Rattle.futures_buffered_core.specs.Answer.{RefusesTooLarge};
+ghost use Rattle.futures_buffered_core.specs.Drawn.{Draws, DrawsMoreThan};
+ghost use Rattle.futures_buffered_core.specs.ReadyShared.{IsNewShared, MarksShared};
+ghost use Rattle.futures_buffered_core.specs.ReadySource.{WaitsAlike};
+ghost use Rattle.futures_buffered_core.specs.SlotMap.{value_in, held_count, slot_count, no_slots, IsFull};
+ghost use Rattle.futures_buffered_unordered.specs.Held.{AllHeld};
+ghost use Rattle.futures_buffered_unordered.specs.FuturesUnorderedBounded.{AsksSet, AsksSetTask, AsksUntil, HoldsEach, LeavesTask, PollGives, PollsSet, PollsSetTask, Pushes, with_empty_slot, with_source};
+
+use crate::poll_one::PollOne;
+use futures::task::{Context, Poll};
+use futures_buffered_core::ready_core::{MAX_CAPACITY, NewFault, Taken, Woke};
+use futures_buffered_core::ready_shared::SharedReady;
+use futures_buffered_core::ready_source::{NewSource, ReadySource};
+use futures_buffered_core::slot_map::PinSlotMap;
+use std::alloc::Global;
+use std::marker::Model;
+
+/// How many names one poll takes from the source, at most, where no other limit was chosen.
+pub const POLL_LIMIT: usize = 61;
+
+const _: () = prove!(POLL_LIMIT == 61);
+
+/// Futures in slots, over a source that names the slots to poll.
+///
+/// A contract sees what each slot holds and which slots are free, the content of the source, and the limit of names of one poll. The calls take no memory once the set is made, and wait for nobody where those of the source do not: those of `CoreSource` and `SharedReady` do not.
+#[derive(Drop)]
+pub struct FuturesUnorderedBounded<F: Drop, S: ReadySource> {
+    slots: PinSlotMap<F>,
+    source: S,
+    limit: usize,
+}
+
+impl<F: Drop, S: ReadySource> Model for FuturesUnorderedBounded<F, S> {
+    ghost use Rattle.futures_buffered_unordered.specs.FuturesUnorderedBounded.{Bounded, bounded_code};
+
+    ghost Value = { Bounded F S };
+
+    ghost coded = { bounded_code F.code S.code };
+
+    ghost use Rattle.std.specs.Prelude.{◌≡◌};
+    ghost use Rattle.futures_buffered_core.specs.SlotMap.{slot_count};
+
+    ghost view = { λ s. record { slots = s.slots; source = s.source; limit = s.limit } };
+
+    ghost invariant = { λ s. S.slots s.source ≡ slot_count s.slots };
+}
+
+impl<F: Drop, S: ReadySource> FuturesUnorderedBounded<F, S> {
+    /// An empty set over this source, with as many slots as the source has.
+    ///
+    /// Takes time and memory in proportion to that number. `Memory` where a request for it was refused. The source is dropped where the set is refused.
+    pub fn with_source(alloc: Global, source: S) -> Result<Self, NewFault>
+        ensures empty { IfOk result (λ set. set
+            ≡ record { slots = no_slots (S.slots source); source = source; limit = POLL_LIMIT }) }
+        ensures refuses { RefusesTooLarge (S.slots source) result }
+    {
+        Self::with_source_limit(alloc, source, POLL_LIMIT)
+    }
+
+    /// As `with_source`, where one poll takes at most `limit` names.
+    pub fn with_source_limit(alloc: Global, source: S, limit: usize) -> Result<Self, NewFault>
+        requires { 1 ≤ limit }
+        ensures empty { IfOk result (λ set. set
+            ≡ record { slots = no_slots (S.slots source); source = source; limit = limit }) }
+        ensures refuses { RefusesTooLarge (S.slots source) result }
+    {
+        let slots = PinSlotMap::new(alloc, source.capacity())?;
+        Ok(FuturesUnorderedBounded {
+            slots,
+            source,
+            limit,
+        })
+    }
+
+    /// An empty set of `cap` slots over a source made for it, where one poll takes at most `limit` names.
+    ///
+    /// Takes time and memory in proportion to `cap`, and refuses as `with_source` does. The source is not known here but by what its trait says, so nobody can have marked or taken.
+    pub fn with_new_source(
+        env: &S::Env,
+        alloc: Global,
+        cap: usize,
+        limit: usize,
+    ) -> Result<Self, NewFault>
+    where
+        S: NewSource,
+        requires { 1 ≤ limit }
+        ensures empty { IfOk result (λ set. set.slots ≡ no_slots cap) }
+        ensures source { IfOk result (λ set. S.made cap set.source) }
+        ensures limit { IfOk result (λ set. set.limit ≡ limit) }
+        ensures refuses { RefusesTooLarge cap result }
+    {
+        let source = S::make(env, alloc, cap)?;
+        Self::with_source_limit(alloc, source, limit)
+    }
+
+    /// An empty set of `cap` slots beside this one, with the same limit: a task that registers with either set is woken by the futures of both. It is public for sets that grow.
+    ///
+    /// Takes time and memory, and refuses, as `with_new_source` does. This set stays as it is.
+    pub fn make_sibling(&mut self, alloc: Global, cap: usize) -> Result<Self, NewFault>
+    where
+        S: NewSource,
+        ensures empty { IfOk result (λ set. set.slots ≡ no_slots cap) }
+        ensures source { IfOk result (λ set. S.made cap set.source) }
+        ensures beside { IfOk result (λ set. WaitsAlike S.needs self.old.source set.source) }
+        ensures limit { IfOk result (λ set. set.limit ≡ self.old.limit) }
+        ensures same { self.new ≡ self.old }
+        ensures refuses { RefusesTooLarge cap result }
+    {
+        let source = self.source.make_sibling(alloc, cap)?;
+        let slots = PinSlotMap::new(alloc, cap)?;
+        Ok(FuturesUnorderedBounded {
+            slots,
+            source,
+            limit: self.limit,
+        })
+    }
+
+    /// A set without a free slot, which holds item k in slot k, each marked, in this order. It has as many slots as there are items, and a source made for it.
+    ///
+    /// Takes time and memory in proportion to that number. Where it is refused, the items that came are dropped: `TooLarge` where one more than `MAX_CAPACITY` came, and `Memory` where a request for memory was refused.
+    pub fn over<I: IntoIterator<Item = F>>(
+        env: &S::Env,
+        alloc: Global,
+        iter: I,
+    ) -> Result<Self, NewFault>
+    where
+        S: NewSource,
+        requires { IsFiniteIterable I.into_iter_gives I.IntoIter.can_next
+            I.IntoIter.remaining iter }
+        ensures holds { IfOk result (λ set. (items : List F)
+            × Draws I.into_iter_gives I.IntoIter.next_gives iter items
+            × HoldsEach S.made S.marks POLL_LIMIT items set) }
+        ensures fits { IfOk result (λ set. slot_count set.slots ≤ MAX_CAPACITY) }
+        ensures large { result ≡ Err NewFault.TooLarge
+            → DrawsMoreThan I.into_iter_gives I.IntoIter.next_gives iter MAX_CAPACITY }
+    {
+        Self::over_limit(env, alloc, iter, POLL_LIMIT)
+    }
+
+    /// As `over`, where one poll takes at most `limit` names.
+    pub fn over_limit<I: IntoIterator<Item = F>>(
+        env: &S::Env,
+        alloc: Global,
+        iter: I,
+        limit: usize,
+    ) -> Result<Self, NewFault>
+    where
+        S: NewSource,
+        requires finite { IsFiniteIterable I.into_iter_gives I.IntoIter.can_next
+            I.IntoIter.remaining iter }
+        requires some { 1 ≤ limit }
+        ensures holds { IfOk result (λ set. (items : List F)
+            × Draws I.into_iter_gives I.IntoIter.next_gives iter items
+            × HoldsEach S.made S.marks limit items set) }
+        ensures fits { IfOk result (λ set. slot_count set.slots ≤ MAX_CAPACITY) }
+        ensures large { result ≡ Err NewFault.TooLarge
+            → DrawsMoreThan I.into_iter_gives I.IntoIter.next_gives iter MAX_CAPACITY }
+    {
+        let slots = PinSlotMap::from_iter(alloc, iter)?;
+        let mut source = S::make(env, alloc, slots.capacity())?;
+        for i in 0..slots.capacity() {
+            let _woke = source.mark(i);
+        }
+        Ok(FuturesUnorderedBounded {
+            slots,
+            source,
+            limit,
+        })
+    }
+
+    /// The number of futures held. Takes the same time at any capacity.
+    pub fn len(&self) -> usize
+        ensures { result ≡ held_count self.now.slots }
+    {
+        self.slots.len()
+    }
+
+    /// Whether no future is held. Takes the same time at any capacity.
+    pub fn is_empty(&self) -> bool
+        ensures { IsTrue result ↔ (held_count self.now.slots ≡ 0) }
+    {
+        self.slots.is_empty()
+    }
+
+    /// Whether no slot is free. Takes the same time at any capacity.
+    pub fn is_full(&self) -> bool
+        ensures { IsTrue result ↔ (slot_count self.now.slots ≤ held_count self.now.slots) }
+    {
+        self.slots.len() >= self.slots.capacity()
+    }
+
+    /// The number of slots, which never changes. Takes the same time at any capacity.
+    pub fn capacity(&self) -> usize
+        ensures value { result ≡ slot_count self.now.slots }
+        ensures source { result ≡ S.slots self.now.source }
+    {
+        self.slots.capacity()
+    }
+
+    /// How many names one poll takes from the source, at most. It never changes.
+    pub fn limit(&self) -> usize
+        ensures { result ≡ self.now.limit }
+    {
+        self.limit
+    }
+
+    /// Puts the value into the first free slot and marks that slot, so that a later poll polls it. A full set hands the value back.
+    ///
+    /// Takes the same time at any capacity. Polls nothing, and wakes nobody: a task that waits for this set polls it again by itself.
+    pub fn try_push(&mut self, value: F) -> Result<(), F>
+        ensures ok { OnOk result (Pushes S.marks self.old value self.new) }
+        ensures count { OnOk result (held_count self.new.slots ≡ held_count self.old.slots + 1) }
+        ensures full { IfErr result (λ back. (back ≡ value) × (self.new ≡ self.old)
+            × IsFull self.old.slots) }
+        ensures capacity { slot_count self.new.slots ≡ slot_count self.old.slots }
+    {
+        let i = self.slots.insert_with(value, |value| value)?;
+        let _woke = self.source.mark(i);
+        Ok(())
+    }
+
+    /// As `try_push`, for a set of which `is_full` is false.
+    pub fn push(&mut self, value: F)
+        requires { held_count self.old.slots < slot_count self.old.slots }
+        ensures pushed { Pushes S.marks self.old value self.new }
+        ensures count { held_count self.new.slots ≡ held_count self.old.slots + 1 }
+        ensures capacity { slot_count self.new.slots ≡ slot_count self.old.slots }
+    {
+        match self.try_push(value) {
+            Ok(()) => {}
+            Err(_) => unreachable!(),
+        }
+    }
+
+    /// Marks a slot by hand, whether it holds a future or not. Wakes nobody, and takes as long as a mark of the source.
+    pub fn mark_slot(&mut self, i: usize) -> Woke
+        requires { i < slot_count self.old.slots }
+        ensures marked { S.marks self.old.source i result self.new.source }
+        ensures slots { self.new.slots ≡ self.old.slots }
+        ensures limit { self.new.limit ≡ self.old.limit }
+    {
+        self.source.mark(i)
+    }
+
+    /// Registers the task, takes at most as many names as one poll may, and polls the values named until one is ready. No slot is emptied: the answer says which slot is done.
+    ///
+    /// `Pending` wakes the task at once where the source paused, or where the limit was reached. Takes time in proportion to the names taken, besides the polls.
+    #[inline(always)]
+    pub fn poll_first<R: PollOne<F, S::Waker>>(
+        &mut self,
+        rule: &R,
+        cx: &mut Context<'_>,
+    ) -> Poll<(usize, R::Output)>
+        requires { AllHeld R.can_poll self.old.slots }
+        ensures polled { AsksUntil R.polled S.steps self.old result self.new }
+        ensures set { AsksSet R.can_poll R.polled R.goes_on self.old result self.new }
+        ensures still_covered { IfReady result (λ _. Covers cx.new (S.needs self.new.source)) }
+        ensures task { AsksSetTask S.steps S.needs (S.registers_poll self.old.source)
+            (LeavesTask R.polled S.steps S.registers_poll self.old self.new)
+            self.new.source result cx.old cx.new }
+    {
+        self.source.register(cx);
+        self.poll_first_registered(rule, cx)
+    }
+
+    /// As `poll_first`, for a task that is registered already, with this set or with one beside it. Registers nothing. It is public for merges that grow.
+    ///
+    /// The source is as a registration may have left it.
+    #[inline(always)]
+    pub fn poll_first_registered<R: PollOne<F, S::Waker>>(
+        &mut self,
+        rule: &R,
+        cx: &mut Context<'_>,
+    ) -> Poll<(usize, R::Output)>
+        requires held { AllHeld R.can_poll self.old.slots }
+        requires registered { Covers cx.old (S.needs self.old.source) }
+        ensures polled { (before : S) → S.steps.registers before self.old.source
+            → AsksUntil R.polled S.steps
+            (with_source self.old before) result self.new }
+        ensures set { AsksSet R.can_poll R.polled R.goes_on self.old result self.new }
+        ensures still_covered { IfReady result (λ _. Covers cx.new (S.needs self.new.source)) }
+        ensures task { AsksSetTask S.steps S.needs (λ cx left. left ≡ cx)
+            (λ cx left. (before : S) → S.steps.registers before self.old.source
+            → LeavesTask R.polled S.steps (λ _ was now. now ≡ was)
+            (with_source self.old before) self.new cx left)
+            self.new.source result cx.old cx.new }
+    {
+        'names: for _count in 0..self.limit {
+            let i = match self.source.take() {
+                Taken::Slot(i) => i,
+                Taken::Empty => return Poll::Pending,
+                Taken::Pause => return cx.yield_now(),
+            };
+            let waker = self.source.waker(i);
+            if let Some(held) = self.slots.get(i) {
+                if let Poll::Ready(output) = rule.poll_one(held, waker) {
+                    return Poll::Ready((i, output));
+                }
+            }
+        }
+        cx.yield_now()
+    }
+
+    /// Drops the value of a slot, which is then the first free one. Takes the same time at any capacity, besides the drop.
+    pub fn empty_slot(&mut self, i: usize)
+        requires { IsSome (value_in self.old.slots i) }
+        ensures emptied { self.new ≡ with_empty_slot self.old i }
+        ensures count { held_count self.new.slots + 1 ≡ held_count self.old.slots }
+        ensures capacity { slot_count self.new.slots ≡ slot_count self.old.slots }
+    {
+        self.slots.remove(i);
+    }
+
+    /// One poll of the set, where `rule` says how one held value is polled.
+    ///
+    /// `Ready(None)` where nothing is held, and then nothing was asked. Else names are taken from the source and the values named are polled, in that order, until one is ready: it is yielded, and its slot is freed. `Pending` where no further name came or the limit was reached; where the source paused and at the limit the task is woken at once. Takes no memory, and time in proportion to the names taken, besides the polls.
+    pub fn poll_with<R: PollOne<F, S::Waker>>(
+        &mut self,
+        rule: &R,
+        cx: &mut Context<'_>,
+    ) -> Poll<Option<R::Output>>
+        requires { AllHeld R.can_poll self.old.slots }
+        ensures polled { PollGives R.polled S.steps self.old result self.new }
+        ensures set { PollsSet R.can_poll self.old result self.new }
+        ensures task { PollsSetTask R.polled S.steps S.needs S.registers_poll
+            self.old result self.new cx.old cx.new }
+    {
+        if self.slots.is_empty() {
+            return Poll::Ready(None);
+        }
+        match self.poll_first(rule, cx) {
+            Poll::Ready((i, output)) => {
+                self.empty_slot(i);
+                Poll::Ready(Some(output))
+            }
+            Poll::Pending => Poll::Pending,
+        }
+    }
+
+    /// As `poll_with`, for a task that is registered already, with this set or with one beside it. Registers nothing. It is public for sets that grow.
+    #[inline(always)]
+    pub fn poll_registered<R: PollOne<F, S::Waker>>(
+        &mut self,
+        rule: &R,
+        cx: &mut Context<'_>,
+    ) -> Poll<Option<R::Output>>
+    where
+        S: NewSource,
+        requires held { AllHeld R.can_poll self.old.slots }
+        requires registered { Covers cx.old (S.needs self.old.source) }
+        ensures polled { PollGives R.polled S.steps self.old result self.new }
+        ensures set { PollsSet R.can_poll self.old result self.new }
+        ensures task { PollsSetTask R.polled S.steps S.needs (λ _ was now. now ≡ was)
+            self.old result self.new cx.old cx.new }
+    {
+        if self.is_empty() {
+            return Poll::Ready(None);
+        }
+        match self.poll_first_registered(rule, cx) {
+            Poll::Ready((i, output)) => {
+                self.empty_slot(i);
+                Poll::Ready(Some(output))
+            }
+            Poll::Pending => Poll::Pending,
+        }
+    }
+}
+
+impl<F: Drop> FuturesUnorderedBounded<F, SharedReady> {
+    ghost use Rattle.std.specs.Prelude.{List};
+
+    /// An empty set whose values are woken from any thread.
+    ///
+    /// Takes time and memory in proportion to `cap`, all that the set ever needs. `Memory` where a request for it was refused.
+    pub fn new(alloc: Global, cap: usize) -> Result<Self, NewFault>
+        ensures empty { IfOk result (λ set. set.slots ≡ no_slots cap) }
+        ensures source { IfOk result (λ set. IsNewShared cap set.source) }
+        ensures limit { IfOk result (λ set. set.limit ≡ POLL_LIMIT) }
+        ensures refuses { RefusesTooLarge cap result }
+    {
+        Self::with_limit(alloc, cap, POLL_LIMIT)
+    }
+
+    /// As `new`, where one poll takes at most `limit` names.
+    pub fn with_limit(alloc: Global, cap: usize, limit: usize) -> Result<Self, NewFault>
+        requires { 1 ≤ limit }
+        ensures empty { IfOk result (λ set. set.slots ≡ no_slots cap) }
+        ensures source { IfOk result (λ set. IsNewShared cap set.source) }
+        ensures limit { IfOk result (λ set. set.limit ≡ limit) }
+        ensures refuses { RefusesTooLarge cap result }
+    {
+        Self::with_new_source(&(), alloc, cap, limit)
+    }
+
+    /// A set without a free slot, which holds item k in slot k, each marked, in this order, and whose values are woken from any thread. It is `over` with a shared source, and refuses as `over` does.
+    pub fn from_iter<I: IntoIterator<Item = F>>(alloc: Global, iter: I) -> Result<Self, NewFault>
+    where
+        requires { IsFiniteIterable I.into_iter_gives I.IntoIter.can_next
+            I.IntoIter.remaining iter }
+        ensures holds { IfOk result (λ set. (items : List F)
+            × Draws I.into_iter_gives I.IntoIter.next_gives iter items
+            × HoldsEach IsNewShared MarksShared POLL_LIMIT items set) }
+        ensures fits { IfOk result (λ set. slot_count set.slots ≤ MAX_CAPACITY) }
+        ensures large { result ≡ Err NewFault.TooLarge
+            → DrawsMoreThan I.into_iter_gives I.IntoIter.next_gives iter MAX_CAPACITY }
+    {
+        Self::over(&(), alloc, iter)
+    }
+}

@@ -1,5 +1,0 @@
-pub mod Held
-pub mod FuturesUnorderedBounded
-pub mod Groups
-pub mod GroupsStep
-pub mod Interleaves
