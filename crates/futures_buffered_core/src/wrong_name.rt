@@ -5,7 +5,7 @@ ghost use Rattle.futures_buffered_core.specs.WrongName.{NamesAllBelow, IsFirstWr
 use crate::ready_core::{Event, Taken};
 
 /// An entry that may name a slot.
-pub trait SlotHandle {
+pub trait NamesSlot {
     // The entry that names this slot.
     ghost naming: { ℕ → Self };
 
@@ -14,7 +14,7 @@ pub trait SlotHandle {
         ensures { (i : ℕ) → (result ≡ Some i) ↔ (self.now ≡ naming i) };
 }
 
-impl SlotHandle for Event {
+impl NamesSlot for Event {
     ghost use Rattle.futures_buffered_core.specs.declared.ready_core.Event.TheVariants.{Mark};
 
     ghost naming = { Mark };
@@ -27,7 +27,7 @@ impl SlotHandle for Event {
     }
 }
 
-impl SlotHandle for Taken {
+impl NamesSlot for Taken {
     ghost use Rattle.futures_buffered_table.specs.declared.answer.Taken.TheVariants.{Slot};
 
     ghost naming = { Slot };
@@ -41,7 +41,7 @@ impl SlotHandle for Taken {
 }
 
 /// The position of the first entry that names a slot not below `cap`.
-pub fn first_wrong<X: SlotHandle>(entries: &[X], cap: usize) -> Option<usize>
+pub fn first_wrong<X: NamesSlot>(entries: &[X], cap: usize) -> Option<usize>
     ensures none { IfNone result (NamesAllBelow X.naming cap entries.now (length entries.now)) }
     ensures wrong { IfSome result (IsFirstWrong X.naming cap entries.now) }
 {

@@ -11,7 +11,7 @@ ghost use Rattle.futures_buffered_core.specs.ReadyShared.{IsNewShared, MarksShar
 ghost use Rattle.futures_buffered_core.specs.ReadySource.{WaitsAlike};
 ghost use Rattle.futures_buffered_core.specs.SlotMap.{value_in, held_count, slot_count, no_slots, IsFull};
 ghost use Rattle.futures_buffered_unordered.specs.Held.{AllHeld};
-ghost use Rattle.futures_buffered_unordered.specs.FuturesUnorderedBounded.{AsksSet, AsksSetTask, AsksUntil, HoldsEach, LeavesTask, PollGives, PollsSet, PollsSetTask, Pushes, with_empty_slot, with_source};
+ghost use Rattle.futures_buffered_unordered.specs.FuturesUnorderedBounded.{AsksSet, AsksSetTask, AsksUntil, HoldsEach, IsNewSet, LeavesTask, PollGives, PollsSet, PollsSetTask, Pushes, with_empty_slot, with_source};
 
 use crate::poll_one::PollOne;
 use futures::task::{Context, Poll};
@@ -44,12 +44,12 @@ impl<F: Drop, S: ReadySource> Model for FuturesUnorderedBounded<F, S> {
 
     ghost coded = { bounded_code F.code S.code };
 
-    ghost use Rattle.std.specs.Prelude.{◌≡◌};
+    ghost use Rattle.std.specs.Prelude.{◌≡◌, ◌≤◌};
     ghost use Rattle.futures_buffered_core.specs.SlotMap.{slot_count};
 
     ghost view = { λ s. record { slots = s.slots; source = s.source; limit = s.limit } };
 
-    ghost invariant = { λ s. S.slots s.source ≡ slot_count s.slots };
+    ghost invariant = { λ s. (S.slots s.source ≡ slot_count s.slots) × (1 ≤ s.limit) };
 }
 
 impl<F: Drop, S: ReadySource> FuturesUnorderedBounded<F, S> {
@@ -91,9 +91,7 @@ impl<F: Drop, S: ReadySource> FuturesUnorderedBounded<F, S> {
     where
         S: NewSource,
         requires { 1 ≤ limit }
-        ensures empty { IfOk result (λ set. set.slots ≡ no_slots cap) }
-        ensures source { IfOk result (λ set. S.made cap set.source) }
-        ensures limit { IfOk result (λ set. set.limit ≡ limit) }
+        ensures new { IfOk result (IsNewSet S.made cap limit) }
         ensures refuses { RefusesTooLarge cap result }
     {
         let source = S::make(env, alloc, cap)?;
@@ -106,10 +104,8 @@ impl<F: Drop, S: ReadySource> FuturesUnorderedBounded<F, S> {
     pub fn make_sibling(&mut self, alloc: Global, cap: usize) -> Result<Self, NewFault>
     where
         S: NewSource,
-        ensures empty { IfOk result (λ set. set.slots ≡ no_slots cap) }
-        ensures source { IfOk result (λ set. S.made cap set.source) }
+        ensures new { IfOk result (IsNewSet S.made cap self.old.limit) }
         ensures beside { IfOk result (λ set. WaitsAlike S.needs self.old.source set.source) }
-        ensures limit { IfOk result (λ set. set.limit ≡ self.old.limit) }
         ensures same { self.new ≡ self.old }
         ensures refuses { RefusesTooLarge cap result }
     {
@@ -206,7 +202,8 @@ impl<F: Drop, S: ReadySource> FuturesUnorderedBounded<F, S> {
 
     /// How many names one poll takes from the source, at most. It never changes.
     pub fn limit(&self) -> usize
-        ensures { result ≡ self.now.limit }
+        ensures value { result ≡ self.now.limit }
+        ensures some { 1 ≤ result }
     {
         self.limit
     }
@@ -380,9 +377,7 @@ impl<F: Drop> FuturesUnorderedBounded<F, SharedReady> {
     ///
     /// Takes time and memory in proportion to `cap`, all that the set ever needs. `Memory` where a request for it was refused.
     pub fn new(alloc: Global, cap: usize) -> Result<Self, NewFault>
-        ensures empty { IfOk result (λ set. set.slots ≡ no_slots cap) }
-        ensures source { IfOk result (λ set. IsNewShared cap set.source) }
-        ensures limit { IfOk result (λ set. set.limit ≡ POLL_LIMIT) }
+        ensures new { IfOk result (IsNewSet IsNewShared cap POLL_LIMIT) }
         ensures refuses { RefusesTooLarge cap result }
     {
         Self::with_limit(alloc, cap, POLL_LIMIT)
@@ -391,9 +386,7 @@ impl<F: Drop> FuturesUnorderedBounded<F, SharedReady> {
     /// As `new`, where one poll takes at most `limit` names.
     pub fn with_limit(alloc: Global, cap: usize, limit: usize) -> Result<Self, NewFault>
         requires { 1 ≤ limit }
-        ensures empty { IfOk result (λ set. set.slots ≡ no_slots cap) }
-        ensures source { IfOk result (λ set. IsNewShared cap set.source) }
-        ensures limit { IfOk result (λ set. set.limit ≡ limit) }
+        ensures new { IfOk result (IsNewSet IsNewShared cap limit) }
         ensures refuses { RefusesTooLarge cap result }
     {
         Self::with_new_source(&(), alloc, cap, limit)

@@ -1,4 +1,4 @@
-use Rattle.std.proofs.Common.{◌≡◌, ℕ, is_some}
+use Rattle.std.proofs.Common.{◌≡◌, ◌≤◌, ℕ, is_some}
 use Rattle.futures.specs.Task.{Covers}
 use Rattle.futures_buffered_core.specs.SlotMap.{value_in, held_count, slot_count}
 use Rattle.futures_buffered_unordered.proofs.FuturesUnorderedBoundedLemmas.{SoFar}
@@ -11,6 +11,7 @@ invariant-names g l =
     record {
       so_far : SoFar rule.can_poll rule.polled source.steps l.fn.self l._count l.self-inside.slots l.self-inside.source;
       same_size : source.slots l.self-inside.source ≡ slot_count l.self-inside.slots;
+      some_names : 1 ≤ l.self-inside.limit;
       same_limit : l.self-inside.limit ≡ l.fn.self.limit;
       capacity : slot_count l.self-inside.slots ≡ slot_count l.fn.self.slots;
       count : held_count l.self-inside.slots ≡ held_count l.fn.self.slots;

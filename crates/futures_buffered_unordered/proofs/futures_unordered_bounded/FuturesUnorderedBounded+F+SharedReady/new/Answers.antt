@@ -1,5 +1,0 @@
-use Rattle.std.proofs.Common.{rules}
-use Rattle.futures_buffered_unordered.proofs.futures_unordered_bounded.FuturesUnorderedBounded+F+SharedReady.new.Goals as goal
-
-pub returns-clause-empty : goal.returns-clause-empty
-returns-clause-empty g c = search rules steps 200000
