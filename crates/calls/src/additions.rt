@@ -205,6 +205,15 @@ impl Session {
         append_reply(&mut self.reply, reply);
     }
 
+    /// Has the object drop what it holds, and writes what was dropped.
+    pub fn clear<O: Subject>(&mut self, object: &mut O) {
+        self.world.forget_effects();
+        match object.call(Call::Clear, &self.world, &mut self.reply.string) {
+            Reply::Ok => self.world.append_dropped(&mut self.reply),
+            reply => append_reply(&mut self.reply, reply),
+        }
+    }
+
     /// Asks the object about itself. Where there is no memory for the text of `Debug`, it is asked once more.
     pub fn query<O: Subject>(&mut self, object: &mut O, query: Query) {
         let mut reply = self.ask(object, query);

@@ -23,6 +23,7 @@ pub enum Command {
     Push(End),
     Extend,
     Beside,
+    Clear,
     Drop,
     Ask(Query),
 }
@@ -150,6 +151,7 @@ pub fn command_of(word: &str) -> Option<Command> {
         "push_front" => Command::Push(End::Front),
         "extend" => Command::Extend,
         "beside" => Command::Beside,
+        "clear" => Command::Clear,
         "drop" => Command::Drop,
         _ => match kind_of(word) {
             Some(kind) => Command::Begin(kind),

@@ -29,6 +29,7 @@ impl Session {
             Command::Push(end) => self.push(object, end, rest),
             Command::Extend => self.extend(object, rest),
             Command::Beside => self.make_sibling(object, rest),
+            Command::Clear => self.clear(object),
             Command::Ask(query) => self.query(object, query),
             Command::Drop => self.append_drop(),
             other => {

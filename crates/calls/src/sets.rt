@@ -27,6 +27,10 @@ impl Subject for FuturesUnorderedBounded<NumberFuture, SharedReady> {
                 Some(value) => of_push(self.try_push(value)),
                 None => Reply::Nothing,
             },
+            Call::Clear => {
+                self.clear();
+                Reply::Ok
+            }
             Call::Ask(Query::Len) => Reply::Number(self.len()),
             Call::Ask(Query::Capacity) => Reply::Number(self.capacity()),
             Call::Ask(Query::Limit) => Reply::Number(self.limit()),
@@ -100,6 +104,10 @@ impl Subject for FuturesUnordered<NumberFuture, SharedReady> {
                 Some(value) => of_growth(self.push(value)),
                 None => Reply::Nothing,
             },
+            Call::Clear => {
+                self.clear();
+                Reply::Ok
+            }
             Call::Ask(Query::Len) => Reply::Number(self.len()),
             Call::Ask(Query::Capacity) => Reply::Number(self.capacity()),
             Call::Ask(Query::Limit) => Reply::Number(self.limit()),

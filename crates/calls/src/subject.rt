@@ -13,6 +13,8 @@ pub enum Call<'a> {
     Extend(&'a [usize]),
     /// To have a source of so many slots beside its own, which it keeps.
     Beside(usize),
+    /// To drop what it holds.
+    Clear,
     Ask(Query),
 }
 

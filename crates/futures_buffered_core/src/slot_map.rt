@@ -177,6 +177,19 @@ impl<F: Drop> PinSlotMap<F> {
         }
     }
 
+    /// Drops each value. The map is as a new one then.
+    ///
+    /// Takes no memory, and time in proportion to `capacity`, besides the drops.
+    pub fn clear(&mut self)
+        ensures { self.new ≡ no_slots (slot_count self.old) }
+    {
+        self.free.clear();
+        for i in 0..self.places.len() {
+            self.places[i] = None;
+            self.free.push_back_reserved(i);
+        }
+    }
+
     /// The value of a slot, for writing. `None` where the slot is free or not there. Takes the same time at any capacity.
     pub fn get(&mut self, key: usize) -> Option<&mut F>
         ensures* writes_back { sem 𝓛 (lends_slot F.row self.entry key result) }

@@ -53,6 +53,10 @@ pub record IsNewSet {F S : Type 0} (made : ℕ → S → Type 0) (n names : ℕ)
 abbrev pub with_empty_slot : {F S : Type 0} → Bounded F S → ℕ → Bounded F S
 with_empty_slot b i = record b { slots = with_slot_freed b.slots i }
 
+-- each slot is free; the source and the limit stay
+abbrev pub emptied : {F S : Type 0} → Bounded F S → Bounded F S
+emptied b = record b { slots = no_slots (slot_count b.slots) }
+
 -- the same set over another source
 abbrev pub with_source : {F S : Type 0} → Bounded F S → S → Bounded F S
 with_source b source = record b { source = source }

@@ -173,6 +173,15 @@ impl<F: Drop, S: NewSource> FuturesUnordered<F, S> {
         self.groups.add(value)
     }
 
+    /// Drops each future that is held, with the groups: the set is as `new` made it, but that its sources are made as before.
+    ///
+    /// Takes time in proportion to the slots of all groups, and no memory. Wakes nobody.
+    pub fn clear(&mut self)
+        ensures { self.new ≡ no_groups self.old.limit }
+    {
+        self.groups.clear();
+    }
+
     /// One poll of the set, where `rule` says how one held value is polled.
     ///
     /// `Ready(None)` where nothing is held. Else each group that stands as the poll begins is asked once, in turn, until one gives an output. A group that holds nothing leaves, unless it is the last. Registers the task once, and takes no memory. Takes time in proportion to the number of groups and to the names taken, besides the polls.

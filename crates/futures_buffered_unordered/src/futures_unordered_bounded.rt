@@ -11,7 +11,7 @@ ghost use Rattle.futures_buffered_core.specs.ReadyShared.{IsNewShared, MarksShar
 ghost use Rattle.futures_buffered_core.specs.ReadySource.{WaitsAlike};
 ghost use Rattle.futures_buffered_core.specs.SlotMap.{value_in, held_count, slot_count, no_slots, IsFull};
 ghost use Rattle.futures_buffered_unordered.specs.Held.{AllHeld};
-ghost use Rattle.futures_buffered_unordered.specs.FuturesUnorderedBounded.{AsksSet, AsksSetTask, AsksUntil, HoldsEach, IsNewSet, LeavesTask, PollGives, PollsSet, PollsSetTask, Pushes, with_empty_slot, with_source};
+ghost use Rattle.futures_buffered_unordered.specs.FuturesUnorderedBounded.{AsksSet, AsksSetTask, AsksUntil, HoldsEach, IsNewSet, LeavesTask, PollGives, PollsSet, PollsSetTask, Pushes, emptied, with_empty_slot, with_source};
 
 use crate::poll_one::PollOne;
 use futures::task::{Context, Poll};
@@ -313,6 +313,15 @@ impl<F: Drop, S: ReadySource> FuturesUnorderedBounded<F, S> {
         ensures capacity { slot_count self.new.slots ≡ slot_count self.old.slots }
     {
         self.slots.remove(i);
+    }
+
+    /// Drops each future that is held. Each slot is free then, and slot 0 is the first to be used again.
+    ///
+    /// A slot that was marked stays marked, so a later poll may be given its name, and polls what it holds by then. Takes no memory, and time in proportion to the capacity, besides the drops. Wakes nobody.
+    pub fn clear(&mut self)
+        ensures { self.new ≡ emptied self.old }
+    {
+        self.slots.clear();
     }
 
     /// One poll of the set, where `rule` says how one held value is polled.
