@@ -1,25 +1,23 @@
 //! What a join keeps until it ends: a set of its futures, and the outputs that have come.
-ghost use Rattle.std.specs.Prelude.{◌≡◌, ◌<◌, ◌+◌, Some, None, Ok, Err, IfOk, IfErr, OnOk, IsSome, IsTrue, ◌↔◌, map, slice_set};
+ghost use Rattle.std.specs.Prelude.{◌≡◌, ◌<◌, ◌+◌, Some, None, Ok, Err, IfOk, IsSome, IsTrue, ◌↔◌, map, slice_set};
 ghost use Rattle.std.specs.Iterator.{IsFiniteIterable};
 ghost use Rattle.futures.specs.Poll.{IfReady, OnPending};
 ghost use Rattle.futures.specs.declared.task.context.Context.{Context};
 ghost use Rattle.futures_buffered_core.specs.Drawn.{Draws, DrawsMoreThan};
 ghost use Rattle.futures_buffered_core.specs.SlotMap.{value_in, held_count};
 ghost use Rattle.futures_buffered_unordered.specs.Held.{AllHeld};
-ghost use Rattle.futures_buffered_unordered.specs.FuturesUnorderedBounded.{with_empty_slot};
+ghost use Rattle.futures_buffered_unordered.specs.FuturesUnorderedBounded.{AsksSetTask, LeavesTask, with_empty_slot};
 ghost use Rattle.futures_buffered_joins.specs.Joining.{Places};
 ghost use Rattle.futures_buffered_joins.specs.JoinMade.{IsMadeOf};
 ghost use Rattle.futures_buffered_joins.specs.JoinTask.{PollsTask};
-ghost use Rattle.futures_buffered_joins.specs.JoiningFills.{FillsOne, FillsAll, WaitsOnce, WaitsAfter, SetPollsTask};
+ghost use Rattle.futures_buffered_joins.specs.JoiningFills.{FillsOne, FillsAll, FillsOrFails, WaitsOnce, WaitsAfter};
 ghost use Rattle.futures_buffered_joins.specs.TryJoin.{Fails, FailsAfter};
 
 use futures::task::{Context, Poll};
 use futures_buffered_core::ready_core::{MAX_CAPACITY, NewFault};
 use futures_buffered_core::ready_source::{NewSource, ReadySource};
 use futures_buffered_core::slot_map::empty_places;
-use futures_buffered_unordered::futures_unordered_bounded::{
-    FuturesUnorderedBounded, POLL_LIMIT,
-};
+use futures_buffered_unordered::futures_unordered_bounded::{FuturesUnorderedBounded, POLL_LIMIT};
 use futures_buffered_unordered::{PollFuture, SlotFuture};
 use std::alloc::Global;
 use std::marker::Model;
@@ -133,8 +131,9 @@ where
             FillsOne F.polled S.steps (λ x. x) F.can_poll self.old self.new) }
         ensures pending { OnPending result
             (WaitsOnce F.polled S.steps (λ x. x) F.can_poll self.old self.new) }
-        ensures task { SetPollsTask F.polled S.steps S.needs S.registers_poll
-            self.old.set self.new.set result cx.old cx.new }
+        ensures task { AsksSetTask S.steps S.needs (S.registers_poll self.old.set.source)
+            (LeavesTask F.polled S.steps S.registers_poll self.old.set self.new.set)
+            self.new.set.source result cx.old cx.new }
     {
         match self.set.poll_first(&PollFuture, cx) {
             Poll::Ready((i, output)) => {
@@ -174,13 +173,13 @@ where
     fn try_fill_one(&mut self, cx: &mut Context<'_>) -> Poll<Result<(), E>>
         requires some { 0 < held_count self.old.set.slots }
         requires held { AllHeld F.can_poll self.old.set.slots }
-        ensures ready { IfReady result (λ r. OnOk r
-            (FillsOne F.polled S.steps Ok F.can_poll self.old self.new)) }
-        ensures fails { IfReady result (λ r. IfErr r (Fails F.polled S.steps self.old)) }
+        ensures ready { FillsOrFails (FillsOne F.polled S.steps Ok F.can_poll self.old self.new)
+            (Fails F.polled S.steps self.old) result }
         ensures pending { OnPending result
             (WaitsOnce F.polled S.steps Ok F.can_poll self.old self.new) }
-        ensures task { SetPollsTask F.polled S.steps S.needs S.registers_poll
-            self.old.set self.new.set result cx.old cx.new }
+        ensures task { AsksSetTask S.steps S.needs (S.registers_poll self.old.set.source)
+            (LeavesTask F.polled S.steps S.registers_poll self.old.set self.new.set)
+            self.new.set.source result cx.old cx.new }
     {
         match self.set.poll_first(&PollFuture, cx) {
             Poll::Ready((i, Ok(output))) => {
@@ -195,9 +194,8 @@ where
     // Polls of the set, until it is Pending, no future is waited for, or one gives an error.
     pub(crate) fn try_fill_all(&mut self, cx: &mut Context<'_>) -> Poll<Result<(), E>>
         requires { AllHeld F.can_poll self.old.set.slots }
-        ensures ready { IfReady result (λ r. OnOk r
-            (FillsAll F.polled S.steps Ok F.can_poll self.old self.new)) }
-        ensures fails { IfReady result (λ r. IfErr r (FailsAfter F.polled S.steps self.old)) }
+        ensures ready { FillsOrFails (FillsAll F.polled S.steps Ok F.can_poll self.old self.new)
+            (FailsAfter F.polled S.steps self.old) result }
         ensures pending { OnPending result
             (WaitsAfter F.polled S.steps Ok F.can_poll self.old self.new) }
         ensures task { PollsTask F.polled S.steps Ok S.needs S.registers_poll

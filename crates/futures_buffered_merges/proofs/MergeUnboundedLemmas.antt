@@ -116,3 +116,9 @@ module _ {F A S : Type 0} (polled : ℕ → F → Poll (Option A) → F → Type
 pub covered_any : {F S A : Type 0} (needs : S → ℕ → Type 0) (cx : Context) (answer : Poll (Option A)) (groups : List (Bounded F S)) → OnPending answer (EachCovered needs cx groups) → (all_held groups ≡ 0 → answer ≡ Ready None) → OnPending answer (Covers cx (AnyNeeds needs groups))
 covered_any needs cx (Ready o) groups covered ends = tt
 covered_any needs cx Pending groups covered ends = covered_of needs cx Pending groups groups covered ends (omega arith)
+
+-- what holds after each answer that is ready holds after the end
+pub at_end : {A : Type 0} (P : Type 0) (answer : Poll (Option A)) → IfReady answer (λ _. P) → IfReady answer (λ o. IfNone o P)
+at_end P (Ready None) h = h
+at_end P (Ready (Some x)) h = tt
+at_end P Pending h = tt

@@ -1,17 +1,15 @@
 -- From what the calls of a set leave to what one poll of its streams says.
-use Rattle.std.proofs.Common.{◌≡◌, ◌⊎◌, ℕ, Option, Some, None, ◌<◌, ap, inl, inr, ◌∙◌}
+use Rattle.std.proofs.Common.{◌≡◌, ℕ, Option, Some, None, ◌<◌, ap, inl, inr, ◌∙◌}
 use Rattle.futures.specs.declared.task.context.Context.{Context}
 use Rattle.futures.specs.declared.task.Poll.{Poll}
 use Rattle.futures.specs.declared.task.Poll.TheVariants.{Ready, Pending}
-use Rattle.futures.specs.Poll.{IfReady, OnPending}
 use Rattle.futures_buffered_table.specs.declared.answer.Woke.{Woke}
 use Rattle.futures_buffered_merges.specs.Merging.{CountGives}
 use Rattle.std.proofs.lemmas.Bool.{cases_eq}
 use Rattle.futures_buffered_core.specs.SlotMap.{Slots, held_count, with_slot_freed}
 use Rattle.futures_buffered_core.specs.ReadySource.{SourceSteps}
 use Rattle.futures_buffered_unordered.specs.Held.{AllHeld, AllHeldBut}
-use Rattle.futures_buffered_unordered.specs.FuturesUnorderedBounded.{Bounded, AsksUntil, MarksSlot, OnlyRegisters, with_empty_slot, with_source}
-use Rattle.futures_buffered_unordered.proofs.FuturesUnorderedBoundedLemmas.{registers_once}
+use Rattle.futures_buffered_unordered.specs.FuturesUnorderedBounded.{Bounded, AsksSetTask, AsksUntil, LeavesTask, MarksSlot, with_empty_slot, with_source}
 use Rattle.futures_buffered_unordered.proofs.HeldGivesLemmas.{value_in-with_slot_freed, value_in-with_slot_freed_other}
 
 -- what holds of all but one value holds of all once that slot is empty
@@ -27,15 +25,18 @@ same_but_source : {F S : Type 0} (left new : Bounded F S) → new.slots ≡ left
 same_but_source {F} {S} left new slots limit =
     ap (λ (m : Slots F). record { slots = m; source = new.source; limit = new.limit }) slots ∙ ap (λ (n : ℕ). record { slots = left.slots; source = new.source; limit = n }) limit
 
--- what a set's poll that begins with a registration leaves
-pub woken_by_one : {A S : Type 0} (W E : Type 0) (registers_poll : S → Context → Context → Type 0) (old new : Context) (source : S) (answer : Poll A) → OnPending answer (W ⊎ (E × registers_poll source old new)) → OnPending answer (W ⊎ (E × OnlyRegisters registers_poll old new))
-woken_by_one W E registers_poll old new source (Ready x) h = tt
-woken_by_one W E registers_poll old new source Pending (inl woken) = inl woken
-woken_by_one W E registers_poll old new source Pending (inr empty) = inr (empty.0, registers_once registers_poll old new source empty.1)
-
-pub registered_by_one : {A S : Type 0} (registers_poll : S → Context → Context → Type 0) (old new : Context) (source : S) (answer : Poll A) → IfReady answer (λ _. registers_poll source old new) → IfReady answer (λ _. OnlyRegisters registers_poll old new)
-registered_by_one registers_poll old new source (Ready x) h = registers_once registers_poll old new source h
-registered_by_one registers_poll old new source Pending h = tt
+-- what a count of names leaves of its task, where what registrations make of it is told otherwise
+pub asks_told : {F A S B : Type 0} (polled : ℕ → F → Poll A → F → Type 0) (steps : SourceSteps S) (needs : S → ℕ → Type 0) (registers told : Context → Context → Type 0) (pends : Context → Context → Type 0) (old new : Bounded F S) (answer : Poll B) (cx left : Context) → (registers cx left → told cx left) → (pends cx left → LeavesTask polled steps (λ _. registers) old new cx left)
+    → AsksSetTask steps needs registers pends new.source answer cx left → AsksSetTask steps needs told (LeavesTask polled steps (λ _. told) old new) new.source answer cx left
+asks_told polled steps needs registers told pends old new (Ready x) cx left tells ends task = record { covered = tt; woken = tt; leaves = tt; only_registered = tells task.only_registered; kept = task.kept }
+asks_told polled steps needs registers told pends old new Pending cx left tells ends task =
+    record {
+      covered = task.covered;
+      woken = elim task.woken [ inl woken ↦ inl woken | inr empty ↦ inr (empty.0, tells empty.1) ];
+      leaves = elim (ends task.leaves) [ inl empty ↦ inl (empty.0, tells empty.1) | inr part ↦ inr part ];
+      only_registered = tt;
+      kept = task.kept;
+    }
 
 module _ {F A S : Type 0} (polled : ℕ → F → Poll (Option A) → F → Type 0) (steps : SourceSteps S) (marks : S → ℕ → Woke → S → Type 0) where
   -- one count, by what the set's calls leave

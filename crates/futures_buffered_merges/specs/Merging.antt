@@ -1,14 +1,21 @@
 -- One poll of the streams that a set holds, of which a merge is made.
-use Rattle.std.specs.Prelude.{◌≡◌, ℕ, ◌<◌, List, Option, Some, None}
+use Rattle.std.specs.Prelude.{◌≡◌, ◌⊎◌, ℕ, ◌<◌, ◌≤◌, Bool, IsTrue, List, Option, Some, None}
+use Rattle.std.specs.Prelude.{IfNone, OnSome}
 use Rattle.std.specs.List.{FoldsTo}
+use Rattle.futures.specs.Poll.{IfReady, OnPending}
+use Rattle.futures.specs.Task.{Covers, Keeps}
+use Rattle.futures.specs.declared.task.context.Context.{Context}
 use Rattle.futures.specs.declared.task.Poll.{Poll}
 use Rattle.futures.specs.declared.task.Poll.TheVariants.{Ready, Pending}
-use Rattle.futures_buffered_core.specs.SlotMap.{held_count}
+use Rattle.futures_buffered_core.specs.SlotMap.{held_count, slot_count}
 use Rattle.futures_buffered_table.specs.declared.answer.Woke.{Woke}
 use Rattle.futures_buffered_core.specs.ReadySource.{SourceSteps}
 use Rattle.futures_buffered_unordered.specs.FuturesUnorderedBounded.{Bounded, AsksUntil, MarksSlot}
-use Rattle.futures_buffered_unordered.specs.FuturesUnorderedBounded.{AsksInPart, AsksToEmpty}
+use Rattle.futures_buffered_unordered.specs.FuturesUnorderedBounded.{AsksInPart, AsksToEmpty, IsWoken}
+use Rattle.futures_buffered_unordered.specs.FuturesUnorderedBounded.{SaidEmpty}
 use Rattle.futures_buffered_unordered.specs.FuturesUnorderedBounded.{with_empty_slot, with_source}
+use Rattle.futures_buffered_unordered.specs.Groups.{GroupLeavesTask}
+use Rattle.futures_buffered_unordered.specs.Held.{AllHeld}
 
 module _
     {F A S : Type 0}
@@ -75,3 +82,71 @@ module _
         × (before : Bounded F S)
         × FoldsTo CountEnds old ended before
         × AsksInPart polled steps before new
+
+    -- What one poll leaves of its task, which it took from cx to left: `registers` says what
+    -- registrations make of a task.
+    pub record PollsStreamsTask
+        (needs : S → ℕ → Type 0)
+        (registers : Context → Context → Type 0)
+        (old : Bounded F S)
+        (answer : Poll (Option A))
+        (new : Bounded F S)
+        (cx left : Context)
+        : Type 0 where
+      -- the task of pending streams hears of their source
+      pub covered : OnPending answer (Covers left (needs new.source))
+      -- where they are pending, the task was asked to poll again, or it was registered and no
+      -- further name came
+      pub woken : OnPending answer
+          (IsWoken left ⊎ (SaidEmpty steps new.source × registers cx left))
+      -- where no further name came it was registered, and else asked to poll again
+      pub leaves : GroupLeavesTask MergeAsksToEmpty MergeStops registers old answer new cx left
+      -- a poll that is ready only registered it
+      pub only_registered : IfReady answer (λ _. registers cx left)
+      -- where no stream is held the poll leaves it alone
+      pub untouched : held_count old.slots ≡ 0 → left ≡ cx
+      -- nothing of the task is lost
+      pub kept : Keeps cx left
+
+-- What a call that asks the streams of a set wants of them and of its task. `is_registered` says
+-- that the task is registered already.
+pub record CanAsk
+    {F S : Type 0}
+    (can_poll : F → Type 0)
+    (needs : S → ℕ → Type 0)
+    (registers : S → S → Type 0)
+    (set : Bounded F S)
+    (cx : Context)
+    (is_registered : Bool)
+    : Type 0 where
+  -- each stream that is held can be polled
+  pub held : AllHeld can_poll set.slots
+  -- a task that is registered already hears of the source
+  pub registered : IsTrue is_registered → Covers cx (needs set.source)
+  -- and a registration may leave a source as it was
+  pub stays : IsTrue is_registered → (s : S) → registers s s
+
+-- What one count of names, or one poll, leaves of the streams of a set. `on_item` says of how many
+-- are held before and after it where it gives an item or is pending, `on_end` where it gives the
+-- end.
+pub record PollsStreams
+    {F A S : Type 0}
+    (can_poll : F → Type 0)
+    (on_item on_end : ℕ → ℕ → Type 0)
+    (old : Bounded F S)
+    (answer : Poll (Option A))
+    (new : Bounded F S)
+    : Type 0 where
+  -- no stream comes
+  pub fewer : held_count new.slots ≤ held_count old.slots
+  -- how many are held, by each answer
+  pub item : IfReady answer
+      (λ o. OnSome o (on_item (held_count old.slots) (held_count new.slots)))
+  pub pending : OnPending answer (on_item (held_count old.slots) (held_count new.slots))
+  pub ends : IfReady answer
+      (λ o. IfNone o (on_end (held_count old.slots) (held_count new.slots)))
+  -- each stream that is held can be polled again
+  pub pollable : AllHeld can_poll new.slots
+  -- the number of slots and the limit stay
+  pub capacity : slot_count new.slots ≡ slot_count old.slots
+  pub limit : new.limit ≡ old.limit

@@ -1,18 +1,15 @@
 //! As many streams as it has slots, polled as one.
 //!
 //! Each stream stands in a slot, and a poll asks the source which slots to poll, as a set of futures does. A stream that gives an item stays, and its slot is marked, so that a later poll polls it again behind the others that were marked before. A stream that ends leaves its slot to the next push.
-ghost use Rattle.std.specs.Prelude.{◌≡◌, ◌<◌, ◌≤◌, ◌+◌, ◌↔◌, [], List, IfOk, IfErr, OnOk, IfSome, IfNone, IsTrue, ◌⊎◌};
+ghost use Rattle.std.specs.Prelude.{◌≡◌, ◌<◌, ◌≤◌, ◌+◌, ◌↔◌, List, IfOk, IfErr, OnOk, IsTrue};
 ghost use Rattle.std.specs.Iterator.{IsFiniteIterable};
-ghost use Rattle.futures.specs.Poll.{IfReady, OnPending};
-ghost use Rattle.futures.specs.Runs.{After, Within};
-ghost use Rattle.futures.specs.Task.{Covers, Keeps};
 ghost use Rattle.futures_buffered_core.specs.Drawn.{Draws, DrawsMoreThan};
 ghost use Rattle.futures_buffered_core.specs.ReadyShared.{IsNewShared, MarksShared};
 ghost use Rattle.futures_buffered_core.specs.SlotMap.{held_count, slot_count, IsFull};
+ghost use Rattle.futures_buffered_unordered.specs.StreamAnswers.{StreamAnswers};
 ghost use Rattle.futures_buffered_unordered.specs.Held.{AllHeld};
-ghost use Rattle.futures_buffered_unordered.specs.FuturesUnorderedBounded.{HoldsEach, IsWoken, OnlyRegisters, Pushes, SaidEmpty};
-ghost use Rattle.futures_buffered_unordered.specs.Groups.{GroupLeavesTask};
-ghost use Rattle.futures_buffered_merges.specs.Merging.{MergeAsksToEmpty, MergeGives, MergeStops};
+ghost use Rattle.futures_buffered_unordered.specs.FuturesUnorderedBounded.{HoldsEach, OnlyRegisters, Pushes};
+ghost use Rattle.futures_buffered_merges.specs.Merging.{MergeGives, PollsStreams, PollsStreamsTask};
 ghost use Rattle.futures_buffered_merges.specs.MergeBounded.{KeepsOrder, KeepsOrderWithPushes, ComesFromStreams};
 
 use crate::merging::poll_streams;
@@ -23,9 +20,7 @@ use futures_buffered_core::ready_core::{MAX_CAPACITY, NewFault};
 use futures_buffered_core::ready_shared::SharedReady;
 use futures_buffered_core::ready_source::{NewSource, ReadySource};
 use futures_buffered_unordered::fused::{FusedStream, SizeHint};
-use futures_buffered_unordered::futures_unordered_bounded::{
-    FuturesUnorderedBounded, POLL_LIMIT,
-};
+use futures_buffered_unordered::futures_unordered_bounded::{FuturesUnorderedBounded, POLL_LIMIT};
 use std::alloc::Global;
 use std::fmt;
 use std::marker::Model;
@@ -181,26 +176,14 @@ impl<St: SlotStream<S::Waker>, S: ReadySource> Stream for MergeBounded<St, S> {
         requires { AllHeld St.can_poll self.old.slots }
         ensures polled { MergeGives St.polled S.steps S.marks
             self.old result self.new }
-        ensures value { IfReady result (ComesFromStreams St.polled self.old.slots []) }
-        ensures rest { IfReady result (λ o. IfSome o (λ x.
-            After (ComesFromStreams St.polled self.old.slots) x
-            (ComesFromStreams St.polled self.new.slots))) }
-        ensures same { OnPending result (Within (ComesFromStreams St.polled self.old.slots)
-            (ComesFromStreams St.polled self.new.slots)) }
-        ensures ends { IfReady result (λ o. IfNone o (held_count self.new.slots ≡ 0)) }
-        ensures pollable { AllHeld St.can_poll self.new.slots }
-        ensures capacity { slot_count self.new.slots ≡ slot_count self.old.slots }
-        ensures limit { self.new.limit ≡ self.old.limit }
-        ensures covered { OnPending result (Covers cx.new (S.needs self.new.source)) }
-        ensures woken { OnPending result (IsWoken cx.new
-            ⊎ (SaidEmpty S.steps self.new.source × OnlyRegisters S.registers_poll cx.old cx.new)) }
-        ensures leaves { GroupLeavesTask (MergeAsksToEmpty St.polled S.steps S.marks)
-            (MergeStops St.polled S.steps S.marks) (OnlyRegisters S.registers_poll)
+        ensures stream { StreamAnswers (λ merge. AllHeld St.can_poll merge.slots)
+            (λ merge n. (0 < held_count merge.slots) × S.needs merge.source n)
+            (λ merge. ComesFromStreams St.polled merge.slots)
             self.old result self.new cx.old cx.new }
-        ensures only_registered { IfReady result (λ _.
-            OnlyRegisters S.registers_poll cx.old cx.new) }
-        ensures untouched { held_count self.old.slots ≡ 0 → cx.new ≡ cx.old }
-        ensures kept { Keeps cx.old cx.new }
+        ensures streams { PollsStreams St.can_poll (λ _ now. 0 < now) (λ _ now. now ≡ 0)
+            self.old result self.new }
+        ensures task { PollsStreamsTask St.polled S.steps S.marks S.needs
+            (OnlyRegisters S.registers_poll) self.old result self.new cx.old cx.new }
     {
         poll_streams(&mut self.set, cx, false)
     }

@@ -1,16 +1,14 @@
 //! Streams in groups of slots, polled as one: a merge that grows.
 //!
 //! Each group is a set of as many streams as it has slots, and is asked as a bounded merge is polled. The first group that holds a stream registers the task, which does for those beside it.
-ghost use Rattle.std.specs.Prelude.{◌≡◌, ◌↔◌, ◌<◌, ◌≤◌, ◌+◌, ◌⊎◌, List, [], Err, IsTrue, OnOk, OnErr, IsErr, IfOk, IfErr, IfSome};
+ghost use Rattle.std.specs.Prelude.{◌≡◌, ◌↔◌, ◌≤◌, ◌+◌, ◌⊎◌, List, Err, IsTrue, OnOk, OnErr, IsErr, IfOk, IfErr};
 ghost use Rattle.std.specs.Iterator.{IsFiniteIterable};
-ghost use Rattle.futures.specs.Poll.{IfReady, OnPending};
-ghost use Rattle.futures.specs.Runs.{After, Within};
-ghost use Rattle.futures.specs.Task.{Covers, Keeps};
 ghost use Rattle.futures_buffered_core.specs.Drawn.{Draws};
 ghost use Rattle.futures_buffered_core.specs.ReadyShared.{IsNewShared, MarksShared};
+ghost use Rattle.futures_buffered_unordered.specs.StreamAnswers.{StreamAnswers};
 ghost use Rattle.futures_buffered_unordered.specs.FuturesUnorderedBounded.{OnlyRegisters};
-ghost use Rattle.futures_buffered_unordered.specs.Groups.{GroupsGive, GroupsLeaveTask};
-ghost use Rattle.futures_buffered_unordered.specs.SlotGroups.{EachHeld, EachCovered, AnyNeeds, GrowingPushes, IsAtBound, LastIsFull, PushesEach, StopsAtBound, no_groups, all_held};
+ghost use Rattle.futures_buffered_unordered.specs.Groups.{GroupsGive};
+ghost use Rattle.futures_buffered_unordered.specs.SlotGroups.{EachHeld, AnyNeeds, GrowingPushes, IsAtBound, LastIsFull, PollsGroupsTask, PushesEach, StopsAtBound, no_groups, all_held};
 ghost use Rattle.futures_buffered_merges.specs.Merging.{MergeAsksToEmpty, MergeGives, MergeStops};
 ghost use Rattle.futures_buffered_merges.specs.MergeUnbounded.{ItemsComeFromGroups, KeepsOrderInGroups, KeepsOrderInGroupsWithPushes};
 
@@ -21,11 +19,9 @@ use futures::task::{Context, Poll};
 use futures_buffered_core::ready_core::NewFault;
 use futures_buffered_core::ready_shared::SharedReady;
 use futures_buffered_core::ready_source::NewSource;
-use futures_buffered_unordered::slot_groups::{AskGroup, FIRST_GROUP, MAX_HELD, SlotGroups};
 use futures_buffered_unordered::fused::{FusedStream, SizeHint};
-use futures_buffered_unordered::futures_unordered_bounded::{
-    FuturesUnorderedBounded, POLL_LIMIT,
-};
+use futures_buffered_unordered::futures_unordered_bounded::{FuturesUnorderedBounded, POLL_LIMIT};
+use futures_buffered_unordered::slot_groups::{AskGroup, FIRST_GROUP, MAX_HELD, SlotGroups};
 use std::alloc::Global;
 use std::fmt;
 use std::marker::Model;
@@ -53,7 +49,8 @@ impl<St: Drop, S: NewSource> Model for MergeUnbounded<St, S> {
 struct AsMerge;
 
 impl<St: SlotStream<S::Waker>, S: NewSource> AskGroup<St, S> for AsMerge {
-    ghost use Rattle.std.specs.Prelude.{⊤};
+    ghost use Rattle.futures_buffered_unordered.proofs.FuturesUnorderedBoundedLemmas.{registers_none, registers_more};
+    ghost use Rattle.std.proofs.Common.{refl};
 
     type Output = St::Item;
 
@@ -65,7 +62,7 @@ impl<St: SlotStream<S::Waker>, S: NewSource> AskGroup<St, S> for AsMerge {
 
     ghost stops = { MergeStops St.polled S.steps S.marks };
 
-    ghost passes = { λ _ _. ⊤ };
+    ghost passes = { OnlyRegisters S.registers_poll };
 
     fn ask(
         &self,
@@ -76,9 +73,9 @@ impl<St: SlotStream<S::Waker>, S: NewSource> AskGroup<St, S> for AsMerge {
         poll_streams(group, cx, is_registered)
     }
 
-    ghost passes_none = { λ cx. tt };
+    ghost passes_none = { λ cx. registers_none S.registers_poll cx cx refl };
 
-    ghost passes_more = { λ a b c first then. tt };
+    ghost passes_more = { registers_more S.registers_poll };
 }
 
 impl<St: Drop, S: NewSource> MergeUnbounded<St, S> {
@@ -212,21 +209,15 @@ impl<St: SlotStream<S::Waker>, S: NewSource> Stream for MergeUnbounded<St, S> {
             self.old.groups result self.new.groups }
         ensures ends { (result ≡ Poll.Ready None) ↔ (all_held self.new.groups.listed ≡ 0) }
         ensures limit { self.new.limit ≡ self.old.limit }
-        ensures value { IfReady result (ItemsComeFromGroups St.polled self.old.groups.listed []) }
-        ensures rest { IfReady result (λ o. IfSome o (λ x.
-            After (ItemsComeFromGroups St.polled self.old.groups.listed) x
-            (ItemsComeFromGroups St.polled self.new.groups.listed))) }
-        ensures same { OnPending result
-            (Within (ItemsComeFromGroups St.polled self.old.groups.listed)
-            (ItemsComeFromGroups St.polled self.new.groups.listed)) }
+        ensures stream { StreamAnswers (λ merge. EachHeld St.can_poll merge.groups.listed)
+            (λ merge. AnyNeeds S.needs merge.groups.listed)
+            (λ merge. ItemsComeFromGroups St.polled merge.groups.listed)
+            self.old result self.new cx.old cx.new }
         ensures pollable { EachHeld St.can_poll self.new.groups.listed }
-        ensures covered { OnPending result (EachCovered S.needs cx.new self.new.groups.listed) }
-        ensures registered { OnPending result
-            (Covers cx.new (AnyNeeds S.needs self.new.groups.listed)) }
-        ensures leaves { GroupsLeaveTask (MergeAsksToEmpty St.polled S.steps S.marks)
-            (MergeStops St.polled S.steps S.marks) (OnlyRegisters S.registers_poll)
+        ensures task { PollsGroupsTask (MergeAsksToEmpty St.polled S.steps S.marks)
+            (MergeStops St.polled S.steps S.marks) S.needs (OnlyRegisters S.registers_poll)
+            (OnlyRegisters S.registers_poll)
             self.old.groups result self.new.groups cx.old cx.new }
-        ensures kept { Keeps cx.old cx.new }
     {
         self.groups.poll_groups(&AsMerge, cx)
     }

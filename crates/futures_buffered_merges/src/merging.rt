@@ -1,12 +1,10 @@
 //! One poll of the streams that a set holds, of which a merge is made.
-ghost use Rattle.std.specs.Prelude.{◌≡◌, ◌<◌, ◌+◌, ◌≤◌, ◌⊎◌, IfNone, IsSome, IsTrue, OnSome};
-ghost use Rattle.futures.specs.Poll.{IfReady, OnPending};
-ghost use Rattle.futures.specs.Task.{Covers, Keeps};
-ghost use Rattle.futures_buffered_core.specs.SlotMap.{held_count, slot_count, value_in};
-ghost use Rattle.futures_buffered_unordered.specs.Held.{AllHeld, AllHeldBut, EndsWith};
-ghost use Rattle.futures_buffered_unordered.specs.FuturesUnorderedBounded.{AsksUntil, IsWoken, LeavesTask, OnlyRegisters, SaidEmpty};
-ghost use Rattle.futures_buffered_unordered.specs.Groups.{GroupLeavesTask};
-ghost use Rattle.futures_buffered_merges.specs.Merging.{CountGives, MergeAsksToEmpty, MergeGives, MergeStops};
+ghost use Rattle.std.specs.Prelude.{◌≡◌, ◌<◌, ◌+◌, IfNone, IsSome};
+ghost use Rattle.futures.specs.Poll.{IfReady};
+ghost use Rattle.futures.specs.Task.{Covers};
+ghost use Rattle.futures_buffered_core.specs.SlotMap.{held_count};
+ghost use Rattle.futures_buffered_unordered.specs.FuturesUnorderedBounded.{AsksSet, AsksSetTask, AsksUntil, LeavesTask, OnlyRegisters};
+ghost use Rattle.futures_buffered_merges.specs.Merging.{CanAsk, CountGives, MergeGives, PollsStreams, PollsStreamsTask};
 
 use crate::slot_stream::{PollStream, SlotStream};
 use futures::task::{Context, Poll};
@@ -19,26 +17,13 @@ fn ask_streams<St: SlotStream<S::Waker>, S: ReadySource>(
     cx: &mut Context<'_>,
     is_registered: bool,
 ) -> Poll<(usize, Option<St::Item>)>
-    requires held { AllHeld St.can_poll set.old.slots }
-    requires registered { IsTrue is_registered → Covers cx.old (S.needs set.old.source) }
-    requires stays { IsTrue is_registered → (s : S) → S.steps.registers s s }
+    requires { CanAsk St.can_poll S.needs S.steps.registers set.old cx.old is_registered }
     ensures polled { AsksUntil St.polled S.steps set.old result set.new }
-    ensures pollable { OnPending result (AllHeld St.can_poll set.new.slots) }
-    ensures others { IfReady result (λ (i, _). AllHeldBut i St.can_poll set.new.slots) }
-    ensures goes_on { IfReady result (λ (_, o). IsSome o → AllHeld St.can_poll set.new.slots) }
-    ensures last { IfReady result (λ (i, o).
-        EndsWith (St.polled i) o (value_in set.new.slots i)) }
-    ensures count { held_count set.new.slots ≡ held_count set.old.slots }
-    ensures capacity { slot_count set.new.slots ≡ slot_count set.old.slots }
-    ensures limit { set.new.limit ≡ set.old.limit }
-    ensures covered { OnPending result (Covers cx.new (S.needs set.new.source)) }
+    ensures set { AsksSet St.can_poll St.polled IsSome set.old result set.new }
     ensures still_covered { IfReady result (λ _. Covers cx.new (S.needs set.new.source)) }
-    ensures woken { OnPending result (IsWoken cx.new
-        ⊎ (SaidEmpty S.steps set.new.source × OnlyRegisters S.registers_poll cx.old cx.new)) }
-    ensures leaves { OnPending result (LeavesTask St.polled S.steps
-        (λ _. OnlyRegisters S.registers_poll) set.old set.new cx.old cx.new) }
-    ensures only_registered { IfReady result (λ _. OnlyRegisters S.registers_poll cx.old cx.new) }
-    ensures kept { Keeps cx.old cx.new }
+    ensures task { AsksSetTask S.steps S.needs (OnlyRegisters S.registers_poll)
+        (LeavesTask St.polled S.steps (λ _. OnlyRegisters S.registers_poll) set.old set.new)
+        set.new.source result cx.old cx.new }
 {
     if is_registered {
         set.poll_first_registered(&PollStream, cx)
@@ -53,28 +38,16 @@ fn poll_count<St: SlotStream<S::Waker>, S: ReadySource>(
     cx: &mut Context<'_>,
     is_registered: bool,
 ) -> Poll<Option<St::Item>>
-    requires held { AllHeld St.can_poll set.old.slots }
+    requires can { CanAsk St.can_poll S.needs S.steps.registers set.old cx.old is_registered }
     requires some { 0 < held_count set.old.slots }
-    requires registered { IsTrue is_registered → Covers cx.old (S.needs set.old.source) }
-    requires stays { IsTrue is_registered → (s : S) → S.steps.registers s s }
     ensures counted { CountGives St.polled S.steps S.marks set.old result set.new }
-    ensures count { IfReady result (λ o.
-        OnSome o (held_count set.new.slots ≡ held_count set.old.slots)) }
-    ensures same { OnPending result (held_count set.new.slots ≡ held_count set.old.slots) }
-    ensures fewer { IfReady result (λ o.
-        IfNone o (held_count set.new.slots + 1 ≡ held_count set.old.slots)) }
-    ensures pollable { AllHeld St.can_poll set.new.slots }
-    ensures capacity { slot_count set.new.slots ≡ slot_count set.old.slots }
-    ensures limit { set.new.limit ≡ set.old.limit }
-    ensures covered { OnPending result (Covers cx.new (S.needs set.new.source)) }
+    ensures streams { PollsStreams St.can_poll (λ was now. now ≡ was) (λ was now. now + 1 ≡ was)
+        set.old result set.new }
     ensures still_covered { IfReady result (λ o.
         IfNone o (Covers cx.new (S.needs set.new.source))) }
-    ensures woken { OnPending result (IsWoken cx.new
-        ⊎ (SaidEmpty S.steps set.new.source × OnlyRegisters S.registers_poll cx.old cx.new)) }
-    ensures leaves { OnPending result (LeavesTask St.polled S.steps
-        (λ _. OnlyRegisters S.registers_poll) set.old set.new cx.old cx.new) }
-    ensures only_registered { IfReady result (λ _. OnlyRegisters S.registers_poll cx.old cx.new) }
-    ensures kept { Keeps cx.old cx.new }
+    ensures task { AsksSetTask S.steps S.needs (OnlyRegisters S.registers_poll)
+        (LeavesTask St.polled S.steps (λ _. OnlyRegisters S.registers_poll) set.old set.new)
+        set.new.source result cx.old cx.new }
 {
     match ask_streams(set, cx, is_registered) {
         Poll::Ready((i, Some(item))) => {
@@ -95,26 +68,12 @@ pub(crate) fn poll_streams<St: SlotStream<S::Waker>, S: ReadySource>(
     cx: &mut Context<'_>,
     is_registered: bool,
 ) -> Poll<Option<St::Item>>
-    requires held { AllHeld St.can_poll set.old.slots }
-    requires registered { IsTrue is_registered → Covers cx.old (S.needs set.old.source) }
-    requires stays { IsTrue is_registered → (s : S) → S.steps.registers s s }
+    requires { CanAsk St.can_poll S.needs S.steps.registers set.old cx.old is_registered }
     ensures polled { MergeGives St.polled S.steps S.marks set.old result set.new }
-    ensures fewer { held_count set.new.slots ≤ held_count set.old.slots }
-    ensures item { IfReady result (λ o. OnSome o (0 < held_count set.new.slots)) }
-    ensures pending { OnPending result (0 < held_count set.new.slots) }
-    ensures ends { IfReady result (λ o. IfNone o (held_count set.new.slots ≡ 0)) }
-    ensures pollable { AllHeld St.can_poll set.new.slots }
-    ensures capacity { slot_count set.new.slots ≡ slot_count set.old.slots }
-    ensures limit { set.new.limit ≡ set.old.limit }
-    ensures covered { OnPending result (Covers cx.new (S.needs set.new.source)) }
-    ensures woken { OnPending result (IsWoken cx.new
-        ⊎ (SaidEmpty S.steps set.new.source × OnlyRegisters S.registers_poll cx.old cx.new)) }
-    ensures leaves { GroupLeavesTask (MergeAsksToEmpty St.polled S.steps S.marks)
-        (MergeStops St.polled S.steps S.marks) (OnlyRegisters S.registers_poll)
-        set.old result set.new cx.old cx.new }
-    ensures only_registered { IfReady result (λ _. OnlyRegisters S.registers_poll cx.old cx.new) }
-    ensures untouched { held_count set.old.slots ≡ 0 → cx.new ≡ cx.old }
-    ensures kept { Keeps cx.old cx.new }
+    ensures streams { PollsStreams St.can_poll (λ _ now. 0 < now) (λ _ now. now ≡ 0)
+        set.old result set.new }
+    ensures task { PollsStreamsTask St.polled S.steps S.marks S.needs
+        (OnlyRegisters S.registers_poll) set.old result set.new cx.old cx.new }
 {
     'counts: while !set.is_empty() {
         match poll_count(set, cx, is_registered) {

@@ -1,22 +1,25 @@
 -- What holds of an ordered queue over a bounded set: what a push needs, how many names a poll takes, and what may come.
-use Rattle.std.proofs.Common.{◌≡◌, ℕ, ◌+◌, ◌*◌, ◌<◌, ◌≤◌, List, [], ◌∷◌, ◌++◌, length, cond, is_some, Option, Some, None, sym, ap, subst, inl, inr, arith, ◌∙◌, add-one}
+use Rattle.std.proofs.Common.{◌≡◌, ◌⊎◌, ℕ, ◌+◌, ◌*◌, ◌<◌, ◌≤◌, List, [], ◌∷◌, ◌++◌, length, cond, is_some, Option, Some, None, sym, ap, subst, inl, inr, arith, ◌∙◌, add-one}
 use Rattle.std.specs.List.{FoldsTo}
 use Rattle.std.proofs.lemmas.List.{append_assoc, length-replicate}
 use Rattle.std.proofs.lemmas.List.Folds.{sum_by-replicate}
 use Rattle.futures_buffered_table.specs.declared.answer.TheConstants.{MAX_CAPACITY}
 use Rattle.std.proofs.Math.Nat.{mul-le-mul_left, mul-suc}
+use Rattle.futures.specs.Task.{Covers}
+use Rattle.futures.specs.Poll.{OnPending}
+use Rattle.futures.specs.declared.task.context.Context.{Context}
 use Rattle.futures.specs.declared.task.Poll.{Poll}
 use Rattle.futures.specs.declared.task.Poll.TheVariants.{Ready, Pending}
 use Rattle.futures_buffered_core.specs.SlotMap.{slot_count, held_count, no_slots}
 use Rattle.futures_buffered_table.specs.declared.answer.Taken.{Taken}
 use Rattle.futures_buffered_table.specs.declared.answer.Taken.TheVariants.{Slot, Empty, Pause}
 use Rattle.futures_buffered_core.specs.ReadySource.{SourceSteps}
-use Rattle.futures_buffered_unordered.specs.FuturesUnorderedBounded.{Bounded, EndsWaiting, held_in, names_taken}
+use Rattle.futures_buffered_unordered.specs.FuturesUnorderedBounded.{Bounded, EndsWaiting, IsWoken, SaidEmpty, held_in, names_taken}
 use Rattle.futures_buffered_unordered.proofs.FuturesUnorderedBoundedLemmas.{poll_gave, poll_still}
 use Rattle.futures_buffered_ordered.specs.Numbered.{PollsNumbered, held_with}
 use Rattle.futures_buffered_ordered.specs.OrderedEntries.{SetYields, MayRefuse}
 use Rattle.futures_buffered_ordered.specs.OrderedEntriesInvariant.{Numbering}
-use Rattle.futures_buffered_ordered.specs.FuturesOrderedBounded.{OrderedBounded, SetGives, SetIsFull, SetMayGive, TakesFewNames, names_of_row}
+use Rattle.futures_buffered_ordered.specs.FuturesOrderedBounded.{OrderedBounded, SetGives, SetIsFull, SetMayGive, SetPends, TakesFewNames, names_of_row}
 use Rattle.futures_buffered_ordered.specs.FuturesOrderedBoundedInvariant.{KeepsBoundedQueue}
 use Rattle.futures_buffered_ordered.specs.declared.numbered.Numbered.{Numbered}
 use Rattle.futures_buffered_ordered.proofs.OrderedEntriesInvariantLemmas.{held_by_entries, KeepsNumbers-polled, KeepsNumbers-new}
@@ -48,6 +51,17 @@ module _ {F A S : Type 0} where
         fits = omega (arith, slots, room);
         small = omega (arith, slots, small);
       }
+
+-- what a poll leaves of its task, as a queue asks it of its set
+pub set_pends : {F A S : Type 0} (steps : SourceSteps S) (needs : S → ℕ → Type 0) (registers : Context → Context → Type 0) (cx left : Context) (answer : Poll A) (set : Bounded (Numbered F) S) → OnPending answer (Covers left (needs set.source)) → OnPending answer (IsWoken left ⊎ (SaidEmpty steps set.source × registers cx left)) → OnPending answer (SetPends steps needs left set)
+set_pends steps needs registers cx left (Ready o) set covered woken = tt
+set_pends steps needs registers cx left Pending set covered (inl asked) = record { covered = covered; woken = inl asked }
+set_pends steps needs registers cx left Pending set covered (inr waits) = record { covered = covered; woken = inr waits.0 }
+
+-- the task of a pending queue hears of its source
+pub covered_of : {F A S : Type 0} (steps : SourceSteps S) (needs : S → ℕ → Type 0) (cx : Context) (answer : Poll A) (set : Bounded (Numbered F) S) → OnPending answer (SetPends steps needs cx set) → OnPending answer (Covers cx (λ n. (0 < held_in set) × needs set.source n))
+covered_of steps needs cx (Ready o) set pends = tt
+covered_of steps needs cx Pending set pends = (pends.covered.0, λ n waits. pends.covered.1 n waits.1)
 
 -- one item more came of all there are
 pub one_came : {X : Type 0} (so_far rest left all : List X) (item : X) → so_far ++ rest ≡ all → rest ≡ item ∷ left → (so_far ++ item ∷ []) ++ left ≡ all

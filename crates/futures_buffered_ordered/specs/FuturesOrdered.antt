@@ -16,7 +16,8 @@ use Rattle.futures_buffered_unordered.specs.FuturesUnordered.{AnyGroupMayGive}
 use Rattle.futures_buffered_unordered.specs.declared.slot_groups.TheConstants.{FIRST_GROUP}
 use Rattle.futures_buffered_unordered.specs.declared.slot_groups.TheConstants.{MAX_HELD}
 use Rattle.futures_buffered_ordered.specs.Numbered.{CanPollFuture, PollsNumbered, held_with}
-use Rattle.futures_buffered_ordered.specs.OrderedEntries.{Ordered, IsNewQueue, AddsEachBack, IsAtEnd}
+use Rattle.futures_buffered_ordered.specs.OrderedEntries.{Ordered, IsNewQueue, AddsEachBack}
+use Rattle.futures_buffered_ordered.specs.OrderedEntries.{IsAtEnd}
 use Rattle.futures_buffered_ordered.specs.declared.numbered.Numbered.{Numbered}
 
 -- the set that grows of numbered futures, the entries, and how many there is a place for

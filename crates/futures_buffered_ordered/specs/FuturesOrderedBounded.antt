@@ -1,6 +1,7 @@
 -- What a contract sees of a bounded ordered queue: the words on ordered queues at a bounded set.
-use Rattle.std.specs.Prelude.{◌≡◌, ℕ, ◌+◌, ◌*◌, ◌≤◌, List, [], ◌∷◌, length, Option, Some}
+use Rattle.std.specs.Prelude.{◌≡◌, ◌⊎◌, ℕ, ◌+◌, ◌*◌, ◌≤◌, List, [], ◌∷◌, length, Option, Some}
 use Rattle.std.specs.List.{FoldsTo}
+use Rattle.futures.specs.Task.{Covers}
 use Rattle.futures.specs.declared.task.context.Context.{Context}
 use Rattle.futures.specs.declared.task.Poll.{Poll}
 use Rattle.futures.specs.declared.task.Poll.TheVariants.{Ready, Pending}
@@ -8,8 +9,9 @@ use Rattle.futures_buffered_core.specs.SlotMap.{slot_count}
 use Rattle.futures_buffered_table.specs.declared.answer.Woke.{Woke}
 use Rattle.futures_buffered_core.specs.ReadySource.{SourceSteps}
 use Rattle.futures_buffered_unordered.specs.Held.{AllHeld, AnyMayGive}
-use Rattle.futures_buffered_unordered.specs.FuturesUnorderedBounded.{Bounded, IsNewSet}
-use Rattle.futures_buffered_unordered.specs.FuturesUnorderedBounded.{Pushes, PollGives, PollLeavesTask}
+use Rattle.futures_buffered_unordered.specs.FuturesUnorderedBounded.{Bounded, IsNewSet, Pushes}
+use Rattle.futures_buffered_unordered.specs.FuturesUnorderedBounded.{PollGives, PollLeavesTask}
+use Rattle.futures_buffered_unordered.specs.FuturesUnorderedBounded.{IsWoken, SaidEmpty}
 use Rattle.futures_buffered_unordered.specs.FuturesUnorderedBounded.{held_in, names_taken}
 use Rattle.futures_buffered_ordered.specs.Numbered.{CanPollFuture, PollsNumbered}
 use Rattle.futures_buffered_ordered.specs.OrderedEntries.{Ordered, IsNewQueue, AddsEachBack}
@@ -33,8 +35,20 @@ module _ {F S : Type 0} where
   SetIsFull set = held_in set ≡ slot_count set.slots
 
   -- as many slots, and the limit of names
-  abbrev pub SameSlots : Bounded (Numbered F) S → Bounded (Numbered F) S → Type 0
-  SameSlots old new = (slot_count new.slots ≡ slot_count old.slots) × (new.limit ≡ old.limit)
+  pub record SameSlots (old new : Bounded (Numbered F) S) : Type 0 where
+    pub capacity : slot_count new.slots ≡ slot_count old.slots
+    pub limit : new.limit ≡ old.limit
+
+  -- what a pending poll leaves of its task: it hears of the source, and it was asked to poll again
+  -- or no further name came
+  pub record SetPends
+      (steps : SourceSteps S)
+      (needs : S → ℕ → Type 0)
+      (left : Context)
+      (set : Bounded (Numbered F) S)
+      : Type 0 where
+    pub covered : Covers left (needs set.source)
+    pub woken : IsWoken left ⊎ SaidEmpty steps set.source
 
   -- as many futures are in progress as the queue has slots; outputs that are kept do not count
   abbrev pub QueueIsFull : {A : Type 0} → OrderedBounded F A S → Type 0

@@ -1,9 +1,14 @@
--- What it is to poll a future that carries the number of its entry, and how many futures of a
--- bounded set carry a number.
-use Rattle.std.specs.Prelude.{◌≡◌, ℕ, ◌==◌, cond, Bool, false, Option, Some, None, count_by}
+-- What it is to poll a future that carries the number of its entry, how many futures of a bounded
+-- set carry a number, and what the calls of any set of such futures make of it.
+use Rattle.std.specs.Prelude.{◌≡◌, ℕ, ◌+◌, ◌==◌, cond, Bool, false, Option, Some, None, count_by}
+use Rattle.std.specs.Prelude.{IfNone}
+use Rattle.futures.specs.Task.{Keeps}
+use Rattle.futures.specs.Poll.{IfReady, OnPending}
+use Rattle.futures.specs.declared.task.context.Context.{Context}
 use Rattle.futures.specs.declared.task.Poll.{Poll}
 use Rattle.futures.specs.declared.task.Poll.TheVariants.{Ready, Pending}
 use Rattle.futures_buffered_unordered.specs.FuturesUnorderedBounded.{Bounded}
+use Rattle.futures_buffered_unordered.specs.Groups.{outputs_in}
 use Rattle.futures_buffered_ordered.specs.declared.numbered.Numbered.{Numbered}
 
 -- the future may be polled
@@ -36,3 +41,63 @@ abbrev pub outputs_with : {A : Type 0} → ℕ → Poll (Option (ℕ × A)) → 
 outputs_with i Pending = 0
 outputs_with i (Ready None) = 0
 outputs_with i (Ready (Some out)) = one_at i out.0
+
+-- A push put the value, which carries its number, into a set, and took the set from old to new.
+pub record PushesInto
+    {F Q : Type 0}
+    (pushes : Q → F → ℕ → Q → Type 0)
+    (count : Q → ℕ)
+    (with_number : ℕ → Q → ℕ)
+    (keeps : Q → Q → Type 0)
+    (old : Q)
+    (value : Numbered F)
+    (new : Q)
+    : Type 0 where
+  -- the future went in, with its number
+  pub went_in : pushes old value.future value.number new
+  -- one future more is held
+  pub one_more : count new ≡ count old + 1
+  -- one more has this number, and of each other number there are as many as before
+  pub numbers : (i : ℕ) → with_number i new ≡ with_number i old + one_at i value.number
+  -- this stays of the set
+  pub set : keeps old new
+
+-- What one poll, from old to new, leaves of a set.
+pub record PollsNumberedSet
+    {Q A : Type 0}
+    (can_poll : Q → Type 0)
+    (count : Q → ℕ)
+    (with_number : ℕ → Q → ℕ)
+    (keeps : Q → Q → Type 0)
+    (old : Q)
+    (answer : Poll (Option (ℕ × A)))
+    (new : Q)
+    : Type 0 where
+  -- the end comes only where nothing is held
+  pub empty : IfReady answer (λ o. IfNone o (count old ≡ 0))
+  -- an output leaves one future fewer, and any other answer as many as before
+  pub fewer : count new + outputs_in answer ≡ count old
+  -- its number leaves with it, and of each other number there are as many as before
+  pub numbers : (i : ℕ) → with_number i new + outputs_with i answer ≡ with_number i old
+  -- each future that is held can be polled again
+  pub pollable : can_poll new
+  -- this stays of the set
+  pub set : keeps old new
+
+-- What that poll leaves of its task, which it took from cx to left: `pends` says what a pending one
+-- leaves of it, and `made` what each one does.
+pub record PollsNumberedTask
+    {Q A : Type 0}
+    (pends : Context → Q → Type 0)
+    (made : Q → Poll (Option (ℕ × A)) → Q → Context → Context → Type 0)
+    (old : Q)
+    (answer : Poll (Option (ℕ × A)))
+    (new : Q)
+    (cx left : Context)
+    : Type 0 where
+  -- the task of a pending set is left so
+  pub waits : OnPending answer (pends left new)
+  -- by each answer, what the poll made of the task
+  pub leaves : made old answer new cx left
+  -- nothing of the task is lost
+  pub kept : Keeps cx left

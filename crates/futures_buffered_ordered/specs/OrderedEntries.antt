@@ -1,10 +1,12 @@
 -- What a contract sees of an ordered queue, and what its calls make of it. The set that holds the
 -- futures in progress may be any that takes a number with a future and gives it back with the
 -- output.
-use Rattle.std.specs.Prelude.{◌≡◌, ◌≢◌, ◌⊎◌, ℕ, ◌+◌, ◌≤◌, ◌==◌, Bool, true, false, List, []}
+use Rattle.std.specs.Prelude.{◌≡◌, ◌≢◌, ◌⊎◌, ℕ, ◌+◌, ◌<◌, ◌≤◌, ◌==◌, Bool, true, false, List, []}
 use Rattle.std.specs.Prelude.{◌∷◌, ◌++◌, length, Option, Some, None, count_by, slice_set}
 use Rattle.std.specs.List.{FoldsTo, slice_get}
 use Rattle.std.specs.Iterator.{YieldsThen}
+use Rattle.futures.specs.Task.{Keeps}
+use Rattle.futures.specs.Poll.{OnPending}
 use Rattle.futures.specs.declared.task.context.Context.{Context}
 use Rattle.futures.specs.declared.task.Poll.{Poll}
 use Rattle.futures.specs.declared.task.Poll.TheVariants.{Ready, Pending}
@@ -70,6 +72,41 @@ module _ {Q A : Type 0} where
   -- nothing more goes in: the queue is as long as it may be, or its set refuses
   abbrev pub IsAtEnd : (Q → Type 0) → Ordered Q A → Type 0
   IsAtEnd set_refuses q = (length q.entries ≡ MAX_LEN) ⊎ set_refuses q.set
+
+  -- What one poll, from old to new, leaves of a queue: `count` says how many futures its set holds,
+  -- and `keeps` what stays of the set.
+  pub record PollsQueue
+      {B : Type 0}
+      (can_poll : Q → Type 0)
+      (count : Q → ℕ)
+      (keeps : Q → Q → Type 0)
+      (old : Ordered Q A)
+      (answer : Poll B)
+      (new : Ordered Q A)
+      : Type 0 where
+    -- each future in progress can be polled again
+    pub pollable : can_poll new.set
+    -- a pending queue has a future in progress
+    pub holds : OnPending answer (0 < count new.set)
+    -- this stays of the set
+    pub set : keeps old.set new.set
+    -- there is a place for as many entries as before
+    pub room : new.room ≡ old.room
+
+-- A push from old to new that does not go in hands this back.
+pub record HandsBack
+    {F Q A : Type 0}
+    (set_may_refuse : Q → Type 0)
+    (old : Ordered Q A)
+    (future back : F)
+    (new : Ordered Q A)
+    : Type 0 where
+  -- the future that was to go in
+  pub same : back ≡ future
+  -- no entry and no future has changed
+  pub stays : Stays old new
+  -- such a push may be refused
+  pub may_refuse : MayRefuse set_may_refuse old
 
 module _ {F Q A : Type 0} (pushes : Q → F → ℕ → Q → Type 0) where
   -- the future went into the set, with a number that no entry in progress had
@@ -153,12 +190,12 @@ with_task q cx = record { set = (q.set, cx); entries = q.entries; room = q.room 
 module _
     {Q A : Type 0}
     (gives : Q → Poll (Option (ℕ × A)) → Q → Type 0)
-    (leaves : Q → Poll (Option (ℕ × A)) → Q → Context → Context → Type 0)
+    (set_leaves : Q → Poll (Option (ℕ × A)) → Q → Context → Context → Type 0)
   where
     -- a poll of the set, and what it leaves of its task
     abbrev pub GivesWithTask : Q × Context → Poll (Option (ℕ × A)) → Q × Context → Type 0
     GivesWithTask old answer new =
-        gives old.0 answer new.0 × leaves old.0 answer new.0 old.1 new.1
+        gives old.0 answer new.0 × set_leaves old.0 answer new.0 old.1 new.1
 
     -- What one poll of a queue leaves of its task: what the polls of its set leave, one after
     -- another. Where the set is not polled, the task is as it was.
@@ -166,6 +203,25 @@ module _
         → Context → Context → Type 0
     OrderedLeavesTask count old answer new cx left = OrderedGives GivesWithTask
         (λ set. count set.0) (with_task old cx) answer (with_task new left)
+
+    -- What one poll leaves of its task, which it took from cx to left: `pends` says what a pending
+    -- poll of the set leaves of it.
+    pub record PollsQueueTask
+        (count : Q → ℕ)
+        (pends : Context → Q → Type 0)
+        (old : Ordered Q A)
+        (answer : Poll (Option A))
+        (new : Ordered Q A)
+        (cx left : Context)
+        : Type 0 where
+      -- the task of a pending queue is as the pending set leaves it
+      pub waits : OnPending answer (pends left new.set)
+      -- where the front is not in progress, the task is left alone
+      pub untouched : starts_running old.entries ≡ false → left ≡ cx
+      -- the polls of the set, one after another, made this of the task
+      pub leaves : OrderedLeavesTask count old answer new cx left
+      -- nothing of the task is lost
+      pub kept : Keeps cx left
 
 -- an output of each, in order, and then the end
 abbrev pub InTurn : {E A : Type 0} → (E → A → Type 0) → List E → Runs A

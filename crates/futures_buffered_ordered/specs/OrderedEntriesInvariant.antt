@@ -1,5 +1,6 @@
--- How an ordered queue finds the entry of a future. No public clause cites it.
-use Rattle.std.specs.Prelude.{◌≡◌, ℕ, ◌+◌, ◌-◌, ◌^◌, ◌%◌, ◌<◌, List, length, Some, count_by}
+-- How an ordered queue finds the entry of a future, and what its calls ask and keep of that. No
+-- public clause cites it.
+use Rattle.std.specs.Prelude.{◌≡◌, ℕ, ◌+◌, ◌-◌, ◌^◌, ◌%◌, ◌<◌, ◌≤◌, List, length, Some, count_by}
 use Rattle.std.specs.List.{slice_get}
 use Rattle.futures_buffered_ordered.specs.declared.ordered_entries.Entry.{Entry}
 use Rattle.futures_buffered_ordered.specs.declared.ordered_entries.Entry.TheVariants.{Running}
@@ -34,3 +35,31 @@ pub record KeepsNumbers
 abbrev pub IsNumbered : {Q A : Type 0} → (ℕ → Q → ℕ) → (Q → ℕ) → Numbering Q A → Type 0
 IsNumbered with_number count n =
     KeepsNumbers with_number count n.queue.set n.queue.entries n.outgoing
+
+-- What additions, from old to new, leave of a queue, whether they go in or not.
+pub record AddingKeeps
+    {Q A : Type 0}
+    (with_number : ℕ → Q → ℕ)
+    (count : Q → ℕ)
+    (keeps : Q → Q → Type 0)
+    (old new : Numbering Q A)
+    : Type 0 where
+  -- this stays of the set
+  pub set : keeps old.queue.set new.queue.set
+  -- there is a place for as many entries at least
+  pub room : old.queue.room ≤ new.queue.room
+  -- the numbers are in order
+  pub numbered : IsNumbered with_number count new
+
+-- The queue can be polled.
+pub record CanPollEntries
+    {Q A : Type 0}
+    (can_poll : Q → Type 0)
+    (with_number : ℕ → Q → ℕ)
+    (count : Q → ℕ)
+    (n : Numbering Q A)
+    : Type 0 where
+  -- each future in progress can be polled
+  pub can : can_poll n.queue.set
+  -- the numbers are in order
+  pub numbered : IsNumbered with_number count n

@@ -1,15 +1,13 @@
 //! A queue of any number of futures in progress, which yields outputs in the order of its entries.
 //!
 //! The futures stand in a set that grows by groups. Each has an entry in a list, to which pushes add at either end. A poll yields the front alone: an output that comes before its turn is kept in its entry.
-ghost use Rattle.std.specs.Prelude.{◌≡◌, ◌↔◌, ◌<◌, ◌≤◌, ◌+◌, ◌⊎◌, ℕ, List, [], length, max, false, Err, IfOk, IfErr, OnOk, OnErr, IsOk, IsErr, IsTrue};
+ghost use Rattle.std.specs.Prelude.{◌≡◌, ◌↔◌, ◌<◌, ◌≤◌, ◌⊎◌, ℕ, List, [], length, max, Err, IfOk, IfErr, OnOk, OnErr, IsOk, IsErr, IsTrue};
 ghost use Rattle.std.specs.Iterator.{IsFiniteIterable};
-ghost use Rattle.futures.specs.Task.{Keeps};
-ghost use Rattle.futures.specs.Poll.{OnPending};
 ghost use Rattle.futures_buffered_core.specs.Answer.{RefusesTooLarge};
 ghost use Rattle.futures_buffered_core.specs.Drawn.{Draws, SaysAtLeast};
 ghost use Rattle.futures_buffered_core.specs.ReadyShared.{IsNewShared, MarksShared, Shared};
 ghost use Rattle.futures_buffered_unordered.specs.SlotGroups.{EachCovered, no_groups};
-ghost use Rattle.futures_buffered_ordered.specs.OrderedEntries.{AddsBack, AddsEachBack, AddsFront, EachHasOne, IsAtEnd, MayRefuse, OrderedGives, OrderedLeavesTask, Stays, StopsAt, starts_running};
+ghost use Rattle.futures_buffered_ordered.specs.OrderedEntries.{AddsBack, AddsEachBack, AddsFront, EachHasOne, HandsBack, IsAtEnd, MayRefuse, OrderedGives, PollsQueue, PollsQueueTask, Stays, StopsAt};
 ghost use Rattle.futures_buffered_ordered.specs.FuturesOrdered.{EachInProgress, IsNewGrowingQueue, OrderedGrowing, GrowingPushesNumber, GroupsGiveNumbered, GroupsLeaveTaskNumbered, QueueStopsAtBound, SetMayRefuse, SetRefuses, held_in_groups, held_in_groups_with};
 
 use crate::numbered::{Numbered, PollNumbered};
@@ -27,8 +25,8 @@ use std::alloc::Global;
 use std::marker::Model;
 
 impl<T: Drop, S: NewSource> NumberedSet for FuturesUnordered<Numbered<T>, S> {
-    ghost use Rattle.std.proofs.Common.{◌≡◌, ℕ, ◌+◌, OnOk, OnErr, IfErr, IsErr, refl, ◌∙◌};
-    ghost use Rattle.futures_buffered_ordered.specs.Numbered.{one_at};
+    ghost use Rattle.std.proofs.Common.{◌≡◌, OnOk, OnErr, IfErr, IsErr, refl, ◌∙◌};
+    ghost use Rattle.futures_buffered_ordered.specs.Numbered.{PushesInto};
     ghost use Rattle.futures_buffered_ordered.specs.FuturesOrdered.{GrowingPushesNumber, SetMayRefuse, SetRefuses, held_in_groups, held_in_groups_with};
 
     type Future = T;
@@ -50,12 +48,9 @@ impl<T: Drop, S: NewSource> NumberedSet for FuturesUnordered<Numbered<T>, S> {
     }
 
     fn push_numbered(&mut self, value: Numbered<T>) -> Result<(), Numbered<T>>
-        ensures pushed { OnOk result
-            (GrowingPushesNumber S.marks S.made self.old value.future value.number self.new) }
-        ensures count { OnOk result (held_in_groups self.new ≡ held_in_groups self.old + 1) }
-        ensures numbers { OnOk result ((i : ℕ) → held_in_groups_with i self.new
-            ≡ held_in_groups_with i self.old + one_at i value.number) }
-        ensures keeps { OnOk result (self.new.limit ≡ self.old.limit) }
+        ensures pushed { OnOk result (PushesInto (GrowingPushesNumber S.marks S.made)
+            held_in_groups held_in_groups_with (λ old new. new.limit ≡ old.limit)
+            self.old value self.new) }
         ensures back { IfErr result (λ back. (back ≡ value) × (self.new ≡ self.old)) }
         ensures room { OnErr result (SetMayRefuse self.old) }
         ensures full { SetRefuses self.old → IsErr result }
@@ -76,7 +71,7 @@ impl<T: Drop, S: NewSource, R: PollOne<T, S::Waker>> PollNumberedSet<R>
 
     ghost gives = { GroupsGiveNumbered R.polled S.steps };
 
-    ghost pends = { λ cx set. EachCovered S.needs cx set.groups.listed };
+    ghost pends = { λ left set. EachCovered S.needs left set.groups.listed };
 
     ghost leaves = { GroupsLeaveTaskNumbered R.polled S.steps S.registers_poll };
 
@@ -145,8 +140,8 @@ impl<T: Drop, A: Drop, S: NewSource> GrowingQueue<T, A, S> {
     pub fn push_back(&mut self, future: T) -> Result<(), T>
         ensures pushed { OnOk result
             (AddsBack (GrowingPushesNumber S.marks S.made) self.old future self.new) }
-        ensures back { IfErr result (λ back. (back ≡ future) × Stays self.old self.new) }
-        ensures room { OnErr result (MayRefuse SetMayRefuse self.old) }
+        ensures back { IfErr result (λ back. HandsBack SetMayRefuse
+            self.old future back self.new) }
         ensures large { IsAtEnd SetRefuses self.old → IsErr result }
         ensures limit { self.new.set.limit ≡ self.old.set.limit }
     {
@@ -157,8 +152,8 @@ impl<T: Drop, A: Drop, S: NewSource> GrowingQueue<T, A, S> {
     pub fn push_front(&mut self, future: T) -> Result<(), T>
         ensures pushed { OnOk result
             (AddsFront (GrowingPushesNumber S.marks S.made) self.old future self.new) }
-        ensures back { IfErr result (λ back. (back ≡ future) × Stays self.old self.new) }
-        ensures room { OnErr result (MayRefuse SetMayRefuse self.old) }
+        ensures back { IfErr result (λ back. HandsBack SetMayRefuse
+            self.old future back self.new) }
         ensures large { IsAtEnd SetRefuses self.old → IsErr result }
         ensures limit { self.new.set.limit ≡ self.old.set.limit }
     {
@@ -220,17 +215,12 @@ impl<T: Drop, A: Drop, S: NewSource> GrowingQueue<T, A, S> {
         requires { EachInProgress R.can_poll self.old.set }
         ensures polled { OrderedGives (GroupsGiveNumbered R.polled S.steps) held_in_groups
             self.old result self.new }
-        ensures pollable { EachInProgress R.can_poll self.new.set }
-        ensures limit { self.new.set.limit ≡ self.old.set.limit }
-        ensures room { self.new.room ≡ self.old.room }
-        ensures holds { OnPending result (0 < held_in_groups self.new.set) }
-        ensures covered { OnPending result
-            (EachCovered S.needs cx.new self.new.set.groups.listed) }
-        ensures untouched { starts_running self.old.entries ≡ false → cx.new ≡ cx.old }
-        ensures leaves { OrderedLeavesTask (GroupsGiveNumbered R.polled S.steps)
+        ensures queue { PollsQueue (EachInProgress R.can_poll) held_in_groups
+            (λ old new. new.limit ≡ old.limit) self.old result self.new }
+        ensures task { PollsQueueTask (GroupsGiveNumbered R.polled S.steps)
             (GroupsLeaveTaskNumbered R.polled S.steps S.registers_poll) held_in_groups
+            (λ left set. EachCovered S.needs left set.groups.listed)
             self.old result self.new cx.old cx.new }
-        ensures kept { Keeps cx.old cx.new }
     {
         self.queue.poll_entries(rule, cx)
     }

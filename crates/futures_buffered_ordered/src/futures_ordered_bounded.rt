@@ -1,18 +1,16 @@
 //! A queue of as many futures in progress as it has slots, which yields outputs in the order of its entries.
 //!
 //! The futures stand in a bounded set. Each has an entry in a list, to which pushes add at either end. A poll yields the front alone: an output that comes before its turn is kept in its entry.
-ghost use Rattle.std.specs.Prelude.{◌≡◌, ◌↔◌, ◌<◌, ◌≤◌, ◌+◌, ◌⊎◌, ℕ, List, length, false, IfOk, IfErr, OnOk, IsOk, IsErr, IsTrue};
+ghost use Rattle.std.specs.Prelude.{◌≡◌, ◌↔◌, ◌<◌, ◌≤◌, List, length, IfOk, IfErr, OnOk, IsOk, IsErr, IsTrue};
 ghost use Rattle.std.specs.Iterator.{IsFiniteIterable};
-ghost use Rattle.futures.specs.Task.{Covers, Keeps};
-ghost use Rattle.futures.specs.Poll.{OnPending};
 ghost use Rattle.futures_buffered_core.specs.Answer.{RefusesTooLarge};
 ghost use Rattle.futures_buffered_core.specs.Drawn.{Draws, DrawsMoreThan};
 ghost use Rattle.futures_buffered_core.specs.ReadyShared.{IsNewShared, MarksShared};
 ghost use Rattle.futures_buffered_core.specs.SlotMap.{slot_count};
-ghost use Rattle.futures_buffered_unordered.specs.FuturesUnorderedBounded.{SaidEmpty, IsWoken, held_in};
+ghost use Rattle.futures_buffered_unordered.specs.FuturesUnorderedBounded.{held_in};
 ghost use Rattle.futures_buffered_ordered.specs.Numbered.{held_with};
-ghost use Rattle.futures_buffered_ordered.specs.OrderedEntries.{AddsBack, AddsEachBack, AddsFront, EachHasOne, OrderedGives, OrderedLeavesTask, Stays, StopsAt, starts_running};
-ghost use Rattle.futures_buffered_ordered.specs.FuturesOrderedBounded.{EachRunning, HoldsInOrder, QueueIsFull, IsNewBoundedQueue, PushesNumber, SameSlots, SetGives, SetIsFull, SetLeavesTask, TakesFewNames};
+ghost use Rattle.futures_buffered_ordered.specs.OrderedEntries.{AddsBack, AddsEachBack, AddsFront, EachHasOne, HandsBack, IsAtEnd, OrderedGives, PollsQueue, PollsQueueTask, StopsAt};
+ghost use Rattle.futures_buffered_ordered.specs.FuturesOrderedBounded.{EachRunning, HoldsInOrder, QueueIsFull, IsNewBoundedQueue, PushesNumber, SameSlots, SetGives, SetIsFull, SetLeavesTask, SetPends, TakesFewNames};
 
 use crate::numbered::{Numbered, PollNumbered};
 use crate::numbered_set::{NumberedSet, PollNumberedSet};
@@ -22,18 +20,16 @@ use futures::task::{Context, Poll};
 use futures_buffered_core::ready_core::{MAX_CAPACITY, NewFault, Woke};
 use futures_buffered_core::ready_shared::{SharedReady, SharedWaker};
 use futures_buffered_core::ready_source::{NewSource, ReadySource};
-use futures_buffered_unordered::futures_unordered_bounded::{
-    FuturesUnorderedBounded, POLL_LIMIT,
-};
+use futures_buffered_unordered::futures_unordered_bounded::{FuturesUnorderedBounded, POLL_LIMIT};
 use futures_buffered_unordered::poll_one::PollOne;
 use futures_buffered_unordered::slot_future::SlotFuture;
 use std::alloc::Global;
 use std::marker::Model;
 
 impl<T: Drop, S: ReadySource> NumberedSet for FuturesUnorderedBounded<Numbered<T>, S> {
-    ghost use Rattle.std.proofs.Common.{◌≡◌, ℕ, ◌+◌, OnOk, OnErr, IfErr, IsErr, refl, ◌∙◌};
+    ghost use Rattle.std.proofs.Common.{◌≡◌, OnOk, OnErr, IfErr, IsErr, refl, ◌∙◌};
     ghost use Rattle.futures_buffered_unordered.specs.FuturesUnorderedBounded.{held_in};
-    ghost use Rattle.futures_buffered_ordered.specs.Numbered.{held_with, one_at};
+    ghost use Rattle.futures_buffered_ordered.specs.Numbered.{PushesInto, held_with};
     ghost use Rattle.futures_buffered_ordered.specs.FuturesOrderedBounded.{PushesNumber, SameSlots, SetIsFull};
 
     type Future = T;
@@ -55,12 +51,8 @@ impl<T: Drop, S: ReadySource> NumberedSet for FuturesUnorderedBounded<Numbered<T
     }
 
     fn push_numbered(&mut self, value: Numbered<T>) -> Result<(), Numbered<T>>
-        ensures pushed { OnOk result
-            (PushesNumber S.marks self.old value.future value.number self.new) }
-        ensures count { OnOk result (held_in self.new ≡ held_in self.old + 1) }
-        ensures numbers { OnOk result ((i : ℕ) →
-            held_with i self.new ≡ held_with i self.old + one_at i value.number) }
-        ensures keeps { OnOk result (SameSlots self.old self.new) }
+        ensures pushed { OnOk result (PushesInto (PushesNumber S.marks) held_in held_with SameSlots
+            self.old value self.new) }
         ensures back { IfErr result (λ back. (back ≡ value) × (self.new ≡ self.old)) }
         ensures room { OnErr result (SetIsFull self.old) }
         ensures full { SetIsFull self.old → IsErr result }
@@ -68,9 +60,12 @@ impl<T: Drop, S: ReadySource> NumberedSet for FuturesUnorderedBounded<Numbered<T
         self.try_push(value)
     }
 
-    ghost keeps_self = { λ a. (refl, refl) };
+    ghost keeps_self = { λ a. record { capacity = refl; limit = refl } };
 
-    ghost keeps_on = { λ a b c first then. (then.0 ∙ first.0, then.1 ∙ first.1) };
+    ghost keeps_on = { λ a b c first then. record {
+      capacity = then.capacity ∙ first.capacity;
+      limit = then.limit ∙ first.limit;
+    } };
 }
 
 impl<T: Drop, S: ReadySource, R: PollOne<T, S::Waker>> PollNumberedSet<R>
@@ -81,8 +76,7 @@ impl<T: Drop, S: ReadySource, R: PollOne<T, S::Waker>> PollNumberedSet<R>
 
     ghost gives = { SetGives R.polled S.steps };
 
-    ghost pends = { λ cx set. Covers cx (S.needs set.source)
-        × (IsWoken cx ⊎ SaidEmpty S.steps set.source) };
+    ghost pends = { SetPends S.steps S.needs };
 
     ghost leaves = { SetLeavesTask R.polled S.steps S.registers_poll };
 
@@ -165,8 +159,8 @@ impl<T: Drop, A: Drop, S: ReadySource> BoundedQueue<T, A, S> {
         ensures marked { S.marks self.old.set.source i result self.new.set.source }
         ensures slots { self.new.set.slots ≡ self.old.set.slots }
         ensures limit { self.new.set.limit ≡ self.old.set.limit }
-        ensures entries { self.new.entries ≡ self.old.entries }
-        ensures room { self.new.room ≡ self.old.room }
+        ensures entries { (self.new.entries ≡ self.old.entries)
+            × (self.new.room ≡ self.old.room) }
     {
         self.queue.set.mark_slot(i)
     }
@@ -176,9 +170,8 @@ impl<T: Drop, A: Drop, S: ReadySource> BoundedQueue<T, A, S> {
     /// The future comes back, and no entry has changed, where the queue is full, where it has `MAX_LEN` entries, and where a request for memory was refused. Asks for memory only where there are more entries than ever before, and as many as slots: so it succeeds wherever `len` is below `capacity`. Polls nothing, and wakes nobody.
     pub fn try_push_back(&mut self, future: T) -> Result<(), T>
         ensures pushed { OnOk result (AddsBack (PushesNumber S.marks) self.old future self.new) }
-        ensures back { IfErr result (λ back. (back ≡ future) × Stays self.old self.new) }
-        ensures full { QueueIsFull self.old → IsErr result }
-        ensures long { length self.old.entries ≡ MAX_LEN → IsErr result }
+        ensures back { IfErr result (λ back. HandsBack SetIsFull self.old future back self.new) }
+        ensures large { IsAtEnd SetIsFull self.old → IsErr result }
         ensures room { length self.old.entries < slot_count self.old.set.slots → IsOk result }
         ensures capacity { slot_count self.new.set.slots ≡ slot_count self.old.set.slots }
     {
@@ -188,9 +181,8 @@ impl<T: Drop, A: Drop, S: ReadySource> BoundedQueue<T, A, S> {
     /// As `try_push_back`, before all others: its output is the next to be yielded.
     pub fn try_push_front(&mut self, future: T) -> Result<(), T>
         ensures pushed { OnOk result (AddsFront (PushesNumber S.marks) self.old future self.new) }
-        ensures back { IfErr result (λ back. (back ≡ future) × Stays self.old self.new) }
-        ensures full { QueueIsFull self.old → IsErr result }
-        ensures long { length self.old.entries ≡ MAX_LEN → IsErr result }
+        ensures back { IfErr result (λ back. HandsBack SetIsFull self.old future back self.new) }
+        ensures large { IsAtEnd SetIsFull self.old → IsErr result }
         ensures room { length self.old.entries < slot_count self.old.set.slots → IsOk result }
         ensures capacity { slot_count self.new.set.slots ≡ slot_count self.old.set.slots }
     {
@@ -247,19 +239,11 @@ impl<T: Drop, A: Drop, S: ReadySource> BoundedQueue<T, A, S> {
         requires { EachRunning R.can_poll self.old.set }
         ensures polled { OrderedGives (SetGives R.polled S.steps) held_in
             self.old result self.new }
-        ensures pollable { EachRunning R.can_poll self.new.set }
-        ensures capacity { slot_count self.new.set.slots ≡ slot_count self.old.set.slots }
-        ensures limit { self.new.set.limit ≡ self.old.set.limit }
-        ensures room { self.new.room ≡ self.old.room }
-        ensures holds { OnPending result (0 < held_in self.new.set) }
-        ensures covered { OnPending result (Covers cx.new (S.needs self.new.set.source)) }
-        ensures woken { OnPending result
-            (IsWoken cx.new ⊎ SaidEmpty S.steps self.new.set.source) }
-        ensures untouched { starts_running self.old.entries ≡ false → cx.new ≡ cx.old }
-        ensures leaves { OrderedLeavesTask (SetGives R.polled S.steps)
+        ensures queue { PollsQueue (EachRunning R.can_poll) held_in SameSlots
+            self.old result self.new }
+        ensures task { PollsQueueTask (SetGives R.polled S.steps)
             (SetLeavesTask R.polled S.steps S.registers_poll) held_in
-            self.old result self.new cx.old cx.new }
-        ensures kept { Keeps cx.old cx.new }
+            (SetPends S.steps S.needs) self.old result self.new cx.old cx.new }
     {
         self.queue.poll_entries(rule, cx)
     }

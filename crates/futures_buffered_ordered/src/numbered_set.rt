@@ -1,9 +1,6 @@
 //! What an ordered queue asks of the set that holds its futures in progress.
-ghost use Rattle.std.specs.Prelude.{◌≡◌, ◌↔◌, ◌+◌, ℕ, Option, OnOk, OnErr, IfErr, IfNone, IsErr, IsTrue};
-ghost use Rattle.futures.specs.Task.{Keeps};
-ghost use Rattle.futures.specs.Poll.{IfReady, OnPending};
-ghost use Rattle.futures_buffered_unordered.specs.Groups.{outputs_in};
-ghost use Rattle.futures_buffered_ordered.specs.Numbered.{one_at, outputs_with};
+ghost use Rattle.std.specs.Prelude.{◌≡◌, ◌↔◌, ℕ, Option, OnOk, OnErr, IfErr, IsErr, IsTrue};
+ghost use Rattle.futures_buffered_ordered.specs.Numbered.{PollsNumberedSet, PollsNumberedTask, PushesInto};
 
 use crate::numbered::Numbered;
 use futures::task::{Context, Poll};
@@ -39,11 +36,8 @@ pub trait NumberedSet: Drop {
 
     /// Puts the future in, with its number. It comes back, and nothing has changed, where it is refused.
     fn push_numbered(&mut self, value: Numbered<Self::Future>) -> Result<(), Numbered<Self::Future>>
-        ensures pushed { OnOk result (pushes self.old value.future value.number self.new) }
-        ensures count { OnOk result (count self.new ≡ count self.old + 1) }
-        ensures numbers { OnOk result ((i : ℕ) →
-            with_number i self.new ≡ with_number i self.old + one_at i value.number) }
-        ensures keeps { OnOk result (keeps self.old self.new) }
+        ensures pushed { OnOk result
+            (PushesInto pushes count with_number keeps self.old value self.new) }
         ensures back { IfErr result (λ back. (back ≡ value) × (self.new ≡ self.old)) }
         ensures room { OnErr result (may_refuse self.old) }
         ensures full { refuses self.old → IsErr result };
@@ -81,13 +75,7 @@ pub trait PollNumberedSet<R>: NumberedSet {
     ) -> Poll<Option<(usize, Self::Output)>>
         requires { can_poll self.old }
         ensures gave { gives self.old result self.new }
-        ensures empty { IfReady result (λ o. IfNone o (Self.count self.old ≡ 0)) }
-        ensures count { Self.count self.new + outputs_in result ≡ Self.count self.old }
-        ensures numbers { (i : ℕ) →
-            Self.with_number i self.new + outputs_with i result ≡ Self.with_number i self.old }
-        ensures keeps { Self.keeps self.old self.new }
-        ensures again { can_poll self.new }
-        ensures pends { OnPending result (pends cx.new self.new) }
-        ensures leaves { leaves self.old result self.new cx.old cx.new }
-        ensures kept { Keeps cx.old cx.new };
+        ensures set { PollsNumberedSet can_poll Self.count Self.with_number Self.keeps
+            self.old result self.new }
+        ensures task { PollsNumberedTask pends leaves self.old result self.new cx.old cx.new };
 }

@@ -1,14 +1,14 @@
 //! The entries of an ordered queue, over any set that takes a number with each future.
 //!
 //! Pushes add an entry at either end. A poll yields the front alone: an output that comes before its turn is kept in its entry.
-ghost use Rattle.std.specs.Prelude.{◌≡◌, ◌↔◌, ◌<◌, ◌≤◌, ◌+◌, ℕ, List, [], ◌∷◌, length, true, false, IfOk, IfErr, OnOk, OnErr, IsOk, IsErr, IsTrue, MatchOption};
+ghost use Rattle.std.specs.Prelude.{◌≡◌, ◌↔◌, ◌<◌, ◌≤◌, ◌+◌, ℕ, List, [], ◌∷◌, length, true, false, IfOk, IfErr, OnOk, IsOk, IsErr, IsTrue, MatchOption};
 ghost use Rattle.std.specs.Iterator.{IsFiniteIterable};
 ghost use Rattle.futures.specs.Task.{Keeps};
 ghost use Rattle.futures.specs.Poll.{IfReady, OnPending};
 ghost use Rattle.futures_buffered_core.specs.Drawn.{Draws};
 ghost use Rattle.futures_buffered_ordered.specs.declared.ordered_entries.Entry.TheVariants.{Kept};
-ghost use Rattle.futures_buffered_ordered.specs.OrderedEntries.{AddsBack, AddsEachBack, AddsFront, GivesWithTask, IsAtEnd, LastStep, MayRefuse, OrderedGives, OrderedLeavesTask, SetYields, Stays, StopsAt, starts_running, with_task};
-ghost use Rattle.futures_buffered_ordered.specs.OrderedEntriesInvariant.{IsNumbered};
+ghost use Rattle.futures_buffered_ordered.specs.OrderedEntries.{AddsBack, AddsEachBack, AddsFront, GivesWithTask, HandsBack, IsAtEnd, LastStep, MayRefuse, OrderedGives, PollsQueue, PollsQueueTask, SetYields, Stays, StopsAt, starts_running, with_task};
+ghost use Rattle.futures_buffered_ordered.specs.OrderedEntriesInvariant.{AddingKeeps, CanPollEntries, IsNumbered};
 
 use crate::numbered::Numbered;
 use crate::numbered_set::{NumberedSet, PollNumberedSet};
@@ -132,13 +132,10 @@ impl<Q: NumberedSet, A: Drop> OrderedEntries<Q, A> {
     pub fn add_back(&mut self, future: Q::Future) -> Result<(), Q::Future>
         requires { IsNumbered Q.with_number Q.count self.old }
         ensures pushed { OnOk result (AddsBack Q.pushes self.old.queue future self.new.queue) }
-        ensures back { IfErr result (λ back. (back ≡ future)
-            × Stays self.old.queue self.new.queue) }
-        ensures room { OnErr result (MayRefuse Q.may_refuse self.old.queue) }
+        ensures back { IfErr result (λ back. HandsBack Q.may_refuse
+            self.old.queue future back self.new.queue) }
         ensures large { IsAtEnd Q.refuses self.old.queue → IsErr result }
-        ensures keeps { Q.keeps self.old.queue.set self.new.queue.set }
-        ensures more { self.old.queue.room ≤ self.new.queue.room }
-        ensures numbered { IsNumbered Q.with_number Q.count self.new }
+        ensures keeps { AddingKeeps Q.with_number Q.count Q.keeps self.old self.new }
     {
         if !self.reserve_entry() {
             return Err(future);
@@ -157,13 +154,10 @@ impl<Q: NumberedSet, A: Drop> OrderedEntries<Q, A> {
     pub fn add_front(&mut self, future: Q::Future) -> Result<(), Q::Future>
         requires { IsNumbered Q.with_number Q.count self.old }
         ensures pushed { OnOk result (AddsFront Q.pushes self.old.queue future self.new.queue) }
-        ensures back { IfErr result (λ back. (back ≡ future)
-            × Stays self.old.queue self.new.queue) }
-        ensures room { OnErr result (MayRefuse Q.may_refuse self.old.queue) }
+        ensures back { IfErr result (λ back. HandsBack Q.may_refuse
+            self.old.queue future back self.new.queue) }
         ensures large { IsAtEnd Q.refuses self.old.queue → IsErr result }
-        ensures keeps { Q.keeps self.old.queue.set self.new.queue.set }
-        ensures more { self.old.queue.room ≤ self.new.queue.room }
-        ensures numbered { IsNumbered Q.with_number Q.count self.new }
+        ensures keeps { AddingKeeps Q.with_number Q.count Q.keeps self.old self.new }
     {
         if !self.reserve_entry() {
             return Err(future);
@@ -191,9 +185,7 @@ impl<Q: NumberedSet, A: Drop> OrderedEntries<Q, A> {
             × AddsEachBack Q.pushes self.old.queue items self.new.queue) }
         ensures stops { IfErr result (λ back. StopsAt Q.pushes Q.may_refuse I.into_iter_gives
             I.IntoIter.next_gives iter self.old.queue back self.new.queue) }
-        ensures keeps { Q.keeps self.old.queue.set self.new.queue.set }
-        ensures more { self.old.queue.room ≤ self.new.queue.room }
-        ensures numbered { IsNumbered Q.with_number Q.count self.new }
+        ensures keeps { AddingKeeps Q.with_number Q.count Q.keeps self.old self.new }
     {
         for item in iter {
             self.add_back(item)?;
@@ -226,9 +218,8 @@ impl<Q: NumberedSet, A: Drop> OrderedEntries<Q, A> {
     fn keep_next<R>(&mut self, rule: &R, cx: &mut Context<'_>) -> Poll<()>
     where
         Q: PollNumberedSet<R, Output = A>,
-        requires can { Q.can_poll self.old.queue.set }
+        requires can { CanPollEntries Q.can_poll Q.with_number Q.count self.old }
         requires runs { starts_running self.old.queue.entries ≡ true }
-        requires numbered { IsNumbered Q.with_number Q.count self.old }
         ensures gave { IfReady result (λ _. (out : ℕ × A)
             × SetYields (GivesWithTask Q.gives Q.leaves)
             (with_task self.old.queue cx.old) out (with_task self.new.queue cx.new)) }
@@ -236,10 +227,8 @@ impl<Q: NumberedSet, A: Drop> OrderedEntries<Q, A> {
             (with_task self.old.queue cx.old) Poll.Pending (with_task self.new.queue cx.new)) }
         ensures fewer { IfReady result (λ _.
             Q.count self.new.queue.set + 1 ≡ Q.count self.old.queue.set) }
-        ensures holds { OnPending result (0 < Q.count self.new.queue.set) }
-        ensures pollable { Q.can_poll self.new.queue.set }
-        ensures keeps { Q.keeps self.old.queue.set self.new.queue.set }
-        ensures same_room { self.new.queue.room ≡ self.old.queue.room }
+        ensures queue { PollsQueue Q.can_poll Q.count Q.keeps
+            self.old.queue result self.new.queue }
         ensures pends { OnPending result (Q.pends cx.new self.new.queue.set) }
         ensures kept { Keeps cx.old cx.new }
         ensures numbered { IsNumbered Q.with_number Q.count self.new }
@@ -261,18 +250,12 @@ impl<Q: NumberedSet, A: Drop> OrderedEntries<Q, A> {
     pub fn poll_entries<R>(&mut self, rule: &R, cx: &mut Context<'_>) -> Poll<Option<A>>
     where
         Q: PollNumberedSet<R, Output = A>,
-        requires can { Q.can_poll self.old.queue.set }
-        requires numbered { IsNumbered Q.with_number Q.count self.old }
+        requires { CanPollEntries Q.can_poll Q.with_number Q.count self.old }
         ensures polled { OrderedGives Q.gives Q.count self.old.queue result self.new.queue }
-        ensures pollable { Q.can_poll self.new.queue.set }
-        ensures keeps { Q.keeps self.old.queue.set self.new.queue.set }
-        ensures same_room { self.new.queue.room ≡ self.old.queue.room }
-        ensures holds { OnPending result (0 < Q.count self.new.queue.set) }
-        ensures pends { OnPending result (Q.pends cx.new self.new.queue.set) }
-        ensures untouched { starts_running self.old.queue.entries ≡ false → cx.new ≡ cx.old }
-        ensures leaves { OrderedLeavesTask Q.gives Q.leaves Q.count
+        ensures queue { PollsQueue Q.can_poll Q.count Q.keeps
+            self.old.queue result self.new.queue }
+        ensures task { PollsQueueTask Q.gives Q.leaves Q.count Q.pends
             self.old.queue result self.new.queue cx.old cx.new }
-        ensures kept { Keeps cx.old cx.new }
         ensures numbered { IsNumbered Q.with_number Q.count self.new }
     {
         while self.front_runs() {

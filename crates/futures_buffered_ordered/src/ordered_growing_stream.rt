@@ -1,10 +1,8 @@
 //! The ordered queue that grows as a stream, which says how much is left and whether it has ended.
-ghost use Rattle.std.specs.Prelude.{◌≡◌, [], false, length, OnSome, IfSome};
-ghost use Rattle.futures.specs.Task.{Covers, Keeps};
-ghost use Rattle.futures.specs.Runs.{After, Within};
-ghost use Rattle.futures.specs.Poll.{IfReady, OnPending};
-ghost use Rattle.futures_buffered_unordered.specs.SlotGroups.{AnyNeeds};
-ghost use Rattle.futures_buffered_ordered.specs.OrderedEntries.{ComesInOrder, OrderedGives, OrderedLeavesTask, starts_running};
+ghost use Rattle.std.specs.Prelude.{◌≡◌, length};
+ghost use Rattle.futures_buffered_unordered.specs.StreamAnswers.{StreamAnswers};
+ghost use Rattle.futures_buffered_unordered.specs.SlotGroups.{AnyNeeds, EachCovered};
+ghost use Rattle.futures_buffered_ordered.specs.OrderedEntries.{ComesInOrder, OrderedGives, PollsQueue, PollsQueueTask};
 ghost use Rattle.futures_buffered_ordered.specs.FuturesOrdered.{EachInProgress, GroupsGiveNumbered, GroupsLeaveTaskNumbered, GrowingMayGive, held_in_groups};
 
 use crate::futures_ordered::GrowingQueue;
@@ -35,24 +33,15 @@ where
         requires { EachInProgress T.can_poll self.old.set }
         ensures polled { OrderedGives (GroupsGiveNumbered T.polled S.steps) held_in_groups
             self.old result self.new }
-        ensures value { IfReady result (ComesInOrder (GrowingMayGive T.polled) self.old []) }
-        ensures rest { IfReady result (λ o. IfSome o (λ x.
-            After (ComesInOrder (GrowingMayGive T.polled) self.old) x
-            (ComesInOrder (GrowingMayGive T.polled) self.new))) }
-        ensures same { OnPending result
-            (Within (ComesInOrder (GrowingMayGive T.polled) self.old)
-            (ComesInOrder (GrowingMayGive T.polled) self.new)) }
-        ensures limit { self.new.set.limit ≡ self.old.set.limit }
-        ensures room { self.new.room ≡ self.old.room }
-        ensures goes { IfReady result (λ o. OnSome o (EachInProgress T.can_poll self.new.set)) }
-        ensures again { OnPending result (EachInProgress T.can_poll self.new.set) }
-        ensures registered { OnPending result
-            (Covers cx.new (AnyNeeds S.needs self.new.set.groups.listed)) }
-        ensures untouched { starts_running self.old.entries ≡ false → cx.new ≡ cx.old }
-        ensures leaves { OrderedLeavesTask (GroupsGiveNumbered T.polled S.steps)
+        ensures stream { StreamAnswers (λ q. EachInProgress T.can_poll q.set)
+            (λ q. AnyNeeds S.needs q.set.groups.listed)
+            (ComesInOrder (GrowingMayGive T.polled)) self.old result self.new cx.old cx.new }
+        ensures queue { PollsQueue (EachInProgress T.can_poll) held_in_groups
+            (λ old new. new.limit ≡ old.limit) self.old result self.new }
+        ensures task { PollsQueueTask (GroupsGiveNumbered T.polled S.steps)
             (GroupsLeaveTaskNumbered T.polled S.steps S.registers_poll) held_in_groups
+            (λ left set. EachCovered S.needs left set.groups.listed)
             self.old result self.new cx.old cx.new }
-        ensures kept { Keeps cx.old cx.new }
     {
         self.poll_with(&PollFuture, cx)
     }

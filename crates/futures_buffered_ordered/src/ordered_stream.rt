@@ -1,12 +1,9 @@
 //! The bounded ordered queue as a stream, which says how much is left and whether it has ended.
-ghost use Rattle.std.specs.Prelude.{◌≡◌, ◌<◌, ◌⊎◌, [], false, length, OnSome, IfSome};
-ghost use Rattle.futures.specs.Task.{Covers, Keeps};
-ghost use Rattle.futures.specs.Runs.{After, Within};
-ghost use Rattle.futures.specs.Poll.{IfReady, OnPending};
-ghost use Rattle.futures_buffered_core.specs.SlotMap.{slot_count};
-ghost use Rattle.futures_buffered_unordered.specs.FuturesUnorderedBounded.{SaidEmpty, IsWoken, held_in};
-ghost use Rattle.futures_buffered_ordered.specs.OrderedEntries.{ComesInOrder, OrderedGives, OrderedLeavesTask, starts_running};
-ghost use Rattle.futures_buffered_ordered.specs.FuturesOrderedBounded.{EachRunning, SetGives, SetLeavesTask, SetMayGive};
+ghost use Rattle.std.specs.Prelude.{◌<◌, length};
+ghost use Rattle.futures_buffered_unordered.specs.StreamAnswers.{StreamAnswers};
+ghost use Rattle.futures_buffered_unordered.specs.FuturesUnorderedBounded.{held_in};
+ghost use Rattle.futures_buffered_ordered.specs.OrderedEntries.{ComesInOrder, OrderedGives, PollsQueue, PollsQueueTask};
+ghost use Rattle.futures_buffered_ordered.specs.FuturesOrderedBounded.{EachRunning, SameSlots, SetGives, SetLeavesTask, SetMayGive, SetPends};
 
 use crate::futures_ordered_bounded::BoundedQueue;
 use futures::Stream;
@@ -36,26 +33,14 @@ where
         requires { EachRunning T.can_poll self.old.set }
         ensures polled { OrderedGives (SetGives T.polled S.steps) held_in
             self.old result self.new }
-        ensures value { IfReady result (ComesInOrder (SetMayGive T.polled) self.old []) }
-        ensures rest { IfReady result (λ o. IfSome o (λ x.
-            After (ComesInOrder (SetMayGive T.polled) self.old) x
-            (ComesInOrder (SetMayGive T.polled) self.new))) }
-        ensures same { OnPending result
-            (Within (ComesInOrder (SetMayGive T.polled) self.old)
-            (ComesInOrder (SetMayGive T.polled) self.new)) }
-        ensures capacity { slot_count self.new.set.slots ≡ slot_count self.old.set.slots }
-        ensures limit { self.new.set.limit ≡ self.old.set.limit }
-        ensures room { self.new.room ≡ self.old.room }
-        ensures goes { IfReady result (λ o. OnSome o (EachRunning T.can_poll self.new.set)) }
-        ensures again { OnPending result (EachRunning T.can_poll self.new.set) }
-        ensures registered { OnPending result (Covers cx.new (S.needs self.new.set.source)) }
-        ensures woken { OnPending result
-            (IsWoken cx.new ⊎ SaidEmpty S.steps self.new.set.source) }
-        ensures untouched { starts_running self.old.entries ≡ false → cx.new ≡ cx.old }
-        ensures leaves { OrderedLeavesTask (SetGives T.polled S.steps)
+        ensures stream { StreamAnswers (λ q. EachRunning T.can_poll q.set)
+            (λ q n. (0 < held_in q.set) × S.needs q.set.source n)
+            (ComesInOrder (SetMayGive T.polled)) self.old result self.new cx.old cx.new }
+        ensures queue { PollsQueue (EachRunning T.can_poll) held_in SameSlots
+            self.old result self.new }
+        ensures task { PollsQueueTask (SetGives T.polled S.steps)
             (SetLeavesTask T.polled S.steps S.registers_poll) held_in
-            self.old result self.new cx.old cx.new }
-        ensures kept { Keeps cx.old cx.new }
+            (SetPends S.steps S.needs) self.old result self.new cx.old cx.new }
     {
         self.poll_with(&PollFuture, cx)
     }

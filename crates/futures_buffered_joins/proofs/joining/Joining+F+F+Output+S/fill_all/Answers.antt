@@ -31,7 +31,7 @@ returns-in-Pending-clause-task g c =
     let more = registers_more g.S.ReadySource.registers_poll _ _ _ so.only_registered in
     let once = registers_once g.S.ReadySource.registers_poll _ _ c.places.self.set.source in
     record {
-      registered = task.registered;
+      registered = task.covered;
       woken = elim task.woken [ inl woken ↦ inl woken | inr empty ↦ inr empty.0 ];
       leaves = (
         so.row,

@@ -9,12 +9,12 @@ returns-in-Ready-clause-ready g c =
     let source = g.S.ReadySource in
     record {
       output = (c.in-Ready.i, c.in-Ready.output);
-      fills = fills_place future.polled source.steps (λ x. x) c.args.self.now c.fill.new.self _ c.poll_first.new.self _ _ _ c.in-Ready.i c.in-Ready.output (sym c.self.view_is) c.self.invariant c.in-Ready.ensures.polled c.in-Ready.ensures.same_slots (some_from_end (future.polled c.in-Ready.i) _ _ c.in-Ready.ensures.last) c.fill.ensures.set c.fill.ensures.outputs;
-      again = rw c.fill.ensures.set (held_once_empty future.can_poll c.poll_first.new.self.slots c.in-Ready.i c.in-Ready.ensures.others);
+      fills = fills_place future.polled source.steps (λ x. x) c.args.self.now c.fill.new.self _ c.poll_first.new.self _ _ _ c.in-Ready.i c.in-Ready.output (sym c.self.view_is) c.self.invariant c.in-Ready.ensures.polled c.in-Ready.ensures.set.same_slots (some_from_end (future.polled c.in-Ready.i) _ _ c.in-Ready.ensures.set.last) c.fill.ensures.set c.fill.ensures.outputs;
+      again = rw c.fill.ensures.set (held_once_empty future.can_poll c.poll_first.new.self.slots c.in-Ready.i c.in-Ready.ensures.set.others);
       fewer = search rules;
     }
 
 pub returns-in-Pending-clause-task : goal.returns-in-Pending-clause-task
 returns-in-Pending-clause-task g c =
-    let pending = c.in-Pending.ensures in
-    rw (← c.self.view_is) (record { registered = pending.covered; woken = pending.woken; leaves = pending.leaves; only_registered = tt; kept = pending.kept })
+    let task = c.in-Pending.ensures.task in
+    rw (← c.self.view_is) (record { covered = task.covered; woken = task.woken; leaves = task.leaves; only_registered = tt; kept = task.kept })

@@ -9,7 +9,7 @@ places-preserved g c =
     let future = g.F.SlotFuture in
     let source = g.S.ReadySource in
     let so = c.places.invariant in
-    let ready = rw c.in-Ready-Ok.field-0-is at c.in-Ready-Ok.ensures.ready in
+    let ready = rw c.in-Ready-Ok.field-0-is at c.in-Ready-Ok.ensures.ready.filled in
     record {
       row = so.row ++ ready.output ∷ [];
       filled = FoldsTo-push (Fills future.polled source.steps Ok) c.args.self.now so.row c.places.self ready.output c.try_fill_one.new.self so.filled ready.fills;
@@ -18,8 +18,12 @@ places-preserved g c =
       kept = λ fact h. c.try_fill_one.ensures.task.kept fact (so.kept fact h);
     }
 
-pub returns-in-Ready-Err-clause-fails : goal.returns-in-Ready-Err-clause-fails
-returns-in-Ready-Err-clause-fails g c = record { row = c.places.invariant.row; before = c.places.self; filled = c.places.invariant.filled; fails = rw c.in-Ready-Err.field-0-is at c.in-Ready-Err.ensures.fails }
+pub returns-in-Ready-Err-clause-ready : goal.returns-in-Ready-Err-clause-ready
+returns-in-Ready-Err-clause-ready g c =
+    record {
+      filled = tt;
+      failed = record { row = c.places.invariant.row; before = c.places.self; filled = c.places.invariant.filled; fails = rw c.in-Ready-Err.field-0-is at c.in-Ready-Err.ensures.ready.failed };
+    }
 
 pub returns-in-Pending-clause-pending : goal.returns-in-Pending-clause-pending
 returns-in-Pending-clause-pending g c =
@@ -34,7 +38,7 @@ returns-in-Pending-clause-task g c =
     let more = registers_more g.S.ReadySource.registers_poll _ _ _ so.only_registered in
     let once = registers_once g.S.ReadySource.registers_poll _ _ c.places.self.set.source in
     record {
-      registered = task.registered;
+      registered = task.covered;
       woken = elim task.woken [ inl woken ↦ inl woken | inr empty ↦ inr empty.0 ];
       leaves = (
         so.row,

@@ -4,11 +4,11 @@ use Rattle.futures_buffered_unordered.proofs.HeldLemmas.{some_from_end}
 use Rattle.futures_buffered_joins.proofs.JoiningLemmas.{fills_place, fails_place}
 use Rattle.futures_buffered_joins.proofs.joining.Joining.try_fill_one.Goals as goal
 
-pub returns-in-Ready-default-Err-clause-fails : goal.returns-in-Ready-default-Err-clause-fails
-returns-in-Ready-default-Err-clause-fails g c =
+pub returns-in-Ready-default-Err-clause-ready : goal.returns-in-Ready-default-Err-clause-ready
+returns-in-Ready-default-Err-clause-ready g c =
     let future = g.F.SlotFuture in
     let source = g.S.ReadySource in
-    fails_place future.polled source.steps c.args.self.now _ c.poll_first.new.self _ c.in-Ready-default-Err.field-0-0 c.in-Ready-default-Err.field-0-1 c.in-Ready-default-Err.error (sym c.self.view_is) c.in-Ready-default-Err.field-0-1-is c.in-Ready-default-Err.ensures.polled
+    record { filled = tt; failed = fails_place future.polled source.steps c.args.self.now _ c.poll_first.new.self _ c.in-Ready-default-Err.field-0-0 c.in-Ready-default-Err.field-0-1 c.in-Ready-default-Err.error (sym c.self.view_is) c.in-Ready-default-Err.field-0-1-is c.in-Ready-default-Err.ensures.polled }
 
 pub returns-in-Ready-default-Ok-clause-ready : goal.returns-in-Ready-default-Ok-clause-ready
 returns-in-Ready-default-Ok-clause-ready g c =
@@ -16,13 +16,16 @@ returns-in-Ready-default-Ok-clause-ready g c =
     let source = g.S.ReadySource in
     let way = c.in-Ready-default-Ok in
     record {
-      output = (way.i, way.output);
-      fills = fills_place future.polled source.steps Ok c.args.self.now c.fill.new.self _ c.poll_first.new.self _ _ _ way.i way.output (sym c.self.view_is) c.self.invariant (rw way.field-0-1-is at way.ensures.polled) way.ensures.same_slots (some_from_end (future.polled way.i) _ _ way.ensures.last) c.fill.ensures.set c.fill.ensures.outputs;
-      again = grind (arith, common_steps);
-      fewer = grind (arith, common_steps);
+      filled = record {
+        output = (way.i, way.output);
+        fills = fills_place future.polled source.steps Ok c.args.self.now c.fill.new.self _ c.poll_first.new.self _ _ _ way.i way.output (sym c.self.view_is) c.self.invariant (rw way.field-0-1-is at way.ensures.polled) way.ensures.set.same_slots (some_from_end (future.polled way.i) _ _ way.ensures.set.last) c.fill.ensures.set c.fill.ensures.outputs;
+        again = grind (arith, common_steps);
+        fewer = grind (arith, common_steps);
+      };
+      failed = tt;
     }
 
 pub returns-in-Pending-clause-task : goal.returns-in-Pending-clause-task
 returns-in-Pending-clause-task g c =
-    let pending = c.in-Pending.ensures in
-    rw (← c.self.view_is) (record { registered = pending.covered; woken = pending.woken; leaves = pending.leaves; only_registered = tt; kept = pending.kept })
+    let task = c.in-Pending.ensures.task in
+    rw (← c.self.view_is) (record { covered = task.covered; woken = task.woken; leaves = task.leaves; only_registered = tt; kept = task.kept })

@@ -5,13 +5,13 @@ use Rattle.futures_buffered_joins.proofs.try_join.TryJoinFuture.poll.Goals as go
 pub returns-in-Ready-Ok-clause-join : goal.returns-in-Ready-Ok-clause-join
 returns-in-Ready-Ok-clause-join g c =
     let is : c.args.self.now ≡ Some c.in-Some.joining = sym c.self.view_is ∙ (sym c.take.ensures.value ∙ c.in-Some.is) in
-    let ready = rw c.in-Ready-Ok.field-0-is at c.in-Ready-Ok.ensures.ready in
+    let ready = rw c.in-Ready-Ok.field-0-is at c.in-Ready-Ok.ensures.ready.filled in
     rw (is, c.take.ensures.after) (polls_join _ _ _ _ _ _ (ready.row, c.try_fill_all.new.self, ready.filled, (ready.done, c.gather.ensures, refl)) tt refl)
 
 pub returns-in-Ready-Err-clause-join : goal.returns-in-Ready-Err-clause-join
 returns-in-Ready-Err-clause-join g c =
     let is : c.args.self.now ≡ Some c.in-Some.joining = sym c.self.view_is ∙ (sym c.take.ensures.value ∙ c.in-Some.is) in
-    let after = rw c.in-Ready-Err.field-0-is at c.in-Ready-Err.ensures.fails in
+    let after = rw c.in-Ready-Err.field-0-is at c.in-Ready-Err.ensures.ready.failed in
     rw (is, c.take.ensures.after) (polls_join _ _ _ _ _ _ (after.row, after.before, after.filled, (after.fails, refl)) tt refl)
 
 pub returns-in-Pending-clause-join : goal.returns-in-Pending-clause-join

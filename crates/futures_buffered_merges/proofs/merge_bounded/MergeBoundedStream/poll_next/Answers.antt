@@ -1,14 +1,21 @@
+use Rattle.futures_buffered_unordered.proofs.StreamAnswersLemmas.{after_item, while_pending, covers_fewer}
 use Rattle.futures_buffered_merges.proofs.MergeBoundedLemmas.{value_of, rest_of, same_of}
 use Rattle.futures_buffered_merges.proofs.merge_bounded.MergeBoundedStream.poll_next.Goals as goal
 
-pub returns-clause-value : goal.returns-clause-value
-returns-clause-value g c = rw (← c.self.view_is) (value_of g.St.SlotStream.polled g.S.ReadySource.steps g.S.ReadySource.marks _ _ _ c.poll_streams.ensures.polled)
-
-pub returns-clause-rest : goal.returns-clause-rest
-returns-clause-rest g c = rw (← c.self.view_is) (rest_of g.St.SlotStream.polled g.S.ReadySource.steps g.S.ReadySource.marks _ _ _ c.poll_streams.ensures.polled)
-
-pub returns-clause-same : goal.returns-clause-same
-returns-clause-same g c = rw (← c.self.view_is) (same_of g.St.SlotStream.polled g.S.ReadySource.steps g.S.ReadySource.marks _ _ _ c.poll_streams.ensures.polled)
-
-pub returns-clause-leaves : goal.returns-clause-leaves
-returns-clause-leaves g c = rw (← c.self.view_is) c.poll_streams.ensures.leaves
+pub returns-clause-stream : goal.returns-clause-stream
+returns-clause-stream g c =
+    let polled = g.St.SlotStream.polled in
+    let source = g.S.ReadySource in
+    let old = c.args.self.now in
+    let new = c.poll_streams.new.set in
+    let answer = c.poll_streams.result in
+    let poll = c.poll_streams.ensures in
+    rw (← c.self.view_is) (record {
+      value = value_of polled source.steps source.marks _ _ _ poll.polled;
+      rest = rest_of polled source.steps source.marks _ _ _ poll.polled;
+      same = same_of polled source.steps source.marks _ _ _ poll.polled;
+      goes = after_item answer poll.streams.pollable;
+      again = while_pending answer poll.streams.pollable;
+      registered = covers_fewer answer c.poll_streams.new.cx (source.needs new.source) _ (λ n waits. waits.1) poll.task.covered;
+      kept = poll.task.kept;
+    })

@@ -1,19 +1,23 @@
+use Rattle.futures_buffered_unordered.proofs.StreamAnswersLemmas.{after_item, while_pending}
 use Rattle.futures_buffered_merges.proofs.MergeUnboundedLemmas.{ends_of, group_value, group_rest, group_same, covered_any}
 use Rattle.futures_buffered_merges.proofs.merge_unbounded.MergeUnboundedStream.poll_next.Goals as goal
 
 pub returns-clause-ends : goal.returns-clause-ends
 returns-clause-ends g c = ends_of g.St.SlotStream.polled g.S.ReadySource.steps g.S.ReadySource.marks _ _ _ c.poll_groups.ensures.polled
 
-pub returns-clause-value : goal.returns-clause-value
-returns-clause-value g c = rw (← c.self.view_is) (group_value g.St.SlotStream.polled g.S.ReadySource.steps g.S.ReadySource.marks _ _ _ c.poll_groups.ensures.polled)
-
-pub returns-clause-rest : goal.returns-clause-rest
-returns-clause-rest g c = rw (← c.self.view_is) (group_rest g.St.SlotStream.polled g.S.ReadySource.steps g.S.ReadySource.marks _ _ _ c.poll_groups.ensures.polled)
-
-pub returns-clause-same : goal.returns-clause-same
-returns-clause-same g c = rw (← c.self.view_is) (group_same g.St.SlotStream.polled g.S.ReadySource.steps g.S.ReadySource.marks _ _ _ c.poll_groups.ensures.polled)
-
-pub returns-clause-registered : goal.returns-clause-registered
-returns-clause-registered g c =
-    let ends = ends_of g.St.SlotStream.polled g.S.ReadySource.steps g.S.ReadySource.marks _ _ _ c.poll_groups.ensures.polled in
-    covered_any g.S.ReadySource.needs c.poll_groups.new.cx c.poll_groups.result c.poll_groups.new.self.groups.listed c.poll_groups.ensures.covered ends.1
+pub returns-clause-stream : goal.returns-clause-stream
+returns-clause-stream g c =
+    let polled = g.St.SlotStream.polled in
+    let source = g.S.ReadySource in
+    let answer = c.poll_groups.result in
+    let poll = c.poll_groups.ensures in
+    let ends = ends_of polled source.steps source.marks _ _ _ poll.polled in
+    rw (← c.self.view_is) (record {
+      value = group_value polled source.steps source.marks _ _ _ poll.polled;
+      rest = group_rest polled source.steps source.marks _ _ _ poll.polled;
+      same = group_same polled source.steps source.marks _ _ _ poll.polled;
+      goes = after_item answer poll.pollable;
+      again = while_pending answer poll.pollable;
+      registered = covered_any source.needs c.poll_groups.new.cx answer c.poll_groups.new.self.groups.listed poll.task.covered ends.1;
+      kept = poll.task.kept;
+    })

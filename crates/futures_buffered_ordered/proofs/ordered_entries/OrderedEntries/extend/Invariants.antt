@@ -1,6 +1,5 @@
-use Rattle.std.proofs.Common.{◌≤◌}
 use Rattle.futures_buffered_ordered.specs.OrderedEntries.{AddsEachBack}
-use Rattle.futures_buffered_ordered.specs.OrderedEntriesInvariant.{IsNumbered}
+use Rattle.futures_buffered_ordered.specs.OrderedEntriesInvariant.{AddingKeeps}
 use Rattle.futures_buffered_ordered.proofs.ordered_entries.OrderedEntries.extend.Given as goal
 
 abbrev pub invariant-loop-item : goal.invariant-loop-item
@@ -9,6 +8,4 @@ invariant-loop-item g l =
     (goal.iterator-loop-item g).can_next l.item-iterator
     × (goal.iterator-loop-item g).is_finite l.item-iterator
     × AddsEachBack set.pushes l.fn.self.queue l.yielded l.self.queue
-    × set.keeps l.fn.self.queue.set l.self.queue.set
-    × (l.fn.self.queue.room ≤ l.self.queue.room)
-    × IsNumbered set.with_number set.count l.self
+    × AddingKeeps set.with_number set.count set.keeps l.fn.self l.self
