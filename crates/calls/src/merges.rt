@@ -23,6 +23,13 @@ impl Subject for MergeBounded<NumberStream, SharedReady> {
                 Some(value) => of_push(self.try_push(value)),
                 None => Reply::Nothing,
             },
+            Call::Clear => {
+                self.clear();
+                Reply::Ok
+            }
+            Call::Ask(Query::Len) => Reply::Number(self.len()),
+            Call::Ask(Query::IsEmpty) => Reply::Is(self.is_empty()),
+            Call::Ask(Query::Capacity) => Reply::Number(self.capacity()),
             Call::Ask(Query::IsFull) => Reply::Is(self.is_full()),
             Call::Ask(Query::SizeHint) => of_hint(self.size_hint()),
             Call::Ask(Query::IsTerminated) => Reply::Is(self.is_terminated()),
@@ -43,7 +50,13 @@ impl Subject for MergeUnbounded<NumberStream, SharedReady> {
                 Some(value) => of_growth(self.push(value)),
                 None => Reply::Nothing,
             },
+            Call::Clear => {
+                self.clear();
+                Reply::Ok
+            }
             Call::Ask(Query::Len) => Reply::Number(self.len()),
+            Call::Ask(Query::IsEmpty) => Reply::Is(self.is_empty()),
+            Call::Ask(Query::Capacity) => Reply::Number(self.capacity()),
             Call::Ask(Query::SizeHint) => of_hint(self.size_hint()),
             Call::Ask(Query::IsTerminated) => Reply::Is(self.is_terminated()),
             Call::Ask(Query::Debug) => of_debug(write!(text, "{self:?}")),
@@ -81,8 +94,8 @@ fn growing_merge(
     streams: Vec<NumberStream>,
 ) -> Result<MergeUnbounded<NumberStream, SharedReady>, NewFault> {
     match options.limit {
-        Some(limit) if limit > 0 => MergeUnbounded::over_limit((), options.alloc, streams, limit),
-        _ if options.takes_source => MergeUnbounded::over((), options.alloc, streams),
+        Some(limit) if limit > 0 => MergeUnbounded::over_limit(&(), options.alloc, streams, limit),
+        _ if options.takes_source => MergeUnbounded::over(&(), options.alloc, streams),
         _ => usual_merge(options, streams),
     }
 }

@@ -7,24 +7,24 @@ use Rattle.futures_buffered_core.specs.ReadySource.{SourceSteps}
 use Rattle.futures_buffered_core.specs.SlotMap.{no_slots, slot_count, held_count}
 use Rattle.futures_buffered_unordered.specs.FuturesUnorderedBounded.{Bounded, Pushes}
 use Rattle.futures_buffered_unordered.specs.FuturesUnorderedBounded.{PollGives}
-use Rattle.fbuf_lines.specs.Timed.{PollsTimed}
+use Rattle.fbuf_lines.specs.ReadyAfter.{PollsReadyAfter}
 use Rattle.fbuf_lines.specs.Reply.{woke_reply, poll_reply}
-use Rattle.fbuf_lines.specs.declared.timed.Timed.{Timed}
+use Rattle.fbuf_lines.specs.declared.ready_after.ReadyAfter.{ReadyAfter}
 use Rattle.fbuf_lines.specs.declared.command.Command.{Command}
 use Rattle.fbuf_lines.specs.declared.command.Command.TheVariants.{Push, Wake, Poll, Len}
 use Rattle.fbuf_lines.specs.declared.reply.Reply.{Reply}
 use Rattle.fbuf_lines.specs.declared.reply.Reply.TheVariants.{Done, Full, Count, Bad}
 
 -- the bounded set of a script: the futures held, and the standing of a ready core
-abbrev pub TimedBounded : Type 0
-TimedBounded = Bounded Timed Standing
+abbrev pub ScriptBounded : Type 0
+ScriptBounded = Bounded ReadyAfter Standing
 
 -- no slot is marked
 abbrev pub new_standing : ℕ → Standing
 new_standing capacity = record { capacity = capacity; marked = [] }
 
 -- no future, every place free, no slot marked
-abbrev pub new_bounded : ℕ → ℕ → TimedBounded
+abbrev pub new_bounded : ℕ → ℕ → ScriptBounded
 new_bounded capacity limit =
     record { slots = no_slots capacity; source = new_standing capacity; limit = limit }
 
@@ -37,9 +37,9 @@ abbrev pub core_steps : SourceSteps Standing
 core_steps = record { registers = λ before after. after ≡ before; takes = Takes }
 
 -- one poll of the set
-abbrev pub PollsSet : TimedBounded → PollAnswer (Option ℕ) → TimedBounded → Type 0
+abbrev pub PollsSet : ScriptBounded → PollAnswer (Option ℕ) → ScriptBounded → Type 0
 PollsSet old answer new =
-    PollGives (λ _. PollsTimed) core_steps old answer new
+    PollGives (λ _. PollsReadyAfter) core_steps old answer new
 
 -- one mark of a slot that is there
 pub record MarksSlotThere
@@ -55,7 +55,7 @@ pub record MarksSlotThere
   pub limit : new.limit ≡ old.limit
 
 -- the last line says that no other command stands
-abbrev pub BoundedGives : TimedBounded → Command → Reply → TimedBounded → Type 0
+abbrev pub BoundedGives : ScriptBounded → Command → Reply → ScriptBounded → Type 0
 BoundedGives old (Push future) reply new =
     ((reply ≡ Done) × Pushes Marks old future new)
     ⊎ ((reply ≡ Full) × (old.slots.free ≡ []) × (new ≡ old))

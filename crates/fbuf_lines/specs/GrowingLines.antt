@@ -9,28 +9,28 @@ use Rattle.futures_buffered_unordered.specs.declared.slot_groups.TheConstants.{F
 use Rattle.futures_buffered_unordered.specs.declared.slot_groups.TheConstants.{MAX_HELD}
 use Rattle.fbuf_lines.specs.Reply.{poll_reply}
 use Rattle.fbuf_lines.specs.BoundedLines.{IsNewStanding, PollsSet}
-use Rattle.fbuf_lines.specs.declared.timed.Timed.{Timed}
+use Rattle.fbuf_lines.specs.declared.ready_after.ReadyAfter.{ReadyAfter}
 use Rattle.fbuf_lines.specs.declared.command.Command.{Command}
 use Rattle.fbuf_lines.specs.declared.command.Command.TheVariants.{Push, Poll, Len}
 use Rattle.fbuf_lines.specs.declared.reply.Reply.{Reply}
 use Rattle.fbuf_lines.specs.declared.reply.Reply.TheVariants.{Done, Count, Bad}
 
 -- the growing set of a script: its groups are bounded sets
-abbrev pub TimedGrowing : Type 0
-TimedGrowing = Growing Timed Standing
+abbrev pub ScriptGrowing : Type 0
+ScriptGrowing = Growing ReadyAfter Standing
 
 -- one poll of the groups of a growing set, each polled as a bounded set is; the limit stays
-abbrev pub PollsGrowing : TimedGrowing → PollAnswer (Option ℕ) → TimedGrowing → Type 0
+abbrev pub PollsGrowing : ScriptGrowing → PollAnswer (Option ℕ) → ScriptGrowing → Type 0
 PollsGrowing old answer new =
     GroupsGive PollsSet old.groups answer new.groups × (new.limit ≡ old.limit)
 
 -- one push into a growing set that can take more
-abbrev pub PushesGrowing : TimedGrowing → Timed → TimedGrowing → Type 0
+abbrev pub PushesGrowing : ScriptGrowing → ReadyAfter → ScriptGrowing → Type 0
 PushesGrowing old future new = (IsAtBound old.groups.listed → ⊥)
     × GrowingPushes Marks IsNewStanding FIRST_GROUP old future new
 
 -- the last line says that no other command stands
-abbrev pub GrowingGives : TimedGrowing → Command → Reply → TimedGrowing → Type 0
+abbrev pub GrowingGives : ScriptGrowing → Command → Reply → ScriptGrowing → Type 0
 GrowingGives old (Push future) reply new = (reply ≡ Done) × PushesGrowing old future new
 GrowingGives old Poll reply new =
     (answer : PollAnswer (Option ℕ)) × (reply ≡ poll_reply answer) × PollsGrowing old answer new
@@ -40,7 +40,7 @@ GrowingGives old command reply new = (reply ≡ Bad) × (new ≡ old)
 -- a command that may lack memory is a push where as many futures are held as a set may hold, or
 -- where
 -- the last group is full
-abbrev pub GrowingMayLack : TimedGrowing → Command → Type 0
+abbrev pub GrowingMayLack : ScriptGrowing → Command → Type 0
 GrowingMayLack old (Push future) =
     (all_held old.groups.listed ≡ MAX_HELD) ⊎ LastIsFull old.groups.listed
 GrowingMayLack old command = ⊥

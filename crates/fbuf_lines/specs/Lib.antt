@@ -1,5 +1,5 @@
 pub mod Lines
-pub mod Timed
+pub mod ReadyAfter
 pub mod Command
 pub mod Reply
 pub mod BoundedLines

@@ -9,9 +9,9 @@ use Rattle.futures_buffered_ordered.specs.OrderedEntries.{Stays}
 use Rattle.futures_buffered_ordered.specs.FuturesOrderedBounded.{IsNewBoundedQueue}
 use Rattle.futures_buffered_unordered.specs.SlotGroups.{IsNewGrowing}
 use Rattle.fbuf_lines.specs.Command.{LineAsksFor}
-use Rattle.fbuf_lines.specs.BoundedLines.{TimedBounded, IsNewStanding, BoundedGives, new_bounded}
-use Rattle.fbuf_lines.specs.OrderedLines.{TimedOrdered, QueueGives, QueueMayLack}
-use Rattle.fbuf_lines.specs.GrowingLines.{TimedGrowing, GrowingGives, GrowingMayLack}
+use Rattle.fbuf_lines.specs.BoundedLines.{ScriptBounded, IsNewStanding, BoundedGives, new_bounded}
+use Rattle.fbuf_lines.specs.OrderedLines.{ScriptOrdered, QueueGives, QueueMayLack}
+use Rattle.fbuf_lines.specs.GrowingLines.{ScriptGrowing, GrowingGives, GrowingMayLack}
 use Rattle.fbuf_lines.specs.MachineLines.{MachineGives}
 use Rattle.fbuf_lines.specs.declared.command.Command.{Command}
 use Rattle.fbuf_lines.specs.declared.command.Command.TheVariants.{Unordered, Ordered, Growing}
@@ -44,7 +44,7 @@ BeginsSet old capacity reply new =
 
 -- an object that is an empty ordered queue
 abbrev pub IsNewQueueObject : ℕ → ℕ → Object → Type 0
-IsNewQueueObject capacity limit new = (queue : TimedOrdered)
+IsNewQueueObject capacity limit new = (queue : ScriptOrdered)
     × IsNewBoundedQueue IsNewStanding capacity limit queue
     × (new ≡ object.Ordered queue)
 
@@ -57,7 +57,7 @@ BeginsQueue old capacity reply new =
 
 -- an object that is an empty growing set, with one group of this capacity, or none where that is 0
 abbrev pub IsNewGrowingObject : ℕ → ℕ → Object → Type 0
-IsNewGrowingObject capacity limit new = (set : TimedGrowing)
+IsNewGrowingObject capacity limit new = (set : ScriptGrowing)
     × IsNewGrowing IsNewStanding capacity limit set
     × (new ≡ object.Growing set)
 
@@ -90,11 +90,11 @@ SetsLimit old limit reply new =
 abbrev pub ObjectGives : Object → Command → Reply → Object → Type 0
 ObjectGives object.Nothing command reply new = (reply ≡ Bad) × (new ≡ object.Nothing)
 ObjectGives (object.Unordered old) command reply new =
-    (set : TimedBounded) × BoundedGives old command reply set × (new ≡ object.Unordered set)
+    (set : ScriptBounded) × BoundedGives old command reply set × (new ≡ object.Unordered set)
 ObjectGives (object.Ordered old) command reply new =
-    (queue : TimedOrdered) × QueueGives old command reply queue × (new ≡ object.Ordered queue)
+    (queue : ScriptOrdered) × QueueGives old command reply queue × (new ≡ object.Ordered queue)
 ObjectGives (object.Growing old) command reply new =
-    (set : TimedGrowing) × GrowingGives old command reply set × (new ≡ object.Growing set)
+    (set : ScriptGrowing) × GrowingGives old command reply set × (new ≡ object.Growing set)
 ObjectGives (object.Steps old) command reply new =
     (machine : Machine) × MachineGives old command reply machine × (new ≡ object.Steps machine)
 
@@ -130,7 +130,7 @@ MayLackMemory old command = ⊥
 
 -- an object is as it was, but that a queue may have a place for more entries
 abbrev pub StaysObject : Object → Object → Type 0
-StaysObject (object.Ordered old) new = (queue : TimedOrdered) × Stays old queue
+StaysObject (object.Ordered old) new = (queue : ScriptOrdered) × Stays old queue
     × (new ≡ object.Ordered queue)
 StaysObject old new = new ≡ old
 

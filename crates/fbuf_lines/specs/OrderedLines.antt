@@ -8,44 +8,44 @@ use Rattle.futures_buffered_unordered.specs.FuturesUnorderedBounded.{held_in}
 use Rattle.futures_buffered_ordered.specs.OrderedEntries.{AddsBack, AddsFront, OrderedGives}
 use Rattle.futures_buffered_ordered.specs.FuturesOrderedBounded.{OrderedBounded, QueueIsFull}
 use Rattle.futures_buffered_ordered.specs.FuturesOrderedBounded.{PushesNumber, SetGives}
-use Rattle.fbuf_lines.specs.Timed.{PollsTimed}
+use Rattle.fbuf_lines.specs.ReadyAfter.{PollsReadyAfter}
 use Rattle.fbuf_lines.specs.Reply.{woke_reply, poll_reply}
 use Rattle.fbuf_lines.specs.BoundedLines.{MarksSlotThere, core_steps}
-use Rattle.fbuf_lines.specs.declared.timed.Timed.{Timed}
+use Rattle.fbuf_lines.specs.declared.ready_after.ReadyAfter.{ReadyAfter}
 use Rattle.fbuf_lines.specs.declared.command.Command.{Command}
 use Rattle.fbuf_lines.specs.declared.command.Command.TheVariants.{Back, Front, Wake, Poll, Len}
 use Rattle.fbuf_lines.specs.declared.reply.Reply.{Reply}
 use Rattle.fbuf_lines.specs.declared.reply.Reply.TheVariants.{Done, Full, Count, Bad}
 
 -- the ordered queue of a script: its set is such a set, and an output is a number
-abbrev pub TimedOrdered : Type 0
-TimedOrdered = OrderedBounded Timed ℕ Standing
+abbrev pub ScriptOrdered : Type 0
+ScriptOrdered = OrderedBounded ReadyAfter ℕ Standing
 
 -- a push into an ordered queue: the future is added, as `adds` says, or no slot is free
-abbrev pub QueuePushGives : (TimedOrdered → Timed → TimedOrdered → Type 0)
-    → TimedOrdered → Timed → Reply → TimedOrdered → Type 0
+abbrev pub QueuePushGives : (ScriptOrdered → ReadyAfter → ScriptOrdered → Type 0)
+    → ScriptOrdered → ReadyAfter → Reply → ScriptOrdered → Type 0
 QueuePushGives adds old future reply new =
     ((reply ≡ Done) × (QueueIsFull old → ⊥) × adds old future new)
     ⊎ ((reply ≡ Full) × QueueIsFull old × (new ≡ old))
 
-abbrev pub BackGives : TimedOrdered → Timed → Reply → TimedOrdered → Type 0
+abbrev pub BackGives : ScriptOrdered → ReadyAfter → Reply → ScriptOrdered → Type 0
 BackGives = QueuePushGives (AddsBack (PushesNumber Marks))
 
-abbrev pub FrontGives : TimedOrdered → Timed → Reply → TimedOrdered → Type 0
+abbrev pub FrontGives : ScriptOrdered → ReadyAfter → Reply → ScriptOrdered → Type 0
 FrontGives = QueuePushGives (AddsFront (PushesNumber Marks))
 
 -- one poll of the queue
-abbrev pub PollsQueue : TimedOrdered → PollAnswer (Option ℕ) → TimedOrdered → Type 0
+abbrev pub PollsQueue : ScriptOrdered → PollAnswer (Option ℕ) → ScriptOrdered → Type 0
 PollsQueue old answer new =
-    OrderedGives (SetGives (λ _. PollsTimed) core_steps) held_in old answer new
+    OrderedGives (SetGives (λ _. PollsReadyAfter) core_steps) held_in old answer new
 
 -- one mark of a slot of the queue's set
-abbrev pub MarksQueue : TimedOrdered → ℕ → Woke → TimedOrdered → Type 0
+abbrev pub MarksQueue : ScriptOrdered → ℕ → Woke → ScriptOrdered → Type 0
 MarksQueue old slot woke new =
     MarksSlotThere old.set slot woke new.set × (new.entries ≡ old.entries) × (new.room ≡ old.room)
 
 -- the last line says that no other command stands
-abbrev pub QueueGives : TimedOrdered → Command → Reply → TimedOrdered → Type 0
+abbrev pub QueueGives : ScriptOrdered → Command → Reply → ScriptOrdered → Type 0
 QueueGives old (Back future) reply new = BackGives old future reply new
 QueueGives old (Front future) reply new = FrontGives old future reply new
 QueueGives old (Wake slot) reply new =
@@ -57,11 +57,11 @@ QueueGives old Len reply new = (reply ≡ Count (length old.entries)) × (new �
 QueueGives old command reply new = (reply ≡ Bad) × (new ≡ old)
 
 -- a push may lack memory where a slot is free, and there are as many entries as slots or more
-abbrev pub PushMayLack : TimedOrdered → Type 0
+abbrev pub PushMayLack : ScriptOrdered → Type 0
 PushMayLack old = (QueueIsFull old → ⊥) × (slot_count old.set.slots ≤ length old.entries)
 
 -- a command that may lack memory is such a push
-abbrev pub QueueMayLack : TimedOrdered → Command → Type 0
+abbrev pub QueueMayLack : ScriptOrdered → Command → Type 0
 QueueMayLack old (Back future) = PushMayLack old
 QueueMayLack old (Front future) = PushMayLack old
 QueueMayLack old command = ⊥

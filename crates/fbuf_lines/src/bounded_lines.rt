@@ -4,8 +4,8 @@ ghost use Rattle.futures.specs.Task.{Keeps};
 ghost use Rattle.fbuf_lines.specs.BoundedLines.{BoundedGives, new_bounded};
 
 use crate::command::Command;
+use crate::ready_after::{PollReadyAfter, ReadyAfter};
 use crate::reply::Reply;
-use crate::timed::{PollTimed, Timed};
 use futures::task::Context;
 use futures_buffered_core::ready_core::{MAX_CAPACITY, NewFault};
 use futures_buffered_core::ready_source::{CoreSource, NewSource};
@@ -13,10 +13,10 @@ use futures_buffered_sets::futures_unordered_bounded::FuturesUnorderedBounded;
 use std::alloc::Global;
 
 /// A bounded set of the script's futures, over a ready core.
-pub type TimedSet = FuturesUnorderedBounded<Timed, CoreSource>;
+pub type ScriptSet = FuturesUnorderedBounded<ReadyAfter, CoreSource>;
 
 // An empty set of this capacity.
-pub(crate) fn new_set(alloc: Global, capacity: usize, limit: usize) -> Result<TimedSet, NewFault>
+pub(crate) fn new_set(alloc: Global, capacity: usize, limit: usize) -> Result<ScriptSet, NewFault>
     requires { 1 ≤ limit }
     ensures ok { IfOk result (λ set.
         (set ≡ new_bounded capacity limit) × (capacity ≤ MAX_CAPACITY)) }
@@ -28,7 +28,7 @@ pub(crate) fn new_set(alloc: Global, capacity: usize, limit: usize) -> Result<Ti
 }
 
 // A command to a bounded set.
-pub(crate) fn set_reply(set: &mut TimedSet, command: Command, cx: &mut Context<'_>) -> Reply
+pub(crate) fn set_reply(set: &mut ScriptSet, command: Command, cx: &mut Context<'_>) -> Reply
     ensures reply { BoundedGives set.old command result set.new }
     ensures kept { Keeps cx.old cx.new }
 {
@@ -38,7 +38,7 @@ pub(crate) fn set_reply(set: &mut TimedSet, command: Command, cx: &mut Context<'
             Err(_) => Reply::Full,
         },
         Command::Wake(slot) if slot < set.capacity() => Reply::of_woke(set.mark_slot(slot)),
-        Command::Poll => Reply::of_poll(set.poll_with(&PollTimed, cx)),
+        Command::Poll => Reply::of_poll(set.poll_with(&PollReadyAfter, cx)),
         Command::Len => Reply::Count(set.len()),
         _ => Reply::Bad,
     }

@@ -4,7 +4,7 @@ ghost use Rattle.std.specs.Fmt.{decimal};
 ghost use Rattle.fbuf_lines.specs.Command.{LineAsksFor, HasNoSpace, StartsAsNumber};
 ghost use Rattle.fbuf_lines.specs.Command.{rest_text, spaced_number};
 
-use crate::timed::Timed;
+use crate::ready_after::ReadyAfter;
 use memchr::memchr;
 
 /// A line that can be carried out.
@@ -21,11 +21,11 @@ pub enum Command {
     /// `limit L`: how many names one poll takes at most, of each set that is begun from now on.
     Limit(usize),
     /// `push V K`: pushes the future that is pending K times and then V.
-    Push(Timed),
+    Push(ReadyAfter),
     /// `back V K`: adds such a future behind all others.
-    Back(Timed),
+    Back(ReadyAfter),
     /// `front V K`: adds such a future before all others.
-    Front(Timed),
+    Front(ReadyAfter),
     /// `wake I`: marks a slot.
     Wake(usize),
     /// `poll`: one poll.
@@ -131,15 +131,15 @@ pub fn parse(line: &[u8]) -> Option<Command>
     }
     if word == b"push".as_slice() {
         let (value, pending) = two(rest)?;
-        return Some(Command::Push(Timed { value, pending }));
+        return Some(Command::Push(ReadyAfter { value, pending }));
     }
     if word == b"back".as_slice() {
         let (value, pending) = two(rest)?;
-        return Some(Command::Back(Timed { value, pending }));
+        return Some(Command::Back(ReadyAfter { value, pending }));
     }
     if word == b"front".as_slice() {
         let (value, pending) = two(rest)?;
-        return Some(Command::Front(Timed { value, pending }));
+        return Some(Command::Front(ReadyAfter { value, pending }));
     }
     if word == b"wake".as_slice() {
         return Some(Command::Wake(one(rest)? as usize));

@@ -4,19 +4,19 @@ ghost use Rattle.futures.specs.Task.{Keeps};
 ghost use Rattle.fbuf_lines.specs.GrowingLines.{GrowingGives, GrowingMayLack};
 
 use crate::command::Command;
+use crate::ready_after::{PollReadyAfter, ReadyAfter};
 use crate::reply::Reply;
-use crate::timed::{PollTimed, Timed};
 use futures::task::Context;
 use futures_buffered_core::ready_source::CoreSource;
 use futures_buffered_unordered::futures_unordered::FuturesUnordered;
 use std::alloc::AllocError;
 
 /// A growing set of them, each group over a ready core.
-pub type TimedGrowing = FuturesUnordered<Timed, CoreSource>;
+pub type ScriptGrowing = FuturesUnordered<ReadyAfter, CoreSource>;
 
 // A command to a growing set. A push that is refused changes nothing.
 pub(crate) fn growing_reply(
-    set: &mut TimedGrowing,
+    set: &mut ScriptGrowing,
     command: Command,
     cx: &mut Context<'_>,
 ) -> Result<Reply, AllocError>
@@ -30,7 +30,7 @@ pub(crate) fn growing_reply(
             Ok(()) => Ok(Reply::Done),
             Err(_) => Err(AllocError),
         },
-        Command::Poll => Ok(Reply::of_poll(set.poll_with(&PollTimed, cx))),
+        Command::Poll => Ok(Reply::of_poll(set.poll_with(&PollReadyAfter, cx))),
         Command::Len => Ok(Reply::Count(set.len())),
         _ => Ok(Reply::Bad),
     }

@@ -5,7 +5,7 @@
 //! In the order in which to read them:
 //!
 //! - `lines`: `first_line`, which cuts the first line off a text.
-//! - `timed`: `Timed`, the future of a script, pending a number of times and then a number.
+//! - `ready_after`: `ReadyAfter`, the future of a script, pending a number of times and then a number.
 //! - `command`: `Command`, what a line asks for, and `parse`, which reads it.
 //! - `reply`: `Reply`, what a line is answered, and how it is written.
 //! - `bounded_lines`, `ordered_lines`, `growing_lines`, `machine_lines`: commands to an object of each kind.
@@ -19,5 +19,5 @@ pub mod lines;
 mod machine_lines;
 pub mod object;
 pub mod ordered_lines;
+pub mod ready_after;
 pub mod reply;
-pub mod timed;

@@ -5,11 +5,11 @@ ghost use Rattle.fbuf_lines.specs.Object.{LineGives, ObjectGives, BeginsSet, Beg
 ghost use Rattle.fbuf_lines.specs.Object.{BeginsGrowing, BeginsMachine, SetsLimit, first_stage};
 ghost use Rattle.fbuf_lines.specs.Object.{MayLackMemory, LineMayLackMemory, StaysStage};
 
-use crate::bounded_lines::{TimedSet, new_set, set_reply};
+use crate::bounded_lines::{ScriptSet, new_set, set_reply};
 use crate::command::{Command, parse};
-use crate::growing_lines::{TimedGrowing, growing_reply};
+use crate::growing_lines::{ScriptGrowing, growing_reply};
 use crate::machine_lines::machine_reply;
-use crate::ordered_lines::{TimedQueue, queue_reply};
+use crate::ordered_lines::{ScriptQueue, queue_reply};
 use crate::reply::Reply;
 use futures::task::Context;
 use futures_buffered_core::ready_core::{MAX_CAPACITY, NewFault};
@@ -26,11 +26,11 @@ pub enum Object {
     /// No line began anything yet.
     Nothing,
     /// `unordered C` did.
-    Unordered(TimedSet),
+    Unordered(ScriptSet),
     /// `ordered C` did.
-    Ordered(TimedQueue),
+    Ordered(ScriptQueue),
     /// `growing C` did.
-    Growing(TimedGrowing),
+    Growing(ScriptGrowing),
     /// `steps C` did.
     Steps(StepMachine),
 }
@@ -133,7 +133,7 @@ impl Stage {
         ensures memory { OnErr result (self.new ≡ self.old) }
         ensures refused { OnErr result (capacity ≤ MAX_CAPACITY) }
     {
-        match FuturesUnordered::over_limit((), alloc, capacity, self.limit) {
+        match FuturesUnordered::over_limit(&(), alloc, capacity, self.limit) {
             Ok(set) => {
                 self.object = Object::Growing(set);
                 Ok(Reply::Done)

@@ -6,18 +6,18 @@ ghost use Rattle.fbuf_lines.specs.OrderedLines.{BackGives, FrontGives, PushMayLa
 ghost use Rattle.fbuf_lines.specs.OrderedLines.{QueueGives, QueueMayLack};
 
 use crate::command::Command;
+use crate::ready_after::{PollReadyAfter, ReadyAfter};
 use crate::reply::Reply;
-use crate::timed::{PollTimed, Timed};
 use futures::task::Context;
 use futures_buffered_core::ready_source::CoreSource;
 use futures_buffered_sets::futures_ordered_bounded::FuturesOrderedBounded;
 use std::alloc::AllocError;
 
 /// An ordered queue of them, over a ready core.
-pub type TimedQueue = FuturesOrderedBounded<Timed, CoreSource>;
+pub type ScriptQueue = FuturesOrderedBounded<ReadyAfter, CoreSource>;
 
 // A future to the back of an ordered queue. One that is refused changes nothing.
-fn back_reply(queue: &mut TimedQueue, future: Timed) -> Result<Reply, AllocError>
+fn back_reply(queue: &mut ScriptQueue, future: ReadyAfter) -> Result<Reply, AllocError>
     ensures reply { IfOk result (λ reply. BackGives queue.old future reply queue.new) }
     ensures memory { OnErr result (Stays queue.old queue.new) }
     ensures refused { OnErr result (PushMayLack queue.old) }
@@ -32,7 +32,7 @@ fn back_reply(queue: &mut TimedQueue, future: Timed) -> Result<Reply, AllocError
 }
 
 // The same, to its front.
-fn front_reply(queue: &mut TimedQueue, future: Timed) -> Result<Reply, AllocError>
+fn front_reply(queue: &mut ScriptQueue, future: ReadyAfter) -> Result<Reply, AllocError>
     ensures reply { IfOk result (λ reply. FrontGives queue.old future reply queue.new) }
     ensures memory { OnErr result (Stays queue.old queue.new) }
     ensures refused { OnErr result (PushMayLack queue.old) }
@@ -48,7 +48,7 @@ fn front_reply(queue: &mut TimedQueue, future: Timed) -> Result<Reply, AllocErro
 
 // A command to an ordered queue.
 pub(crate) fn queue_reply(
-    queue: &mut TimedQueue,
+    queue: &mut ScriptQueue,
     command: Command,
     cx: &mut Context<'_>,
 ) -> Result<Reply, AllocError>
@@ -63,7 +63,7 @@ pub(crate) fn queue_reply(
         Command::Wake(slot) if slot < queue.capacity() => {
             Ok(Reply::of_woke(queue.mark_slot(slot)))
         }
-        Command::Poll => Ok(Reply::of_poll(queue.poll_with(&PollTimed, cx))),
+        Command::Poll => Ok(Reply::of_poll(queue.poll_with(&PollReadyAfter, cx))),
         Command::Len => Ok(Reply::Count(queue.len())),
         _ => Ok(Reply::Bad),
     }

@@ -4,6 +4,8 @@ use Rattle.std.specs.List.{FoldsTo, slice_get, sum_by}
 use Rattle.std.proofs.lemmas.Bool.{cases_eq, eq-eqb}
 use Rattle.std.proofs.lemmas.List.{length_push, get_or-set_other}
 use Rattle.std.proofs.lemmas.List.Sums.{get_or-le-sum_by, sum_by-set}
+use Rattle.futures.specs.Task.{Covers}
+use Rattle.futures.specs.declared.task.context.Context.{Context}
 use Rattle.futures.specs.declared.task.Poll.{Poll}
 use Rattle.futures.specs.declared.task.Poll.TheVariants.{Ready, Pending}
 use Rattle.futures.specs.Poll.{IfReady, OnPending}
@@ -13,11 +15,11 @@ use Rattle.futures_buffered_core.proofs.SlotMapLemmas.{value_within}
 use Rattle.futures_buffered_table.specs.declared.answer.Woke.{Woke}
 use Rattle.futures_buffered_core.specs.ReadySource.{SourceSteps}
 use Rattle.futures_buffered_unordered.specs.Held.{MayGive}
-use Rattle.futures_buffered_unordered.specs.FuturesUnorderedBounded.{held_in}
+use Rattle.futures_buffered_unordered.specs.FuturesUnorderedBounded.{Bounded, held_in}
 use Rattle.futures_buffered_unordered.proofs.HeldLemmas.{AllHeld-push, value_inserted, value_inserted_other}
 use Rattle.futures_buffered_ordered.specs.Numbered.{CanPollFuture, PollsNumbered, held_with}
 use Rattle.futures_buffered_ordered.specs.OrderedEntries.{AddsBack, ComesInOrder, EachHasOne, EntryGives, InTurn, IsUnused, OrderedGives, SetYields, runs_with, starts_running}
-use Rattle.futures_buffered_ordered.specs.FuturesOrderedBounded.{EachRunning, OrderedBounded, PushesNumber, SetGives, SetMayGive}
+use Rattle.futures_buffered_ordered.specs.FuturesOrderedBounded.{EachRunning, OrderedBounded, PushesNumber, SetGives, SetMayGive, SetPends}
 use Rattle.futures_buffered_ordered.specs.declared.numbered.Numbered.{Numbered}
 use Rattle.futures_buffered_ordered.specs.declared.ordered_entries.Entry.{Entry}
 use Rattle.futures_buffered_ordered.specs.declared.ordered_entries.Entry.TheVariants.{Running, Kept}
@@ -210,3 +212,8 @@ module _ {F A S : Type 0} (polled : ℕ → F → Poll A → F → Type 0) (step
   pub same_polled : (old new : OrderedBounded F A S) (answer : Poll (Option A)) → OrderedGives (SetGives polled steps) held_in old answer new → OnPending answer (queue_len new ≡ queue_len old)
   same_polled old new (Ready o) h = tt
   same_polled old new Pending h = pending_len old new h
+
+-- the task of a pending queue hears of the source of its set
+pub waits_covered : {F B S : Type 0} (steps : SourceSteps S) (needs : S → ℕ → Type 0) (left : Context) (answer : Poll B) (set : Bounded (Numbered F) S) → OnPending answer (SetPends steps needs left set) → OnPending answer (Covers left (needs set.source))
+waits_covered steps needs left (Ready x) set h = tt
+waits_covered steps needs left Pending set h = h.covered

@@ -1,5 +1,5 @@
 -- What one draw of a `ForEachConcurrent` leaves.
-use Rattle.std.proofs.Common.{◌≡◌, is_some, OnSome, ℕ, ◌<◌, List, [], ◌∷◌, Option, Some, None, Bool, true, false, refl, ap, subst, inr, arith, length, ◌+◌, ◌++◌, ◌∙◌, ◌||◌}
+use Rattle.std.proofs.Common.{◌≡◌, is_some, ℕ, ◌<◌, List, [], ◌∷◌, Option, Some, None, Bool, true, false, refl, ap, subst, inr, arith, length, ◌+◌, ◌++◌, ◌∙◌, ◌||◌}
 use Rattle.std.specs.List.{FoldsTo, AllByRecursion}
 use Rattle.std.proofs.lemmas.Fn.{FoldsTo-push}
 use Rattle.futures.specs.Task.{Keeps}
@@ -8,10 +8,7 @@ use Rattle.futures.specs.declared.task.Poll.{Poll}
 use Rattle.futures.specs.declared.task.Poll.TheVariants.{Ready, Pending}
 use Rattle.futures.specs.Runs.{Runs, After, Within, firsts}
 use Rattle.futures_buffered_table.specs.declared.answer.Woke.{Woke}
-use Rattle.futures_buffered_core.specs.ReadySource.{SourceSteps}
-use Rattle.futures_buffered_unordered.specs.FuturesUnorderedBounded.{Bounded, Pushes, PollGives}
-use Rattle.futures_buffered_unordered.specs.Held.{AllHeld}
-use Rattle.futures.specs.Poll.{IfReady, OnPending}
+use Rattle.futures_buffered_unordered.specs.FuturesUnorderedBounded.{Bounded, Pushes}
 use Rattle.futures_buffered.specs.Buffer.{HasNoTurn}
 use Rattle.futures_buffered.specs.ForEachConcurrent.{ForEach, DrawAndPoll, TurnGives, EndsAfter, ForEachCall, DrawsOnce, drew_one, gave_one, goes_on, CanForEach, ForEachGives}
 use Rattle.futures_buffered_unordered.proofs.HeldLemmas.{AllHeld-push}
@@ -107,10 +104,3 @@ none_drew false m some none = refl
 pub some_not_none : {St : Type 0} (stream : Option St) → is_some stream ≡ true → stream ≡ None → ⊥
 some_not_none None e none = cc
 some_not_none (Some s) e none = cc
-
--- what is held after a poll of the set may be polled
-pub still_held : {F A S : Type 0} (can_poll : F → Type 0) (polled : ℕ → F → Poll A → F → Type 0) (steps : SourceSteps S) (old new : Bounded F S) (answer : Poll (Option A)) → AllHeld can_poll old.slots → PollGives polled steps old answer new
-    → IfReady answer (λ o. OnSome o (AllHeld can_poll new.slots)) → OnPending answer (AllHeld can_poll new.slots) → AllHeld can_poll new.slots
-still_held can_poll polled steps old new (Ready None) all gives goes again = rw gives.1 all
-still_held can_poll polled steps old new (Ready (Some x)) all gives goes again = goes
-still_held can_poll polled steps old new Pending all gives goes again = again

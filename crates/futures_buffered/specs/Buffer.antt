@@ -2,12 +2,12 @@
 -- once; what many calls make together; and what may come. The queue may be any that has a number of
 -- entries, a push and a poll.
 use Rattle.std.specs.Prelude.{◌≡◌, ℕ, ◌+◌, ◌-◌, ◌<◌, ◌≤◌, ◌^◌, List, [], ◌++◌, Option, Some, None}
-use Rattle.std.specs.Prelude.{IfSome, IsSomeAnd, Bool, true, false, ◌⊎◌, cond, min, nat_lt, refl}
+use Rattle.std.specs.Prelude.{IfSome, IfNone, IsSomeAnd, Bool, true, false, ◌⊎◌, cond, min, nat_lt, refl}
 use Rattle.std.specs.Prelude.{filter_map, flat_map}
 use Rattle.std.specs.Option.{option_and_then}
 use Rattle.std.specs.List.{FoldsTo, AllZip}
 use Rattle.std.specs.Coded.{Coded, code_by, coded×, coded_option}
-use Rattle.futures.specs.Task.{Keeps}
+use Rattle.futures.specs.Task.{Covers, Keeps}
 use Rattle.futures.specs.declared.task.context.Context.{Context}
 use Rattle.futures.specs.declared.task.Poll.{Poll}
 use Rattle.futures.specs.declared.task.Poll.TheVariants.{Ready, Pending}
@@ -94,6 +94,13 @@ module _ {St X Q : Type 0} (next : St → Poll (Option X) → St → Type 0) (co
       pub items : FoldsTo DrawsOne old drawn full
       pub last : DrawsNone full new
 
+    -- by whether an item came: it was pushed, so that one more is held; or none came
+    abbrev pub DrawsUpToOne : Buffering St Q → Bool → Buffering St Q → Type 0
+    DrawsUpToOne old true new = (item : X)
+        × DrawsOne old item new
+        × (count new.queue ≡ count old.queue + 1)
+    DrawsUpToOne old false new = DrawsNone old new
+
     module _ {A : Type 0} (polls : Q → Poll (Option A) → Q → Type 0) where
       -- one call: these items were drawn, and then the queue was polled once
       pub record Calls (old : Buffering St Q) (drawn : List X) (answer : Poll (Option A))
@@ -113,6 +120,64 @@ module _ {St X Q : Type 0} (next : St → Poll (Option X) → St → Type 0) (co
       abbrev pub CallsInTurn : Buffering St Q → List (List X × Poll (Option A)) → Buffering St Q
           → Type 0
       CallsInTurn = FoldsTo (λ old call new. Calls old call.0 call.1 new)
+
+-- What drawing leaves of a buffer. `can_draw` says whether items may be drawn, `yields` what may
+-- come from the buffer, and `gave` is the answer that came in place of an item, if one did.
+pub record DrawsBuffer
+    {St A Q : Type 0}
+    (count room : Q → ℕ)
+    (can_draw : Buffering St Q → Type 0)
+    (yields : Buffering St Q → Runs A)
+    (old : Buffering St Q)
+    (gave : Option A)
+    (new : Buffering St Q)
+    : Type 0 where
+  -- the queue can hold as many as before
+  pub same_room : room new.queue ≡ room old.queue
+  -- it holds no more than that
+  pub bound : count new.queue ≤ room new.queue
+  -- further items may be drawn
+  pub again : can_draw new
+  -- without an answer, drawing adds nothing to what may come
+  pub within : IfNone gave (Within (yields old) (yields new))
+  -- an answer is one that might come first
+  pub value : IfSome gave (λ x. yields old [] (Some x))
+  -- what may come after it might have come behind it
+  pub after : IfSome gave (λ x. After (yields old) x (yields new))
+
+-- What drawing leaves of the task, which it took from cx to left. `none_came` holds where drawing
+-- stopped since no item came.
+pub record DrawsTask
+    {St X Q : Type 0}
+    (next : St → Poll (Option X) → St → Type 0)
+    (count room : Q → ℕ)
+    (needs : St → ℕ → Type 0)
+    (none_came : Type 0)
+    (old new : Buffering St Q)
+    (cx left : Context)
+    : Type 0 where
+  -- where there is room left, the task hears of the stream, unless that has ended
+  pub covered : none_came → count new.queue < room new.queue
+      → IfSome new.stream (λ stream. Covers left (needs stream))
+  -- where the stream had no turn, the task is as it was
+  pub no_turn : HasNoTurn next count (room old.queue) old → left ≡ cx
+  -- nothing of the task is lost
+  pub kept : Keeps cx left
+
+-- What a call leaves of what a buffer holds.
+pub record CallLeavesBuffer
+    {St A Q : Type 0}
+    (count room : Q → ℕ)
+    (old : Buffering St Q)
+    (answer : Poll (Option A))
+    (new : Buffering St Q)
+    : Type 0 where
+  -- the end comes only where the stream has ended and nothing is held
+  pub ended : IfReady answer (λ o. IfNone o ((new.stream ≡ None) × (count new.queue ≡ 0)))
+  -- the queue can hold as many as before
+  pub same_room : room new.queue ≡ room old.queue
+  -- it holds no more than that
+  pub bound : count new.queue ≤ room new.queue
 
 -- a poll of the queue that takes the task from one context to another, as the queue leaves it
 abbrev pub PollsWithTask : {Q A : Type 0}

@@ -1,16 +1,17 @@
 -- One call of a `ForEachConcurrent`: turns, each of which draws at most one item, gives it to the
 -- closure, pushes the future that came of it, and polls the set once.
-use Rattle.std.specs.Prelude.{◌≡◌, ℕ, ◌+◌, ◌<◌, List, [], ◌∷◌, ◌++◌, length, Bool, true, false}
-use Rattle.std.specs.Prelude.{◌||◌, Option, Some, None, IfSome, ◌⊎◌, refl}
+use Rattle.std.specs.Prelude.{◌≡◌, ℕ, ◌+◌, ◌<◌, ◌≤◌, List, [], ◌∷◌, ◌++◌, length, Bool, true}
+use Rattle.std.specs.Prelude.{false, ◌||◌, Option, Some, None, IfSome, ◌⊎◌, refl}
 use Rattle.std.specs.List.{FoldsTo, AllByRecursion}
 use Rattle.std.specs.Coded.{Coded, code_by, coded×}
 use Rattle.futures.specs.Task.{Keeps}
 use Rattle.futures.specs.declared.task.context.Context.{Context}
 use Rattle.futures.specs.declared.task.Poll.{Poll}
 use Rattle.futures.specs.declared.task.Poll.TheVariants.{Ready, Pending}
+use Rattle.futures.specs.Poll.{IfReady, OnPending}
 use Rattle.futures.specs.Runs.{Runs, AtEachItem}
 use Rattle.futures_buffered_unordered.specs.Held.{AllHeld}
-use Rattle.futures_buffered_unordered.specs.FuturesUnorderedBounded.{Bounded, IsNewSet}
+use Rattle.futures_buffered_unordered.specs.FuturesUnorderedBounded.{Bounded, IsNewSet, held_in, slots_in}
 use Rattle.futures_buffered.specs.Buffer.{Buffering, buffer_code, Ahead, AsksStream}
 use Rattle.futures_buffered.specs.Buffer.{HasNoTurn, IsNewBuffer}
 
@@ -185,3 +186,27 @@ pub record CanForEach
 abbrev pub ForEachGives : {St X Fn Q : Type 0}
     → (St → Runs X) → ForEach St Fn Q → Unit {0} → Type 0
 ForEachGives {X = X} yields b _ = (items : List X) × Ahead yields b.buffer.stream items None
+
+-- What a call leaves of a for-each, of which `can_poll` says whether it may be polled and `gives`
+-- whether it may end. A draw leaves it as a pending call does.
+pub record LeavesForEach
+    {St Fn F S : Type 0}
+    (can_poll : ForEach St Fn (Bounded F S) → Type 0)
+    (gives : ForEach St Fn (Bounded F S) → Unit {0} → Type 0)
+    (old : ForEach St Fn (Bounded F S))
+    (answer : Poll (Unit {0}))
+    (new : ForEach St Fn (Bounded F S))
+    : Type 0 where
+  -- it is ready only where the stream has ended and nothing is held
+  pub ended : IfReady answer (λ _. IsDone held_in new)
+  -- and only where it might end
+  pub value : IfReady answer (gives old)
+  -- while it is pending it can be polled again
+  pub again : OnPending answer (can_poll new)
+  -- and may end only where it might end before
+  pub same : OnPending answer (gives new tt → gives old tt)
+  -- the number of slots and the limit stay
+  pub capacity : slots_in new.buffer.queue ≡ slots_in old.buffer.queue
+  pub limit : new.buffer.queue.limit ≡ old.buffer.queue.limit
+  -- no more futures are held than there are slots
+  pub bound : held_in new.buffer.queue ≤ slots_in new.buffer.queue

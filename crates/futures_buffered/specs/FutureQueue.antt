@@ -1,5 +1,8 @@
--- What a push adds to what may come from a queue of futures.
-use Rattle.std.specs.Prelude.{List, Some, Bool, true, false, ◌⊎◌}
+-- What a push and a poll leave of a queue of futures.
+use Rattle.std.specs.Prelude.{◌≡◌, ℕ, ◌+◌, ◌<◌, ◌≤◌, List, Option, Some, IfNone, OnSome}
+use Rattle.std.specs.Prelude.{Bool, true, false, ◌⊎◌}
+use Rattle.futures.specs.declared.task.Poll.{Poll}
+use Rattle.futures.specs.Poll.{IfReady, OnPending}
 use Rattle.futures.specs.Runs.{Runs, Within, Leads, Chains, Ends}
 
 -- x may come, at once or after others
@@ -11,3 +14,46 @@ MayCome {A} source x = (before : List A) × source before (Some x)
 abbrev pub AddsOutput : {A : Type 0} → Bool → Runs A → (A → Type 0) → Runs A → Type 0
 AddsOutput true old P new = Within (Chains old (Leads P Ends)) new
 AddsOutput {A = A} false old P new = (x : A) → MayCome new x → MayCome old x ⊎ P x
+
+-- What a push leaves of a queue. `count` says how many it holds, `room` how many it can hold, and
+-- `yields` what may come from it.
+pub record PushLeavesQueue
+    {F A Q : Type 0}
+    (count room : Q → ℕ)
+    (in_order : Bool)
+    (yields : Q → Runs A)
+    (gives : F → A → Type 0)
+    (is_fit : F → Type 0)
+    (can_poll : Q → Type 0)
+    (old : Q)
+    (future : F)
+    (new : Q)
+    : Type 0 where
+  -- the queue holds one more
+  pub one_more : count new ≡ count old + 1
+  -- it can hold as many as before
+  pub same_room : room new ≡ room old
+  -- an output of the future may come, besides those that might come before
+  pub adds : AddsOutput in_order (yields old) (gives future) (yields new)
+  -- the queue can be polled if it could be before and the future is fit
+  pub again : can_poll old → is_fit future → can_poll new
+
+-- What a poll leaves of what a queue holds.
+pub record PollLeavesQueue
+    {A Q : Type 0}
+    (count room : Q → ℕ)
+    (old : Q)
+    (answer : Poll (Option A))
+    (new : Q)
+    : Type 0 where
+  -- the end comes only where the queue holds nothing, and changes nothing
+  pub empty : IfReady answer (λ o. IfNone o ((count old ≡ 0) × (new ≡ old)))
+  -- an output leaves one fewer
+  pub fewer : IfReady answer (λ o. OnSome o (count new + 1 ≡ count old))
+  -- a pending poll leaves as many as before
+  pub same_count : OnPending answer (count new ≡ count old)
+  -- the queue can hold as many as before, one at least
+  pub same_room : room new ≡ room old
+  pub some : 0 < room new
+  -- it holds no more than that
+  pub bound : count new ≤ room new

@@ -1,6 +1,6 @@
 -- One call of a buffer whose stream gives futures and errors: an error ends the call at once. The
 -- queue may be any that has a number of entries, a push and a poll.
-use Rattle.std.specs.Prelude.{◌≡◌, ℕ, List, [], ◌∷◌, map, Option, Some, Result, Ok, Err, IfOk, ◌⊎◌}
+use Rattle.std.specs.Prelude.{◌≡◌, ℕ, List, [], ◌∷◌, map, Option, Some, None, Result, Ok, Err, IfOk, ◌⊎◌}
 use Rattle.std.specs.List.{FoldsTo}
 use Rattle.futures.specs.declared.task.Poll.{Poll}
 use Rattle.futures.specs.declared.task.Poll.TheVariants.{Ready}
@@ -70,6 +70,11 @@ futures_of (Err error ∷ items) = futures_of items
 abbrev pub WithErrors : {T E : Type 0} → List (Result T E) → List (Result T E) → Type 0
 WithErrors {T} {E} outputs given =
     (errors : List E) × Interleaves outputs (map Err errors) given
+
+-- an error that came in place of an item, as an answer
+abbrev pub error_given : {B T E : Type 0} → Result B E → Option (Result T E)
+error_given (Ok _) = None
+error_given (Err error) = Some (Err error)
 
 -- the stream may be polled, unless it has ended; each future that may still come is fit to be
 -- pushed; and the queue may be polled

@@ -1,10 +1,8 @@
 //! Some futures of a stream at a time, in any queue of futures.
-ghost use Rattle.std.specs.Prelude.{◌≡◌, ◌<◌, ◌≤◌, ◌+◌, ◌↔◌, [], List, IfOk, IfSome, IfNone, IsTrue, OnSome, None, true, false};
-ghost use Rattle.futures.specs.Task.{Covers, Keeps};
-ghost use Rattle.futures.specs.Runs.{After, Within};
-ghost use Rattle.futures.specs.Poll.{IfReady, OnPending};
+ghost use Rattle.std.specs.Prelude.{◌≡◌, ◌<◌, ◌≤◌, ◌↔◌, List, IfOk, IsTrue, None, false};
 ghost use Rattle.futures_buffered_core.specs.Answer.{RefusesTooLarge};
-ghost use Rattle.futures_buffered.specs.Buffer.{PollsStream, DrawsAll, DrawsOne, DrawsNone, CallGives, CallLeavesTask, HasNoTurn, IsNewBuffer, CanDraw, WaitsAt, BufferGives, hint_with, hint_ahead};
+ghost use Rattle.futures_buffered_unordered.specs.StreamAnswers.{StreamAnswers};
+ghost use Rattle.futures_buffered.specs.Buffer.{PollsStream, DrawsAll, DrawsUpToOne, DrawsBuffer, DrawsTask, CallGives, CallLeavesBuffer, CallLeavesTask, HasNoTurn, IsNewBuffer, CanDraw, WaitsAt, BufferGives, hint_with, hint_ahead};
 
 use crate::future_queue::{FutureQueue, NewQueue};
 use futures::Stream;
@@ -94,21 +92,13 @@ impl<St: Stream, Q: FutureQueue<St::Item>> Buffer<St, Q> {
     // Draws one item, if the stream has not ended, there is room, and an item comes. Says whether one was drawn.
     fn draw_one(&mut self, cx: &mut Context<'_>) -> bool
         requires { CanDraw St.can_poll St.yields Q.is_fit Q.can_poll self.old }
-        ensures one { result ≡ true → (item : St.Item) × DrawsOne (PollsStream St.yields)
-            Q.count (Q.room self.old.queue) Q.pushes self.old item self.new }
-        ensures none { result ≡ false → DrawsNone (PollsStream St.yields)
-            Q.count (Q.room self.old.queue) self.old self.new }
-        ensures count { result ≡ true → Q.count self.new.queue ≡ Q.count self.old.queue + 1 }
-        ensures fits { result ≡ true → Q.count self.old.queue < Q.room self.old.queue }
-        ensures room { Q.room self.new.queue ≡ Q.room self.old.queue }
-        ensures again { CanDraw St.can_poll St.yields Q.is_fit Q.can_poll self.new }
-        ensures within { Within (BufferGives St.yields Q.gives Q.count Q.yields Q.in_order self.old)
-            (BufferGives St.yields Q.gives Q.count Q.yields Q.in_order self.new) }
-        ensures covered { result ≡ false → Q.count self.new.queue < Q.room self.new.queue
-            → IfSome self.new.stream (λ stream. Covers cx.new (St.needs stream)) }
-        ensures no_turn { HasNoTurn (PollsStream St.yields) Q.count (Q.room self.old.queue) self.old
-            → cx.new ≡ cx.old }
-        ensures kept { Keeps cx.old cx.new }
+        ensures draws { DrawsUpToOne (PollsStream St.yields) Q.count (Q.room self.old.queue)
+            Q.pushes self.old result self.new }
+        ensures buffer { DrawsBuffer Q.count Q.room
+            (CanDraw St.can_poll St.yields Q.is_fit Q.can_poll)
+            (BufferGives St.yields Q.gives Q.count Q.yields Q.in_order) self.old None self.new }
+        ensures task { DrawsTask (PollsStream St.yields) Q.count Q.room St.needs (result ≡ false)
+            self.old self.new cx.old cx.new }
     {
         if self.queue.len() >= self.queue.capacity() {
             return false;
@@ -134,15 +124,11 @@ impl<St: Stream, Q: FutureQueue<St::Item>> Buffer<St, Q> {
         requires { CanDraw St.can_poll St.yields Q.is_fit Q.can_poll self.old }
         ensures draws { (drawn : List St.Item) × DrawsAll (PollsStream St.yields)
             Q.count (Q.room self.old.queue) Q.pushes self.old drawn self.new }
-        ensures room { Q.room self.new.queue ≡ Q.room self.old.queue }
-        ensures again { CanDraw St.can_poll St.yields Q.is_fit Q.can_poll self.new }
-        ensures within { Within (BufferGives St.yields Q.gives Q.count Q.yields Q.in_order self.old)
-            (BufferGives St.yields Q.gives Q.count Q.yields Q.in_order self.new) }
-        ensures covered { Q.count self.new.queue < Q.room self.new.queue
-            → IfSome self.new.stream (λ stream. Covers cx.new (St.needs stream)) }
-        ensures no_turn { HasNoTurn (PollsStream St.yields) Q.count (Q.room self.old.queue) self.old
-            → cx.new ≡ cx.old }
-        ensures kept { Keeps cx.old cx.new }
+        ensures buffer { DrawsBuffer Q.count Q.room
+            (CanDraw St.can_poll St.yields Q.is_fit Q.can_poll)
+            (BufferGives St.yields Q.gives Q.count Q.yields Q.in_order) self.old None self.new }
+        ensures task { DrawsTask (PollsStream St.yields) Q.count Q.room St.needs (Unit {0})
+            self.old self.new cx.old cx.new }
     {
         'draws: while self.draw_one(cx) {}
     }
@@ -164,29 +150,15 @@ impl<St: Stream, Q: FutureQueue<St::Item>> Stream for Buffer<St, Q> {
         requires { CanDraw St.can_poll St.yields Q.is_fit Q.can_poll self.old }
         ensures called { CallGives (PollsStream St.yields) Q.count (Q.room self.old.queue)
             Q.pushes Q.polls self.old result self.new }
-        ensures ended { IfReady result (λ o. IfNone o
-            ((self.new.stream ≡ None) × (Q.count self.new.queue ≡ 0))) }
-        ensures room { Q.room self.new.queue ≡ Q.room self.old.queue }
-        ensures bound { Q.count self.new.queue ≤ Q.room self.new.queue }
-        ensures value { IfReady result
-            (BufferGives St.yields Q.gives Q.count Q.yields Q.in_order self.old []) }
-        ensures rest { IfReady result (λ o. IfSome o (λ x.
-            After (BufferGives St.yields Q.gives Q.count Q.yields Q.in_order self.old) x
-            (BufferGives St.yields Q.gives Q.count Q.yields Q.in_order self.new))) }
-        ensures same { OnPending result
-            (Within (BufferGives St.yields Q.gives Q.count Q.yields Q.in_order self.old)
-            (BufferGives St.yields Q.gives Q.count Q.yields Q.in_order self.new)) }
-        ensures goes { IfReady result (λ o. OnSome o
-            (CanDraw St.can_poll St.yields Q.is_fit Q.can_poll self.new)) }
-        ensures again { OnPending result
-            (CanDraw St.can_poll St.yields Q.is_fit Q.can_poll self.new) }
-        ensures registered { OnPending result
-            (Covers cx.new (WaitsAt St.needs Q.needs Q.count Q.room self.new)) }
+        ensures buffer { CallLeavesBuffer Q.count Q.room self.old result self.new }
+        ensures stream { StreamAnswers (CanDraw St.can_poll St.yields Q.is_fit Q.can_poll)
+            (WaitsAt St.needs Q.needs Q.count Q.room)
+            (BufferGives St.yields Q.gives Q.count Q.yields Q.in_order)
+            self.old result self.new cx.old cx.new }
         ensures leaves { CallLeavesTask (λ polls. CallGives (PollsStream St.yields) Q.count
             (Q.room self.old.queue) Q.pushes polls self.old result self.new)
             (HasNoTurn (PollsStream St.yields) Q.count (Q.room self.old.queue) self.old)
             Q.polls Q.leaves cx.old cx.new }
-        ensures kept { Keeps cx.old cx.new }
     {
         self.fill(cx);
         match self.queue.poll_output(cx) {

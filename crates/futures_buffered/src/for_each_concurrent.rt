@@ -1,24 +1,23 @@
 //! A closure called with each item of a stream, and some of the futures that it makes at a time.
-ghost use Rattle.std.specs.Prelude.{◌≡◌, ◌<◌, ◌≤◌, ◌↔◌, Option, IfOk, IfSome, IsTrue, true, false};
+ghost use Rattle.std.specs.Prelude.{◌≡◌, ◌<◌, ◌≤◌, ◌↔◌, Option, IfOk, IsTrue, true, false};
 ghost use Rattle.futures.specs.Task.{Covers, Keeps};
 ghost use Rattle.futures.specs.Runs.{Calls};
-ghost use Rattle.futures.specs.Poll.{IfReady, OnPending};
+ghost use Rattle.futures.specs.Poll.{OnPending};
 ghost use Rattle.futures.specs.declared.task.Poll.{Poll};
+ghost use Rattle.futures.specs.declared.task.Poll.TheVariants.{Pending};
 ghost use Rattle.futures_buffered_core.specs.Answer.{RefusesTooLarge};
 ghost use Rattle.futures_buffered_core.specs.ReadyShared.{IsNewShared};
 ghost use Rattle.futures_buffered_unordered.specs.FuturesUnorderedBounded.{Pushes, PollGives, PollLeavesTask, IsWoken, held_in, slots_in};
-ghost use Rattle.futures_buffered.specs.Buffer.{PollsStream, HasNoTurn, WaitsAt};
+ghost use Rattle.futures_buffered.specs.Buffer.{PollsStream, DrawsTask, WaitsAt};
 ghost use Rattle.futures_buffered.specs.BufferUnordered.{SetWaitsAt};
-ghost use Rattle.futures_buffered.specs.ForEachConcurrent.{IsNewForEach, IsDone, DrawsOnce, ForEachCall, CanForEach, ForEachGives, drew_one};
+ghost use Rattle.futures_buffered.specs.ForEachConcurrent.{IsNewForEach, IsDone, DrawsOnce, ForEachCall, CanForEach, ForEachGives, LeavesForEach, drew_one};
 
 use futures::task::{Context, Poll};
 use futures::{Future, Stream};
 use futures_buffered_core::ready_core::NewFault;
 use futures_buffered_core::ready_shared::SharedReady;
 use futures_buffered_core::ready_source::{NewSource, ReadySource};
-use futures_buffered_unordered::futures_unordered_bounded::{
-    FuturesUnorderedBounded, POLL_LIMIT,
-};
+use futures_buffered_unordered::futures_unordered_bounded::{FuturesUnorderedBounded, POLL_LIMIT};
 use futures_buffered_unordered::{FusedFuture, SlotFuture};
 use std::alloc::Global;
 use std::fmt;
@@ -160,17 +159,11 @@ impl<
             × DrawsOnce (PollsStream St.yields) held_in (slots_in self.old.buffer.queue)
             (Pushes S.marks) (Calls F.FnMut) self.old asked self.new }
         ensures count { result ≡ true → 0 < held_in self.new.buffer.queue }
-        ensures capacity { slots_in self.new.buffer.queue ≡ slots_in self.old.buffer.queue }
-        ensures limit { self.new.buffer.queue.limit ≡ self.old.buffer.queue.limit }
-        ensures bound { held_in self.new.buffer.queue ≤ slots_in self.new.buffer.queue }
-        ensures again { CanForEach St.can_poll St.yields F.pre (Calls F.FnMut) Fut.can_poll self.new }
-        ensures gives { ForEachGives St.yields self.new tt → ForEachGives St.yields self.old tt }
-        ensures covered { result ≡ false
-            → held_in self.new.buffer.queue < slots_in self.new.buffer.queue
-            → IfSome self.new.buffer.stream (λ stream. Covers cx.new (St.needs stream)) }
-        ensures no_turn { HasNoTurn (PollsStream St.yields) held_in
-            (slots_in self.old.buffer.queue) self.old.buffer → cx.new ≡ cx.old }
-        ensures kept { Keeps cx.old cx.new }
+        ensures for_each { LeavesForEach
+            (CanForEach St.can_poll St.yields F.pre (Calls F.FnMut) Fut.can_poll)
+            (ForEachGives St.yields) self.old Pending self.new }
+        ensures task { DrawsTask (PollsStream St.yields) held_in slots_in St.needs
+            (result ≡ false) self.old.buffer self.new.buffer cx.old cx.new }
     {
         if self.queue.len() >= self.queue.capacity() {
             return false;
@@ -216,15 +209,9 @@ impl<
             (slots_in self.old.buffer.queue) (Pushes S.marks) (Calls F.FnMut)
             (PollGives Fut.polled S.steps) (PollLeavesTask Fut.polled S.steps S.registers_poll)
             IsWoken self.old.buffer.queue.limit self.old result self.new cx.old cx.new }
-        ensures ended { IfReady result (λ _. IsDone held_in self.new) }
-        ensures capacity { slots_in self.new.buffer.queue ≡ slots_in self.old.buffer.queue }
-        ensures limit { self.new.buffer.queue.limit ≡ self.old.buffer.queue.limit }
-        ensures bound { held_in self.new.buffer.queue ≤ slots_in self.new.buffer.queue }
-        ensures value { IfReady result (ForEachGives St.yields self.old) }
-        ensures again { OnPending result
-            (CanForEach St.can_poll St.yields F.pre (Calls F.FnMut) Fut.can_poll self.new) }
-        ensures same { OnPending result
-            (ForEachGives St.yields self.new tt → ForEachGives St.yields self.old tt) }
+        ensures for_each { LeavesForEach
+            (CanForEach St.can_poll St.yields F.pre (Calls F.FnMut) Fut.can_poll)
+            (ForEachGives St.yields) self.old result self.new }
         ensures registered { OnPending result
             (Covers cx.new
             (WaitsAt St.needs (SetWaitsAt S.needs) held_in slots_in self.new.buffer)) }

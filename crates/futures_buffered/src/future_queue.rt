@@ -1,12 +1,10 @@
 //! What a buffer holds: futures, of each of which one output comes.
 //!
 //! A buffer is written once, for any such queue. `UnorderedQueue` is one whose outputs come as the futures finish, `OrderedQueue` one that keeps the order of the pushes.
-ghost use Rattle.std.specs.Prelude.{◌≡◌, ◌<◌, ◌≤◌, ◌+◌, ℕ, Bool, List, [], Option, IfOk, IfSome, IfNone, OnSome};
-ghost use Rattle.futures.specs.Task.{Covers, Keeps};
-ghost use Rattle.futures.specs.Runs.{After, Within};
-ghost use Rattle.futures.specs.Poll.{IfReady, OnPending};
+ghost use Rattle.std.specs.Prelude.{◌≡◌, ◌<◌, ◌≤◌, ℕ, Bool, List, Option, IfOk};
 ghost use Rattle.futures_buffered_core.specs.Answer.{RefusesTooLarge};
-ghost use Rattle.futures_buffered.specs.FutureQueue.{AddsOutput};
+ghost use Rattle.futures_buffered_unordered.specs.StreamAnswers.{StreamAnswers};
+ghost use Rattle.futures_buffered.specs.FutureQueue.{PollLeavesQueue, PushLeavesQueue};
 
 use futures::task::{Context, Poll};
 use futures_buffered_core::ready_core::NewFault;
@@ -68,31 +66,16 @@ pub trait FutureQueue<F>: Drop {
     fn push(&mut self, future: F)
         requires { count self.old < room self.old }
         ensures pushed { pushes self.old future self.new }
-        ensures one_more { count self.new ≡ count self.old + 1 }
-        ensures same_room { room self.new ≡ room self.old }
-        ensures adds { AddsOutput in_order (yields self.old) (gives future) (yields self.new) }
-        ensures again { can_poll self.old → is_fit future → can_poll self.new };
+        ensures queue { PushLeavesQueue count room in_order yields gives is_fit can_poll
+            self.old future self.new };
 
     /// One poll. `Ready(None)` where nothing is held. Takes no memory.
     fn poll_output(&mut self, cx: &mut Context<'_>) -> Poll<Option<Self::Output>>
         requires { can_poll self.old }
         ensures polled { polls self.old result self.new }
-        ensures empty { IfReady result (λ o. IfNone o
-            ((count self.old ≡ 0) × (self.new ≡ self.old))) }
-        ensures fewer { IfReady result (λ o. OnSome o (count self.new + 1 ≡ count self.old)) }
-        ensures same_count { OnPending result (count self.new ≡ count self.old) }
-        ensures same_room { room self.new ≡ room self.old }
-        ensures bound { count self.new ≤ room self.new }
-        ensures some { 0 < room self.new }
-        ensures value { IfReady result (yields self.old []) }
-        ensures rest { IfReady result (λ o. IfSome o (λ x.
-            After (yields self.old) x (yields self.new))) }
-        ensures same { OnPending result (Within (yields self.old) (yields self.new)) }
-        ensures goes { IfReady result (λ o. OnSome o (can_poll self.new)) }
-        ensures again { OnPending result (can_poll self.new) }
-        ensures registered { OnPending result (Covers cx.new (needs self.new)) }
-        ensures leaves { leaves self.old result self.new cx.old cx.new }
-        ensures kept { Keeps cx.old cx.new };
+        ensures queue { PollLeavesQueue count room self.old result self.new }
+        ensures stream { StreamAnswers can_poll needs yields self.old result self.new cx.old cx.new }
+        ensures leaves { leaves self.old result self.new cx.old cx.new };
 }
 
 /// A queue that a buffer can make for itself.

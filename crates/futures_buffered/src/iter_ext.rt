@@ -1,5 +1,5 @@
 //! Constructors of sets, joins and merges as methods of what gives the items.
-ghost use Rattle.std.specs.Prelude.{◌≡◌, ◌≤◌, ◌<◌, ◌⊎◌, ℕ, List, IfOk, IsSomeAnd, max};
+ghost use Rattle.std.specs.Prelude.{◌≡◌, ◌≤◌, ◌<◌, ◌⊎◌, ℕ, List, IfOk, max};
 ghost use Rattle.std.specs.Iterator.{IsFiniteIterable};
 ghost use Rattle.futures_buffered_core.specs.Drawn.{Draws, DrawsMoreThan, SaysAtLeast};
 ghost use Rattle.futures_buffered_core.specs.ReadyShared.{IsNewShared, MarksShared, Shared};
@@ -16,11 +16,9 @@ use futures_buffered_core::ready_shared::{SharedReady, SharedWaker};
 use futures_buffered_joins::{JoinAll, TryJoinAll};
 use futures_buffered_merges::{MergeBounded, MergeUnbounded, SlotStream};
 use futures_buffered_ordered::{FuturesOrdered, FuturesOrderedBounded};
-use futures_buffered_unordered::futures_unordered::{FIRST_GROUP, FuturesUnordered};
 use futures_buffered_unordered::SlotFuture;
-use futures_buffered_unordered::futures_unordered_bounded::{
-    FuturesUnorderedBounded, POLL_LIMIT,
-};
+use futures_buffered_unordered::futures_unordered::{FIRST_GROUP, FuturesUnordered};
+use futures_buffered_unordered::futures_unordered_bounded::{FuturesUnorderedBounded, POLL_LIMIT};
 use std::alloc::Global;
 
 /// Sets, joins and merges of what an iterator gives, where it ends.

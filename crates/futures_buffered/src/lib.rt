@@ -53,8 +53,8 @@ pub use futures_buffered_held::{
 };
 pub use futures_buffered_sets::{
     FusedFuture, FusedStream, FuturesOrdered, FuturesOrderedBounded, FuturesUnordered,
-    FuturesUnorderedBounded, JoinAll, Merge, MergeBounded, MergeUnbounded, SlotHandle, PollFuture,
-    PollOne, PollStream, SizeHint, SlotFuture, SlotStream, SlotWaker, TryJoinAll, fused,
+    FuturesUnorderedBounded, JoinAll, Merge, MergeBounded, MergeUnbounded, PollFuture, PollOne,
+    PollStream, SizeHint, SlotFuture, SlotHandle, SlotStream, SlotWaker, TryJoinAll, fused,
     futures_ordered, futures_ordered_bounded, futures_unordered, futures_unordered_bounded, join,
     join_all, merge_bounded, merge_unbounded, poll_one, slot_future, slot_stream, try_join,
     try_join_all,

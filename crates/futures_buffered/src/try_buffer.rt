@@ -1,11 +1,9 @@
 //! Some futures of a stream at a time, in any queue of futures, where the stream gives errors as well.
-ghost use Rattle.std.specs.Prelude.{◌≡◌, ◌<◌, ◌≤◌, ◌+◌, ◌↔◌, [], List, Option, Result, Ok, Err, IfOk, IfErr, IfSome, IfNone, IsTrue, OnSome, OnOk, Some, None, true, false};
-ghost use Rattle.futures.specs.Task.{Covers, Keeps};
-ghost use Rattle.futures.specs.Runs.{After, Within};
-ghost use Rattle.futures.specs.Poll.{IfReady, OnPending};
+ghost use Rattle.std.specs.Prelude.{◌≡◌, ◌<◌, ◌≤◌, ◌↔◌, [], List, Result, Ok, IfOk, IfErr, IsOk, OnOk, IsTrue, false};
 ghost use Rattle.futures_buffered_core.specs.Answer.{RefusesTooLarge};
-ghost use Rattle.futures_buffered.specs.Buffer.{PollsStream, DrawsAll, DrawsOne, DrawsNone, CallLeavesTask, HasNoTurn, IsNewBuffer, WaitsAt, hint_with, hint_ahead};
-ghost use Rattle.futures_buffered.specs.TryBuffer.{PushesOk, DrawsError, TryCallGives, CanTryDraw, TryBufferGives};
+ghost use Rattle.futures_buffered_unordered.specs.StreamAnswers.{StreamAnswers};
+ghost use Rattle.futures_buffered.specs.Buffer.{PollsStream, DrawsAll, DrawsUpToOne, DrawsBuffer, DrawsTask, CallLeavesBuffer, CallLeavesTask, HasNoTurn, IsNewBuffer, WaitsAt, hint_with, hint_ahead};
+ghost use Rattle.futures_buffered.specs.TryBuffer.{PushesOk, DrawsError, TryCallGives, CanTryDraw, TryBufferGives, error_given};
 
 use crate::future_queue::{FutureQueue, NewQueue};
 use futures::Stream;
@@ -100,30 +98,16 @@ where
     // Draws one future, if the stream has not ended, there is room, and one comes. Says whether one was drawn, or the error that came in its place.
     fn draw_one(&mut self, cx: &mut Context<'_>) -> Result<bool, E>
         requires { CanTryDraw St.can_poll St.yields Q.is_fit Q.can_poll self.old }
-        ensures one { result ≡ Ok true → (item : Result F E) × DrawsOne (PollsStream St.yields)
-            Q.count (Q.room self.old.queue) (PushesOk Q.pushes) self.old item self.new }
-        ensures none { result ≡ Ok false → DrawsNone (PollsStream St.yields)
-            Q.count (Q.room self.old.queue) self.old self.new }
-        ensures error { IfErr result (λ e. DrawsError (PollsStream St.yields)
-            Q.count (Q.room self.old.queue) Q.pushes self.old [] e self.new) }
-        ensures count { result ≡ Ok true → Q.count self.new.queue ≡ Q.count self.old.queue + 1 }
-        ensures fits { result ≡ Ok true → Q.count self.old.queue < Q.room self.old.queue }
-        ensures room { Q.room self.new.queue ≡ Q.room self.old.queue }
-        ensures bound { Q.count self.new.queue ≤ Q.room self.new.queue }
-        ensures again { CanTryDraw St.can_poll St.yields Q.is_fit Q.can_poll self.new }
-        ensures within { OnOk result
-            (Within (TryBufferGives St.yields Q.gives Q.count Q.yields self.old)
-            (TryBufferGives St.yields Q.gives Q.count Q.yields self.new)) }
-        ensures value { IfErr result (λ e.
-            TryBufferGives St.yields Q.gives Q.count Q.yields self.old [] (Some (Err e))) }
-        ensures after { IfErr result (λ e.
-            After (TryBufferGives St.yields Q.gives Q.count Q.yields self.old) (Err e)
-            (TryBufferGives St.yields Q.gives Q.count Q.yields self.new)) }
-        ensures covered { result ≡ Ok false → Q.count self.new.queue < Q.room self.new.queue
-            → IfSome self.new.stream (λ stream. Covers cx.new (St.needs stream)) }
-        ensures no_turn { HasNoTurn (PollsStream St.yields) Q.count (Q.room self.old.queue) self.old
-            → cx.new ≡ cx.old }
-        ensures kept { Keeps cx.old cx.new }
+        ensures draws { IfOk result (λ drew. DrawsUpToOne (PollsStream St.yields) Q.count
+            (Q.room self.old.queue) (PushesOk Q.pushes) self.old drew self.new) }
+        ensures error { IfErr result (λ e. DrawsError (PollsStream St.yields) Q.count
+            (Q.room self.old.queue) Q.pushes self.old [] e self.new) }
+        ensures buffer { DrawsBuffer Q.count Q.room
+            (CanTryDraw St.can_poll St.yields Q.is_fit Q.can_poll)
+            (TryBufferGives St.yields Q.gives Q.count Q.yields)
+            self.old (error_given result) self.new }
+        ensures task { DrawsTask (PollsStream St.yields) Q.count Q.room St.needs
+            (result ≡ Ok false) self.old self.new cx.old cx.new }
     {
         if self.queue.len() >= self.queue.capacity() {
             return Ok(false);
@@ -153,22 +137,12 @@ where
         ensures error { IfErr result (λ e. (drawn : List (Result F E)) × DrawsError
             (PollsStream St.yields) Q.count (Q.room self.old.queue) Q.pushes
             self.old drawn e self.new) }
-        ensures room { Q.room self.new.queue ≡ Q.room self.old.queue }
-        ensures bound { Q.count self.new.queue ≤ Q.room self.new.queue }
-        ensures again { CanTryDraw St.can_poll St.yields Q.is_fit Q.can_poll self.new }
-        ensures within { OnOk result
-            (Within (TryBufferGives St.yields Q.gives Q.count Q.yields self.old)
-            (TryBufferGives St.yields Q.gives Q.count Q.yields self.new)) }
-        ensures value { IfErr result (λ e.
-            TryBufferGives St.yields Q.gives Q.count Q.yields self.old [] (Some (Err e))) }
-        ensures after { IfErr result (λ e.
-            After (TryBufferGives St.yields Q.gives Q.count Q.yields self.old) (Err e)
-            (TryBufferGives St.yields Q.gives Q.count Q.yields self.new)) }
-        ensures covered { OnOk result (Q.count self.new.queue < Q.room self.new.queue
-            → IfSome self.new.stream (λ stream. Covers cx.new (St.needs stream))) }
-        ensures no_turn { HasNoTurn (PollsStream St.yields) Q.count (Q.room self.old.queue) self.old
-            → cx.new ≡ cx.old }
-        ensures kept { Keeps cx.old cx.new }
+        ensures buffer { DrawsBuffer Q.count Q.room
+            (CanTryDraw St.can_poll St.yields Q.is_fit Q.can_poll)
+            (TryBufferGives St.yields Q.gives Q.count Q.yields)
+            self.old (error_given result) self.new }
+        ensures task { DrawsTask (PollsStream St.yields) Q.count Q.room St.needs (IsOk result)
+            self.old self.new cx.old cx.new }
     {
         'draws: loop {
             match self.draw_one(cx) {
@@ -204,29 +178,15 @@ where
         requires { CanTryDraw St.can_poll St.yields Q.is_fit Q.can_poll self.old }
         ensures called { TryCallGives (PollsStream St.yields) Q.count (Q.room self.old.queue)
             Q.pushes Q.polls self.old result self.new }
-        ensures ended { IfReady result (λ o. IfNone o
-            ((self.new.stream ≡ None) × (Q.count self.new.queue ≡ 0))) }
-        ensures room { Q.room self.new.queue ≡ Q.room self.old.queue }
-        ensures bound { Q.count self.new.queue ≤ Q.room self.new.queue }
-        ensures value { IfReady result
-            (TryBufferGives St.yields Q.gives Q.count Q.yields self.old []) }
-        ensures rest { IfReady result (λ o. IfSome o (λ x.
-            After (TryBufferGives St.yields Q.gives Q.count Q.yields self.old) x
-            (TryBufferGives St.yields Q.gives Q.count Q.yields self.new))) }
-        ensures same { OnPending result
-            (Within (TryBufferGives St.yields Q.gives Q.count Q.yields self.old)
-            (TryBufferGives St.yields Q.gives Q.count Q.yields self.new)) }
-        ensures goes { IfReady result (λ o. OnSome o
-            (CanTryDraw St.can_poll St.yields Q.is_fit Q.can_poll self.new)) }
-        ensures again { OnPending result
-            (CanTryDraw St.can_poll St.yields Q.is_fit Q.can_poll self.new) }
-        ensures registered { OnPending result
-            (Covers cx.new (WaitsAt St.needs Q.needs Q.count Q.room self.new)) }
+        ensures buffer { CallLeavesBuffer Q.count Q.room self.old result self.new }
+        ensures stream { StreamAnswers (CanTryDraw St.can_poll St.yields Q.is_fit Q.can_poll)
+            (WaitsAt St.needs Q.needs Q.count Q.room)
+            (TryBufferGives St.yields Q.gives Q.count Q.yields)
+            self.old result self.new cx.old cx.new }
         ensures leaves { CallLeavesTask (λ polls. TryCallGives (PollsStream St.yields) Q.count
             (Q.room self.old.queue) Q.pushes polls self.old result self.new)
             (HasNoTurn (PollsStream St.yields) Q.count (Q.room self.old.queue) self.old)
             Q.polls Q.leaves cx.old cx.new }
-        ensures kept { Keeps cx.old cx.new }
     {
         if let Err(error) = self.fill(cx) {
             return Poll::Ready(Some(Err(error)));

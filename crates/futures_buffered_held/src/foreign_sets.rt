@@ -22,11 +22,9 @@ use futures_buffered_joins::join::{Join, JoinAll};
 use futures_buffered_joins::try_join::{TryJoin, TryJoinAll};
 use futures_buffered_ordered::futures_ordered::FuturesOrdered;
 use futures_buffered_ordered::futures_ordered_bounded::FuturesOrderedBounded;
-use futures_buffered_unordered::futures_unordered::FuturesUnordered;
 use futures_buffered_unordered::SlotFuture;
-use futures_buffered_unordered::futures_unordered_bounded::{
-    FuturesUnorderedBounded, POLL_LIMIT,
-};
+use futures_buffered_unordered::futures_unordered::FuturesUnordered;
+use futures_buffered_unordered::futures_unordered_bounded::{FuturesUnorderedBounded, POLL_LIMIT};
 use std::alloc::Global;
 
 /// A set of futures of the kit.
@@ -73,7 +71,7 @@ pub fn growing_foreign_set<F: Future<Output: Drop>, T: Drop>(
     ensures refuses { RefusesTooLarge cap result }
     ensures none { cap ≡ 0 → IsOk result }
 {
-    FuturesUnordered::over((), alloc, cap)
+    FuturesUnordered::over(&(), alloc, cap)
 }
 
 /// An empty queue of `cap` slots, whose outputs come in the order of the pushes.
@@ -104,7 +102,7 @@ where
     ensures refuses { RefusesTooLarge cap result }
     ensures none { cap ≡ 0 → IsOk result }
 {
-    FuturesOrdered::over((), alloc, cap)
+    FuturesOrdered::over(&(), alloc, cap)
 }
 
 /// A join of what this iterator gives, in its order. Nothing is polled, and it refuses as `JoinAll::over` does.

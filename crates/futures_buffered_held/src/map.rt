@@ -1,6 +1,6 @@
 //! A future whose output goes through a closure.
 use futures::task::Poll;
-use futures_buffered_unordered::slot_future::{SlotHandle, SlotFuture};
+use futures_buffered_unordered::slot_future::{SlotFuture, SlotHandle};
 use std::marker::Model;
 
 /// Gives what its closure makes of the output of its future, which is dropped before the call. Polled again, it stays pending.

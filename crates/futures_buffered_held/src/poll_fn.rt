@@ -1,6 +1,6 @@
 //! A future of a closure.
 use futures::task::Poll;
-use futures_buffered_unordered::slot_future::{SlotHandle, SlotFuture};
+use futures_buffered_unordered::slot_future::{SlotFuture, SlotHandle};
 use std::marker::Model;
 
 /// Calls its closure at each poll, with the waker of its slot, and answers what that returns.

@@ -1,6 +1,6 @@
 //! A future that is ready from the start.
 use futures::task::Poll;
-use futures_buffered_unordered::slot_future::{SlotHandle, SlotFuture};
+use futures_buffered_unordered::slot_future::{SlotFuture, SlotHandle};
 use std::marker::Model;
 
 /// Gives its value at its first poll. Polled again, it stays pending.

@@ -1,6 +1,6 @@
 //! A future that a closure makes of the output of another.
 use futures::task::Poll;
-use futures_buffered_unordered::slot_future::{SlotHandle, SlotFuture};
+use futures_buffered_unordered::slot_future::{SlotFuture, SlotHandle};
 use std::mem;
 
 /// A future, and then the one that its closure makes of the output.
@@ -15,9 +15,12 @@ pub enum Then<F, B, C> {
 }
 
 /// Gives the output of its second future, which is polled in the same call in which the first one is ready. The first is dropped before the closure is called. Polled again, it is what the second future is.
-impl<W: SlotHandle, B: SlotFuture<W>, F: SlotFuture<W>, C: FnOnce(F::Output) -> B + Drop> SlotFuture<
-    W,
-> for Then<F, B, C> {
+impl<
+    W: SlotHandle,
+    B: SlotFuture<W>,
+    F: SlotFuture<W>,
+    C: FnOnce(F::Output) -> B + Drop,
+> SlotFuture<W> for Then<F, B, C> {
     ghost use Rattle.std.specs.Prelude.{⊤};
     ghost use Rattle.futures_buffered_held.specs.Then.{Follows};
     ghost use Rattle.futures_buffered_held.specs.declared.then.Then.TheVariants.{First, Second, Gone};

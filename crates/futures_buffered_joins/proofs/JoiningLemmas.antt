@@ -1,18 +1,16 @@
 -- What one poll of a join's set makes of its places.
-use Rattle.std.proofs.Common.{◌≡◌, ℕ, ◌<◌, zero, suc, List, [], ◌∷◌, length, map, get_or, set, Option, Some, None, Result, Err, IsSome, IfSome, is_some, true, false, not, cond, refl, sym, ap, subst, inl, inr, arith, ◌∙◌}
+use Rattle.std.proofs.Common.{◌≡◌, ℕ, ◌<◌, zero, suc, List, [], ◌∷◌, length, map, get_or, set, Option, Some, None, Result, Err, IsSome, is_some, true, false, not, cond, refl, sym, ap, subst, inl, inr, arith, ◌∙◌}
 use Rattle.std.specs.List.{count_by}
 use Rattle.std.proofs.lemmas.List.{get_or_past, get_or-replicate, length-map, length-replicate}
 use Rattle.std.proofs.lemmas.List.Sums.{sum_by-cons}
-use Rattle.std.proofs.lemmas.Bool.{cases_lt, cases_eq}
+use Rattle.std.proofs.lemmas.Bool.{cases_lt}
 use Rattle.std.specs.Prelude.{replicate}
 use Rattle.futures.specs.declared.task.Poll.{Poll}
 use Rattle.futures.specs.declared.task.Poll.TheVariants.{Ready}
-use Rattle.futures_buffered_core.specs.SlotMap.{Slots, value_in, held_count, slot_count, with_slot_freed}
+use Rattle.futures_buffered_core.specs.SlotMap.{value_in, held_count, slot_count}
 use Rattle.futures_buffered_table.specs.declared.answer.Woke.{Woke}
 use Rattle.futures_buffered_core.specs.ReadySource.{SourceSteps}
 use Rattle.futures_buffered_unordered.specs.FuturesUnorderedBounded.{Bounded, HoldsEach, AsksUntil, with_empty_slot}
-use Rattle.futures_buffered_unordered.proofs.HeldGivesLemmas.{value_in-with_slot_freed, value_in-with_slot_freed_other}
-use Rattle.futures_buffered_unordered.specs.Held.{AllHeld, AllHeldBut}
 use Rattle.futures_buffered_joins.specs.Joining.{Places, Fills, output_at}
 use Rattle.futures_buffered_joins.specs.JoiningInvariant.{KeepsJoinPlaces}
 use Rattle.futures_buffered_joins.specs.TryJoin.{Fails}
@@ -73,11 +71,3 @@ keeps_new {F} {A} made marks names items held outputs gathered room new is empty
 -- once no future is waited for, each output has come
 pub all_come : {F A S : Type 0} (places : Places F A S) (gathered : List A) (room : ℕ) → KeepsJoinPlaces places gathered room → held_count places.set.slots ≡ 0 → (k : ℕ) → k < length places.outputs → is_some (output_at places k) ≡ true
 all_come places gathered room keeps none k below = keeps.either k below ∙ ap not (none_counted places.set.slots.places k none)
-
--- once a slot is emptied, what each other slot holds is all that is held
-pub held_once_empty : {F : Type 0} (P : F → Type 0) (m : Slots F) (i : ℕ) → AllHeldBut i P m → AllHeld P (with_slot_freed m i)
-held_once_empty {F} P m i others j =
-    elim (cases_eq j i) [
-      | inl same ↦ subst (λ (k : ℕ). IfSome (value_in (with_slot_freed m i) k) P) (sym same) (subst (λ (o : Option F). IfSome o P) (sym (value_in-with_slot_freed m i)) tt)
-      | inr other ↦ subst (λ (o : Option F). IfSome o P) (sym (value_in-with_slot_freed_other m i j other)) (others j other)
-    ]

@@ -1,24 +1,14 @@
 -- From what the calls of a set leave to what one poll of its streams says.
-use Rattle.std.proofs.Common.{◌≡◌, ℕ, Option, Some, None, ◌<◌, ap, inl, inr, ◌∙◌}
+use Rattle.std.proofs.Common.{◌≡◌, ℕ, Bool, Option, Some, None, ◌<◌, ap, inl, inr, ◌∙◌}
 use Rattle.futures.specs.declared.task.context.Context.{Context}
 use Rattle.futures.specs.declared.task.Poll.{Poll}
 use Rattle.futures.specs.declared.task.Poll.TheVariants.{Ready, Pending}
 use Rattle.futures_buffered_table.specs.declared.answer.Woke.{Woke}
-use Rattle.futures_buffered_merges.specs.Merging.{CountGives}
-use Rattle.std.proofs.lemmas.Bool.{cases_eq}
-use Rattle.futures_buffered_core.specs.SlotMap.{Slots, held_count, with_slot_freed}
+use Rattle.futures_buffered_merges.specs.Merging.{CountGives, PollsStreamsTask, RegistersUnless}
+use Rattle.futures_buffered_core.specs.SlotMap.{Slots, held_count}
 use Rattle.futures_buffered_core.specs.ReadySource.{SourceSteps}
-use Rattle.futures_buffered_unordered.specs.Held.{AllHeld, AllHeldBut}
 use Rattle.futures_buffered_unordered.specs.FuturesUnorderedBounded.{Bounded, AsksSetTask, AsksUntil, LeavesTask, MarksSlot, with_empty_slot, with_source}
-use Rattle.futures_buffered_unordered.proofs.HeldGivesLemmas.{value_in-with_slot_freed, value_in-with_slot_freed_other}
-
--- what holds of all but one value holds of all once that slot is empty
-pub AllHeld-without : {F : Type 0} (P : F → Type 0) (m : Slots F) (i : ℕ) → AllHeldBut i P m → AllHeld P (with_slot_freed m i)
-AllHeld-without P m i others j =
-    elim (cases_eq j i) [
-      | inl same ↦ rw (same, value_in-with_slot_freed m i) tt
-      | inr other ↦ rw (value_in-with_slot_freed_other m i j other) (others j other)
-    ]
+use Rattle.futures_buffered_unordered.proofs.FuturesUnorderedBoundedLemmas.{registers_more}
 
 -- two sets that differ in their source alone
 same_but_source : {F S : Type 0} (left new : Bounded F S) → new.slots ≡ left.slots → new.limit ≡ left.limit → new ≡ with_source left new.source
@@ -35,6 +25,36 @@ asks_told polled steps needs registers told pends old new Pending cx left tells 
       woken = elim task.woken [ inl woken ↦ inl woken | inr empty ↦ inr (empty.0, tells empty.1) ];
       leaves = elim (ends task.leaves) [ inl empty ↦ inl (empty.0, tells empty.1) | inr part ↦ inr part ];
       only_registered = tt;
+      kept = task.kept;
+    }
+
+-- further registrations, or none
+pub unless_more : {S : Type 0} (registers_poll : S → Context → Context → Type 0) (is_registered : Bool) (old mid new : Context) → RegistersUnless registers_poll is_registered old mid → RegistersUnless registers_poll is_registered mid new → RegistersUnless registers_poll is_registered old new
+unless_more registers_poll is_registered old mid new before then =
+    record {
+      only_registers = registers_more registers_poll old mid new before.only_registers then.only_registers;
+      leaves_alone = λ already. then.leaves_alone already ∙ before.leaves_alone already;
+    }
+
+-- what one poll leaves of its task, where what registrations make of it is told otherwise
+pub polls_told : {F A S : Type 0} (polled : ℕ → F → Poll (Option A) → F → Type 0) (steps : SourceSteps S) (marks : S → ℕ → Woke → S → Type 0) (needs : S → ℕ → Type 0) (registers told : Context → Context → Type 0) (old : Bounded F S) (answer : Poll (Option A)) (new : Bounded F S) (cx left : Context) → (registers cx left → told cx left)
+    → PollsStreamsTask polled steps marks needs registers old answer new cx left → PollsStreamsTask polled steps marks needs told old answer new cx left
+polls_told polled steps marks needs registers told old (Ready o) new cx left tells task =
+    record {
+      covered = tt;
+      woken = tt;
+      leaves = elim task.leaves [ inl empty ↦ inl (empty.0, tells empty.1) | inr part ↦ inr part ];
+      only_registered = tells task.only_registered;
+      untouched = task.untouched;
+      kept = task.kept;
+    }
+polls_told polled steps marks needs registers told old Pending new cx left tells task =
+    record {
+      covered = task.covered;
+      woken = elim task.woken [ inl woken ↦ inl woken | inr empty ↦ inr (empty.0, tells empty.1) ];
+      leaves = elim task.leaves [ inl empty ↦ inl (empty.0, tells empty.1) | inr part ↦ inr part ];
+      only_registered = tt;
+      untouched = task.untouched;
       kept = task.kept;
     }
 

@@ -11,7 +11,8 @@ use Rattle.futures_buffered_core.specs.SlotMap.{held_count, slot_count}
 use Rattle.futures_buffered_table.specs.declared.answer.Woke.{Woke}
 use Rattle.futures_buffered_core.specs.ReadySource.{SourceSteps}
 use Rattle.futures_buffered_unordered.specs.FuturesUnorderedBounded.{Bounded, AsksUntil, MarksSlot}
-use Rattle.futures_buffered_unordered.specs.FuturesUnorderedBounded.{AsksInPart, AsksToEmpty, IsWoken}
+use Rattle.futures_buffered_unordered.specs.FuturesUnorderedBounded.{AsksInPart, AsksToEmpty}
+use Rattle.futures_buffered_unordered.specs.FuturesUnorderedBounded.{IsWoken, OnlyRegisters}
 use Rattle.futures_buffered_unordered.specs.FuturesUnorderedBounded.{SaidEmpty}
 use Rattle.futures_buffered_unordered.specs.FuturesUnorderedBounded.{with_empty_slot, with_source}
 use Rattle.futures_buffered_unordered.specs.Groups.{GroupLeavesTask}
@@ -125,6 +126,18 @@ pub record CanAsk
   pub registered : IsTrue is_registered → Covers cx (needs set.source)
   -- and a registration may leave a source as it was
   pub stays : IsTrue is_registered → (s : S) → registers s s
+
+-- What a call that only registers leaves of a task, which it took from cx to left.
+pub record RegistersUnless
+    {S : Type 0}
+    (registers_poll : S → Context → Context → Type 0)
+    (is_registered : Bool)
+    (cx left : Context)
+    : Type 0 where
+  -- the task is as registrations leave it, or as it was
+  pub only_registers : OnlyRegisters registers_poll cx left
+  -- a task that is registered already is as it was
+  pub leaves_alone : IsTrue is_registered → left ≡ cx
 
 -- What one count of names, or one poll, leaves of the streams of a set. `on_item` says of how many
 -- are held before and after it where it gives an item or is pending, `on_end` where it gives the

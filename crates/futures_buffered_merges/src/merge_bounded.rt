@@ -8,7 +8,7 @@ ghost use Rattle.futures_buffered_core.specs.ReadyShared.{IsNewShared, MarksShar
 ghost use Rattle.futures_buffered_core.specs.SlotMap.{held_count, slot_count, IsFull};
 ghost use Rattle.futures_buffered_unordered.specs.StreamAnswers.{StreamAnswers};
 ghost use Rattle.futures_buffered_unordered.specs.Held.{AllHeld};
-ghost use Rattle.futures_buffered_unordered.specs.FuturesUnorderedBounded.{HoldsEach, OnlyRegisters, Pushes};
+ghost use Rattle.futures_buffered_unordered.specs.FuturesUnorderedBounded.{HoldsEach, OnlyRegisters, Pushes, emptied};
 ghost use Rattle.futures_buffered_merges.specs.Merging.{MergeGives, PollsStreams, PollsStreamsTask};
 ghost use Rattle.futures_buffered_merges.specs.MergeBounded.{KeepsOrder, KeepsOrderWithPushes, ComesFromStreams};
 
@@ -92,11 +92,32 @@ impl<St: Drop, S: ReadySource> MergeBounded<St, S> {
         Ok(MergeBounded { set })
     }
 
+    /// The number of streams held. Takes the same time at any capacity.
+    pub fn len(&self) -> usize
+        ensures { result ≡ held_count self.now.slots }
+    {
+        self.set.len()
+    }
+
+    /// Whether no stream is held. Takes the same time at any capacity.
+    pub fn is_empty(&self) -> bool
+        ensures { IsTrue result ↔ (held_count self.now.slots ≡ 0) }
+    {
+        self.set.is_empty()
+    }
+
+    /// The number of slots, which never changes. Takes the same time at any capacity.
+    pub fn capacity(&self) -> usize
+        ensures { result ≡ slot_count self.now.slots }
+    {
+        self.set.capacity()
+    }
+
     /// Whether no slot is free. Takes the same time at any capacity.
     pub fn is_full(&self) -> bool
         ensures { IsTrue result ↔ (slot_count self.now.slots ≤ held_count self.now.slots) }
     {
-        self.set.len() >= self.set.capacity()
+        self.set.is_full()
     }
 
     /// Puts the stream into the first free slot and marks that slot, so that a later poll polls it. A full merge hands the stream back.
@@ -120,6 +141,15 @@ impl<St: Drop, S: ReadySource> MergeBounded<St, S> {
         ensures capacity { slot_count self.new.slots ≡ slot_count self.old.slots }
     {
         self.set.push(stream);
+    }
+
+    /// Drops each stream that is held. Each slot is free then, and slot 0 is the first to be used again.
+    ///
+    /// A slot that was marked stays marked. Takes no memory, and time in proportion to the capacity, besides the drops. Wakes nobody.
+    pub fn clear(&mut self)
+        ensures { self.new ≡ emptied self.old }
+    {
+        self.set.clear();
     }
 }
 
@@ -197,7 +227,7 @@ impl<St: SlotStream<S::Waker>, S: ReadySource> FusedStream for MergeBounded<St, 
     ghost is_over = { λ merge. held_count merge.slots ≡ 0 };
 
     fn is_terminated(&self) -> bool {
-        self.set.is_empty()
+        self.is_empty()
     }
 }
 
@@ -212,7 +242,7 @@ impl<St: Drop, S: ReadySource> SizeHint for MergeBounded<St, S> {
 impl<St: Drop, S: ReadySource> fmt::Debug for MergeBounded<St, S> {
     fn fmt<W: fmt::Write>(&self, f: &mut fmt::Formatter<W>) -> fmt::Result {
         f.debug_struct("MergeBounded")
-            .field("len", &self.set.len())
+            .field("len", &self.len())
             .finish_non_exhaustive()
     }
 }

@@ -8,7 +8,7 @@ ghost use Rattle.futures_buffered_core.specs.ReadyShared.{IsNewShared, MarksShar
 ghost use Rattle.futures_buffered_unordered.specs.StreamAnswers.{StreamAnswers};
 ghost use Rattle.futures_buffered_unordered.specs.FuturesUnorderedBounded.{OnlyRegisters};
 ghost use Rattle.futures_buffered_unordered.specs.Groups.{GroupsGive};
-ghost use Rattle.futures_buffered_unordered.specs.SlotGroups.{EachHeld, AnyNeeds, GrowingPushes, IsAtBound, LastIsFull, PollsGroupsTask, PushesEach, StopsAtBound, no_groups, all_held};
+ghost use Rattle.futures_buffered_unordered.specs.SlotGroups.{EachHeld, AnyNeeds, GrowingPushes, IsAtBound, LastIsFull, PollsGroupsTask, PushesEach, StopsAtBound, no_groups, all_held, capacity_of};
 ghost use Rattle.futures_buffered_merges.specs.Merging.{MergeAsksToEmpty, MergeGives, MergeStops};
 ghost use Rattle.futures_buffered_merges.specs.MergeUnbounded.{ItemsComeFromGroups, KeepsOrderInGroups, KeepsOrderInGroupsWithPushes};
 
@@ -80,7 +80,7 @@ impl<St: SlotStream<S::Waker>, S: NewSource> AskGroup<St, S> for AsMerge {
 
 impl<St: Drop, S: NewSource> MergeUnbounded<St, S> {
     // A merge without a group. Takes no memory.
-    fn without_groups(env: S::Env, alloc: Global, limit: usize) -> Self
+    fn without_groups(env: &S::Env, alloc: Global, limit: usize) -> Self
         requires { 1 ≤ limit }
         ensures { result ≡ no_groups limit }
     {
@@ -89,11 +89,11 @@ impl<St: Drop, S: NewSource> MergeUnbounded<St, S> {
         }
     }
 
-    /// A merge of these streams, pushed in order, over sources that are made by `env`, which it keeps.
+    /// A merge of these streams, pushed in order, over sources that are made by `env`, of which it keeps a copy.
     ///
     /// Takes time and memory in proportion to their number. Where it is refused, the streams that came are dropped: `TooLarge` where a group would be too large or more than `MAX_HELD` came, and `Memory` where a request for memory was refused.
     pub fn over<I: IntoIterator<Item = St>>(
-        env: S::Env,
+        env: &S::Env,
         alloc: Global,
         iter: I,
     ) -> Result<Self, NewFault>
@@ -112,7 +112,7 @@ impl<St: Drop, S: NewSource> MergeUnbounded<St, S> {
 
     /// As `over`, where one count takes at most `limit` names of a group, also of those that are made later.
     pub fn over_limit<I: IntoIterator<Item = St>>(
-        env: S::Env,
+        env: &S::Env,
         alloc: Global,
         iter: I,
         limit: usize,
@@ -149,6 +149,15 @@ impl<St: Drop, S: NewSource> MergeUnbounded<St, S> {
         ensures { IsTrue result ↔ (all_held self.now.groups.listed ≡ 0) }
     {
         self.groups.is_empty()
+    }
+
+    /// How many streams it has room for: of several groups, what they hold and the free places of the last one; of one, its slots; without groups, 0.
+    ///
+    /// Takes the same time at any number of groups.
+    pub fn capacity(&self) -> usize
+        ensures { result ≡ capacity_of self.now.groups.listed }
+    {
+        self.groups.capacity()
     }
 
     /// Puts the stream into the last group. Where that is full, or there is none, a group is made behind it: of twice as many slots, or of `FIRST_GROUP`.
@@ -188,6 +197,15 @@ impl<St: Drop, S: NewSource> MergeUnbounded<St, S> {
         ensures { (result ≡ NewFault.TooLarge) ↔ IsAtBound self.now.groups.listed }
     {
         self.groups.refusal()
+    }
+
+    /// Drops each stream that is held, with the groups: the merge is as `new` made it, but that its sources are made as before.
+    ///
+    /// Takes time in proportion to the slots of all groups, and no memory. Wakes nobody.
+    pub fn clear(&mut self)
+        ensures { self.new ≡ no_groups self.old.limit }
+    {
+        self.groups.clear();
     }
 }
 
@@ -277,7 +295,7 @@ impl<St: Drop> MergeUnbounded<St, SharedReady> {
         requires { 1 ≤ limit }
         ensures { result ≡ no_groups limit }
     {
-        Self::without_groups((), alloc, limit)
+        Self::without_groups(&(), alloc, limit)
     }
 
     /// A merge of these streams, pushed in order, whatever the iterator says of their number. It is `over` with shared sources, and refuses as `over` does.
@@ -292,6 +310,6 @@ impl<St: Drop> MergeUnbounded<St, SharedReady> {
             → StopsAtBound I.into_iter_gives I.IntoIter.next_gives iter MarksShared IsNewShared
             (no_groups POLL_LIMIT) }
     {
-        Self::over((), alloc, iter)
+        Self::over(&(), alloc, iter)
     }
 }

@@ -3,8 +3,8 @@ ghost use Rattle.std.specs.Prelude.{◌≡◌, ◌<◌, ◌+◌, IfNone, IsSome}
 ghost use Rattle.futures.specs.Poll.{IfReady};
 ghost use Rattle.futures.specs.Task.{Covers};
 ghost use Rattle.futures_buffered_core.specs.SlotMap.{held_count};
-ghost use Rattle.futures_buffered_unordered.specs.FuturesUnorderedBounded.{AsksSet, AsksSetTask, AsksUntil, LeavesTask, OnlyRegisters};
-ghost use Rattle.futures_buffered_merges.specs.Merging.{CanAsk, CountGives, MergeGives, PollsStreams, PollsStreamsTask};
+ghost use Rattle.futures_buffered_unordered.specs.FuturesUnorderedBounded.{AsksSet, AsksSetTask, AsksUntil, LeavesTask};
+ghost use Rattle.futures_buffered_merges.specs.Merging.{CanAsk, CountGives, MergeGives, PollsStreams, PollsStreamsTask, RegistersUnless};
 
 use crate::slot_stream::{PollStream, SlotStream};
 use futures::task::{Context, Poll};
@@ -21,9 +21,9 @@ fn ask_streams<St: SlotStream<S::Waker>, S: ReadySource>(
     ensures polled { AsksUntil St.polled S.steps set.old result set.new }
     ensures set { AsksSet St.can_poll St.polled IsSome set.old result set.new }
     ensures still_covered { IfReady result (λ _. Covers cx.new (S.needs set.new.source)) }
-    ensures task { AsksSetTask S.steps S.needs (OnlyRegisters S.registers_poll)
-        (LeavesTask St.polled S.steps (λ _. OnlyRegisters S.registers_poll) set.old set.new)
-        set.new.source result cx.old cx.new }
+    ensures task { AsksSetTask S.steps S.needs (RegistersUnless S.registers_poll is_registered)
+        (LeavesTask St.polled S.steps (λ _. RegistersUnless S.registers_poll is_registered)
+        set.old set.new) set.new.source result cx.old cx.new }
 {
     if is_registered {
         set.poll_first_registered(&PollStream, cx)
@@ -38,16 +38,16 @@ fn poll_count<St: SlotStream<S::Waker>, S: ReadySource>(
     cx: &mut Context<'_>,
     is_registered: bool,
 ) -> Poll<Option<St::Item>>
-    requires can { CanAsk St.can_poll S.needs S.steps.registers set.old cx.old is_registered }
-    requires some { 0 < held_count set.old.slots }
-    ensures counted { CountGives St.polled S.steps S.marks set.old result set.new }
+    requires { CanAsk St.can_poll S.needs S.steps.registers set.old cx.old is_registered }
+    ensures counted { 0 < held_count set.old.slots
+        → CountGives St.polled S.steps S.marks set.old result set.new }
     ensures streams { PollsStreams St.can_poll (λ was now. now ≡ was) (λ was now. now + 1 ≡ was)
         set.old result set.new }
     ensures still_covered { IfReady result (λ o.
         IfNone o (Covers cx.new (S.needs set.new.source))) }
-    ensures task { AsksSetTask S.steps S.needs (OnlyRegisters S.registers_poll)
-        (LeavesTask St.polled S.steps (λ _. OnlyRegisters S.registers_poll) set.old set.new)
-        set.new.source result cx.old cx.new }
+    ensures task { AsksSetTask S.steps S.needs (RegistersUnless S.registers_poll is_registered)
+        (LeavesTask St.polled S.steps (λ _. RegistersUnless S.registers_poll is_registered)
+        set.old set.new) set.new.source result cx.old cx.new }
 {
     match ask_streams(set, cx, is_registered) {
         Poll::Ready((i, Some(item))) => {
@@ -73,7 +73,7 @@ pub(crate) fn poll_streams<St: SlotStream<S::Waker>, S: ReadySource>(
     ensures streams { PollsStreams St.can_poll (λ _ now. 0 < now) (λ _ now. now ≡ 0)
         set.old result set.new }
     ensures task { PollsStreamsTask St.polled S.steps S.marks S.needs
-        (OnlyRegisters S.registers_poll) set.old result set.new cx.old cx.new }
+        (RegistersUnless S.registers_poll is_registered) set.old result set.new cx.old cx.new }
 {
     'counts: while !set.is_empty() {
         match poll_count(set, cx, is_registered) {

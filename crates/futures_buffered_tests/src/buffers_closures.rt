@@ -3,7 +3,7 @@ use crate::same::assert_same;
 use futures::executor::block_on;
 use futures::task::Poll;
 use futures::{StreamExt, stream};
-use futures_buffered::{BufferedStreamExt, BufferedTryStreamExt, SlotHandle, SlotFuture};
+use futures_buffered::{BufferedStreamExt, BufferedTryStreamExt, SlotFuture, SlotHandle};
 use std::test::Fail;
 
 // Gives the double of its number at its first poll.

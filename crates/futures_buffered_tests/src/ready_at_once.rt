@@ -1,6 +1,6 @@
 //! A future that is ready at its first poll.
 use futures::task::Poll;
-use futures_buffered::{SlotHandle, SlotFuture};
+use futures_buffered::{SlotFuture, SlotHandle};
 
 #[derive(Drop)]
 pub struct ReadyAtOnce;

@@ -165,7 +165,6 @@ module _ {F A S : Type 0} (polled : ℕ → F → Poll A → F → Type 0) where
         kept = task.kept;
       }
 
-
 ends_with : {F A : Type 0} (polled : ℕ → F → Poll A → F → Type 0) (i : ℕ) (f left : F) (x : A) (held : Option F) → Some left ≡ held → polled i f (Ready x) left → EndsWith (polled i) x held
 ends_with polled i f left x held is gave = rw (sym is) (f, gave)
 
@@ -252,23 +251,6 @@ registers_more {S} registers_poll old mid new before then = (before.0 ++ then.0,
     joined : (sources : List S) (cx : Context) → FoldsTo (λ cx s next. registers_poll s cx next) cx sources mid → FoldsTo (λ cx s next. registers_poll s cx next) cx (sources ++ then.0) new
     joined [] cx same = rw same then.1
     joined (source ∷ sources) cx h = (h.0, h.1, joined sources h.0 h.2)
-
--- what a pending poll leaves, told by registrations: one that began with one, and one of a task that was registered
-module _ {F A X S : Type 0} (polled : ℕ → F → Poll A → F → Type 0) (steps : SourceSteps S) (registers_poll : S → Context → Context → Type 0) (old new : Bounded F S) (cx left : Context) where
-  pub left_by_one : (answer : Poll X) → OnPending answer (LeavesTask polled steps registers_poll old new cx left) → OnPending answer (LeavesTask polled steps (λ _. OnlyRegisters registers_poll) old new cx left)
-  left_by_one (Ready x) h = tt
-  left_by_one Pending (inl empty) = inl (empty.0, registers_once registers_poll cx left old.source empty.1)
-  left_by_one Pending (inr part) = inr part
-
-  pub left_covered : (answer : Poll X) → steps.registers old.source old.source
-      → OnPending answer ((before : S) → steps.registers before old.source → LeavesTask polled steps (λ _ mid after. after ≡ mid) (with_source old before) new cx left)
-      → OnPending answer (LeavesTask polled steps (λ _. OnlyRegisters registers_poll) old new cx left)
-  left_covered (Ready x) stays h = tt
-  left_covered Pending stays h =
-      elim (h old.source stays) [
-        | inl empty ↦ inl (empty.0, registers_none registers_poll cx left empty.1)
-        | inr part ↦ inr part
-      ]
 
 -- what a count of names leaves of a task that was registered first
 pub asks_after_registration : {F A S B : Type 0} (polled : ℕ → F → Poll A → F → Type 0) (steps : SourceSteps S) (needs : S → ℕ → Type 0) (registers_poll : S → Context → Context → Type 0) (old new : Bounded F S) (registered : S) (answer : Poll B) (cx mid left : Context) → steps.registers old.source registered → registers_poll old.source cx mid → Keeps cx mid

@@ -1,6 +1,6 @@
 //! Adaptors of a stream.
 use crate::checked::{Half, Odd};
-use crate::countdown::{Pause, after};
+use crate::ready_after::{Pause, after};
 use futures::executor::block_on;
 use futures::{StreamExt, stream};
 use futures_buffered::{BufferedStreamExt, BufferedTryStreamExt, IterExt};

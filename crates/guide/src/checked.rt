@@ -1,6 +1,6 @@
 //! A future that may fail.
 use futures::task::Poll;
-use futures_buffered::{SlotHandle, SlotFuture};
+use futures_buffered::{SlotFuture, SlotHandle};
 
 /// Why a number was refused.
 #[derive(Debug, Drop)]

@@ -1,6 +1,6 @@
 //! Joins.
 use crate::checked::Half;
-use crate::countdown::after;
+use crate::ready_after::after;
 use futures::executor::block_on;
 use futures_buffered::{join_all, try_join_all};
 use std::alloc::AllocGlobal;

@@ -1,5 +1,5 @@
 //! Sets that are pushed into while they are drained.
-use crate::countdown::{Countdown, after};
+use crate::ready_after::{ReadyAfter, after};
 use futures::executor::block_on;
 use futures::task::{Context, Poll};
 use futures::{Future, Stream, StreamExt, future};
@@ -12,7 +12,7 @@ use std::random::RandomSource;
 use std::sync::Wait;
 
 // At most 128 jobs are under way.
-type Jobs = FuturesUnorderedBounded<Countdown, SharedReady>;
+type Jobs = FuturesUnorderedBounded<ReadyAfter, SharedReady>;
 
 fn begin_each(jobs: &mut Jobs, numbers: Range<u64>) {
     for number in numbers {
@@ -49,7 +49,7 @@ where
 // Halves numbers until each part is 1, and counts these.
 #[derive(Drop)]
 struct Halving {
-    parts: FuturesUnordered<Countdown, SharedReady>,
+    parts: FuturesUnordered<ReadyAfter, SharedReady>,
     ones: u64,
 }
 

@@ -3,7 +3,6 @@
 
 mod adaptors;
 mod checked;
-mod countdown;
 mod foreign;
 mod joins;
 mod loops;
@@ -11,6 +10,7 @@ mod merges;
 mod numbers;
 mod proved;
 mod queues;
+mod ready_after;
 mod ready_made;
 mod sets;
 mod sources;

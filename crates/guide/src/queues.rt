@@ -1,5 +1,5 @@
 //! Ordered queues.
-use crate::countdown::after;
+use crate::ready_after::after;
 use futures::StreamExt;
 use futures::executor::block_on;
 use futures_buffered::{FuturesOrdered, FuturesOrderedBounded};

@@ -1,5 +1,5 @@
 //! Sets.
-use crate::countdown::{Countdown, after};
+use crate::ready_after::{ReadyAfter, after};
 use futures::executor::block_on;
 use futures::{StreamExt, future};
 use futures_buffered::{FuturesUnordered, FuturesUnorderedBounded, NewFault, SharedReady};
@@ -25,7 +25,7 @@ where
 }
 
 fn add_each(
-    work: &mut FuturesUnordered<Countdown, SharedReady>,
+    work: &mut FuturesUnordered<ReadyAfter, SharedReady>,
     values: Range<u64>,
 ) -> Result<(), NewFault> {
     for value in values {

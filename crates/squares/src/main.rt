@@ -4,7 +4,7 @@
 use futures::executor::block_on;
 use futures::task::Poll;
 use futures::{StreamExt, stream};
-use futures_buffered::{BufferedStreamExt, SlotHandle, SlotFuture};
+use futures_buffered::{BufferedStreamExt, SlotFuture, SlotHandle};
 
 // Gives the square of its number at its first poll.
 #[derive(Drop)]

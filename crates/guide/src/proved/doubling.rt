@@ -2,7 +2,7 @@
 ghost use Rattle.guide.specs.Doubling.{Doubles};
 
 use futures::task::Poll;
-use futures_buffered::{SlotHandle, SlotFuture};
+use futures_buffered::{SlotFuture, SlotHandle};
 
 /// Ready at its first poll, with twice its number.
 #[derive(Drop)]

@@ -2,7 +2,7 @@
 ghost use Rattle.std.specs.Prelude.{IsSome};
 
 use futures::task::Poll;
-use futures_buffered::{SlotHandle, SlotFuture};
+use futures_buffered::{SlotFuture, SlotHandle};
 
 /// Gives its number away at its first poll. After that it may not be polled, which no set does.
 #[derive(Drop)]

@@ -1,5 +1,5 @@
 use Rattle.std.proofs.Common.{rules}
-use Rattle.futures_buffered_unordered.specs.FuturesUnorderedBounded.{OnlyRegisters}
+use Rattle.futures_buffered_merges.specs.Merging.{RegistersUnless}
 use Rattle.futures_buffered_unordered.proofs.FuturesUnorderedBoundedLemmas.{registers_none, registers_once}
 use Rattle.futures_buffered_merges.proofs.MergingLemmas.{asks_told}
 use Rattle.futures_buffered_merges.proofs.merging.ask_streams.Goals as goal
@@ -12,10 +12,10 @@ returns-then-is_registered-clause-task g c =
     let source = g.S.ReadySource in
     let old = c.args.set.now in
     let stays = c.requires.stays (search rules) old.source in
-    asks_told g.St.SlotStream.polled source.steps source.needs _ (OnlyRegisters source.registers_poll) _ old c.poll_first_registered.new.self _ _ _ (registers_none source.registers_poll _ _) (λ pends. pends old.source stays) c.poll_first_registered.ensures.task
+    asks_told g.St.SlotStream.polled source.steps source.needs _ (RegistersUnless source.registers_poll c.args.is_registered) _ old c.poll_first_registered.new.self _ _ _ (λ same. record { only_registers = registers_none source.registers_poll _ _ same; leaves_alone = λ _. same }) (λ pends. pends old.source stays) c.poll_first_registered.ensures.task
 
 pub returns-else-is_registered-clause-task : goal.returns-else-is_registered-clause-task
 returns-else-is_registered-clause-task g c =
     let source = g.S.ReadySource in
     let old = c.args.set.now in
-    asks_told g.St.SlotStream.polled source.steps source.needs (source.registers_poll old.source) (OnlyRegisters source.registers_poll) _ old c.poll_first.new.self _ _ _ (registers_once source.registers_poll _ _ old.source) (λ pends. pends) c.poll_first.ensures.task
+    asks_told g.St.SlotStream.polled source.steps source.needs (source.registers_poll old.source) (RegistersUnless source.registers_poll c.args.is_registered) _ old c.poll_first.new.self _ _ _ (λ once. record { only_registers = registers_once source.registers_poll _ _ old.source once; leaves_alone = λ already. absurd (search rules) }) (λ pends. pends) c.poll_first.ensures.task

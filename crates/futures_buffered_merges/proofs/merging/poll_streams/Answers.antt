@@ -3,14 +3,14 @@ use Rattle.std.proofs.lemmas.Fn.{FoldsTo-push}
 use Rattle.futures_buffered_core.specs.SlotMap.{held_count}
 use Rattle.futures_buffered_unordered.specs.FuturesUnorderedBounded.{Bounded}
 use Rattle.futures_buffered_merges.specs.Merging.{CountEnds}
-use Rattle.futures_buffered_unordered.proofs.FuturesUnorderedBoundedLemmas.{registers_more}
+use Rattle.futures_buffered_merges.proofs.MergingLemmas.{unless_more}
 use Rattle.futures_buffered_merges.proofs.merging.poll_streams.Goals as goal
 
 pub counts-preserved : goal.counts-preserved
 counts-preserved g c =
     let source = g.S.ReadySource in
     let so_far = c.counts.invariant.counts in
-    let one = rw c.in-Ready-None.field-0-is at c.in-Ready-None.ensures.counted in
+    let one = rw c.in-Ready-None.field-0-is at (c.in-Ready-None.ensures.counted (search rules)) in
     let fewer = rw c.in-Ready-None.field-0-is at c.in-Ready-None.ensures.streams.ends in
     let streams = c.poll_count.ensures.streams in
     record {
@@ -21,7 +21,7 @@ counts-preserved g c =
       pollable = streams.pollable;
       capacity = streams.capacity ∙ c.counts.invariant.capacity;
       limit = streams.limit ∙ c.counts.invariant.limit;
-      only_registered = registers_more source.registers_poll _ _ _ c.counts.invariant.only_registered c.in-Ready-None.ensures.task.only_registered;
+      only_registered = unless_more source.registers_poll _ _ _ _ c.counts.invariant.only_registered c.in-Ready-None.ensures.task.only_registered;
       fewer = omega (arith, fewer, c.counts.invariant.fewer);
       untouched = λ none. let same = c.counts.invariant.untouched none in absurd (omega (arith, one.1.0, none, ap (λ (b : Bounded g.row.St.Denot g.row.S.Denot). held_count b.slots) same.0));
       registered = λ _. rw c.in-Ready-None.field-0-is at c.in-Ready-None.ensures.still_covered;
@@ -34,14 +34,14 @@ returns-in-Ready-Some-clause-polled g c =
       ended = c.counts.invariant.counts.0;
       before = c.counts.set;
       counts = c.counts.invariant.counts.1;
-      last_count = rw c.in-Ready-Some.field-0-is at c.in-Ready-Some.ensures.counted;
+      last_count = rw c.in-Ready-Some.field-0-is at (c.in-Ready-Some.ensures.counted (search rules));
     }
 
 pub returns-in-Ready-Some-clause-streams : goal.returns-in-Ready-Some-clause-streams
 returns-in-Ready-Some-clause-streams g c =
     let so = c.counts.invariant in
     let streams = c.in-Ready-Some.ensures.streams in
-    let counted = rw c.in-Ready-Some.field-0-is at c.in-Ready-Some.ensures.counted in
+    let counted = rw c.in-Ready-Some.field-0-is at (c.in-Ready-Some.ensures.counted (search rules)) in
     let item = rw c.in-Ready-Some.field-0-is at streams.item in
     record {
       fewer = omega (arith, streams.fewer, so.fewer);
@@ -57,8 +57,8 @@ pub returns-in-Ready-Some-clause-task : goal.returns-in-Ready-Some-clause-task
 returns-in-Ready-Some-clause-task g c =
     let so = c.counts.invariant in
     let task = c.in-Ready-Some.ensures.task in
-    let counted = rw c.in-Ready-Some.field-0-is at c.in-Ready-Some.ensures.counted in
-    let only = registers_more g.S.ReadySource.registers_poll _ _ _ so.only_registered task.only_registered in
+    let counted = rw c.in-Ready-Some.field-0-is at (c.in-Ready-Some.ensures.counted (search rules)) in
+    let only = unless_more g.S.ReadySource.registers_poll _ _ _ _ so.only_registered task.only_registered in
     record {
       covered = tt;
       woken = tt;
@@ -74,17 +74,18 @@ returns-in-Pending-clause-polled g c =
       ended = c.counts.invariant.counts.0;
       before = c.counts.set;
       counts = c.counts.invariant.counts.1;
-      last_count = c.in-Pending.ensures.counted;
+      last_count = c.in-Pending.ensures.counted (search rules);
     }
 
 pub returns-in-Pending-clause-streams : goal.returns-in-Pending-clause-streams
 returns-in-Pending-clause-streams g c =
     let so = c.counts.invariant in
     let streams = c.in-Pending.ensures.streams in
+    let counted = c.in-Pending.ensures.counted (search rules) in
     record {
       fewer = omega (arith, streams.fewer, so.fewer);
       item = tt;
-      pending = omega (arith, c.in-Pending.ensures.counted.0, streams.pending);
+      pending = omega (arith, counted.0, streams.pending);
       ends = tt;
       pollable = streams.pollable;
       capacity = streams.capacity ∙ so.capacity;
@@ -95,8 +96,8 @@ pub returns-in-Pending-clause-task : goal.returns-in-Pending-clause-task
 returns-in-Pending-clause-task g c =
     let so = c.counts.invariant in
     let task = c.in-Pending.ensures.task in
-    let counted = c.in-Pending.ensures.counted in
-    let more = registers_more g.S.ReadySource.registers_poll _ _ _ so.only_registered in
+    let counted = c.in-Pending.ensures.counted (search rules) in
+    let more = unless_more g.S.ReadySource.registers_poll _ _ _ _ so.only_registered in
     record {
       covered = task.covered;
       woken = elim task.woken [ inl woken ↦ inl woken | inr empty ↦ inr (empty.0, more empty.1) ];

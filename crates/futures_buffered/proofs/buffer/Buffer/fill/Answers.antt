@@ -14,15 +14,15 @@ draws-preserved g c =
     let so = c.draws.invariant in
     let no_turn = λ (b : Buffering g.row.St.Denot g.row.Q.Denot). HasNoTurn (PollsStream g.St.Stream.yields) queue.count (queue.room b.queue) b in
     let turn : no_turn c.args.self.now → no_turn c.draws.self = λ none. subst no_turn (sym (so.no_turn none).0) none in
-    let drew = c.draw_one.ensures.one c.draws-test.true in
+    let drew = rw c.draws-test.true at c.draw_one.ensures.draws in
     record {
       drawn = so.drawn ++ drew.0 ∷ [];
       items = FoldsTo-push draws c.args.self.now so.drawn c.draws.self drew.0 c.draw_one.new.self so.items (rw (← so.room) drew.1);
-      room = c.draw_one.ensures.room ∙ so.room;
-      again = c.draw_one.ensures.again;
-      within = λ xs last h. so.within xs last (c.draw_one.ensures.within xs last h);
+      room = c.draw_one.ensures.buffer.same_room ∙ so.room;
+      again = c.draw_one.ensures.buffer.again;
+      within = λ xs last h. so.within xs last (c.draw_one.ensures.buffer.within xs last h);
       no_turn = λ none. absurd (asked_had_turn (PollsStream g.St.Stream.yields) queue.count (queue.room c.draws.self.queue) c.draws.self _ _ drew.1.asks (turn none));
-      kept = λ fact h. c.draw_one.ensures.kept fact (so.kept fact h);
+      kept = λ fact h. c.draw_one.ensures.task.kept fact (so.kept fact h);
     }
 
 pub returns-clause-draws : goal.returns-clause-draws
@@ -31,15 +31,31 @@ returns-clause-draws g c = (
   record {
     full = c.draws.self;
     items = c.draws.invariant.items;
-    last = rw (← c.draws.invariant.room) (c.draw_one.ensures.none c.draws-test.false);
+    last = rw (← c.draws.invariant.room) (rw c.draws-test.false at c.draw_one.ensures.draws);
   },
 )
 
-pub returns-clause-within : goal.returns-clause-within
-returns-clause-within g c = λ xs last h. c.draws.invariant.within xs last (c.draw_one.ensures.within xs last h)
+pub returns-clause-buffer : goal.returns-clause-buffer
+returns-clause-buffer g c =
+    let so = c.draws.invariant in
+    let last = c.draw_one.ensures.buffer in
+    record {
+      same_room = last.same_room ∙ so.room;
+      bound = last.bound;
+      again = last.again;
+      within = λ xs end h. so.within xs end (last.within xs end h);
+      value = tt;
+      after = tt;
+    }
 
-pub returns-clause-no_turn : goal.returns-clause-no_turn
-returns-clause-no_turn g c =
+pub returns-clause-task : goal.returns-clause-task
+returns-clause-task g c =
     let queue = g.Q.FutureQueue in
-    λ none. let same = c.draws.invariant.no_turn none in
-    c.draw_one.ensures.no_turn (subst (λ (b : Buffering g.row.St.Denot g.row.Q.Denot). HasNoTurn (PollsStream g.St.Stream.yields) queue.count (queue.room b.queue) b) (sym same.0) none) ∙ same.1
+    let so = c.draws.invariant in
+    let last = c.draw_one.ensures.task in
+    record {
+      covered = λ _. last.covered c.draws-test.false;
+      no_turn = λ none. let same = so.no_turn none in
+          last.no_turn (subst (λ (b : Buffering g.row.St.Denot g.row.Q.Denot). HasNoTurn (PollsStream g.St.Stream.yields) queue.count (queue.room b.queue) b) (sym same.0) none) ∙ same.1;
+      kept = λ fact h. last.kept fact (so.kept fact h);
+    }

@@ -1,13 +1,13 @@
-use Rattle.std.proofs.Common.{false, subst}
-use Rattle.futures_buffered_unordered.specs.Held.{ComesFrom}
-use Rattle.futures_buffered_unordered.specs.FuturesUnorderedBounded.{Bounded}
-use Rattle.futures_buffered.specs.FutureQueue.{AddsOutput}
-use Rattle.futures_buffered.specs.BufferUnordered.{MayGiveInSlot}
-use Rattle.futures_buffered.proofs.BufferUnorderedLemmas.{adds_one}
+use Rattle.futures_buffered.proofs.BufferUnorderedLemmas.{adds_one, pushed_can}
 use Rattle.futures_buffered.proofs.buffer_unordered.UnorderedQueueFutureQueue.push.Goals as goal
 
-pub returns-clause-adds : goal.returns-clause-adds
-returns-clause-adds g c =
-    let polled = g.F.SlotFuture.polled in
-    subst (λ (set : Bounded g.row.F.Denot g.row.S.Denot). AddsOutput false (ComesFrom polled set.slots) (MayGiveInSlot polled c.args.future) (ComesFrom polled c.push.new.self.slots)) c.self.view_is
-    (adds_one g.S.ReadySource.marks c.self.inside.set c.push.new.self c.args.future c.push.ensures.pushed polled)
+pub returns-clause-queue : goal.returns-clause-queue
+returns-clause-queue g c =
+    let push = c.push.ensures in
+    let marks = g.S.ReadySource.marks in
+    rw (← c.self.view_is) (record {
+      one_more = push.count;
+      same_room = push.capacity;
+      adds = adds_one marks c.self.inside.set c.push.new.self c.args.future push.pushed g.F.SlotFuture.polled;
+      again = pushed_can marks c.self.inside.set c.push.new.self c.args.future push.pushed g.F.SlotFuture.can_poll;
+    })

@@ -1,13 +1,16 @@
-use Rattle.std.proofs.Common.{true, subst}
-use Rattle.futures_buffered_ordered.specs.OrderedEntries.{ComesInOrder}
-use Rattle.futures_buffered_ordered.specs.FuturesOrderedBounded.{OrderedBounded, SetMayGive}
-use Rattle.futures_buffered.specs.FutureQueue.{AddsOutput}
-use Rattle.futures_buffered.specs.BufferUnordered.{MayGiveInSlot}
-use Rattle.futures_buffered.proofs.BufferedOrderedLemmas.{adds_behind}
+use Rattle.futures_buffered.proofs.BufferedOrderedLemmas.{adds_behind, pushed_len, pushed_can}
 use Rattle.futures_buffered.proofs.buffered_ordered.OrderedQueueFutureQueue.push.Goals as goal
 
-pub returns-clause-adds : goal.returns-clause-adds
-returns-clause-adds g c =
-    let polled = g.F.SlotFuture.polled in
-    subst (λ (queue : OrderedBounded g.row.F.Denot g.row.A.Denot g.row.S.Denot). AddsOutput true (ComesInOrder (SetMayGive polled) queue) (MayGiveInSlot polled c.args.future) (ComesInOrder (SetMayGive polled) c.push_back.new.self)) c.self.view_is
-    (adds_behind polled g.S.ReadySource.marks c.self.inside.queue c.push_back.new.self c.args.future c.len.ensures.each c.push_back.ensures.pushed)
+pub returns-clause-queue : goal.returns-clause-queue
+returns-clause-queue g c =
+    let future = g.F.SlotFuture in
+    let marks = g.S.ReadySource.marks in
+    let old = c.self.inside.queue in
+    let new = c.push_back.new.self in
+    let pushed = c.push_back.ensures.pushed in
+    rw (← c.self.view_is) (record {
+      one_more = pushed_len marks old new c.args.future pushed;
+      same_room = c.push_back.ensures.capacity;
+      adds = adds_behind future.polled marks old new c.args.future c.len.ensures.each pushed;
+      again = pushed_can marks future.can_poll old new c.args.future pushed;
+    })

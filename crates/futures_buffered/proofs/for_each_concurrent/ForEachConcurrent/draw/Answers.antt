@@ -15,21 +15,32 @@ returns-in-Ready-Some-clause-drew g c =
     let room : held_in c.self.inside.queue < slots_in c.args.self.now.buffer.queue = search rules in
     draws_item (PollsStream stream.yields) held_in (slots_in c.args.self.now.buffer.queue) (Pushes source.marks) (Calls g.F.FnMut) c.args.self.now c.in-Some.stream c.poll_next.new.self c.in-Ready-Some.item c.self.inside.queue c.push.new.self c.self.inside.closure c.call_mut-future.new.self c.call_mut-future.result is room (record { value = (rw c.in-Ready-Some.field-0-is at c.in-Ready-Some.ensures.value); rest = (rw c.in-Ready-Some.field-0-is at c.in-Ready-Some.ensures.rest); same = tt }) c.call_mut-future.ensures c.push.ensures.pushed
 
-pub returns-in-Ready-Some-clause-again : goal.returns-in-Ready-Some-clause-again
-returns-in-Ready-Some-clause-again g c =
+pub returns-in-Ready-Some-clause-for_each : goal.returns-in-Ready-Some-clause-for_each
+returns-in-Ready-Some-clause-for_each g c =
     let stream = g.St.Stream in
     let source = g.S.ReadySource in
     let future = g.Fut.SlotFuture in
     let is : c.args.self.now ≡ record { buffer = record { stream = Some c.in-Some.stream; queue = c.self.inside.queue }; closure = c.self.inside.closure } = let e = c.self.view_is in let k = c.in-Some.stream-is in cc in
-    each_item_can stream.can_poll stream.yields (λ f x. g.F.FnMut.pre f (x, tt)) (Calls g.F.FnMut) future.can_poll source.marks c.args.self.now c.in-Some.stream c.poll_next.new.self c.in-Ready-Some.item c.self.inside.queue c.push.new.self c.self.inside.closure c.call_mut-future.new.self c.call_mut-future.result is c.requires c.push.ensures.pushed c.call_mut-future.ensures (rw c.in-Ready-Some.field-0-is at c.in-Ready-Some.ensures.value) (rw c.in-Ready-Some.field-0-is at c.in-Ready-Some.ensures.rest) (rw c.in-Ready-Some.field-0-is at c.in-Ready-Some.ensures.goes)
+    record {
+      ended = tt;
+      value = tt;
+      again = each_item_can stream.can_poll stream.yields (λ f x. g.F.FnMut.pre f (x, tt)) (Calls g.F.FnMut) future.can_poll source.marks c.args.self.now c.in-Some.stream c.poll_next.new.self c.in-Ready-Some.item c.self.inside.queue c.push.new.self c.self.inside.closure c.call_mut-future.new.self c.call_mut-future.result is c.requires c.push.ensures.pushed c.call_mut-future.ensures (rw c.in-Ready-Some.field-0-is at c.in-Ready-Some.ensures.value) (rw c.in-Ready-Some.field-0-is at c.in-Ready-Some.ensures.rest) (rw c.in-Ready-Some.field-0-is at c.in-Ready-Some.ensures.goes);
+      same = item_ends stream.yields c.args.self.now c.in-Some.stream c.poll_next.new.self c.in-Ready-Some.item c.self.inside.queue c.push.new.self c.self.inside.closure c.call_mut-future.new.self is (rw c.in-Ready-Some.field-0-is at c.in-Ready-Some.ensures.rest);
+      capacity = search rules;
+      limit = search rules;
+      bound = search rules;
+    }
 
-pub returns-in-Ready-Some-clause-gives : goal.returns-in-Ready-Some-clause-gives
-returns-in-Ready-Some-clause-gives g c =
+pub returns-in-Ready-Some-clause-task : goal.returns-in-Ready-Some-clause-task
+returns-in-Ready-Some-clause-task g c =
     let stream = g.St.Stream in
-    let source = g.S.ReadySource in
-    let future = g.Fut.SlotFuture in
     let is : c.args.self.now ≡ record { buffer = record { stream = Some c.in-Some.stream; queue = c.self.inside.queue }; closure = c.self.inside.closure } = let e = c.self.view_is in let k = c.in-Some.stream-is in cc in
-    item_ends stream.yields c.args.self.now c.in-Some.stream c.poll_next.new.self c.in-Ready-Some.item c.self.inside.queue c.push.new.self c.self.inside.closure c.call_mut-future.new.self is (rw c.in-Ready-Some.field-0-is at c.in-Ready-Some.ensures.rest)
+    let room : held_in c.self.inside.queue < slots_in c.args.self.now.buffer.queue = search rules in
+    record {
+      covered = search rules;
+      no_turn = λ none. absurd (had_turn (PollsStream stream.yields) held_in (slots_in c.args.self.now.buffer.queue) c.args.self.now.buffer c.in-Some.stream c.self.inside.queue (rw is refl) room none);
+      kept = search rules;
+    }
 
 pub returns-in-Ready-None-clause-drew : goal.returns-in-Ready-None-clause-drew
 returns-in-Ready-None-clause-drew g c =
@@ -40,6 +51,17 @@ returns-in-Ready-None-clause-drew g c =
     let room : held_in c.self.inside.queue < slots_in c.args.self.now.buffer.queue = search rules in
     draws_end (PollsStream stream.yields) held_in (slots_in c.args.self.now.buffer.queue) (Pushes source.marks) (Calls g.F.FnMut) c.args.self.now c.in-Some.stream c.poll_next.new.self c.self.inside.queue c.self.inside.closure is room (record { value = (rw c.in-Ready-None.field-0-is at c.in-Ready-None.ensures.value); rest = tt; same = tt })
 
+pub returns-in-Ready-None-clause-task : goal.returns-in-Ready-None-clause-task
+returns-in-Ready-None-clause-task g c =
+    let stream = g.St.Stream in
+    let is : c.args.self.now ≡ record { buffer = record { stream = Some c.in-Some.stream; queue = c.self.inside.queue }; closure = c.self.inside.closure } = let e = c.self.view_is in let k = c.in-Some.stream-is in cc in
+    let room : held_in c.self.inside.queue < slots_in c.args.self.now.buffer.queue = search rules in
+    record {
+      covered = search rules;
+      no_turn = λ none. absurd (had_turn (PollsStream stream.yields) held_in (slots_in c.args.self.now.buffer.queue) c.args.self.now.buffer c.in-Some.stream c.self.inside.queue (rw is refl) room none);
+      kept = search rules;
+    }
+
 pub returns-in-Pending-clause-drew : goal.returns-in-Pending-clause-drew
 returns-in-Pending-clause-drew g c =
     let stream = g.St.Stream in
@@ -49,13 +71,32 @@ returns-in-Pending-clause-drew g c =
     let room : held_in c.self.inside.queue < slots_in c.args.self.now.buffer.queue = search rules in
     draws_pending (PollsStream stream.yields) held_in (slots_in c.args.self.now.buffer.queue) (Pushes source.marks) (Calls g.F.FnMut) c.args.self.now c.in-Some.stream c.poll_next.new.self c.self.inside.queue c.self.inside.closure is room (record { value = tt; rest = tt; same = c.in-Pending.ensures.same })
 
-pub returns-in-Pending-clause-again : goal.returns-in-Pending-clause-again
-returns-in-Pending-clause-again g c =
+pub returns-in-Pending-clause-for_each : goal.returns-in-Pending-clause-for_each
+returns-in-Pending-clause-for_each g c =
     let stream = g.St.Stream in
     let source = g.S.ReadySource in
     let future = g.Fut.SlotFuture in
     let is : c.args.self.now ≡ record { buffer = record { stream = Some c.in-Some.stream; queue = c.self.inside.queue }; closure = c.self.inside.closure } = let e = c.self.view_is in let k = c.in-Some.stream-is in cc in
-    each_pending_can stream.can_poll stream.yields (λ f x. g.F.FnMut.pre f (x, tt)) (Calls g.F.FnMut) future.can_poll c.args.self.now c.in-Some.stream c.poll_next.new.self c.self.inside.queue c.self.inside.closure is c.requires c.in-Pending.ensures.same c.in-Pending.ensures.again
+    record {
+      ended = tt;
+      value = tt;
+      again = each_pending_can stream.can_poll stream.yields (λ f x. g.F.FnMut.pre f (x, tt)) (Calls g.F.FnMut) future.can_poll c.args.self.now c.in-Some.stream c.poll_next.new.self c.self.inside.queue c.self.inside.closure is c.requires c.in-Pending.ensures.same c.in-Pending.ensures.again;
+      same = search rules;
+      capacity = search rules;
+      limit = search rules;
+      bound = search rules;
+    }
+
+pub returns-in-Pending-clause-task : goal.returns-in-Pending-clause-task
+returns-in-Pending-clause-task g c =
+    let stream = g.St.Stream in
+    let is : c.args.self.now ≡ record { buffer = record { stream = Some c.in-Some.stream; queue = c.self.inside.queue }; closure = c.self.inside.closure } = let e = c.self.view_is in let k = c.in-Some.stream-is in cc in
+    let room : held_in c.self.inside.queue < slots_in c.args.self.now.buffer.queue = search rules in
+    record {
+      covered = search rules;
+      no_turn = λ none. absurd (had_turn (PollsStream stream.yields) held_in (slots_in c.args.self.now.buffer.queue) c.args.self.now.buffer c.in-Some.stream c.self.inside.queue (rw is refl) room none);
+      kept = search rules;
+    }
 
 pub call_mut-future-requires : goal.call_mut-future-requires
 call_mut-future-requires g c =
@@ -66,30 +107,3 @@ call_mut-future-requires g c =
     let value = rw c.in-Ready-Some.field-0-is at c.in-Ready-Some.ensures.value in
     let can = rw is at c.requires in
     (can.to_come.at [] c.self.inside.closure c.in-Ready-Some.item value refl).0
-
-pub returns-in-Ready-Some-clause-no_turn : goal.returns-in-Ready-Some-clause-no_turn
-returns-in-Ready-Some-clause-no_turn g c =
-    let stream = g.St.Stream in
-    let is : c.args.self.now ≡ record { buffer = record { stream = Some c.in-Some.stream; queue = c.self.inside.queue }; closure = c.self.inside.closure } = let e = c.self.view_is in let k = c.in-Some.stream-is in cc in
-    let room : held_in c.self.inside.queue < slots_in c.args.self.now.buffer.queue = search rules in
-    λ none. absurd (had_turn (PollsStream stream.yields) held_in (slots_in c.args.self.now.buffer.queue) c.args.self.now.buffer c.in-Some.stream c.self.inside.queue (rw is refl) room none)
-
-pub returns-in-Ready-None-clause-no_turn : goal.returns-in-Ready-None-clause-no_turn
-returns-in-Ready-None-clause-no_turn g c =
-    let stream = g.St.Stream in
-    let is : c.args.self.now ≡ record { buffer = record { stream = Some c.in-Some.stream; queue = c.self.inside.queue }; closure = c.self.inside.closure } = let e = c.self.view_is in let k = c.in-Some.stream-is in cc in
-    let room : held_in c.self.inside.queue < slots_in c.args.self.now.buffer.queue = search rules in
-    λ none. absurd (had_turn (PollsStream stream.yields) held_in (slots_in c.args.self.now.buffer.queue) c.args.self.now.buffer c.in-Some.stream c.self.inside.queue (rw is refl) room none)
-
-pub returns-in-Pending-clause-no_turn : goal.returns-in-Pending-clause-no_turn
-returns-in-Pending-clause-no_turn g c =
-    let stream = g.St.Stream in
-    let is : c.args.self.now ≡ record { buffer = record { stream = Some c.in-Some.stream; queue = c.self.inside.queue }; closure = c.self.inside.closure } = let e = c.self.view_is in let k = c.in-Some.stream-is in cc in
-    let room : held_in c.self.inside.queue < slots_in c.args.self.now.buffer.queue = search rules in
-    λ none. absurd (had_turn (PollsStream stream.yields) held_in (slots_in c.args.self.now.buffer.queue) c.args.self.now.buffer c.in-Some.stream c.self.inside.queue (rw is refl) room none)
-
-pub returns-then-len-capacity-clause-no_turn : goal.returns-then-len-capacity-clause-no_turn
-returns-then-len-capacity-clause-no_turn g c = λ _. refl
-
-pub returns-in_default-clause-no_turn : goal.returns-in_default-clause-no_turn
-returns-in_default-clause-no_turn g c = λ _. refl

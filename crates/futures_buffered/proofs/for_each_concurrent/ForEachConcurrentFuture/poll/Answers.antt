@@ -8,7 +8,7 @@ use Rattle.futures.specs.Runs.{Calls}
 use Rattle.futures_buffered_unordered.specs.FuturesUnorderedBounded.{Bounded, IsWoken, Pushes, PollGives, PollLeavesTask, held_in, slots_in}
 use Rattle.futures_buffered.specs.Buffer.{PollsStream}
 use Rattle.futures_buffered.specs.ForEachConcurrent.{ForEach, TurnGives, goes_on, gave_one}
-use Rattle.futures_buffered.proofs.ForEachConcurrentLemmas.{still_held, none_drew, some_not_none, goes_if_drew, goes_if_gave, stops, turn_of, last_call, full_call}
+use Rattle.futures_buffered.proofs.ForEachConcurrentLemmas.{none_drew, some_not_none, goes_if_drew, goes_if_gave, stops, turn_of, last_call, full_call}
 use Rattle.futures_buffered.proofs.for_each_concurrent.ForEachConcurrentFuture.poll.Goals.{in-Ready-Some, in-Ready-None-2+else-not-drew, in-Ready-None+else-is_none, in-Pending-1}
 use Rattle.futures_buffered.proofs.for_each_concurrent.ForEachConcurrentFuture.poll.Goals as goal
 
@@ -22,7 +22,7 @@ turns-preserved g c =
     let future = g.Fut.SlotFuture in
     let so = c.turns.invariant in
     let drew = c.draw-drew.ensures.drew in
-    let turn = turn_of (PollsStream stream.yields) held_in (slots_in c.args.self.now.buffer.queue) (Pushes source.marks) (Calls g.F.FnMut) (PollGives future.polled source.steps) (PollLeavesTask future.polled source.steps source.registers_poll) c.turns.self c.draw-drew.new.self c.self.inside.stream c.self.inside.queue c.poll_next.new.self c.self.inside.closure drew.0 c.poll_next.result c.turns.cx c.draw-drew.new.cx c.poll_next.new.cx (sym c.self.view_is) (rw (← so.capacity) drew.2) c.poll_next.ensures.polled c.draw-drew.ensures.kept (rw (← so.capacity) c.draw-drew.ensures.no_turn) c.poll_next.ensures.leaves c.poll_next.ensures.kept in
+    let turn = turn_of (PollsStream stream.yields) held_in (slots_in c.args.self.now.buffer.queue) (Pushes source.marks) (Calls g.F.FnMut) (PollGives future.polled source.steps) (PollLeavesTask future.polled source.steps source.registers_poll) c.turns.self c.draw-drew.new.self c.self.inside.stream c.self.inside.queue c.poll_next.new.self c.self.inside.closure drew.0 c.poll_next.result c.turns.cx c.draw-drew.new.cx c.poll_next.new.cx (sym c.self.view_is) (rw (← so.capacity) drew.2) c.poll_next.ensures.polled c.draw-drew.ensures.task.kept (rw (← so.capacity) c.draw-drew.ensures.task.no_turn) c.poll_next.ensures.task.leaves c.poll_next.ensures.task.kept in
     let goes : goes_on (drew.0, c.poll_next.result) ≡ true = elim c.match-poll_next.branch [
       | in-Ready-Some w ↦ goes_if_gave drew.0 c.poll_next.result tt (let e = w.in-Ready-Some.is in let k = w.in-Ready-Some.field-0-is in search rules)
       | in-Ready-None-2+else-not-drew w ↦ goes_if_drew drew.0 c.poll_next.result (drew.1 ∙ (let e = w.if-not-drew.false in search rules))
@@ -32,15 +32,15 @@ turns-preserved g c =
       row = FoldsTo-push (TurnGives (PollsStream stream.yields) held_in (slots_in c.args.self.now.buffer.queue) (Pushes source.marks) (Calls g.F.FnMut) (PollGives future.polled source.steps) (PollLeavesTask future.polled source.steps source.registers_poll)) (c.args.self.now, c.args.cx.now) so.done (c.turns.self, c.turns.cx) _ _ so.row turn;
       went_on = AllByRecursion-push (λ turn. goes_on turn ≡ true) so.done (drew.0, c.poll_next.result) goes so.went_on;
       count = omega (arith, length_push so.done (drew.0, c.poll_next.result), so.count);
-      capacity = c.poll_next.ensures.capacity ∙ (ap (λ (b : ForEach g.row.St.Denot g.row.F.Denot (Bounded g.row.Fut.Denot g.row.S.Denot)). slots_in b.buffer.queue) c.self.view_is ∙ (c.draw-drew.ensures.capacity ∙ so.capacity));
-      limit = c.poll_next.ensures.limit ∙ (ap (λ (b : ForEach g.row.St.Denot g.row.F.Denot (Bounded g.row.Fut.Denot g.row.S.Denot)). b.buffer.queue.limit) c.self.view_is ∙ (c.draw-drew.ensures.limit ∙ so.limit));
-      again = let can = rw (← c.self.view_is) at c.draw-drew.ensures.again in record {
+      capacity = c.poll_next.ensures.set.capacity ∙ (ap (λ (b : ForEach g.row.St.Denot g.row.F.Denot (Bounded g.row.Fut.Denot g.row.S.Denot)). slots_in b.buffer.queue) c.self.view_is ∙ (c.draw-drew.ensures.for_each.capacity ∙ so.capacity));
+      limit = c.poll_next.ensures.set.limit ∙ (ap (λ (b : ForEach g.row.St.Denot g.row.F.Denot (Bounded g.row.Fut.Denot g.row.S.Denot)). b.buffer.queue.limit) c.self.view_is ∙ (c.draw-drew.ensures.for_each.limit ∙ so.limit));
+      again = let can = rw (← c.self.view_is) at c.draw-drew.ensures.for_each.again in record {
         stream = can.stream;
         to_come = can.to_come;
-        held = still_held future.can_poll future.polled source.steps c.self.inside.queue c.poll_next.new.self c.poll_next.result can.held c.poll_next.ensures.polled c.poll_next.ensures.goes c.poll_next.ensures.again;
+        held = c.poll_next.ensures.set.pollable;
       };
-      gives = λ h. so.gives (c.draw-drew.ensures.gives (rw (← c.self.view_is) h));
-      kept = λ fact h. c.poll_next.ensures.kept fact (c.draw-drew.ensures.kept fact (so.kept fact h));
+      gives = λ h. so.gives (c.draw-drew.ensures.for_each.same (rw (← c.self.view_is) h));
+      kept = λ fact h. c.poll_next.ensures.task.kept fact (c.draw-drew.ensures.task.kept fact (so.kept fact h));
     }
 
 pub returns-clause-called : goal.returns-clause-called
@@ -58,7 +58,7 @@ returns-in-Ready-None-clause-called g c =
     let future = g.Fut.SlotFuture in
     let so = c.turns.invariant in
     let drew = c.draw-drew.ensures.drew in
-    let turn = turn_of (PollsStream stream.yields) held_in (slots_in c.args.self.now.buffer.queue) (Pushes source.marks) (Calls g.F.FnMut) (PollGives future.polled source.steps) (PollLeavesTask future.polled source.steps source.registers_poll) c.turns.self c.draw-drew.new.self c.self.inside.stream c.self.inside.queue c.poll_next.new.self c.self.inside.closure drew.0 c.poll_next.result c.turns.cx c.draw-drew.new.cx c.poll_next.new.cx (sym c.self.view_is) (rw (← so.capacity) drew.2) c.poll_next.ensures.polled c.draw-drew.ensures.kept (rw (← so.capacity) c.draw-drew.ensures.no_turn) c.poll_next.ensures.leaves c.poll_next.ensures.kept in
+    let turn = turn_of (PollsStream stream.yields) held_in (slots_in c.args.self.now.buffer.queue) (Pushes source.marks) (Calls g.F.FnMut) (PollGives future.polled source.steps) (PollLeavesTask future.polled source.steps source.registers_poll) c.turns.self c.draw-drew.new.self c.self.inside.stream c.self.inside.queue c.poll_next.new.self c.self.inside.closure drew.0 c.poll_next.result c.turns.cx c.draw-drew.new.cx c.poll_next.new.cx (sym c.self.view_is) (rw (← so.capacity) drew.2) c.poll_next.ensures.polled c.draw-drew.ensures.task.kept (rw (← so.capacity) c.draw-drew.ensures.task.no_turn) c.poll_next.ensures.task.leaves c.poll_next.ensures.task.kept in
     let is : c.poll_next.result ≡ Ready None = c.in-Ready-None.is ∙ ap (λ o. Ready o) c.in-Ready-None.field-0-is in
     let held : PollGives future.polled source.steps c.self.inside.queue (Ready None) c.poll_next.new.self = rw is at c.poll_next.ensures.polled in
     let not_drew : c.draw-drew.result ≡ false = none_drew c.draw-drew.result (held_in c.draw-drew.new.self.buffer.queue) c.draw-drew.ensures.count (rw (← c.self.view_is) held.0) in
@@ -72,7 +72,7 @@ returns-then-not-drew-clause-called g c =
     let future = g.Fut.SlotFuture in
     let so = c.turns.invariant in
     let drew = c.draw-drew.ensures.drew in
-    let turn = turn_of (PollsStream stream.yields) held_in (slots_in c.args.self.now.buffer.queue) (Pushes source.marks) (Calls g.F.FnMut) (PollGives future.polled source.steps) (PollLeavesTask future.polled source.steps source.registers_poll) c.turns.self c.draw-drew.new.self c.self.inside.stream c.self.inside.queue c.poll_next.new.self c.self.inside.closure drew.0 c.poll_next.result c.turns.cx c.draw-drew.new.cx c.poll_next.new.cx (sym c.self.view_is) (rw (← so.capacity) drew.2) c.poll_next.ensures.polled c.draw-drew.ensures.kept (rw (← so.capacity) c.draw-drew.ensures.no_turn) c.poll_next.ensures.leaves c.poll_next.ensures.kept in
+    let turn = turn_of (PollsStream stream.yields) held_in (slots_in c.args.self.now.buffer.queue) (Pushes source.marks) (Calls g.F.FnMut) (PollGives future.polled source.steps) (PollLeavesTask future.polled source.steps source.registers_poll) c.turns.self c.draw-drew.new.self c.self.inside.stream c.self.inside.queue c.poll_next.new.self c.self.inside.closure drew.0 c.poll_next.result c.turns.cx c.draw-drew.new.cx c.poll_next.new.cx (sym c.self.view_is) (rw (← so.capacity) drew.2) c.poll_next.ensures.polled c.draw-drew.ensures.task.kept (rw (← so.capacity) c.draw-drew.ensures.task.no_turn) c.poll_next.ensures.task.leaves c.poll_next.ensures.task.kept in
     let not_drew : c.draw-drew.result ≡ false = search rules in
     let stays : (gave_one c.poll_next.result ≡ false) × ((c.poll_next.result ≡ Ready None) → (c.self.inside.stream ≡ None) → ⊥) = elim c.in-Ready-None-2-1.branch [
       | in-Ready-None+else-is_none w ↦ (rw (w.in-Ready-None.is, w.in-Ready-None.field-0-is) refl, λ _ none. some_not_none c.self.inside.stream w.if-is_none.ensures none)

@@ -1,6 +1,7 @@
 use Rattle.std.proofs.Common.{rules, sym}
+use Rattle.futures_buffered_unordered.proofs.HeldGivesLemmas.{AllHeld-freed}
 use Rattle.futures_buffered_unordered.proofs.HeldLemmas.{some_from_end}
-use Rattle.futures_buffered_joins.proofs.JoiningLemmas.{fills_place, held_once_empty}
+use Rattle.futures_buffered_joins.proofs.JoiningLemmas.{fills_place}
 use Rattle.futures_buffered_joins.proofs.joining.Joining+F+F+Output+S.fill_one.Goals as goal
 
 pub returns-in-Ready-clause-ready : goal.returns-in-Ready-clause-ready
@@ -10,7 +11,7 @@ returns-in-Ready-clause-ready g c =
     record {
       output = (c.in-Ready.i, c.in-Ready.output);
       fills = fills_place future.polled source.steps (λ x. x) c.args.self.now c.fill.new.self _ c.poll_first.new.self _ _ _ c.in-Ready.i c.in-Ready.output (sym c.self.view_is) c.self.invariant c.in-Ready.ensures.polled c.in-Ready.ensures.set.same_slots (some_from_end (future.polled c.in-Ready.i) _ _ c.in-Ready.ensures.set.last) c.fill.ensures.set c.fill.ensures.outputs;
-      again = rw c.fill.ensures.set (held_once_empty future.can_poll c.poll_first.new.self.slots c.in-Ready.i c.in-Ready.ensures.set.others);
+      again = rw c.fill.ensures.set (AllHeld-freed future.can_poll c.poll_first.new.self.slots c.in-Ready.i c.in-Ready.ensures.set.others);
       fewer = search rules;
     }
 

@@ -1,3 +1,6 @@
+use Rattle.futures_buffered_unordered.specs.FuturesUnorderedBounded.{OnlyRegisters}
+use Rattle.futures_buffered_merges.specs.Merging.{RegistersUnless}
+use Rattle.futures_buffered_merges.proofs.MergingLemmas.{polls_told}
 use Rattle.futures_buffered_merges.proofs.MergeUnboundedLemmas.{keeps_streams, at_end}
 use Rattle.futures_buffered_merges.proofs.merge_unbounded.AsMergeAskGroup.ask.Goals as goal
 
@@ -9,5 +12,6 @@ returns-clause-keeps g c =
 
 pub returns-clause-task : goal.returns-clause-task
 returns-clause-task g c =
-    let task = c.poll_streams.ensures.task in
+    let source = g.S.ReadySource in
+    let task = polls_told g.St.SlotStream.polled source.steps source.marks source.needs (RegistersUnless source.registers_poll c.args.is_registered) (OnlyRegisters source.registers_poll) _ _ _ _ _ (λ registers. registers.only_registers) c.poll_streams.ensures.task in
     record { covered = task.covered; passed = at_end _ c.poll_streams.result task.only_registered; leaves = task.leaves; kept = task.kept }

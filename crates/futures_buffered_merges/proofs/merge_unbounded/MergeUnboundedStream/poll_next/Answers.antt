@@ -1,4 +1,5 @@
 use Rattle.futures_buffered_unordered.proofs.StreamAnswersLemmas.{after_item, while_pending}
+use Rattle.futures_buffered_unordered.specs.SlotGroups.{EachHeld}
 use Rattle.futures_buffered_merges.proofs.MergeUnboundedLemmas.{ends_of, group_value, group_rest, group_same, covered_any}
 use Rattle.futures_buffered_merges.proofs.merge_unbounded.MergeUnboundedStream.poll_next.Goals as goal
 
@@ -11,13 +12,14 @@ returns-clause-stream g c =
     let source = g.S.ReadySource in
     let answer = c.poll_groups.result in
     let poll = c.poll_groups.ensures in
+    let pollable = EachHeld g.St.SlotStream.can_poll c.poll_groups.new.self.groups.listed in
     let ends = ends_of polled source.steps source.marks _ _ _ poll.polled in
     rw (← c.self.view_is) (record {
       value = group_value polled source.steps source.marks _ _ _ poll.polled;
       rest = group_rest polled source.steps source.marks _ _ _ poll.polled;
       same = group_same polled source.steps source.marks _ _ _ poll.polled;
-      goes = after_item answer poll.pollable;
-      again = while_pending answer poll.pollable;
+      goes = after_item {P = pollable} answer poll.pollable;
+      again = while_pending {P = pollable} answer poll.pollable;
       registered = covered_any source.needs c.poll_groups.new.cx answer c.poll_groups.new.self.groups.listed poll.task.covered ends.1;
       kept = poll.task.kept;
     })

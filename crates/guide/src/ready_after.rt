@@ -4,12 +4,12 @@ use futures_buffered::{SlotFuture, SlotWaker};
 
 /// Pending `polls_left` times, each time waking its slot, and then ready with `value`.
 #[derive(Drop)]
-pub struct Countdown {
+pub struct ReadyAfter {
     pub value: u64,
     pub polls_left: u64,
 }
 
-impl<W: SlotWaker> SlotFuture<W> for Countdown {
+impl<W: SlotWaker> SlotFuture<W> for ReadyAfter {
     type Output = u64;
 
     fn poll(&mut self, waker: &W) -> Poll<u64> {
@@ -23,13 +23,13 @@ impl<W: SlotWaker> SlotFuture<W> for Countdown {
 }
 
 /// Ready after so many polls.
-pub fn after(polls_left: u64, value: u64) -> Countdown {
-    Countdown { value, polls_left }
+pub fn after(polls_left: u64, value: u64) -> ReadyAfter {
+    ReadyAfter { value, polls_left }
 }
 
 /// The same without a value.
 #[derive(Drop)]
-pub struct Pause(pub Countdown);
+pub struct Pause(pub ReadyAfter);
 
 impl<W: SlotWaker> SlotFuture<W> for Pause {
     type Output = ();

@@ -1,5 +1,5 @@
 //! The future of a script: pending a number of times, and then a number.
-ghost use Rattle.fbuf_lines.specs.Timed.{PollsTimed};
+ghost use Rattle.fbuf_lines.specs.ReadyAfter.{PollsReadyAfter};
 
 use futures::task::Poll;
 use futures_buffered_core::ready_source::SlotHandle;
@@ -8,26 +8,26 @@ use futures_buffered_sets::slot_future::SlotFuture;
 
 /// Pending `pending` times, and then `value`. It keeps no waker and never wakes.
 #[derive(Clone, Copy, Debug, PartialEq, Eq)]
-pub struct Timed {
+pub struct ReadyAfter {
     pub value: u64,
     pub pending: u64,
 }
 
-/// Polls a `Timed`, and does nothing with the waker. A poll takes no memory, and the same time
+/// Polls a `ReadyAfter`, and does nothing with the waker. A poll takes no memory, and the same time
 /// whatever the two numbers are.
 #[derive(Clone, Copy, Debug)]
-pub struct PollTimed;
+pub struct PollReadyAfter;
 
-impl<W: SlotHandle> PollOne<Timed, W> for PollTimed {
+impl<W: SlotHandle> PollOne<ReadyAfter, W> for PollReadyAfter {
     ghost use Rattle.std.specs.Prelude.{⊤};
 
     type Output = u64;
 
     ghost can_poll = { λ _. ⊤ };
 
-    ghost polled = { λ _. PollsTimed };
+    ghost polled = { λ _. PollsReadyAfter };
 
-    fn poll_one(&self, held: &mut Timed, _waker: &W) -> Poll<u64> {
+    fn poll_one(&self, held: &mut ReadyAfter, _waker: &W) -> Poll<u64> {
         if held.pending == 0 {
             return Poll::Ready(held.value);
         }
@@ -37,12 +37,12 @@ impl<W: SlotHandle> PollOne<Timed, W> for PollTimed {
 }
 
 /// The same poll.
-impl<W: SlotHandle> SlotFuture<W> for Timed {
+impl<W: SlotHandle> SlotFuture<W> for ReadyAfter {
     type Output = u64;
 
-    ghost polled = { λ _. PollsTimed };
+    ghost polled = { λ _. PollsReadyAfter };
 
     fn poll(&mut self, waker: &W) -> Poll<u64> {
-        PollTimed.poll_one(self, waker)
+        PollReadyAfter.poll_one(self, waker)
     }
 }
