@@ -50,7 +50,7 @@ pub fn run_set(
 ) -> Result<usize, NewFault> {
     let n = numbers.first().copied().unwrap_or(0);
     let made: Result<GrowingForeignSet<KitFuture>, NewFault> = FuturesUnordered::over(
-        &(),
+        (),
         session.options.alloc,
         n,
     );
@@ -82,7 +82,7 @@ pub fn run_queue(
 ) -> Result<usize, NewFault> {
     let n = numbers.first().copied().unwrap_or(0);
     let made: Result<GrowingForeignQueue<KitFuture>, NewFault> = FuturesOrdered::over(
-        &(),
+        (),
         session.options.alloc,
         n,
     );
@@ -151,7 +151,7 @@ impl Subject for MergeUnbounded<ForeignStream<KitStream>, Driven<StreamFuture<Ki
 pub fn run_merge(session: &mut Session, ids: &[usize], lines: &[&str]) -> Result<usize, NewFault> {
     let streams: Vec<ForeignStream<KitStream>> = new_values(&session.world, ids);
     let made: Result<GrowingForeignMerge<KitStream>, NewFault> = MergeUnbounded::over(
-        &(),
+        (),
         session.options.alloc,
         streams,
     );

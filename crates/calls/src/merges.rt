@@ -94,8 +94,8 @@ fn growing_merge(
     streams: Vec<NumberStream>,
 ) -> Result<MergeUnbounded<NumberStream, SharedReady>, NewFault> {
     match options.limit {
-        Some(limit) if limit > 0 => MergeUnbounded::over_limit(&(), options.alloc, streams, limit),
-        _ if options.takes_source => MergeUnbounded::over(&(), options.alloc, streams),
+        Some(limit) if limit > 0 => MergeUnbounded::over_limit((), options.alloc, streams, limit),
+        _ if options.takes_source => MergeUnbounded::over((), options.alloc, streams),
         _ => usual_merge(options, streams),
     }
 }

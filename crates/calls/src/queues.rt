@@ -100,8 +100,8 @@ fn new_queue(options: &Options, n: usize) -> Result<Queue, NewFault> {
 
 fn growing_queue_over(options: &Options, n: usize) -> Result<GrowingQueue, NewFault> {
     match options.limit {
-        Some(limit) if limit > 0 => FuturesOrdered::over_limit(&(), options.alloc, n, limit),
-        _ => FuturesOrdered::over(&(), options.alloc, n),
+        Some(limit) if limit > 0 => FuturesOrdered::over_limit((), options.alloc, n, limit),
+        _ => FuturesOrdered::over((), options.alloc, n),
     }
 }
 

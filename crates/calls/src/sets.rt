@@ -121,8 +121,8 @@ impl Subject for FuturesUnordered<NumberFuture, SharedReady> {
 
 fn growing_set_over(options: &Options, n: usize) -> Result<GrowingSet, NewFault> {
     match options.limit {
-        Some(limit) if limit > 0 => FuturesUnordered::over_limit(&(), options.alloc, n, limit),
-        _ => FuturesUnordered::over(&(), options.alloc, n),
+        Some(limit) if limit > 0 => FuturesUnordered::over_limit((), options.alloc, n, limit),
+        _ => FuturesUnordered::over((), options.alloc, n),
     }
 }
 

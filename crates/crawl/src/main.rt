@@ -76,7 +76,7 @@ fn crawl<R>(rt: &R, jobs: &Sender<Job, Global>, pages: &mut Pages) -> Result<(),
 where
     R: Wait + RandomSource + AllocGlobal,
 {
-    let mut under_way = GrowingForeignSet::over(&(), rt.alloc(), UNDER_WAY)?;
+    let mut under_way = GrowingForeignSet::over((), rt.alloc(), UNDER_WAY)?;
     for _ in rt.forever() {
         if under_way.len() < UNDER_WAY {
             if let Some(name) = pages.waiting.pop() {

@@ -133,7 +133,7 @@ impl Stage {
         ensures memory { OnErr result (self.new ≡ self.old) }
         ensures refused { OnErr result (capacity ≤ MAX_CAPACITY) }
     {
-        match FuturesUnordered::over_limit(&(), alloc, capacity, self.limit) {
+        match FuturesUnordered::over_limit((), alloc, capacity, self.limit) {
             Ok(set) => {
                 self.object = Object::Growing(set);
                 Ok(Reply::Done)

@@ -2,8 +2,8 @@
 -- once; what many calls make together; and what may come. The queue may be any that has a number of
 -- entries, a push and a poll.
 use Rattle.std.specs.Prelude.{◌≡◌, ℕ, ◌+◌, ◌-◌, ◌<◌, ◌≤◌, ◌^◌, List, [], ◌++◌, Option, Some, None}
-use Rattle.std.specs.Prelude.{IfSome, IfNone, IsSomeAnd, Bool, true, false, ◌⊎◌, cond, min, nat_lt, refl}
-use Rattle.std.specs.Prelude.{filter_map, flat_map}
+use Rattle.std.specs.Prelude.{IfSome, IfNone, IsSomeAnd, Bool, true, false, ◌⊎◌, cond, min}
+use Rattle.std.specs.Prelude.{nat_lt, refl, filter_map, flat_map}
 use Rattle.std.specs.Option.{option_and_then}
 use Rattle.std.specs.List.{FoldsTo, AllZip}
 use Rattle.std.specs.Coded.{Coded, code_by, coded×, coded_option}
@@ -134,7 +134,7 @@ pub record DrawsBuffer
     : Type 0 where
   -- the queue can hold as many as before
   pub same_room : room new.queue ≡ room old.queue
-  -- it holds no more than that
+  -- the queue holds no more than that
   pub bound : count new.queue ≤ room new.queue
   -- further items may be drawn
   pub again : can_draw new
@@ -146,7 +146,7 @@ pub record DrawsBuffer
   pub after : IfSome gave (λ x. After (yields old) x (yields new))
 
 -- What drawing leaves of the task, which it took from cx to left. `none_came` holds where drawing
--- stopped since no item came.
+-- stopped because no item came.
 pub record DrawsTask
     {St X Q : Type 0}
     (next : St → Poll (Option X) → St → Type 0)
@@ -176,7 +176,7 @@ pub record CallLeavesBuffer
   pub ended : IfReady answer (λ o. IfNone o ((new.stream ≡ None) × (count new.queue ≡ 0)))
   -- the queue can hold as many as before
   pub same_room : room new.queue ≡ room old.queue
-  -- it holds no more than that
+  -- the queue holds no more than that
   pub bound : count new.queue ≤ room new.queue
 
 -- a poll of the queue that takes the task from one context to another, as the queue leaves it

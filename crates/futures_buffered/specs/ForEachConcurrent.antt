@@ -11,7 +11,8 @@ use Rattle.futures.specs.declared.task.Poll.TheVariants.{Ready, Pending}
 use Rattle.futures.specs.Poll.{IfReady, OnPending}
 use Rattle.futures.specs.Runs.{Runs, AtEachItem}
 use Rattle.futures_buffered_unordered.specs.Held.{AllHeld}
-use Rattle.futures_buffered_unordered.specs.FuturesUnorderedBounded.{Bounded, IsNewSet, held_in, slots_in}
+use Rattle.futures_buffered_unordered.specs.FuturesUnorderedBounded.{Bounded, IsNewSet, held_in}
+use Rattle.futures_buffered_unordered.specs.FuturesUnorderedBounded.{slots_in}
 use Rattle.futures_buffered.specs.Buffer.{Buffering, buffer_code, Ahead, AsksStream}
 use Rattle.futures_buffered.specs.Buffer.{HasNoTurn, IsNewBuffer}
 
@@ -197,13 +198,13 @@ pub record LeavesForEach
     (answer : Poll (Unit {0}))
     (new : ForEach St Fn (Bounded F S))
     : Type 0 where
-  -- it is ready only where the stream has ended and nothing is held
+  -- the for-each is ready only where the stream has ended and nothing is held
   pub ended : IfReady answer (λ _. IsDone held_in new)
   -- and only where it might end
   pub value : IfReady answer (gives old)
-  -- while it is pending it can be polled again
+  -- while the for-each is pending it can be polled again
   pub again : OnPending answer (can_poll new)
-  -- and may end only where it might end before
+  -- and may end only where it might have ended before
   pub same : OnPending answer (gives new tt → gives old tt)
   -- the number of slots and the limit stay
   pub capacity : slots_in new.buffer.queue ≡ slots_in old.buffer.queue

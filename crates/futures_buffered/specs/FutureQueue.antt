@@ -31,7 +31,7 @@ pub record PushLeavesQueue
     : Type 0 where
   -- the queue holds one more
   pub one_more : count new ≡ count old + 1
-  -- it can hold as many as before
+  -- the queue can hold as many as before
   pub same_room : room new ≡ room old
   -- an output of the future may come, besides those that might come before
   pub adds : AddsOutput in_order (yields old) (gives future) (yields new)
@@ -55,5 +55,5 @@ pub record PollLeavesQueue
   -- the queue can hold as many as before, one at least
   pub same_room : room new ≡ room old
   pub some : 0 < room new
-  -- it holds no more than that
+  -- the queue holds no more than that
   pub bound : count new ≤ room new

@@ -74,7 +74,8 @@ pub trait FutureQueue<F>: Drop {
         requires { can_poll self.old }
         ensures polled { polls self.old result self.new }
         ensures queue { PollLeavesQueue count room self.old result self.new }
-        ensures stream { StreamAnswers can_poll needs yields self.old result self.new cx.old cx.new }
+        ensures stream { StreamAnswers can_poll needs yields
+            self.old result self.new cx.old cx.new }
         ensures leaves { leaves self.old result self.new cx.old cx.new };
 }
 

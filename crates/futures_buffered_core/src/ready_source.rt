@@ -98,8 +98,8 @@ pub trait ReadySource: Drop {
 
 /// A source that a set can make for itself, and to which it can add others beside it.
 pub trait NewSource: ReadySource {
-    /// What making one needs besides memory. What grows keeps a copy.
-    type Env: Copy;
+    /// What making one needs besides memory.
+    type Env: Drop;
 
     // What a new source of this capacity may be.
     ghost made: { ℕ → Self → Type 0 };

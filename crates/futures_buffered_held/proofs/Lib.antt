@@ -1,2 +1,3 @@
 pub mod MailboxLemmas
 pub mod ForeignsLemmas
+pub mod OneshotPlaceLemmas

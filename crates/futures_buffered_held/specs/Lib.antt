@@ -8,3 +8,5 @@ pub mod Given
 pub mod Mailbox
 pub mod Driven
 pub mod Foreigns
+pub mod OneshotPlace
+pub mod Oneshot

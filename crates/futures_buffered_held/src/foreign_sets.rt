@@ -71,7 +71,7 @@ pub fn growing_foreign_set<F: Future<Output: Drop>, T: Drop>(
     ensures refuses { RefusesTooLarge cap result }
     ensures none { cap ≡ 0 → IsOk result }
 {
-    FuturesUnordered::over(&(), alloc, cap)
+    FuturesUnordered::over((), alloc, cap)
 }
 
 /// An empty queue of `cap` slots, whose outputs come in the order of the pushes.
@@ -102,7 +102,7 @@ where
     ensures refuses { RefusesTooLarge cap result }
     ensures none { cap ≡ 0 → IsOk result }
 {
-    FuturesOrdered::over(&(), alloc, cap)
+    FuturesOrdered::over((), alloc, cap)
 }
 
 /// A join of what this iterator gives, in its order. Nothing is polled, and it refuses as `JoinAll::over` does.

@@ -39,6 +39,8 @@ pub mod iter;
 pub mod mailbox;
 pub mod map;
 pub mod oneshot;
+mod oneshot_place;
+mod oneshot_plays;
 pub mod poll_fn;
 pub mod ready;
 mod running;

@@ -1,198 +1,104 @@
 //! A channel for one value.
 //!
-//! Sender and receiver meet at one place, which a compare-exchange of its word gives to one of them at a time. The receiver leaves its waker there; the sender takes that out as it leaves its value, and wakes it. A side that finds the other at the place goes on at once, and no wake is lost by that, in whatever order the steps come:
+//! Sender and receiver share one word, a place for a value and one for a waker. A receiver that waits has left its waker, and says so by the word. A sender leaves its value, and says that it is done by one swap of the word: by what it finds there it is given the waker, or its value back where the receiver is gone. So no call waits for the other, and no wake is lost, in whatever order the steps come:
 //!
-//! - A sender that finds the receiver at the place leaves its value at another one, for those that come late, and looks for a waker then. The receiver leaves its waker, and looks at that other place then. So one of them finds what the other left, since every step is sequentially consistent.
-//! - A receiver that finds the sender at the place, or gone from it, marks its own slot, and is polled again.
-ghost use Rattle.std.specs.Prelude.{◌≡◌, ◌⊎◌, IfErr, IfSome};
+//! - A receiver takes its waker back before it puts another in. A sender that is done meanwhile finds none, and wakes nobody: the receiver finds that it is done when it says that it waits again.
+//! - A sender that finds a waker wakes it.
+//!
+//! Every step is sequentially consistent, so all of them stand in one order.
+ghost use Rattle.std.specs.Prelude.{◌≡◌, [], IfOk, IfErr, IfSome, MatchResult};
+ghost use Rattle.futures_buffered_held.specs.declared.oneshot_place.View.TheVariants.{Waiting};
+ghost use Rattle.futures_buffered_held.specs.OneshotPlace.{Answers};
+ghost use Rattle.futures_buffered_held.specs.Oneshot.{unanswered, slip};
 
-use counted_slot::{Claim, Counted, FREE, Fits, MARKED, PRESENT, TAKEN};
+use crate::oneshot_place;
 use futures::task::Poll;
 use futures_buffered_core::ready_shared::SharedWaker;
 use futures_buffered_unordered::slot_future::{SlotFuture, SlotWaker};
 use std::alloc::{AllocError, Global};
-use std::sync::{Arc, Mutex};
+use std::marker::Model;
+use std::sync::Arc;
 use thiserror::Error;
 
-// What a sender that is done leaves: its value, if it sent one. Nobody locks the mutex: in it a value goes to another thread that is not `Sync`.
-#[derive(Drop)]
-struct Sent<T>(Option<Mutex<T>>);
+type Place<T> = oneshot_place::Place<T, SharedWaker>;
 
-impl<T: Drop> Sent<T> {
-    fn answer(self) -> Result<T, Canceled> {
-        match self.0 {
-            Some(value) => Ok(value.into_inner()),
-            None => Err(Canceled),
-        }
-    }
-}
-
-impl<T> Fits for Sent<T> {
-    ghost use Rattle.std.specs.Prelude.{⊤};
-
-    type Tag = ();
-
-    ghost fits = { λ _ _. ⊤ };
-}
-
-// What one of the two left for the other.
-#[derive(Drop)]
-enum Left<T> {
-    Nothing,
-    Waker(SharedWaker),
-    Sent(Sent<T>),
-}
-
-impl<T> Fits for Left<T> {
-    ghost use Rattle.std.specs.Prelude.{⊤};
-
-    type Tag = ();
-
-    ghost fits = { λ _ _. ⊤ };
-}
-
-// The word of the place where the two meet, once the sender is done.
-const DONE: u64 = MARKED;
-
-// The same, where the receiver went before.
-const GONE: u64 = 1 << 32;
-
-#[derive(Drop)]
-struct Shared<T> {
-    // `FREE` where nothing is left, and `PRESENT` where a waker is.
-    meeting: Counted<Left<T>>,
-    // `PRESENT` where the sender found the receiver at the other place.
-    late: Counted<Sent<T>>,
-}
-
-impl<T: Drop> Shared<T> {
-    fn new() -> Shared<T> {
-        Shared {
-            meeting: Counted::new(Left::Nothing, &()),
-            late: Counted::new(Sent(None), &()),
-        }
-    }
-
-    // The place where the two meet, where its word is still the one that was seen.
-    fn take_place(&self, seen: u64) -> Option<Claim<'_, Left<T>>>
-        requires { (seen ≡ FREE) ⊎ (seen ≡ PRESENT) ⊎ (seen ≡ DONE) }
-        ensures { IfSome result (λ claim. claim.right ≡ 2) }
-    {
-        let (found, claim) = self.meeting.turn(seen, TAKEN);
-        if found != seen {
-            claim.done();
-            return None;
-        }
-        Some(claim)
-    }
-
-    // The same, unless the other is there, or one of the two has gone.
-    fn take_any_place(&self) -> Option<Claim<'_, Left<T>>>
-        ensures { IfSome result (λ claim. claim.right ≡ 2) }
-    {
-        let seen = self.meeting.load();
-        if seen != FREE && seen != PRESENT {
-            return None;
-        }
-        self.take_place(seen)
-    }
-
-    // Leaves what is sent, and wakes the slot of the receiver, where that has left its waker.
-    fn finish(&self, sent: Sent<T>) {
-        match self.take_any_place() {
-            Some(claim) => wake_left(claim.put(Left::Sent(sent), DONE)),
-            None => {
-                self.leave_late(sent);
-                self.wake_late();
-            }
-        }
-    }
-
-    // The sender is the only one that leaves something here.
-    fn leave_late(&self, sent: Sent<T>) {
-        let (found, claim) = self.late.turn(FREE, TAKEN);
-        if found != FREE {
-            claim.done();
-            return;
-        }
-        let _before = claim.put(sent, PRESENT);
-    }
-
-    fn wake_late(&self) {
-        if self.meeting.load() != PRESENT {
-            return;
-        }
-        if let Some(claim) = self.take_place(PRESENT) {
-            wake_left(claim.put(Left::Nothing, FREE));
-        }
-    }
-
-    // Keeps a waker in place of the one before. Where the sender is at the place, or is done, the slot is marked at once.
-    fn keep(&self, waker: SharedWaker) {
-        match self.take_any_place() {
-            Some(claim) => {
-                let _before = claim.put(Left::Waker(waker), PRESENT);
-            }
-            None => waker.wake(),
-        }
-    }
-
-    // Whether the sender has left something, at either place.
-    fn is_done(&self) -> bool {
-        self.meeting.load() == DONE || self.late.load() == PRESENT
-    }
-
-    // What it left. A second call finds nothing.
-    fn take_sent(&self) -> Result<T, Canceled> {
-        if let Some(claim) = self.take_done() {
-            if let Left::Sent(sent) = claim.put(Left::Nothing, DONE) {
-                return sent.answer();
-            }
-        }
-        let (found, claim) = self.late.turn(PRESENT, TAKEN);
-        if found != PRESENT {
-            claim.done();
-            return Err(Canceled);
-        }
-        claim.put(Sent(None), PRESENT).answer()
-    }
-
-    fn take_done(&self) -> Option<Claim<'_, Left<T>>>
-        ensures { IfSome result (λ claim. claim.right ≡ 2) }
-    {
-        if self.meeting.load() != DONE {
-            return None;
-        }
-        self.take_place(DONE)
-    }
-
-    // The same, of what nobody shares any more.
-    fn into_sent(self) -> Result<T, Canceled> {
-        let Shared { meeting, late } = self;
-        match meeting.into_inner() {
-            Left::Sent(sent) => sent.answer(),
-            _ => late.into_inner().answer(),
-        }
-    }
-}
-
-fn wake_left<T: Drop>(left: Left<T>) {
-    if let Left::Waker(waker) = left {
-        waker.wake();
-    }
-}
+type Seat<T> = oneshot_place::Seat<T, SharedWaker>;
 
 /// Sends one value. No call waits for the receiver.
+///
+/// A contract sees which one-shot it is of.
 pub struct Sender<T: Drop> {
-    shared: Arc<Shared<T>>,
+    place: Arc<Place<T>>,
+    seat: Seat<T>,
+}
+
+impl<T: Drop> Model for Sender<T> {
+    ghost use Rattle.std.specs.Prelude.{◌≡◌, []};
+    ghost use Rattle.std.specs.Arc.{arc_value};
+    ghost use Rattle.atomic_table.specs.Seated.{TableId, table_id_coded};
+    ghost use Rattle.futures_buffered_held.specs.declared.oneshot_place.View.TheVariants as views;
+
+    ghost Value = { TableId };
+
+    ghost coded = { table_id_coded };
+
+    ghost view = { λ sender. sender.seat.table_id };
+
+    ghost invariant = { λ sender. (sender.seat.table_id ≡ arc_value sender.place)
+        × (sender.seat.me ≡ (views.Sender, [])) };
 }
 
 /// A future for the value that is sent, or for the word that its sender is gone. No call waits for the sender.
 ///
-/// A poll takes no memory. It leaves a second waker of its slot. Where there are as many wakers of the set as can be counted, it marks its slot instead, and is polled again until the value is there. Polled again after its value came, it is `Canceled`.
+/// A poll takes no memory. It leaves a second waker of its slot. Where there are as many wakers of the set as can be counted, it marks its slot instead, and is polled again until the value is there. Polled again after its answer came, it is `Canceled`.
+///
+/// A contract sees which one-shot it is of, and what it answered.
 pub struct Receiver<T: Drop> {
-    // Nothing once the answer came and the sender was gone.
-    shared: Option<Arc<Shared<T>>>,
+    // Nothing once the answer came.
+    place: Option<Arc<Place<T>>>,
+    seat: Seat<T>,
+}
+
+impl<T: Drop> Model for Receiver<T> {
+    ghost use Rattle.std.specs.Prelude.{◌≡◌, [], MatchOption};
+    ghost use Rattle.std.specs.Arc.{arc_value};
+    ghost use Rattle.futures_buffered_held.specs.declared.oneshot_place.View.TheVariants.{Waiting, Got};
+    ghost use Rattle.futures_buffered_held.specs.OneshotPlace.{received};
+    ghost use Rattle.futures_buffered_held.specs.Oneshot.{Reception, reception_code, answer_of};
+
+    ghost Value = { Reception T };
+
+    ghost coded = { reception_code T.code };
+
+    ghost view = { λ r. record { oneshot = r.seat.table_id; answer = answer_of r.place (received r.seat.me.0) } };
+
+    ghost invariant = { λ r. MatchOption r.place (r.seat.me.0 ≡ Got (received r.seat.me.0))
+        (λ place. (r.seat.table_id ≡ arc_value place) × (r.seat.me ≡ (Waiting, []))) };
+}
+
+/// What shows that a value was sent. It keeps what both ends share.
+///
+/// A contract sees by which one-shot, and which value.
+pub struct Receipt<T: Drop> {
+    place: Arc<Place<T>>,
+    seat: Seat<T>,
+}
+
+impl<T: Drop> Model for Receipt<T> {
+    ghost use Rattle.std.specs.Prelude.{◌≡◌, []};
+    ghost use Rattle.std.specs.Arc.{arc_value};
+    ghost use Rattle.futures_buffered_held.specs.declared.oneshot_place.View.TheVariants.{Sent};
+    ghost use Rattle.futures_buffered_held.specs.OneshotPlace.{sent_by};
+    ghost use Rattle.futures_buffered_held.specs.Oneshot.{Slip, slip_code};
+
+    ghost Value = { Slip T };
+
+    ghost coded = { slip_code T.code };
+
+    ghost view = { λ r. record { oneshot = r.seat.table_id; sent = sent_by r.seat.me.0 } };
+
+    ghost invariant = { λ r. (r.seat.table_id ≡ arc_value r.place)
+        × ((x : T) × (r.seat.me.0 ≡ Sent x)) × (r.seat.me.1 ≡ []) };
 }
 
 /// The sender was dropped before it sent a value.
@@ -200,98 +106,132 @@ pub struct Receiver<T: Drop> {
 #[error("the sender of a one-shot left before it sent a value")]
 pub struct Canceled;
 
-/// A channel for one value, whose receiver a set over `SharedReady` holds. It takes memory for the places that both share, and no call of the two takes any.
-pub fn channel<T: Drop>(alloc: Global) -> Result<(Sender<T>, Receiver<T>), AllocError> {
-    let shared = Arc::new(alloc, Shared::new())?;
-    let other = Arc::try_clone(&shared)?;
+/// A channel for one value, whose receiver a set over `SharedReady` holds. It takes memory for what both ends share, by four requests of which one is given back at once, and no call of the two takes any.
+pub fn channel<T: Drop>(alloc: Global) -> Result<(Sender<T>, Receiver<T>), AllocError>
+    ensures { IfOk result (λ ends. ends.1 ≡ unanswered ends.0) }
+{
+    let (place, sender, receiver) = Place::new(alloc)?;
+    let place = Arc::new(alloc, place)?;
+    let other = Arc::try_clone(&place)?;
     Ok((
-        Sender { shared },
+        Sender {
+            place,
+            seat: sender,
+        },
         Receiver {
-            shared: Some(other),
+            place: Some(other),
+            seat: receiver,
         },
     ))
 }
 
+// Wakes the slot of the receiver, where that waits.
+fn wake(waker: Option<SharedWaker>) {
+    if let Some(waker) = waker {
+        waker.wake();
+    }
+}
+
 impl<T: Drop> Sender<T> {
-    /// Sends the value and wakes the slot of the receiver once. Where the receiver is gone, it hands the value back. A send that meets the receiver as it goes may answer `Ok`: the value is dropped with what both ends share.
+    /// Sends the value and wakes the slot of the receiver once. Where the receiver is gone, it hands the value back.
     pub fn send(self, value: T) -> Result<(), T>
         ensures back { IfErr result (λ back. back ≡ value) }
     {
-        if self.is_canceled() {
-            return Err(value);
-        }
-        let Sender { shared } = self;
-        shared.finish(Sent(Some(Mutex::new(value))));
+        let Sender { place, mut seat } = self;
+        wake(place.send(&mut seat, value)?);
         Ok(())
+    }
+
+    /// Sends as `send` does, and gives a receipt.
+    pub fn send_with_receipt(self, value: T) -> Result<Receipt<T>, T>
+        ensures { MatchResult result (λ receipt. receipt ≡ slip self value) (λ back. back ≡ value) }
+    {
+        let Sender { place, mut seat } = self;
+        wake(place.send(&mut seat, value)?);
+        let seat = place.receipt(&mut seat);
+        Ok(Receipt { place, seat })
     }
 
     /// Whether the receiver went before anything was sent.
     pub fn is_canceled(&self) -> bool {
-        self.shared.meeting.load() == GONE
+        self.place.is_gone()
     }
 }
 
 /// Wakes the slot of the receiver, whose answer is `Canceled` where no value was sent.
 impl<T: Drop> Drop for Sender<T> {
     fn drop(self) {
-        let Sender { shared } = self;
-        shared.finish(Sent(None));
+        let Sender { place, mut seat } = self;
+        wake(place.cancel(&mut seat));
     }
 }
 
-/// A value that was sent and did not come yet is dropped with the second of the two ends.
+/// A value that was sent and did not come is dropped with the receiver.
 impl<T: Drop> Drop for Receiver<T> {
     fn drop(self) {
-        let Receiver { shared } = self;
-        if let Some(shared) = shared {
-            if let Some(claim) = shared.take_any_place() {
-                let _before = claim.put(Left::Nothing, GONE);
-            }
+        let Receiver { place, mut seat } = self;
+        if let Some(place) = place {
+            place.leave(&mut seat);
         }
     }
 }
 
-impl<T: Drop> Receiver<T> {
-    // The answer, where the sender is done. What both shared goes with it, where the sender is gone.
-    fn take_answer(&mut self) -> Option<Result<T, Canceled>> {
-        let Some(shared) = self.shared.take() else {
-            return Some(Err(Canceled));
-        };
-        if !shared.is_done() {
-            self.shared = Some(shared);
-            return None;
-        }
-        match Arc::try_unwrap(shared) {
-            Ok(shared) => Some(shared.into_sent()),
-            Err(shared) => {
-                let answer = shared.take_sent();
-                self.shared = Some(shared);
-                Some(answer)
-            }
+impl<T: Drop> Drop for Receipt<T> {
+    fn drop(self) {
+        let Receipt { place: _, seat: _ } = self;
+    }
+}
+
+impl<T: Drop> Receipt<T> {
+    /// Shows that what the receiver answered, if it did, is the value that was sent.
+    pub fn compare(self, receiver: &mut Receiver<T>)
+        requires { receiver.old.oneshot ≡ self.oneshot }
+        ensures equal { IfSome receiver.old.answer (λ answer. answer ≡ self.sent) }
+        ensures same { receiver.new ≡ receiver.old }
+    {
+        let Receipt { place, seat } = self;
+        if receiver.place.is_none() {
+            place.compare(&mut receiver.seat, seat);
         }
     }
+}
 
-    fn keep(&self, waker: SharedWaker) {
-        if let Some(shared) = &self.shared {
-            shared.keep(waker);
+// The answer, or nothing yet. Where there are as many wakers as can be counted, the slot is marked.
+fn asked<T: Drop>(place: &Place<T>, seat: &mut Seat<T>, waker: &SharedWaker) -> Option<Option<T>>
+    requires { (seat.old.table_id ≡ place.now) × (seat.old.me ≡ (Waiting, [])) }
+    ensures same { seat.new.table_id ≡ seat.old.table_id }
+    ensures answer { Answers result seat.new.me }
+{
+    if let Some(answer) = place.look(seat) {
+        return Some(answer);
+    }
+    match waker.try_clone() {
+        Ok(waker) => place.register(seat, waker),
+        Err(_) => {
+            waker.wake();
+            None
         }
     }
 }
 
 impl<T: Drop> SlotFuture<SharedWaker> for Receiver<T> {
+    ghost use Rattle.futures_buffered_held.specs.Oneshot.{Receives};
+
     type Output = Result<T, Canceled>;
 
+    ghost polled = { λ _. Receives };
+
     fn poll(&mut self, waker: &SharedWaker) -> Poll<Result<T, Canceled>> {
-        if let Some(answer) = self.take_answer() {
-            return Poll::Ready(answer);
-        }
-        match waker.try_clone() {
-            Ok(waker) => self.keep(waker),
-            Err(_) => waker.wake(),
-        }
-        match self.take_answer() {
-            Some(answer) => Poll::Ready(answer),
-            None => Poll::Pending,
+        let Some(place) = self.place.take() else {
+            return Poll::Ready(Err(Canceled));
+        };
+        match asked(&place, &mut self.seat, waker) {
+            Some(Some(value)) => Poll::Ready(Ok(value)),
+            Some(None) => Poll::Ready(Err(Canceled)),
+            None => {
+                self.place = Some(place);
+                Poll::Pending
+            }
         }
     }
 }

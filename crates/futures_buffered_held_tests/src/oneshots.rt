@@ -1,12 +1,13 @@
-//! Which waker a one-shot wakes, what it says of its receiver, and what is dropped. What else it answers stands in `one_shots.calls`.
-ghost use Rattle.std.specs.Prelude.{◌≡◌};
+//! Which waker a one-shot wakes, what it says of its receiver, what a receipt shows, and what is dropped. What else it answers stands in `one_shots.calls`.
+ghost use Rattle.std.specs.Prelude.{◌≡◌, IfOk, IfSome};
 
 use crate::same::assert_same;
 use futures::task::Poll;
 use futures_buffered_core::ready_core::Taken;
-use futures_buffered_core::ready_shared::SharedReady;
+use futures_buffered_core::ready_shared::{SharedReady, SharedWaker};
 use futures_buffered_held::oneshot::{Canceled, channel};
 use futures_buffered_sets::slot_future::SlotFuture;
+use std::alloc::{AllocError, Global};
 use std::sync::Arc;
 use std::sync::atomic::Ordering::SeqCst;
 use std::test::Fail;
@@ -68,6 +69,45 @@ fn a_value_that_does_not_come(rt: HostRuntime) -> Result<(), Fail> {
     assert_same(&rt, (back.is_err(), drops.load(SeqCst)), (true, 1));
     drop(back);
     assert_same(&rt, drops.load(SeqCst), 2);
+    Ok(())
+}
+
+// What a poll gives after a send is what was sent.
+fn passes(alloc: Global, waker: &SharedWaker, value: u64) -> Result<Option<u64>, AllocError>
+    ensures { IfOk result (λ came. IfSome came (λ x. x ≡ value)) }
+{
+    let (sender, mut receiver) = channel::<u64>(alloc)?;
+    let Ok(receipt) = sender.send_with_receipt(value) else {
+        return Ok(None);
+    };
+    let Poll::Ready(Ok(came)) = receiver.poll(waker) else {
+        return Ok(None);
+    };
+    receipt.compare(&mut receiver);
+    Ok(Some(came))
+}
+
+#[test]
+fn a_receipt_shows_what_came(rt: HostRuntime) -> Result<(), Fail> {
+    let source: SharedReady = SharedReady::new(rt.alloc(), 1)?;
+    assert_same(&rt, passes(rt.alloc(), source.waker(0), 7)?, Some(7));
+    Ok(())
+}
+
+// A value that does not come is dropped with the receiver, whoever keeps the receipt.
+#[test]
+fn a_receipt_of_a_value_that_does_not_come(rt: HostRuntime) -> Result<(), Fail> {
+    let drops = new_counter(rt.alloc())?;
+    let (sender, receiver) = channel(rt.alloc())?;
+    let receipt = sender.send_with_receipt(Dropped::new(Arc::try_clone(&drops)?));
+    assert_same(&rt, (receipt.is_ok(), drops.load(SeqCst)), (true, 0));
+    drop(receiver);
+    assert_same(&rt, drops.load(SeqCst), 1);
+    drop(receipt);
+    assert_same(&rt, drops.load(SeqCst), 1);
+    let (sender, receiver) = channel::<u64>(rt.alloc())?;
+    drop(receiver);
+    assert_same(&rt, sender.send_with_receipt(7).err(), Some(7));
     Ok(())
 }
 

@@ -80,7 +80,7 @@ impl<St: SlotStream<S::Waker>, S: NewSource> AskGroup<St, S> for AsMerge {
 
 impl<St: Drop, S: NewSource> MergeUnbounded<St, S> {
     // A merge without a group. Takes no memory.
-    fn without_groups(env: &S::Env, alloc: Global, limit: usize) -> Self
+    fn without_groups(env: S::Env, alloc: Global, limit: usize) -> Self
         requires { 1 ≤ limit }
         ensures { result ≡ no_groups limit }
     {
@@ -89,11 +89,11 @@ impl<St: Drop, S: NewSource> MergeUnbounded<St, S> {
         }
     }
 
-    /// A merge of these streams, pushed in order, over sources that are made by `env`, of which it keeps a copy.
+    /// A merge of these streams, pushed in order, over sources that are made by `env`, which it keeps.
     ///
     /// Takes time and memory in proportion to their number. Where it is refused, the streams that came are dropped: `TooLarge` where a group would be too large or more than `MAX_HELD` came, and `Memory` where a request for memory was refused.
     pub fn over<I: IntoIterator<Item = St>>(
-        env: &S::Env,
+        env: S::Env,
         alloc: Global,
         iter: I,
     ) -> Result<Self, NewFault>
@@ -112,7 +112,7 @@ impl<St: Drop, S: NewSource> MergeUnbounded<St, S> {
 
     /// As `over`, where one count takes at most `limit` names of a group, also of those that are made later.
     pub fn over_limit<I: IntoIterator<Item = St>>(
-        env: &S::Env,
+        env: S::Env,
         alloc: Global,
         iter: I,
         limit: usize,
@@ -295,7 +295,7 @@ impl<St: Drop> MergeUnbounded<St, SharedReady> {
         requires { 1 ≤ limit }
         ensures { result ≡ no_groups limit }
     {
-        Self::without_groups(&(), alloc, limit)
+        Self::without_groups((), alloc, limit)
     }
 
     /// A merge of these streams, pushed in order, whatever the iterator says of their number. It is `over` with shared sources, and refuses as `over` does.
@@ -310,6 +310,6 @@ impl<St: Drop> MergeUnbounded<St, SharedReady> {
             → StopsAtBound I.into_iter_gives I.IntoIter.next_gives iter MarksShared IsNewShared
             (no_groups POLL_LIMIT) }
     {
-        Self::over(&(), alloc, iter)
+        Self::over((), alloc, iter)
     }
 }

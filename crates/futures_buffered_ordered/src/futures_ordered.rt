@@ -240,10 +240,10 @@ impl<T: Drop, A: Drop, S: NewSource> GrowingQueue<T, A, S> {
 }
 
 impl<T: SlotFuture<S::Waker, Output = A>, A: Drop, S: NewSource> GrowingQueue<T, A, S> {
-    /// An empty queue over sources that are made by `env`, of which it keeps a copy. It has one group of `n` slots, or none where `n` is 0, and a place for `n` entries.
+    /// An empty queue over sources that are made by `env`, which it keeps. It has one group of `n` slots, or none where `n` is 0, and a place for `n` entries.
     ///
     /// Takes time and memory in proportion to `n`. `TooLarge` where `n` is above `MAX_CAPACITY`, and `Memory` where a request for memory was refused.
-    pub fn over(env: &S::Env, alloc: Global, n: usize) -> Result<Self, NewFault>
+    pub fn over(env: S::Env, alloc: Global, n: usize) -> Result<Self, NewFault>
         ensures empty { IfOk result (IsNewGrowingQueue S.made n POLL_LIMIT) }
         ensures refuses { RefusesTooLarge n result }
         ensures none { n ≡ 0 → IsOk result }
@@ -252,7 +252,7 @@ impl<T: SlotFuture<S::Waker, Output = A>, A: Drop, S: NewSource> GrowingQueue<T,
     }
 
     /// As `over`, where one poll of the set takes at most `limit` names from each group, also from those that are made later.
-    pub fn over_limit(env: &S::Env, alloc: Global, n: usize, limit: usize) -> Result<Self, NewFault>
+    pub fn over_limit(env: S::Env, alloc: Global, n: usize, limit: usize) -> Result<Self, NewFault>
         requires { 1 ≤ limit }
         ensures empty { IfOk result (IsNewGrowingQueue S.made n limit) }
         ensures refuses { RefusesTooLarge n result }
@@ -291,7 +291,7 @@ impl<T: SlotFuture<SharedWaker, Output = A>, A: Drop> GrowingQueue<T, A, SharedR
         ensures refuses { RefusesTooLarge n result }
         ensures none { n ≡ 0 → IsOk result }
     {
-        Self::over_limit(&(), alloc, n, limit)
+        Self::over_limit((), alloc, n, limit)
     }
 
     /// A queue of the items, each added at the back, in order. Its first group has as many slots as the iterator says that it has items at least, and not fewer than `FIRST_GROUP`.

@@ -77,7 +77,7 @@ fn push_all(merge: &mut MergeUnbounded<Stepped, CoreSource>, count: u64) -> bool
 #[test]
 fn a_growing_merge_over_a_core_source(rt: HostRuntime) -> Result<(), Fail> {
     let task = MockTask::new(&rt)?;
-    let mut merge = MergeUnbounded::over(&(), rt.alloc(), streams(rt.alloc(), 1)?)?;
+    let mut merge = MergeUnbounded::over((), rt.alloc(), streams(rt.alloc(), 1)?)?;
     assert_same(&rt, push_all(&mut merge, 1000), true);
     assert_same(&rt, merge.len(), 1001);
     let summed = sum_of_growing(&task, &mut merge, 10_000);

@@ -86,11 +86,11 @@ fn keeps_2_000_outputs(rt: HostRuntime) -> Result<(), Fail> {
 }
 
 fn growing_over(alloc: Global, slots: usize) -> Result<Growing, NewFault> {
-    FuturesOrdered::over(&(), alloc, slots)
+    FuturesOrdered::over((), alloc, slots)
 }
 
 fn growing_over_limit(alloc: Global, slots: usize) -> Result<Growing, NewFault> {
-    FuturesOrdered::over_limit(&(), alloc, slots, 7)
+    FuturesOrdered::over_limit((), alloc, slots, 7)
 }
 
 fn growing_fronts(queue: &mut Growing) -> bool {

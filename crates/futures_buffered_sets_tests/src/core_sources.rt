@@ -145,11 +145,11 @@ where
 }
 
 fn growing_over(alloc: Global, slots: usize) -> Result<Growing, NewFault> {
-    FuturesUnordered::over(&(), alloc, slots)
+    FuturesUnordered::over((), alloc, slots)
 }
 
 fn growing_over_limit(alloc: Global) -> Result<Growing, NewFault> {
-    FuturesUnordered::over_limit(&(), alloc, SLOTS, 7)
+    FuturesUnordered::over_limit((), alloc, SLOTS, 7)
 }
 
 #[test]

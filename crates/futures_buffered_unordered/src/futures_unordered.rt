@@ -77,10 +77,10 @@ impl<F: Drop, S: NewSource, R: PollOne<F, S::Waker>> AskGroup<F, S> for ByRule<'
 }
 
 impl<F: Drop, S: NewSource> FuturesUnordered<F, S> {
-    /// An empty set over sources that are made by `env`, of which it keeps a copy. It has one group of `n` slots, or none where `n` is 0.
+    /// An empty set over sources that are made by `env`, which it keeps. It has one group of `n` slots, or none where `n` is 0.
     ///
     /// Takes time and memory in proportion to `n`. `TooLarge` where `n` is above `MAX_CAPACITY`, and `Memory` where a request for memory was refused.
-    pub fn over(env: &S::Env, alloc: Global, n: usize) -> Result<Self, NewFault>
+    pub fn over(env: S::Env, alloc: Global, n: usize) -> Result<Self, NewFault>
         ensures empty { IfOk result (IsNewGrowing S.made n POLL_LIMIT) }
         ensures refuses { RefusesTooLarge n result }
         ensures none { n ≡ 0 → IsOk result }
@@ -89,7 +89,7 @@ impl<F: Drop, S: NewSource> FuturesUnordered<F, S> {
     }
 
     /// As `over`, where one poll takes at most `limit` names from each group, also from those that are made later.
-    pub fn over_limit(env: &S::Env, alloc: Global, n: usize, limit: usize) -> Result<Self, NewFault>
+    pub fn over_limit(env: S::Env, alloc: Global, n: usize, limit: usize) -> Result<Self, NewFault>
         requires { 1 ≤ limit }
         ensures empty { IfOk result (IsNewGrowing S.made n limit) }
         ensures refuses { RefusesTooLarge n result }
@@ -210,7 +210,7 @@ impl<F: Drop> FuturesUnordered<F, SharedReady> {
         ensures { result ≡ no_groups POLL_LIMIT }
     {
         FuturesUnordered {
-            groups: SlotGroups::without_groups(&(), alloc, POLL_LIMIT),
+            groups: SlotGroups::without_groups((), alloc, POLL_LIMIT),
         }
     }
 
@@ -230,7 +230,7 @@ impl<F: Drop> FuturesUnordered<F, SharedReady> {
         ensures refuses { RefusesTooLarge n result }
         ensures none { n ≡ 0 → IsOk result }
     {
-        Self::over_limit(&(), alloc, n, limit)
+        Self::over_limit((), alloc, n, limit)
     }
 
     /// A set that holds the items, pushed in order. Its first group has as many slots as the iterator says that it has items at least, and not fewer than `FIRST_GROUP`.

@@ -120,7 +120,7 @@ fn drop_group<G: Drop>(groups: &mut Vec<G>, place: usize)
 
 impl<F: Drop, S: NewSource> SlotGroups<F, S> {
     /// No groups, over sources that will be made by `env`. Takes no memory.
-    pub fn without_groups(env: &S::Env, alloc: Global, limit: usize) -> Self
+    pub fn without_groups(env: S::Env, alloc: Global, limit: usize) -> Self
         requires { 1 ≤ limit }
         ensures { result ≡ no_groups limit }
     {
@@ -129,7 +129,7 @@ impl<F: Drop, S: NewSource> SlotGroups<F, S> {
             place: 0,
             held: 0,
             limit,
-            env: *env,
+            env,
             alloc,
         }
     }
@@ -137,7 +137,7 @@ impl<F: Drop, S: NewSource> SlotGroups<F, S> {
     /// One group of `n` slots, or none where `n` is 0, over sources that are made by `env`. One poll takes at most `limit` names of each group, also of those that are made later.
     ///
     /// Takes time and memory in proportion to `n`. `TooLarge` where `n` is above `MAX_CAPACITY`, and `Memory` where a request for memory was refused.
-    pub fn over_limit(env: &S::Env, alloc: Global, n: usize, limit: usize) -> Result<Self, NewFault>
+    pub fn over_limit(env: S::Env, alloc: Global, n: usize, limit: usize) -> Result<Self, NewFault>
         requires { 1 ≤ limit }
         ensures empty { IfOk result (IsNewGrowing S.made n limit) }
         ensures refuses { RefusesTooLarge n result }

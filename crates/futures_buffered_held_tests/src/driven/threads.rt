@@ -132,7 +132,7 @@ fn a_hundred_from_four_threads_in_a_growing_set(rt: HostRuntime) -> Result<(), F
     let receivers = Receivers::new(rt.alloc())?;
     let (mut held, mut threads) = (Vec::new(rt.alloc()), Vec::new(rt.alloc()));
     start(&rt, &receivers, &mut held, &mut threads)?;
-    let mut set: GrowingForeignSet<Counted> = GrowingForeignSet::over(&(), rt.alloc(), 8)?;
+    let mut set: GrowingForeignSet<Counted> = GrowingForeignSet::over((), rt.alloc(), 8)?;
     push_all(&mut set, held);
     let mut all = block_on(&rt, set.collect(rt.alloc()))??;
     end(&rt, threads);
