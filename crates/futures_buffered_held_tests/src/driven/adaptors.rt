@@ -3,9 +3,11 @@ use crate::same::assert_same;
 use futures::channel::oneshot::{Canceled, Receiver, Sender, channel};
 use futures::executor::block_on;
 use futures::future::{Ready, ready};
-use futures::{StreamExt, stream};
+use futures::task::Poll;
+use futures::test::MockTask;
+use futures::{Stream, StreamExt, stream};
 use futures_buffered::{
-    BufferedStreamExt, BufferedTryStreamExt, Driven, ForEachConcurrent, Foreign,
+    BufferedStreamExt, BufferedTryStreamExt, Driven, ForEachConcurrent, Foreign, Foreigns,
 };
 use std::alloc::{AllocError, Global};
 use std::sync::Arc;
@@ -109,5 +111,20 @@ fn for_each_item(rt: HostRuntime) -> Result<(), Fail> {
     )?;
     block_on(&rt, all)?;
     assert_same(&rt, sum.load(SeqCst), 190);
+    Ok(())
+}
+
+// What an adaptor draws: a stand-in for the stream's future.
+#[test]
+fn a_draw_wakes_nobody(rt: HostRuntime) -> Result<(), Fail> {
+    let task = MockTask::new(&rt)?;
+    let (_sender, receiver) = channel::<u64>(rt.alloc())?;
+    let receivers = vec![in rt.alloc(); receiver]?;
+    let mut stand_ins = Foreigns::new(stream::iter(receivers));
+    let has_come = match task.enter(|cx| stand_ins.poll_next(cx)) {
+        Poll::Ready(Some(_)) => true,
+        Poll::Ready(None) | Poll::Pending => false,
+    };
+    assert_same(&rt, (has_come, task.is_woken()), (true, false));
     Ok(())
 }
