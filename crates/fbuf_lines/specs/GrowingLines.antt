@@ -3,10 +3,10 @@ use Rattle.std.specs.Prelude.{◌≡◌, ◌⊎◌, ℕ, Option}
 use Rattle.futures.specs.declared.task.Poll.{Poll as PollAnswer}
 use Rattle.futures_buffered_core.specs.ReadyCore.{Standing, Marks}
 use Rattle.futures_buffered_unordered.specs.Groups.{GroupsGive}
-use Rattle.futures_buffered_unordered.specs.SlotGroups.{Growing, GrowingPushes, IsAtBound}
-use Rattle.futures_buffered_unordered.specs.SlotGroups.{LastIsFull, all_held}
-use Rattle.futures_buffered_unordered.specs.declared.slot_groups.TheConstants.{FIRST_GROUP}
-use Rattle.futures_buffered_unordered.specs.declared.slot_groups.TheConstants.{MAX_HELD}
+use Rattle.futures_buffered_unordered.specs.FuturesUnordered.{Growing, GrowingPushes, IsAtBound}
+use Rattle.futures_buffered_unordered.specs.FuturesUnordered.{LastIsFull, held_in_all}
+use Rattle.futures_buffered_unordered.specs.declared.futures_unordered.TheConstants.{FIRST_GROUP}
+use Rattle.futures_buffered_unordered.specs.declared.futures_unordered.TheConstants.{MAX_HELD}
 use Rattle.fbuf_lines.specs.Reply.{poll_reply}
 use Rattle.fbuf_lines.specs.BoundedLines.{IsNewStanding, PollsSet}
 use Rattle.fbuf_lines.specs.declared.ready_after.ReadyAfter.{ReadyAfter}
@@ -34,7 +34,7 @@ abbrev pub GrowingGives : ScriptGrowing → Command → Reply → ScriptGrowing 
 GrowingGives old (Push future) reply new = (reply ≡ Done) × PushesGrowing old future new
 GrowingGives old Poll reply new =
     (answer : PollAnswer (Option ℕ)) × (reply ≡ poll_reply answer) × PollsGrowing old answer new
-GrowingGives old Len reply new = (reply ≡ Count (all_held old.groups.listed)) × (new ≡ old)
+GrowingGives old Len reply new = (reply ≡ Count (held_in_all old.groups.listed)) × (new ≡ old)
 GrowingGives old command reply new = (reply ≡ Bad) × (new ≡ old)
 
 -- a command that may lack memory is a push where as many futures are held as a set may hold, or
@@ -42,5 +42,5 @@ GrowingGives old command reply new = (reply ≡ Bad) × (new ≡ old)
 -- the last group is full
 abbrev pub GrowingMayLack : ScriptGrowing → Command → Type 0
 GrowingMayLack old (Push future) =
-    (all_held old.groups.listed ≡ MAX_HELD) ⊎ LastIsFull old.groups.listed
+    (held_in_all old.groups.listed ≡ MAX_HELD) ⊎ LastIsFull old.groups.listed
 GrowingMayLack old command = ⊥

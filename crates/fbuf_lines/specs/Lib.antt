@@ -6,4 +6,4 @@ pub mod BoundedLines
 pub mod OrderedLines
 pub mod GrowingLines
 pub mod MachineLines
-pub mod Object
+pub mod Session

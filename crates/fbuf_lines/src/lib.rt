@@ -1,5 +1,5 @@
 //! The lines of a script for `fbuf`: how a text is cut into lines, what a line asks for, what it
-//! does to the object that was begun last, and how the reply is written. It reads nothing, writes
+//! does to the target that was begun last, and how the reply is written. It reads nothing, writes
 //! nothing, and needs no thread.
 //!
 //! In the order in which to read them:
@@ -8,8 +8,8 @@
 //! - `ready_after`: `ReadyAfter`, the future of a script, pending a number of times and then a number.
 //! - `command`: `Command`, what a line asks for, and `parse`, which reads it.
 //! - `reply`: `Reply`, what a line is answered, and how it is written.
-//! - `bounded_lines`, `ordered_lines`, `growing_lines`, `machine_lines`: commands to an object of each kind.
-//! - `object`: `Stage`, how far a script has come, and `answer`, what one line does to it.
+//! - `bounded_lines`, `ordered_lines`, `growing_lines`, `machine_lines`: commands to a target of each kind.
+//! - `session`: `Session`, how far a script has come, and `answer`, what one line does to it.
 #![tactic(auto)]
 
 pub mod bounded_lines;
@@ -17,7 +17,7 @@ pub mod command;
 pub mod growing_lines;
 pub mod lines;
 mod machine_lines;
-pub mod object;
 pub mod ordered_lines;
 pub mod ready_after;
 pub mod reply;
+pub mod session;

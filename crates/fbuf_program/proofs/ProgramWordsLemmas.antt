@@ -9,7 +9,7 @@ use Rattle.std.proofs.lemmas.Fmt.{decimal_injective}
 use Rattle.std.proofs.KnownBytes.{Appends-nil}
 use Rattle.std.proofs.Math.Seq.{take-length}
 use Rattle.fbuf_lines.specs.Lines.{lines_of}
-use Rattle.fbuf_lines.specs.Object.{first_stage}
+use Rattle.fbuf_lines.specs.Session.{first_session}
 use Rattle.fbuf_program.specs.Script.{AppendsFirstReplies, AppendsPartOfReplies}
 use Rattle.fbuf_program.specs.Threads.{AppendsThreadsLine}
 use Rattle.fbuf_program.specs.ProgramWords.{WordsAskFor, CallEnds, EndsScript}
@@ -60,7 +60,7 @@ none_appended bytes old =
       after = lines_of bytes;
       lines = refl;
       text = [];
-      replied = record { replies = []; last = first_stage; given = refl; written = refl };
+      replied = record { replies = []; last = first_session; given = refl; written = refl };
       count = 0;
       appended = Appends-nil old;
     }

@@ -11,13 +11,13 @@ use Rattle.std.specs.List.{flat_map}
 use Rattle.std.specs.Io.KnownBytes.{Appends}
 use Rattle.fbuf_lines.specs.Lines.{lines_of}
 use Rattle.fbuf_lines.specs.Reply.{reply_line}
-use Rattle.fbuf_lines.specs.Object.{LineGives, ScriptStage, first_stage}
+use Rattle.fbuf_lines.specs.Session.{LineGives, ScriptSession, first_session}
 use Rattle.fbuf_program.specs.Script.{LinesGive, IsReplyTo}
 use Rattle.fbuf_program.specs.Script.{AppendsReplies, AppendsFirstReplies, AppendsPartOfReplies}
 use Rattle.fbuf_lines.specs.declared.reply.Reply.{Reply}
 
-LinesGive-push : (first : ScriptStage) (lines : List (List ℕ)) (replies : List Reply)
-    (now later : ScriptStage) (line : List ℕ) (reply : Reply)
+LinesGive-push : (first : ScriptSession) (lines : List (List ℕ)) (replies : List Reply)
+    (now later : ScriptSession) (line : List ℕ) (reply : Reply)
     → LinesGive first lines replies now → LineGives now line reply later
     → LinesGive first (lines ++ line ∷ []) (replies ++ reply ∷ []) later
 LinesGive-push first [] [] now later line reply given more = (later, rw (← given) more, refl)
@@ -28,18 +28,18 @@ LinesGive-push first (l ∷ lines) (r ∷ replies) now later line reply given mo
 
 -- The lines before the rest were answered; some of the replies were appended to the output,
 -- and the text has those that follow
-pub record RepliesSoFar (bytes rest : List ℕ) (stage : ScriptStage) (first now : Option (List ℕ))
+pub record RepliesSoFar (bytes rest : List ℕ) (session : ScriptSession) (first now : Option (List ℕ))
     (text : List ℕ) : Type 0 where
   pub done : List (List ℕ)
   pub replies : List Reply
   pub lines : lines_of bytes ≡ done ++ lines_of rest
-  pub given : LinesGive first_stage done replies stage
+  pub given : LinesGive first_session done replies session
   pub sent : List ℕ
   pub appended : Appends first now sent
   pub written : sent ++ text ≡ flat_map reply_line replies
 
 pub RepliesSoFar-start : (bytes : List ℕ) (first : Option (List ℕ))
-    → RepliesSoFar bytes bytes first_stage first first []
+    → RepliesSoFar bytes bytes first_session first first []
 RepliesSoFar-start bytes first =
     record {
       done = [];
@@ -51,12 +51,12 @@ RepliesSoFar-start bytes first =
       written = refl;
     }
 
-module _ (bytes rest : List ℕ) (stage : ScriptStage) (first now : Option (List ℕ)) (text : List ℕ)
-    (so : RepliesSoFar bytes rest stage first now text) where
+module _ (bytes rest : List ℕ) (session : ScriptSession) (first now : Option (List ℕ)) (text : List ℕ)
+    (so : RepliesSoFar bytes rest session first now text) where
   -- one more line
-  pub RepliesSoFar-line : (line after : List ℕ) (reply : Reply) (later : ScriptStage)
+  pub RepliesSoFar-line : (line after : List ℕ) (reply : Reply) (later : ScriptSession)
       (more : List ℕ)
-      → lines_of rest ≡ line ∷ lines_of after → LineGives stage line reply later
+      → lines_of rest ≡ line ∷ lines_of after → LineGives session line reply later
       → more ≡ text ++ reply_line reply → RepliesSoFar bytes after later first now more
   RepliesSoFar-line line after reply later more is gives appends =
       let joined : so.sent ++ more ≡ (so.sent ++ text) ++ reply_line reply =
@@ -66,7 +66,7 @@ module _ (bytes rest : List ℕ) (stage : ScriptStage) (first now : Option (List
         done = so.done ++ line ∷ [];
         replies = so.replies ++ reply ∷ [];
         lines = so.lines ∙ rw is (sym (append_assoc so.done (line ∷ []) (lines_of after)));
-        given = LinesGive-push first_stage so.done so.replies stage later line reply so.given gives;
+        given = LinesGive-push first_session so.done so.replies session later line reply so.given gives;
         sent = so.sent;
         appended = so.appended;
         written =
@@ -77,7 +77,7 @@ module _ (bytes rest : List ℕ) (stage : ScriptStage) (first now : Option (List
 
   -- the text was appended, and is begun anew
   pub RepliesSoFar-sent : (later : Option (List ℕ)) → Appends now later text
-      → RepliesSoFar bytes rest stage first later []
+      → RepliesSoFar bytes rest session first later []
   RepliesSoFar-sent later appends =
       record {
         done = so.done;
@@ -91,7 +91,7 @@ module _ (bytes rest : List ℕ) (stage : ScriptStage) (first now : Option (List
 
   replied : IsReplyTo so.done (so.sent ++ text)
   replied =
-      record { replies = so.replies; last = stage; given = so.given; written = so.written }
+      record { replies = so.replies; last = session; given = so.given; written = so.written }
 
   pub replies_whole : rest ≡ [] → (later : Option (List ℕ)) → Appends now later text
       → AppendsReplies bytes first later

@@ -4,22 +4,22 @@ use Rattle.std.specs.List.{flat_map}
 use Rattle.std.specs.Io.KnownBytes.{Appends}
 use Rattle.fbuf_lines.specs.Lines.{lines_of}
 use Rattle.fbuf_lines.specs.Reply.{reply_line}
-use Rattle.fbuf_lines.specs.Object.{LineGives, ScriptStage, first_stage}
+use Rattle.fbuf_lines.specs.Session.{LineGives, ScriptSession, first_session}
 use Rattle.fbuf_lines.specs.declared.reply.Reply.{Reply}
 
 -- one reply for each line, each to what the lines before it left
-abbrev pub LinesGive : ScriptStage → List (List ℕ) → List Reply → ScriptStage → Type 0
+abbrev pub LinesGive : ScriptSession → List (List ℕ) → List Reply → ScriptSession → Type 0
 LinesGive old [] [] new = new ≡ old
 LinesGive old (line ∷ lines) (reply ∷ replies) new =
-    (between : ScriptStage) × LineGives old line reply between × LinesGive between lines replies new
+    (between : ScriptSession) × LineGives old line reply between × LinesGive between lines replies new
 LinesGive old [] (reply ∷ replies) new = ⊥
 LinesGive old (line ∷ lines) [] new = ⊥
 
 -- a text is the lines of the replies to these lines, where nothing was begun before
 pub record IsReplyTo (lines : List (List ℕ)) (text : List ℕ) : Type 0 where
   pub replies : List Reply
-  pub last : ScriptStage
-  pub given : LinesGive first_stage lines replies last
+  pub last : ScriptSession
+  pub given : LinesGive first_session lines replies last
   pub written : text ≡ flat_map reply_line replies
 
 -- the replies to all lines of a script were appended

@@ -5,13 +5,13 @@ ghost use Rattle.std.specs.Io.KnownBytes.{Appends};
 ghost use Rattle.futures.specs.Task.{Keeps};
 ghost use Rattle.fbuf_program.specs.Script.{AppendsReplies, AppendsFirstReplies};
 ghost use Rattle.fbuf_program.specs.Script.{AppendsPartOfReplies};
-ghost use Rattle.fbuf_lines.specs.Object.{LineGives, first_stage};
+ghost use Rattle.fbuf_lines.specs.Session.{LineGives, first_session};
 ghost use Rattle.fbuf_lines.specs.Reply.{reply_line};
 ghost use Rattle.fbuf_lines.specs.declared.reply.Reply.{Reply};
 
 use crate::watched::Watched;
 use fbuf_lines::lines::first_line;
-use fbuf_lines::object::Stage;
+use fbuf_lines::session::Session;
 use futures::task::Context;
 use std::alloc::{AllocError, Global};
 use std::io::{Read, Write};
@@ -43,8 +43,8 @@ const WRITE_SIZE: usize = 8192;
 /// `cx` is the poll of a task in which the futures are polled; they leave no waker there. The error
 /// of a read or a write ends the script, of whatever kind it is, and no call is made again.
 ///
-/// It keeps the whole input in memory, replies until they are 8192 bytes, and what the object begun
-/// last holds. The time is that of the input's bytes and of the objects' calls. It does not flush.
+/// It keeps the whole input in memory, replies until they are 8192 bytes, and what the target begun
+/// last holds. The time is that of the input's bytes and of the targets' calls. It does not flush.
 pub fn script<R: Read + Drop, W: Write + Drop>(
     alloc: Global,
     cx: &mut Context<'_>,
@@ -66,9 +66,9 @@ pub fn script<R: Read + Drop, W: Write + Drop>(
     ensures kept { Keeps cx.old cx.new }
 {
     let bytes = read_to_end(alloc, input)?;
-    let mut stage = Stage::new();
+    let mut session = Session::new();
     let mut replies = Vec::new(alloc);
-    answer_all(alloc, cx, &bytes, &mut stage, &mut replies, output)
+    answer_all(alloc, cx, &bytes, &mut session, &mut replies, output)
 }
 
 fn read_to_end<R: Read + Drop>(
@@ -97,16 +97,16 @@ fn read_to_end<R: Read + Drop>(
     unreachable!()
 }
 
-// Answers each line on a stage where nothing is begun. What is not yet written stands in `replies`.
+// Answers each line on a session where nothing is begun. What is not yet written stands in `replies`.
 fn answer_all<W: Write + Drop>(
     alloc: Global,
     cx: &mut Context<'_>,
     bytes: &[u8],
-    stage: &mut Stage,
+    session: &mut Session,
     replies: &mut Vec<u8>,
     output: &mut Watched<W>,
 ) -> Result<(), ScriptFault>
-    requires begins { stage.old ≡ first_stage }
+    requires begins { session.old ≡ first_session }
     requires none { replies.old.items ≡ [] }
     ensures ok { OnOk result
         (AppendsReplies bytes.now (W.contents output.old.inner) (W.contents output.new.inner)) }
@@ -121,7 +121,7 @@ fn answer_all<W: Write + Drop>(
 {
     let mut rest = bytes;
     while let Some((line, after)) = first_line(rest) {
-        let Ok(()) = append_reply(alloc, stage, line, cx, replies) else {
+        let Ok(()) = append_reply(alloc, session, line, cx, replies) else {
             write_all(output, replies)?;
             return Err(ScriptFault::Memory);
         };
@@ -138,17 +138,17 @@ fn answer_all<W: Write + Drop>(
 // Answers one line, and appends the reply. Where there is no memory for either, the text stays.
 fn append_reply(
     alloc: Global,
-    stage: &mut Stage,
+    session: &mut Session,
     line: &[u8],
     cx: &mut Context<'_>,
     replies: &mut Vec<u8>,
 ) -> Result<(), AllocError>
-    ensures ok { OnOk result ((reply : Reply) × LineGives stage.old line.now reply stage.new
+    ensures ok { OnOk result ((reply : Reply) × LineGives session.old line.now reply session.new
         × (replies.new.items ≡ replies.old.items ++ reply_line reply)) }
     ensures err { OnErr result (replies.new.items ≡ replies.old.items) }
     ensures kept { Keeps cx.old cx.new }
 {
-    let reply = stage.answer(alloc, line, cx)?;
+    let reply = session.answer(alloc, line, cx)?;
     reply.append_to(replies)
 }
 

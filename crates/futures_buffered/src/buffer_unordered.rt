@@ -21,11 +21,11 @@ use std::marker::Model;
 
 /// A bounded set of one slot at least, as what a buffer holds. A contract sees what it sees of the set.
 #[derive(Drop)]
-pub struct UnorderedQueue<F: Drop, S: ReadySource> {
+pub struct CompletionQueue<F: Drop, S: ReadySource> {
     set: FuturesUnorderedBounded<F, S>,
 }
 
-impl<F: Drop, S: ReadySource> Model for UnorderedQueue<F, S> {
+impl<F: Drop, S: ReadySource> Model for CompletionQueue<F, S> {
     ghost use Rattle.futures_buffered_unordered.specs.FuturesUnorderedBounded.{Bounded, bounded_code};
 
     ghost Value = { Bounded F S };
@@ -40,18 +40,18 @@ impl<F: Drop, S: ReadySource> Model for UnorderedQueue<F, S> {
     ghost invariant = { λ s. 0 < slot_count s.set.slots };
 }
 
-impl<F: Drop, S: NewSource> NewQueue for UnorderedQueue<F, S> {
+impl<F: Drop, S: NewSource> NewQueue for CompletionQueue<F, S> {
     type Env = S::Env;
 
     ghost made = { IsNewSet S.made };
 
     fn make(env: &S::Env, alloc: Global, n: usize, limit: usize) -> Result<Self, NewFault> {
         let set = FuturesUnorderedBounded::with_new_source(env, alloc, n, limit)?;
-        Ok(UnorderedQueue { set })
+        Ok(CompletionQueue { set })
     }
 }
 
-impl<F: SlotFuture<S::Waker>, S: ReadySource> FutureQueue<F> for UnorderedQueue<F, S> {
+impl<F: SlotFuture<S::Waker>, S: ReadySource> FutureQueue<F> for CompletionQueue<F, S> {
     type Output = F::Output;
 
     ghost count = { held_in };
@@ -94,9 +94,9 @@ impl<F: SlotFuture<S::Waker>, S: ReadySource> FutureQueue<F> for UnorderedQueue<
 }
 
 /// Futures of a stream, at most as many at a time as its set has slots, whose outputs come as they finish.
-pub type BufferUnordered<St, S> = Buffer<St, UnorderedQueue<<St as Stream>::Item, S>>;
+pub type BufferUnordered<St, S> = Buffer<St, CompletionQueue<<St as Stream>::Item, S>>;
 
-impl<St: Drop, F: Drop> Buffer<St, UnorderedQueue<F, SharedReady>> {
+impl<St: Drop, F: Drop> Buffer<St, CompletionQueue<F, SharedReady>> {
     /// As `over_limit`, with a shared source, whose futures are woken from any thread.
     pub fn with_limit(alloc: Global, stream: St, n: usize, limit: usize) -> Result<Self, NewFault>
         requires room { 0 < n }

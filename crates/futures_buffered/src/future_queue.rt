@@ -1,6 +1,6 @@
 //! What a buffer holds: futures, of each of which one output comes.
 //!
-//! A buffer is written once, for any such queue. `UnorderedQueue` is one whose outputs come as the futures finish, `OrderedQueue` one that keeps the order of the pushes.
+//! A buffer is written once, for any such queue. `CompletionQueue` is one whose outputs come as the futures finish, `OrderedQueue` one that keeps the order of the pushes.
 ghost use Rattle.std.specs.Prelude.{◌≡◌, ◌<◌, ◌≤◌, ℕ, Bool, List, Option, IfOk};
 ghost use Rattle.futures_buffered_core.specs.Answer.{RefusesTooLarge};
 ghost use Rattle.futures_buffered_unordered.specs.StreamAnswers.{StreamAnswers};

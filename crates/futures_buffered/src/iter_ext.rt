@@ -1,15 +1,16 @@
 //! Constructors of sets, joins and merges as methods of what gives the items.
-ghost use Rattle.std.specs.Prelude.{◌≡◌, ◌≤◌, ◌<◌, ◌⊎◌, ℕ, List, IfOk, max};
+ghost use Rattle.std.specs.Prelude.{◌≡◌, ◌≤◌, ◌<◌, IfOk};
 ghost use Rattle.std.specs.Iterator.{IsFiniteIterable};
-ghost use Rattle.futures_buffered_core.specs.Drawn.{Draws, DrawsMoreThan, SaysAtLeast};
+ghost use Rattle.futures_buffered_core.specs.Drawn.{Draws, DrawsMoreThan};
 ghost use Rattle.futures_buffered_core.specs.ReadyShared.{IsNewShared, MarksShared, Shared};
 ghost use Rattle.futures_buffered_core.specs.SlotMap.{slot_count};
 ghost use Rattle.futures_buffered_unordered.specs.FuturesUnorderedBounded.{HoldsEach};
-ghost use Rattle.futures_buffered_unordered.specs.SlotGroups.{Growing, IsNewGrowing, PushesEach, StopsAtBound, no_groups};
+ghost use Rattle.futures_buffered_unordered.specs.FuturesUnordered.{IsNewGrowing, PushesEach, no_groups, SetRefuses, GrowingPushes};
+ghost use Rattle.futures_buffered_unordered.specs.Extended.{GrowsByAllOf, HoldsAllOf, Outgrows, StopsAtBound};
 ghost use Rattle.futures_buffered_joins.specs.JoinMade.{IsMadeOf};
-ghost use Rattle.futures_buffered_ordered.specs.OrderedEntries.{AddsEachBack};
+ghost use Rattle.futures_buffered_ordered.specs.OrderedEntries.{AddsBack, IsAtEnd};
 ghost use Rattle.futures_buffered_ordered.specs.FuturesOrderedBounded.{HoldsInOrder};
-ghost use Rattle.futures_buffered_ordered.specs.FuturesOrdered.{IsNewGrowingQueue, OrderedGrowing, GrowingPushesNumber, QueueStopsAtBound};
+ghost use Rattle.futures_buffered_ordered.specs.FuturesOrdered.{IsNewGrowingQueue, OrderedGrowing, GrowingPushesNumber};
 
 use futures_buffered_core::ready_core::{MAX_CAPACITY, NewFault};
 use futures_buffered_core::ready_shared::{SharedReady, SharedWaker};
@@ -35,9 +36,8 @@ pub trait IterExt: IntoIterator {
         Self::Item: SlotFuture<SharedWaker>,
         requires { IsFiniteIterable Self.into_iter_gives Self.IntoIter.can_next
             Self.IntoIter.remaining self }
-        ensures holds { IfOk result (λ set. (items : List Self.Item)
-            × Draws Self.into_iter_gives Self.IntoIter.next_gives self items
-            × HoldsEach IsNewShared MarksShared POLL_LIMIT items set) }
+        ensures holds { IfOk result (HoldsAllOf Self.into_iter_gives
+            Self.IntoIter.next_gives self (HoldsEach IsNewShared MarksShared POLL_LIMIT)) }
         ensures fits { IfOk result (λ set. slot_count set.slots ≤ MAX_CAPACITY) }
         ensures large { result ≡ Err NewFault.TooLarge
             → DrawsMoreThan Self.into_iter_gives Self.IntoIter.next_gives self MAX_CAPACITY }
@@ -57,18 +57,12 @@ pub trait IterExt: IntoIterator {
         Self::Item: SlotFuture<SharedWaker>,
         requires { IsFiniteIterable Self.into_iter_gives Self.IntoIter.can_next
             Self.IntoIter.remaining self }
-        ensures holds { IfOk result (λ set. (items : List Self.Item) × (least : ℕ)
-            × ((start : Growing Self.Item Shared)
-            × Draws Self.into_iter_gives Self.IntoIter.next_gives self items
-            × SaysAtLeast Self.into_iter_gives Self.IntoIter.remaining self least
-            × IsNewGrowing IsNewShared (max least FIRST_GROUP) POLL_LIMIT start
-            × PushesEach MarksShared IsNewShared start items set)) }
-        ensures large { result ≡ Err NewFault.TooLarge → (least : ℕ)
-            × SaysAtLeast Self.into_iter_gives Self.IntoIter.remaining self least
-            × ((MAX_CAPACITY < max least FIRST_GROUP) ⊎ ((start : Growing Self.Item Shared)
-            × IsNewGrowing IsNewShared (max least FIRST_GROUP) POLL_LIMIT start
-            × StopsAtBound Self.into_iter_gives Self.IntoIter.next_gives self
-            MarksShared IsNewShared start)) }
+        ensures holds { IfOk result (GrowsByAllOf Self.into_iter_gives
+            Self.IntoIter.next_gives self Self.IntoIter.remaining FIRST_GROUP (λ n. IsNewGrowing IsNewShared n POLL_LIMIT)
+            (GrowingPushes MarksShared IsNewShared FIRST_GROUP)) }
+        ensures large { result ≡ Err NewFault.TooLarge
+            → Outgrows Self.into_iter_gives Self.IntoIter.next_gives self Self.IntoIter.remaining FIRST_GROUP (λ n. IsNewGrowing IsNewShared n POLL_LIMIT)
+            (GrowingPushes MarksShared IsNewShared FIRST_GROUP) SetRefuses }
     {
         FuturesUnordered::from_iter(alloc, self)
     }
@@ -86,9 +80,8 @@ pub trait IterExt: IntoIterator {
         <Self::Item as SlotFuture<SharedWaker>>::Output: Drop,
         requires { IsFiniteIterable Self.into_iter_gives Self.IntoIter.can_next
             Self.IntoIter.remaining self }
-        ensures holds { IfOk result (λ q. (items : List Self.Item)
-            × Draws Self.into_iter_gives Self.IntoIter.next_gives self items
-            × HoldsInOrder IsNewShared MarksShared POLL_LIMIT items q) }
+        ensures holds { IfOk result (HoldsAllOf Self.into_iter_gives
+            Self.IntoIter.next_gives self (HoldsInOrder IsNewShared MarksShared POLL_LIMIT)) }
         ensures fits { IfOk result (λ q. slot_count q.set.slots ≤ MAX_CAPACITY) }
         ensures large { result ≡ Err NewFault.TooLarge
             → DrawsMoreThan Self.into_iter_gives Self.IntoIter.next_gives self MAX_CAPACITY }
@@ -109,19 +102,13 @@ pub trait IterExt: IntoIterator {
         <Self::Item as SlotFuture<SharedWaker>>::Output: Drop,
         requires { IsFiniteIterable Self.into_iter_gives Self.IntoIter.can_next
             Self.IntoIter.remaining self }
-        ensures holds { IfOk result (λ q. (items : List Self.Item) × (least : ℕ)
-            × ((start : OrderedGrowing Self.Item Self.Item.Output Shared)
-            × Draws Self.into_iter_gives Self.IntoIter.next_gives self items
-            × SaysAtLeast Self.into_iter_gives Self.IntoIter.remaining self least
-            × IsNewGrowingQueue IsNewShared (max least FIRST_GROUP) POLL_LIMIT start
-            × AddsEachBack (GrowingPushesNumber MarksShared IsNewShared) start items q)) }
-        ensures large { result ≡ Err NewFault.TooLarge → (least : ℕ)
-            × SaysAtLeast Self.into_iter_gives Self.IntoIter.remaining self least
-            × ((MAX_CAPACITY < max least FIRST_GROUP)
-            ⊎ ((start : OrderedGrowing Self.Item Self.Item.Output Shared)
-            × IsNewGrowingQueue IsNewShared (max least FIRST_GROUP) POLL_LIMIT start
-            × QueueStopsAtBound Self.into_iter_gives Self.IntoIter.next_gives self
-            MarksShared IsNewShared start)) }
+        ensures holds { IfOk result (GrowsByAllOf Self.into_iter_gives
+            Self.IntoIter.next_gives self Self.IntoIter.remaining FIRST_GROUP (λ n. IsNewGrowingQueue IsNewShared n POLL_LIMIT)
+            (AddsBack (GrowingPushesNumber MarksShared IsNewShared))) }
+        ensures large { result ≡ Err NewFault.TooLarge
+            → Outgrows Self.into_iter_gives Self.IntoIter.next_gives self Self.IntoIter.remaining FIRST_GROUP (λ n (start : OrderedGrowing Self.Item
+            Self.Item.Output Shared). IsNewGrowingQueue IsNewShared n POLL_LIMIT start)
+            (AddsBack (GrowingPushesNumber MarksShared IsNewShared)) (IsAtEnd SetRefuses) }
     {
         FuturesOrdered::from_iter(alloc, self)
     }
@@ -176,9 +163,8 @@ pub trait IterExt: IntoIterator {
         Self::Item: SlotStream<SharedWaker>,
         requires { IsFiniteIterable Self.into_iter_gives Self.IntoIter.can_next
             Self.IntoIter.remaining self }
-        ensures holds { IfOk result (λ merge. (streams : List Self.Item)
-            × Draws Self.into_iter_gives Self.IntoIter.next_gives self streams
-            × HoldsEach IsNewShared MarksShared POLL_LIMIT streams merge) }
+        ensures holds { IfOk result (HoldsAllOf Self.into_iter_gives
+            Self.IntoIter.next_gives self (HoldsEach IsNewShared MarksShared POLL_LIMIT)) }
         ensures fits { IfOk result (λ merge. slot_count merge.slots ≤ MAX_CAPACITY) }
         ensures large { result ≡ Err NewFault.TooLarge
             → DrawsMoreThan Self.into_iter_gives Self.IntoIter.next_gives self MAX_CAPACITY }
@@ -198,12 +184,12 @@ pub trait IterExt: IntoIterator {
         Self::Item: SlotStream<SharedWaker>,
         requires { IsFiniteIterable Self.into_iter_gives Self.IntoIter.can_next
             Self.IntoIter.remaining self }
-        ensures holds { IfOk result (λ merge. (streams : List Self.Item)
-            × Draws Self.into_iter_gives Self.IntoIter.next_gives self streams
-            × PushesEach MarksShared IsNewShared (no_groups POLL_LIMIT) streams merge) }
+        ensures holds { IfOk result (HoldsAllOf Self.into_iter_gives
+            Self.IntoIter.next_gives self (PushesEach MarksShared IsNewShared (no_groups POLL_LIMIT))) }
         ensures large { result ≡ Err NewFault.TooLarge
-            → StopsAtBound Self.into_iter_gives Self.IntoIter.next_gives self MarksShared
-            IsNewShared (no_groups POLL_LIMIT) }
+            → StopsAtBound Self.into_iter_gives Self.IntoIter.next_gives self
+            (GrowingPushes MarksShared IsNewShared FIRST_GROUP) SetRefuses
+            (no_groups POLL_LIMIT) }
     {
         MergeUnbounded::from_iter(alloc, self)
     }

@@ -1,6 +1,6 @@
 //! Adaptors that draw futures from a stream and keep some of them in progress, over the sets of `futures_buffered_sets`.
 //!
-//! Everything here is found under its own module, and the types by their names alone as well. It gives out every name of the crates below, so that a user depends on this one alone.
+//! Everything here is found under its own module, and what is named most often by its name alone as well. It gives out every name of the crates below, so that a user depends on this one alone.
 //!
 //! In the order in which to read them:
 //!
@@ -29,7 +29,7 @@ pub mod try_buffered;
 pub mod try_buffered_ordered;
 
 pub use buffer::Buffer;
-pub use buffer_unordered::{BufferUnordered, UnorderedQueue};
+pub use buffer_unordered::{BufferUnordered, CompletionQueue};
 pub use buffered::BufferedStreamExt;
 pub use buffered_ordered::{BufferedOrdered, OrderedQueue};
 pub use for_each_concurrent::ForEachConcurrent;
@@ -48,8 +48,9 @@ pub use futures_buffered_core::{
 pub use futures_buffered_held::{
     Driven, Either, Foreign, ForeignMerge, ForeignQueue, ForeignSet, ForeignStream, Foreigns,
     GrowingForeignMerge, GrowingForeignQueue, GrowingForeignSet, TryForeigns, driven, foreign,
-    foreign_set, foreign_sets, foreign_stream, foreigns, future, mailbox, oneshot, stream,
-    try_foreigns,
+    foreign_join_all, foreign_merge, foreign_queue, foreign_set, foreign_sets, foreign_stream,
+    foreign_try_join_all, foreigns, future, growing_foreign_merge, growing_foreign_queue,
+    growing_foreign_set, mailbox, oneshot, stream, try_foreigns,
 };
 pub use futures_buffered_sets::{
     FusedFuture, FusedStream, FuturesOrdered, FuturesOrderedBounded, FuturesUnordered,

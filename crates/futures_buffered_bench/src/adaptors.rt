@@ -4,7 +4,7 @@ use crate::report::Workload;
 use futures::task::{Context, Poll};
 use futures::{Future, Stream, stream};
 use futures_buffered::buffer::Buffer;
-use futures_buffered::buffer_unordered::UnorderedQueue;
+use futures_buffered::buffer_unordered::CompletionQueue;
 use futures_buffered::buffered_ordered::OrderedQueue;
 use futures_buffered::for_each_concurrent::ForEachConcurrent;
 use futures_buffered_core::ready_shared::SharedReady;
@@ -39,7 +39,7 @@ impl<W: SlotHandle> SlotStream<W> for Feed {
 
 pub type Ordered = Buffer<Ready, OrderedQueue<Yields, (), SharedReady>>;
 
-pub type Unordered = Buffer<Ready, UnorderedQueue<Yields, SharedReady>>;
+pub type Unordered = Buffer<Ready, CompletionQueue<Yields, SharedReady>>;
 
 pub type Merge = MergeBounded<Feed, SharedReady>;
 

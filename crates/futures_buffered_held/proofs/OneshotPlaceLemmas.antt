@@ -9,7 +9,7 @@ use mathlib.Core.Option as maybe
 use mathlib.Core.Option.{some, none, some-ne-none, some-injective}
 use lib.ListN.{get_elem?}
 use Rattle.atomic_table.specs.Table.{State, Me, Act, keeps, takes, gives, chain, carried_after, homes_after, Valid, stepped, Allows, Splits, Joins, opening}
-use Rattle.atomic_table.proofs.Lists.{at_set, set_again}
+use Rattle.atomic_table.proofs.Lists.{at_set}
 use Rattle.futures_buffered_held.specs.declared.oneshot_place.Left.{Left}
 use Rattle.futures_buffered_held.specs.declared.oneshot_place.Left.TheVariants.{Nothing}
 use Rattle.futures_buffered_held.specs.declared.oneshot_place.View.{View}

@@ -1,13 +1,15 @@
-//! Sets, queues and joins of futures of the kit, each by a short name and made in one call.
+//! Sets, queues, joins and merges of futures and streams of the kit, each by a short name and made in one call.
 //!
 //! A slot holds a `Foreign`, or any future made of one: `map(Foreign::new(receiver), closure)`.
 ghost use Rattle.std.specs.Prelude.{◌≡◌, ◌≤◌, IfOk, IsOk, Err};
 ghost use Rattle.std.specs.Iterator.{IsFiniteIterable};
 ghost use Rattle.futures_buffered_core.specs.Drawn.{Draws, DrawsMoreThan};
 ghost use Rattle.futures_buffered_core.specs.ReadyCore.{Marks};
-ghost use Rattle.futures_buffered_core.specs.SlotMap.{no_slots};
+ghost use Rattle.futures_buffered_core.specs.SlotMap.{slot_count};
 ghost use Rattle.futures_buffered_table.specs.Answer.{RefusesTooLarge};
-ghost use Rattle.futures_buffered_unordered.specs.SlotGroups.{IsNewGrowing};
+ghost use Rattle.futures_buffered_unordered.specs.Extended.{HoldsAllOf, StopsAtBound};
+ghost use Rattle.futures_buffered_unordered.specs.FuturesUnorderedBounded.{HoldsEach, IsNewSet};
+ghost use Rattle.futures_buffered_unordered.specs.FuturesUnordered.{GrowingPushes, IsNewGrowing, PushesEach, SetRefuses, no_groups};
 ghost use Rattle.futures_buffered_ordered.specs.FuturesOrderedBounded.{IsNewBoundedQueue};
 ghost use Rattle.futures_buffered_ordered.specs.FuturesOrdered.{IsNewGrowingQueue};
 ghost use Rattle.futures_buffered_joins.specs.JoinMade.{IsMadeOf};
@@ -15,15 +17,20 @@ ghost use Rattle.futures_buffered_held.specs.Driven.{IsNewDriven};
 
 use crate::driven::Driven;
 use crate::foreign::Foreign;
+use crate::foreign_stream::{ForeignMerge, GrowingForeignMerge};
 use crate::mailbox::Mailbox;
-use futures::Future;
+use futures::stream::StreamFuture;
+use futures::{Future, Stream};
 use futures_buffered_core::ready_core::{MAX_CAPACITY, NewFault};
 use futures_buffered_joins::join::{Join, JoinAll};
 use futures_buffered_joins::try_join::{TryJoin, TryJoinAll};
+use futures_buffered_merges::merge_bounded::MergeBounded;
+use futures_buffered_merges::merge_unbounded::MergeUnbounded;
+use futures_buffered_merges::slot_stream::SlotStream;
 use futures_buffered_ordered::futures_ordered::FuturesOrdered;
 use futures_buffered_ordered::futures_ordered_bounded::FuturesOrderedBounded;
 use futures_buffered_unordered::SlotFuture;
-use futures_buffered_unordered::futures_unordered::FuturesUnordered;
+use futures_buffered_unordered::futures_unordered::{FIRST_GROUP, FuturesUnordered};
 use futures_buffered_unordered::futures_unordered_bounded::{FuturesUnorderedBounded, POLL_LIMIT};
 use std::alloc::Global;
 
@@ -52,9 +59,7 @@ pub fn foreign_set<F: Future<Output: Drop>, T: Drop>(
     alloc: Global,
     cap: usize,
 ) -> Result<ForeignSet<F, T>, NewFault>
-    ensures empty { IfOk result (λ set. set.slots ≡ no_slots cap) }
-    ensures source { IfOk result (λ set. IsNewDriven cap set.source) }
-    ensures limit { IfOk result (λ set. set.limit ≡ POLL_LIMIT) }
+    ensures empty { IfOk result (IsNewSet IsNewDriven cap POLL_LIMIT) }
     ensures refuses { RefusesTooLarge cap result }
 {
     FuturesUnorderedBounded::with_new_source(&(), alloc, cap, POLL_LIMIT)
@@ -140,4 +145,40 @@ where
         → DrawsMoreThan I.into_iter_gives I.IntoIter.next_gives iter MAX_CAPACITY }
 {
     TryJoin::over(&(), alloc, iter)
+}
+
+/// A merge without a free slot of the streams that this iterator gives, in its order. It refuses as `MergeBounded::over` does.
+pub fn foreign_merge<St: Stream<Item: Drop>, I: IntoIterator>(
+    alloc: Global,
+    iter: I,
+) -> Result<ForeignMerge<St, I::Item>, NewFault>
+where
+    I::Item: SlotStream<Mailbox<StreamFuture<St>>>,
+    requires { IsFiniteIterable I.into_iter_gives I.IntoIter.can_next
+        I.IntoIter.remaining iter }
+    ensures holds { IfOk result (HoldsAllOf I.into_iter_gives I.IntoIter.next_gives iter
+        (HoldsEach IsNewDriven Marks POLL_LIMIT)) }
+    ensures fits { IfOk result (λ merge. slot_count merge.slots ≤ MAX_CAPACITY) }
+    ensures large { result ≡ Err NewFault.TooLarge
+        → DrawsMoreThan I.into_iter_gives I.IntoIter.next_gives iter MAX_CAPACITY }
+{
+    MergeBounded::over(&(), alloc, iter)
+}
+
+/// A merge that grows, of the streams that this iterator gives, in its order. It refuses as `MergeUnbounded::over` does.
+pub fn growing_foreign_merge<St: Stream<Item: Drop>, I: IntoIterator>(
+    alloc: Global,
+    iter: I,
+) -> Result<GrowingForeignMerge<St, I::Item>, NewFault>
+where
+    I::Item: SlotStream<Mailbox<StreamFuture<St>>>,
+    requires { IsFiniteIterable I.into_iter_gives I.IntoIter.can_next
+        I.IntoIter.remaining iter }
+    ensures holds { IfOk result (HoldsAllOf I.into_iter_gives I.IntoIter.next_gives iter
+        (PushesEach Marks IsNewDriven (no_groups POLL_LIMIT))) }
+    ensures large { result ≡ Err NewFault.TooLarge
+        → StopsAtBound I.into_iter_gives I.IntoIter.next_gives iter
+        (GrowingPushes Marks IsNewDriven FIRST_GROUP) SetRefuses (no_groups POLL_LIMIT) }
+{
+    MergeUnbounded::over((), alloc, iter)
 }

@@ -22,7 +22,7 @@
 //! - `running`: the futures that were handed over, in a set of the kit.
 //! - `driver`: what polls the futures of all sources beside one another.
 //! - `driven`: `Driven`, a source that names the slots whose outputs have come.
-//! - `foreign_sets`: sets, queues and joins over it, by short names.
+//! - `foreign_sets`: sets, queues, joins and merges over it, by short names.
 #![tactic(auto)]
 
 mod desk;
@@ -53,8 +53,8 @@ pub use either::Either;
 pub use foreign::Foreign;
 pub use foreign_sets::{
     ForeignJoin, ForeignQueue, ForeignSet, ForeignTryJoin, GrowingForeignQueue, GrowingForeignSet,
-    foreign_join_all, foreign_queue, foreign_set, foreign_try_join_all, growing_foreign_queue,
-    growing_foreign_set,
+    foreign_join_all, foreign_merge, foreign_queue, foreign_set, foreign_try_join_all,
+    growing_foreign_merge, growing_foreign_queue, growing_foreign_set,
 };
 pub use foreign_stream::{ForeignMerge, ForeignStream, GrowingForeignMerge};
 pub use foreigns::Foreigns;

@@ -14,11 +14,11 @@ use Rattle.futures_buffered_table.specs.declared.answer.Woke.{Woke}
 use Rattle.futures_buffered_unordered.specs.FuturesUnorderedBounded.{Bounded, AsksUntil, held_in}
 use Rattle.futures_buffered_unordered.specs.Groups.{AnyOf, Groups, GroupsGive}
 use Rattle.futures_buffered_unordered.proofs.HeldLemmas.{count-with}
-use Rattle.futures_buffered_unordered.specs.SlotGroups.{all_held, EachCovered, AnyNeeds}
-use Rattle.futures_buffered_unordered.specs.SlotGroupsInvariant.{KeepsGroup}
-use Rattle.futures_buffered_unordered.proofs.SlotGroupsInvariantLemmas.{alike_self, alike_on}
-use Rattle.futures_buffered_unordered.proofs.SlotGroupsLemmas.{covered_of}
-use Rattle.futures_buffered_unordered.proofs.SlotGroupsPollLemmas.{any_left, any_output, ends_empty}
+use Rattle.futures_buffered_unordered.specs.FuturesUnordered.{held_in_all, EachCovered, AnyNeeds}
+use Rattle.futures_buffered_unordered.specs.FuturesUnorderedInvariant.{KeepsGroup}
+use Rattle.futures_buffered_unordered.proofs.FuturesUnorderedInvariantLemmas.{alike_self, alike_on}
+use Rattle.futures_buffered_unordered.proofs.FuturesUnorderedLemmas.{covered_of}
+use Rattle.futures_buffered_unordered.proofs.FuturesUnorderedPollLemmas.{any_left, any_output, ends_empty}
 use Rattle.futures_buffered_unordered.proofs.FuturesUnorderedBoundedLemmas.{passed_held}
 use Rattle.futures_buffered_merges.specs.Merging.{CountEnds, LastCount, MergeGives}
 use Rattle.futures_buffered_merges.specs.MergeUnbounded.{GroupMayGive, ItemsComeFromGroups}
@@ -78,7 +78,7 @@ module _ {F A S : Type 0} (polled : ℕ → F → Poll (Option A) → F → Type
 
   module _ (old new : Groups (Bounded F S)) where
     -- the answer is the end where no stream is left
-    pub ends_of : (answer : Poll (Option A)) → GroupsGive (MergeGives polled steps marks) old answer new → (answer ≡ Ready None) ↔ (all_held new.listed ≡ 0)
+    pub ends_of : (answer : Poll (Option A)) → GroupsGive (MergeGives polled steps marks) old answer new → (answer ≡ Ready None) ↔ (held_in_all new.listed ≡ 0)
     ends_of answer h = ends_empty (MergeGives polled steps marks) end_held pending_held item_held old new answer h
 
     -- the items that may come
@@ -113,7 +113,7 @@ module _ {F A S : Type 0} (polled : ℕ → F → Poll (Option A) → F → Type
         within items (Some y) run = still Pending h y run
 
 -- a task that is registered with each group, where one holds a stream, hears of what any needs
-pub covered_any : {F S A : Type 0} (needs : S → ℕ → Type 0) (cx : Context) (answer : Poll (Option A)) (groups : List (Bounded F S)) → OnPending answer (EachCovered needs cx groups) → (all_held groups ≡ 0 → answer ≡ Ready None) → OnPending answer (Covers cx (AnyNeeds needs groups))
+pub covered_any : {F S A : Type 0} (needs : S → ℕ → Type 0) (cx : Context) (answer : Poll (Option A)) (groups : List (Bounded F S)) → OnPending answer (EachCovered needs cx groups) → (held_in_all groups ≡ 0 → answer ≡ Ready None) → OnPending answer (Covers cx (AnyNeeds needs groups))
 covered_any needs cx (Ready o) groups covered ends = tt
 covered_any needs cx Pending groups covered ends = covered_of needs cx Pending groups groups covered ends (omega arith)
 

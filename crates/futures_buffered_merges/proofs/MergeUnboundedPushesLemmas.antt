@@ -9,8 +9,8 @@ use Rattle.futures_buffered_core.specs.SlotMap.{Slots, Inserts, no_slots, value_
 use Rattle.futures_buffered_table.specs.declared.answer.Woke.{Woke}
 use Rattle.futures_buffered_core.specs.ReadySource.{SourceSteps}
 use Rattle.futures_buffered_unordered.specs.FuturesUnorderedBounded.{Bounded, IsNewSet}
-use Rattle.futures_buffered_unordered.specs.SlotGroups.{Growing, GrowingPushes, IsChosen}
-use Rattle.futures_buffered_unordered.specs.declared.slot_groups.TheConstants.{FIRST_GROUP}
+use Rattle.futures_buffered_unordered.specs.FuturesUnordered.{Growing, GrowingPushes, IsChosen}
+use Rattle.futures_buffered_unordered.specs.declared.futures_unordered.TheConstants.{FIRST_GROUP}
 use Rattle.futures_buffered_merges.specs.SlotStream.{items_in}
 use Rattle.futures_buffered_merges.specs.MergeBounded.{answered, pushed, answers_of, streams_of}
 use Rattle.futures_buffered_merges.specs.MergeUnbounded.{HoldsNone, GroupsGave, GroupsGaveInTurn, KeepsOrderInGroupsWithPushes, slots_of}

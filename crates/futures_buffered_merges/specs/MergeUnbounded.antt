@@ -9,8 +9,8 @@ use Rattle.futures_buffered_core.specs.ReadySource.{SourceSteps}
 use Rattle.futures_buffered_unordered.specs.FuturesUnorderedBounded.{Bounded}
 use Rattle.futures_buffered_unordered.specs.Interleaves.{Interleaves}
 use Rattle.futures_buffered_unordered.specs.Groups.{AnyOf, Groups, GroupsGive}
-use Rattle.futures_buffered_unordered.specs.SlotGroups.{Growing, GrowingPushes}
-use Rattle.futures_buffered_unordered.specs.declared.slot_groups.TheConstants.{FIRST_GROUP}
+use Rattle.futures_buffered_unordered.specs.FuturesUnordered.{Growing, GrowingPushes}
+use Rattle.futures_buffered_unordered.specs.declared.futures_unordered.TheConstants.{FIRST_GROUP}
 use Rattle.futures_buffered_merges.specs.SlotStream.{items_in}
 use Rattle.futures_buffered_merges.specs.Merging.{MergeGives}
 use Rattle.futures_buffered_merges.specs.MergeBounded.{StreamsGave, ComesFromStreams}

@@ -1,14 +1,16 @@
 //! As many streams as it has slots, polled as one.
 //!
 //! Each stream stands in a slot, and a poll asks the source which slots to poll, as a set of futures does. A stream that gives an item stays, and its slot is marked, so that a later poll polls it again behind the others that were marked before. A stream that ends leaves its slot to the next push.
-ghost use Rattle.std.specs.Prelude.{◌≡◌, ◌<◌, ◌≤◌, ◌+◌, ◌↔◌, List, IfOk, IfErr, OnOk, IsTrue};
+ghost use Rattle.std.specs.Prelude.{◌≡◌, ◌<◌, ◌≤◌, ◌+◌, ◌↔◌, IfOk, IfErr, OnOk, IsTrue};
 ghost use Rattle.std.specs.Iterator.{IsFiniteIterable};
-ghost use Rattle.futures_buffered_core.specs.Drawn.{Draws, DrawsMoreThan};
+ghost use Rattle.std.specs.List.{FoldsTo};
+ghost use Rattle.futures_buffered_core.specs.Drawn.{DrawsMoreThan};
 ghost use Rattle.futures_buffered_core.specs.ReadyShared.{IsNewShared, MarksShared};
 ghost use Rattle.futures_buffered_core.specs.SlotMap.{held_count, slot_count, IsFull};
 ghost use Rattle.futures_buffered_unordered.specs.StreamAnswers.{StreamAnswers};
 ghost use Rattle.futures_buffered_unordered.specs.Held.{AllHeld};
 ghost use Rattle.futures_buffered_unordered.specs.FuturesUnorderedBounded.{HoldsEach, OnlyRegisters, Pushes, emptied};
+ghost use Rattle.futures_buffered_unordered.specs.Extended.{ExtendsUntil, HoldsAllOf};
 ghost use Rattle.futures_buffered_merges.specs.Merging.{MergeGives, PollsStreams, PollsStreamsTask};
 ghost use Rattle.futures_buffered_merges.specs.MergeBounded.{KeepsOrder, KeepsOrderWithPushes, ComesFromStreams};
 
@@ -59,9 +61,8 @@ impl<St: Drop, S: ReadySource> MergeBounded<St, S> {
         S: NewSource,
         requires { IsFiniteIterable I.into_iter_gives I.IntoIter.can_next
             I.IntoIter.remaining iter }
-        ensures holds { IfOk result (λ merge. (streams : List St)
-            × Draws I.into_iter_gives I.IntoIter.next_gives iter streams
-            × HoldsEach S.made S.marks POLL_LIMIT streams merge) }
+        ensures holds { IfOk result (HoldsAllOf I.into_iter_gives I.IntoIter.next_gives iter
+            (HoldsEach S.made S.marks POLL_LIMIT)) }
         ensures fits { IfOk result (λ merge. slot_count merge.slots ≤ MAX_CAPACITY) }
         ensures large { result ≡ Err NewFault.TooLarge
             → DrawsMoreThan I.into_iter_gives I.IntoIter.next_gives iter MAX_CAPACITY }
@@ -81,9 +82,8 @@ impl<St: Drop, S: ReadySource> MergeBounded<St, S> {
         requires finite { IsFiniteIterable I.into_iter_gives I.IntoIter.can_next
             I.IntoIter.remaining iter }
         requires some { 1 ≤ limit }
-        ensures holds { IfOk result (λ merge. (streams : List St)
-            × Draws I.into_iter_gives I.IntoIter.next_gives iter streams
-            × HoldsEach S.made S.marks limit streams merge) }
+        ensures holds { IfOk result (HoldsAllOf I.into_iter_gives I.IntoIter.next_gives iter
+            (HoldsEach S.made S.marks limit)) }
         ensures fits { IfOk result (λ merge. slot_count merge.slots ≤ MAX_CAPACITY) }
         ensures large { result ≡ Err NewFault.TooLarge
             → DrawsMoreThan I.into_iter_gives I.IntoIter.next_gives iter MAX_CAPACITY }
@@ -143,6 +143,21 @@ impl<St: Drop, S: ReadySource> MergeBounded<St, S> {
         self.set.push(stream);
     }
 
+    /// Pushes each item, in order, as `try_push` does. The first for which there is no free slot comes back; those before it stay, and the iterator is asked for no further one.
+    pub fn extend<I: IntoIterator<Item = St>>(&mut self, iter: I) -> Result<(), St>
+    where
+        requires { IsFiniteIterable I.into_iter_gives I.IntoIter.can_next
+            I.IntoIter.remaining iter }
+        ensures all { OnOk result (HoldsAllOf I.into_iter_gives I.IntoIter.next_gives iter
+            (FoldsTo (Pushes S.marks) self.old) self.new) }
+        ensures stops { IfErr result (λ back. ExtendsUntil I.into_iter_gives
+            I.IntoIter.next_gives iter (Pushes S.marks)
+            (λ stopped new. IsFull stopped.slots × (new ≡ stopped)) self.old back self.new) }
+        ensures capacity { slot_count self.new.slots ≡ slot_count self.old.slots }
+    {
+        self.set.extend(iter)
+    }
+
     /// Drops each stream that is held. Each slot is free then, and slot 0 is the first to be used again.
     ///
     /// A slot that was marked stays marked. Takes no memory, and time in proportion to the capacity, besides the drops. Wakes nobody.
@@ -159,9 +174,8 @@ impl<St: Drop> MergeBounded<St, SharedReady> {
     where
         requires { IsFiniteIterable I.into_iter_gives I.IntoIter.can_next
             I.IntoIter.remaining iter }
-        ensures holds { IfOk result (λ merge. (streams : List St)
-            × Draws I.into_iter_gives I.IntoIter.next_gives iter streams
-            × HoldsEach IsNewShared MarksShared POLL_LIMIT streams merge) }
+        ensures holds { IfOk result (HoldsAllOf I.into_iter_gives I.IntoIter.next_gives iter
+            (HoldsEach IsNewShared MarksShared POLL_LIMIT)) }
         ensures fits { IfOk result (λ merge. slot_count merge.slots ≤ MAX_CAPACITY) }
         ensures large { result ≡ Err NewFault.TooLarge
             → DrawsMoreThan I.into_iter_gives I.IntoIter.next_gives iter MAX_CAPACITY }
@@ -179,9 +193,8 @@ impl<St: Drop> MergeBounded<St, SharedReady> {
         requires finite { IsFiniteIterable I.into_iter_gives I.IntoIter.can_next
             I.IntoIter.remaining iter }
         requires some { 1 ≤ limit }
-        ensures holds { IfOk result (λ merge. (streams : List St)
-            × Draws I.into_iter_gives I.IntoIter.next_gives iter streams
-            × HoldsEach IsNewShared MarksShared limit streams merge) }
+        ensures holds { IfOk result (HoldsAllOf I.into_iter_gives I.IntoIter.next_gives iter
+            (HoldsEach IsNewShared MarksShared limit)) }
         ensures fits { IfOk result (λ merge. slot_count merge.slots ≤ MAX_CAPACITY) }
         ensures large { result ≡ Err NewFault.TooLarge
             → DrawsMoreThan I.into_iter_gives I.IntoIter.next_gives iter MAX_CAPACITY }

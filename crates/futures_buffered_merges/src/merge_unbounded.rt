@@ -1,14 +1,14 @@
 //! Streams in groups of slots, polled as one: a merge that grows.
 //!
 //! Each group is a set of as many streams as it has slots, and is asked as a bounded merge is polled. The first group that holds a stream registers the task, which does for those beside it.
-ghost use Rattle.std.specs.Prelude.{◌≡◌, ◌↔◌, ◌≤◌, ◌+◌, ◌⊎◌, List, Err, IsTrue, OnOk, OnErr, IsErr, IfOk, IfErr};
+ghost use Rattle.std.specs.Prelude.{◌≡◌, ◌↔◌, ◌≤◌, ◌+◌, Err, IsTrue, OnOk, OnErr, IsErr, IfOk, IfErr};
 ghost use Rattle.std.specs.Iterator.{IsFiniteIterable};
-ghost use Rattle.futures_buffered_core.specs.Drawn.{Draws};
 ghost use Rattle.futures_buffered_core.specs.ReadyShared.{IsNewShared, MarksShared};
 ghost use Rattle.futures_buffered_unordered.specs.StreamAnswers.{StreamAnswers};
 ghost use Rattle.futures_buffered_unordered.specs.FuturesUnorderedBounded.{OnlyRegisters};
 ghost use Rattle.futures_buffered_unordered.specs.Groups.{GroupsGive};
-ghost use Rattle.futures_buffered_unordered.specs.SlotGroups.{EachHeld, AnyNeeds, GrowingPushes, IsAtBound, LastIsFull, PollsGroupsTask, PushesEach, StopsAtBound, no_groups, all_held, capacity_of};
+ghost use Rattle.futures_buffered_unordered.specs.FuturesUnordered.{EachHeld, AnyNeeds, GrowingPushes, IsAtBound, PollsGroupsTask, PushesEach, no_groups, held_in_all, capacity_of, SetRefuses, SetMayRefuse};
+ghost use Rattle.futures_buffered_unordered.specs.Extended.{ExtendsUntil, HoldsAllOf, StopsAtBound};
 ghost use Rattle.futures_buffered_merges.specs.Merging.{MergeAsksToEmpty, MergeGives, MergeStops};
 ghost use Rattle.futures_buffered_merges.specs.MergeUnbounded.{ItemsComeFromGroups, KeepsOrderInGroups, KeepsOrderInGroupsWithPushes};
 
@@ -19,9 +19,10 @@ use futures::task::{Context, Poll};
 use futures_buffered_core::ready_core::NewFault;
 use futures_buffered_core::ready_shared::SharedReady;
 use futures_buffered_core::ready_source::NewSource;
+use futures_buffered_unordered::ask_group::AskGroup;
 use futures_buffered_unordered::fused::{FusedStream, SizeHint};
+use futures_buffered_unordered::futures_unordered::{FIRST_GROUP, FuturesUnordered, MAX_HELD};
 use futures_buffered_unordered::futures_unordered_bounded::{FuturesUnorderedBounded, POLL_LIMIT};
-use futures_buffered_unordered::slot_groups::{AskGroup, FIRST_GROUP, MAX_HELD, SlotGroups};
 use std::alloc::Global;
 use std::fmt;
 use std::marker::Model;
@@ -31,17 +32,17 @@ use std::marker::Model;
 /// A contract sees the groups, each with what its slots hold, the content of its source and its limit; the place where the next poll begins; and the limit of names of one count. Only a push that makes a group, and a constructor that pushes, take memory. The calls wait for nobody where those of the source do not.
 #[derive(Drop)]
 pub struct MergeUnbounded<St: Drop, S: NewSource> {
-    groups: SlotGroups<St, S>,
+    set: FuturesUnordered<St, S>,
 }
 
 impl<St: Drop, S: NewSource> Model for MergeUnbounded<St, S> {
-    ghost use Rattle.futures_buffered_unordered.specs.SlotGroups.{Growing, growing_code};
+    ghost use Rattle.futures_buffered_unordered.specs.FuturesUnordered.{Growing, growing_code};
 
     ghost Value = { Growing St S };
 
     ghost coded = { growing_code St.code S.code };
 
-    ghost view = { λ m. m.groups };
+    ghost view = { λ m. m.set };
 }
 
 // Asks a group as a bounded merge is polled.
@@ -85,7 +86,7 @@ impl<St: Drop, S: NewSource> MergeUnbounded<St, S> {
         ensures { result ≡ no_groups limit }
     {
         MergeUnbounded {
-            groups: SlotGroups::without_groups(env, alloc, limit),
+            set: FuturesUnordered::without_groups(env, alloc, limit),
         }
     }
 
@@ -100,12 +101,11 @@ impl<St: Drop, S: NewSource> MergeUnbounded<St, S> {
     where
         requires { IsFiniteIterable I.into_iter_gives I.IntoIter.can_next
             I.IntoIter.remaining iter }
-        ensures holds { IfOk result (λ merge. (streams : List St)
-            × Draws I.into_iter_gives I.IntoIter.next_gives iter streams
-            × PushesEach S.marks S.made (no_groups POLL_LIMIT) streams merge) }
+        ensures holds { IfOk result (HoldsAllOf I.into_iter_gives I.IntoIter.next_gives iter
+            (PushesEach S.marks S.made (no_groups POLL_LIMIT))) }
         ensures large { result ≡ Err NewFault.TooLarge
-            → StopsAtBound I.into_iter_gives I.IntoIter.next_gives iter S.marks S.made
-            (no_groups POLL_LIMIT) }
+            → StopsAtBound I.into_iter_gives I.IntoIter.next_gives iter
+            (GrowingPushes S.marks S.made FIRST_GROUP) SetRefuses (no_groups POLL_LIMIT) }
     {
         Self::over_limit(env, alloc, iter, POLL_LIMIT)
     }
@@ -121,34 +121,33 @@ impl<St: Drop, S: NewSource> MergeUnbounded<St, S> {
         requires finite { IsFiniteIterable I.into_iter_gives I.IntoIter.can_next
             I.IntoIter.remaining iter }
         requires some { 1 ≤ limit }
-        ensures holds { IfOk result (λ merge. (streams : List St)
-            × Draws I.into_iter_gives I.IntoIter.next_gives iter streams
-            × PushesEach S.marks S.made (no_groups limit) streams merge) }
+        ensures holds { IfOk result (HoldsAllOf I.into_iter_gives I.IntoIter.next_gives iter
+            (PushesEach S.marks S.made (no_groups limit))) }
         ensures large { result ≡ Err NewFault.TooLarge
-            → StopsAtBound I.into_iter_gives I.IntoIter.next_gives iter S.marks S.made
-            (no_groups limit) }
+            → StopsAtBound I.into_iter_gives I.IntoIter.next_gives iter
+            (GrowingPushes S.marks S.made FIRST_GROUP) SetRefuses (no_groups limit) }
     {
         let mut merge = Self::without_groups(env, alloc, limit);
         for stream in iter {
-            let Ok(()) = merge.push(stream) else {
-                return Err(merge.refusal());
-            };
+            if let Err(fault) = merge.add(stream) {
+                return Err(fault);
+            }
         }
         Ok(merge)
     }
 
     /// The number of streams held. Takes the same time at any number of groups.
     pub fn len(&self) -> usize
-        ensures { result ≡ all_held self.now.groups.listed }
+        ensures { result ≡ held_in_all self.now.groups.listed }
     {
-        self.groups.len()
+        self.set.len()
     }
 
     /// Whether no stream is held. Takes the same time at any number of groups.
     pub fn is_empty(&self) -> bool
-        ensures { IsTrue result ↔ (all_held self.now.groups.listed ≡ 0) }
+        ensures { IsTrue result ↔ (held_in_all self.now.groups.listed ≡ 0) }
     {
-        self.groups.is_empty()
+        self.set.is_empty()
     }
 
     /// How many streams it has room for: of several groups, what they hold and the free places of the last one; of one, its slots; without groups, 0.
@@ -157,7 +156,7 @@ impl<St: Drop, S: NewSource> MergeUnbounded<St, S> {
     pub fn capacity(&self) -> usize
         ensures { result ≡ capacity_of self.now.groups.listed }
     {
-        self.groups.capacity()
+        self.set.capacity()
     }
 
     /// Puts the stream into the last group. Where that is full, or there is none, a group is made behind it: of twice as many slots, or of `FIRST_GROUP`.
@@ -167,13 +166,12 @@ impl<St: Drop, S: NewSource> MergeUnbounded<St, S> {
         ensures pushed { OnOk result
             (GrowingPushes S.marks S.made FIRST_GROUP self.old stream self.new) }
         ensures count { OnOk result
-            (all_held self.new.groups.listed ≡ all_held self.old.groups.listed + 1) }
+            (held_in_all self.new.groups.listed ≡ held_in_all self.old.groups.listed + 1) }
         ensures back { IfErr result (λ back. (back ≡ stream) × (self.new ≡ self.old)) }
-        ensures room { OnErr result ((all_held self.old.groups.listed ≡ MAX_HELD)
-            ⊎ LastIsFull self.old.groups.listed) }
+        ensures room { OnErr result (SetMayRefuse self.old) }
         ensures large { IsAtBound self.old.groups.listed → IsErr result }
     {
-        self.groups.push(stream)
+        self.set.push(stream)
     }
 
     /// As `push`, for a caller that has no use for a stream that is refused: it is dropped, nothing else has changed, and the error says why. So `?` takes it.
@@ -181,22 +179,36 @@ impl<St: Drop, S: NewSource> MergeUnbounded<St, S> {
         ensures pushed { OnOk result
             (GrowingPushes S.marks S.made FIRST_GROUP self.old stream self.new) }
         ensures count { OnOk result
-            (all_held self.new.groups.listed ≡ all_held self.old.groups.listed + 1) }
+            (held_in_all self.new.groups.listed ≡ held_in_all self.old.groups.listed + 1) }
         ensures same { OnErr result (self.new ≡ self.old) }
-        ensures room { OnErr result ((all_held self.old.groups.listed ≡ MAX_HELD)
-            ⊎ LastIsFull self.old.groups.listed) }
+        ensures room { OnErr result (SetMayRefuse self.old) }
         ensures large { (result ≡ Err NewFault.TooLarge) ↔ IsAtBound self.old.groups.listed }
     {
-        self.groups.add(stream)
+        self.set.add(stream)
     }
 
-    /// Why a push that was refused just now was refused: `TooLarge` where nothing more goes in, and else `Memory`.
+    /// Pushes each item, in order, as `push` does. The first that is refused comes back; those before it stay, and the iterator is asked for no further one.
+    pub fn extend<I: IntoIterator<Item = St>>(&mut self, iter: I) -> Result<(), St>
+    where
+        requires { IsFiniteIterable I.into_iter_gives I.IntoIter.can_next
+            I.IntoIter.remaining iter }
+        ensures all { OnOk result (HoldsAllOf I.into_iter_gives I.IntoIter.next_gives iter
+            (PushesEach S.marks S.made self.old) self.new) }
+        ensures stops { IfErr result (λ back. ExtendsUntil I.into_iter_gives
+            I.IntoIter.next_gives iter (GrowingPushes S.marks S.made FIRST_GROUP)
+            (λ stopped new. SetMayRefuse stopped × (new ≡ stopped))
+            self.old back self.new) }
+    {
+        self.set.extend(iter)
+    }
+
+    /// Whether nothing more goes in: a push is refused then, and else only where a request for memory is.
     ///
     /// Takes the same time at any number of groups.
-    pub fn refusal(&self) -> NewFault
-        ensures { (result ≡ NewFault.TooLarge) ↔ IsAtBound self.now.groups.listed }
+    pub fn is_at_bound(&self) -> bool
+        ensures { IsTrue result ↔ IsAtBound self.now.groups.listed }
     {
-        self.groups.refusal()
+        self.set.is_at_bound()
     }
 
     /// Drops each stream that is held, with the groups: the merge is as `new` made it, but that its sources are made as before.
@@ -205,7 +217,7 @@ impl<St: Drop, S: NewSource> MergeUnbounded<St, S> {
     pub fn clear(&mut self)
         ensures { self.new ≡ no_groups self.old.limit }
     {
-        self.groups.clear();
+        self.set.clear();
     }
 }
 
@@ -225,7 +237,7 @@ impl<St: SlotStream<S::Waker>, S: NewSource> Stream for MergeUnbounded<St, S> {
         requires { EachHeld St.can_poll self.old.groups.listed }
         ensures polled { GroupsGive (MergeGives St.polled S.steps S.marks)
             self.old.groups result self.new.groups }
-        ensures ends { (result ≡ Poll.Ready None) ↔ (all_held self.new.groups.listed ≡ 0) }
+        ensures ends { (result ≡ Poll.Ready None) ↔ (held_in_all self.new.groups.listed ≡ 0) }
         ensures limit { self.new.limit ≡ self.old.limit }
         ensures stream { StreamAnswers (λ merge. EachHeld St.can_poll merge.groups.listed)
             (λ merge. AnyNeeds S.needs merge.groups.listed)
@@ -237,7 +249,7 @@ impl<St: SlotStream<S::Waker>, S: NewSource> Stream for MergeUnbounded<St, S> {
             (OnlyRegisters S.registers_poll)
             self.old.groups result self.new.groups cx.old cx.new }
     {
-        self.groups.poll_groups(&AsMerge, cx)
+        self.set.poll_groups(&AsMerge, cx)
     }
 }
 
@@ -245,7 +257,7 @@ impl<St: SlotStream<S::Waker>, S: NewSource> Stream for MergeUnbounded<St, S> {
 impl<St: SlotStream<S::Waker>, S: NewSource> FusedStream for MergeUnbounded<St, S> {
     ghost use Rattle.std.specs.Prelude.{◌≡◌};
 
-    ghost is_over = { λ merge. all_held merge.groups.listed ≡ 0 };
+    ghost is_over = { λ merge. held_in_all merge.groups.listed ≡ 0 };
 
     fn is_terminated(&self) -> bool {
         self.is_empty()
@@ -303,11 +315,11 @@ impl<St: Drop> MergeUnbounded<St, SharedReady> {
     where
         requires { IsFiniteIterable I.into_iter_gives I.IntoIter.can_next
             I.IntoIter.remaining iter }
-        ensures holds { IfOk result (λ merge. (streams : List St)
-            × Draws I.into_iter_gives I.IntoIter.next_gives iter streams
-            × PushesEach MarksShared IsNewShared (no_groups POLL_LIMIT) streams merge) }
+        ensures holds { IfOk result (HoldsAllOf I.into_iter_gives I.IntoIter.next_gives iter
+            (PushesEach MarksShared IsNewShared (no_groups POLL_LIMIT))) }
         ensures large { result ≡ Err NewFault.TooLarge
-            → StopsAtBound I.into_iter_gives I.IntoIter.next_gives iter MarksShared IsNewShared
+            → StopsAtBound I.into_iter_gives I.IntoIter.next_gives iter
+            (GrowingPushes MarksShared IsNewShared FIRST_GROUP) SetRefuses
             (no_groups POLL_LIMIT) }
     {
         Self::over((), alloc, iter)

@@ -11,10 +11,10 @@ use Rattle.futures_buffered_table.specs.declared.answer.Woke.{Woke}
 use Rattle.futures_buffered_core.specs.ReadySource.{SourceSteps}
 use Rattle.futures_buffered_unordered.specs.FuturesUnorderedBounded.{Bounded, PollGives, held_in}
 use Rattle.futures_buffered_unordered.specs.Groups.{Groups, GroupsGive}
-use Rattle.futures_buffered_unordered.specs.SlotGroups.{AnyNeeds, EachCovered, Growing, GrowingPushes, IsNewGrowing, all_held}
-use Rattle.futures_buffered_unordered.proofs.SlotGroupsLemmas.{covered_of, new_holds_none}
-use Rattle.futures_buffered_unordered.proofs.FuturesUnorderedLemmas.{gave, still}
-use Rattle.futures_buffered_unordered.proofs.SlotGroupsPollLemmas.{sum_left}
+use Rattle.futures_buffered_unordered.specs.FuturesUnordered.{AnyNeeds, EachCovered, Growing, GrowingPushes, IsNewGrowing, held_in_all}
+use Rattle.futures_buffered_unordered.proofs.FuturesUnorderedLemmas.{covered_of, new_holds_none}
+use Rattle.futures_buffered_unordered.proofs.FuturesUnorderedStreamLemmas.{gave, still}
+use Rattle.futures_buffered_unordered.proofs.FuturesUnorderedPollLemmas.{sum_left}
 use Rattle.futures_buffered_ordered.specs.Numbered.{PollsNumbered, held_with, one_at, outputs_with}
 use Rattle.futures_buffered_ordered.specs.declared.numbered.Numbered.{Numbered}
 use Rattle.futures_buffered_ordered.proofs.NumberedLemmas.{numbers_polled, numbers_ended, numbers_inserted, numbers_none, brings_none}
@@ -46,9 +46,9 @@ module _ {F S : Type 0} (made : ℕ → S → Type 0) (n limit : ℕ) (start : G
   new_numbers (inl h) i = ap (λ (g : Growing (Numbered F) S). held_in_groups_with i g) h.1
   new_numbers (inr h) i = ap (λ (g : Growing (Numbered F) S). held_in_groups_with i g) h.1.2 ∙ omega (arith, sum_by-cons (held_with i) h.1.0 [], numbers_none i h.1.0 n h.1.1.none_held)
 
-  pub new_held : IsNewGrowing made n limit start → all_held start.groups.listed ≡ 0
-  new_held (inl h) = ap (λ (g : Growing (Numbered F) S). all_held g.groups.listed) h.1
-  new_held (inr h) = ap (λ (g : Growing (Numbered F) S). all_held g.groups.listed) h.1.2 ∙ omega (arith, sum_by-cons held_in h.1.0 [], (new_holds_none made n limit h.1.0 h.1.1).0)
+  pub new_held : IsNewGrowing made n limit start → held_in_all start.groups.listed ≡ 0
+  new_held (inl h) = ap (λ (g : Growing (Numbered F) S). held_in_all g.groups.listed) h.1
+  new_held (inr h) = ap (λ (g : Growing (Numbered F) S). held_in_all g.groups.listed) h.1.2 ∙ omega (arith, sum_by-cons held_in h.1.0 [], (new_holds_none made n limit h.1.0 h.1.1).0)
 
 module _ {F A S : Type 0} (polled : ℕ → F → Poll A → F → Type 0) (steps : SourceSteps S) where
   -- what the set gave it might give, and what it may still give it might give before

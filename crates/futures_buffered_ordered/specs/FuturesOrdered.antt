@@ -1,23 +1,20 @@
 -- What a contract sees of an ordered queue that grows: the words on ordered queues at a set that
 -- grows.
-use Rattle.std.specs.Prelude.{◌≡◌, ◌⊎◌, ℕ, List, Option}
+use Rattle.std.specs.Prelude.{◌≡◌, ℕ, Option}
 use Rattle.std.specs.List.{sum_by}
 use Rattle.futures.specs.declared.task.context.Context.{Context}
 use Rattle.futures.specs.declared.task.Poll.{Poll}
 use Rattle.futures_buffered_table.specs.declared.answer.Woke.{Woke}
-use Rattle.futures_buffered_core.specs.Drawn.{DrawsAndOne}
 use Rattle.futures_buffered_core.specs.ReadySource.{SourceSteps}
 use Rattle.futures_buffered_unordered.specs.FuturesUnorderedBounded.{AsksInPart, OnlyRegisters}
 use Rattle.futures_buffered_unordered.specs.FuturesUnorderedBounded.{PollAsksToEmpty, PollGives}
 use Rattle.futures_buffered_unordered.specs.Groups.{GroupsGive, GroupsLeaveTask}
-use Rattle.futures_buffered_unordered.specs.SlotGroups.{Growing, GrowingPushes, IsNewGrowing}
-use Rattle.futures_buffered_unordered.specs.SlotGroups.{LastIsFull, IsAtBound, EachHeld, all_held}
+use Rattle.futures_buffered_unordered.specs.FuturesUnordered.{Growing, GrowingPushes, IsNewGrowing}
+use Rattle.futures_buffered_unordered.specs.FuturesUnordered.{EachHeld, held_in_all}
 use Rattle.futures_buffered_unordered.specs.FuturesUnordered.{AnyGroupMayGive}
-use Rattle.futures_buffered_unordered.specs.declared.slot_groups.TheConstants.{FIRST_GROUP}
-use Rattle.futures_buffered_unordered.specs.declared.slot_groups.TheConstants.{MAX_HELD}
+use Rattle.futures_buffered_unordered.specs.declared.futures_unordered.TheConstants.{FIRST_GROUP}
 use Rattle.futures_buffered_ordered.specs.Numbered.{CanPollFuture, PollsNumbered, held_with}
-use Rattle.futures_buffered_ordered.specs.OrderedEntries.{Ordered, IsNewQueue, AddsEachBack}
-use Rattle.futures_buffered_ordered.specs.OrderedEntries.{IsAtEnd}
+use Rattle.futures_buffered_ordered.specs.OrderedEntries.{Ordered, IsNewQueue}
 use Rattle.futures_buffered_ordered.specs.declared.numbered.Numbered.{Numbered}
 
 -- the set that grows of numbered futures, the entries, and how many there is a place for
@@ -27,7 +24,7 @@ OrderedGrowing F A S = Ordered (Growing (Numbered F) S) A
 module _ {F S : Type 0} where
   -- how many futures the set holds
   abbrev pub held_in_groups : Growing (Numbered F) S → ℕ
-  held_in_groups set = all_held set.groups.listed
+  held_in_groups set = held_in_all set.groups.listed
 
   -- how many of them have number i
   abbrev pub held_in_groups_with : ℕ → Growing (Numbered F) S → ℕ
@@ -39,30 +36,11 @@ module _ {F S : Type 0} where
   GrowingPushesNumber marks made old future i new =
       GrowingPushes marks made FIRST_GROUP old (record { future = future; number = i }) new
 
-  -- a push asks for memory for a group, or as many futures are held as a set may hold
-  abbrev pub SetMayRefuse : Growing (Numbered F) S → Type 0
-  SetMayRefuse set = (all_held set.groups.listed ≡ MAX_HELD) ⊎ LastIsFull set.groups.listed
-
-  -- nothing more goes into the set
-  abbrev pub SetRefuses : Growing (Numbered F) S → Type 0
-  SetRefuses set = IsAtBound set.groups.listed
-
   -- the set is one without a group or with one, as it was asked for; there is no entry, and a place
   -- for so many at least
   abbrev pub IsNewGrowingQueue : {A : Type 0} → (ℕ → S → Type 0) → ℕ → ℕ → OrderedGrowing F A S
       → Type 0
   IsNewGrowingQueue made n limit = IsNewQueue (IsNewGrowing made n limit) n
-
-  -- These items of a source were added at the back of what begins so, in order. One more came, and
-  -- nothing more went in.
-  abbrev pub QueueStopsAtBound : {A U I : Type 0} → (U → I → Type 0)
-      → (I → Option F → I → Type 0) → U → (S → ℕ → Woke → S → Type 0) → (ℕ → S → Type 0)
-      → OrderedGrowing F A S → Type 0
-  QueueStopsAtBound {A} becomes steps source marks made start = (items : List F)
-      × (stopped : OrderedGrowing F A S)
-      × DrawsAndOne becomes steps source items
-      × AddsEachBack (GrowingPushesNumber marks made) start items stopped
-      × IsAtEnd SetRefuses stopped
 
   -- P holds of each future in progress
   abbrev pub EachInProgress : (F → Type 0) → Growing (Numbered F) S → Type 0

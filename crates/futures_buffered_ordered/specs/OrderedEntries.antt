@@ -4,13 +4,13 @@
 use Rattle.std.specs.Prelude.{◌≡◌, ◌≢◌, ◌⊎◌, ℕ, ◌+◌, ◌<◌, ◌≤◌, ◌==◌, Bool, true, false, List, []}
 use Rattle.std.specs.Prelude.{◌∷◌, ◌++◌, length, Option, Some, None, count_by, slice_set}
 use Rattle.std.specs.List.{FoldsTo, slice_get}
-use Rattle.std.specs.Iterator.{YieldsThen}
 use Rattle.futures.specs.Task.{Keeps}
 use Rattle.futures.specs.Poll.{OnPending}
 use Rattle.futures.specs.declared.task.context.Context.{Context}
 use Rattle.futures.specs.declared.task.Poll.{Poll}
 use Rattle.futures.specs.declared.task.Poll.TheVariants.{Ready, Pending}
 use Rattle.futures.specs.Runs.{Runs, Leads, Ends}
+use Rattle.futures_buffered_unordered.specs.Extended.{ExtendsUntil}
 use Rattle.futures_buffered_ordered.specs.declared.ordered_entries.Entry.{Entry}
 use Rattle.futures_buffered_ordered.specs.declared.ordered_entries.Entry.TheVariants.{Running, Kept}
 use Rattle.futures_buffered_ordered.specs.declared.ordered_entries.TheConstants.{MAX_LEN}
@@ -132,25 +132,10 @@ module _ {F Q A : Type 0} (pushes : Q → F → ℕ → Q → Type 0) where
 
   -- These items came and were added at the back. The next one came, might be refused, and had to go
   -- back. No further one was asked for.
-  pub record StopsAt
-      {U I : Type 0}
-      (set_may_refuse : Q → Type 0)
-      (becomes : U → I → Type 0)
-      (steps : I → Option F → I → Type 0)
-      (source : U)
-      (old : Ordered Q A)
-      (back : F)
-      (new : Ordered Q A)
-      : Type 0 where
-    pub items : List F
-    pub it : I
-    pub rest : I
-    pub begins : becomes source it
-    pub came : YieldsThen steps it items (Some back) rest
-    pub stopped : Ordered Q A
-    pub added : AddsEachBack old items stopped
-    pub may_refuse : MayRefuse set_may_refuse stopped
-    pub stays : Stays stopped new
+  abbrev pub StopsAt : {U I : Type 0} → (Q → Type 0) → (U → I → Type 0)
+      → (I → Option F → I → Type 0) → U → Ordered Q A → F → Ordered Q A → Type 0
+  StopsAt set_may_refuse becomes steps source = ExtendsUntil becomes steps source AddsBack
+      (λ stopped new. MayRefuse set_may_refuse stopped × Stays stopped new)
 
 module _ {Q A : Type 0} (gives : Q → Poll (Option (ℕ × A)) → Q → Type 0) where
   -- while the front is in progress, the set is polled; the future with number i gives x, and its

@@ -1,14 +1,15 @@
 //! A queue of any number of futures in progress, which yields outputs in the order of its entries.
 //!
 //! The futures stand in a set that grows by groups. Each has an entry in a list, to which pushes add at either end. A poll yields the front alone: an output that comes before its turn is kept in its entry.
-ghost use Rattle.std.specs.Prelude.{◌≡◌, ◌↔◌, ◌<◌, ◌≤◌, ◌⊎◌, ℕ, List, [], length, max, Err, IfOk, IfErr, OnOk, OnErr, IsOk, IsErr, IsTrue};
+ghost use Rattle.std.specs.Prelude.{◌≡◌, ◌↔◌, ◌<◌, ◌≤◌, [], length, Err, IfOk, IfErr, OnOk, OnErr, IsOk, IsErr, IsTrue};
 ghost use Rattle.std.specs.Iterator.{IsFiniteIterable};
 ghost use Rattle.futures_buffered_core.specs.Answer.{RefusesTooLarge};
-ghost use Rattle.futures_buffered_core.specs.Drawn.{Draws, SaysAtLeast};
 ghost use Rattle.futures_buffered_core.specs.ReadyShared.{IsNewShared, MarksShared, Shared};
-ghost use Rattle.futures_buffered_unordered.specs.SlotGroups.{EachCovered, no_groups};
+ghost use Rattle.futures_buffered_unordered.specs.FuturesUnordered.{EachCovered, no_groups};
 ghost use Rattle.futures_buffered_ordered.specs.OrderedEntries.{AddsBack, AddsEachBack, AddsFront, EachHasOne, HandsBack, IsAtEnd, MayRefuse, OrderedGives, PollsQueue, PollsQueueTask, Stays, StopsAt};
-ghost use Rattle.futures_buffered_ordered.specs.FuturesOrdered.{EachInProgress, IsNewGrowingQueue, OrderedGrowing, GrowingPushesNumber, GroupsGiveNumbered, GroupsLeaveTaskNumbered, QueueStopsAtBound, SetMayRefuse, SetRefuses, held_in_groups, held_in_groups_with};
+ghost use Rattle.futures_buffered_unordered.specs.FuturesUnordered.{SetMayRefuse, SetRefuses};
+ghost use Rattle.futures_buffered_unordered.specs.Extended.{GrowsByAllOf, HoldsAllOf, Outgrows};
+ghost use Rattle.futures_buffered_ordered.specs.FuturesOrdered.{EachInProgress, IsNewGrowingQueue, OrderedGrowing, GrowingPushesNumber, GroupsGiveNumbered, GroupsLeaveTaskNumbered, held_in_groups, held_in_groups_with};
 
 use crate::numbered::{Numbered, PollNumbered};
 use crate::numbered_set::{NumberedSet, PollNumberedSet};
@@ -27,7 +28,8 @@ use std::marker::Model;
 impl<T: Drop, S: NewSource> NumberedSet for FuturesUnordered<Numbered<T>, S> {
     ghost use Rattle.std.proofs.Common.{◌≡◌, OnOk, OnErr, IfErr, IsErr, refl, ◌∙◌};
     ghost use Rattle.futures_buffered_ordered.specs.Numbered.{PushesInto};
-    ghost use Rattle.futures_buffered_ordered.specs.FuturesOrdered.{GrowingPushesNumber, SetMayRefuse, SetRefuses, held_in_groups, held_in_groups_with};
+    ghost use Rattle.futures_buffered_unordered.specs.FuturesUnordered.{SetMayRefuse, SetRefuses};
+    ghost use Rattle.futures_buffered_ordered.specs.FuturesOrdered.{GrowingPushesNumber, held_in_groups, held_in_groups_with};
 
     type Future = T;
 
@@ -44,7 +46,7 @@ impl<T: Drop, S: NewSource> NumberedSet for FuturesUnordered<Numbered<T>, S> {
     ghost keeps = { λ old new. new.limit ≡ old.limit };
 
     fn refuses_all(&self) -> bool {
-        self.refusal() == NewFault::TooLarge
+        self.is_at_bound()
     }
 
     fn push_numbered(&mut self, value: Numbered<T>) -> Result<(), Numbered<T>>
@@ -170,7 +172,7 @@ impl<T: Drop, A: Drop, S: NewSource> GrowingQueue<T, A, S> {
         ensures limit { self.new.set.limit ≡ self.old.set.limit }
     {
         let Ok(()) = self.push_back(future) else {
-            return Err(self.refusal());
+            return Err(self.fault());
         };
         Ok(())
     }
@@ -185,7 +187,7 @@ impl<T: Drop, A: Drop, S: NewSource> GrowingQueue<T, A, S> {
         ensures limit { self.new.set.limit ≡ self.old.set.limit }
     {
         let Ok(()) = self.push_front(future) else {
-            return Err(self.refusal());
+            return Err(self.fault());
         };
         Ok(())
     }
@@ -195,9 +197,8 @@ impl<T: Drop, A: Drop, S: NewSource> GrowingQueue<T, A, S> {
     where
         requires { IsFiniteIterable I.into_iter_gives I.IntoIter.can_next
             I.IntoIter.remaining iter }
-        ensures all { OnOk result ((items : List T)
-            × Draws I.into_iter_gives I.IntoIter.next_gives iter items
-            × AddsEachBack (GrowingPushesNumber S.marks S.made) self.old items self.new) }
+        ensures all { OnOk result (HoldsAllOf I.into_iter_gives I.IntoIter.next_gives iter
+            (AddsEachBack (GrowingPushesNumber S.marks S.made) self.old) self.new) }
         ensures stops { IfErr result (λ back. StopsAt (GrowingPushesNumber S.marks S.made) SetMayRefuse
             I.into_iter_gives I.IntoIter.next_gives iter self.old back self.new) }
     {
@@ -225,16 +226,23 @@ impl<T: Drop, A: Drop, S: NewSource> GrowingQueue<T, A, S> {
         self.queue.poll_entries(rule, cx)
     }
 
-    /// Why a push that was refused just now was refused: `TooLarge` where nothing more goes in, and else `Memory`.
+    /// Whether nothing more goes in: the queue has `MAX_LEN` entries, or its set is at its bound. A push is refused then, and else only where a request for memory is.
     ///
     /// Takes the same time at any length and any number of groups.
-    pub fn refusal(&self) -> NewFault
+    pub fn is_at_bound(&self) -> bool
+        ensures { IsTrue result ↔ IsAtEnd SetRefuses self.now }
+    {
+        self.queue.set.is_at_bound() || self.queue.len() == MAX_LEN
+    }
+
+    // Why a push that was refused just now was refused.
+    fn fault(&self) -> NewFault
         ensures { (result ≡ NewFault.TooLarge) ↔ IsAtEnd SetRefuses self.now }
     {
-        if self.queue.len() == MAX_LEN {
+        if self.is_at_bound() {
             NewFault::TooLarge
         } else {
-            self.queue.set.refusal()
+            NewFault::Memory
         }
     }
 }
@@ -301,18 +309,13 @@ impl<T: SlotFuture<SharedWaker, Output = A>, A: Drop> GrowingQueue<T, A, SharedR
     where
         requires { IsFiniteIterable I.into_iter_gives I.IntoIter.can_next
             I.IntoIter.remaining iter }
-        ensures holds { IfOk result (λ q. (items : List T) × (least : ℕ)
-            × ((start : OrderedGrowing T A Shared)
-            × Draws I.into_iter_gives I.IntoIter.next_gives iter items
-            × SaysAtLeast I.into_iter_gives I.IntoIter.remaining iter least
-            × IsNewGrowingQueue IsNewShared (max least FIRST_GROUP) POLL_LIMIT start
-            × AddsEachBack (GrowingPushesNumber MarksShared IsNewShared) start items q)) }
-        ensures large { result ≡ Err NewFault.TooLarge → (least : ℕ)
-            × SaysAtLeast I.into_iter_gives I.IntoIter.remaining iter least
-            × ((MAX_CAPACITY < max least FIRST_GROUP) ⊎ ((start : OrderedGrowing T A Shared)
-            × IsNewGrowingQueue IsNewShared (max least FIRST_GROUP) POLL_LIMIT start
-            × QueueStopsAtBound I.into_iter_gives I.IntoIter.next_gives iter
-            MarksShared IsNewShared start)) }
+        ensures holds { IfOk result (GrowsByAllOf I.into_iter_gives I.IntoIter.next_gives iter
+            I.IntoIter.remaining FIRST_GROUP (λ n. IsNewGrowingQueue IsNewShared n POLL_LIMIT)
+            (AddsBack (GrowingPushesNumber MarksShared IsNewShared))) }
+        ensures large { result ≡ Err NewFault.TooLarge
+            → Outgrows I.into_iter_gives I.IntoIter.next_gives iter I.IntoIter.remaining FIRST_GROUP (λ n (start : OrderedGrowing T A Shared).
+            IsNewGrowingQueue IsNewShared n POLL_LIMIT start)
+            (AddsBack (GrowingPushesNumber MarksShared IsNewShared)) (IsAtEnd SetRefuses) }
     {
         let iter = iter.into_iter();
         let (least, _most) = iter.size_hint();
@@ -323,9 +326,9 @@ impl<T: SlotFuture<SharedWaker, Output = A>, A: Drop> GrowingQueue<T, A, SharedR
         };
         let mut queue = Self::with_capacity(alloc, first)?;
         for item in iter {
-            let Ok(()) = queue.push_back(item) else {
-                return Err(queue.refusal());
-            };
+            if let Err(fault) = queue.add_back(item) {
+                return Err(fault);
+            }
         }
         Ok(queue)
     }

@@ -1,13 +1,14 @@
 //! A queue of as many futures in progress as it has slots, which yields outputs in the order of its entries.
 //!
 //! The futures stand in a bounded set. Each has an entry in a list, to which pushes add at either end. A poll yields the front alone: an output that comes before its turn is kept in its entry.
-ghost use Rattle.std.specs.Prelude.{◌≡◌, ◌↔◌, ◌<◌, ◌≤◌, List, length, IfOk, IfErr, OnOk, IsOk, IsErr, IsTrue};
+ghost use Rattle.std.specs.Prelude.{◌≡◌, ◌↔◌, ◌<◌, ◌≤◌, length, IfOk, IfErr, OnOk, IsOk, IsErr, IsTrue};
 ghost use Rattle.std.specs.Iterator.{IsFiniteIterable};
 ghost use Rattle.futures_buffered_core.specs.Answer.{RefusesTooLarge};
 ghost use Rattle.futures_buffered_core.specs.Drawn.{Draws, DrawsMoreThan};
 ghost use Rattle.futures_buffered_core.specs.ReadyShared.{IsNewShared, MarksShared};
 ghost use Rattle.futures_buffered_core.specs.SlotMap.{slot_count};
 ghost use Rattle.futures_buffered_unordered.specs.FuturesUnorderedBounded.{held_in};
+ghost use Rattle.futures_buffered_unordered.specs.Extended.{HoldsAllOf};
 ghost use Rattle.futures_buffered_ordered.specs.Numbered.{held_with};
 ghost use Rattle.futures_buffered_ordered.specs.OrderedEntries.{AddsBack, AddsEachBack, AddsFront, EachHasOne, HandsBack, IsAtEnd, OrderedGives, PollsQueue, PollsQueueTask, StopsAt};
 ghost use Rattle.futures_buffered_ordered.specs.FuturesOrderedBounded.{EachRunning, HoldsInOrder, QueueIsFull, IsNewBoundedQueue, PushesNumber, SameSlots, SetGives, SetIsFull, SetLeavesTask, SetPends, TakesFewNames};
@@ -218,9 +219,8 @@ impl<T: Drop, A: Drop, S: ReadySource> BoundedQueue<T, A, S> {
     where
         requires { IsFiniteIterable I.into_iter_gives I.IntoIter.can_next
             I.IntoIter.remaining iter }
-        ensures all { OnOk result ((items : List T)
-            × Draws I.into_iter_gives I.IntoIter.next_gives iter items
-            × AddsEachBack (PushesNumber S.marks) self.old items self.new) }
+        ensures all { OnOk result (HoldsAllOf I.into_iter_gives I.IntoIter.next_gives iter
+            (AddsEachBack (PushesNumber S.marks) self.old) self.new) }
         ensures stops { IfErr result (λ back. StopsAt (PushesNumber S.marks) SetIsFull
             I.into_iter_gives I.IntoIter.next_gives iter self.old back self.new) }
         ensures capacity { slot_count self.new.set.slots ≡ slot_count self.old.set.slots }
@@ -335,9 +335,8 @@ impl<T: SlotFuture<SharedWaker, Output = A>, A: Drop> BoundedQueue<T, A, SharedR
     where
         requires { IsFiniteIterable I.into_iter_gives I.IntoIter.can_next
             I.IntoIter.remaining iter }
-        ensures holds { IfOk result (λ q. (items : List T)
-            × Draws I.into_iter_gives I.IntoIter.next_gives iter items
-            × HoldsInOrder IsNewShared MarksShared POLL_LIMIT items q) }
+        ensures holds { IfOk result (HoldsAllOf I.into_iter_gives I.IntoIter.next_gives iter
+            (HoldsInOrder IsNewShared MarksShared POLL_LIMIT)) }
         ensures fits { IfOk result (λ q. slot_count q.set.slots ≤ MAX_CAPACITY) }
         ensures large { result ≡ Err NewFault.TooLarge
             → DrawsMoreThan I.into_iter_gives I.IntoIter.next_gives iter MAX_CAPACITY }

@@ -1,11 +1,11 @@
 //! The entries of an ordered queue, over any set that takes a number with each future.
 //!
 //! Pushes add an entry at either end. A poll yields the front alone: an output that comes before its turn is kept in its entry.
-ghost use Rattle.std.specs.Prelude.{◌≡◌, ◌↔◌, ◌<◌, ◌≤◌, ◌+◌, ℕ, List, [], ◌∷◌, length, true, false, IfOk, IfErr, OnOk, IsOk, IsErr, IsTrue, MatchOption};
+ghost use Rattle.std.specs.Prelude.{◌≡◌, ◌↔◌, ◌<◌, ◌≤◌, ◌+◌, ℕ, [], ◌∷◌, length, true, false, IfOk, IfErr, OnOk, IsOk, IsErr, IsTrue, MatchOption};
 ghost use Rattle.std.specs.Iterator.{IsFiniteIterable};
 ghost use Rattle.futures.specs.Task.{Keeps};
 ghost use Rattle.futures.specs.Poll.{IfReady, OnPending};
-ghost use Rattle.futures_buffered_core.specs.Drawn.{Draws};
+ghost use Rattle.futures_buffered_unordered.specs.Extended.{HoldsAllOf};
 ghost use Rattle.futures_buffered_ordered.specs.declared.ordered_entries.Entry.TheVariants.{Kept};
 ghost use Rattle.futures_buffered_ordered.specs.OrderedEntries.{AddsBack, AddsEachBack, AddsFront, GivesWithTask, HandsBack, IsAtEnd, LastStep, MayRefuse, OrderedGives, PollsQueue, PollsQueueTask, SetYields, Stays, StopsAt, starts_running, with_task};
 ghost use Rattle.futures_buffered_ordered.specs.OrderedEntriesInvariant.{AddingKeeps, CanPollEntries, IsNumbered};
@@ -180,9 +180,8 @@ impl<Q: NumberedSet, A: Drop> OrderedEntries<Q, A> {
         requires finite { IsFiniteIterable I.into_iter_gives I.IntoIter.can_next
             I.IntoIter.remaining iter }
         requires numbered { IsNumbered Q.with_number Q.count self.old }
-        ensures all { OnOk result ((items : List Q.Future)
-            × Draws I.into_iter_gives I.IntoIter.next_gives iter items
-            × AddsEachBack Q.pushes self.old.queue items self.new.queue) }
+        ensures all { OnOk result (HoldsAllOf I.into_iter_gives I.IntoIter.next_gives iter
+            (AddsEachBack Q.pushes self.old.queue) self.new.queue) }
         ensures stops { IfErr result (λ back. StopsAt Q.pushes Q.may_refuse I.into_iter_gives
             I.IntoIter.next_gives iter self.old.queue back self.new.queue) }
         ensures keeps { AddingKeeps Q.with_number Q.count Q.keeps self.old self.new }

@@ -1,7 +1,7 @@
 //! The ordered queue that grows as a stream, which says how much is left and whether it has ended.
 ghost use Rattle.std.specs.Prelude.{◌≡◌, length};
 ghost use Rattle.futures_buffered_unordered.specs.StreamAnswers.{StreamAnswers};
-ghost use Rattle.futures_buffered_unordered.specs.SlotGroups.{AnyNeeds, EachCovered};
+ghost use Rattle.futures_buffered_unordered.specs.FuturesUnordered.{AnyNeeds, EachCovered};
 ghost use Rattle.futures_buffered_ordered.specs.OrderedEntries.{ComesInOrder, OrderedGives, PollsQueue, PollsQueueTask};
 ghost use Rattle.futures_buffered_ordered.specs.FuturesOrdered.{EachInProgress, GroupsGiveNumbered, GroupsLeaveTaskNumbered, GrowingMayGive, held_in_groups};
 

@@ -1,89 +1,231 @@
--- What a set's poll keeps of each group that it asks, and what may come from the set.
-use Rattle.std.proofs.Common.{◌≡◌, ℕ, ◌+◌, ◌<◌, List, [], ◌∷◌, Option, Some, None, IfSome, IfNone, refl, sym, subst, inl, inr, arith}
-use Rattle.std.specs.List.{FoldsTo}
-use Rattle.futures.specs.Poll.{IfReady, OnPending}
-use Rattle.futures.specs.Runs.{After, Within}
+-- What a push makes of groups.
+use Rattle.std.proofs.Common.{◌≡◌, ◌≢◌, ◌⊎◌, ℕ, zero, suc, ◌+◌, ◌-◌, ◌*◌, ◌<◌, ◌≤◌, List, [], ◌∷◌, ◌++◌, length, take, drop, set, get_or, Option, None, is_some, cond, refl, sym, ap, subst, inl, inr, arith, length-set, ◌∙◌}
+use Rattle.std.specs.List.{All}
+use Rattle.std.proofs.lemmas.Bool.{cases_eq}
+use Rattle.std.proofs.lemmas.List.{get_or-set_other, get_or_append_left, get_or_push, length_push, set-get_or, drop_all, length-replicate}
+use Rattle.std.proofs.lemmas.List.Elements.{All-push, All-tail}
+use Rattle.std.proofs.lemmas.List.Folds.{sum_by-replicate}
+use Rattle.std.proofs.lemmas.List.Sums.{sum_by-set, sum_by_push, count_by-le-length}
+use Rattle.futures.specs.Poll.{OnPending}
+use Rattle.futures.specs.Task.{Covers, Hears}
 use Rattle.futures.specs.declared.task.context.Context.{Context}
 use Rattle.futures.specs.declared.task.Poll.{Poll}
 use Rattle.futures.specs.declared.task.Poll.TheVariants.{Ready, Pending}
-use Rattle.futures_buffered_core.specs.ReadySource.{WaitsAlike, SourceSteps}
-use Rattle.futures_buffered_core.specs.SlotMap.{slot_count}
-use Rattle.futures_buffered_table.specs.declared.answer.Taken.{Taken}
-use Rattle.futures_buffered_unordered.specs.Held.{AnyMayGive}
-use Rattle.futures_buffered_unordered.specs.FuturesUnorderedBounded.{AsksInPart, Bounded, OnlyRegisters, PollAsksToEmpty, PollGives, PollLeavesTask, held_in}
-use Rattle.futures_buffered_unordered.specs.Groups.{GroupLeavesTask, Groups, GroupsGive, outputs_in}
-use Rattle.futures_buffered_unordered.proofs.HeldGivesLemmas.{Gathers-Within, Gathers-After}
-use Rattle.futures_buffered_unordered.proofs.FuturesUnorderedBoundedLemmas.{registers_none, registers_once, poll_counted, poll_pending_holds, poll_end_is_empty, poll_gave, poll_still}
-use Rattle.futures_buffered_unordered.specs.SlotGroups.{all_held}
-use Rattle.futures_buffered_unordered.specs.SlotGroupsInvariant.{KeepsGroup}
-use Rattle.futures_buffered_unordered.specs.FuturesUnordered.{AnyGroupMayGive, ComesFromGroups}
-use Rattle.futures_buffered_unordered.proofs.SlotGroupsInvariantLemmas.{alike_self, alike_on}
-use Rattle.futures_buffered_unordered.proofs.SlotGroupsPollLemmas.{any_left, any_output}
+use Rattle.futures_buffered_core.specs.ReadySource.{WaitsAlike}
+use Rattle.futures_buffered_core.specs.SlotMap.{held_count, slot_count}
+use Rattle.futures_buffered_table.specs.declared.answer.TheConstants.{MAX_CAPACITY}
+use Rattle.futures_buffered_table.specs.declared.answer.Woke.{Woke}
+use Rattle.futures_buffered_unordered.specs.FuturesUnorderedBounded.{Bounded, Pushes, IsNewSet, held_in}
+use Rattle.futures_buffered_unordered.specs.Groups.{Groups, outputs_in}
+use Rattle.futures_buffered_unordered.proofs.GroupsLemmas.{same_parts}
+use Rattle.futures_buffered_unordered.proofs.GroupsStepLemmas.{split_at, split_set}
+use Rattle.futures_buffered_unordered.specs.declared.futures_unordered.TheConstants.{MAX_HELD}
+use Rattle.futures_buffered_unordered.specs.FuturesUnordered.{Growing, GrowingPushes, IsNewGrowing, LastIsFull, no_groups, held_in_all, spare_places, capacity_of, next_capacity, AnyNeeds, EachCovered}
+use Rattle.futures_buffered_unordered.specs.FuturesUnorderedInvariant.{IsGroup, KeepsGroups, SameKind, AddsGroup, PushesLast}
+use Rattle.futures_buffered_unordered.proofs.FuturesUnorderedInvariantLemmas.{alike_self, alike_back, each_set, alike_set}
 
-module _ {F A S : Type 0} (needs : S → ℕ → Type 0) (polled : ℕ → F → Poll A → F → Type 0) (steps : SourceSteps S)
-    (register_waits : (old new : S) → steps.registers old new → WaitsAlike needs old new) (take_waits : (old : S) (taken : Taken) (new : S) → steps.takes old taken new → WaitsAlike needs old new) where
-  alike_taken : (given : List Taken) (old new : S) → FoldsTo steps.takes old given new → WaitsAlike needs old new
-  alike_taken [] old new h = subst (λ s. WaitsAlike needs old s) h (alike_self needs old)
-  alike_taken (taken ∷ given) old new h = alike_on needs old h.0 new (take_waits old taken h.0 h.1) (alike_taken given h.0 new h.2)
+module _ {F S : Type 0} where
+  -- what is said of the last group is said of the one at the last place
+  pub spare_last : (gs : List (Bounded F S)) (q : ℕ) (d : Bounded F S) → q + 1 ≡ length gs → spare_places gs ≡ slot_count (get_or gs q d).slots - held_in (get_or gs q d)
+  spare_last [] q d last = absurd (omega (arith, last))
+  spare_last (g ∷ []) zero d last = refl
+  spare_last (g ∷ []) (suc q) d last = absurd (omega (arith, last))
+  spare_last (g ∷ next ∷ gs) zero d last = absurd (omega (arith, last))
+  spare_last (g ∷ next ∷ gs) (suc q) d last = spare_last (next ∷ gs) q d (omega (arith, last))
 
-  -- a poll leaves the source at the same places
-  alike_polled : (old new : Bounded F S) (answer : Poll (Option A)) → PollGives polled steps old answer new → WaitsAlike needs old.source new.source
-  alike_polled old new (Ready None) h = subst (λ (b : Bounded F S). WaitsAlike needs old.source b.source) (sym h.1) (alike_self needs old.source)
-  alike_polled old new (Ready (Some x)) h =
-      let asks = h.1.2.3 in
-      subst (λ (b : Bounded F S). WaitsAlike needs old.source b.source) (sym h.1.3) (alike_on needs old.source asks.registered _ (register_waits _ _ asks.registers_first) (alike_taken _ _ _ asks.answers))
-  alike_polled old new Pending h =
-      let asks = h.1.3 in
-      alike_on needs old.source asks.registered new.source (register_waits _ _ asks.registers_first) (alike_taken _ _ _ asks.answers)
+  pub next_last : (first : ℕ) (gs : List (Bounded F S)) (q : ℕ) (d : Bounded F S) → q + 1 ≡ length gs → next_capacity first gs ≡ 2 * slot_count (get_or gs q d).slots
+  next_last first [] q d last = absurd (omega (arith, last))
+  next_last first (g ∷ []) zero d last = refl
+  next_last first (g ∷ []) (suc q) d last = absurd (omega (arith, last))
+  next_last first (g ∷ next ∷ gs) zero d last = absurd (omega (arith, last))
+  next_last first (g ∷ next ∷ gs) (suc q) d last = next_last first (next ∷ gs) q d (omega (arith, last))
 
-  -- what a poll keeps of a group
-  pub keeps_polled : (old new : Bounded F S) (answer : Poll (Option A)) → PollGives polled steps old answer new → slot_count new.slots ≡ slot_count old.slots → new.limit ≡ old.limit → KeepsGroup needs old answer new
-  keeps_polled old new answer h slots limit =
-      record { fewer = omega (arith, poll_counted polled steps old new answer h); pending_holds = holds answer h; ended_is_empty = empty answer h; same_kind = record { same_slots = slots; same_limit = limit; waits = alike_polled old new answer h } }
+  pub next_none : (first : ℕ) (gs : List (Bounded F S)) → length gs ≡ 0 → next_capacity first gs ≡ first
+  next_none first [] none = refl
+  next_none first (g ∷ gs) none = absurd (omega (arith, none))
+
+  pub spare_none : (gs : List (Bounded F S)) → length gs ≡ 0 → spare_places gs ≡ 0
+  spare_none [] none = refl
+  spare_none (g ∷ gs) none = absurd (omega (arith, none))
+
+  pub spare_some : (gs : List (Bounded F S)) → 0 < spare_places gs → 0 < length gs
+  spare_some [] some = absurd (omega (arith, some))
+  spare_some (g ∷ gs) some = omega arith
+
+  pub capacity_none : (gs : List (Bounded F S)) → length gs ≡ 0 → capacity_of gs ≡ 0
+  capacity_none [] none = refl
+  capacity_none (g ∷ gs) none = absurd (omega (arith, none))
+
+  pub capacity_one : (gs : List (Bounded F S)) (d : Bounded F S) → length gs ≡ 1 → capacity_of gs ≡ slot_count (get_or gs 0 d).slots
+  capacity_one [] d one = absurd (omega (arith, one))
+  capacity_one (g ∷ []) d one = refl
+  capacity_one (g ∷ next ∷ gs) d one = absurd (omega (arith, one))
+
+  pub capacity_several : (gs : List (Bounded F S)) → 1 < length gs → capacity_of gs ≡ held_in_all gs + spare_places gs
+  capacity_several [] more = absurd (omega (arith, more))
+  capacity_several (g ∷ []) more = absurd (omega (arith, more))
+  capacity_several (g ∷ next ∷ gs) more = refl
+
+  -- no group holds more than it has slots
+  pub held_le : (group : Bounded F S) → held_in group ≤ slot_count group.slots
+  held_le group = count_by-le-length is_some group.slots.places
+
+  -- a new group holds nothing
+  pub new_holds_none : (made : ℕ → S → Type 0) (cap limit : ℕ) (group : Bounded F S) → IsNewSet made cap limit group → (held_in group ≡ 0) × (slot_count group.slots ≡ cap)
+  new_holds_none made cap limit group h = (
+    ap held_count h.none_held ∙ (sum_by-replicate (λ o. cond (is_some o) 1 0) cap None ∙ omega arith),
+    ap slot_count h.none_held ∙ length-replicate cap None,
+  )
+
+module _ {F S : Type 0} (needs : S → ℕ → Type 0) where
+  -- a new group stands behind full ones
+  pub keeps_added : (g : Groups (Bounded F S)) (limit held cap : ℕ) (made : ℕ → S → Type 0) (group : Bounded F S) → KeepsGroups needs g limit held → LastIsFull g.listed → 0 < cap → cap ≤ MAX_CAPACITY → IsNewSet made cap limit group
+      → All (λ (b : Bounded F S). WaitsAlike needs b.source group.source) g.listed → KeepsGroups needs (record { listed = g.listed ++ group ∷ []; place = g.place }) limit held
+  keeps_added g limit held cap made group k full some fits new beside =
+      record {
+        place_within = omega (arith, k.place_within, long);
+        some_names = k.some_names;
+        each = All-push (IsGroup limit) g.listed group k.each (record { has_a_slot = omega (arith, some, none.1); fits = omega (arith, fits, none.1); same_limit = new.takes_at_most });
+        alike = All-push (λ (a : Bounded F S). All (λ (b : Bounded F S). WaitsAlike needs a.source b.source) (g.listed ++ group ∷ [])) g.listed group
+            (λ j d lt. All-push (λ (b : Bounded F S). WaitsAlike needs (get_or g.listed j d).source b.source) g.listed group (k.alike j d lt) (beside j d lt))
+            (All-push (λ (b : Bounded F S). WaitsAlike needs group.source b.source) g.listed group (λ j d lt. alike_back needs _ _ (beside j d lt)) (alike_self needs group.source));
+        others = λ j d lt other. subst (λ (b : Bounded F S). 0 < held_in b) (sym (get_or_append_left g.listed (group ∷ []) d j (omega (arith, lt, long)))) (by_place j d (omega (arith, lt, long)) other (cases_eq (j + 1) (length g.listed)));
+        counted = omega (arith, k.counted, sum_by_push held_in g.listed group, none.0);
+        few = k.few;
+      }
     where
-      holds : (a : Poll (Option A)) → PollGives polled steps old a new → OnPending a (0 < held_in new)
-      holds (Ready o) h = tt
-      holds Pending h = poll_pending_holds polled steps old new h
+      none : (held_in group ≡ 0) × (slot_count group.slots ≡ cap)
+      none = new_holds_none made cap limit group new
 
-      empty : (a : Poll (Option A)) → PollGives polled steps old a new → IfReady a (λ o. IfNone o (held_in new ≡ 0))
-      empty (Ready None) h = poll_end_is_empty polled steps old new h
-      empty (Ready (Some x)) h = tt
-      empty Pending h = tt
+      long : length (g.listed ++ group ∷ []) ≡ length g.listed + 1
+      long = length_push g.listed group
 
--- what a poll of a group leaves of the task: one that registers, and one of a task that is registered
-module _ {F A S : Type 0} (polled : ℕ → F → Poll A → F → Type 0) (steps : SourceSteps S) (registers_poll : S → Context → Context → Type 0) (old new : Bounded F S) (cx left : Context) where
-  pub group_leaves : (answer : Poll (Option A)) → PollGives polled steps old answer new → PollLeavesTask polled steps registers_poll old answer new cx left
-      → GroupLeavesTask (PollAsksToEmpty polled steps) (AsksInPart polled steps) (OnlyRegisters registers_poll) old answer new cx left
-  group_leaves (Ready None) gives same = inl (gives, registers_none registers_poll cx left same)
-  group_leaves (Ready (Some x)) gives once = inl (gives, registers_once registers_poll cx left old.source once)
-  group_leaves Pending gives (inl empty) = inl ((gives.0, empty.0), registers_once registers_poll cx left old.source empty.1)
-  group_leaves Pending gives (inr part) = inr (refl, part.0, part.1)
+      by_place : (j : ℕ) (d : Bounded F S) → j < length g.listed → j ≢ g.place → (j + 1 ≡ length g.listed) ⊎ (j + 1 ≢ length g.listed) → 0 < held_in (get_or g.listed j d)
+      by_place j d lt other (inl last) = omega (arith, full, spare_last g.listed j d last, (k.each j d lt).has_a_slot)
+      by_place j d lt other (inr before) = k.others j d (omega (arith, lt, before)) other
 
-  pub covered_leaves : (answer : Poll (Option A)) → PollGives polled steps old answer new → PollLeavesTask polled steps (λ _ before after. after ≡ before) old answer new cx left
-      → GroupLeavesTask (PollAsksToEmpty polled steps) (AsksInPart polled steps) (OnlyRegisters registers_poll) old answer new cx left
-  covered_leaves (Ready None) gives same = inl (gives, registers_none registers_poll cx left same)
-  covered_leaves (Ready (Some x)) gives same = inl (gives, registers_none registers_poll cx left same)
-  covered_leaves Pending gives (inl empty) = inl ((gives.0, empty.0), registers_none registers_poll cx left empty.1)
-  covered_leaves Pending gives (inr part) = inr (refl, part.0, part.1)
+  -- the last group holds one more
+  pub keeps_grown : (g : Groups (Bounded F S)) (limit held q : ℕ) (group left : Bounded F S) → KeepsGroups needs g limit held → q + 1 ≡ length g.listed → group ≡ get_or g.listed q group → SameKind needs group left → held_in left ≡ held_in group + 1 → held < MAX_HELD
+      → KeepsGroups needs (record { listed = set g.listed q left; place = g.place }) limit (held + 1)
+  keeps_grown g limit held q group left k last is kind one below =
+      record {
+        place_within = omega (arith, k.place_within, length-set g.listed q left);
+        some_names = k.some_names;
+        each = each_set needs g.listed limit q group left within is kind k.each;
+        alike = alike_set needs g.listed limit q group left within is kind k.alike;
+        others = λ j d lt other. subst (λ (b : Bounded F S). 0 < held_in b) (sym (get_or-set_other g.listed q j left d (λ same. omega (arith, same, lt, last, length-set g.listed q left)))) (k.others j d (omega (arith, lt, length-set g.listed q left)) other);
+        counted = omega (arith, k.counted, sum_by-set held_in g.listed q left group within, ap (λ (b : Bounded F S). held_in b) is, one);
+        few = omega (arith, below);
+      }
+    where
+      within : q < length g.listed
+      within = omega (arith, last)
 
-module _ {F A S : Type 0} (polled : ℕ → F → Poll A → F → Type 0) (steps : SourceSteps S) where
-  module _ (old new : Groups (Bounded F S)) where
-    pub still : (answer : Poll (Option A)) → GroupsGive (PollGives polled steps) old answer new → (y : A) → AnyGroupMayGive polled new.listed y → AnyGroupMayGive polled old.listed y
-    still answer h y any = any_left (PollGives polled steps) (λ (g : Bounded F S). AnyMayGive polled g.slots y) (poll_still polled steps y) old answer new h any
+  -- the same group, where no group was changed
+  pub same_again : (gs : List (Bounded F S)) (q : ℕ) (group left : Bounded F S) → group ≡ get_or gs q group → left ≡ group → set gs q left ≡ gs
+  same_again gs q group left is same = ap (set gs q) (same ∙ is) ∙ set-get_or gs q group
 
-    pub gave : (x : A) → GroupsGive (PollGives polled steps) old (Ready (Some x)) new → AnyGroupMayGive polled old.listed x
-    gave x h = any_output (PollGives polled steps) (λ (g : Bounded F S). AnyMayGive polled g.slots x) old new x h (poll_gave polled steps x)
+module _ {F S : Type 0} (marks : S → ℕ → Woke → S → Type 0) where
+  -- a push into the last group, as it stands in the list
+  pub pushes_last : (old : Growing F S) (q : ℕ) (group left : Bounded F S) (value : F) → q + 1 ≡ length old.groups.listed → group ≡ get_or old.groups.listed q group → 0 < spare_places old.groups.listed → Pushes marks group value left
+      → PushesLast marks old value (record { groups = record { listed = set old.groups.listed q left; place = old.groups.place }; limit = old.limit })
+  pushes_last old q group left value last is some pushed =
+      record {
+        before = take q old.groups.listed;
+        into = group;
+        pushed_into = left;
+        stood = split_at old.groups.listed q group within is ∙ ap (λ (l : List (Bounded F S)). take q old.groups.listed ++ group ∷ l) none;
+        has_room = omega (arith, some, spare_last old.groups.listed q group last, ap (λ (b : Bounded F S). held_in b) is, ap (λ (b : Bounded F S). slot_count b.slots) is);
+        pushed = pushed;
+        now_listed = split_set old.groups.listed q left within ∙ ap (λ (l : List (Bounded F S)). take q old.groups.listed ++ left ∷ l) none;
+        same_place = refl;
+        same_limit = refl;
+      }
+    where
+      within : q < length old.groups.listed
+      within = omega (arith, last)
 
-    pub value_of : (answer : Poll (Option A)) → GroupsGive (PollGives polled steps) old answer new → (answer ≡ Ready None → all_held old.listed ≡ 0) → all_held new.listed + outputs_in answer ≡ all_held old.listed → IfReady answer (ComesFromGroups polled old.listed [])
-    value_of (Ready None) h ends count = record { each = tt; ends = sym (ends refl) }
-    value_of (Ready (Some x)) h ends count = record { each = tt; ends = (gave x h, omega (arith, count)) }
-    value_of Pending h ends count = tt
+      none : drop (q + 1) old.groups.listed ≡ []
+      none = drop_all (q + 1) old.groups.listed (omega (arith, last))
 
-    pub rest_of : (answer : Poll (Option A)) → GroupsGive (PollGives polled steps) old answer new → all_held new.listed + outputs_in answer ≡ all_held old.listed → IfReady answer (λ o. IfSome o (λ x. After (ComesFromGroups polled old.listed) x (ComesFromGroups polled new.listed)))
-    rest_of (Ready None) h count = tt
-    rest_of (Ready (Some x)) h count = Gathers-After {A = A} {P = AnyGroupMayGive polled old.listed} {Q = AnyGroupMayGive polled new.listed} (still (Ready (Some x)) h) _ _ x count (gave x h)
-    rest_of Pending h count = tt
+  module _ (made : ℕ → S → Type 0) (first : ℕ) where
+    -- a push into the last group
+    pub pushes_old : (old new : Growing F S) (value : F) → PushesLast marks old value new → GrowingPushes marks made first old value new
+    pushes_old old new value h =
+        record {
+          before = h.before;
+          into = h.into;
+          pushed_into = h.pushed_into;
+          goes_into = inl (h.stood, h.has_room);
+          pushed = h.pushed;
+          now_listed = h.now_listed;
+          same_place = h.same_place;
+          same_limit = h.same_limit;
+        }
 
-    pub same_of : (answer : Poll (Option A)) → GroupsGive (PollGives polled steps) old answer new → all_held new.listed + outputs_in answer ≡ all_held old.listed → OnPending answer (Within (ComesFromGroups polled old.listed) (ComesFromGroups polled new.listed))
-    same_of (Ready o) h count = tt
-    same_of Pending h count = Gathers-Within {A = A} {P = AnyGroupMayGive polled old.listed} {Q = AnyGroupMayGive polled new.listed} (still Pending h) _ _ (omega (arith, count))
+    -- a push into a group that was added
+    pub pushes_new : (old added new : Growing F S) (value : F) → LastIsFull old.groups.listed → AddsGroup made (next_capacity first old.groups.listed) old added → PushesLast marks added value new → GrowingPushes marks made first old value new
+    pushes_new old added new value full adds h =
+        let long : length old.groups.listed ≡ length h.before = omega (arith, ap length adds.listed, ap length h.stood, length_push old.groups.listed adds.group, length_push h.before h.into) in
+        let parts = same_parts old.groups.listed h.before (adds.group ∷ []) (h.into ∷ []) long (sym adds.listed ∙ h.stood) in
+        let is_last : adds.group ≡ h.into = ap (λ (l : List (Bounded F S)). get_or l 0 adds.group) parts.1 in
+        record {
+          before = h.before;
+          into = h.into;
+          pushed_into = h.pushed_into;
+          goes_into = inr (parts.0, subst LastIsFull parts.0 full, subst (λ (l : List (Bounded F S)). IsNewSet made (next_capacity first l) old.limit h.into) parts.0 (subst (IsNewSet made (next_capacity first old.groups.listed) old.limit) is_last adds.is_new));
+          pushed = h.pushed;
+          now_listed = h.now_listed;
+          same_place = h.same_place ∙ adds.same_place;
+          same_limit = h.same_limit ∙ adds.same_limit;
+        }
+
+    -- as many futures as before in groups with an empty one behind, which has a free place
+    pub added_counts : (cap : ℕ) (old new : Growing F S) → AddsGroup made cap old new → (held_in_all new.groups.listed ≡ held_in_all old.groups.listed) × (spare_places new.groups.listed ≡ cap)
+    added_counts cap old new adds =
+        let none = new_holds_none made cap old.limit adds.group adds.is_new in
+        let at_end : get_or (old.groups.listed ++ adds.group ∷ []) (length old.groups.listed) adds.group ≡ adds.group = get_or_push old.groups.listed adds.group adds.group (length old.groups.listed) refl in
+        let spare = spare_last (old.groups.listed ++ adds.group ∷ []) (length old.groups.listed) adds.group (sym (length_push old.groups.listed adds.group)) in (
+          omega (arith, ap (λ (l : List (Bounded F S)). held_in_all l) adds.listed, sum_by_push held_in old.groups.listed adds.group, none.0),
+          omega (arith, ap (λ (l : List (Bounded F S)). spare_places l) adds.listed, spare, ap (λ (b : Bounded F S). held_in b) at_end, ap (λ (b : Bounded F S). slot_count b.slots) at_end, none.0, none.1),
+        )
+
+module _ {F S : Type 0} (made : ℕ → S → Type 0) where
+  -- a new set has the group that was added, if one was
+  pub new_without : (n limit : ℕ) (set : Growing F S) → n ≤ 0 → set ≡ no_groups limit → IsNewGrowing made n limit set
+  new_without n limit set none is = inl (omega (arith, none), is)
+
+  pub new_with : (n limit : ℕ) (start set : Growing F S) → 0 < n → start ≡ no_groups limit → AddsGroup made n start set → IsNewGrowing made n limit set
+  new_with n limit start set some is adds =
+      inr (
+        some,
+        (
+          adds.group,
+          subst (λ (v : Growing F S). IsNewSet made n v.limit adds.group) is adds.is_new,
+          ap (λ (l : List (Bounded F S)). record { groups = record { listed = l; place = set.groups.place }; limit = set.limit }) (adds.listed ∙ ap (λ (v : Growing F S). v.groups.listed ++ adds.group ∷ []) is)
+              ∙ ap (λ (k : ℕ). record { groups = record { listed = adds.group ∷ []; place = k }; limit = set.limit }) (adds.same_place ∙ ap (λ (v : Growing F S). v.groups.place) is)
+              ∙ ap (λ (k : ℕ). record { groups = record { listed = adds.group ∷ []; place = 0 }; limit = k }) (adds.same_limit ∙ ap (λ (v : Growing F S). v.limit) is),
+        ),
+      )
+
+module _ {F S : Type 0} (needs : S → ℕ → Type 0) (cx : Context) where
+  hears_any : (groups : List (Bounded F S)) → EachCovered needs cx groups → (n : ℕ) → AnyNeeds needs groups n → Hears cx n
+  hears_any [] covered n any = absurd any
+  hears_any (g ∷ gs) covered n (inl here) = (covered 0 g (omega arith)).1 n here.1
+  hears_any (g ∷ gs) covered n (inr any) = hears_any gs (All-tail (λ (b : Bounded F S). Covers cx (needs b.source)) g gs covered) n any
+
+  covers_any : (groups : List (Bounded F S)) → EachCovered needs cx groups → 0 < held_in_all groups → Covers cx (AnyNeeds needs groups)
+  covers_any [] covered some = absurd (omega (arith, some))
+  covers_any (g ∷ gs) covered some = ((covered 0 g (omega arith)).0, hears_any (g ∷ gs) covered)
+
+  -- a task that is registered with each group, where one holds a future, hears of what any needs
+  pub covered_of : {A : Type 0} (answer : Poll (Option A)) (old groups : List (Bounded F S)) → OnPending answer (EachCovered needs cx groups) → (held_in_all old ≡ 0 → answer ≡ Ready None) → held_in_all groups + outputs_in answer ≡ held_in_all old → OnPending answer (Covers cx (AnyNeeds needs groups))
+  covered_of (Ready o) old groups covered ends count = tt
+  covered_of {A} Pending old groups covered ends count = covers_any groups covered (by_count (held_in_all groups) refl)
+    where
+      not_end : ◌≡◌ {A = Poll (Option A)} Pending (Ready None) → ⊥
+      not_end e = cc
+
+      by_count : (held : ℕ) → held_in_all groups ≡ held → 0 < held_in_all groups
+      by_count zero none = absurd (not_end (ends (omega (arith, none, count))))
+      by_count (suc held) some = omega (arith, some)

@@ -7,7 +7,7 @@ pub mod GroupsStepLemmas
 pub mod GroupsRoundLemmas
 pub mod GroupsPollLemmas
 pub mod GroupsTaskLemmas
-pub mod SlotGroupsInvariantLemmas
-pub mod SlotGroupsLemmas
-pub mod SlotGroupsPollLemmas
+pub mod FuturesUnorderedInvariantLemmas
 pub mod FuturesUnorderedLemmas
+pub mod FuturesUnorderedPollLemmas
+pub mod FuturesUnorderedStreamLemmas

@@ -1,12 +1,200 @@
--- What may come from a set that grows.
-use Rattle.std.specs.Prelude.{ℕ, List}
-use Rattle.futures.specs.Runs.{Runs}
+-- What a contract sees of a set that grows, and what its calls make of it.
+use Rattle.std.specs.Prelude.{◌≡◌, ◌↔◌, ℕ, ◌+◌, ◌-◌, ◌*◌, ◌<◌, List, [], ◌∷◌, ◌++◌, ◌⊎◌, Option, None}
+use Rattle.std.specs.Prelude.{IfNone, refl}
+use Rattle.std.specs.List.{sum_by, All, FoldsTo}
+use Rattle.std.specs.Coded.{Coded, code_by, coded×, coded_ℕ}
+use Rattle.futures.specs.Task.{Covers, Keeps}
+use Rattle.futures.specs.Poll.{IfReady, OnPending}
 use Rattle.futures.specs.Queued.{Gathers}
+use Rattle.futures.specs.Runs.{Runs}
+use Rattle.futures.specs.declared.task.context.Context.{Context}
 use Rattle.futures.specs.declared.task.Poll.{Poll}
-use Rattle.futures_buffered_unordered.specs.Held.{AnyMayGive}
-use Rattle.futures_buffered_unordered.specs.FuturesUnorderedBounded.{Bounded}
-use Rattle.futures_buffered_unordered.specs.Groups.{AnyOf}
-use Rattle.futures_buffered_unordered.specs.SlotGroups.{all_held}
+use Rattle.futures.specs.declared.task.Poll.TheVariants.{Ready}
+use Rattle.futures_buffered_core.specs.SlotMap.{slot_count}
+use Rattle.futures_buffered_table.specs.declared.answer.TheConstants.{MAX_CAPACITY}
+use Rattle.futures_buffered_table.specs.declared.answer.Woke.{Woke}
+use Rattle.futures_buffered_unordered.specs.Held.{AllHeld, AnyMayGive}
+use Rattle.futures_buffered_unordered.specs.FuturesUnorderedBounded.{Bounded, bounded_code, IsNewSet}
+use Rattle.futures_buffered_unordered.specs.FuturesUnorderedBounded.{Pushes, held_in}
+use Rattle.futures_buffered_unordered.specs.Groups.{Groups, groups_code, AnyOf, GroupLeavesTask, GroupsLeaveTask}
+use Rattle.futures_buffered_unordered.specs.Groups.{outputs_in}
+use Rattle.futures_buffered_unordered.specs.declared.futures_unordered.TheConstants.{FIRST_GROUP, MAX_HELD}
+
+-- the groups, the place where the next poll begins, and how many names one poll takes from each
+-- group at most
+pub record Growing (F S : Type 0) : Type 0 where
+  pub groups : Groups (Bounded F S)
+  pub limit : ℕ
+
+-- its code, made of those of its parts
+abbrev pub growing_code : {F S : Type 0} → Coded F → Coded S → Coded (Growing F S)
+growing_code {F} {S} code source_code =
+    code_by
+    (Groups (Bounded F S) × ℕ)
+    (coded× (groups_code (bounded_code code source_code)) coded_ℕ)
+    (λ g. (g.groups, g.limit))
+    (λ p. record { groups = p.0; limit = p.1 })
+    (λ _. refl)
+
+-- no group, with this limit
+abbrev pub no_groups : {F S : Type 0} → ℕ → Growing F S
+no_groups limit = record { groups = record { listed = []; place = 0 }; limit = limit }
+
+module _ {F S : Type 0} where
+  -- how many futures all groups hold
+  abbrev pub held_in_all : List (Bounded F S) → ℕ
+  held_in_all groups = sum_by held_in groups
+
+  -- P holds of each future that is held in one of the groups
+  abbrev pub EachHeld : (F → Type 0) → List (Bounded F S) → Type 0
+  EachHeld P groups = All (λ (group : Bounded F S). AllHeld P group.slots) groups
+
+  -- the task is registered with each group
+  abbrev pub EachCovered : (S → ℕ → Type 0) → Context → List (Bounded F S) → Type 0
+  EachCovered needs cx groups = All (λ (group : Bounded F S). Covers cx (needs group.source)) groups
+
+  -- a group that holds a future waits at place n of a task's wakes
+  abbrev pub AnyNeeds : (S → ℕ → Type 0) → List (Bounded F S) → ℕ → Type 0
+  AnyNeeds needs groups n =
+      AnyOf (λ (group : Bounded F S). (0 < held_in group) × needs group.source n) groups
+
+  -- the free places of the last group
+  abbrev pub spare_places : List (Bounded F S) → ℕ
+  spare_places [] = 0
+  spare_places (group ∷ []) = slot_count group.slots - held_in group
+  spare_places (group ∷ next ∷ groups) = spare_places (next ∷ groups)
+
+  -- 0 without groups, the group's with one, and with several what is held and the free places of
+  -- the last
+  abbrev pub capacity_of : List (Bounded F S) → ℕ
+  capacity_of [] = 0
+  capacity_of (group ∷ []) = slot_count group.slots
+  capacity_of (group ∷ next ∷ groups) =
+      held_in_all (group ∷ next ∷ groups) + spare_places (next ∷ groups)
+
+  -- no group has a free place for a push: there is none, or the last one is full
+  abbrev pub LastIsFull : List (Bounded F S) → Type 0
+  LastIsFull groups = spare_places groups ≡ 0
+
+  -- how many slots a new group has behind these: twice as many as the last one, and the first
+  -- number where there is none
+  abbrev pub next_capacity : ℕ → List (Bounded F S) → ℕ
+  next_capacity first [] = first
+  next_capacity first (group ∷ []) = 2 * slot_count group.slots
+  next_capacity first (group ∷ next ∷ groups) = next_capacity first (next ∷ groups)
+
+  -- where a push puts its value: into the last group, if that has a free place, and else into a new
+  -- one behind all others
+  abbrev pub IsChosen : (ℕ → S → Type 0) → ℕ → ℕ
+      → List (Bounded F S) → List (Bounded F S) → Bounded F S → Type 0
+  IsChosen made first limit groups before into =
+      ((groups ≡ before ++ into ∷ []) × (held_in into < slot_count into.slots))
+      ⊎ ((groups ≡ before) × LastIsFull before
+      × IsNewSet made (next_capacity first before) limit into)
+
+  -- One push. The other groups, the place and the limit stay.
+  pub record GrowingPushes
+      (marks : S → ℕ → Woke → S → Type 0)
+      (made : ℕ → S → Type 0)
+      (first : ℕ)
+      (old : Growing F S)
+      (value : F)
+      (new : Growing F S)
+      : Type 0 where
+    pub before : List (Bounded F S)
+    pub into : Bounded F S
+    pub pushed_into : Bounded F S
+    pub goes_into : IsChosen made first old.limit old.groups.listed before into
+    pub pushed : Pushes marks into value pushed_into
+    pub now_listed : new.groups.listed ≡ before ++ pushed_into ∷ []
+    pub same_place : new.groups.place ≡ old.groups.place
+    pub same_limit : new.limit ≡ old.limit
+
+  -- nothing more goes in: as many futures are held as a set may hold, or the last group is full and
+  -- a new one would have too many slots
+  abbrev pub IsAtBound : List (Bounded F S) → Type 0
+  IsAtBound groups = (held_in_all groups ≡ MAX_HELD)
+      ⊎ (LastIsFull groups × (MAX_CAPACITY < next_capacity FIRST_GROUP groups))
+
+  -- these values were pushed, in order
+  abbrev pub PushesEach : (S → ℕ → Woke → S → Type 0) → (ℕ → S → Type 0)
+      → Growing F S → List F → Growing F S → Type 0
+  PushesEach marks made = FoldsTo (GrowingPushes marks made FIRST_GROUP)
+
+  -- nothing more goes into the set
+  abbrev pub SetRefuses : Growing F S → Type 0
+  SetRefuses set = IsAtBound set.groups.listed
+
+  -- a push into the set may be refused: it asks for memory for a group, or as many futures are held
+  -- as a set may hold
+  abbrev pub SetMayRefuse : Growing F S → Type 0
+  SetMayRefuse set = (held_in_all set.groups.listed ≡ MAX_HELD) ⊎ LastIsFull set.groups.listed
+
+  -- one group of so many slots, or none where that number is 0
+  abbrev pub IsNewGrowing : (ℕ → S → Type 0) → ℕ → ℕ → Growing F S → Type 0
+  IsNewGrowing made n limit new = ((n ≡ 0) × (new ≡ no_groups limit))
+      ⊎ ((0 < n)
+      × ((group : Bounded F S)
+      × IsNewSet made n limit group
+      × (new ≡ record { groups = record { listed = group ∷ []; place = 0 }; limit = limit })))
+
+  -- What one poll, from old to new, leaves of a set that grows.
+  pub record PollsGrowing
+      {A : Type 0}
+      (can_poll : F → Type 0)
+      (old : Growing F S)
+      (answer : Poll (Option A))
+      (new : Growing F S)
+      : Type 0 where
+    -- the end comes exactly where nothing is held
+    pub ends : (answer ≡ Ready None) ↔ (held_in_all old.groups.listed ≡ 0)
+    -- an output leaves one future fewer, and any other answer as many as before
+    pub count : held_in_all new.groups.listed + outputs_in answer ≡ held_in_all old.groups.listed
+    -- each future that is held can be polled again
+    pub pollable : EachHeld can_poll new.groups.listed
+    -- the limit stays
+    pub limit : new.limit ≡ old.limit
+
+  -- What a poll leaves of its task, which it took from cx to left: `registers` says what
+  -- registrations make of a task, and `passes` what the end does.
+  module _
+      {A : Type 0}
+      (asks_to_empty : Bounded F S → Poll (Option A) → Bounded F S → Type 0)
+      (stops : Bounded F S → Bounded F S → Type 0)
+      (needs : S → ℕ → Type 0)
+      (registers passes : Context → Context → Type 0)
+    where
+      -- one poll of one group
+      pub record PollsGroupTask
+          (old : Bounded F S)
+          (answer : Poll (Option A))
+          (new : Bounded F S)
+          (cx left : Context)
+          : Type 0 where
+        -- the task of a pending group hears of its source
+        pub covered : OnPending answer (Covers left (needs new.source))
+        -- the end leaves the task so
+        pub passed : IfReady answer (λ o. IfNone o (passes cx left))
+        -- where no further name came it was registered, and else asked to poll again
+        pub leaves : GroupLeavesTask asks_to_empty stops registers old answer new cx left
+        -- nothing of the task is lost
+        pub kept : Keeps cx left
+
+      -- one poll of groups
+      pub record PollsGroupsTask
+          (old : Groups (Bounded F S))
+          (answer : Poll (Option A))
+          (new : Groups (Bounded F S))
+          (cx left : Context)
+          : Type 0 where
+        -- the task of pending groups hears of each of their sources
+        pub covered : OnPending answer (EachCovered needs left new.listed)
+        -- the end leaves the task so
+        pub passed : IfReady answer (λ o. IfNone o (passes cx left))
+        -- where no group had a further name it was registered, and else asked to poll again
+        pub leaves : GroupsLeaveTask asks_to_empty stops registers old answer new cx left
+        -- nothing of the task is lost
+        pub kept : Keeps cx left
 
 module _ {F A S : Type 0} (polled : ℕ → F → Poll A → F → Type 0) where
   -- one of the futures that are held in these groups may give x
@@ -16,4 +204,4 @@ module _ {F A S : Type 0} (polled : ℕ → F → Poll A → F → Type 0) where
   -- what may come from the set: as many outputs as futures are held, each from one of them, and
   -- then the end
   abbrev pub ComesFromGroups : List (Bounded F S) → Runs A
-  ComesFromGroups groups = Gathers (AnyGroupMayGive groups) (all_held groups)
+  ComesFromGroups groups = Gathers (AnyGroupMayGive groups) (held_in_all groups)

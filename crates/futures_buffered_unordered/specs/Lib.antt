@@ -1,9 +1,9 @@
 pub mod Held
+pub mod Extended
 pub mod StreamAnswers
 pub mod FuturesUnorderedBounded
 pub mod Groups
 pub mod GroupsStep
 pub mod Interleaves
-pub mod SlotGroups
-pub mod SlotGroupsInvariant
 pub mod FuturesUnordered
+pub mod FuturesUnorderedInvariant

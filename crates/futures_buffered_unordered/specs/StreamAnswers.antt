@@ -1,5 +1,5 @@
 -- What `futures` asks of each poll of a stream.
-use Rattle.std.specs.Prelude.{ℕ, List, [], Option, IfSome, OnSome}
+use Rattle.std.specs.Prelude.{ℕ, [], Option, IfSome, OnSome}
 use Rattle.futures.specs.Task.{Covers, Keeps}
 use Rattle.futures.specs.Runs.{Runs, After, Within}
 use Rattle.futures.specs.Poll.{IfReady, OnPending}

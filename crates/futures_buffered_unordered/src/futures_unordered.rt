@@ -1,19 +1,24 @@
-//! A set of futures that grows by groups, yielded as they finish.
+//! A set of futures that grows by groups of slots, yielded as they finish.
 //!
-//! It holds its futures in groups of slots, and asks each group by a rule that says how one held value is polled. One registration of the task does for all groups.
-ghost use Rattle.std.specs.Prelude.{◌≡◌, ◌↔◌, ◌<◌, ◌≤◌, ◌+◌, ◌⊎◌, Err, IsTrue, OnOk, OnErr, IsOk, IsErr, IfOk, IfErr};
+//! Each group is a bounded set. A push goes into the last group, and makes one of twice its slots where it is full. A poll asks each group in turn, from the place where the poll before ended, until one gives an output. How one group is asked, `AskGroup` says. One registration of the task does for all groups.
+ghost use Rattle.std.specs.Prelude.{◌≡◌, ◌↔◌, ◌<◌, ◌≤◌, ◌+◌, ◌++◌, length, take, drop, IsTrue, Err, OnOk, OnErr, IsOk, IsErr, IfOk, IfErr, IfNone};
 ghost use Rattle.std.specs.Iterator.{IsFiniteIterable};
+ghost use Rattle.std.specs.List.{All};
+ghost use Rattle.futures.specs.Poll.{IfReady, OnPending};
+ghost use Rattle.futures.specs.Task.{Keeps};
 ghost use Rattle.futures_buffered_core.specs.Answer.{RefusesTooLarge};
-ghost use Rattle.futures_buffered_core.specs.Drawn.{Draws, SaysAtLeast};
-ghost use Rattle.futures_buffered_core.specs.ReadyShared.{IsNewShared, MarksShared, Shared};
-ghost use Rattle.futures_buffered_unordered.specs.FuturesUnorderedBounded.{AsksInPart, OnlyRegisters, PollAsksToEmpty, PollGives};
+ghost use Rattle.futures_buffered_core.specs.ReadyShared.{IsNewShared, MarksShared};
+ghost use Rattle.futures_buffered_core.specs.ReadySource.{WaitsAlike};
+ghost use Rattle.futures_buffered_unordered.specs.FuturesUnorderedBounded.{AsksInPart, IsNewSet, OnlyRegisters, PollAsksToEmpty, PollGives};
 ghost use Rattle.futures_buffered_unordered.specs.Groups.{GroupsGive};
-ghost use Rattle.futures_buffered_unordered.specs.SlotGroups.{EachHeld, Growing, GrowingPushes, IsAtBound, IsNewGrowing, LastIsFull, PollsGroupsTask, PollsGrowing, PushesEach, StopsAtBound, no_groups, all_held, capacity_of};
+ghost use Rattle.futures_buffered_unordered.specs.GroupsStep.{AsksOne, OneLeavesTask, next_place};
+ghost use Rattle.futures_buffered_unordered.specs.FuturesUnordered.{EachHeld, EachCovered, Growing, GrowingPushes, IsAtBound, IsNewGrowing, LastIsFull, PollsGroupsTask, PollsGrowing, PushesEach, no_groups, held_in_all, capacity_of, next_capacity, spare_places, SetRefuses, SetMayRefuse};
+ghost use Rattle.futures_buffered_unordered.specs.FuturesUnorderedInvariant.{AddsGroup, PushesLast};
+ghost use Rattle.futures_buffered_unordered.specs.Extended.{ExtendsUntil, GrowsByAllOf, HoldsAllOf, Outgrows};
 
+use crate::ask_group::{AskGroup, ByRule};
 use crate::futures_unordered_bounded::{FuturesUnorderedBounded, POLL_LIMIT};
 use crate::poll_one::PollOne;
-use crate::slot_groups::{AskGroup, SlotGroups};
-pub use crate::slot_groups::{FIRST_GROUP, MAX_HELD};
 use futures::task::{Context, Poll};
 use futures_buffered_core::ready_core::{MAX_CAPACITY, NewFault};
 use futures_buffered_core::ready_shared::SharedReady;
@@ -21,62 +26,71 @@ use futures_buffered_core::ready_source::NewSource;
 use std::alloc::Global;
 use std::marker::Model;
 
-/// Futures in groups of slots.
+/// How many slots the first group has, where no number was chosen.
+pub const FIRST_GROUP: usize = 32;
+
+/// How many values all groups hold, at most.
+pub const MAX_HELD: usize = usize::MAX / 2;
+
+const _: () = prove!(FIRST_GROUP == 32);
+
+/// Futures in groups of slots, or streams.
 ///
-/// A contract sees the groups, each a bounded set, the place where the next poll begins, and the limit of names that one poll takes from each group. Only the calls that make a set and a push that makes a group take memory. The calls wait for nobody where those of the source do not.
+/// A contract sees the groups, each a bounded set, the place where the next poll begins, and the limit of names that one poll takes from each group. Only the calls that make a set and a push that makes a group take memory. The calls wait for nobody where those of the source do not. A merge that grows is made of one too.
 #[derive(Drop)]
 pub struct FuturesUnordered<F: Drop, S: NewSource> {
-    groups: SlotGroups<F, S>,
+    groups: Vec<FuturesUnorderedBounded<F, S>>,
+    place: usize,
+    held: usize,
+    limit: usize,
+    env: S::Env,
+    alloc: Global,
 }
 
 impl<F: Drop, S: NewSource> Model for FuturesUnordered<F, S> {
-    ghost use Rattle.futures_buffered_unordered.specs.SlotGroups.{Growing, growing_code};
+    ghost use Rattle.futures_buffered_unordered.specs.FuturesUnordered.{Growing, growing_code};
 
     ghost Value = { Growing F S };
 
     ghost coded = { growing_code F.code S.code };
 
-    ghost view = { λ s. s.groups };
+    ghost use Rattle.futures_buffered_unordered.specs.FuturesUnorderedInvariant.{KeepsGroups};
+
+    ghost view = { λ s. record {
+      groups = record { listed = s.groups.items; place = s.place };
+      limit = s.limit;
+    } };
+
+    ghost invariant = { λ s. KeepsGroups S.needs
+        (record { listed = s.groups.items; place = s.place }) s.limit s.held };
 }
 
-// Asks a group by a rule for one held value.
-#[derive(Drop)]
-struct ByRule<'r, R>(&'r R);
-
-impl<F: Drop, S: NewSource, R: PollOne<F, S::Waker>> AskGroup<F, S> for ByRule<'_, R> {
-    ghost use Rattle.std.proofs.Common.{◌≡◌, refl, ◌∙◌};
-
-    type Output = R::Output;
-
-    ghost can_poll = { R.can_poll };
-
-    ghost asks = { PollGives R.polled S.steps };
-
-    ghost asks_to_empty = { PollAsksToEmpty R.polled S.steps };
-
-    ghost stops = { AsksInPart R.polled S.steps };
-
-    ghost passes = { λ old new. new ≡ old };
-
-    fn ask(
-        &self,
-        group: &mut FuturesUnorderedBounded<F, S>,
-        cx: &mut Context<'_>,
-        is_registered: bool,
-    ) -> Poll<Option<R::Output>> {
-        if is_registered {
-            group.poll_registered(self.0, cx)
-        } else {
-            group.poll_with(self.0, cx)
-        }
-    }
-
-    ghost passes_none = { λ cx. refl };
-
-    ghost passes_more = { λ a b c first then. then ∙ first };
+// Drops the group at this place. A group ends once, so this is kept out of the way of a poll.
+#[cold]
+#[inline(never)]
+fn drop_group<G: Drop>(groups: &mut Vec<G>, place: usize)
+    requires { place < length groups.old.items }
+    ensures { groups.new.items ≡ take place groups.old.items ++ drop (place + 1) groups.old.items }
+{
+    let _ended = groups.remove(place);
 }
 
 impl<F: Drop, S: NewSource> FuturesUnordered<F, S> {
+    /// No groups, over sources that will be made by `env`. Takes no memory.
+    pub fn without_groups(env: S::Env, alloc: Global, limit: usize) -> Self
+        requires { 1 ≤ limit }
+        ensures { result ≡ no_groups limit }
+    {
+        FuturesUnordered {
+            groups: Vec::new(alloc),
+            place: 0,
+            held: 0,
+            limit,
+            env,
+            alloc,
+        }
+    }
+
     /// An empty set over sources that are made by `env`, which it keeps. It has one group of `n` slots, or none where `n` is 0.
     ///
     /// Takes time and memory in proportion to `n`. `TooLarge` where `n` is above `MAX_CAPACITY`, and `Memory` where a request for memory was refused.
@@ -95,91 +109,292 @@ impl<F: Drop, S: NewSource> FuturesUnordered<F, S> {
         ensures refuses { RefusesTooLarge n result }
         ensures none { n ≡ 0 → IsOk result }
     {
-        let groups = SlotGroups::over_limit(env, alloc, n, limit)?;
-        Ok(FuturesUnordered { groups })
+        let mut groups = Self::without_groups(env, alloc, limit);
+        if n > 0 {
+            groups.add_group(n)?;
+        }
+        Ok(groups)
     }
 
-    /// The number of futures held. Takes the same time at any number of groups.
+    /// The number of values held. Takes the same time at any number of groups.
     pub fn len(&self) -> usize
-        ensures { result ≡ all_held self.now.groups.listed }
+        ensures { result ≡ held_in_all self.now.groups.listed }
     {
-        self.groups.len()
+        self.held
     }
 
-    /// Whether no future is held. Takes the same time at any number of groups.
+    /// Whether no value is held. Takes the same time at any number of groups.
     pub fn is_empty(&self) -> bool
-        ensures { IsTrue result ↔ (all_held self.now.groups.listed ≡ 0) }
+        ensures { IsTrue result ↔ (held_in_all self.now.groups.listed ≡ 0) }
     {
-        self.groups.is_empty()
+        self.held == 0
     }
 
     /// How many names one poll takes from each group, at most. It never changes.
     pub fn limit(&self) -> usize
         ensures { result ≡ self.now.limit }
     {
-        self.groups.limit()
+        self.limit
     }
 
-    /// How many futures it has room for: of several groups, what they hold and the free places of the last one; of one, its slots; without groups, 0.
+    /// How many values there is room for: of several groups, what they hold and the free places of the last one; of one, its slots; without groups, 0.
     ///
     /// Takes the same time at any number of groups.
     pub fn capacity(&self) -> usize
         ensures { result ≡ capacity_of self.now.groups.listed }
     {
-        self.groups.capacity()
+        match self.groups.len() {
+            0 => 0,
+            1 => self.groups[0].capacity(),
+            _ => self.held + self.spare_places(),
+        }
+    }
+
+    // The free places of the last group, where a push goes.
+    fn spare_places(&self) -> usize
+        ensures value { result ≡ spare_places self.now.groups.listed }
+        ensures few { result ≤ MAX_CAPACITY }
+    {
+        let groups = self.groups.len();
+        if groups == 0 {
+            return 0;
+        }
+        let last = &self.groups[groups - 1];
+        last.capacity() - last.len()
+    }
+
+    // The number of slots of the group that a push makes.
+    fn next_capacity(&self) -> usize
+        ensures value { result ≡ next_capacity FIRST_GROUP self.now.groups.listed }
+        ensures some { 0 < result }
+    {
+        let groups = self.groups.len();
+        if groups == 0 {
+            return FIRST_GROUP;
+        }
+        2 * self.groups[groups - 1].capacity()
+    }
+
+    // An empty group beside the others.
+    fn make_group(&mut self, capacity: usize) -> Result<FuturesUnorderedBounded<F, S>, NewFault>
+        ensures new { IfOk result (IsNewSet S.made capacity self.old.limit) }
+        ensures beside { IfOk result (λ group.
+            All (λ other. WaitsAlike S.needs other.source group.source)
+            self.old.groups.listed) }
+        ensures same { self.new ≡ self.old }
+        ensures refuses { RefusesTooLarge capacity result }
+    {
+        let groups = self.groups.len();
+        if groups == 0 {
+            return FuturesUnorderedBounded::with_new_source(
+                &self.env, self.alloc, capacity, self.limit,
+            );
+        }
+        self.groups[groups - 1].make_sibling(self.alloc, capacity)
+    }
+
+    // Adds an empty group behind all others. Both growths are made before the list changes.
+    fn add_group(&mut self, capacity: usize) -> Result<(), NewFault>
+        requires some { 0 < capacity }
+        requires full { LastIsFull self.old.groups.listed }
+        ensures added { OnOk result (AddsGroup S.made capacity self.old self.new) }
+        ensures same { OnErr result (self.new ≡ self.old) }
+        ensures refuses { RefusesTooLarge capacity result }
+    {
+        let group = self.make_group(capacity)?;
+        if self.groups.reserve(1).is_err() {
+            return Err(NewFault::Memory);
+        }
+        self.groups.push_reserved(group);
+        Ok(())
+    }
+
+    // Puts the value into the last group, which has a free place.
+    fn push_last(&mut self, value: F)
+        requires room { 0 < spare_places self.old.groups.listed }
+        requires few { held_in_all self.old.groups.listed < MAX_HELD }
+        ensures pushed { PushesLast S.marks self.old value self.new }
+        ensures count { held_in_all self.new.groups.listed ≡ held_in_all self.old.groups.listed + 1 }
+    {
+        let last = self.groups.len() - 1;
+        self.groups[last].push(value);
+        self.held += 1;
     }
 
     // The groups, oldest first.
     pub(crate) fn queues(&self) -> &Vec<FuturesUnorderedBounded<F, S>> {
-        self.groups.queues()
+        &self.groups
     }
 
-    /// Why a push that was refused just now was refused: `TooLarge` where nothing more goes in, and else `Memory`.
+    /// Whether nothing more goes in: `MAX_HELD` are held, or the group that a push would make has more than `MAX_CAPACITY` slots. A push is refused then, and else only where a request for memory is.
     ///
     /// Takes the same time at any number of groups.
-    pub fn refusal(&self) -> NewFault
-        ensures { (result ≡ NewFault.TooLarge) ↔ IsAtBound self.now.groups.listed }
+    pub fn is_at_bound(&self) -> bool
+        ensures { IsTrue result ↔ IsAtBound self.now.groups.listed }
     {
-        self.groups.refusal()
+        self.held == MAX_HELD || (self.spare_places() == 0 && self.next_capacity() > MAX_CAPACITY)
     }
 
     /// Puts the value into the last group. Where that is full, or there is none, a group is made behind it: of twice as many slots, or of `FIRST_GROUP`.
     ///
-    /// The value comes back, and nothing has changed, where `MAX_HELD` futures are held, where the new group would have more than `MAX_CAPACITY` slots, and where a request for memory was refused. Takes the same time at any capacity where the last group has a free place, and then no memory; else time and memory in proportion to the new group. Polls nothing, and wakes nobody.
+    /// The value comes back, and nothing has changed, where `MAX_HELD` values are held, where the new group would have more than `MAX_CAPACITY` slots, and where a request for memory was refused. Takes the same time at any capacity where the last group has a free place, and then no memory; else time and memory in proportion to the new group. Polls nothing, and wakes nobody.
     pub fn push(&mut self, value: F) -> Result<(), F>
         ensures pushed { OnOk result
             (GrowingPushes S.marks S.made FIRST_GROUP self.old value self.new) }
         ensures count { OnOk result
-            (all_held self.new.groups.listed ≡ all_held self.old.groups.listed + 1) }
+            (held_in_all self.new.groups.listed ≡ held_in_all self.old.groups.listed + 1) }
         ensures back { IfErr result (λ back. (back ≡ value) × (self.new ≡ self.old)) }
-        ensures room { OnErr result ((all_held self.old.groups.listed ≡ MAX_HELD)
-            ⊎ LastIsFull self.old.groups.listed) }
+        ensures room { OnErr result (SetMayRefuse self.old) }
         ensures large { IsAtBound self.old.groups.listed → IsErr result }
     {
-        self.groups.push(value)
+        if self.held == MAX_HELD {
+            return Err(value);
+        }
+        if self.spare_places() == 0 {
+            let capacity = self.next_capacity();
+            let Ok(()) = self.add_group(capacity) else {
+                return Err(value);
+            };
+        }
+        self.push_last(value);
+        Ok(())
     }
 
-    /// As `push`, for a caller that has no use for a future that is refused: it is dropped, nothing else has changed, and the error says why. So `?` takes it.
+    /// As `push`, for a caller that has no use for a value that is refused: it is dropped, nothing else has changed, and the error says why. So `?` takes it.
     pub fn add(&mut self, value: F) -> Result<(), NewFault>
         ensures pushed { OnOk result
             (GrowingPushes S.marks S.made FIRST_GROUP self.old value self.new) }
         ensures count { OnOk result
-            (all_held self.new.groups.listed ≡ all_held self.old.groups.listed + 1) }
+            (held_in_all self.new.groups.listed ≡ held_in_all self.old.groups.listed + 1) }
         ensures same { OnErr result (self.new ≡ self.old) }
-        ensures room { OnErr result ((all_held self.old.groups.listed ≡ MAX_HELD)
-            ⊎ LastIsFull self.old.groups.listed) }
+        ensures room { OnErr result (SetMayRefuse self.old) }
         ensures large { (result ≡ Err NewFault.TooLarge) ↔ IsAtBound self.old.groups.listed }
     {
-        self.groups.add(value)
+        if self.push(value).is_ok() {
+            return Ok(());
+        }
+        Err(if self.is_at_bound() {
+            NewFault::TooLarge
+        } else {
+            NewFault::Memory
+        })
     }
 
-    /// Drops each future that is held, with the groups: the set is as `new` made it, but that its sources are made as before.
-    ///
-    /// Takes time in proportion to the slots of all groups, and no memory. Wakes nobody.
+    /// Pushes each item, in order, as `push` does. The first that is refused comes back; those before it stay, and the iterator is asked for no further one.
+    pub fn extend<I: IntoIterator<Item = F>>(&mut self, iter: I) -> Result<(), F>
+    where
+        requires { IsFiniteIterable I.into_iter_gives I.IntoIter.can_next
+            I.IntoIter.remaining iter }
+        ensures all { OnOk result (HoldsAllOf I.into_iter_gives I.IntoIter.next_gives iter
+            (PushesEach S.marks S.made self.old) self.new) }
+        ensures stops { IfErr result (λ back. ExtendsUntil I.into_iter_gives
+            I.IntoIter.next_gives iter (GrowingPushes S.marks S.made FIRST_GROUP)
+            (λ stopped new. SetMayRefuse stopped × (new ≡ stopped))
+            self.old back self.new) }
+    {
+        for item in iter {
+            self.push(item)?;
+        }
+        Ok(())
+    }
+
+    /// Drops each value that is held, with the groups. So it takes time in proportion to their slots, and no memory, and wakes nobody.
     pub fn clear(&mut self)
         ensures { self.new ≡ no_groups self.old.limit }
     {
         self.groups.clear();
+        self.place = 0;
+        self.held = 0;
+    }
+
+    // The place of the group that is asked next.
+    fn next_place(&self) -> usize
+        requires { 0 < length self.now.groups.listed }
+        ensures value { result ≡ next_place self.now.groups }
+        ensures below { result < length self.now.groups.listed }
+    {
+        if self.place < self.groups.len() {
+            self.place
+        } else {
+            0
+        }
+    }
+
+    // Asks the group at the place, and goes on to the next: a group that has ended leaves, unless it is the last.
+    fn ask_one<R: AskGroup<F, S>>(
+        &mut self,
+        rule: &R,
+        cx: &mut Context<'_>,
+        is_registered: bool,
+    ) -> Poll<Option<R::Output>>
+        requires some { 0 < length self.old.groups.listed }
+        requires pollable { EachHeld R.can_poll self.old.groups.listed }
+        requires registered { IsTrue is_registered →
+            EachCovered S.needs cx.old self.old.groups.listed }
+        ensures asked { AsksOne R.asks self.old.groups result self.new.groups }
+        ensures limit { self.new.limit ≡ self.old.limit }
+        ensures pollable { EachHeld R.can_poll self.new.groups.listed }
+        ensures covered { OnPending result (EachCovered S.needs cx.new self.new.groups.listed) }
+        ensures still_covered { IsTrue is_registered →
+            EachCovered S.needs cx.new self.new.groups.listed }
+        ensures passes { IfReady result (λ o. IfNone o (R.passes cx.old cx.new)) }
+        ensures leaves { OneLeavesTask R.asks R.asks_to_empty R.stops
+            (OnlyRegisters S.registers_poll)
+            self.old.groups result self.new.groups cx.old cx.new }
+        ensures kept { Keeps cx.old cx.new }
+    {
+        let place = self.next_place();
+        let before = self.groups[place].len();
+        let answer = rule.ask(&mut self.groups[place], cx, is_registered);
+        self.held -= before - self.groups[place].len();
+        match &answer {
+            Poll::Pending => self.place = place + 1,
+            Poll::Ready(output) => {
+                if output.is_some() {
+                    self.place = place;
+                } else if place + 1 == self.groups.len() {
+                    self.place = 0;
+                } else {
+                    drop_group(&mut self.groups, place);
+                    self.place = place;
+                }
+            }
+        }
+        answer
+    }
+
+    /// One poll, where `rule` says how a group is asked: each group that stands as the poll begins is asked once, in turn, until one gives an output.
+    ///
+    /// `Ready(None)` where each group answered the end. A group that answered the end leaves, unless it is the last. Takes no memory. Takes time in proportion to the number of groups, besides what asking them takes.
+    pub fn poll_groups<R: AskGroup<F, S>>(
+        &mut self,
+        rule: &R,
+        cx: &mut Context<'_>,
+    ) -> Poll<Option<R::Output>>
+        requires { EachHeld R.can_poll self.old.groups.listed }
+        ensures polled { GroupsGive R.asks self.old.groups result self.new.groups }
+        ensures limit { self.new.limit ≡ self.old.limit }
+        ensures pollable { EachHeld R.can_poll self.new.groups.listed }
+        ensures task { PollsGroupsTask R.asks_to_empty R.stops S.needs
+            (OnlyRegisters S.registers_poll) R.passes
+            self.old.groups result self.new.groups cx.old cx.new }
+    {
+        let mut is_registered = false;
+        for _asked in 0..self.groups.len() {
+            match self.ask_one(rule, cx, is_registered) {
+                Poll::Pending => is_registered = true,
+                Poll::Ready(answer) => {
+                    if let Some(output) = answer {
+                        return Poll::Ready(Some(output));
+                    }
+                }
+            }
+        }
+        if is_registered {
+            Poll::Pending
+        } else {
+            Poll::Ready(None)
+        }
     }
 
     /// One poll of the set, where `rule` says how one held value is polled.
@@ -198,7 +413,7 @@ impl<F: Drop, S: NewSource> FuturesUnordered<F, S> {
             (AsksInPart R.polled S.steps) S.needs (OnlyRegisters S.registers_poll)
             (λ was now. now ≡ was) self.old.groups result self.new.groups cx.old cx.new }
     {
-        self.groups.poll_groups(&ByRule(rule), cx)
+        self.poll_groups(&ByRule(rule), cx)
     }
 }
 
@@ -209,9 +424,7 @@ impl<F: Drop> FuturesUnordered<F, SharedReady> {
     pub fn new(alloc: Global) -> Self
         ensures { result ≡ no_groups POLL_LIMIT }
     {
-        FuturesUnordered {
-            groups: SlotGroups::without_groups((), alloc, POLL_LIMIT),
-        }
+        Self::without_groups((), alloc, POLL_LIMIT)
     }
 
     /// An empty set with one group of `n` slots, or none where `n` is 0, whose values are woken from any thread. It is `over` with shared sources, and refuses as `over` does.
@@ -240,18 +453,12 @@ impl<F: Drop> FuturesUnordered<F, SharedReady> {
     where
         requires { IsFiniteIterable I.into_iter_gives I.IntoIter.can_next
             I.IntoIter.remaining iter }
-        ensures holds { IfOk result (λ set. (items : List F) × (least : ℕ)
-            × ((start : Growing F Shared)
-            × Draws I.into_iter_gives I.IntoIter.next_gives iter items
-            × SaysAtLeast I.into_iter_gives I.IntoIter.remaining iter least
-            × IsNewGrowing IsNewShared (max least FIRST_GROUP) POLL_LIMIT start
-            × PushesEach MarksShared IsNewShared start items set)) }
-        ensures large { result ≡ Err NewFault.TooLarge → (least : ℕ)
-            × SaysAtLeast I.into_iter_gives I.IntoIter.remaining iter least
-            × ((MAX_CAPACITY < max least FIRST_GROUP) ⊎ ((start : Growing F Shared)
-            × IsNewGrowing IsNewShared (max least FIRST_GROUP) POLL_LIMIT start
-            × StopsAtBound I.into_iter_gives I.IntoIter.next_gives iter
-            MarksShared IsNewShared start)) }
+        ensures holds { IfOk result (GrowsByAllOf I.into_iter_gives I.IntoIter.next_gives iter
+            I.IntoIter.remaining FIRST_GROUP (λ n. IsNewGrowing IsNewShared n POLL_LIMIT)
+            (GrowingPushes MarksShared IsNewShared FIRST_GROUP)) }
+        ensures large { result ≡ Err NewFault.TooLarge
+            → Outgrows I.into_iter_gives I.IntoIter.next_gives iter I.IntoIter.remaining FIRST_GROUP (λ n. IsNewGrowing IsNewShared n POLL_LIMIT)
+            (GrowingPushes MarksShared IsNewShared FIRST_GROUP) SetRefuses }
     {
         let iter = iter.into_iter();
         let (least, _most) = iter.size_hint();
@@ -262,9 +469,9 @@ impl<F: Drop> FuturesUnordered<F, SharedReady> {
         };
         let mut set = Self::with_capacity(alloc, first)?;
         for item in iter {
-            let Ok(()) = set.push(item) else {
-                return Err(set.refusal());
-            };
+            if let Err(fault) = set.add(item) {
+                return Err(fault);
+            }
         }
         Ok(set)
     }

@@ -1,17 +1,19 @@
 //! A set of as many futures as it has slots, yielded as they finish.
 //!
 //! Each future stands in a slot. A push marks its slot, and a future's waker marks it again. A poll takes the names of marked slots from the set's source, at most as many as its limit, and polls what these slots hold until one is ready. A slot that nobody marked costs nothing.
-ghost use Rattle.std.specs.Prelude.{◌≡◌, ◌<◌, ◌≤◌, ◌+◌, ◌==◌, ◌↔◌, ℕ, List, IfOk, IfErr, OnOk, IsSome, IsTrue};
+ghost use Rattle.std.specs.Prelude.{◌≡◌, ◌<◌, ◌≤◌, ◌+◌, ◌==◌, ◌↔◌, List, IfOk, IfErr, OnOk, IsSome, IsTrue};
 ghost use Rattle.futures.specs.Task.{Covers};
 ghost use Rattle.futures.specs.Poll.{IfReady};
 ghost use Rattle.std.specs.Iterator.{IsFiniteIterable};
+ghost use Rattle.std.specs.List.{FoldsTo};
 ghost use Rattle.futures_buffered_core.specs.Answer.{RefusesTooLarge};
-ghost use Rattle.futures_buffered_core.specs.Drawn.{Draws, DrawsMoreThan};
+ghost use Rattle.futures_buffered_core.specs.Drawn.{DrawsMoreThan};
 ghost use Rattle.futures_buffered_core.specs.ReadyShared.{IsNewShared, MarksShared};
 ghost use Rattle.futures_buffered_core.specs.ReadySource.{WaitsAlike};
 ghost use Rattle.futures_buffered_core.specs.SlotMap.{value_in, held_count, slot_count, no_slots, IsFull};
 ghost use Rattle.futures_buffered_unordered.specs.Held.{AllHeld};
 ghost use Rattle.futures_buffered_unordered.specs.FuturesUnorderedBounded.{AsksSet, AsksSetTask, AsksUntil, HoldsEach, IsNewSet, LeavesTask, PollGives, PollsSet, PollsSetTask, Pushes, emptied, with_empty_slot, with_source};
+ghost use Rattle.futures_buffered_unordered.specs.Extended.{ExtendsUntil, HoldsAllOf};
 
 use crate::poll_one::PollOne;
 use futures::task::{Context, Poll};
@@ -130,9 +132,8 @@ impl<F: Drop, S: ReadySource> FuturesUnorderedBounded<F, S> {
         S: NewSource,
         requires { IsFiniteIterable I.into_iter_gives I.IntoIter.can_next
             I.IntoIter.remaining iter }
-        ensures holds { IfOk result (λ set. (items : List F)
-            × Draws I.into_iter_gives I.IntoIter.next_gives iter items
-            × HoldsEach S.made S.marks POLL_LIMIT items set) }
+        ensures holds { IfOk result (HoldsAllOf I.into_iter_gives I.IntoIter.next_gives iter
+            (HoldsEach S.made S.marks POLL_LIMIT)) }
         ensures fits { IfOk result (λ set. slot_count set.slots ≤ MAX_CAPACITY) }
         ensures large { result ≡ Err NewFault.TooLarge
             → DrawsMoreThan I.into_iter_gives I.IntoIter.next_gives iter MAX_CAPACITY }
@@ -152,9 +153,8 @@ impl<F: Drop, S: ReadySource> FuturesUnorderedBounded<F, S> {
         requires finite { IsFiniteIterable I.into_iter_gives I.IntoIter.can_next
             I.IntoIter.remaining iter }
         requires some { 1 ≤ limit }
-        ensures holds { IfOk result (λ set. (items : List F)
-            × Draws I.into_iter_gives I.IntoIter.next_gives iter items
-            × HoldsEach S.made S.marks limit items set) }
+        ensures holds { IfOk result (HoldsAllOf I.into_iter_gives I.IntoIter.next_gives iter
+            (HoldsEach S.made S.marks limit)) }
         ensures fits { IfOk result (λ set. slot_count set.slots ≤ MAX_CAPACITY) }
         ensures large { result ≡ Err NewFault.TooLarge
             → DrawsMoreThan I.into_iter_gives I.IntoIter.next_gives iter MAX_CAPACITY }
@@ -234,6 +234,24 @@ impl<F: Drop, S: ReadySource> FuturesUnorderedBounded<F, S> {
             Ok(()) => {}
             Err(_) => unreachable!(),
         }
+    }
+
+    /// Pushes each item, in order, as `try_push` does. The first for which there is no free slot comes back; those before it stay, and the iterator is asked for no further one.
+    pub fn extend<I: IntoIterator<Item = F>>(&mut self, iter: I) -> Result<(), F>
+    where
+        requires { IsFiniteIterable I.into_iter_gives I.IntoIter.can_next
+            I.IntoIter.remaining iter }
+        ensures all { OnOk result (HoldsAllOf I.into_iter_gives I.IntoIter.next_gives iter
+            (FoldsTo (Pushes S.marks) self.old) self.new) }
+        ensures stops { IfErr result (λ back. ExtendsUntil I.into_iter_gives
+            I.IntoIter.next_gives iter (Pushes S.marks)
+            (λ stopped new. IsFull stopped.slots × (new ≡ stopped)) self.old back self.new) }
+        ensures capacity { slot_count self.new.slots ≡ slot_count self.old.slots }
+    {
+        for item in iter {
+            self.try_push(item)?;
+        }
+        Ok(())
     }
 
     /// Marks a slot by hand, whether it holds a future or not. Wakes nobody, and takes as long as a mark of the source.
@@ -406,9 +424,8 @@ impl<F: Drop> FuturesUnorderedBounded<F, SharedReady> {
     where
         requires { IsFiniteIterable I.into_iter_gives I.IntoIter.can_next
             I.IntoIter.remaining iter }
-        ensures holds { IfOk result (λ set. (items : List F)
-            × Draws I.into_iter_gives I.IntoIter.next_gives iter items
-            × HoldsEach IsNewShared MarksShared POLL_LIMIT items set) }
+        ensures holds { IfOk result (HoldsAllOf I.into_iter_gives I.IntoIter.next_gives iter
+            (HoldsEach IsNewShared MarksShared POLL_LIMIT)) }
         ensures fits { IfOk result (λ set. slot_count set.slots ≤ MAX_CAPACITY) }
         ensures large { result ≡ Err NewFault.TooLarge
             → DrawsMoreThan I.into_iter_gives I.IntoIter.next_gives iter MAX_CAPACITY }

@@ -3,7 +3,7 @@ ghost use Rattle.std.specs.Prelude.{◌≡◌, ◌↔◌};
 ghost use Rattle.futures_buffered_unordered.specs.StreamAnswers.{StreamAnswers};
 ghost use Rattle.futures_buffered_unordered.specs.FuturesUnorderedBounded.{AsksInPart, OnlyRegisters, PollAsksToEmpty, PollGives};
 ghost use Rattle.futures_buffered_unordered.specs.Groups.{GroupsGive};
-ghost use Rattle.futures_buffered_unordered.specs.SlotGroups.{AnyNeeds, EachHeld, PollsGroupsTask, PollsGrowing, all_held};
+ghost use Rattle.futures_buffered_unordered.specs.FuturesUnordered.{AnyNeeds, EachHeld, PollsGroupsTask, PollsGrowing, held_in_all};
 ghost use Rattle.futures_buffered_unordered.specs.FuturesUnordered.{ComesFromGroups};
 
 use crate::fused::{FusedStream, SizeHint};
@@ -45,7 +45,7 @@ impl<F: SlotFuture<S::Waker>, S: NewSource> Stream for FuturesUnordered<F, S> {
 impl<F: SlotFuture<S::Waker>, S: NewSource> FusedStream for FuturesUnordered<F, S> {
     ghost use Rattle.std.specs.Prelude.{◌≡◌};
 
-    ghost is_over = { λ set. all_held set.groups.listed ≡ 0 };
+    ghost is_over = { λ set. held_in_all set.groups.listed ≡ 0 };
 
     fn is_terminated(&self) -> bool {
         self.is_empty()
@@ -56,7 +56,7 @@ impl<F: Drop, S: NewSource> SizeHint for FuturesUnordered<F, S> {
     ghost use Rattle.std.specs.Prelude.{Some};
 
     ghost items_left = { λ set.
-        (all_held set.groups.listed, Some (all_held set.groups.listed)) };
+        (held_in_all set.groups.listed, Some (held_in_all set.groups.listed)) };
 
     fn size_hint(&self) -> (usize, Option<usize>) {
         (self.len(), Some(self.len()))

@@ -6,10 +6,11 @@
 //! - `poll_one`: `PollOne`, the rule by which one held value is polled, and `PollFuture`, the rule for `SlotFuture`s.
 //! - `fused`: the traits `FusedStream`, `FusedFuture` and `SizeHint`, by which a type says whether it has ended and how much is left.
 //! - `futures_unordered_bounded`: `FuturesUnorderedBounded`, as many futures as it has slots, yielded as they finish; `bounded_stream` is the same set as a stream.
-//! - `slot_groups`: `SlotGroups`, values in groups of slots, each twice as large as the one before, and `AskGroup`, how a poll asks one.
-//! - `futures_unordered`: `FuturesUnordered`, any number of futures, yielded as they finish; `growing_stream` is the same set as a stream.
+//! - `ask_group`: `AskGroup`, how a poll asks one of several groups.
+//! - `futures_unordered`: `FuturesUnordered`, any number of futures in groups of slots, each twice as large as the one before, yielded as they finish; `growing_stream` is the same set as a stream.
 #![tactic(auto)]
 
+pub mod ask_group;
 mod bounded_stream;
 pub mod fused;
 pub mod futures_unordered;
@@ -17,7 +18,6 @@ pub mod futures_unordered_bounded;
 mod growing_stream;
 pub mod poll_one;
 pub mod slot_future;
-pub mod slot_groups;
 
 pub use fused::{FusedFuture, FusedStream, SizeHint};
 pub use futures_unordered::FuturesUnordered;

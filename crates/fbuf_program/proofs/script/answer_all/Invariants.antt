@@ -6,7 +6,7 @@ use Rattle.fbuf_program.proofs.script.answer_all.Given as goal
 abbrev pub invariant-loop-line : goal.invariant-loop-line
 invariant-loop-line g l =
     record {
-      so_far : RepliesSoFar l.bytes l.rest l.stage (g.W.Write.contents l.fn.output.inner)
+      so_far : RepliesSoFar l.bytes l.rest l.session (g.W.Write.contents l.fn.output.inner)
           (g.W.Write.contents l.output.inner) l.replies.items;
       unfailed : l.output.failed ≡ l.fn.output.failed;
       kept : Keeps l.fn.cx l.cx;

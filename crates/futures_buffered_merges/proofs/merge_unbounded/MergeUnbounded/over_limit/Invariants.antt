@@ -1,4 +1,4 @@
-use Rattle.futures_buffered_unordered.specs.SlotGroups.{PushesEach}
+use Rattle.futures_buffered_unordered.specs.FuturesUnordered.{PushesEach}
 use Rattle.futures_buffered_merges.proofs.merge_unbounded.MergeUnbounded.over_limit.Given as goal
 
 abbrev pub invariant-loop-stream : goal.invariant-loop-stream

@@ -1,5 +1,5 @@
 use Rattle.futures_buffered_unordered.proofs.StreamAnswersLemmas.{after_item, while_pending}
-use Rattle.futures_buffered_unordered.specs.SlotGroups.{EachHeld}
+use Rattle.futures_buffered_unordered.specs.FuturesUnordered.{EachHeld}
 use Rattle.futures_buffered_merges.proofs.MergeUnboundedLemmas.{ends_of, group_value, group_rest, group_same, covered_any}
 use Rattle.futures_buffered_merges.proofs.merge_unbounded.MergeUnboundedStream.poll_next.Goals as goal
 

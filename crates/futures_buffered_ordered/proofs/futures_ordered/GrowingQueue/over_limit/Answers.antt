@@ -1,5 +1,5 @@
 use Rattle.std.proofs.Common.{sym, subst}
-use Rattle.futures_buffered_unordered.specs.SlotGroups.{Growing, IsNewGrowing}
+use Rattle.futures_buffered_unordered.specs.FuturesUnordered.{Growing, IsNewGrowing}
 use Rattle.futures_buffered_ordered.specs.declared.numbered.Numbered.{Numbered}
 use Rattle.futures_buffered_ordered.specs.FuturesOrdered.{held_in_groups, held_in_groups_with}
 use Rattle.futures_buffered_ordered.proofs.FuturesOrderedLemmas.{new_held, new_numbers}

@@ -12,7 +12,6 @@ returns-in_err-add_back-clause-stops g c =
       came = search rules;
       stopped = c.loop-item.self.queue;
       added = c.loop-item.invariant.2;
-      may_refuse = c.in_err-add_back.ensures.back.may_refuse;
-      stays = c.in_err-add_back.ensures.back.stays;
+      refused = (c.in_err-add_back.ensures.back.may_refuse, c.in_err-add_back.ensures.back.stays);
     } in
     search (rules, stops)

@@ -3,12 +3,12 @@ use Rattle.std.proofs.lemmas.Fn.{FoldsTo-push}
 use Rattle.futures_buffered_table.specs.declared.answer.TheConstants.{MAX_CAPACITY}
 use Rattle.futures_buffered_core.specs.Drawn.{Draws, DrawsAndOne, SaysAtLeast}
 use Rattle.futures_buffered_core.specs.ReadyShared.{IsNewShared, MarksShared}
-use Rattle.futures_buffered_unordered.specs.SlotGroups.{GrowingPushes, IsAtBound, IsNewGrowing}
+use Rattle.futures_buffered_unordered.specs.FuturesUnordered.{GrowingPushes, IsAtBound, IsNewGrowing}
 use Rattle.futures_buffered_unordered.proofs.futures_unordered.FuturesUnordered+F+SharedReady.from_iter.Goals.{then-least-gt-FIRST_GROUP, else-least-gt-FIRST_GROUP}
 use Rattle.futures_buffered_unordered.proofs.futures_unordered.FuturesUnordered+F+SharedReady.from_iter.Goals as goal
 
 pub loop-item-preserved : goal.loop-item-preserved
-loop-item-preserved g c = (search rules, search rules, FoldsTo-push (GrowingPushes MarksShared IsNewShared _) c.in_ok-set.set c.loop-item.yielded c.loop-item.set c.in-Some.item c.push.new.self c.loop-item.invariant.2 c.in-Ok.ensures.pushed)
+loop-item-preserved g c = (search rules, search rules, FoldsTo-push (GrowingPushes MarksShared IsNewShared _) c.in_ok-set.set c.loop-item.yielded c.loop-item.set c.in-Some.item c.add.new.self c.loop-item.invariant.2 c.in_default.ensures.pushed)
 
 pub returns-clause-holds : goal.returns-clause-holds
 returns-clause-holds g c =
@@ -34,8 +34,8 @@ returns-in_err-set-clause-large g c = λ e.
     let over : MAX_CAPACITY < c.if-least-gt-FIRST_GROUP.first = search rules in
     (c.size_hint-least.result.0, says, inl (subst (λ n. MAX_CAPACITY < n) first over))
 
-pub returns-in_default-clause-large : goal.returns-in_default-clause-large
-returns-in_default-clause-large g c = λ e.
+pub returns-in-Err-clause-large : goal.returns-in-Err-clause-large
+returns-in-Err-clause-large g c = λ e.
     let says : SaysAtLeast g.I.IntoIterator.into_iter_gives g.I.IntoIter.Iterator.remaining c.args.iter c.size_hint-least.result.0 = search rules in
     let draws : DrawsAndOne g.I.IntoIterator.into_iter_gives g.I.IntoIter.Iterator.next_gives c.args.iter c.loop-item.yielded = search rules in
     let first : c.if-least-gt-FIRST_GROUP.first ≡ max c.size_hint-least.result.0 32 = elim c.if-least-gt-FIRST_GROUP.branch [

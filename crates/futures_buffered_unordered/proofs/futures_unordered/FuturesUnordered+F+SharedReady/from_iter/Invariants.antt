@@ -1,5 +1,5 @@
 use Rattle.futures_buffered_core.specs.ReadyShared.{IsNewShared, MarksShared}
-use Rattle.futures_buffered_unordered.specs.SlotGroups.{PushesEach}
+use Rattle.futures_buffered_unordered.specs.FuturesUnordered.{PushesEach}
 use Rattle.futures_buffered_unordered.proofs.futures_unordered.FuturesUnordered+F+SharedReady.from_iter.Given as goal
 
 abbrev pub invariant-loop-item : goal.invariant-loop-item

@@ -1,6 +1,6 @@
 use Rattle.futures_buffered_unordered.specs.FuturesUnorderedBounded.{Bounded}
 use Rattle.std.proofs.Common.{Some, refl, sym, inl, inr, arith, ◌∙◌, length-set, ap}
-use Rattle.futures_buffered_unordered.proofs.HeldLemmas.{AllHeld-with, count-with, same-with}
+use Rattle.futures_buffered_unordered.proofs.HeldLemmas.{count-with, same-with}
 use Rattle.futures_buffered_unordered.proofs.FuturesUnorderedBoundedLemmas.{asks_ready, SoFar-skip, SoFar-pending, emptied_after, ended_after, limited_after, paused_after, ready_after}
 use Rattle.futures_buffered_unordered.proofs.futures_unordered_bounded.FuturesUnorderedBounded.poll_first_registered.Goals.{in-Some+in_default-poll_one, in_default}
 use Rattle.futures_buffered_unordered.proofs.futures_unordered_bounded.FuturesUnorderedBounded.poll_first_registered.Goals as goal

@@ -1,6 +1,6 @@
 use Rattle.futures_buffered_unordered.proofs.StreamAnswersLemmas.{after_item, while_pending}
-use Rattle.futures_buffered_unordered.proofs.SlotGroupsLemmas.{covered_of}
-use Rattle.futures_buffered_unordered.proofs.FuturesUnorderedLemmas.{value_of, rest_of, same_of}
+use Rattle.futures_buffered_unordered.proofs.FuturesUnorderedLemmas.{covered_of}
+use Rattle.futures_buffered_unordered.proofs.FuturesUnorderedStreamLemmas.{value_of, rest_of, same_of}
 use Rattle.futures_buffered_unordered.proofs.growing_stream.FuturesUnorderedStream.poll_next.Goals as goal
 
 pub returns-clause-stream : goal.returns-clause-stream

@@ -1,0 +1,144 @@
+-- What a line of a script is answered, and what it leaves of the target that was begun last.
+use Rattle.std.specs.Prelude.{◌≡◌, ℕ, ◌<◌, ◌≤◌, List, Option, Some, MatchOption, ◌⊎◌}
+use Rattle.futures_buffered_table.specs.declared.answer.TheConstants.{MAX_CAPACITY}
+use Rattle.futures_buffered_table.specs.StepMachine.{Machine, IsNew}
+use Rattle.futures_buffered_unordered.specs.declared.futures_unordered_bounded.TheConstants.{
+  POLL_LIMIT,
+}
+use Rattle.futures_buffered_ordered.specs.OrderedEntries.{Stays}
+use Rattle.futures_buffered_ordered.specs.FuturesOrderedBounded.{IsNewBoundedQueue}
+use Rattle.futures_buffered_unordered.specs.FuturesUnordered.{IsNewGrowing}
+use Rattle.fbuf_lines.specs.Command.{LineAsksFor}
+use Rattle.fbuf_lines.specs.BoundedLines.{ScriptBounded, IsNewStanding, BoundedGives, new_bounded}
+use Rattle.fbuf_lines.specs.OrderedLines.{ScriptOrdered, QueueGives, QueueMayLack}
+use Rattle.fbuf_lines.specs.GrowingLines.{ScriptGrowing, GrowingGives, GrowingMayLack}
+use Rattle.fbuf_lines.specs.MachineLines.{MachineGives}
+use Rattle.fbuf_lines.specs.declared.command.Command.{Command}
+use Rattle.fbuf_lines.specs.declared.command.Command.TheVariants.{Unordered, Ordered, Growing}
+use Rattle.fbuf_lines.specs.declared.command.Command.TheVariants.{Steps, Limit}
+use Rattle.fbuf_lines.specs.declared.reply.Reply.{Reply}
+use Rattle.fbuf_lines.specs.declared.reply.Reply.TheVariants.{Done, TooLarge, Bad}
+use Rattle.fbuf_lines.specs.declared.session.Target.{Target}
+use Rattle.fbuf_lines.specs.declared.session.Target.TheVariants as target
+
+-- how far a script has come: what was begun last, and the limit of the sets that are begun from
+-- now on, which is how many names one poll of theirs takes at most
+pub record ScriptSession : Type 0 where
+  pub target : Target
+  pub limit : ℕ
+
+-- nothing was begun yet, and no limit was chosen
+abbrev pub first_session : ScriptSession
+first_session = record { target = target.Nothing; limit = POLL_LIMIT }
+
+-- a capacity that is too large begins nothing
+abbrev pub RefusesLarge : ScriptSession → ℕ → Reply → ScriptSession → Type 0
+RefusesLarge old capacity reply new = (reply ≡ TooLarge) × (MAX_CAPACITY < capacity) × (new ≡ old)
+
+-- a line that begins a bounded set
+abbrev pub BeginsSet : ScriptSession → ℕ → Reply → ScriptSession → Type 0
+BeginsSet old capacity reply new =
+    ((reply ≡ Done) × (capacity ≤ MAX_CAPACITY)
+    × (new ≡ record old { target = target.Unordered (new_bounded capacity old.limit) }))
+    ⊎ RefusesLarge old capacity reply new
+
+-- a target that is an empty ordered queue
+abbrev pub IsNewQueueTarget : ℕ → ℕ → Target → Type 0
+IsNewQueueTarget capacity limit new = (queue : ScriptOrdered)
+    × IsNewBoundedQueue IsNewStanding capacity limit queue
+    × (new ≡ target.Ordered queue)
+
+-- a line that begins an ordered queue
+abbrev pub BeginsQueue : ScriptSession → ℕ → Reply → ScriptSession → Type 0
+BeginsQueue old capacity reply new =
+    ((reply ≡ Done) × (capacity ≤ MAX_CAPACITY)
+    × IsNewQueueTarget capacity old.limit new.target × (new.limit ≡ old.limit))
+    ⊎ RefusesLarge old capacity reply new
+
+-- a target that is an empty growing set, with one group of this capacity, or none where that is 0
+abbrev pub IsNewGrowingTarget : ℕ → ℕ → Target → Type 0
+IsNewGrowingTarget capacity limit new = (set : ScriptGrowing)
+    × IsNewGrowing IsNewStanding capacity limit set
+    × (new ≡ target.Growing set)
+
+-- a line that begins a growing set
+abbrev pub BeginsGrowing : ScriptSession → ℕ → Reply → ScriptSession → Type 0
+BeginsGrowing old capacity reply new =
+    ((reply ≡ Done) × (capacity ≤ MAX_CAPACITY)
+    × IsNewGrowingTarget capacity old.limit new.target × (new.limit ≡ old.limit))
+    ⊎ RefusesLarge old capacity reply new
+
+-- a target that is a machine with no step made
+abbrev pub IsNewMachine : ℕ → Target → Type 0
+IsNewMachine capacity new =
+    (machine : Machine) × IsNew capacity machine × (new ≡ target.Steps machine)
+
+-- a line that begins a machine
+abbrev pub BeginsMachine : ScriptSession → ℕ → Reply → ScriptSession → Type 0
+BeginsMachine old capacity reply new =
+    ((reply ≡ Done) × (capacity ≤ MAX_CAPACITY) × IsNewMachine capacity new.target
+    × (new.limit ≡ old.limit))
+    ⊎ RefusesLarge old capacity reply new
+
+-- a line that sets the limit: what was begun before stays as it is, and 0 is no limit
+abbrev pub SetsLimit : ScriptSession → ℕ → Reply → ScriptSession → Type 0
+SetsLimit old limit reply new =
+    ((reply ≡ Done) × (1 ≤ limit) × (new ≡ record old { limit = limit }))
+    ⊎ ((reply ≡ Bad) × (limit ≡ 0) × (new ≡ old))
+
+-- a command to what was begun last; before anything is begun none stands
+abbrev pub TargetGives : Target → Command → Reply → Target → Type 0
+TargetGives target.Nothing command reply new = (reply ≡ Bad) × (new ≡ target.Nothing)
+TargetGives (target.Unordered old) command reply new =
+    (set : ScriptBounded) × BoundedGives old command reply set × (new ≡ target.Unordered set)
+TargetGives (target.Ordered old) command reply new =
+    (queue : ScriptOrdered) × QueueGives old command reply queue × (new ≡ target.Ordered queue)
+TargetGives (target.Growing old) command reply new =
+    (set : ScriptGrowing) × GrowingGives old command reply set × (new ≡ target.Growing set)
+TargetGives (target.Steps old) command reply new =
+    (machine : Machine) × MachineGives old command reply machine × (new ≡ target.Steps machine)
+
+-- a command that begins something, or sets the limit, stands always
+abbrev pub CommandGives : ScriptSession → Command → Reply → ScriptSession → Type 0
+CommandGives old (Unordered capacity) reply new = BeginsSet old capacity reply new
+CommandGives old (Ordered capacity) reply new = BeginsQueue old capacity reply new
+CommandGives old (Growing capacity) reply new = BeginsGrowing old capacity reply new
+CommandGives old (Steps capacity) reply new = BeginsMachine old capacity reply new
+CommandGives old (Limit limit) reply new = SetsLimit old limit reply new
+CommandGives old command reply new =
+    TargetGives old.target command reply new.target × (new.limit ≡ old.limit)
+
+-- one line: what it asks for, or `bad`
+abbrev pub LineGives : ScriptSession → List ℕ → Reply → ScriptSession → Type 0
+LineGives old line reply new =
+    (asked : Option Command)
+    × LineAsksFor line asked
+    × MatchOption asked ((reply ≡ Bad) × (new ≡ old))
+    (λ command. CommandGives old command reply new)
+
+-- a command that may lack memory: it begins something that is not too large, or it is one to a
+-- growing
+-- set or to an ordered queue
+abbrev pub MayLackMemory : Target → Command → Type 0
+MayLackMemory old (Unordered capacity) = capacity ≤ MAX_CAPACITY
+MayLackMemory old (Ordered capacity) = capacity ≤ MAX_CAPACITY
+MayLackMemory old (Growing capacity) = capacity ≤ MAX_CAPACITY
+MayLackMemory old (Steps capacity) = capacity ≤ MAX_CAPACITY
+MayLackMemory (target.Growing old) command = GrowingMayLack old command
+MayLackMemory (target.Ordered old) command = QueueMayLack old command
+MayLackMemory old command = ⊥
+
+-- a target is as it was, but that a queue may have a place for more entries
+abbrev pub StaysTarget : Target → Target → Type 0
+StaysTarget (target.Ordered old) new = (queue : ScriptOrdered) × Stays old queue
+    × (new ≡ target.Ordered queue)
+StaysTarget old new = new ≡ old
+
+-- the same of a script, whose limit stays
+abbrev pub StaysSession : ScriptSession → ScriptSession → Type 0
+StaysSession old new = StaysTarget old.target new.target × (new.limit ≡ old.limit)
+
+-- a line that asks for such a command
+abbrev pub LineMayLackMemory : ScriptSession → List ℕ → Type 0
+LineMayLackMemory old line =
+    (command : Command) × LineAsksFor line (Some command) × MayLackMemory old.target command

@@ -1,0 +1,189 @@
+//! What a script has begun, and what each line does to it.
+ghost use Rattle.std.specs.Prelude.{◌≡◌, ◌≤◌, IfOk, OnErr};
+ghost use Rattle.futures.specs.Task.{Keeps};
+ghost use Rattle.fbuf_lines.specs.Session.{LineGives, TargetGives, BeginsSet, BeginsQueue};
+ghost use Rattle.fbuf_lines.specs.Session.{BeginsGrowing, BeginsMachine, SetsLimit, first_session};
+ghost use Rattle.fbuf_lines.specs.Session.{MayLackMemory, LineMayLackMemory, StaysSession};
+
+use crate::bounded_lines::{ScriptSet, new_set, set_reply};
+use crate::command::{Command, parse};
+use crate::growing_lines::{ScriptGrowing, growing_reply};
+use crate::machine_lines::machine_reply;
+use crate::ordered_lines::{ScriptQueue, queue_reply};
+use crate::reply::Reply;
+use futures::task::Context;
+use futures_buffered_core::ready_core::{MAX_CAPACITY, NewFault};
+use futures_buffered_core::ready_table::StepMachine;
+use futures_buffered_sets::futures_ordered_bounded::FuturesOrderedBounded;
+use futures_buffered_sets::futures_unordered_bounded::POLL_LIMIT;
+use futures_buffered_unordered::futures_unordered::FuturesUnordered;
+use std::alloc::{AllocError, Global};
+use std::marker::Model;
+
+/// What was begun last.
+#[derive(Drop)]
+pub enum Target {
+    /// No line began anything yet.
+    Nothing,
+    /// `unordered C` did.
+    Unordered(ScriptSet),
+    /// `ordered C` did.
+    Ordered(ScriptQueue),
+    /// `growing C` did.
+    Growing(ScriptGrowing),
+    /// `steps C` did.
+    Steps(StepMachine),
+}
+
+/// How far a script has come: what it began last, and how many names one poll takes at most, of the
+/// sets that it begins from now on.
+#[derive(Drop)]
+pub struct Session {
+    target: Target,
+    limit: usize,
+}
+
+impl Model for Session {
+    ghost use Rattle.std.specs.Prelude.{◌≤◌};
+    ghost use Rattle.fbuf_lines.specs.Session.{ScriptSession};
+
+    ghost Value = { ScriptSession };
+
+    ghost view = { λ session. record { target = session.target; limit = session.limit } };
+
+    ghost invariant = { λ session. 1 ≤ session.limit };
+}
+
+impl Session {
+    /// Nothing was begun yet, and no limit was chosen. Takes no memory.
+    pub fn new() -> Session
+        ensures { result ≡ first_session }
+    {
+        Session {
+            target: Target::Nothing,
+            limit: POLL_LIMIT,
+        }
+    }
+
+    /// Answers one line.
+    ///
+    /// The time is that of the line's bytes and of the one call that it asks for. A line that
+    /// begins a target takes time and memory in its capacity, and the drop of the one before it
+    /// takes time in that one's. A push that makes a group of a growing set takes time and memory
+    /// in that group's capacity, and one that makes an ordered queue longer than ever before takes
+    /// memory in its length; the other lines take no memory. `Err` says that the memory of a new
+    /// target was refused, or a push into a growing set or into a queue that is not full.
+    pub fn answer(
+        &mut self,
+        alloc: Global,
+        line: &[u8],
+        cx: &mut Context<'_>,
+    ) -> Result<Reply, AllocError>
+        ensures reply { IfOk result (λ reply. LineGives self.old line.now reply self.new) }
+        ensures memory { OnErr result (StaysSession self.old self.new) }
+        ensures refused { OnErr result (LineMayLackMemory self.old line.now) }
+        ensures kept { Keeps cx.old cx.new }
+    {
+        match parse(line) {
+            Some(Command::Unordered(capacity)) => self.begin_unordered(alloc, capacity),
+            Some(Command::Ordered(capacity)) => self.begin_ordered(alloc, capacity),
+            Some(Command::Growing(capacity)) => self.begin_growing(alloc, capacity),
+            Some(Command::Steps(capacity)) => self.begin_steps(alloc, capacity),
+            Some(Command::Limit(limit)) => Ok(self.set_limit(limit)),
+            Some(command) => self.carry_out(command, cx),
+            None => Ok(Reply::Bad),
+        }
+    }
+
+    // What was there before is dropped, unless the capacity is too large.
+    fn begin_unordered(&mut self, alloc: Global, capacity: usize) -> Result<Reply, AllocError>
+        ensures reply { IfOk result (λ reply. BeginsSet self.old capacity reply self.new) }
+        ensures memory { OnErr result (self.new ≡ self.old) }
+        ensures refused { OnErr result (capacity ≤ MAX_CAPACITY) }
+    {
+        match new_set(alloc, capacity, self.limit) {
+            Ok(set) => {
+                self.target = Target::Unordered(set);
+                Ok(Reply::Done)
+            }
+            Err(NewFault::TooLarge) => Ok(Reply::TooLarge),
+            Err(NewFault::Memory) => Err(AllocError),
+        }
+    }
+
+    // The same, of an ordered queue.
+    fn begin_ordered(&mut self, alloc: Global, capacity: usize) -> Result<Reply, AllocError>
+        ensures reply { IfOk result (λ reply. BeginsQueue self.old capacity reply self.new) }
+        ensures memory { OnErr result (self.new ≡ self.old) }
+        ensures refused { OnErr result (capacity ≤ MAX_CAPACITY) }
+    {
+        match FuturesOrderedBounded::over_limit(&(), alloc, capacity, self.limit) {
+            Ok(queue) => {
+                self.target = Target::Ordered(queue);
+                Ok(Reply::Done)
+            }
+            Err(NewFault::TooLarge) => Ok(Reply::TooLarge),
+            Err(NewFault::Memory) => Err(AllocError),
+        }
+    }
+
+    // The same, of a growing set.
+    fn begin_growing(&mut self, alloc: Global, capacity: usize) -> Result<Reply, AllocError>
+        ensures reply { IfOk result (λ reply. BeginsGrowing self.old capacity reply self.new) }
+        ensures memory { OnErr result (self.new ≡ self.old) }
+        ensures refused { OnErr result (capacity ≤ MAX_CAPACITY) }
+    {
+        match FuturesUnordered::over_limit((), alloc, capacity, self.limit) {
+            Ok(set) => {
+                self.target = Target::Growing(set);
+                Ok(Reply::Done)
+            }
+            Err(NewFault::TooLarge) => Ok(Reply::TooLarge),
+            Err(NewFault::Memory) => Err(AllocError),
+        }
+    }
+
+    // The same, of a machine.
+    fn begin_steps(&mut self, alloc: Global, capacity: usize) -> Result<Reply, AllocError>
+        ensures reply { IfOk result (λ reply. BeginsMachine self.old capacity reply self.new) }
+        ensures memory { OnErr result (self.new ≡ self.old) }
+        ensures refused { OnErr result (capacity ≤ MAX_CAPACITY) }
+    {
+        match StepMachine::new(alloc, capacity) {
+            Ok(machine) => {
+                self.target = Target::Steps(machine);
+                Ok(Reply::Done)
+            }
+            Err(NewFault::TooLarge) => Ok(Reply::TooLarge),
+            Err(NewFault::Memory) => Err(AllocError),
+        }
+    }
+
+    // What was begun before keeps its own limit.
+    fn set_limit(&mut self, limit: usize) -> Reply
+        ensures { SetsLimit self.old limit result self.new }
+    {
+        if limit == 0 {
+            return Reply::Bad;
+        }
+        self.limit = limit;
+        Reply::Done
+    }
+
+    fn carry_out(&mut self, command: Command, cx: &mut Context<'_>) -> Result<Reply, AllocError>
+        ensures reply { IfOk result (λ reply.
+            TargetGives self.old.target command reply self.new.target) }
+        ensures memory { OnErr result (StaysSession self.old self.new) }
+        ensures refused { OnErr result (MayLackMemory self.old.target command) }
+        ensures limit { self.new.limit ≡ self.old.limit }
+        ensures kept { Keeps cx.old cx.new }
+    {
+        match &mut self.target {
+            Target::Nothing => Ok(Reply::Bad),
+            Target::Unordered(set) => Ok(set_reply(set, command, cx)),
+            Target::Ordered(queue) => queue_reply(queue, command, cx),
+            Target::Growing(set) => growing_reply(set, command, cx),
+            Target::Steps(machine) => Ok(machine_reply(machine, command)),
+        }
+    }
+}

@@ -1,0 +1,89 @@
+-- What a set's poll keeps of each group that it asks, and what may come from the set.
+use Rattle.std.proofs.Common.{◌≡◌, ℕ, ◌+◌, ◌<◌, List, [], ◌∷◌, Option, Some, None, IfSome, IfNone, refl, sym, subst, inl, inr, arith}
+use Rattle.std.specs.List.{FoldsTo}
+use Rattle.futures.specs.Poll.{IfReady, OnPending}
+use Rattle.futures.specs.Runs.{After, Within}
+use Rattle.futures.specs.declared.task.context.Context.{Context}
+use Rattle.futures.specs.declared.task.Poll.{Poll}
+use Rattle.futures.specs.declared.task.Poll.TheVariants.{Ready, Pending}
+use Rattle.futures_buffered_core.specs.ReadySource.{WaitsAlike, SourceSteps}
+use Rattle.futures_buffered_core.specs.SlotMap.{slot_count}
+use Rattle.futures_buffered_table.specs.declared.answer.Taken.{Taken}
+use Rattle.futures_buffered_unordered.specs.Held.{AnyMayGive}
+use Rattle.futures_buffered_unordered.specs.FuturesUnorderedBounded.{AsksInPart, Bounded, OnlyRegisters, PollAsksToEmpty, PollGives, PollLeavesTask, held_in}
+use Rattle.futures_buffered_unordered.specs.Groups.{GroupLeavesTask, Groups, GroupsGive, outputs_in}
+use Rattle.futures_buffered_unordered.proofs.HeldGivesLemmas.{Gathers-Within, Gathers-After}
+use Rattle.futures_buffered_unordered.proofs.FuturesUnorderedBoundedLemmas.{registers_none, registers_once, poll_counted, poll_pending_holds, poll_end_is_empty, poll_gave, poll_still}
+use Rattle.futures_buffered_unordered.specs.FuturesUnordered.{held_in_all}
+use Rattle.futures_buffered_unordered.specs.FuturesUnorderedInvariant.{KeepsGroup}
+use Rattle.futures_buffered_unordered.specs.FuturesUnordered.{AnyGroupMayGive, ComesFromGroups}
+use Rattle.futures_buffered_unordered.proofs.FuturesUnorderedInvariantLemmas.{alike_self, alike_on}
+use Rattle.futures_buffered_unordered.proofs.FuturesUnorderedPollLemmas.{any_left, any_output}
+
+module _ {F A S : Type 0} (needs : S → ℕ → Type 0) (polled : ℕ → F → Poll A → F → Type 0) (steps : SourceSteps S)
+    (register_waits : (old new : S) → steps.registers old new → WaitsAlike needs old new) (take_waits : (old : S) (taken : Taken) (new : S) → steps.takes old taken new → WaitsAlike needs old new) where
+  alike_taken : (given : List Taken) (old new : S) → FoldsTo steps.takes old given new → WaitsAlike needs old new
+  alike_taken [] old new h = subst (λ s. WaitsAlike needs old s) h (alike_self needs old)
+  alike_taken (taken ∷ given) old new h = alike_on needs old h.0 new (take_waits old taken h.0 h.1) (alike_taken given h.0 new h.2)
+
+  -- a poll leaves the source at the same places
+  alike_polled : (old new : Bounded F S) (answer : Poll (Option A)) → PollGives polled steps old answer new → WaitsAlike needs old.source new.source
+  alike_polled old new (Ready None) h = subst (λ (b : Bounded F S). WaitsAlike needs old.source b.source) (sym h.1) (alike_self needs old.source)
+  alike_polled old new (Ready (Some x)) h =
+      let asks = h.1.2.3 in
+      subst (λ (b : Bounded F S). WaitsAlike needs old.source b.source) (sym h.1.3) (alike_on needs old.source asks.registered _ (register_waits _ _ asks.registers_first) (alike_taken _ _ _ asks.answers))
+  alike_polled old new Pending h =
+      let asks = h.1.3 in
+      alike_on needs old.source asks.registered new.source (register_waits _ _ asks.registers_first) (alike_taken _ _ _ asks.answers)
+
+  -- what a poll keeps of a group
+  pub keeps_polled : (old new : Bounded F S) (answer : Poll (Option A)) → PollGives polled steps old answer new → slot_count new.slots ≡ slot_count old.slots → new.limit ≡ old.limit → KeepsGroup needs old answer new
+  keeps_polled old new answer h slots limit =
+      record { fewer = omega (arith, poll_counted polled steps old new answer h); pending_holds = holds answer h; ended_is_empty = empty answer h; same_kind = record { same_slots = slots; same_limit = limit; waits = alike_polled old new answer h } }
+    where
+      holds : (a : Poll (Option A)) → PollGives polled steps old a new → OnPending a (0 < held_in new)
+      holds (Ready o) h = tt
+      holds Pending h = poll_pending_holds polled steps old new h
+
+      empty : (a : Poll (Option A)) → PollGives polled steps old a new → IfReady a (λ o. IfNone o (held_in new ≡ 0))
+      empty (Ready None) h = poll_end_is_empty polled steps old new h
+      empty (Ready (Some x)) h = tt
+      empty Pending h = tt
+
+-- what a poll of a group leaves of the task: one that registers, and one of a task that is registered
+module _ {F A S : Type 0} (polled : ℕ → F → Poll A → F → Type 0) (steps : SourceSteps S) (registers_poll : S → Context → Context → Type 0) (old new : Bounded F S) (cx left : Context) where
+  pub group_leaves : (answer : Poll (Option A)) → PollGives polled steps old answer new → PollLeavesTask polled steps registers_poll old answer new cx left
+      → GroupLeavesTask (PollAsksToEmpty polled steps) (AsksInPart polled steps) (OnlyRegisters registers_poll) old answer new cx left
+  group_leaves (Ready None) gives same = inl (gives, registers_none registers_poll cx left same)
+  group_leaves (Ready (Some x)) gives once = inl (gives, registers_once registers_poll cx left old.source once)
+  group_leaves Pending gives (inl empty) = inl ((gives.0, empty.0), registers_once registers_poll cx left old.source empty.1)
+  group_leaves Pending gives (inr part) = inr (refl, part.0, part.1)
+
+  pub covered_leaves : (answer : Poll (Option A)) → PollGives polled steps old answer new → PollLeavesTask polled steps (λ _ before after. after ≡ before) old answer new cx left
+      → GroupLeavesTask (PollAsksToEmpty polled steps) (AsksInPart polled steps) (OnlyRegisters registers_poll) old answer new cx left
+  covered_leaves (Ready None) gives same = inl (gives, registers_none registers_poll cx left same)
+  covered_leaves (Ready (Some x)) gives same = inl (gives, registers_none registers_poll cx left same)
+  covered_leaves Pending gives (inl empty) = inl ((gives.0, empty.0), registers_none registers_poll cx left empty.1)
+  covered_leaves Pending gives (inr part) = inr (refl, part.0, part.1)
+
+module _ {F A S : Type 0} (polled : ℕ → F → Poll A → F → Type 0) (steps : SourceSteps S) where
+  module _ (old new : Groups (Bounded F S)) where
+    pub still : (answer : Poll (Option A)) → GroupsGive (PollGives polled steps) old answer new → (y : A) → AnyGroupMayGive polled new.listed y → AnyGroupMayGive polled old.listed y
+    still answer h y any = any_left (PollGives polled steps) (λ (g : Bounded F S). AnyMayGive polled g.slots y) (poll_still polled steps y) old answer new h any
+
+    pub gave : (x : A) → GroupsGive (PollGives polled steps) old (Ready (Some x)) new → AnyGroupMayGive polled old.listed x
+    gave x h = any_output (PollGives polled steps) (λ (g : Bounded F S). AnyMayGive polled g.slots x) old new x h (poll_gave polled steps x)
+
+    pub value_of : (answer : Poll (Option A)) → GroupsGive (PollGives polled steps) old answer new → (answer ≡ Ready None → held_in_all old.listed ≡ 0) → held_in_all new.listed + outputs_in answer ≡ held_in_all old.listed → IfReady answer (ComesFromGroups polled old.listed [])
+    value_of (Ready None) h ends count = record { each = tt; ends = sym (ends refl) }
+    value_of (Ready (Some x)) h ends count = record { each = tt; ends = (gave x h, omega (arith, count)) }
+    value_of Pending h ends count = tt
+
+    pub rest_of : (answer : Poll (Option A)) → GroupsGive (PollGives polled steps) old answer new → held_in_all new.listed + outputs_in answer ≡ held_in_all old.listed → IfReady answer (λ o. IfSome o (λ x. After (ComesFromGroups polled old.listed) x (ComesFromGroups polled new.listed)))
+    rest_of (Ready None) h count = tt
+    rest_of (Ready (Some x)) h count = Gathers-After {A = A} {P = AnyGroupMayGive polled old.listed} {Q = AnyGroupMayGive polled new.listed} (still (Ready (Some x)) h) _ _ x count (gave x h)
+    rest_of Pending h count = tt
+
+    pub same_of : (answer : Poll (Option A)) → GroupsGive (PollGives polled steps) old answer new → held_in_all new.listed + outputs_in answer ≡ held_in_all old.listed → OnPending answer (Within (ComesFromGroups polled old.listed) (ComesFromGroups polled new.listed))
+    same_of (Ready o) h count = tt
+    same_of Pending h count = Gathers-Within {A = A} {P = AnyGroupMayGive polled old.listed} {Q = AnyGroupMayGive polled new.listed} (still Pending h) _ _ (omega (arith, count))

@@ -1,0 +1,117 @@
+use Rattle.std.proofs.Common.{true, false, is_some, arith, subst, ap, sym, refl, length, ◌≤◌, ◌∙◌, true≢false}
+use Rattle.futures_buffered_unordered.proofs.GroupsPollLemmas.{so_far_some, so_far_none, so_far_none_left, so_far_pending, so_far_some_left, so_far_end, SoFar}
+use Rattle.futures_buffered_unordered.specs.FuturesUnorderedBounded.{OnlyRegisters}
+use Rattle.futures_buffered_unordered.proofs.FuturesUnorderedBoundedLemmas.{registers_more, registers_none}
+use Rattle.futures_buffered_unordered.proofs.GroupsTaskLemmas.{LeftSoFar, left_end, left_ended, left_none, left_output, left_pending}
+use Rattle.futures_buffered_unordered.specs.FuturesUnordered.{Growing}
+use Rattle.futures_buffered_unordered.proofs.futures_unordered.FuturesUnordered.poll_groups.Goals.{in-Pending, in-Ready+in_default}
+use Rattle.futures_buffered_unordered.proofs.futures_unordered.FuturesUnordered.poll_groups.Goals as goal
+
+pub ask_one-requires-clause-some : goal.ask_one-requires-clause-some
+ask_one-requires-clause-some g c =
+    let asks = g.R.AskGroup.asks in
+    let long = ap (λ (v : Growing g.row.F.Denot g.row.S.Denot). length v.groups.listed) c.self.view_is in
+    so_far_some asks c.args.self.now.groups _ _ _ c.loop-asked.invariant.so_far (omega (arith, long))
+
+pub ask_one-requires-clause-pollable : goal.ask_one-requires-clause-pollable
+ask_one-requires-clause-pollable g c =
+    c.loop-asked.invariant.pollable
+
+pub ask_one-requires-clause-registered : goal.ask_one-requires-clause-registered
+ask_one-requires-clause-registered g c =
+    c.loop-asked.invariant.covered
+
+pub loop-asked-init : goal.loop-asked-init
+loop-asked-init g c =
+    let asks = g.R.AskGroup.asks in
+    let within = subst (λ (v : Growing g.row.F.Denot g.row.S.Denot). v.groups.place ≤ length v.groups.listed) c.self.view_is c.self.invariant.place_within in
+    record {
+      so_far = so_far_none asks c.args.self.now.groups within;
+      pollable = c.requires;
+      limit = refl;
+      covered = λ e. absurd (true≢false (sym e));
+      passes = λ e. g.met.R.AskGroup.passes_none _;
+      leaves = left_none asks g.R.AskGroup.asks_to_empty g.R.AskGroup.stops (OnlyRegisters g.S.ReadySource.registers_poll) c.args.self.now.groups c.args.cx.now within (registers_none g.S.ReadySource.registers_poll _ _ refl);
+      kept = λ fact h. h;
+    }
+
+pub returns-then-is_registered-clause-polled : goal.returns-then-is_registered-clause-polled
+returns-then-is_registered-clause-polled g c =
+    let asks = g.R.AskGroup.asks in
+    let long = ap (λ (v : Growing g.row.F.Denot g.row.S.Denot). length v.groups.listed) c.self.view_is in
+    so_far_end asks c.args.self.now.groups c.loop-asked._asked true c.loop-asked.self.groups (subst (λ b. SoFar asks c.args.self.now.groups c.loop-asked._asked b c.loop-asked.self.groups) c.if-is_registered.true c.loop-asked.invariant.so_far) (omega (arith, long))
+
+pub returns-else-is_registered-clause-polled : goal.returns-else-is_registered-clause-polled
+returns-else-is_registered-clause-polled g c =
+    let asks = g.R.AskGroup.asks in
+    let long = ap (λ (v : Growing g.row.F.Denot g.row.S.Denot). length v.groups.listed) c.self.view_is in
+    so_far_end asks c.args.self.now.groups c.loop-asked._asked false c.loop-asked.self.groups (subst (λ b. SoFar asks c.args.self.now.groups c.loop-asked._asked b c.loop-asked.self.groups) c.if-is_registered.false c.loop-asked.invariant.so_far) (omega (arith, long))
+
+pub returns-in-Some-clause-polled : goal.returns-in-Some-clause-polled
+returns-in-Some-clause-polled g c =
+    let asks = g.R.AskGroup.asks in
+    let long = ap (λ (v : Growing g.row.F.Denot g.row.S.Denot). length v.groups.listed) c.self.view_is in
+    so_far_some_left asks c.args.self.now.groups c.loop-asked._asked c.loop-asked.is_registered c.loop-asked.self.groups _ _ _ c.in-Some.is c.loop-asked.invariant.so_far (omega (arith, long)) c.in-Ready.ensures.asked
+
+pub loop-asked-preserved : goal.loop-asked-preserved
+loop-asked-preserved g c =
+    let rule = g.R.AskGroup in
+    let asks = rule.asks in
+    let registers = OnlyRegisters g.S.ReadySource.registers_poll in
+    let more = registers_more g.S.ReadySource.registers_poll in
+    let long = ap (λ (v : Growing g.row.F.Denot g.row.S.Denot). length v.groups.listed) c.self.view_is in
+    elim c.match-ask_one.branch [
+      | in-Pending w ↦ rw w.is_registered-is (record {
+        so_far = so_far_pending asks c.args.self.now.groups c.loop-asked._asked c.loop-asked.is_registered c.loop-asked.self.groups _ c.loop-asked.invariant.so_far (omega (arith, long)) w.in-Pending.ensures.asked;
+        pollable = c.ask_one.ensures.pollable;
+        limit = c.ask_one.ensures.limit ∙ c.loop-asked.invariant.limit;
+        covered = λ e. w.in-Pending.ensures.covered;
+        passes = λ e. absurd (true≢false e);
+        leaves = left_pending asks rule.asks_to_empty rule.stops registers c.args.self.now.groups c.loop-asked._asked c.loop-asked.is_registered c.loop-asked.self.groups _ _ _ _ (more _ _ _) c.ask_one.ensures.kept c.loop-asked.invariant.so_far c.loop-asked.invariant.leaves (omega (arith, long)) w.in-Pending.ensures.asked w.in-Pending.ensures.leaves;
+        kept = λ fact h. c.ask_one.ensures.kept fact (c.loop-asked.invariant.kept fact h);
+      })
+      | in-Ready+in_default w ↦ rw w.is_registered-is (record {
+        so_far = so_far_none_left asks c.args.self.now.groups c.loop-asked._asked c.loop-asked.is_registered c.loop-asked.self.groups _ _ (ap is_some w.in_default.is) c.loop-asked.invariant.so_far (omega (arith, long)) w.in-Ready.ensures.asked;
+        pollable = c.ask_one.ensures.pollable;
+        limit = c.ask_one.ensures.limit ∙ c.loop-asked.invariant.limit;
+        covered = λ e. c.ask_one.ensures.still_covered e;
+        passes = λ e. g.met.R.AskGroup.passes_more _ _ _ (c.loop-asked.invariant.passes e) (rw w.in_default.is at w.in-Ready.ensures.passes);
+        leaves = left_ended asks rule.asks_to_empty rule.stops registers c.args.self.now.groups c.loop-asked._asked c.loop-asked.is_registered c.loop-asked.self.groups _ _ _ _ _ (ap is_some w.in_default.is) (more _ _ _) c.ask_one.ensures.kept c.loop-asked.invariant.so_far c.loop-asked.invariant.leaves (omega (arith, long)) w.in-Ready.ensures.asked w.in-Ready.ensures.leaves;
+        kept = λ fact h. c.ask_one.ensures.kept fact (c.loop-asked.invariant.kept fact h);
+      })
+    ]
+
+pub returns-in-Some-clause-task : goal.returns-in-Some-clause-task
+returns-in-Some-clause-task g c =
+    let rule = g.R.AskGroup in
+    let long = ap (λ (v : Growing g.row.F.Denot g.row.S.Denot). length v.groups.listed) c.self.view_is in
+    record {
+      covered = tt;
+      passed = tt;
+      leaves = left_output rule.asks rule.asks_to_empty rule.stops (OnlyRegisters g.S.ReadySource.registers_poll) c.args.self.now.groups c.loop-asked._asked c.loop-asked.is_registered c.loop-asked.self.groups _ _ _ _ (registers_more g.S.ReadySource.registers_poll _ _ _) c.ask_one.ensures.kept _ _ c.in-Some.is c.loop-asked.invariant.leaves (omega (arith, long)) c.in-Ready.ensures.asked c.in-Ready.ensures.leaves;
+      kept = λ fact h. c.ask_one.ensures.kept fact (c.loop-asked.invariant.kept fact h);
+    }
+
+pub returns-then-is_registered-clause-task : goal.returns-then-is_registered-clause-task
+returns-then-is_registered-clause-task g c =
+    let rule = g.R.AskGroup in
+    let registers = OnlyRegisters g.S.ReadySource.registers_poll in
+    let long = ap (λ (v : Growing g.row.F.Denot g.row.S.Denot). length v.groups.listed) c.self.view_is in
+    record {
+      covered = c.loop-asked.invariant.covered c.if-is_registered.true;
+      passed = tt;
+      leaves = left_end rule.asks rule.asks_to_empty rule.stops registers c.args.self.now.groups c.loop-asked._asked true c.loop-asked.self.groups _ _ (subst (λ b. LeftSoFar rule.asks rule.asks_to_empty rule.stops registers c.args.self.now.groups c.loop-asked._asked b c.loop-asked.self.groups c.args.cx.now c.loop-asked.cx) c.if-is_registered.true c.loop-asked.invariant.leaves) (omega (arith, long));
+      kept = c.loop-asked.invariant.kept;
+    }
+
+pub returns-else-is_registered-clause-task : goal.returns-else-is_registered-clause-task
+returns-else-is_registered-clause-task g c =
+    let rule = g.R.AskGroup in
+    let registers = OnlyRegisters g.S.ReadySource.registers_poll in
+    let long = ap (λ (v : Growing g.row.F.Denot g.row.S.Denot). length v.groups.listed) c.self.view_is in
+    record {
+      covered = tt;
+      passed = c.loop-asked.invariant.passes c.if-is_registered.false;
+      leaves = left_end rule.asks rule.asks_to_empty rule.stops registers c.args.self.now.groups c.loop-asked._asked false c.loop-asked.self.groups _ _ (subst (λ b. LeftSoFar rule.asks rule.asks_to_empty rule.stops registers c.args.self.now.groups c.loop-asked._asked b c.loop-asked.self.groups c.args.cx.now c.loop-asked.cx) c.if-is_registered.false c.loop-asked.invariant.leaves) (omega (arith, long));
+      kept = c.loop-asked.invariant.kept;
+    }

@@ -1,0 +1,30 @@
+use Rattle.std.proofs.Common.{◌≡◌, rules, sym, subst, ◌∙◌}
+use Rattle.std.proofs.lemmas.Fn.{FoldsTo-push}
+use Rattle.std.proofs.lemmas.Result.{err_from_is_err_and}
+use Rattle.futures_buffered_core.specs.SlotMap.{IsFull}
+use Rattle.futures_buffered_unordered.specs.Extended.{ExtendsUntil}
+use Rattle.futures_buffered_unordered.specs.FuturesUnorderedBounded.{Bounded, Pushes}
+use Rattle.futures_buffered_unordered.proofs.futures_unordered_bounded.FuturesUnorderedBounded.extend.Goals as goal
+
+pub loop-item-preserved : goal.loop-item-preserved
+loop-item-preserved g c = (search rules, search rules, FoldsTo-push (Pushes g.S.ReadySource.marks) c.args.self.now c.loop-item.yielded c.loop-item.self c.in-Some.item c.try_push.new.self c.loop-item.invariant.2 c.in_ok-try_push.ensures.ok, c.try_push.ensures.capacity ∙ c.loop-item.invariant.3)
+
+pub returns-in_err-try_push-clause-stops : goal.returns-in_err-try_push-clause-stops
+returns-in_err-try_push-clause-stops g c =
+    let full = c.in_err-try_push.ensures.full in
+    let Stops = λ (back : g.row.F.Denot). ExtendsUntil g.I.IntoIterator.into_iter_gives g.I.IntoIter.Iterator.next_gives c.args.iter (Pushes g.S.ReadySource.marks) (λ (stopped new : Bounded g.row.F.Denot g.row.S.Denot). IsFull stopped.slots × (new ≡ stopped)) c.args.self.now back c.try_push.new.self in
+    let stops : Stops c.in-Some.item = record {
+      items = c.loop-item.yielded;
+      it = c.into_iter-item-iterator.result;
+      rest = c.next.new.self;
+      begins = search rules;
+      came = search rules;
+      stopped = c.loop-item.self;
+      added = c.loop-item.invariant.2;
+      refused = (full.2, full.1);
+    } in
+    let gone = err_from_is_err_and c.from_residual.result c.from_residual.ensures.1 in
+    rw gone.1 (subst Stops (sym (gone.2 ∙ full.0)) stops)
+
+pub returns-in_err-try_push-clause-capacity : goal.returns-in_err-try_push-clause-capacity
+returns-in_err-try_push-clause-capacity g c = c.try_push.ensures.capacity ∙ c.loop-item.invariant.3
