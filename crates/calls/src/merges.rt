@@ -23,6 +23,7 @@ impl Subject for MergeBounded<NumberStream, SharedReady> {
                 Some(value) => of_push(self.try_push(value)),
                 None => Reply::Nothing,
             },
+            Call::Extend(ids) => of_push(self.extend(new_values(world, ids))),
             Call::Clear => {
                 self.clear();
                 Reply::Ok
@@ -50,6 +51,7 @@ impl Subject for MergeUnbounded<NumberStream, SharedReady> {
                 Some(value) => of_growth(self.push(value)),
                 None => Reply::Nothing,
             },
+            Call::Extend(ids) => of_growth(self.extend(new_values(world, ids))),
             Call::Clear => {
                 self.clear();
                 Reply::Ok

@@ -27,6 +27,7 @@ impl Subject for FuturesUnorderedBounded<NumberFuture, SharedReady> {
                 Some(value) => of_push(self.try_push(value)),
                 None => Reply::Nothing,
             },
+            Call::Extend(ids) => of_push(self.extend(new_values(world, ids))),
             Call::Clear => {
                 self.clear();
                 Reply::Ok
@@ -104,6 +105,7 @@ impl Subject for FuturesUnordered<NumberFuture, SharedReady> {
                 Some(value) => of_growth(self.push(value)),
                 None => Reply::Nothing,
             },
+            Call::Extend(ids) => of_growth(self.extend(new_values(world, ids))),
             Call::Clear => {
                 self.clear();
                 Reply::Ok

@@ -5,6 +5,7 @@
 // - `drops`: what a source that leaves lets go.
 // - `busy`: a source that is asked while another thread has the futures polled.
 // - `adaptors`: the five adaptors over streams of futures that a thread completes.
+// - `short_names`: what the short names of sets, queues, joins and merges make.
 // - `nested`: joins as futures of a set.
 // - `threads`: futures that are completed from threads.
 mod adaptors;
@@ -12,5 +13,6 @@ mod busy;
 mod drops;
 mod nested;
 mod receivers;
+mod short_names;
 mod threads;
 mod turns;

@@ -2,10 +2,11 @@
 use futures::channel::mpsc::{TrySendError, UnboundedReceiver, UnboundedSender, unbounded};
 use futures::channel::oneshot::{Canceled, Receiver, channel};
 use futures::executor::block_on;
-use futures::{StreamExt, future, stream};
-use futures_buffered::foreign_sets::{foreign_join_all, foreign_set};
+use futures::{Future, FutureExt, StreamExt, future, stream};
 use futures_buffered::future::{map, then};
-use futures_buffered::{BufferedOrdered, Driven, Foreign, ForeignMerge, ForeignStream};
+use futures_buffered::{
+    BufferedStreamExt, Foreign, ForeignStream, foreign_join_all, foreign_merge, foreign_set,
+};
 use std::alloc::{AllocError, AllocGlobal, Global};
 use std::io::Print;
 use std::random::RandomSource;
@@ -57,14 +58,44 @@ where
 {
     let alloc = rt.alloc();
     let receivers = vec![in alloc; sent(alloc, 1)?, sent(alloc, 2)?, sent(alloc, 3)?]?;
-    let futures = stream::iter(receivers).map(|receiver| {
-        map(
-            Foreign::new(receiver),
-            |sent: Result<u64, Canceled>| sent.unwrap_or(0),
-        )
-    });
-    let outputs = BufferedOrdered::<_, Driven<Receiver<u64>>>::over(&(), alloc, futures, 2)?;
+    let outputs = stream::iter(receivers)
+        .foreign_buffered_ordered(alloc, 2)?
+        .map(|sent| sent.unwrap_or(0));
     println!(rt; "{:?}", block_on(rt, outputs.collect(alloc))??)?;
+    Ok(())
+}
+
+/// What the futures give that a closure makes of receivers, as they finish. The futures may have closures inside.
+fn outputs_of<R, F, M>(
+    rt: &R,
+    receivers: Vec<Receiver<u64>>,
+    make: M,
+) -> Result<Vec<u64>, anyhow::Error>
+where
+    R: Wait + RandomSource + AllocGlobal,
+    F: Future<Output = u64>,
+    M: Fn(Receiver<u64>) -> F + Drop,
+    requires callable { (receiver : _) → M.pre make receiver }
+    requires pollable { (receiver : _) (future : F) → M.post make receiver future
+        → F.can_poll future }
+{
+    let mut set = foreign_set(rt.alloc(), receivers.len())?;
+    for receiver in receivers {
+        let _ = set.try_push(Foreign::new(make(receiver)));
+    }
+    Ok(block_on(rt, set.collect(rt.alloc()))??)
+}
+
+pub fn with_closures_inside<R>(rt: &R) -> Result<(), anyhow::Error>
+where
+    R: Wait + RandomSource + AllocGlobal + Print,
+{
+    let alloc = rt.alloc();
+    let receivers = vec![in alloc; sent(alloc, 1)?, sent(alloc, 2)?]?;
+    let outputs = outputs_of(rt, receivers, |receiver| {
+        receiver.map(|sent| sent.unwrap_or(0).wrapping_add(1))
+    })?;
+    println!(rt; "{outputs:?}")?;
     Ok(())
 }
 
@@ -122,7 +153,7 @@ where
         items_of(alloc, &[10])?,
         items_of(alloc, &[20])?,
     ]?;
-    let merge = ForeignMerge::over(&(), alloc, streams)?;
+    let merge = foreign_merge(alloc, streams)?;
     println!(rt; "{:?}", block_on(rt, merge.collect(alloc))??)?;
     Ok(())
 }

@@ -37,6 +37,7 @@ fn main(rt: HostRuntime) -> Result<(), anyhow::Error> {
     foreign::one_after_another(&rt)?;
     foreign::joined(&rt)?;
     foreign::two_at_a_time(&rt)?;
+    foreign::with_closures_inside(&rt)?;
     foreign::ended_early(&rt)?;
     foreign::three_channels(&rt)?;
     sources::one_caller(&rt)?;

@@ -2,13 +2,11 @@
 use crate::same::assert_same;
 use futures::channel::oneshot::{Canceled, Receiver, Sender, channel};
 use futures::executor::block_on;
-use futures::future::{Ready, ready};
+use futures::future::ready;
 use futures::task::Poll;
 use futures::test::MockTask;
 use futures::{Stream, StreamExt, stream};
-use futures_buffered::{
-    BufferedStreamExt, BufferedTryStreamExt, Driven, ForEachConcurrent, Foreign, Foreigns,
-};
+use futures_buffered::{BufferedStreamExt, BufferedTryStreamExt, Foreign, Foreigns};
 use std::alloc::{AllocError, Global};
 use std::sync::Arc;
 use std::sync::atomic::Ordering::SeqCst;
@@ -99,16 +97,10 @@ fn as_those_of_a_stream_that_may_fail_finish(rt: HostRuntime) -> Result<(), Fail
 fn for_each_item(rt: HostRuntime) -> Result<(), Fail> {
     let sum = new_counter(rt.alloc())?;
     let added = Arc::try_clone(&sum)?;
-    let all = ForEachConcurrent::<_, _, _, Driven<Ready<()>>>::over(
-        &(),
-        rt.alloc(),
-        stream::iter(0..20u64),
-        4,
-        move |n: u64| {
-            added.fetch_add(n, SeqCst);
-            Foreign::new(ready(()))
-        },
-    )?;
+    let all = stream::iter(0..20u64).foreign_for_each_concurrent(rt.alloc(), 4, move |n: u64| {
+        added.fetch_add(n, SeqCst);
+        Foreign::new(ready(()))
+    })?;
     block_on(&rt, all)?;
     assert_same(&rt, sum.load(SeqCst), 190);
     Ok(())

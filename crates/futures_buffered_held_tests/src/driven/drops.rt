@@ -2,9 +2,12 @@
 ghost use Rattle.std.specs.Prelude.{◌<◌};
 
 use crate::same::assert_same;
+use futures::Stream;
+use futures::channel::oneshot::channel;
 use futures::future::{Ready, ready};
 use futures::task::Poll;
 use futures::test::MockTask;
+use futures_buffered::{foreign_set, growing_foreign_set};
 use futures_buffered_core::ready_core::Taken;
 use futures_buffered_core::ready_source::{NewSource, ReadySource};
 use futures_buffered_held::{Driven, Foreign};
@@ -40,5 +43,36 @@ fn an_output_of_a_source_that_left(rt: HostRuntime) -> Result<(), Fail> {
     assert_same(&rt, drops.load(SeqCst), 0);
     drop(beside);
     assert_same(&rt, drops.load(SeqCst), 1);
+    Ok(())
+}
+
+// A bounded set that is cleared keeps its source, and that the futures which were polled.
+#[test]
+fn what_was_polled_before_a_clear(rt: HostRuntime) -> Result<(), Fail> {
+    let task = MockTask::new(&rt)?;
+    let (sender, receiver) = channel::<u64>(rt.alloc())?;
+    let mut set = foreign_set(rt.alloc(), 1)?;
+    let _pushed = set.try_push(Foreign::new(receiver)).is_ok();
+    let _handed_over = task.enter(|cx| set.poll_next(cx));
+    let _polled = task.enter(|cx| set.poll_next(cx));
+    set.clear();
+    assert_same(&rt, (set.len(), sender.is_canceled()), (0, false));
+    drop(set);
+    assert_same(&rt, sender.is_canceled(), true);
+    Ok(())
+}
+
+// One that grows lets its sources go with its groups.
+#[test]
+fn what_was_polled_before_a_growing_set_is_cleared(rt: HostRuntime) -> Result<(), Fail> {
+    let task = MockTask::new(&rt)?;
+    let (sender, receiver) = channel::<u64>(rt.alloc())?;
+    let mut set = growing_foreign_set(rt.alloc(), 1)?;
+    set.add(Foreign::new(receiver))?;
+    let _handed_over = task.enter(|cx| set.poll_next(cx));
+    let _polled = task.enter(|cx| set.poll_next(cx));
+    assert_same(&rt, sender.is_canceled(), false);
+    set.clear();
+    assert_same(&rt, sender.is_canceled(), true);
     Ok(())
 }
