@@ -91,7 +91,7 @@ where
     R: Wait + RandomSource + AllocGlobal + Print,
 {
     let alloc = rt.alloc();
-    let receivers = vec![in alloc; sent(alloc, 1)?, sent(alloc, 2)?]?;
+    let receivers = vec![in alloc; sent(alloc, 1)?]?;
     let outputs = outputs_of(rt, receivers, |receiver| {
         receiver.map(|sent| sent.unwrap_or(0).wrapping_add(1))
     })?;
