@@ -6,7 +6,7 @@ use crate::script::{Role, Script};
 use crate::shared_world::SharedWorld;
 use crate::step::Action;
 use crate::task_script::TaskScript;
-use crate::values::{Scripted, TryFuture};
+use crate::values::Scripted;
 use crate::world::SOURCE;
 use futures::Stream;
 use futures::task::{Context, Poll};
@@ -134,30 +134,32 @@ impl<T: Scripted> SizeHint for FutureSource<T> {
 
 /// A stream of futures and errors.
 #[derive(Drop)]
-pub struct TryFutureSource {
+pub struct TryFutureSource<T: Scripted> {
     source: ScriptedSource,
+    items: PhantomData<T>,
 }
 
-impl TryFutureSource {
+impl<T: Scripted> TryFutureSource<T> {
     pub fn new(
         world: &SharedWorld,
         fixed: Option<FixedHint>,
-    ) -> Result<TryFutureSource, AllocError> {
+    ) -> Result<TryFutureSource<T>, AllocError> {
         Ok(TryFutureSource {
             source: ScriptedSource::new(world, fixed)?,
+            items: PhantomData,
         })
     }
 }
 
-impl Stream for TryFutureSource {
-    type Item = Result<TryFuture, u64>;
+impl<T: Scripted> Stream for TryFutureSource<T> {
+    type Item = Result<T, u64>;
 
-    fn poll_next(&mut self, cx: &mut Context<'_>) -> Poll<Option<Result<TryFuture, u64>>> {
+    fn poll_next(&mut self, cx: &mut Context<'_>) -> Poll<Option<Result<T, u64>>> {
         match self.source.poll(cx) {
             Poll::Pending => Poll::Pending,
             Poll::Ready(Drawn::End) => Poll::Ready(None),
             Poll::Ready(Drawn::Value(id)) => match self.source.draw(id) {
-                Some(script) => Poll::Ready(Some(Ok(TryFuture::new(script)))),
+                Some(script) => Poll::Ready(Some(Ok(T::new(script)))),
                 None => cx.yield_now(),
             },
             Poll::Ready(Drawn::Error(error)) => Poll::Ready(Some(Err(error))),
@@ -165,7 +167,7 @@ impl Stream for TryFutureSource {
     }
 }
 
-impl SizeHint for TryFutureSource {
+impl<T: Scripted> SizeHint for TryFutureSource<T> {
     ghost items_left = { λ s. (s.source.least, s.source.most) };
 
     fn size_hint(&self) -> (usize, Option<usize>) {

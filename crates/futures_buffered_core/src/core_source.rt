@@ -10,15 +10,15 @@ use std::marker::Model;
 
 /// A waker that does nothing.
 #[derive(Drop)]
-pub struct Silent;
+pub struct NoopWaker;
 
-impl SlotHandle for Silent {
+impl SlotHandle for NoopWaker {
     ghost use Rattle.std.specs.Prelude.{⊤};
 
     ghost wakes = { λ _ _. ⊤ };
 }
 
-impl SlotWaker for Silent {
+impl SlotWaker for NoopWaker {
     fn wake(&self) {}
 }
 
@@ -28,7 +28,7 @@ impl SlotWaker for Silent {
 #[derive(Drop)]
 pub struct CoreSource {
     core: ReadyCore,
-    silent: Silent,
+    noop: NoopWaker,
     source: Source,
     task: Option<Waker>,
 }
@@ -44,7 +44,7 @@ impl Model for CoreSource {
 impl ReadySource for CoreSource {
     ghost use Rattle.futures.specs.Task.{IsArmed, Keeps};
 
-    type Waker = Silent;
+    type Waker = NoopWaker;
 
     ghost slots = { λ s. s.capacity };
 
@@ -80,8 +80,8 @@ impl ReadySource for CoreSource {
         self.core.take()
     }
 
-    fn waker(&self, _i: usize) -> &Silent {
-        &self.silent
+    fn waker(&self, _i: usize) -> &NoopWaker {
+        &self.noop
     }
 
     fn register(&mut self, cx: &mut Context<'_>) {
@@ -110,7 +110,7 @@ impl NewSource for CoreSource {
         let core = ReadyCore::new(alloc, cap)?;
         Ok(CoreSource {
             core,
-            silent: Silent,
+            noop: NoopWaker,
             source: Source::new(),
             task: None,
         })

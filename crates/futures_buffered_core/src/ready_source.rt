@@ -10,7 +10,7 @@ ghost use Rattle.futures_buffered_table.specs.declared.answer.Taken.TheVariants.
 ghost use Rattle.futures_buffered_table.specs.Answer.{RefusesTooLarge};
 ghost use Rattle.futures_buffered_core.specs.ReadySource.{SourceSteps, WaitsAlike};
 
-pub use crate::core_source::{CoreSource, Silent};
+pub use crate::core_source::{CoreSource, NoopWaker};
 use crate::ready_core::{NewFault, Taken, Woke};
 pub use crate::script_source::ScriptSource;
 use futures::task::Context;

@@ -2,7 +2,7 @@
 ghost use Rattle.std.specs.Prelude.{◌≡◌, ◌≢◌, ℕ, IfOk, OnOk, length};
 ghost use Rattle.futures_buffered_core.specs.WrongName.{NamesAllBelow, IsFirstWrong};
 
-use crate::core_source::Silent;
+use crate::core_source::NoopWaker;
 use crate::ready_core::{RunFault, Taken, Woke};
 use crate::ready_source::ReadySource;
 use crate::wrong_name::first_wrong;
@@ -18,7 +18,7 @@ use std::vec;
 pub struct ScriptSource {
     capacity: usize,
     answers: vec::IntoIter<Taken>,
-    silent: Silent,
+    noop: NoopWaker,
     source: Source,
     task: Option<Waker>,
 }
@@ -57,7 +57,7 @@ impl ScriptSource {
         Ok(ScriptSource {
             capacity: cap,
             answers: answers.into_iter(),
-            silent: Silent,
+            noop: NoopWaker,
             source: Source::new(),
             task: None,
         })
@@ -68,7 +68,7 @@ impl ReadySource for ScriptSource {
     ghost use Rattle.futures.specs.Task.{IsArmed, Keeps};
     ghost use Rattle.futures_buffered_core.specs.ScriptSource.{TakesNext, MarksNothing};
 
-    type Waker = Silent;
+    type Waker = NoopWaker;
 
     ghost slots = { λ s. s.capacity };
 
@@ -105,8 +105,8 @@ impl ReadySource for ScriptSource {
         self.answers.next().unwrap_or(Taken::Empty)
     }
 
-    fn waker(&self, _i: usize) -> &Silent {
-        &self.silent
+    fn waker(&self, _i: usize) -> &NoopWaker {
+        &self.noop
     }
 
     fn register(&mut self, cx: &mut Context<'_>) {

@@ -26,9 +26,17 @@ fn texts_of_faults(rt: HostRuntime) -> Result<(), Fail> {
     let later = "the entry at 70000 names a slot that is not there";
     says(&rt, RunFault::Event(70_000), later)?;
     says(&rt, NewFault::Memory, "out of memory")?;
-    says(&rt, NewFault::TooLarge, "the capacity is too large")?;
+    says(
+        &rt,
+        NewFault::TooLarge,
+        "the capacity is too large: at most 4611686018427387903 slots",
+    )?;
     says(&rt, StepFault::Memory, "out of memory")?;
-    says(&rt, StepFault::TooLarge, "the capacity is too large")?;
+    says(
+        &rt,
+        StepFault::TooLarge,
+        "the capacity is too large: at most 4611686018427387903 slots",
+    )?;
     says(&rt, StepFault::Step(7), "step 7 cannot be made")
 }
 

@@ -213,7 +213,7 @@ impl<St: Drop, S: NewSource> MergeUnbounded<St, S> {
 
     /// Drops each stream that is held, with the groups: the merge is as `new` made it, but that its sources are made as before.
     ///
-    /// Takes time in proportion to the slots of all groups, and no memory. Wakes nobody.
+    /// Takes time in proportion to the slots of all groups, and no memory. Wakes a task that waits, as that of `FuturesUnordered` does.
     pub fn clear(&mut self)
         ensures { self.new ≡ no_groups self.old.limit }
     {

@@ -34,7 +34,7 @@ pub enum NewFault {
     #[error("out of memory")]
     Memory,
     /// The capacity is above `MAX_CAPACITY`. This is tested before any memory is asked for.
-    #[error("the capacity is too large")]
+    #[error("the capacity is too large: at most 4611686018427387903 slots")]
     TooLarge,
 }
 

@@ -33,7 +33,7 @@ pub enum StepReply {
 #[derive(Clone, Copy, Debug, PartialEq, Eq, Error)]
 pub enum StepFault {
     /// The capacity is above `MAX_CAPACITY`. This is tested first.
-    #[error("the capacity is too large")]
+    #[error("the capacity is too large: at most 4611686018427387903 slots")]
     TooLarge,
     /// A request for memory was refused. No step was made.
     #[error("out of memory")]

@@ -43,11 +43,11 @@ slots_in set = slot_count set.slots
 
 -- no value is held in n slots, the source was made for these, and one poll takes so many names at
 -- most
-pub record IsNewSet {F S : Type 0} (made : ℕ → S → Type 0) (n names : ℕ)
+pub record IsNewSet {F S : Type 0} (made : ℕ → S → Type 0) (n limit : ℕ)
     (set : Bounded F S) : Type 0 where
   pub none_held : set.slots ≡ no_slots n
   pub new_source : made n set.source
-  pub takes_at_most : set.limit ≡ names
+  pub takes_at_most : set.limit ≡ limit
 
 -- the slot is emptied, and is the first free one; the source and the limit stay
 abbrev pub with_empty_slot : {F S : Type 0} → Bounded F S → ℕ → Bounded F S
@@ -75,7 +75,7 @@ pub record HoldsEach
     {F S : Type 0}
     (made : ℕ → S → Type 0)
     (marks : S → ℕ → Woke → S → Type 0)
-    (names : ℕ)
+    (limit : ℕ)
     (items : List F)
     (set : Bounded F S)
     : Type 0 where
@@ -83,7 +83,7 @@ pub record HoldsEach
   pub new_source : S
   pub was_made : made (length items) new_source
   pub marked : MarksEach marks new_source (range_with_len 0 (length items)) set.source
-  pub takes_at_most : set.limit ≡ names
+  pub takes_at_most : set.limit ≡ limit
 
 -- a value went into the first free slot, i, which was then marked
 pub record PushesAt

@@ -298,7 +298,9 @@ impl<F: Drop, S: NewSource> FuturesUnordered<F, S> {
         Ok(())
     }
 
-    /// Drops each value that is held, with the groups. So it takes time in proportion to their slots, and no memory, and wakes nobody.
+    /// Drops each value that is held, with the groups. A later push makes a group as the first push of a new set does, over a source of the same environment.
+    ///
+    /// Takes time in proportion to their slots, and no memory. A task that waits is woken, unless a waker of a slot is kept elsewhere: the sources go, and with them its waker.
     pub fn clear(&mut self)
         ensures { self.new ≡ no_groups self.old.limit }
     {

@@ -5,7 +5,7 @@ ghost use Rattle.futures_buffered_core.specs.ReadyCore.{Marks, Takes};
 use crate::counter::{Counter, new_counter};
 use crate::dropped::Dropped;
 use futures::task::{Context, Poll, Source, Waker};
-use futures_buffered_core::core_source::{CoreSource, Silent};
+use futures_buffered_core::core_source::{CoreSource, NoopWaker};
 use futures_buffered_core::ready_core::{MAX_CAPACITY, NewFault, Taken, Woke};
 use futures_buffered_core::ready_source::{NewSource, ReadySource};
 use std::alloc::{AllocError, Global};
@@ -80,7 +80,7 @@ impl Model for CountedSource {
 impl ReadySource for CountedSource {
     ghost use Rattle.futures.specs.Task.{IsArmed, Keeps};
 
-    type Waker = Silent;
+    type Waker = NoopWaker;
 
     ghost slots = { λ s. s.capacity };
 
@@ -116,7 +116,7 @@ impl ReadySource for CountedSource {
         self.core.take()
     }
 
-    fn waker(&self, i: usize) -> &Silent {
+    fn waker(&self, i: usize) -> &NoopWaker {
         self.core.waker(i)
     }
 
