@@ -3,6 +3,7 @@
 
 mod adaptors;
 mod blocking;
+mod channels;
 mod holders;
 mod one_shots;
 mod report;

@@ -1,6 +1,7 @@
 //! The rows that the program prints.
 use crate::adaptors::{Feed, ForEach, Merge, Ordered, Ready, Unordered};
 use crate::blocking::{all_in_one, handed_over, one_by_one};
+use crate::channels::Channels;
 use crate::holders::{
     Drained, DrainedSet, GrowingQueue, GrowingSet, Joined, Queue, Refilled, Set, Yields,
 };
@@ -8,12 +9,12 @@ use crate::one_shots::OneShots;
 use crate::report::{RUNS, Report};
 use crate::sources::{FourWakers, Listed, TaskAlone};
 use crate::waiting::{Kept, Woken};
-use futures::channel::oneshot as kit;
+use futures::channel::{mpsc, oneshot as kit};
 use futures::stream::FuturesUnordered as KitSet;
 use futures::task::Waker;
 use futures_buffered::buffer::Buffer;
 use futures_buffered_core::ready_shared::SharedWaker;
-use futures_buffered_held::{foreign_set, oneshot};
+use futures_buffered_held::{foreign_set, oneshot, spsc};
 use futures_buffered_merges::merge_bounded::MergeBounded;
 use std::alloc::{AllocError, AllocGlobal};
 use std::io;
@@ -102,6 +103,28 @@ impl<R: Clock + RandomSource + AllocGlobal, O: io::Write> Report<'_, R, O> {
         Ok(())
     }
 
+    // So many values through each of 16 channels, before the merge is polled.
+    fn channels(&mut self) -> io::Result<()> {
+        let alloc = self.rt.alloc();
+        for burst in [1, 16] {
+            let made = Channels::<mpsc::Sender<u64>>::new(alloc, 16, burst);
+            self.timed(
+                "driven merge",
+                "an item of a channel of the kit, at once",
+                burst,
+                made,
+            )?;
+            let made = Channels::<spsc::Sender<u64>>::new(alloc, 16, burst);
+            self.timed(
+                "merge",
+                "an item of a channel of this library, at once",
+                burst,
+                made,
+            )?;
+        }
+        Ok(())
+    }
+
     fn queues(&mut self) -> io::Result<()> {
         let (alloc, of, growing) = (self.rt.alloc(), "ordered queue", "growing ordered queue");
         for held in SIZES {
@@ -178,6 +201,7 @@ impl<R: Clock + RandomSource + AllocGlobal + Threads + Wait + Sync, O: io::Write
         self.pending_polls()?;
         self.last_groups()?;
         self.one_shots()?;
+        self.channels()?;
         self.queues()?;
         self.adaptors()?;
         self.whole()?;

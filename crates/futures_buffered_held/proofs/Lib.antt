@@ -1,3 +1,4 @@
 pub mod MailboxLemmas
 pub mod ForeignsLemmas
 pub mod OneshotPlaceLemmas
+pub mod SpscLemmas

@@ -10,3 +10,4 @@ pub mod Driven
 pub mod Foreigns
 pub mod OneshotPlace
 pub mod Oneshot
+pub mod Spsc

@@ -10,6 +10,7 @@
 //! - `iter`: `Iter`, the items of an iterator as a stream.
 //! - `future` and `stream`: the functions that make these.
 //! - `oneshot`: a channel for one value, whose `Receiver` is a future. No call of it waits.
+//! - `spsc`: a bounded channel from one sender, whose `Receiver` is a stream. No call of it waits.
 //!
 //! Futures of the kit: a set, queue, join or adaptor over `Driven` holds `Foreign`s, each of which stands for one future, and hands it over when it is polled first. `Driven`, the source of the set, has it polled with the task's own context, and names the slot once the output has come. So only futures that were woken are polled, and an output wakes nobody. In the order in which to read them:
 //!
@@ -44,6 +45,8 @@ mod oneshot_plays;
 pub mod poll_fn;
 pub mod ready;
 mod running;
+pub mod spsc;
+mod spsc_place;
 pub mod stream;
 pub mod then;
 pub mod try_foreigns;

@@ -3,8 +3,9 @@
 //! - `values`: values, closures, one of two, and the items of an iterator.
 //! - `oneshots`: what a one-shot answers, whom it wakes, and what is dropped.
 //! - `oneshot_threads`, `oneshot_rounds`: one-shots that are sent from threads, and a send and a poll that meet in one round after another.
+//! - `spsc`, `spsc_threads`: channels from one sender, also where that is on a thread.
 //! - `driven`: futures of the kit.
-//! - `same`: assertions as calls.
+//! - `rounds`, `same`: rounds in which a thread acts, what a source names, and assertions as calls.
 #![tactic(auto)]
 
 #[cfg(test)]
@@ -16,6 +17,12 @@ mod oneshot_threads;
 #[cfg(test)]
 mod oneshots;
 #[cfg(test)]
+mod rounds;
+#[cfg(test)]
 mod same;
+#[cfg(test)]
+mod spsc;
+#[cfg(test)]
+mod spsc_threads;
 #[cfg(test)]
 mod values;

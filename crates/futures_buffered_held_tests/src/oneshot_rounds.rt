@@ -1,48 +1,18 @@
 //! A send and a poll meet in one round after another, each time at a new one-shot. Once both are over, either the value came, or the slot is marked and the value comes at the next poll: so no later wake stands in for one that was lost.
+use crate::rounds::{Rounds, new_rounds, pause, takes, wait_for};
 use crate::same::assert_same;
 use futures::task::Poll;
-use futures_buffered_core::ready_core::Taken;
 use futures_buffered_core::ready_shared::SharedReady;
 use futures_buffered_held::oneshot::{Receiver, Sender, channel};
 use futures_buffered_sets::slot_future::SlotFuture;
 use std::alloc::{AllocError, Global};
 use std::sync::Arc;
-use std::sync::atomic::AtomicU64;
 use std::sync::atomic::Ordering::SeqCst;
 use std::test::Fail;
-use std::thread::{self, yield_now};
+use std::thread;
 use test_support::keep::keep;
 
 const ROUNDS: u64 = 50_000;
-
-// After so many turns of a wait each further one lets other threads run.
-const BUSY_TURNS: u64 = 5_000;
-
-// The round in which the thread is to send, and the one whose send is over.
-#[derive(Drop)]
-struct Rounds {
-    begun: AtomicU64,
-    sent: AtomicU64,
-}
-
-// Waits until this is the round.
-fn wait_for(round: &AtomicU64, wanted: u64) {
-    for turn in 0..u64::MAX {
-        if round.load(SeqCst) == wanted {
-            return;
-        }
-        if turn > BUSY_TURNS {
-            yield_now();
-        }
-    }
-}
-
-// Lets a while pass that differs from round to round.
-fn pause(rounds: &Rounds, turns: u64) {
-    for _ in 0..turns {
-        let _ = rounds.sent.load(SeqCst);
-    }
-}
 
 // Sends once in each round.
 fn send_often(rounds: &Rounds, senders: Vec<Sender<u64>>) {
@@ -51,7 +21,7 @@ fn send_often(rounds: &Rounds, senders: Vec<Sender<u64>>) {
         wait_for(&rounds.begun, round);
         pause(rounds, round % 29);
         let _ = sender.send(round);
-        rounds.sent.store(round, SeqCst);
+        rounds.over.store(round, SeqCst);
     }
 }
 
@@ -61,19 +31,6 @@ fn polled(source: &SharedReady, receiver: &mut Receiver<u64>, round: u64) -> boo
         return false;
     }
     receiver.poll(source.waker(0)) == Poll::Ready(Ok(round))
-}
-
-// Whether slot 0 was marked. No slot is, after it.
-fn take_all(source: &mut SharedReady) -> bool {
-    let mut any = false;
-    for _ in 0..u64::MAX {
-        match source.take() {
-            Taken::Slot(_) => any = true,
-            Taken::Empty => return any,
-            Taken::Pause => {}
-        }
-    }
-    any
 }
 
 // One round: whether the value came, or the slot was marked and it came then.
@@ -86,8 +43,8 @@ fn meet(
     rounds.begun.store(round, SeqCst);
     pause(rounds, round % 31);
     let came = polled(source, receiver, round);
-    wait_for(&rounds.sent, round);
-    let is_marked = take_all(source);
+    wait_for(&rounds.over, round);
+    let is_marked = takes(source, 0);
     came || (is_marked && polled(source, receiver, round))
 }
 
@@ -121,11 +78,7 @@ fn no_wake_of_fifty_thousand_is_lost(rt: HostRuntime) -> Result<(), Fail> {
     let mut source: SharedReady = SharedReady::new(rt.alloc(), 1)?;
     let (mut receivers, mut senders) = (Vec::new(rt.alloc()), Vec::new(rt.alloc()));
     fill(rt.alloc(), &mut receivers, &mut senders)?;
-    let rounds = Rounds {
-        begun: AtomicU64::new(0),
-        sent: AtomicU64::new(0),
-    };
-    let rounds = Arc::new(rt.alloc(), rounds)?;
+    let rounds = new_rounds(rt.alloc())?;
     let shared = Arc::try_clone(&rounds)?;
     let thread = thread::spawn(&rt, move || send_often(&shared, senders))?;
     let lost = lost(&mut source, &rounds, receivers);

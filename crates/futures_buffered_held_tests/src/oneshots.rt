@@ -1,9 +1,9 @@
 //! Which waker a one-shot wakes, what it says of its receiver, what a receipt shows, and what is dropped. What else it answers stands in `one_shots.calls`.
 ghost use Rattle.std.specs.Prelude.{◌≡◌, IfOk, IfSome};
 
+use crate::rounds::name_of;
 use crate::same::assert_same;
 use futures::task::Poll;
-use futures_buffered_core::ready_core::Taken;
 use futures_buffered_core::ready_shared::{SharedReady, SharedWaker};
 use futures_buffered_held::oneshot::{Canceled, channel};
 use futures_buffered_sets::slot_future::SlotFuture;
@@ -13,15 +13,6 @@ use std::sync::atomic::Ordering::SeqCst;
 use std::test::Fail;
 use test_support::counter::new_counter;
 use test_support::dropped::Dropped;
-
-fn name_of(source: &mut SharedReady) -> Option<usize>
-    ensures { source.new.capacity ≡ source.old.capacity }
-{
-    match source.take() {
-        Taken::Slot(slot) => Some(slot),
-        _ => None,
-    }
-}
 
 #[test]
 fn the_waker_of_the_last_poll_is_woken(rt: HostRuntime) -> Result<(), Fail> {

@@ -1,0 +1,59 @@
+-- What the calls of a channel make of its two ends. A contract sees the ends of the ring, in the words of `rtrb`: what was sent and received, and what each end knows.
+use Rattle.std.specs.Prelude.{◌≡◌, ◌+◌, ◌≤◌, ℕ, List, [], ◌∷◌, ◌++◌, Option, Some, None, Result, Ok, Err}
+use mathlib.Core.List.{IsPrefix}
+use Rattle.rtrb.specs.declared.producer.Producer.{Producer}
+use Rattle.rtrb.specs.declared.consumer.Consumer.{Consumer}
+pub use Rattle.rtrb.specs.Ring.{sent, known_free, producer_capacity, received, known_items, consumer_capacity, all_sent, IsPair, Finishes, IsFinishedOf, SameProducer, SameConsumer, ProducerLooked, ConsumerLooked}
+use Rattle.rtrb.specs.Fifo.{Allowed}
+use Rattle.futures.specs.declared.task.Poll.{Poll}
+use Rattle.futures.specs.declared.task.Poll.TheVariants.{Ready, Pending}
+use Rattle.futures_buffered_merges.specs.SlotStream.{Gave}
+use Rattle.futures_buffered_held.specs.declared.spsc.TrySendError.{TrySendError}
+use Rattle.futures_buffered_held.specs.declared.spsc.TrySendError.TheVariants.{Full, Closed}
+use Rattle.futures_buffered_held.specs.declared.spsc.TryRecvError.{TryRecvError}
+use Rattle.futures_buffered_held.specs.declared.spsc.TryRecvError.TheVariants.{Empty, Disconnected}
+
+module _ {T A P : Type 0} where
+  -- the ends of a channel through which nothing was sent yet
+  pub record IsNewChannel (capacity : ℕ) (sender : Producer T A P) (receiver : Consumer T A P) : Type 0 where
+    pub pair : IsPair sender receiver
+    pub none_sent : sent sender ≡ []
+    pub none_received : (received receiver ≡ []) × (known_items receiver ≡ [])
+    -- each place is known to be free
+    pub room : known_free sender ≡ capacity
+    pub capacities : (producer_capacity sender ≡ capacity) × (consumer_capacity receiver ≡ capacity)
+
+  -- one sending: the value is sent behind those before it, or comes back, and is refused as full only where no place is known to be free
+  abbrev pub Sends : Producer T A P → T → Result (Unit {0}) (TrySendError T) → Producer T A P → Type 0
+  Sends old value (Ok done) new = (sent new ≡ sent old ++ value ∷ []) × (known_free old ≤ known_free new + 1)
+  Sends old value (Err (Full back)) new = (back ≡ value) × (sent new ≡ sent old) × (known_free old ≡ 0)
+      × (known_free new ≡ 0)
+  Sends old value (Err (Closed back)) new = (back ≡ value) × ProducerLooked old new
+
+  -- nothing came, and nothing is known to be in the channel
+  abbrev pub FindsNone : Consumer T A P → Consumer T A P → Type 0
+  FindsNone old new = ConsumerLooked old new × (known_items new ≡ [])
+
+  -- these values came, in order: behind those that came before, and those that are known to come next first
+  pub record Comes (allows : List T → T → Type 0) (old : Consumer T A P) (values : List T) (new : Consumer T A P) : Type 0 where
+    pub same : SameConsumer old new
+    pub next : received new ≡ received old ++ values
+    pub first : IsPrefix (known_items old) (values ++ known_items new)
+    pub allowed : Allowed allows (received old) values
+
+  -- one poll of a receiver
+  abbrev pub Receives : (List T → T → Type 0) → Consumer T A P → Poll (Option T) → Consumer T A P → Type 0
+  Receives allows old (Ready (Some x)) new = Comes allows old (x ∷ []) new
+  Receives allows old (Ready None) new = FindsNone old new
+  Receives allows old Pending new = FindsNone old new
+
+-- what many polls of a receiver gave came in order
+abbrev pub KeepsSendingOrder : (T A P : Type 0) → (List T → T → Type 0) → Type 0
+KeepsSendingOrder T A P allows = (old : Consumer T A P) (values : List T) (now : Consumer T A P)
+    → Gave (Receives allows) old values now → Comes allows old values now
+
+-- the answer of a poll that finds the same
+abbrev pub poll_of : {T : Type 0} → Result T TryRecvError → Poll (Option T)
+poll_of (Ok x) = Ready (Some x)
+poll_of (Err Empty) = Pending
+poll_of (Err Disconnected) = Ready None
