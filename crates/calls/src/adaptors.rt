@@ -1,22 +1,26 @@
 //! Adaptors: buffers over a stream of futures, and the for-each.
 ghost use Rattle.std.specs.Prelude.{◌<◌, ◌≤◌};
+ghost use Rattle.calls.specs.declared.values.TryUnitFuture.{TryUnitFuture};
 ghost use Rattle.calls.specs.declared.values.UnitFuture.{UnitFuture};
 
-use crate::answer::{Answer, Reply, of_debug, of_end, of_hint, of_output, of_result};
+use crate::answer::{Answer, Reply, of_debug, of_end, of_hint, of_output, of_result, of_try_end};
 use crate::command::Query;
 use crate::lines::run_made;
 use crate::session::{Options, Session};
 use crate::shared_world::SharedWorld;
 use crate::source::{FutureSource, TryFutureSource};
 use crate::subject::{Call, Subject};
-use crate::values::{NumberFuture, TryFuture, UnitFuture};
+use crate::values::{NumberFuture, TryFuture, TryUnitFuture, UnitFuture};
+use futures::stream::TryStreamExt;
 use futures::task::Context;
 use futures::{Future, Stream};
+use futures_buffered::BufferedTryStreamExt;
 use futures_buffered::buffer_unordered::BufferUnordered;
 use futures_buffered::buffered_ordered::BufferedOrdered;
 use futures_buffered::for_each_concurrent::ForEachConcurrent;
 use futures_buffered::try_buffer_unordered::TryBufferUnordered;
 use futures_buffered::try_buffered_ordered::TryBufferedOrdered;
+use futures_buffered::try_for_each_concurrent::TryForEachConcurrent;
 use futures_buffered_core::ready_core::NewFault;
 use futures_buffered_core::ready_shared::SharedReady;
 use futures_buffered_sets::futures_unordered_bounded::POLL_LIMIT;
@@ -50,6 +54,7 @@ impl Subject for BufferUnordered<FutureSource<NumberFuture>, SharedReady> {
             Call::Ask(Query::Len) => Reply::Number(self.len()),
             Call::Ask(Query::IsEmpty) => Reply::Is(self.is_empty()),
             Call::Ask(Query::Capacity) => Reply::Number(self.capacity()),
+            Call::Ask(Query::HasStream) => Reply::Is(self.stream().is_some()),
             Call::Ask(Query::IsTerminated) => Reply::Is(self.is_terminated()),
             Call::Ask(Query::Debug) => of_debug(write!(text, "{self:?}")),
             _ => Reply::Nothing,
@@ -101,6 +106,7 @@ impl Subject for BufferedOrdered<FutureSource<NumberFuture>, SharedReady> {
             Call::Ask(Query::Len) => Reply::Number(self.len()),
             Call::Ask(Query::IsEmpty) => Reply::Is(self.is_empty()),
             Call::Ask(Query::Capacity) => Reply::Number(self.capacity()),
+            Call::Ask(Query::HasStream) => Reply::Is(self.stream().is_some()),
             Call::Ask(Query::IsTerminated) => Reply::Is(self.is_terminated()),
             Call::Ask(Query::Debug) => of_debug(write!(text, "{self:?}")),
             _ => Reply::Nothing,
@@ -141,7 +147,7 @@ pub fn run_ordered_buffer(
     run_made(session, made, lines)
 }
 
-impl Subject for TryBufferUnordered<TryFutureSource, TryFuture, SharedReady> {
+impl Subject for TryBufferUnordered<TryFutureSource<TryFuture>, TryFuture, SharedReady> {
     fn poll(&mut self, cx: &mut Context<'_>, _outputs: &mut Vec<u64>) -> Answer {
         of_result(self.poll_next(cx))
     }
@@ -152,6 +158,7 @@ impl Subject for TryBufferUnordered<TryFutureSource, TryFuture, SharedReady> {
             Call::Ask(Query::Len) => Reply::Number(self.len()),
             Call::Ask(Query::IsEmpty) => Reply::Is(self.is_empty()),
             Call::Ask(Query::Capacity) => Reply::Number(self.capacity()),
+            Call::Ask(Query::HasStream) => Reply::Is(self.stream().is_some()),
             Call::Ask(Query::IsTerminated) => Reply::Is(self.is_terminated()),
             Call::Ask(Query::Debug) => of_debug(write!(text, "{self:?}")),
             _ => Reply::Nothing,
@@ -161,9 +168,9 @@ impl Subject for TryBufferUnordered<TryFutureSource, TryFuture, SharedReady> {
 
 fn new_try_buffer(
     options: &Options,
-    source: TryFutureSource,
+    source: TryFutureSource<TryFuture>,
     n: usize,
-) -> Result<TryBufferUnordered<TryFutureSource, TryFuture, SharedReady>, NewFault>
+) -> Result<TryBufferUnordered<TryFutureSource<TryFuture>, TryFuture, SharedReady>, NewFault>
     requires { 0 < n }
 {
     match options.limit {
@@ -184,12 +191,15 @@ pub fn run_try_buffer(
     if n == 0 {
         return Ok(0);
     }
-    let source: TryFutureSource = TryFutureSource::new(&session.world, session.options.hint)?;
+    let source: TryFutureSource<TryFuture> = TryFutureSource::new(
+        &session.world,
+        session.options.hint,
+    )?;
     let made = new_try_buffer(&session.options, source, n);
     run_made(session, made, lines)
 }
 
-impl Subject for TryBufferedOrdered<TryFutureSource, TryFuture, SharedReady> {
+impl Subject for TryBufferedOrdered<TryFutureSource<TryFuture>, TryFuture, SharedReady> {
     fn poll(&mut self, cx: &mut Context<'_>, _outputs: &mut Vec<u64>) -> Answer {
         of_result(self.poll_next(cx))
     }
@@ -200,6 +210,7 @@ impl Subject for TryBufferedOrdered<TryFutureSource, TryFuture, SharedReady> {
             Call::Ask(Query::Len) => Reply::Number(self.len()),
             Call::Ask(Query::IsEmpty) => Reply::Is(self.is_empty()),
             Call::Ask(Query::Capacity) => Reply::Number(self.capacity()),
+            Call::Ask(Query::HasStream) => Reply::Is(self.stream().is_some()),
             Call::Ask(Query::IsTerminated) => Reply::Is(self.is_terminated()),
             Call::Ask(Query::Debug) => of_debug(write!(text, "{self:?}")),
             _ => Reply::Nothing,
@@ -209,9 +220,9 @@ impl Subject for TryBufferedOrdered<TryFutureSource, TryFuture, SharedReady> {
 
 fn new_try_ordered_buffer(
     options: &Options,
-    source: TryFutureSource,
+    source: TryFutureSource<TryFuture>,
     n: usize,
-) -> Result<TryBufferedOrdered<TryFutureSource, TryFuture, SharedReady>, NewFault>
+) -> Result<TryBufferedOrdered<TryFutureSource<TryFuture>, TryFuture, SharedReady>, NewFault>
     requires { 0 < n }
 {
     match options.limit {
@@ -232,7 +243,10 @@ pub fn run_try_ordered_buffer(
     if n == 0 {
         return Ok(0);
     }
-    let source: TryFutureSource = TryFutureSource::new(&session.world, session.options.hint)?;
+    let source: TryFutureSource<TryFuture> = TryFutureSource::new(
+        &session.world,
+        session.options.hint,
+    )?;
     let made = new_try_ordered_buffer(&session.options, source, n);
     run_made(session, made, lines)
 }
@@ -250,6 +264,7 @@ impl<F: FnMut(UnitFuture) -> UnitFuture + Drop> Subject
             Call::Ask(Query::Len) => Reply::Number(self.len()),
             Call::Ask(Query::IsEmpty) => Reply::Is(self.is_empty()),
             Call::Ask(Query::Capacity) => Reply::Number(self.capacity()),
+            Call::Ask(Query::HasStream) => Reply::Is(self.stream().is_some()),
             Call::Ask(Query::IsTerminated) => Reply::Is(self.is_terminated()),
             Call::Ask(Query::Debug) => of_debug(write!(text, "{self:?}")),
             _ => Reply::Nothing,
@@ -286,5 +301,70 @@ pub fn run_for_each(
     let source: FutureSource<UnitFuture> = FutureSource::new(&session.world, session.options.hint)?;
     let call = |item: UnitFuture| item.called();
     let made = new_for_each(&session.options, source, n, call);
+    run_made(session, made, lines)
+}
+
+impl<F: FnMut(TryUnitFuture) -> TryUnitFuture + Drop> Subject
+    for TryForEachConcurrent<TryFutureSource<TryUnitFuture>, F, TryUnitFuture, SharedReady> {
+    ghost can_poll = { (closure : F) (item : TryUnitFuture) → F.pre closure item };
+
+    fn poll(&mut self, cx: &mut Context<'_>, _outputs: &mut Vec<u64>) -> Answer {
+        of_try_end(Future::poll(self, cx))
+    }
+
+    fn call(&mut self, call: Call<'_>, _world: &SharedWorld, text: &mut String) -> Reply {
+        match call {
+            Call::Ask(Query::Len) => match self.buffer() {
+                Some(buffer) => Reply::Number(buffer.len()),
+                None => Reply::Number(0),
+            },
+            Call::Ask(Query::HasStream) => match self.buffer() {
+                Some(buffer) => Reply::Is(buffer.stream().is_some()),
+                None => Reply::Is(false),
+            },
+            Call::Ask(Query::IsTerminated) => Reply::Is(self.is_terminated()),
+            Call::Ask(Query::Debug) => of_debug(write!(text, "{self:?}")),
+            _ => Reply::Nothing,
+        }
+    }
+}
+
+fn new_try_for_each<F: FnMut(TryUnitFuture) -> TryUnitFuture + Drop>(
+    options: &Options,
+    source: TryFutureSource<TryUnitFuture>,
+    n: usize,
+    call: F,
+) -> Result<
+    TryForEachConcurrent<TryFutureSource<TryUnitFuture>, F, TryUnitFuture, SharedReady>,
+    NewFault,
+>
+    requires { 0 < n }
+{
+    match options.limit {
+        Some(limit) if limit > 0 => {
+            TryForEachConcurrent::over_limit(&(), options.alloc, source.map_ok(call), n, limit)
+        }
+        _ if options.takes_source => {
+            TryForEachConcurrent::over(&(), options.alloc, source.map_ok(call), n)
+        }
+        _ => BufferedTryStreamExt::try_for_each_concurrent(source, options.alloc, n, call),
+    }
+}
+
+pub fn run_try_for_each(
+    session: &mut Session,
+    numbers: &[usize],
+    lines: &[&str],
+) -> Result<usize, NewFault> {
+    let n = size_of(numbers);
+    if n == 0 {
+        return Ok(0);
+    }
+    let source: TryFutureSource<TryUnitFuture> = TryFutureSource::new(
+        &session.world,
+        session.options.hint,
+    )?;
+    let call = |item: TryUnitFuture| item.called();
+    let made = new_try_for_each(&session.options, source, n, call);
     run_made(session, made, lines)
 }

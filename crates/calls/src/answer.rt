@@ -108,6 +108,15 @@ pub fn of_end(polled: Poll<()>) -> Answer {
     }
 }
 
+/// The answer of a try-for-each.
+pub fn of_try_end(polled: Poll<Result<(), u64>>) -> Answer {
+    match polled {
+        Poll::Pending => Answer::Pending,
+        Poll::Ready(Ok(())) => Answer::Ready,
+        Poll::Ready(Err(error)) => Answer::ReadyError(error),
+    }
+}
+
 /// The reply of an object of so many slots, which refuses where it is full.
 pub fn of_push<T: Drop>(pushed: Result<(), T>) -> Reply {
     match pushed {

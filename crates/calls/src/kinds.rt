@@ -1,6 +1,7 @@
 //! What each kind of object is begun by.
 use crate::adaptors::{
-    run_buffer, run_for_each, run_ordered_buffer, run_try_buffer, run_try_ordered_buffer,
+    run_buffer, run_for_each, run_ordered_buffer, run_try_buffer, run_try_for_each,
+    run_try_ordered_buffer,
 };
 use crate::command::Kind;
 use crate::foreigns;
@@ -36,6 +37,7 @@ pub fn run_kind(
         Kind::TryBufferedUnordered => run_try_buffer(session, numbers, lines),
         Kind::TryBufferedOrdered => run_try_ordered_buffer(session, numbers, lines),
         Kind::ForEach => run_for_each(session, numbers, lines),
+        Kind::TryForEach => run_try_for_each(session, numbers, lines),
         Kind::ForeignSet => foreigns::run_set(session, numbers, lines),
         Kind::ForeignQueue => foreigns::run_queue(session, numbers, lines),
         Kind::ForeignJoin => foreigns::run_join(session, numbers, lines),

@@ -41,6 +41,10 @@ impl Subject for FuturesOrderedBounded<NumberFuture, SharedReady> {
                 let extended = self.extend(new_values(world, ids));
                 of_listed(extended, self.is_full())
             }
+            Call::Clear => {
+                self.clear();
+                Reply::Ok
+            }
             Call::Ask(Query::Len) => Reply::Number(self.len()),
             Call::Ask(Query::Capacity) => Reply::Number(self.capacity()),
             Call::Ask(Query::Limit) => Reply::Number(self.limit()),
@@ -69,6 +73,10 @@ impl Subject for FuturesOrdered<NumberFuture, SharedReady> {
                 None => Reply::Nothing,
             },
             Call::Extend(ids) => of_growth(self.extend(new_values(world, ids))),
+            Call::Clear => {
+                self.clear();
+                Reply::Ok
+            }
             Call::Ask(Query::Len) => Reply::Number(self.len()),
             Call::Ask(Query::Limit) => Reply::Number(self.limit()),
             Call::Ask(Query::SizeHint) => of_hint(self.size_hint()),

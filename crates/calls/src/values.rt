@@ -161,6 +161,39 @@ impl SlotFuture<SharedWaker> for UnitFuture {
     }
 }
 
+/// A future that gives nothing or fails with a number: an item of a try-for-each, and what its closure makes of it.
+#[derive(Drop)]
+pub struct TryUnitFuture(Script);
+
+impl TryUnitFuture {
+    /// What the closure does with its item: the call is seen.
+    pub fn called(self) -> TryUnitFuture {
+        self.0.see_call();
+        self
+    }
+}
+
+impl Scripted for TryUnitFuture {
+    fn new(script: Script) -> TryUnitFuture {
+        let mut script = script;
+        script.role = Role::TryFuture;
+        TryUnitFuture(script)
+    }
+}
+
+impl SlotFuture<SharedWaker> for TryUnitFuture {
+    type Output = Result<(), u64>;
+
+    fn poll(&mut self, waker: &SharedWaker) -> Poll<Result<(), u64>> {
+        match self.0.poll(waker) {
+            Action::Value(_) => Poll::Ready(Ok(())),
+            Action::Error(error) => Poll::Ready(Err(error)),
+            Action::Pending => Poll::Pending,
+            Action::Output(_) | Action::Slot | Action::Receive | Action::End => self.0.misuse(),
+        }
+    }
+}
+
 /// A stream of numbers, for a merge.
 #[derive(Drop)]
 pub struct NumberStream(Script);

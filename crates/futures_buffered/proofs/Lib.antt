@@ -5,4 +5,5 @@ pub mod BufferUnorderedAccountLemmas
 pub mod BufferedOrderedAccountLemmas
 pub mod TryBufferLemmas
 pub mod ForEachConcurrentLemmas
+pub mod TryForEachConcurrentLemmas
 pub mod TryBufferAccountLemmas

@@ -1,5 +1,5 @@
 //! Some futures of a stream at a time, in any queue of futures.
-ghost use Rattle.std.specs.Prelude.{◌≡◌, ◌<◌, ◌≤◌, ◌↔◌, List, IfOk, IsTrue, None, false};
+ghost use Rattle.std.specs.Prelude.{◌≡◌, ◌<◌, ◌≤◌, ◌↔◌, List, IfOk, IsTrue, None, false, option_copied};
 ghost use Rattle.futures_buffered_core.specs.Answer.{RefusesTooLarge};
 ghost use Rattle.futures_buffered_unordered.specs.StreamAnswers.{StreamAnswers};
 ghost use Rattle.futures_buffered.specs.Buffer.{PollsStream, DrawsAll, DrawsUpToOne, DrawsBuffer, DrawsTask, CallGives, CallLeavesBuffer, CallLeavesTask, HasNoTurn, IsNewBuffer, CanDraw, WaitsAt, BufferGives, hint_with, hint_ahead};
@@ -87,6 +87,13 @@ impl<St: Stream, Q: FutureQueue<St::Item>> Buffer<St, Q> {
         ensures { result ≡ Q.room self.now.queue }
     {
         self.queue.capacity()
+    }
+
+    /// The stream that items are drawn from, or `None` once it has ended: it was dropped then. Takes the same time at any number.
+    pub fn stream(&self) -> Option<&St>
+        ensures { option_copied result ≡ self.now.stream }
+    {
+        self.stream.as_ref()
     }
 
     // Draws one item, if the stream has not ended, there is room, and an item comes. Says whether one was drawn.

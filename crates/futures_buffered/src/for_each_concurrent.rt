@@ -1,5 +1,5 @@
 //! A closure called with each item of a stream, and some of the futures that it makes at a time.
-ghost use Rattle.std.specs.Prelude.{◌≡◌, ◌<◌, ◌≤◌, ◌↔◌, Option, IfOk, IsTrue, true, false};
+ghost use Rattle.std.specs.Prelude.{◌≡◌, ◌<◌, ◌≤◌, ◌↔◌, Option, IfOk, IsTrue, true, false, option_copied};
 ghost use Rattle.futures.specs.Task.{Covers, Keeps};
 ghost use Rattle.futures.specs.Runs.{Calls};
 ghost use Rattle.futures.specs.Poll.{OnPending};
@@ -117,6 +117,13 @@ impl<St: Drop, F: Drop, Fut: Drop, S: ReadySource> ForEachConcurrent<St, F, Fut,
         ensures { result ≡ slots_in self.now.buffer.queue }
     {
         self.queue.capacity()
+    }
+
+    /// The stream that items are drawn from, or `None` once it has ended: it was dropped then. Takes the same time at any number.
+    pub fn stream(&self) -> Option<&St>
+        ensures { option_copied result ≡ self.now.buffer.stream }
+    {
+        self.stream.as_ref()
     }
 }
 

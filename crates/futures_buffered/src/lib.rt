@@ -12,6 +12,7 @@
 //! - `buffered`: `BufferedStreamExt`, these adaptors as methods of a stream.
 //! - `try_buffer`: `TryBuffer`, as `Buffer`, over a stream that gives errors as well.
 //! - `try_buffer_unordered` and `try_buffered_ordered`: `TryBufferUnordered` and `TryBufferedOrdered`, whose stream gives errors as well.
+//! - `try_for_each_concurrent`: `TryForEachConcurrent`, as `ForEachConcurrent`, over such a stream, and `TryDrain`, which it is made of.
 //! - `try_buffered`: `BufferedTryStreamExt`, these as methods of a stream.
 //! - `iter_ext`: `IterExt`, the constructors of sets, queues, joins and merges as methods of what gives the items.
 #![tactic(auto)]
@@ -27,6 +28,7 @@ pub mod try_buffer;
 pub mod try_buffer_unordered;
 pub mod try_buffered;
 pub mod try_buffered_ordered;
+pub mod try_for_each_concurrent;
 
 pub use buffer::Buffer;
 pub use buffer_unordered::{BufferUnordered, CompletionQueue};
@@ -50,8 +52,9 @@ pub use futures_buffered_held::{
     GrowingForeignMerge, GrowingForeignQueue, GrowingForeignSet, TryForeigns, driven, foreign,
     foreign_join_all, foreign_merge, foreign_queue, foreign_set, foreign_sets, foreign_stream,
     foreign_try_join_all, foreigns, future, growing_foreign_merge, growing_foreign_queue,
-    growing_foreign_set, mailbox, oneshot, stream, try_foreigns,
+    growing_foreign_set, mailbox, oneshot, spsc, stream, try_foreigns,
 };
+// Sets, queues, joins and merges.
 pub use futures_buffered_sets::{
     FusedFuture, FusedStream, FuturesOrdered, FuturesOrderedBounded, FuturesUnordered,
     FuturesUnorderedBounded, JoinAll, Merge, MergeBounded, MergeUnbounded, PollFuture, PollOne,

@@ -1,5 +1,5 @@
 //! Some futures of a stream at a time, in any queue of futures, where the stream gives errors as well.
-ghost use Rattle.std.specs.Prelude.{◌≡◌, ◌<◌, ◌≤◌, ◌↔◌, [], List, Result, Ok, IfOk, IfErr, IsOk, OnOk, IsTrue, false};
+ghost use Rattle.std.specs.Prelude.{◌≡◌, ◌<◌, ◌≤◌, ◌↔◌, [], List, Result, Ok, IfOk, IfErr, IsOk, OnOk, IsTrue, false, option_copied};
 ghost use Rattle.futures_buffered_core.specs.Answer.{RefusesTooLarge};
 ghost use Rattle.futures_buffered_unordered.specs.StreamAnswers.{StreamAnswers};
 ghost use Rattle.futures_buffered.specs.Buffer.{PollsStream, DrawsAll, DrawsUpToOne, DrawsBuffer, DrawsTask, CallLeavesBuffer, CallLeavesTask, HasNoTurn, IsNewBuffer, WaitsAt, hint_with, hint_ahead};
@@ -93,6 +93,13 @@ where
         ensures { result ≡ Q.room self.now.queue }
     {
         self.queue.capacity()
+    }
+
+    /// The stream that futures are drawn from, or `None` once it has ended: it was dropped then. Takes the same time at any number.
+    pub fn stream(&self) -> Option<&St>
+        ensures { option_copied result ≡ self.now.stream }
+    {
+        self.stream.as_ref()
     }
 
     // Draws one future, if the stream has not ended, there is room, and one comes. Says whether one was drawn, or the error that came in its place.

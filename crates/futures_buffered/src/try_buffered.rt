@@ -8,12 +8,16 @@ ghost use Rattle.futures_buffered_core.specs.ReadyShared.{IsNewShared};
 ghost use Rattle.futures_buffered_held.specs.Driven.{IsNewDriven};
 ghost use Rattle.futures_buffered.specs.Buffer.{IsNewBuffer};
 ghost use Rattle.futures_buffered_ordered.specs.FuturesOrderedBounded.{IsNewBoundedQueue};
+ghost use Rattle.futures_buffered.specs.TryForEachConcurrent.{IsNewDrain};
 
 pub use crate::try_buffer_unordered::TryBufferUnordered;
 pub use crate::try_buffered_ordered::TryBufferedOrdered;
+pub use crate::try_for_each_concurrent::TryForEachConcurrent;
+use futures::stream::TryStreamExt;
 use futures::{Future, Stream};
 use futures_buffered_core::ready_core::NewFault;
 use futures_buffered_core::ready_shared::{SharedReady, SharedWaker};
+use futures_buffered_held::mailbox::Mailbox;
 use futures_buffered_held::{Driven, Foreign, TryForeigns};
 use futures_buffered_unordered::SlotFuture;
 use futures_buffered_unordered::futures_unordered_bounded::POLL_LIMIT;
@@ -101,6 +105,53 @@ pub trait BufferedTryStreamExt: Stream {
         ensures refuses { RefusesTooLarge n result }
     {
         TryBufferUnordered::over(&(), alloc, TryForeigns::new(self), n)
+    }
+
+    /// Calls `f` with each `Ok` item of this stream, once and in order, and runs the futures that it makes, at most `limit` at a time, up to the first error, of the stream or of a future. Nothing is polled.
+    ///
+    /// `futures::TryStreamExt` has a method of this name too. Where both traits are in scope it is called by its path: `BufferedTryStreamExt::try_for_each_concurrent(stream, alloc, limit, f)`.
+    ///
+    /// Takes time and memory in proportion to `limit`. Stream and closure are dropped where they are refused: `TooLarge` where `limit` is above `MAX_CAPACITY`, and `Memory` where a request for memory was refused.
+    final fn try_for_each_concurrent<T, E, Fut, F>(
+        self,
+        alloc: Global,
+        limit: usize,
+        f: F,
+    ) -> Result<TryForEachConcurrent<Self, F, Fut, SharedReady>, NewFault>
+    where
+        Self: Stream<Item = Result<T, E>> + Sized,
+        E: Drop,
+        F: FnMut(T) -> Fut + Drop,
+        Fut: SlotFuture<SharedWaker, Output = Result<(), E>>,
+        requires { 0 < limit }
+        ensures new { IfOk result (IsNewDrain (IsNewSet IsNewShared limit POLL_LIMIT) POLL_LIMIT
+            (record { stream = self; f = f })) }
+        ensures refuses { RefusesTooLarge limit result }
+    {
+        TryForEachConcurrent::over(&(), alloc, self.map_ok(f), limit)
+    }
+
+    /// As `try_for_each_concurrent`, where `f` makes a `Foreign` of each item, or a future made of one. The futures of the kit are polled with the task's own context.
+    ///
+    /// Takes time and memory in proportion to `limit`. Where it is refused, so is `try_for_each_concurrent`.
+    final fn foreign_try_for_each_concurrent<T, E, Fut, Held, F>(
+        self,
+        alloc: Global,
+        limit: usize,
+        f: F,
+    ) -> Result<TryForEachConcurrent<Self, F, Held, Driven<Fut>>, NewFault>
+    where
+        Self: Stream<Item = Result<T, E>> + Sized,
+        E: Drop,
+        Fut: Future<Output: Drop>,
+        F: FnMut(T) -> Held + Drop,
+        Held: SlotFuture<Mailbox<Fut>, Output = Result<(), E>>,
+        requires { 0 < limit }
+        ensures new { IfOk result (IsNewDrain (IsNewSet IsNewDriven limit POLL_LIMIT) POLL_LIMIT
+            (record { stream = self; f = f })) }
+        ensures refuses { RefusesTooLarge limit result }
+    {
+        TryForEachConcurrent::over_limit(&(), alloc, self.map_ok(f), limit, POLL_LIMIT)
     }
 }
 

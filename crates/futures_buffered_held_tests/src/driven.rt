@@ -4,7 +4,7 @@
 // - `turns`: outputs of a slot that holds another future by now.
 // - `drops`: what a source that leaves lets go.
 // - `busy`: a source that is asked while another thread has the futures polled.
-// - `adaptors`: the five adaptors over streams of futures that a thread completes.
+// - `adaptors`: the adaptors over streams of futures that a thread completes.
 // - `short_names`: what the short names of sets, queues, joins and merges make.
 // - `nested`: joins as futures of a set.
 // - `threads`: futures that are completed from threads.

@@ -57,6 +57,10 @@ module _ {Q A : Type 0} where
     pub no_entries : q.entries ≡ []
     pub has_room : n ≤ q.room
 
+  -- the set is this one; there is no entry, and a place for as many as before
+  abbrev pub without_entries : Q → Ordered Q A → Ordered Q A
+  without_entries set q = record { set = set; entries = []; room = q.room }
+
   -- all is as it was, but that there may be a place for more entries
   pub record Stays (old new : Ordered Q A) : Type 0 where
     pub set : new.set ≡ old.set

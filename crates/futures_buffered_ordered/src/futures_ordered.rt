@@ -6,7 +6,7 @@ ghost use Rattle.std.specs.Iterator.{IsFiniteIterable};
 ghost use Rattle.futures_buffered_core.specs.Answer.{RefusesTooLarge};
 ghost use Rattle.futures_buffered_core.specs.ReadyShared.{IsNewShared, MarksShared, Shared};
 ghost use Rattle.futures_buffered_unordered.specs.FuturesUnordered.{EachCovered, no_groups};
-ghost use Rattle.futures_buffered_ordered.specs.OrderedEntries.{AddsBack, AddsEachBack, AddsFront, EachHasOne, HandsBack, IsAtEnd, MayRefuse, OrderedGives, PollsQueue, PollsQueueTask, Stays, StopsAt};
+ghost use Rattle.futures_buffered_ordered.specs.OrderedEntries.{AddsBack, AddsEachBack, AddsFront, EachHasOne, HandsBack, IsAtEnd, MayRefuse, OrderedGives, PollsQueue, PollsQueueTask, Stays, StopsAt, without_entries};
 ghost use Rattle.futures_buffered_unordered.specs.FuturesUnordered.{SetMayRefuse, SetRefuses};
 ghost use Rattle.futures_buffered_unordered.specs.Extended.{GrowsByAllOf, HoldsAllOf, Outgrows};
 ghost use Rattle.futures_buffered_ordered.specs.FuturesOrdered.{EachInProgress, IsNewGrowingQueue, OrderedGrowing, GrowingPushesNumber, GroupsGiveNumbered, GroupsLeaveTaskNumbered, held_in_groups, held_in_groups_with};
@@ -203,6 +203,16 @@ impl<T: Drop, A: Drop, S: NewSource> GrowingQueue<T, A, S> {
             I.into_iter_gives I.IntoIter.next_gives iter self.old back self.new) }
     {
         self.queue.extend(iter)
+    }
+
+    /// Drops each entry: the future that is in progress, with the groups, or the output that is kept.
+    ///
+    /// There is a place for as many entries as before. Takes no memory, and time in proportion to the slots of the groups and the entries, besides the drops. Wakes a task that waits, as that of `FuturesUnordered` does.
+    pub fn clear(&mut self)
+        ensures { self.new ≡ without_entries (no_groups self.old.set.limit) self.old }
+    {
+        self.queue.set.clear();
+        self.queue.drop_entries();
     }
 
     /// One poll of the queue, where `rule` says how one held future is polled.

@@ -7,10 +7,10 @@ ghost use Rattle.futures_buffered_core.specs.Answer.{RefusesTooLarge};
 ghost use Rattle.futures_buffered_core.specs.Drawn.{Draws, DrawsMoreThan};
 ghost use Rattle.futures_buffered_core.specs.ReadyShared.{IsNewShared, MarksShared};
 ghost use Rattle.futures_buffered_core.specs.SlotMap.{slot_count};
-ghost use Rattle.futures_buffered_unordered.specs.FuturesUnorderedBounded.{held_in};
+ghost use Rattle.futures_buffered_unordered.specs.FuturesUnorderedBounded.{emptied, held_in};
 ghost use Rattle.futures_buffered_unordered.specs.Extended.{HoldsAllOf};
 ghost use Rattle.futures_buffered_ordered.specs.Numbered.{held_with};
-ghost use Rattle.futures_buffered_ordered.specs.OrderedEntries.{AddsBack, AddsEachBack, AddsFront, EachHasOne, HandsBack, IsAtEnd, OrderedGives, PollsQueue, PollsQueueTask, StopsAt};
+ghost use Rattle.futures_buffered_ordered.specs.OrderedEntries.{AddsBack, AddsEachBack, AddsFront, EachHasOne, HandsBack, IsAtEnd, OrderedGives, PollsQueue, PollsQueueTask, StopsAt, without_entries};
 ghost use Rattle.futures_buffered_ordered.specs.FuturesOrderedBounded.{EachRunning, HoldsInOrder, QueueIsFull, IsNewBoundedQueue, PushesNumber, SameSlots, SetGives, SetIsFull, SetLeavesTask, SetPends, TakesFewNames};
 
 use crate::numbered::{Numbered, PollNumbered};
@@ -226,6 +226,16 @@ impl<T: Drop, A: Drop, S: ReadySource> BoundedQueue<T, A, S> {
         ensures capacity { slot_count self.new.set.slots ≡ slot_count self.old.set.slots }
     {
         self.queue.extend(iter)
+    }
+
+    /// Drops each entry: the future that is in progress, or the output that is kept. Each slot is free then, and slot 0 is the first to be used again.
+    ///
+    /// A slot that was marked stays marked, as with `clear` of the set. There is a place for as many entries as before. Takes no memory, and time in proportion to the capacity and the entries, besides the drops. Wakes nobody.
+    pub fn clear(&mut self)
+        ensures { self.new ≡ without_entries (emptied self.old.set) self.old }
+    {
+        self.queue.set.clear();
+        self.queue.drop_entries();
     }
 
     /// One poll of the queue, where `rule` says how one held future is polled.

@@ -7,7 +7,7 @@ ghost use Rattle.futures.specs.Task.{Keeps};
 ghost use Rattle.futures.specs.Poll.{IfReady, OnPending};
 ghost use Rattle.futures_buffered_unordered.specs.Extended.{HoldsAllOf};
 ghost use Rattle.futures_buffered_ordered.specs.declared.ordered_entries.Entry.TheVariants.{Kept};
-ghost use Rattle.futures_buffered_ordered.specs.OrderedEntries.{AddsBack, AddsEachBack, AddsFront, GivesWithTask, HandsBack, IsAtEnd, LastStep, MayRefuse, OrderedGives, PollsQueue, PollsQueueTask, SetYields, Stays, StopsAt, starts_running, with_task};
+ghost use Rattle.futures_buffered_ordered.specs.OrderedEntries.{AddsBack, AddsEachBack, AddsFront, GivesWithTask, HandsBack, IsAtEnd, LastStep, MayRefuse, OrderedGives, PollsQueue, PollsQueueTask, SetYields, Stays, StopsAt, starts_running, with_task, without_entries};
 ghost use Rattle.futures_buffered_ordered.specs.OrderedEntriesInvariant.{AddingKeeps, CanPollEntries, IsNumbered};
 
 use crate::numbered::Numbered;
@@ -98,6 +98,15 @@ impl<Q: Drop, A: Drop> OrderedEntries<Q, A> {
         ensures { IsTrue result ↔ (length self.now.queue.entries ≡ 0) }
     {
         self.entries.is_empty()
+    }
+
+    // Drops each entry, with the output that it keeps. The set stays, so the caller has to take out what is in progress. Takes no memory.
+    pub(crate) fn drop_entries(&mut self)
+        ensures queue { self.new.queue ≡ without_entries self.old.queue.set self.old.queue }
+        ensures first { self.new.outgoing ≡ 0 }
+    {
+        self.entries.clear();
+        self.outgoing = 0;
     }
 
     fn front_runs(&self) -> bool

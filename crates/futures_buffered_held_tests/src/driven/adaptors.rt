@@ -1,4 +1,4 @@
-//! The five adaptors over streams of futures of the kit, which a thread completes.
+//! The adaptors over streams of futures of the kit, which a thread completes.
 use crate::same::assert_same;
 use futures::channel::oneshot::{Canceled, Receiver, Sender, channel};
 use futures::executor::block_on;
@@ -103,6 +103,26 @@ fn for_each_item(rt: HostRuntime) -> Result<(), Fail> {
     })?;
     block_on(&rt, all)?;
     assert_same(&rt, sum.load(SeqCst), 190);
+    Ok(())
+}
+
+// Item 13 fails, and the closure is not called with each of those behind it.
+#[test]
+fn for_each_item_up_to_an_error(rt: HostRuntime) -> Result<(), Fail> {
+    let calls = new_counter(rt.alloc())?;
+    let counted = Arc::try_clone(&calls)?;
+    let numbers = stream::iter(0..100u64).map(Ok::<_, u64>);
+    let all = numbers.foreign_try_for_each_concurrent(rt.alloc(), 4, move |n: u64| {
+        counted.fetch_add(1, SeqCst);
+        Foreign::new(ready(if n == 13 { Err(n) } else { Ok(()) }))
+    })?;
+    let ended = block_on(&rt, all)?;
+    let calls = calls.load(SeqCst);
+    assert_same(
+        &rt,
+        (ended, 14 <= calls, calls <= 18),
+        (Err(13), true, true),
+    );
     Ok(())
 }
 

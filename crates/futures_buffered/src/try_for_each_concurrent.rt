@@ -1,0 +1,198 @@
+//! A closure called with each item of a stream that gives errors as well, up to the first error, and some of the futures that it makes at a time.
+//!
+//! The stream with the closure is the kit's `MapOk`. A `TryBuffer` draws from it, and a `TryDrain` polls that to its end.
+ghost use Rattle.std.specs.Prelude.{◌≡◌, ◌<◌, ◌≤◌, IfOk, IfSome, IfNone, option_copied};
+ghost use Rattle.futures.specs.Task.{Covers, Keeps};
+ghost use Rattle.futures.specs.Poll.{OnPending};
+ghost use Rattle.futures_buffered_core.specs.Answer.{RefusesTooLarge};
+ghost use Rattle.futures_buffered_unordered.specs.FuturesUnorderedBounded.{IsWoken};
+ghost use Rattle.futures_buffered.specs.Buffer.{PollsStream, WaitsAt};
+ghost use Rattle.futures_buffered.specs.TryBuffer.{CanTryDraw, TryBufferGives};
+ghost use Rattle.futures_buffered.specs.TryForEachConcurrent.{CallsTryBuffer, CanDrain, DrainCall, DrainGives, DrainTurn, DrainWaitsAt, GoingLeavesDrain, IsDrained, IsNewDrain, LeavesDrain};
+
+use crate::buffer_unordered::CompletionQueue;
+use crate::future_queue::{FutureQueue, NewQueue};
+use crate::try_buffer::TryBuffer;
+use futures::stream::MapOk;
+use futures::task::{Context, Poll};
+use futures::{Future, Stream};
+use futures_buffered_core::ready_core::NewFault;
+use futures_buffered_unordered::futures_unordered_bounded::POLL_LIMIT;
+use futures_buffered_unordered::{FusedFuture, FusedStream};
+use std::alloc::Global;
+use std::fmt;
+use std::marker::Model;
+
+/// Polls a `TryBuffer` whose futures give `Ok(())` or an error, to its end or to the first error.
+///
+/// A contract sees the buffer, or nothing once it has ended or failed, and how many turns one poll takes. A poll takes no memory of its own. A buffer that ended or failed is dropped at once, with what it holds.
+#[derive(Drop)]
+pub struct TryDrain<St: Drop, Q: Drop> {
+    buffer: Option<TryBuffer<St, Q>>,
+    limit: usize,
+}
+
+impl<St: Drop, Q: Drop> Model for TryDrain<St, Q> {
+    ghost use Rattle.futures_buffered.specs.TryForEachConcurrent.{Draining, draining_code};
+
+    ghost Value = { Draining St Q };
+
+    ghost coded = { draining_code St.code Q.code };
+
+    ghost use Rattle.std.specs.Prelude.{◌≤◌};
+
+    ghost view = { λ s. record { buffer = s.buffer; limit = s.limit } };
+
+    ghost invariant = { λ s. 1 ≤ s.limit };
+}
+
+/// Gives each `Ok` item of a stream to a closure, once and in order, and runs the futures that it makes, at most as many at a time as its set has slots, up to the first error.
+pub type TryForEachConcurrent<St, F, Fut, S> = TryDrain<MapOk<St, F>, CompletionQueue<Fut, S>>;
+
+impl<St: Drop, Q: NewQueue> TryDrain<St, Q> {
+    /// Over this stream, with at most `n` held at a time and a queue made for them. Nothing is polled.
+    ///
+    /// Takes time and memory in proportion to `n`. The stream is dropped where it is refused: `TooLarge` where `n` is above `MAX_CAPACITY`, and `Memory` where a request for memory was refused.
+    pub fn over(env: &Q::Env, alloc: Global, stream: St, n: usize) -> Result<Self, NewFault>
+        requires { 0 < n }
+        ensures new { IfOk result (IsNewDrain (Q.made n POLL_LIMIT) POLL_LIMIT stream) }
+        ensures refuses { RefusesTooLarge n result }
+    {
+        Self::over_limit(env, alloc, stream, n, POLL_LIMIT)
+    }
+
+    /// As `over`, where one poll takes at most `limit` turns, and its polls of the queue's set at most as many names each.
+    pub fn over_limit(
+        env: &Q::Env,
+        alloc: Global,
+        stream: St,
+        n: usize,
+        limit: usize,
+    ) -> Result<Self, NewFault>
+        requires room { 0 < n }
+        requires some { 1 ≤ limit }
+        ensures new { IfOk result (IsNewDrain (Q.made n limit) limit stream) }
+        ensures refuses { RefusesTooLarge n result }
+    {
+        let buffer = TryBuffer::over_limit(env, alloc, stream, n, limit)?;
+        Ok(TryDrain {
+            buffer: Some(buffer),
+            limit,
+        })
+    }
+}
+
+impl<St: Drop, Q: Drop> TryDrain<St, Q> {
+    /// The buffer that is polled, or `None` once it has ended or failed: it was dropped then, with what it held. Takes the same time at any number.
+    pub fn buffer(&self) -> Option<&TryBuffer<St, Q>>
+        ensures { option_copied result ≡ self.now.buffer }
+    {
+        self.buffer.as_ref()
+    }
+}
+
+impl<St, F, E, Q> TryDrain<St, Q>
+where
+    St: Stream<Item = Result<F, E>>,
+    Q: FutureQueue<F, Output = Result<(), E>>,
+    E: Drop,
+{
+    // Polls the buffer once. The answer of the call, where it ends here.
+    fn turn(&mut self, cx: &mut Context<'_>) -> Option<Poll<Result<(), E>>>
+        requires { CanDrain (CanTryDraw St.can_poll St.yields Q.is_fit Q.can_poll) self.old }
+        ensures turn { DrainTurn (CallsTryBuffer (PollsStream St.yields) Q.count Q.room Q.pushes
+            Q.polls Q.leaves) self.old.buffer result self.new.buffer cx.old cx.new }
+        ensures goes { IfNone result (GoingLeavesDrain
+            (CanDrain (CanTryDraw St.can_poll St.yields Q.is_fit Q.can_poll))
+            (DrainGives (TryBufferGives St.yields Q.gives Q.count Q.yields))
+            self.old self.new) }
+        ensures ends { IfSome result (λ answer. LeavesDrain
+            (CanDrain (CanTryDraw St.can_poll St.yields Q.is_fit Q.can_poll))
+            (DrainGives (TryBufferGives St.yields Q.gives Q.count Q.yields))
+            self.old answer self.new) }
+        ensures registered { IfSome result (λ answer. OnPending answer (Covers cx.new
+            (DrainWaitsAt (WaitsAt St.needs Q.needs Q.count Q.room) self.new))) }
+        ensures kept { Keeps cx.old cx.new }
+    {
+        let Some(buffer) = &mut self.buffer else {
+            return Some(Poll::Ready(Ok(())));
+        };
+        match buffer.poll_next(cx) {
+            Poll::Pending => Some(Poll::Pending),
+            Poll::Ready(Some(Ok(()))) => None,
+            Poll::Ready(Some(Err(error))) => {
+                self.buffer = None;
+                Some(Poll::Ready(Err(error)))
+            }
+            Poll::Ready(None) => {
+                self.buffer = None;
+                Some(Poll::Ready(Ok(())))
+            }
+        }
+    }
+}
+
+impl<St, F, E, Q> Future for TryDrain<St, Q>
+where
+    St: Stream<Item = Result<F, E>>,
+    Q: FutureQueue<F, Output = Result<(), E>>,
+    E: Drop,
+{
+    type Output = Result<(), E>;
+
+    ghost can_poll = { CanDrain (CanTryDraw St.can_poll St.yields Q.is_fit Q.can_poll) };
+
+    ghost needs = { DrainWaitsAt (WaitsAt St.needs Q.needs Q.count Q.room) };
+
+    ghost gives = { DrainGives (TryBufferGives St.yields Q.gives Q.count Q.yields) };
+
+    /// At most as many turns as the limit is, each of which polls the buffer once. Another follows where a future was done without an error. `Ready` with the first error, of the stream or of a future, or with `Ok(())` where the stream has ended and nothing is held: what is held is dropped then, and a later poll answers `Ok(())` and polls nothing. At the limit the task is woken at once.
+    ///
+    /// Takes no memory but what the stream takes, and waits for nobody where the source's calls do not. Takes time in proportion to the turns, the items drawn, and the names that the turns' polls of the set take, besides the polls.
+    fn poll(&mut self, cx: &mut Context<'_>) -> Poll<Result<(), E>>
+        requires { CanDrain (CanTryDraw St.can_poll St.yields Q.is_fit Q.can_poll) self.old }
+        ensures called { DrainCall (CallsTryBuffer (PollsStream St.yields) Q.count Q.room Q.pushes
+            Q.polls Q.leaves) IsWoken self.old.limit
+            self.old.buffer result self.new.buffer cx.old cx.new }
+        ensures drain { LeavesDrain
+            (CanDrain (CanTryDraw St.can_poll St.yields Q.is_fit Q.can_poll))
+            (DrainGives (TryBufferGives St.yields Q.gives Q.count Q.yields))
+            self.old result self.new }
+        ensures registered { OnPending result (Covers cx.new
+            (DrainWaitsAt (WaitsAt St.needs Q.needs Q.count Q.room) self.new)) }
+        ensures kept { Keeps cx.old cx.new }
+    {
+        'turns: for _turn in 0..self.limit {
+            if let Some(answer) = self.turn(cx) {
+                return answer;
+            }
+        }
+        cx.yield_now()
+    }
+}
+
+/// Whether there is no buffer, or its stream has ended and it holds nothing. Takes the same time at any capacity.
+impl<St, F, E, Q> FusedFuture for TryDrain<St, Q>
+where
+    St: Stream<Item = Result<F, E>>,
+    Q: FutureQueue<F, Output = Result<(), E>>,
+    E: Drop,
+{
+    ghost is_over = { IsDrained Q.count };
+
+    fn is_terminated(&self) -> bool {
+        match &self.buffer {
+            Some(buffer) => buffer.is_terminated(),
+            None => true,
+        }
+    }
+}
+
+/// Prints whether it has ended.
+impl<St: Drop, Q: Drop> fmt::Debug for TryDrain<St, Q> {
+    fn fmt<W: fmt::Write>(&self, f: &mut fmt::Formatter<W>) -> fmt::Result {
+        f.debug_struct("TryDrain")
+            .field("has_ended", &self.buffer.is_none())
+            .finish_non_exhaustive()
+    }
+}
