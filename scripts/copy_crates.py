@@ -59,21 +59,43 @@ def list_crates(file, wanted):
     return added
 
 
-def main():
-    if len(sys.argv) not in (2, 3):
-        sys.exit("usage: scripts/copy_crates.py FOLDER [CRATE]")
-    folder, crate = pathlib.Path(sys.argv[1]), (sys.argv[2:] or ["futures_buffered"])[0]
-    lines = listed_in(ROOT / "crates.txt")
-    if crate not in lines:
-        sys.exit(f"crates.txt lists no crate {crate}")
-    if folder.exists() and not folder.is_dir():
-        sys.exit(f"{folder} is no folder")
+def copy_crates(folder, crate, lines):
+    """Copies the crate and those below it, and prints their lines that were not there."""
     crates = with_those_below(crate, lines)
     for name in crates:
         copy_crate(name, folder / "crates" / name)
     shutil.copy(ROOT / "LICENSE", folder / "crates" / crate / "LICENSE")
     for line in list_crates(folder / "crates.txt", {name: lines[name] for name in crates}):
         print(line)
+
+
+def what_is_wrong(folder, crate, lines):
+    """Why nothing can be copied, and what to do, or nothing where it can."""
+    if crate not in lines:
+        return f"crates.txt lists no crate {crate}: name one that it lists"
+    if folder.exists() and not folder.is_dir():
+        return f"{folder} is no folder: name the top of the repository that is to have the copy"
+    if ROOT in (folder.resolve(), *folder.resolve().parents):
+        return f"{folder} lies in this repository: name the top of the one that is to have the copy"
+    return None
+
+
+def main():
+    if sys.argv[1:] in (["-h"], ["--help"]):
+        print(__doc__)
+        return
+    if len(sys.argv) not in (2, 3) or sys.argv[1].startswith("-"):
+        sys.exit("usage: scripts/copy_crates.py FOLDER [CRATE]")
+    folder, crate = pathlib.Path(sys.argv[1]), (sys.argv[2:] or ["futures_buffered"])[0]
+    lines = listed_in(ROOT / "crates.txt")
+    wrong = what_is_wrong(folder, crate, lines)
+    if wrong:
+        sys.exit(wrong)
+    try:
+        lines_in(folder / "crates.txt")
+        copy_crates(folder, crate, lines)
+    except (OSError, UnicodeDecodeError) as error:
+        sys.exit(f"{folder} cannot have the copy: {error}")
 
 
 main()
