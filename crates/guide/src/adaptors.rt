@@ -1,5 +1,5 @@
 //! Adaptors of a stream.
-use crate::checked::{Half, Odd};
+use crate::checked::{Check, Half, Odd};
 use crate::ready_after::{Pause, after};
 use futures::executor::block_on;
 use futures::{StreamExt, stream};
@@ -68,5 +68,21 @@ where
     )?;
     block_on(rt, pauses)?;
     println!(rt; "done")?;
+    Ok(())
+}
+
+pub fn try_for_each<R>(rt: &R) -> Result<(), anyhow::Error>
+where
+    R: Wait + RandomSource + AllocGlobal + Print,
+{
+    let numbers = vec![in rt.alloc(); Ok(2), Ok(5), Ok(4)]?;
+    let checks = BufferedTryStreamExt::try_for_each_concurrent(
+        stream::iter(numbers),
+        rt.alloc(),
+        2,
+        |n| Check(Half(n)),
+    )?;
+    let ended = block_on(rt, checks)?;
+    println!(rt; "{ended:?}")?;
     Ok(())
 }

@@ -154,6 +154,8 @@ where
         items_of(alloc, &[20])?,
     ]?;
     let merge = foreign_merge(alloc, streams)?;
-    println!(rt; "{:?}", block_on(rt, merge.collect(alloc))??)?;
+    let mut items = block_on(rt, merge.collect(alloc))??;
+    items.sort_unstable();
+    println!(rt; "{items:?}")?;
     Ok(())
 }

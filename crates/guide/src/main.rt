@@ -2,6 +2,7 @@
 #![tactic(auto)]
 
 mod adaptors;
+mod channels;
 mod checked;
 mod foreign;
 mod joins;
@@ -12,6 +13,7 @@ mod proved;
 mod queues;
 mod ready_after;
 mod ready_made;
+mod senders;
 mod sets;
 mod sources;
 
@@ -31,8 +33,12 @@ fn main(rt: HostRuntime) -> Result<(), anyhow::Error> {
     adaptors::up_to_an_error(&rt)?;
     adaptors::of_an_iterator(&rt)?;
     adaptors::for_each(&rt)?;
+    adaptors::try_for_each(&rt)?;
     ready_made::one_shot(&rt)?;
     ready_made::two_iterators(&rt)?;
+    channels::three_senders(&rt)?;
+    senders::refusals(&rt)?;
+    senders::senders_on_threads(&rt)?;
     foreign::one_receiver(&rt)?;
     foreign::one_after_another(&rt)?;
     foreign::joined(&rt)?;
@@ -48,5 +54,6 @@ fn main(rt: HostRuntime) -> Result<(), anyhow::Error> {
     proved::queue(&rt)?;
     proved::join_and_adaptor(&rt)?;
     proved::merge(&rt)?;
+    proved::channel(&rt)?;
     Ok(())
 }

@@ -4,10 +4,11 @@
 //!
 //! - `doubling`: a future whose contract says what a poll answers.
 //! - `ticket`: a future that may not be polled again once it is ready.
-//! - `sets`, `queues`, `joins`, `merges`, `adaptors`: a caller of each family.
+//! - `sets`, `queues`, `joins`, `merges`, `adaptors`, `channels`: a caller of each family.
 //!
 //! Below, the callers are called.
 mod adaptors;
+mod channels;
 mod doubling;
 mod joins;
 mod merges;
@@ -17,6 +18,7 @@ mod ticket;
 
 use crate::numbers::Numbers;
 use crate::proved::doubling::Doubling;
+use futures_buffered::spsc::with_protocol;
 use futures_buffered::{FuturesOrderedBounded, FuturesUnorderedBounded, MergeBounded};
 use std::alloc::AllocGlobal;
 use std::io::Print;
@@ -68,5 +70,13 @@ pub fn merge<R: AllocGlobal + Print>(rt: &R) -> Result<(), anyhow::Error> {
     let mut merge = MergeBounded::from_iter(rt.alloc(), streams)?;
     let added = merges::add_if_free(&mut merge, Numbers { next: 1, end: 2 });
     println!(rt; "{added}")?;
+    Ok(())
+}
+
+pub fn channel<R: AllocGlobal + Print>(rt: &R) -> Result<(), anyhow::Error> {
+    let came = channels::through(rt.alloc(), 7, 8)?;
+    let (mut sender, mut receiver) = with_protocol::<u64, channels::Even>(rt.alloc(), 1)?;
+    let _ = sender.try_send(6);
+    println!(rt; "{came:?}, {:?}", channels::next_even(&mut receiver))?;
     Ok(())
 }
