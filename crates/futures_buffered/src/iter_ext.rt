@@ -1,7 +1,6 @@
 //! Constructors of sets, joins and merges as methods of what gives the items.
 ghost use Rattle.std.specs.Prelude.{◌≡◌, ◌≤◌, ◌<◌, IfOk};
-ghost use Rattle.std.specs.Iterator.{IsFiniteIterable};
-ghost use Rattle.futures_buffered_core.specs.Drawn.{Draws, DrawsMoreThan};
+ghost use Rattle.futures_buffered_core.specs.Drawn.{Draws, IsFiniteSource, RefusesTooMany};
 ghost use Rattle.futures_buffered_core.specs.ReadyShared.{IsNewShared, MarksShared, Shared};
 ghost use Rattle.futures_buffered_core.specs.SlotMap.{slot_count};
 ghost use Rattle.futures_buffered_unordered.specs.FuturesUnorderedBounded.{HoldsEach};
@@ -34,13 +33,10 @@ pub trait IterExt: IntoIterator {
     where
         Self: Sized,
         Self::Item: SlotFuture<SharedWaker>,
-        requires { IsFiniteIterable Self.into_iter_gives Self.IntoIter.can_next
-            Self.IntoIter.remaining self }
-        ensures holds { IfOk result (HoldsAllOf Self.into_iter_gives
-            Self.IntoIter.next_gives self (HoldsEach IsNewShared MarksShared POLL_LIMIT)) }
+        requires { IsFiniteSource Self.IntoIterator Self.IntoIter.Iterator self }
+        ensures holds { IfOk result (HoldsAllOf Self.IntoIterator Self.IntoIter.Iterator self (HoldsEach IsNewShared MarksShared POLL_LIMIT)) }
         ensures fits { IfOk result (λ set. slot_count set.slots ≤ MAX_CAPACITY) }
-        ensures large { result ≡ Err NewFault.TooLarge
-            → DrawsMoreThan Self.into_iter_gives Self.IntoIter.next_gives self MAX_CAPACITY }
+        ensures large { RefusesTooMany Self.IntoIterator Self.IntoIter.Iterator self result }
     {
         FuturesUnorderedBounded::from_iter(alloc, self)
     }
@@ -55,13 +51,11 @@ pub trait IterExt: IntoIterator {
     where
         Self: Sized,
         Self::Item: SlotFuture<SharedWaker>,
-        requires { IsFiniteIterable Self.into_iter_gives Self.IntoIter.can_next
-            Self.IntoIter.remaining self }
-        ensures holds { IfOk result (GrowsByAllOf Self.into_iter_gives
-            Self.IntoIter.next_gives self Self.IntoIter.remaining FIRST_GROUP (λ n. IsNewGrowing IsNewShared n POLL_LIMIT)
+        requires { IsFiniteSource Self.IntoIterator Self.IntoIter.Iterator self }
+        ensures holds { IfOk result (GrowsByAllOf Self.IntoIterator Self.IntoIter.Iterator self FIRST_GROUP (λ n. IsNewGrowing IsNewShared n POLL_LIMIT)
             (GrowingPushes MarksShared IsNewShared FIRST_GROUP)) }
         ensures large { result ≡ Err NewFault.TooLarge
-            → Outgrows Self.into_iter_gives Self.IntoIter.next_gives self Self.IntoIter.remaining FIRST_GROUP (λ n. IsNewGrowing IsNewShared n POLL_LIMIT)
+            → Outgrows Self.IntoIterator Self.IntoIter.Iterator self FIRST_GROUP (λ n. IsNewGrowing IsNewShared n POLL_LIMIT)
             (GrowingPushes MarksShared IsNewShared FIRST_GROUP) SetRefuses }
     {
         FuturesUnordered::from_iter(alloc, self)
@@ -78,13 +72,10 @@ pub trait IterExt: IntoIterator {
         Self: Sized,
         Self::Item: SlotFuture<SharedWaker>,
         <Self::Item as SlotFuture<SharedWaker>>::Output: Drop,
-        requires { IsFiniteIterable Self.into_iter_gives Self.IntoIter.can_next
-            Self.IntoIter.remaining self }
-        ensures holds { IfOk result (HoldsAllOf Self.into_iter_gives
-            Self.IntoIter.next_gives self (HoldsInOrder IsNewShared MarksShared POLL_LIMIT)) }
+        requires { IsFiniteSource Self.IntoIterator Self.IntoIter.Iterator self }
+        ensures holds { IfOk result (HoldsAllOf Self.IntoIterator Self.IntoIter.Iterator self (HoldsInOrder IsNewShared MarksShared POLL_LIMIT)) }
         ensures fits { IfOk result (λ q. slot_count q.set.slots ≤ MAX_CAPACITY) }
-        ensures large { result ≡ Err NewFault.TooLarge
-            → DrawsMoreThan Self.into_iter_gives Self.IntoIter.next_gives self MAX_CAPACITY }
+        ensures large { RefusesTooMany Self.IntoIterator Self.IntoIter.Iterator self result }
     {
         FuturesOrderedBounded::from_iter(alloc, self)
     }
@@ -100,13 +91,11 @@ pub trait IterExt: IntoIterator {
         Self: Sized,
         Self::Item: SlotFuture<SharedWaker>,
         <Self::Item as SlotFuture<SharedWaker>>::Output: Drop,
-        requires { IsFiniteIterable Self.into_iter_gives Self.IntoIter.can_next
-            Self.IntoIter.remaining self }
-        ensures holds { IfOk result (GrowsByAllOf Self.into_iter_gives
-            Self.IntoIter.next_gives self Self.IntoIter.remaining FIRST_GROUP (λ n. IsNewGrowingQueue IsNewShared n POLL_LIMIT)
+        requires { IsFiniteSource Self.IntoIterator Self.IntoIter.Iterator self }
+        ensures holds { IfOk result (GrowsByAllOf Self.IntoIterator Self.IntoIter.Iterator self FIRST_GROUP (λ n. IsNewGrowingQueue IsNewShared n POLL_LIMIT)
             (AddsBack (GrowingPushesNumber MarksShared IsNewShared))) }
         ensures large { result ≡ Err NewFault.TooLarge
-            → Outgrows Self.into_iter_gives Self.IntoIter.next_gives self Self.IntoIter.remaining FIRST_GROUP (λ n (start : OrderedGrowing Self.Item
+            → Outgrows Self.IntoIterator Self.IntoIter.Iterator self FIRST_GROUP (λ n (start : OrderedGrowing Self.Item
             Self.Item.Output Shared). IsNewGrowingQueue IsNewShared n POLL_LIMIT start)
             (AddsBack (GrowingPushesNumber MarksShared IsNewShared)) (IsAtEnd SetRefuses) }
     {
@@ -121,13 +110,11 @@ pub trait IterExt: IntoIterator {
         Self: Sized,
         Self::Item: SlotFuture<SharedWaker>,
         <Self::Item as SlotFuture<SharedWaker>>::Output: Drop,
-        requires { IsFiniteIterable Self.into_iter_gives Self.IntoIter.can_next
-            Self.IntoIter.remaining self }
+        requires { IsFiniteSource Self.IntoIterator Self.IntoIter.Iterator self }
         ensures made { IfOk result (IsMadeOf
-            (Draws Self.into_iter_gives Self.IntoIter.next_gives self)
+            (Draws Self.IntoIterator Self.IntoIter.Iterator self)
             IsNewShared MarksShared POLL_LIMIT MAX_CAPACITY) }
-        ensures large { result ≡ Err NewFault.TooLarge
-            → DrawsMoreThan Self.into_iter_gives Self.IntoIter.next_gives self MAX_CAPACITY }
+        ensures large { RefusesTooMany Self.IntoIterator Self.IntoIter.Iterator self result }
     {
         futures_buffered_joins::join::join_all(alloc, self)
     }
@@ -143,13 +130,11 @@ pub trait IterExt: IntoIterator {
         Self: Sized,
         Self::Item: SlotFuture<SharedWaker, Output = Result<T, E>>,
         T: Drop,
-        requires { IsFiniteIterable Self.into_iter_gives Self.IntoIter.can_next
-            Self.IntoIter.remaining self }
+        requires { IsFiniteSource Self.IntoIterator Self.IntoIter.Iterator self }
         ensures made { IfOk result (IsMadeOf
-            (Draws Self.into_iter_gives Self.IntoIter.next_gives self)
+            (Draws Self.IntoIterator Self.IntoIter.Iterator self)
             IsNewShared MarksShared POLL_LIMIT MAX_CAPACITY) }
-        ensures large { result ≡ Err NewFault.TooLarge
-            → DrawsMoreThan Self.into_iter_gives Self.IntoIter.next_gives self MAX_CAPACITY }
+        ensures large { RefusesTooMany Self.IntoIterator Self.IntoIter.Iterator self result }
     {
         futures_buffered_joins::try_join::try_join_all(alloc, self)
     }
@@ -161,13 +146,10 @@ pub trait IterExt: IntoIterator {
     where
         Self: Sized,
         Self::Item: SlotStream<SharedWaker>,
-        requires { IsFiniteIterable Self.into_iter_gives Self.IntoIter.can_next
-            Self.IntoIter.remaining self }
-        ensures holds { IfOk result (HoldsAllOf Self.into_iter_gives
-            Self.IntoIter.next_gives self (HoldsEach IsNewShared MarksShared POLL_LIMIT)) }
+        requires { IsFiniteSource Self.IntoIterator Self.IntoIter.Iterator self }
+        ensures holds { IfOk result (HoldsAllOf Self.IntoIterator Self.IntoIter.Iterator self (HoldsEach IsNewShared MarksShared POLL_LIMIT)) }
         ensures fits { IfOk result (λ merge. slot_count merge.slots ≤ MAX_CAPACITY) }
-        ensures large { result ≡ Err NewFault.TooLarge
-            → DrawsMoreThan Self.into_iter_gives Self.IntoIter.next_gives self MAX_CAPACITY }
+        ensures large { RefusesTooMany Self.IntoIterator Self.IntoIter.Iterator self result }
     {
         MergeBounded::from_iter(alloc, self)
     }
@@ -182,12 +164,10 @@ pub trait IterExt: IntoIterator {
     where
         Self: Sized,
         Self::Item: SlotStream<SharedWaker>,
-        requires { IsFiniteIterable Self.into_iter_gives Self.IntoIter.can_next
-            Self.IntoIter.remaining self }
-        ensures holds { IfOk result (HoldsAllOf Self.into_iter_gives
-            Self.IntoIter.next_gives self (PushesEach MarksShared IsNewShared (no_groups POLL_LIMIT))) }
+        requires { IsFiniteSource Self.IntoIterator Self.IntoIter.Iterator self }
+        ensures holds { IfOk result (HoldsAllOf Self.IntoIterator Self.IntoIter.Iterator self (PushesEach MarksShared IsNewShared (no_groups POLL_LIMIT))) }
         ensures large { result ≡ Err NewFault.TooLarge
-            → StopsAtBound Self.into_iter_gives Self.IntoIter.next_gives self
+            → StopsAtBound Self.IntoIterator Self.IntoIter.Iterator self
             (GrowingPushes MarksShared IsNewShared FIRST_GROUP) SetRefuses
             (no_groups POLL_LIMIT) }
     {

@@ -7,9 +7,8 @@ ghost use Rattle.std.specs.VecDeque.{deque_capacity};
 ghost use Rattle.std.specs.Option.{option_copied_mut};
 ghost use Rattle.std.specs.Option.Follows.{option_follows_value};
 ghost use Rattle.std.specs.Borrow.{sem};
-ghost use Rattle.std.specs.Iterator.{IsFiniteIterable};
 ghost use Rattle.futures_buffered_table.specs.Answer.{RefusesTooLarge};
-ghost use Rattle.futures_buffered_core.specs.Drawn.{Draws, DrawsMoreThan};
+ghost use Rattle.futures_buffered_core.specs.Drawn.{Draws, IsFiniteSource, RefusesTooMany};
 ghost use Rattle.futures_buffered_core.specs.SlotMap.{value_in, held_count, slot_count, no_slots, all_slots, with_slot_freed, IsFull, Inserts, IsFirstHeld, NoneHeldFrom};
 
 use crate::ready_core::{MAX_CAPACITY, NewFault};
@@ -100,13 +99,11 @@ impl<F: Drop> PinSlotMap<F> {
     ///
     /// Takes time and memory in proportion to that number. Where it is refused, the items that came are dropped: `TooLarge` where one more than `MAX_CAPACITY` came, and `Memory` where there was no room for the next.
     pub fn from_iter<I: IntoIterator<Item = F>>(alloc: Global, iter: I) -> Result<Self, NewFault>
-        requires { IsFiniteIterable I.into_iter_gives I.IntoIter.can_next
-            I.IntoIter.remaining iter }
+        requires { IsFiniteSource I.IntoIterator I.IntoIter.Iterator iter }
         ensures full { IfOk result (λ m. (items : List F)
-            × Draws I.into_iter_gives I.IntoIter.next_gives iter items × (m ≡ all_slots items)) }
+            × Draws I.IntoIterator I.IntoIter.Iterator iter items × (m ≡ all_slots items)) }
         ensures fits { IfOk result (λ m. slot_count m ≤ MAX_CAPACITY) }
-        ensures large { result ≡ Err NewFault.TooLarge
-            → DrawsMoreThan I.into_iter_gives I.IntoIter.next_gives iter MAX_CAPACITY }
+        ensures large { RefusesTooMany I.IntoIterator I.IntoIter.Iterator iter result }
     {
         let mut places = Vec::new(alloc);
         for item in iter {

@@ -2,8 +2,7 @@
 //!
 //! A slot holds a `Foreign`, or any future made of one: `map(Foreign::new(receiver), closure)`.
 ghost use Rattle.std.specs.Prelude.{◌≡◌, ◌≤◌, IfOk, IsOk, Err};
-ghost use Rattle.std.specs.Iterator.{IsFiniteIterable};
-ghost use Rattle.futures_buffered_core.specs.Drawn.{Draws, DrawsMoreThan};
+ghost use Rattle.futures_buffered_core.specs.Drawn.{Draws, IsFiniteSource, RefusesTooMany};
 ghost use Rattle.futures_buffered_core.specs.ReadyCore.{Marks};
 ghost use Rattle.futures_buffered_core.specs.SlotMap.{slot_count};
 ghost use Rattle.futures_buffered_table.specs.Answer.{RefusesTooLarge};
@@ -118,13 +117,11 @@ pub fn foreign_join_all<F: Future<Output: Drop>, I: IntoIterator>(
 where
     I::Item: SlotFuture<Mailbox<F>>,
     <I::Item as SlotFuture<Mailbox<F>>>::Output: Drop,
-    requires { IsFiniteIterable I.into_iter_gives I.IntoIter.can_next
-        I.IntoIter.remaining iter }
+    requires { IsFiniteSource I.IntoIterator I.IntoIter.Iterator iter }
     ensures made { IfOk result (IsMadeOf
-        (Draws I.into_iter_gives I.IntoIter.next_gives iter)
+        (Draws I.IntoIterator I.IntoIter.Iterator iter)
         IsNewDriven Marks POLL_LIMIT MAX_CAPACITY) }
-    ensures large { result ≡ Err NewFault.TooLarge
-        → DrawsMoreThan I.into_iter_gives I.IntoIter.next_gives iter MAX_CAPACITY }
+    ensures large { RefusesTooMany I.IntoIterator I.IntoIter.Iterator iter result }
 {
     Join::over(&(), alloc, iter)
 }
@@ -136,13 +133,11 @@ pub fn foreign_try_join_all<F: Future<Output: Drop>, I: IntoIterator, A: Drop, E
 ) -> Result<ForeignTryJoin<F, I::Item>, NewFault>
 where
     I::Item: SlotFuture<Mailbox<F>, Output = Result<A, E>>,
-    requires { IsFiniteIterable I.into_iter_gives I.IntoIter.can_next
-        I.IntoIter.remaining iter }
+    requires { IsFiniteSource I.IntoIterator I.IntoIter.Iterator iter }
     ensures made { IfOk result (IsMadeOf
-        (Draws I.into_iter_gives I.IntoIter.next_gives iter)
+        (Draws I.IntoIterator I.IntoIter.Iterator iter)
         IsNewDriven Marks POLL_LIMIT MAX_CAPACITY) }
-    ensures large { result ≡ Err NewFault.TooLarge
-        → DrawsMoreThan I.into_iter_gives I.IntoIter.next_gives iter MAX_CAPACITY }
+    ensures large { RefusesTooMany I.IntoIterator I.IntoIter.Iterator iter result }
 {
     TryJoin::over(&(), alloc, iter)
 }
@@ -154,13 +149,11 @@ pub fn foreign_merge<St: Stream<Item: Drop>, I: IntoIterator>(
 ) -> Result<ForeignMerge<St, I::Item>, NewFault>
 where
     I::Item: SlotStream<Mailbox<StreamFuture<St>>>,
-    requires { IsFiniteIterable I.into_iter_gives I.IntoIter.can_next
-        I.IntoIter.remaining iter }
-    ensures holds { IfOk result (HoldsAllOf I.into_iter_gives I.IntoIter.next_gives iter
+    requires { IsFiniteSource I.IntoIterator I.IntoIter.Iterator iter }
+    ensures holds { IfOk result (HoldsAllOf I.IntoIterator I.IntoIter.Iterator iter
         (HoldsEach IsNewDriven Marks POLL_LIMIT)) }
     ensures fits { IfOk result (λ merge. slot_count merge.slots ≤ MAX_CAPACITY) }
-    ensures large { result ≡ Err NewFault.TooLarge
-        → DrawsMoreThan I.into_iter_gives I.IntoIter.next_gives iter MAX_CAPACITY }
+    ensures large { RefusesTooMany I.IntoIterator I.IntoIter.Iterator iter result }
 {
     MergeBounded::over(&(), alloc, iter)
 }
@@ -172,12 +165,11 @@ pub fn growing_foreign_merge<St: Stream<Item: Drop>, I: IntoIterator>(
 ) -> Result<GrowingForeignMerge<St, I::Item>, NewFault>
 where
     I::Item: SlotStream<Mailbox<StreamFuture<St>>>,
-    requires { IsFiniteIterable I.into_iter_gives I.IntoIter.can_next
-        I.IntoIter.remaining iter }
-    ensures holds { IfOk result (HoldsAllOf I.into_iter_gives I.IntoIter.next_gives iter
+    requires { IsFiniteSource I.IntoIterator I.IntoIter.Iterator iter }
+    ensures holds { IfOk result (HoldsAllOf I.IntoIterator I.IntoIter.Iterator iter
         (PushesEach Marks IsNewDriven (no_groups POLL_LIMIT))) }
     ensures large { result ≡ Err NewFault.TooLarge
-        → StopsAtBound I.into_iter_gives I.IntoIter.next_gives iter
+        → StopsAtBound I.IntoIterator I.IntoIter.Iterator iter
         (GrowingPushes Marks IsNewDriven FIRST_GROUP) SetRefuses (no_groups POLL_LIMIT) }
 {
     MergeUnbounded::over((), alloc, iter)

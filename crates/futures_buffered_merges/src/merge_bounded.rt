@@ -2,9 +2,8 @@
 //!
 //! Each stream stands in a slot, and a poll asks the source which slots to poll, as a set of futures does. A stream that gives an item stays, and its slot is marked, so that a later poll polls it again behind the others that were marked before. A stream that ends leaves its slot to the next push.
 ghost use Rattle.std.specs.Prelude.{◌≡◌, ◌<◌, ◌≤◌, ◌+◌, ◌↔◌, IfOk, IfErr, OnOk, IsTrue};
-ghost use Rattle.std.specs.Iterator.{IsFiniteIterable};
 ghost use Rattle.std.specs.List.{FoldsTo};
-ghost use Rattle.futures_buffered_core.specs.Drawn.{DrawsMoreThan};
+ghost use Rattle.futures_buffered_core.specs.Drawn.{IsFiniteSource, RefusesTooMany};
 ghost use Rattle.futures_buffered_core.specs.ReadyShared.{IsNewShared, MarksShared};
 ghost use Rattle.futures_buffered_core.specs.SlotMap.{held_count, slot_count, IsFull};
 ghost use Rattle.futures_buffered_unordered.specs.StreamAnswers.{StreamAnswers};
@@ -59,13 +58,11 @@ impl<St: Drop, S: ReadySource> MergeBounded<St, S> {
     ) -> Result<Self, NewFault>
     where
         S: NewSource,
-        requires { IsFiniteIterable I.into_iter_gives I.IntoIter.can_next
-            I.IntoIter.remaining iter }
-        ensures holds { IfOk result (HoldsAllOf I.into_iter_gives I.IntoIter.next_gives iter
+        requires { IsFiniteSource I.IntoIterator I.IntoIter.Iterator iter }
+        ensures holds { IfOk result (HoldsAllOf I.IntoIterator I.IntoIter.Iterator iter
             (HoldsEach S.made S.marks POLL_LIMIT)) }
         ensures fits { IfOk result (λ merge. slot_count merge.slots ≤ MAX_CAPACITY) }
-        ensures large { result ≡ Err NewFault.TooLarge
-            → DrawsMoreThan I.into_iter_gives I.IntoIter.next_gives iter MAX_CAPACITY }
+        ensures large { RefusesTooMany I.IntoIterator I.IntoIter.Iterator iter result }
     {
         Self::over_limit(env, alloc, iter, POLL_LIMIT)
     }
@@ -79,14 +76,12 @@ impl<St: Drop, S: ReadySource> MergeBounded<St, S> {
     ) -> Result<Self, NewFault>
     where
         S: NewSource,
-        requires finite { IsFiniteIterable I.into_iter_gives I.IntoIter.can_next
-            I.IntoIter.remaining iter }
+        requires finite { IsFiniteSource I.IntoIterator I.IntoIter.Iterator iter }
         requires some { 1 ≤ limit }
-        ensures holds { IfOk result (HoldsAllOf I.into_iter_gives I.IntoIter.next_gives iter
+        ensures holds { IfOk result (HoldsAllOf I.IntoIterator I.IntoIter.Iterator iter
             (HoldsEach S.made S.marks limit)) }
         ensures fits { IfOk result (λ merge. slot_count merge.slots ≤ MAX_CAPACITY) }
-        ensures large { result ≡ Err NewFault.TooLarge
-            → DrawsMoreThan I.into_iter_gives I.IntoIter.next_gives iter MAX_CAPACITY }
+        ensures large { RefusesTooMany I.IntoIterator I.IntoIter.Iterator iter result }
     {
         let set = FuturesUnorderedBounded::over_limit(env, alloc, iter, limit)?;
         Ok(MergeBounded { set })
@@ -145,13 +140,10 @@ impl<St: Drop, S: ReadySource> MergeBounded<St, S> {
 
     /// Pushes each item, in order, as `try_push` does. The first for which there is no free slot comes back; those before it stay, and the iterator is asked for no further one.
     pub fn extend<I: IntoIterator<Item = St>>(&mut self, iter: I) -> Result<(), St>
-    where
-        requires { IsFiniteIterable I.into_iter_gives I.IntoIter.can_next
-            I.IntoIter.remaining iter }
-        ensures all { OnOk result (HoldsAllOf I.into_iter_gives I.IntoIter.next_gives iter
+        requires { IsFiniteSource I.IntoIterator I.IntoIter.Iterator iter }
+        ensures all { OnOk result (HoldsAllOf I.IntoIterator I.IntoIter.Iterator iter
             (FoldsTo (Pushes S.marks) self.old) self.new) }
-        ensures stops { IfErr result (λ back. ExtendsUntil I.into_iter_gives
-            I.IntoIter.next_gives iter (Pushes S.marks)
+        ensures stops { IfErr result (λ back. ExtendsUntil I.IntoIterator I.IntoIter.Iterator iter (Pushes S.marks)
             (λ stopped new. IsFull stopped.slots × (new ≡ stopped)) self.old back self.new) }
         ensures capacity { slot_count self.new.slots ≡ slot_count self.old.slots }
     {
@@ -171,14 +163,11 @@ impl<St: Drop, S: ReadySource> MergeBounded<St, S> {
 impl<St: Drop> MergeBounded<St, SharedReady> {
     /// A merge without a free slot, which holds item k in slot k, each marked, in this order, and whose streams are woken from any thread. It is `over` with a shared source, and refuses as `over` does.
     pub fn from_iter<I: IntoIterator<Item = St>>(alloc: Global, iter: I) -> Result<Self, NewFault>
-    where
-        requires { IsFiniteIterable I.into_iter_gives I.IntoIter.can_next
-            I.IntoIter.remaining iter }
-        ensures holds { IfOk result (HoldsAllOf I.into_iter_gives I.IntoIter.next_gives iter
+        requires { IsFiniteSource I.IntoIterator I.IntoIter.Iterator iter }
+        ensures holds { IfOk result (HoldsAllOf I.IntoIterator I.IntoIter.Iterator iter
             (HoldsEach IsNewShared MarksShared POLL_LIMIT)) }
         ensures fits { IfOk result (λ merge. slot_count merge.slots ≤ MAX_CAPACITY) }
-        ensures large { result ≡ Err NewFault.TooLarge
-            → DrawsMoreThan I.into_iter_gives I.IntoIter.next_gives iter MAX_CAPACITY }
+        ensures large { RefusesTooMany I.IntoIterator I.IntoIter.Iterator iter result }
     {
         Self::with_limit(alloc, iter, POLL_LIMIT)
     }
@@ -189,15 +178,12 @@ impl<St: Drop> MergeBounded<St, SharedReady> {
         iter: I,
         limit: usize,
     ) -> Result<Self, NewFault>
-    where
-        requires finite { IsFiniteIterable I.into_iter_gives I.IntoIter.can_next
-            I.IntoIter.remaining iter }
+        requires finite { IsFiniteSource I.IntoIterator I.IntoIter.Iterator iter }
         requires some { 1 ≤ limit }
-        ensures holds { IfOk result (HoldsAllOf I.into_iter_gives I.IntoIter.next_gives iter
+        ensures holds { IfOk result (HoldsAllOf I.IntoIterator I.IntoIter.Iterator iter
             (HoldsEach IsNewShared MarksShared limit)) }
         ensures fits { IfOk result (λ merge. slot_count merge.slots ≤ MAX_CAPACITY) }
-        ensures large { result ≡ Err NewFault.TooLarge
-            → DrawsMoreThan I.into_iter_gives I.IntoIter.next_gives iter MAX_CAPACITY }
+        ensures large { RefusesTooMany I.IntoIterator I.IntoIter.Iterator iter result }
     {
         Self::over_limit(&(), alloc, iter, limit)
     }

@@ -2,7 +2,7 @@
 //!
 //! Each group is a set of as many streams as it has slots, and is asked as a bounded merge is polled. The first group that holds a stream registers the task, which does for those beside it.
 ghost use Rattle.std.specs.Prelude.{◌≡◌, ◌↔◌, ◌≤◌, ◌+◌, Err, IsTrue, OnOk, OnErr, IsErr, IfOk, IfErr};
-ghost use Rattle.std.specs.Iterator.{IsFiniteIterable};
+ghost use Rattle.futures_buffered_core.specs.Drawn.{IsFiniteSource};
 ghost use Rattle.futures_buffered_core.specs.ReadyShared.{IsNewShared, MarksShared};
 ghost use Rattle.futures_buffered_unordered.specs.StreamAnswers.{StreamAnswers};
 ghost use Rattle.futures_buffered_unordered.specs.FuturesUnorderedBounded.{OnlyRegisters};
@@ -98,13 +98,11 @@ impl<St: Drop, S: NewSource> MergeUnbounded<St, S> {
         alloc: Global,
         iter: I,
     ) -> Result<Self, NewFault>
-    where
-        requires { IsFiniteIterable I.into_iter_gives I.IntoIter.can_next
-            I.IntoIter.remaining iter }
-        ensures holds { IfOk result (HoldsAllOf I.into_iter_gives I.IntoIter.next_gives iter
+        requires { IsFiniteSource I.IntoIterator I.IntoIter.Iterator iter }
+        ensures holds { IfOk result (HoldsAllOf I.IntoIterator I.IntoIter.Iterator iter
             (PushesEach S.marks S.made (no_groups POLL_LIMIT))) }
         ensures large { result ≡ Err NewFault.TooLarge
-            → StopsAtBound I.into_iter_gives I.IntoIter.next_gives iter
+            → StopsAtBound I.IntoIterator I.IntoIter.Iterator iter
             (GrowingPushes S.marks S.made FIRST_GROUP) SetRefuses (no_groups POLL_LIMIT) }
     {
         Self::over_limit(env, alloc, iter, POLL_LIMIT)
@@ -117,14 +115,12 @@ impl<St: Drop, S: NewSource> MergeUnbounded<St, S> {
         iter: I,
         limit: usize,
     ) -> Result<Self, NewFault>
-    where
-        requires finite { IsFiniteIterable I.into_iter_gives I.IntoIter.can_next
-            I.IntoIter.remaining iter }
+        requires finite { IsFiniteSource I.IntoIterator I.IntoIter.Iterator iter }
         requires some { 1 ≤ limit }
-        ensures holds { IfOk result (HoldsAllOf I.into_iter_gives I.IntoIter.next_gives iter
+        ensures holds { IfOk result (HoldsAllOf I.IntoIterator I.IntoIter.Iterator iter
             (PushesEach S.marks S.made (no_groups limit))) }
         ensures large { result ≡ Err NewFault.TooLarge
-            → StopsAtBound I.into_iter_gives I.IntoIter.next_gives iter
+            → StopsAtBound I.IntoIterator I.IntoIter.Iterator iter
             (GrowingPushes S.marks S.made FIRST_GROUP) SetRefuses (no_groups limit) }
     {
         let mut merge = Self::without_groups(env, alloc, limit);
@@ -189,13 +185,10 @@ impl<St: Drop, S: NewSource> MergeUnbounded<St, S> {
 
     /// Pushes each item, in order, as `push` does. The first that is refused comes back; those before it stay, and the iterator is asked for no further one.
     pub fn extend<I: IntoIterator<Item = St>>(&mut self, iter: I) -> Result<(), St>
-    where
-        requires { IsFiniteIterable I.into_iter_gives I.IntoIter.can_next
-            I.IntoIter.remaining iter }
-        ensures all { OnOk result (HoldsAllOf I.into_iter_gives I.IntoIter.next_gives iter
+        requires { IsFiniteSource I.IntoIterator I.IntoIter.Iterator iter }
+        ensures all { OnOk result (HoldsAllOf I.IntoIterator I.IntoIter.Iterator iter
             (PushesEach S.marks S.made self.old) self.new) }
-        ensures stops { IfErr result (λ back. ExtendsUntil I.into_iter_gives
-            I.IntoIter.next_gives iter (GrowingPushes S.marks S.made FIRST_GROUP)
+        ensures stops { IfErr result (λ back. ExtendsUntil I.IntoIterator I.IntoIter.Iterator iter (GrowingPushes S.marks S.made FIRST_GROUP)
             (λ stopped new. SetMayRefuse stopped × (new ≡ stopped))
             self.old back self.new) }
     {
@@ -312,13 +305,11 @@ impl<St: Drop> MergeUnbounded<St, SharedReady> {
 
     /// A merge of these streams, pushed in order, whatever the iterator says of their number. It is `over` with shared sources, and refuses as `over` does.
     pub fn from_iter<I: IntoIterator<Item = St>>(alloc: Global, iter: I) -> Result<Self, NewFault>
-    where
-        requires { IsFiniteIterable I.into_iter_gives I.IntoIter.can_next
-            I.IntoIter.remaining iter }
-        ensures holds { IfOk result (HoldsAllOf I.into_iter_gives I.IntoIter.next_gives iter
+        requires { IsFiniteSource I.IntoIterator I.IntoIter.Iterator iter }
+        ensures holds { IfOk result (HoldsAllOf I.IntoIterator I.IntoIter.Iterator iter
             (PushesEach MarksShared IsNewShared (no_groups POLL_LIMIT))) }
         ensures large { result ≡ Err NewFault.TooLarge
-            → StopsAtBound I.into_iter_gives I.IntoIter.next_gives iter
+            → StopsAtBound I.IntoIterator I.IntoIter.Iterator iter
             (GrowingPushes MarksShared IsNewShared FIRST_GROUP) SetRefuses
             (no_groups POLL_LIMIT) }
     {

@@ -10,6 +10,7 @@ use Rattle.futures.specs.declared.task.context.Context.{Context}
 use Rattle.futures.specs.declared.task.Poll.{Poll}
 use Rattle.futures.specs.declared.task.Poll.TheVariants.{Ready, Pending}
 use Rattle.futures.specs.Runs.{Runs, Leads, Ends}
+use Rattle.futures_buffered_core.specs.Drawn.{SourceOf, IteratorOf}
 use Rattle.futures_buffered_unordered.specs.Extended.{ExtendsUntil}
 use Rattle.futures_buffered_ordered.specs.declared.ordered_entries.Entry.{Entry}
 use Rattle.futures_buffered_ordered.specs.declared.ordered_entries.Entry.TheVariants.{Running, Kept}
@@ -136,9 +137,9 @@ module _ {F Q A : Type 0} (pushes : Q → F → ℕ → Q → Type 0) where
 
   -- These items came and were added at the back. The next one came, might be refused, and had to go
   -- back. No further one was asked for.
-  abbrev pub StopsAt : {U I : Type 0} → (Q → Type 0) → (U → I → Type 0)
-      → (I → Option F → I → Type 0) → U → Ordered Q A → F → Ordered Q A → Type 0
-  StopsAt set_may_refuse becomes steps source = ExtendsUntil becomes steps source AddsBack
+  abbrev pub StopsAt : {U I : Type 0} → (Q → Type 0) → SourceOf U F I → IteratorOf I F → U
+      → Ordered Q A → F → Ordered Q A → Type 0
+  StopsAt set_may_refuse by gives source = ExtendsUntil by gives source AddsBack
       (λ stopped new. MayRefuse set_may_refuse stopped × Stays stopped new)
 
 module _ {Q A : Type 0} (gives : Q → Poll (Option (ℕ × A)) → Q → Type 0) where

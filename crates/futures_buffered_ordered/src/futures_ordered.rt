@@ -2,7 +2,7 @@
 //!
 //! The futures stand in a set that grows by groups. Each has an entry in a list, to which pushes add at either end. A poll yields the front alone: an output that comes before its turn is kept in its entry.
 ghost use Rattle.std.specs.Prelude.{◌≡◌, ◌↔◌, ◌<◌, ◌≤◌, [], length, Err, IfOk, IfErr, OnOk, OnErr, IsOk, IsErr, IsTrue};
-ghost use Rattle.std.specs.Iterator.{IsFiniteIterable};
+ghost use Rattle.futures_buffered_core.specs.Drawn.{IsFiniteSource};
 ghost use Rattle.futures_buffered_core.specs.Answer.{RefusesTooLarge};
 ghost use Rattle.futures_buffered_core.specs.ReadyShared.{IsNewShared, MarksShared, Shared};
 ghost use Rattle.futures_buffered_unordered.specs.FuturesUnordered.{EachCovered, no_groups};
@@ -194,13 +194,11 @@ impl<T: Drop, A: Drop, S: NewSource> GrowingQueue<T, A, S> {
 
     /// Adds each item at the back, in order, as `push_back` does. The first that is refused comes back; those before it stay, and the iterator is asked for no further one.
     pub fn extend<I: IntoIterator<Item = T>>(&mut self, iter: I) -> Result<(), T>
-    where
-        requires { IsFiniteIterable I.into_iter_gives I.IntoIter.can_next
-            I.IntoIter.remaining iter }
-        ensures all { OnOk result (HoldsAllOf I.into_iter_gives I.IntoIter.next_gives iter
+        requires { IsFiniteSource I.IntoIterator I.IntoIter.Iterator iter }
+        ensures all { OnOk result (HoldsAllOf I.IntoIterator I.IntoIter.Iterator iter
             (AddsEachBack (GrowingPushesNumber S.marks S.made) self.old) self.new) }
         ensures stops { IfErr result (λ back. StopsAt (GrowingPushesNumber S.marks S.made) SetMayRefuse
-            I.into_iter_gives I.IntoIter.next_gives iter self.old back self.new) }
+            I.IntoIterator I.IntoIter.Iterator iter self.old back self.new) }
     {
         self.queue.extend(iter)
     }
@@ -316,14 +314,11 @@ impl<T: SlotFuture<SharedWaker, Output = A>, A: Drop> GrowingQueue<T, A, SharedR
     ///
     /// Takes time and memory in proportion to the number of items and to that first number. Where it is refused, the items that came are dropped: `TooLarge` where that number or a later group is too large, or more than `MAX_LEN` came, and `Memory` where a request for memory was refused.
     pub fn from_iter<I: IntoIterator<Item = T>>(alloc: Global, iter: I) -> Result<Self, NewFault>
-    where
-        requires { IsFiniteIterable I.into_iter_gives I.IntoIter.can_next
-            I.IntoIter.remaining iter }
-        ensures holds { IfOk result (GrowsByAllOf I.into_iter_gives I.IntoIter.next_gives iter
-            I.IntoIter.remaining FIRST_GROUP (λ n. IsNewGrowingQueue IsNewShared n POLL_LIMIT)
+        requires { IsFiniteSource I.IntoIterator I.IntoIter.Iterator iter }
+        ensures holds { IfOk result (GrowsByAllOf I.IntoIterator I.IntoIter.Iterator iter FIRST_GROUP (λ n. IsNewGrowingQueue IsNewShared n POLL_LIMIT)
             (AddsBack (GrowingPushesNumber MarksShared IsNewShared))) }
         ensures large { result ≡ Err NewFault.TooLarge
-            → Outgrows I.into_iter_gives I.IntoIter.next_gives iter I.IntoIter.remaining FIRST_GROUP (λ n (start : OrderedGrowing T A Shared).
+            → Outgrows I.IntoIterator I.IntoIter.Iterator iter FIRST_GROUP (λ n (start : OrderedGrowing T A Shared).
             IsNewGrowingQueue IsNewShared n POLL_LIMIT start)
             (AddsBack (GrowingPushesNumber MarksShared IsNewShared)) (IsAtEnd SetRefuses) }
     {

@@ -2,9 +2,8 @@
 //!
 //! The futures stand in a bounded set. Each has an entry in a list, to which pushes add at either end. A poll yields the front alone: an output that comes before its turn is kept in its entry.
 ghost use Rattle.std.specs.Prelude.{◌≡◌, ◌↔◌, ◌<◌, ◌≤◌, length, IfOk, IfErr, OnOk, IsOk, IsErr, IsTrue};
-ghost use Rattle.std.specs.Iterator.{IsFiniteIterable};
 ghost use Rattle.futures_buffered_core.specs.Answer.{RefusesTooLarge};
-ghost use Rattle.futures_buffered_core.specs.Drawn.{Draws, DrawsMoreThan};
+ghost use Rattle.futures_buffered_core.specs.Drawn.{Draws, IsFiniteSource, RefusesTooMany};
 ghost use Rattle.futures_buffered_core.specs.ReadyShared.{IsNewShared, MarksShared};
 ghost use Rattle.futures_buffered_core.specs.SlotMap.{slot_count};
 ghost use Rattle.futures_buffered_unordered.specs.FuturesUnorderedBounded.{emptied, held_in};
@@ -216,13 +215,11 @@ impl<T: Drop, A: Drop, S: ReadySource> BoundedQueue<T, A, S> {
 
     /// Adds each item at the back, in order, as `try_push_back` does. The first that is refused comes back; those before it stay, and the iterator is asked for no further one.
     pub fn extend<I: IntoIterator<Item = T>>(&mut self, iter: I) -> Result<(), T>
-    where
-        requires { IsFiniteIterable I.into_iter_gives I.IntoIter.can_next
-            I.IntoIter.remaining iter }
-        ensures all { OnOk result (HoldsAllOf I.into_iter_gives I.IntoIter.next_gives iter
+        requires { IsFiniteSource I.IntoIterator I.IntoIter.Iterator iter }
+        ensures all { OnOk result (HoldsAllOf I.IntoIterator I.IntoIter.Iterator iter
             (AddsEachBack (PushesNumber S.marks) self.old) self.new) }
         ensures stops { IfErr result (λ back. StopsAt (PushesNumber S.marks) SetIsFull
-            I.into_iter_gives I.IntoIter.next_gives iter self.old back self.new) }
+            I.IntoIterator I.IntoIter.Iterator iter self.old back self.new) }
         ensures capacity { slot_count self.new.set.slots ≡ slot_count self.old.set.slots }
     {
         self.queue.extend(iter)
@@ -301,13 +298,11 @@ where
 fn drawn<I: IntoIterator>(alloc: Global, iter: I) -> Result<Vec<I::Item>, NewFault>
 where
     I::Item: Drop,
-    requires { IsFiniteIterable I.into_iter_gives I.IntoIter.can_next
-        I.IntoIter.remaining iter }
+    requires { IsFiniteSource I.IntoIterator I.IntoIter.Iterator iter }
     ensures items { IfOk result (λ items.
-        Draws I.into_iter_gives I.IntoIter.next_gives iter items.items) }
+        Draws I.IntoIterator I.IntoIter.Iterator iter items.items) }
     ensures fits { IfOk result (λ items. length items.items ≤ MAX_CAPACITY) }
-    ensures large { result ≡ Err NewFault.TooLarge
-        → DrawsMoreThan I.into_iter_gives I.IntoIter.next_gives iter MAX_CAPACITY }
+    ensures large { RefusesTooMany I.IntoIterator I.IntoIter.Iterator iter result }
 {
     let mut items = Vec::new(alloc);
     for item in iter {
@@ -342,14 +337,11 @@ impl<T: SlotFuture<SharedWaker, Output = A>, A: Drop> BoundedQueue<T, A, SharedR
     ///
     /// Takes time and memory in proportion to that number. Where it is refused, the items that came are dropped: `TooLarge` where one more than `MAX_CAPACITY` came, and `Memory` where a request for memory was refused.
     pub fn from_iter<I: IntoIterator<Item = T>>(alloc: Global, iter: I) -> Result<Self, NewFault>
-    where
-        requires { IsFiniteIterable I.into_iter_gives I.IntoIter.can_next
-            I.IntoIter.remaining iter }
-        ensures holds { IfOk result (HoldsAllOf I.into_iter_gives I.IntoIter.next_gives iter
+        requires { IsFiniteSource I.IntoIterator I.IntoIter.Iterator iter }
+        ensures holds { IfOk result (HoldsAllOf I.IntoIterator I.IntoIter.Iterator iter
             (HoldsInOrder IsNewShared MarksShared POLL_LIMIT)) }
         ensures fits { IfOk result (λ q. slot_count q.set.slots ≤ MAX_CAPACITY) }
-        ensures large { result ≡ Err NewFault.TooLarge
-            → DrawsMoreThan I.into_iter_gives I.IntoIter.next_gives iter MAX_CAPACITY }
+        ensures large { RefusesTooMany I.IntoIterator I.IntoIter.Iterator iter result }
     {
         let items = drawn(alloc, iter)?;
         let mut queue = Self::new(alloc, items.len())?;

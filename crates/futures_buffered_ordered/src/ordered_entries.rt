@@ -2,9 +2,9 @@
 //!
 //! Pushes add an entry at either end. A poll yields the front alone: an output that comes before its turn is kept in its entry.
 ghost use Rattle.std.specs.Prelude.{◌≡◌, ◌↔◌, ◌<◌, ◌≤◌, ◌+◌, ℕ, [], ◌∷◌, length, true, false, IfOk, IfErr, OnOk, IsOk, IsErr, IsTrue, MatchOption};
-ghost use Rattle.std.specs.Iterator.{IsFiniteIterable};
 ghost use Rattle.futures.specs.Task.{Keeps};
 ghost use Rattle.futures.specs.Poll.{IfReady, OnPending};
+ghost use Rattle.futures_buffered_core.specs.Drawn.{IsFiniteSource};
 ghost use Rattle.futures_buffered_unordered.specs.Extended.{HoldsAllOf};
 ghost use Rattle.futures_buffered_ordered.specs.declared.ordered_entries.Entry.TheVariants.{Kept};
 ghost use Rattle.futures_buffered_ordered.specs.OrderedEntries.{AddsBack, AddsEachBack, AddsFront, GivesWithTask, HandsBack, IsAtEnd, LastStep, MayRefuse, OrderedGives, PollsQueue, PollsQueueTask, SetYields, Stays, StopsAt, starts_running, with_task, without_entries};
@@ -185,14 +185,11 @@ impl<Q: NumberedSet, A: Drop> OrderedEntries<Q, A> {
     #[tactic(auto, using(crate::proofs::OrderedEntriesLemmas::adds_one_more))]
     /// Adds each item at the back, in order, as `add_back` does. The first that is refused comes back; those before it stay, and the iterator is asked for no further one.
     pub fn extend<I: IntoIterator<Item = Q::Future>>(&mut self, iter: I) -> Result<(), Q::Future>
-    where
-        requires finite { IsFiniteIterable I.into_iter_gives I.IntoIter.can_next
-            I.IntoIter.remaining iter }
+        requires finite { IsFiniteSource I.IntoIterator I.IntoIter.Iterator iter }
         requires numbered { IsNumbered Q.with_number Q.count self.old }
-        ensures all { OnOk result (HoldsAllOf I.into_iter_gives I.IntoIter.next_gives iter
+        ensures all { OnOk result (HoldsAllOf I.IntoIterator I.IntoIter.Iterator iter
             (AddsEachBack Q.pushes self.old.queue) self.new.queue) }
-        ensures stops { IfErr result (λ back. StopsAt Q.pushes Q.may_refuse I.into_iter_gives
-            I.IntoIter.next_gives iter self.old.queue back self.new.queue) }
+        ensures stops { IfErr result (λ back. StopsAt Q.pushes Q.may_refuse I.IntoIterator I.IntoIter.Iterator iter self.old.queue back self.new.queue) }
         ensures keeps { AddingKeeps Q.with_number Q.count Q.keeps self.old self.new }
     {
         for item in iter {

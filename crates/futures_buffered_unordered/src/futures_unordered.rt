@@ -2,10 +2,10 @@
 //!
 //! Each group is a bounded set. A push goes into the last group, and makes one of twice its slots where it is full. A poll asks each group in turn, from the place where the poll before ended, until one gives an output. How one group is asked, `AskGroup` says. One registration of the task does for all groups.
 ghost use Rattle.std.specs.Prelude.{◌≡◌, ◌↔◌, ◌<◌, ◌≤◌, ◌+◌, ◌++◌, length, take, drop, IsTrue, Err, OnOk, OnErr, IsOk, IsErr, IfOk, IfErr, IfNone};
-ghost use Rattle.std.specs.Iterator.{IsFiniteIterable};
 ghost use Rattle.std.specs.List.{All};
 ghost use Rattle.futures.specs.Poll.{IfReady, OnPending};
 ghost use Rattle.futures.specs.Task.{Keeps};
+ghost use Rattle.futures_buffered_core.specs.Drawn.{IsFiniteSource};
 ghost use Rattle.futures_buffered_core.specs.Answer.{RefusesTooLarge};
 ghost use Rattle.futures_buffered_core.specs.ReadyShared.{IsNewShared, MarksShared};
 ghost use Rattle.futures_buffered_core.specs.ReadySource.{WaitsAlike};
@@ -282,13 +282,10 @@ impl<F: Drop, S: NewSource> FuturesUnordered<F, S> {
 
     /// Pushes each item, in order, as `push` does. The first that is refused comes back; those before it stay, and the iterator is asked for no further one.
     pub fn extend<I: IntoIterator<Item = F>>(&mut self, iter: I) -> Result<(), F>
-    where
-        requires { IsFiniteIterable I.into_iter_gives I.IntoIter.can_next
-            I.IntoIter.remaining iter }
-        ensures all { OnOk result (HoldsAllOf I.into_iter_gives I.IntoIter.next_gives iter
+        requires { IsFiniteSource I.IntoIterator I.IntoIter.Iterator iter }
+        ensures all { OnOk result (HoldsAllOf I.IntoIterator I.IntoIter.Iterator iter
             (PushesEach S.marks S.made self.old) self.new) }
-        ensures stops { IfErr result (λ back. ExtendsUntil I.into_iter_gives
-            I.IntoIter.next_gives iter (GrowingPushes S.marks S.made FIRST_GROUP)
+        ensures stops { IfErr result (λ back. ExtendsUntil I.IntoIterator I.IntoIter.Iterator iter (GrowingPushes S.marks S.made FIRST_GROUP)
             (λ stopped new. SetMayRefuse stopped × (new ≡ stopped))
             self.old back self.new) }
     {
@@ -452,14 +449,11 @@ impl<F: Drop> FuturesUnordered<F, SharedReady> {
     ///
     /// Takes time and memory in proportion to the number of items and to that first number. Where it is refused, the items that came are dropped: `TooLarge` where that number or a later group is too large, or more than `MAX_HELD` came, and `Memory` where a request for memory was refused.
     pub fn from_iter<I: IntoIterator<Item = F>>(alloc: Global, iter: I) -> Result<Self, NewFault>
-    where
-        requires { IsFiniteIterable I.into_iter_gives I.IntoIter.can_next
-            I.IntoIter.remaining iter }
-        ensures holds { IfOk result (GrowsByAllOf I.into_iter_gives I.IntoIter.next_gives iter
-            I.IntoIter.remaining FIRST_GROUP (λ n. IsNewGrowing IsNewShared n POLL_LIMIT)
+        requires { IsFiniteSource I.IntoIterator I.IntoIter.Iterator iter }
+        ensures holds { IfOk result (GrowsByAllOf I.IntoIterator I.IntoIter.Iterator iter FIRST_GROUP (λ n. IsNewGrowing IsNewShared n POLL_LIMIT)
             (GrowingPushes MarksShared IsNewShared FIRST_GROUP)) }
         ensures large { result ≡ Err NewFault.TooLarge
-            → Outgrows I.into_iter_gives I.IntoIter.next_gives iter I.IntoIter.remaining FIRST_GROUP (λ n. IsNewGrowing IsNewShared n POLL_LIMIT)
+            → Outgrows I.IntoIterator I.IntoIter.Iterator iter FIRST_GROUP (λ n. IsNewGrowing IsNewShared n POLL_LIMIT)
             (GrowingPushes MarksShared IsNewShared FIRST_GROUP) SetRefuses }
     {
         let iter = iter.into_iter();

@@ -4,10 +4,9 @@
 ghost use Rattle.std.specs.Prelude.{◌≡◌, ◌<◌, ◌≤◌, ◌+◌, ◌==◌, ◌↔◌, List, IfOk, IfErr, OnOk, IsSome, IsTrue};
 ghost use Rattle.futures.specs.Task.{Covers};
 ghost use Rattle.futures.specs.Poll.{IfReady};
-ghost use Rattle.std.specs.Iterator.{IsFiniteIterable};
 ghost use Rattle.std.specs.List.{FoldsTo};
 ghost use Rattle.futures_buffered_core.specs.Answer.{RefusesTooLarge};
-ghost use Rattle.futures_buffered_core.specs.Drawn.{DrawsMoreThan};
+ghost use Rattle.futures_buffered_core.specs.Drawn.{IsFiniteSource, RefusesTooMany};
 ghost use Rattle.futures_buffered_core.specs.ReadyShared.{IsNewShared, MarksShared};
 ghost use Rattle.futures_buffered_core.specs.ReadySource.{WaitsAlike};
 ghost use Rattle.futures_buffered_core.specs.SlotMap.{value_in, held_count, slot_count, no_slots, IsFull};
@@ -130,13 +129,11 @@ impl<F: Drop, S: ReadySource> FuturesUnorderedBounded<F, S> {
     ) -> Result<Self, NewFault>
     where
         S: NewSource,
-        requires { IsFiniteIterable I.into_iter_gives I.IntoIter.can_next
-            I.IntoIter.remaining iter }
-        ensures holds { IfOk result (HoldsAllOf I.into_iter_gives I.IntoIter.next_gives iter
+        requires { IsFiniteSource I.IntoIterator I.IntoIter.Iterator iter }
+        ensures holds { IfOk result (HoldsAllOf I.IntoIterator I.IntoIter.Iterator iter
             (HoldsEach S.made S.marks POLL_LIMIT)) }
         ensures fits { IfOk result (λ set. slot_count set.slots ≤ MAX_CAPACITY) }
-        ensures large { result ≡ Err NewFault.TooLarge
-            → DrawsMoreThan I.into_iter_gives I.IntoIter.next_gives iter MAX_CAPACITY }
+        ensures large { RefusesTooMany I.IntoIterator I.IntoIter.Iterator iter result }
     {
         Self::over_limit(env, alloc, iter, POLL_LIMIT)
     }
@@ -150,14 +147,12 @@ impl<F: Drop, S: ReadySource> FuturesUnorderedBounded<F, S> {
     ) -> Result<Self, NewFault>
     where
         S: NewSource,
-        requires finite { IsFiniteIterable I.into_iter_gives I.IntoIter.can_next
-            I.IntoIter.remaining iter }
+        requires finite { IsFiniteSource I.IntoIterator I.IntoIter.Iterator iter }
         requires some { 1 ≤ limit }
-        ensures holds { IfOk result (HoldsAllOf I.into_iter_gives I.IntoIter.next_gives iter
+        ensures holds { IfOk result (HoldsAllOf I.IntoIterator I.IntoIter.Iterator iter
             (HoldsEach S.made S.marks limit)) }
         ensures fits { IfOk result (λ set. slot_count set.slots ≤ MAX_CAPACITY) }
-        ensures large { result ≡ Err NewFault.TooLarge
-            → DrawsMoreThan I.into_iter_gives I.IntoIter.next_gives iter MAX_CAPACITY }
+        ensures large { RefusesTooMany I.IntoIterator I.IntoIter.Iterator iter result }
     {
         let slots = PinSlotMap::from_iter(alloc, iter)?;
         let mut source = S::make(env, alloc, slots.capacity())?;
@@ -238,13 +233,10 @@ impl<F: Drop, S: ReadySource> FuturesUnorderedBounded<F, S> {
 
     /// Pushes each item, in order, as `try_push` does. The first for which there is no free slot comes back; those before it stay, and the iterator is asked for no further one.
     pub fn extend<I: IntoIterator<Item = F>>(&mut self, iter: I) -> Result<(), F>
-    where
-        requires { IsFiniteIterable I.into_iter_gives I.IntoIter.can_next
-            I.IntoIter.remaining iter }
-        ensures all { OnOk result (HoldsAllOf I.into_iter_gives I.IntoIter.next_gives iter
+        requires { IsFiniteSource I.IntoIterator I.IntoIter.Iterator iter }
+        ensures all { OnOk result (HoldsAllOf I.IntoIterator I.IntoIter.Iterator iter
             (FoldsTo (Pushes S.marks) self.old) self.new) }
-        ensures stops { IfErr result (λ back. ExtendsUntil I.into_iter_gives
-            I.IntoIter.next_gives iter (Pushes S.marks)
+        ensures stops { IfErr result (λ back. ExtendsUntil I.IntoIterator I.IntoIter.Iterator iter (Pushes S.marks)
             (λ stopped new. IsFull stopped.slots × (new ≡ stopped)) self.old back self.new) }
         ensures capacity { slot_count self.new.slots ≡ slot_count self.old.slots }
     {
@@ -421,14 +413,11 @@ impl<F: Drop> FuturesUnorderedBounded<F, SharedReady> {
 
     /// A set without a free slot, which holds item k in slot k, each marked, in this order, and whose values are woken from any thread. It is `over` with a shared source, and refuses as `over` does.
     pub fn from_iter<I: IntoIterator<Item = F>>(alloc: Global, iter: I) -> Result<Self, NewFault>
-    where
-        requires { IsFiniteIterable I.into_iter_gives I.IntoIter.can_next
-            I.IntoIter.remaining iter }
-        ensures holds { IfOk result (HoldsAllOf I.into_iter_gives I.IntoIter.next_gives iter
+        requires { IsFiniteSource I.IntoIterator I.IntoIter.Iterator iter }
+        ensures holds { IfOk result (HoldsAllOf I.IntoIterator I.IntoIter.Iterator iter
             (HoldsEach IsNewShared MarksShared POLL_LIMIT)) }
         ensures fits { IfOk result (λ set. slot_count set.slots ≤ MAX_CAPACITY) }
-        ensures large { result ≡ Err NewFault.TooLarge
-            → DrawsMoreThan I.into_iter_gives I.IntoIter.next_gives iter MAX_CAPACITY }
+        ensures large { RefusesTooMany I.IntoIterator I.IntoIter.Iterator iter result }
     {
         Self::over(&(), alloc, iter)
     }

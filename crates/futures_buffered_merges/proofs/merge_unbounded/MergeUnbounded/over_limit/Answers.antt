@@ -9,7 +9,7 @@ loop-stream-preserved g c = (search rules, search rules, FoldsTo-push (GrowingPu
 
 pub returns-clause-holds : goal.returns-clause-holds
 returns-clause-holds g c =
-    let draws : Draws g.I.IntoIterator.into_iter_gives g.I.IntoIter.Iterator.next_gives c.args.iter c.loop-stream.yielded = search rules in
+    let draws : Draws g.I.IntoIterator g.I.IntoIter.Iterator c.args.iter c.loop-stream.yielded = search rules in
     let pushes = subst (λ (start : Growing g.row.St.Denot g.row.S.Denot). PushesEach g.S.ReadySource.marks g.S.NewSource.made start c.loop-stream.yielded c.loop-stream.merge) c.without_groups-merge.ensures c.loop-stream.invariant.2 in
     (c.loop-stream.yielded, draws, pushes)
 
@@ -18,7 +18,7 @@ returns-clause-large g c = search rules
 
 pub returns-in-Err-clause-large : goal.returns-in-Err-clause-large
 returns-in-Err-clause-large g c = λ e.
-    let draws : DrawsAndOne g.I.IntoIterator.into_iter_gives g.I.IntoIter.Iterator.next_gives c.args.iter c.loop-stream.yielded = search rules in
+    let draws : DrawsAndOne g.I.IntoIterator g.I.IntoIter.Iterator c.args.iter c.loop-stream.yielded = search rules in
     let pushes = subst (λ (start : Growing g.row.St.Denot g.row.S.Denot). PushesEach g.S.ReadySource.marks g.S.NewSource.made start c.loop-stream.yielded c.loop-stream.merge) c.without_groups-merge.ensures c.loop-stream.invariant.2 in
     let at_bound : IsAtBound c.loop-stream.merge.groups.listed = search rules in
     (c.loop-stream.yielded, c.loop-stream.merge, draws, pushes, at_bound)

@@ -14,8 +14,8 @@ loop-item-preserved g c = (search rules, search rules, adds_one_more (GrowingPus
 
 pub returns-clause-holds : goal.returns-clause-holds
 returns-clause-holds g c =
-    let draws : Draws g.I.IntoIterator.into_iter_gives g.I.IntoIter.Iterator.next_gives c.args.iter c.loop-item.yielded = search rules in
-    let says : SaysAtLeast g.I.IntoIterator.into_iter_gives g.I.IntoIter.Iterator.remaining c.args.iter c.size_hint-least.result.0 = search rules in
+    let draws : Draws g.I.IntoIterator g.I.IntoIter.Iterator c.args.iter c.loop-item.yielded = search rules in
+    let says : SaysAtLeast g.I.IntoIterator g.I.IntoIter.Iterator c.args.iter c.size_hint-least.result.0 = search rules in
     let first : c.if-least-gt-FIRST_GROUP.first ≡ max c.size_hint-least.result.0 32 = elim c.if-least-gt-FIRST_GROUP.branch [
       | then-least-gt-FIRST_GROUP w ↦ omega (arith, w.first-is, w.if-least-gt-FIRST_GROUP.true)
       | else-least-gt-FIRST_GROUP w ↦ omega (arith, w.first-is, w.if-least-gt-FIRST_GROUP.false)
@@ -28,7 +28,7 @@ returns-clause-large g c = search rules
 
 pub returns-in_err-queue-clause-large : goal.returns-in_err-queue-clause-large
 returns-in_err-queue-clause-large g c = λ e.
-    let says : SaysAtLeast g.I.IntoIterator.into_iter_gives g.I.IntoIter.Iterator.remaining c.args.iter c.size_hint-least.result.0 = search rules in
+    let says : SaysAtLeast g.I.IntoIterator g.I.IntoIter.Iterator c.args.iter c.size_hint-least.result.0 = search rules in
     let first : c.if-least-gt-FIRST_GROUP.first ≡ max c.size_hint-least.result.0 32 = elim c.if-least-gt-FIRST_GROUP.branch [
       | then-least-gt-FIRST_GROUP w ↦ omega (arith, w.first-is, w.if-least-gt-FIRST_GROUP.true)
       | else-least-gt-FIRST_GROUP w ↦ omega (arith, w.first-is, w.if-least-gt-FIRST_GROUP.false)
@@ -38,8 +38,8 @@ returns-in_err-queue-clause-large g c = λ e.
 
 pub returns-in-Err-clause-large : goal.returns-in-Err-clause-large
 returns-in-Err-clause-large g c = λ e.
-    let draws : DrawsAndOne g.I.IntoIterator.into_iter_gives g.I.IntoIter.Iterator.next_gives c.args.iter c.loop-item.yielded = search rules in
-    let says : SaysAtLeast g.I.IntoIterator.into_iter_gives g.I.IntoIter.Iterator.remaining c.args.iter c.size_hint-least.result.0 = search rules in
+    let draws : DrawsAndOne g.I.IntoIterator g.I.IntoIter.Iterator c.args.iter c.loop-item.yielded = search rules in
+    let says : SaysAtLeast g.I.IntoIterator g.I.IntoIter.Iterator c.args.iter c.size_hint-least.result.0 = search rules in
     let first : c.if-least-gt-FIRST_GROUP.first ≡ max c.size_hint-least.result.0 32 = elim c.if-least-gt-FIRST_GROUP.branch [
       | then-least-gt-FIRST_GROUP w ↦ omega (arith, w.first-is, w.if-least-gt-FIRST_GROUP.true)
       | else-least-gt-FIRST_GROUP w ↦ omega (arith, w.first-is, w.if-least-gt-FIRST_GROUP.false)

@@ -4,7 +4,7 @@ use Rattle.futures_buffered_ordered.proofs.ordered_entries.OrderedEntries.extend
 
 pub returns-in_err-add_back-clause-stops : goal.returns-in_err-add_back-clause-stops
 returns-in_err-add_back-clause-stops g c =
-    let stops : StopsAt g.Q.NumberedSet.pushes g.Q.NumberedSet.may_refuse g.I.IntoIterator.into_iter_gives g.I.IntoIter.Iterator.next_gives c.args.iter c.args.self.now.queue c.in-Some.item c.add_back.new.self.queue = record {
+    let stops : StopsAt g.Q.NumberedSet.pushes g.Q.NumberedSet.may_refuse g.I.IntoIterator g.I.IntoIter.Iterator c.args.iter c.args.self.now.queue c.in-Some.item c.add_back.new.self.queue = record {
       items = c.loop-item.yielded;
       it = c.into_iter-item-iterator.result;
       rest = c.next.new.self;

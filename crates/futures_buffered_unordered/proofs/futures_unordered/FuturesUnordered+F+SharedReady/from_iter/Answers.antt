@@ -12,13 +12,13 @@ loop-item-preserved g c = (search rules, search rules, FoldsTo-push (GrowingPush
 
 pub returns-clause-holds : goal.returns-clause-holds
 returns-clause-holds g c =
-    let draws : Draws g.I.IntoIterator.into_iter_gives g.I.IntoIter.Iterator.next_gives c.args.iter c.loop-item.yielded = search rules in
+    let draws : Draws g.I.IntoIterator g.I.IntoIter.Iterator c.args.iter c.loop-item.yielded = search rules in
     let first : c.if-least-gt-FIRST_GROUP.first ≡ max c.size_hint-least.result.0 32 = elim c.if-least-gt-FIRST_GROUP.branch [
       | then-least-gt-FIRST_GROUP w ↦ omega (arith, w.first-is, w.if-least-gt-FIRST_GROUP.true)
       | else-least-gt-FIRST_GROUP w ↦ omega (arith, w.first-is, w.if-least-gt-FIRST_GROUP.false)
     ] in
     let start = subst (λ n. IsNewGrowing IsNewShared n 61 c.in_ok-set.set) first c.in_ok-set.ensures.empty in
-    let says : SaysAtLeast g.I.IntoIterator.into_iter_gives g.I.IntoIter.Iterator.remaining c.args.iter c.size_hint-least.result.0 = search rules in
+    let says : SaysAtLeast g.I.IntoIterator g.I.IntoIter.Iterator c.args.iter c.size_hint-least.result.0 = search rules in
     (c.loop-item.yielded, c.size_hint-least.result.0, (c.in_ok-set.set, draws, says, start, c.loop-item.invariant.2))
 
 pub returns-clause-large : goal.returns-clause-large
@@ -26,7 +26,7 @@ returns-clause-large g c = search rules
 
 pub returns-in_err-set-clause-large : goal.returns-in_err-set-clause-large
 returns-in_err-set-clause-large g c = λ e.
-    let says : SaysAtLeast g.I.IntoIterator.into_iter_gives g.I.IntoIter.Iterator.remaining c.args.iter c.size_hint-least.result.0 = search rules in
+    let says : SaysAtLeast g.I.IntoIterator g.I.IntoIter.Iterator c.args.iter c.size_hint-least.result.0 = search rules in
     let first : c.if-least-gt-FIRST_GROUP.first ≡ max c.size_hint-least.result.0 32 = elim c.if-least-gt-FIRST_GROUP.branch [
       | then-least-gt-FIRST_GROUP w ↦ omega (arith, w.first-is, w.if-least-gt-FIRST_GROUP.true)
       | else-least-gt-FIRST_GROUP w ↦ omega (arith, w.first-is, w.if-least-gt-FIRST_GROUP.false)
@@ -36,8 +36,8 @@ returns-in_err-set-clause-large g c = λ e.
 
 pub returns-in-Err-clause-large : goal.returns-in-Err-clause-large
 returns-in-Err-clause-large g c = λ e.
-    let says : SaysAtLeast g.I.IntoIterator.into_iter_gives g.I.IntoIter.Iterator.remaining c.args.iter c.size_hint-least.result.0 = search rules in
-    let draws : DrawsAndOne g.I.IntoIterator.into_iter_gives g.I.IntoIter.Iterator.next_gives c.args.iter c.loop-item.yielded = search rules in
+    let says : SaysAtLeast g.I.IntoIterator g.I.IntoIter.Iterator c.args.iter c.size_hint-least.result.0 = search rules in
+    let draws : DrawsAndOne g.I.IntoIterator g.I.IntoIter.Iterator c.args.iter c.loop-item.yielded = search rules in
     let first : c.if-least-gt-FIRST_GROUP.first ≡ max c.size_hint-least.result.0 32 = elim c.if-least-gt-FIRST_GROUP.branch [
       | then-least-gt-FIRST_GROUP w ↦ omega (arith, w.first-is, w.if-least-gt-FIRST_GROUP.true)
       | else-least-gt-FIRST_GROUP w ↦ omega (arith, w.first-is, w.if-least-gt-FIRST_GROUP.false)

@@ -10,7 +10,7 @@ loop-item-preserved g c = (search rules, search rules, FoldsTo-push (GrowingPush
 pub returns-in_err-push-clause-stops : goal.returns-in_err-push-clause-stops
 returns-in_err-push-clause-stops g c =
     let source = g.S.ReadySource in
-    let stops : ExtendsUntil g.I.IntoIterator.into_iter_gives g.I.IntoIter.Iterator.next_gives c.args.iter (GrowingPushes source.marks g.S.NewSource.made 32) (λ (stopped new : Growing g.row.F.Denot g.row.S.Denot). SetMayRefuse stopped × (new ≡ stopped)) c.args.self.now c.in-Some.item c.push.new.self = record {
+    let stops : ExtendsUntil g.I.IntoIterator g.I.IntoIter.Iterator c.args.iter (GrowingPushes source.marks g.S.NewSource.made 32) (λ (stopped new : Growing g.row.F.Denot g.row.S.Denot). SetMayRefuse stopped × (new ≡ stopped)) c.args.self.now c.in-Some.item c.push.new.self = record {
       items = c.loop-item.yielded;
       it = c.into_iter-item-iterator.result;
       rest = c.next.new.self;

@@ -12,7 +12,7 @@ loop-item-preserved g c = (search rules, search rules, FoldsTo-push (Pushes g.S.
 pub returns-in_err-try_push-clause-stops : goal.returns-in_err-try_push-clause-stops
 returns-in_err-try_push-clause-stops g c =
     let full = c.in_err-try_push.ensures.full in
-    let Stops = λ (back : g.row.F.Denot). ExtendsUntil g.I.IntoIterator.into_iter_gives g.I.IntoIter.Iterator.next_gives c.args.iter (Pushes g.S.ReadySource.marks) (λ (stopped new : Bounded g.row.F.Denot g.row.S.Denot). IsFull stopped.slots × (new ≡ stopped)) c.args.self.now back c.try_push.new.self in
+    let Stops = λ (back : g.row.F.Denot). ExtendsUntil g.I.IntoIterator g.I.IntoIter.Iterator c.args.iter (Pushes g.S.ReadySource.marks) (λ (stopped new : Bounded g.row.F.Denot g.row.S.Denot). IsFull stopped.slots × (new ≡ stopped)) c.args.self.now back c.try_push.new.self in
     let stops : Stops c.in-Some.item = record {
       items = c.loop-item.yielded;
       it = c.into_iter-item-iterator.result;
