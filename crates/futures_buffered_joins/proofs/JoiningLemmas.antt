@@ -13,7 +13,7 @@ use Rattle.futures_buffered_core.specs.ReadySource.{SourceSteps}
 use Rattle.futures_buffered_unordered.specs.FuturesUnorderedBounded.{Bounded, HoldsEach, AsksUntil, with_empty_slot}
 use Rattle.futures_buffered_joins.specs.Joining.{Places, Fills, output_at}
 use Rattle.futures_buffered_joins.specs.JoiningInvariant.{KeepsJoinPlaces}
-use Rattle.futures_buffered_joins.specs.TryJoin.{Fails}
+use Rattle.futures_buffered_joins.specs.Join.{Fails}
 
 pub none_from : {A : Type 0} (o : Option A) → is_some o ≡ false → o ≡ None
 none_from None e = refl
@@ -34,19 +34,19 @@ none_counted (None ∷ xs) zero e = refl
 none_counted (None ∷ xs) (suc i) e = none_counted xs i e
 none_counted {F} (Some f ∷ xs) i e = absurd (omega (arith, e, sum_by-cons (λ (o : Option F). cond (is_some o) 1 0) (Some f) xs))
 
-module _ {F R A S : Type 0} (polled : ℕ → F → Poll R → F → Type 0) (steps : SourceSteps S) (as_output : A → R) where
-  pub fills_place : (old new : Places F A S) (held mid : Bounded F S) (outputs : List (Option A)) (gathered : List A) (room i : ℕ) (x : A) → old ≡ record { set = held; outputs = outputs } → KeepsJoinPlaces {F = F} {A = A} {S = S} (record { set = held; outputs = outputs }) gathered room
-      → AsksUntil polled steps held (Ready (i, as_output x)) mid → ((j : ℕ) → is_some (value_in mid.slots j) ≡ is_some (value_in held.slots j)) → IsSome (value_in mid.slots i)
+module _ {F O A S : Type 0} (polled : ℕ → F → Poll O → F → Type 0) (steps : SourceSteps S) where
+  pub fills_place : (as_output : A → O) (old new : Places F A S) (held mid : Bounded F S) (outputs : List (Option A)) (gathered : List A) (room i : ℕ) (output : O) (x : A) → old ≡ record { set = held; outputs = outputs } → KeepsJoinPlaces {F = F} {A = A} {S = S} (record { set = held; outputs = outputs }) gathered room → as_output x ≡ output
+      → AsksUntil polled steps held (Ready (i, output)) mid → ((j : ℕ) → is_some (value_in mid.slots j) ≡ is_some (value_in held.slots j)) → IsSome (value_in mid.slots i)
       → new.set ≡ with_empty_slot mid i → new.outputs ≡ set outputs i (Some x) → Fills polled steps as_output old (i, x) new
-  fills_place old new held mid outputs gathered room i x is keeps gave same some gone done =
+  fills_place as_output old new held mid outputs gathered room i output x is keeps of gave same some gone done =
       let was : is_some (value_in held.slots i) ≡ true = sym (same i) ∙ some in
       let below : i < length outputs = omega (arith, below_from_some held.slots.places i was, keeps.same_size) in
       let waited : get_or outputs i None ≡ None = none_from (get_or outputs i None) (keeps.either i below ∙ ap not was) in
-      rw is (record { left = mid; gave = gave; future_gone = gone; was_waiting = waited; now_done = done })
+      rw is (record { left = mid; gave = subst (λ (a : O). AsksUntil polled steps held (Ready (i, a)) mid) (sym of) gave; future_gone = gone; was_waiting = waited; now_done = done })
 
-pub fails_place : {F T E S : Type 0} (polled : ℕ → F → Poll (Result T E) → F → Type 0) (steps : SourceSteps S) (old : Places F T S) (held mid : Bounded F S) (outputs : List (Option T)) (i : ℕ) (r : Result T E) (e : E) → old ≡ record { set = held; outputs = outputs } → r ≡ Err e
-    → AsksUntil polled steps held (Ready (i, r)) mid → Fails polled steps old e
-fails_place {F} {T} {E} {S} polled steps old held mid outputs i r e is was gave = rw is (i, mid, subst (λ (a : Result T E). AsksUntil polled steps held (Ready (i, a)) mid) was gave)
+  pub fails_place : {E : Type 0} (output_of : Result A E → O) (old : Places F A S) (held mid : Bounded F S) (outputs : List (Option A)) (i : ℕ) (output : O) (e : E) → old ≡ record { set = held; outputs = outputs } → output_of (Err e) ≡ output
+      → AsksUntil polled steps held (Ready (i, output)) mid → Fails polled steps output_of old e
+  fails_place output_of old held mid outputs i output e is of gave = rw is (i, mid, subst (λ (a : O). AsksUntil polled steps held (Ready (i, a)) mid) (sym of) gave)
 
 -- a new join keeps itself
 pub keeps_new : {F A S : Type 0} (made : ℕ → S → Type 0) (marks : S → ℕ → Woke → S → Type 0) (names : ℕ) (items : List F) (held : Bounded F S) (outputs : List (Option A)) (gathered : List A) (room : ℕ) → HoldsEach made marks names items held → outputs ≡ replicate (slot_count held.slots) None → gathered ≡ [] → room ≡ slot_count held.slots

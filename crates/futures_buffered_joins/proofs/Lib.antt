@@ -1,4 +1,3 @@
 pub mod JoiningLemmas
 pub mod JoiningGivenLemmas
 pub mod JoinLemmas
-pub mod TryJoinLemmas

@@ -4,17 +4,23 @@ use Rattle.futures.specs.Task.{Covers, Keeps}
 use Rattle.futures.specs.Poll.{IfReady, OnPending}
 use Rattle.futures.specs.declared.task.context.Context.{Context}
 use Rattle.futures.specs.declared.task.Poll.{Poll}
+use Rattle.futures.specs.declared.task.Poll.TheVariants.{Ready, Pending}
 use Rattle.futures_buffered_core.specs.ReadySource.{SourceSteps}
 use Rattle.futures_buffered_unordered.specs.Held.{AllHeld}
 use Rattle.futures_buffered_unordered.specs.FuturesUnorderedBounded.{IsWoken, OnlyRegisters}
 use Rattle.futures_buffered_unordered.specs.FuturesUnorderedBounded.{SaidEmpty}
 use Rattle.futures_buffered_joins.specs.Joining.{Places, JoinLeavesTask}
 
+-- the answer of a poll, as `seen` shows what it is ready with
+abbrev pub as_seen : {B C : Type 0} → (B → C) → Poll B → Poll C
+as_seen seen (Ready answer) = Ready (seen answer)
+as_seen seen Pending = Pending
+
 -- One poll of a join, which took it from old to new. `gives` says what a poll makes of a join,
 -- `may_give` what a join may be ready with, as `seen` shows an answer.
 pub record PollsJoin
     {F A S B C : Type 0}
-    (gives : Option (Places F A S) → Poll B → Option (Places F A S) → Type 0)
+    (gives : Option (Places F A S) → Poll C → Option (Places F A S) → Type 0)
     (may_give : Option (Places F A S) → C → Type 0)
     (seen : B → C)
     (can_poll : F → Type 0)
@@ -23,7 +29,7 @@ pub record PollsJoin
     (new : Option (Places F A S))
     : Type 0 where
   -- outputs filled their places, one after another, and then the poll ended
-  pub gave : gives old answer new
+  pub gave : gives old (as_seen seen answer) new
   -- it is ready with nothing but what it might give before the poll
   pub value : IfReady answer (λ x. may_give old (seen x))
   -- the join can be polled again after a pending poll

@@ -3,5 +3,5 @@ pub mod JoiningInvariant
 pub mod JoinMade
 pub mod JoiningFills
 pub mod JoinTask
+pub mod JoinRule
 pub mod Join
-pub mod TryJoin

@@ -1,9 +1,8 @@
 //! What a join keeps until it ends: a set of its futures, and the outputs that have come.
-ghost use Rattle.std.specs.Prelude.{◌≡◌, ◌<◌, ◌+◌, Some, None, Ok, Err, IfOk, IsSome, IsTrue, ◌↔◌, map, slice_set};
-ghost use Rattle.std.specs.Iterator.{IsFiniteIterable};
-ghost use Rattle.futures.specs.Poll.{IfReady, OnPending};
+ghost use Rattle.std.specs.Prelude.{◌≡◌, ◌<◌, ◌+◌, Some, None, IfOk, IsSome, IsTrue, ◌↔◌, map, slice_set};
+ghost use Rattle.futures.specs.Poll.{OnPending};
 ghost use Rattle.futures.specs.declared.task.context.Context.{Context};
-ghost use Rattle.futures_buffered_core.specs.Drawn.{Draws, DrawsMoreThan};
+ghost use Rattle.futures_buffered_core.specs.Drawn.{Draws, IsFiniteSource, RefusesTooMany};
 ghost use Rattle.futures_buffered_core.specs.SlotMap.{value_in, held_count};
 ghost use Rattle.futures_buffered_unordered.specs.Held.{AllHeld};
 ghost use Rattle.futures_buffered_unordered.specs.FuturesUnorderedBounded.{AsksSetTask, LeavesTask, with_empty_slot};
@@ -11,8 +10,10 @@ ghost use Rattle.futures_buffered_joins.specs.Joining.{Places};
 ghost use Rattle.futures_buffered_joins.specs.JoinMade.{IsMadeOf};
 ghost use Rattle.futures_buffered_joins.specs.JoinTask.{PollsTask};
 ghost use Rattle.futures_buffered_joins.specs.JoiningFills.{FillsOne, FillsAll, FillsOrFails, WaitsOnce, WaitsAfter};
-ghost use Rattle.futures_buffered_joins.specs.TryJoin.{Fails, FailsAfter};
+ghost use Rattle.futures_buffered_joins.specs.JoinRule.{output_kept};
+ghost use Rattle.futures_buffered_joins.specs.Join.{Fails, FailsAfter};
 
+use crate::join_by::JoinRule;
 use futures::task::{Context, Poll};
 use futures_buffered_core::ready_core::{MAX_CAPACITY, NewFault};
 use futures_buffered_core::ready_source::{NewSource, ReadySource};
@@ -56,13 +57,11 @@ impl<F: Drop, A: Drop, S: ReadySource> Joining<F, A, S> {
     ) -> Result<Self, NewFault>
     where
         S: NewSource,
-        requires { IsFiniteIterable I.into_iter_gives I.IntoIter.can_next
-            I.IntoIter.remaining iter }
+        requires { IsFiniteSource I.IntoIterator I.IntoIter.Iterator iter }
         ensures made { IfOk result (λ places. IsMadeOf
-            (Draws I.into_iter_gives I.IntoIter.next_gives iter)
+            (Draws I.IntoIterator I.IntoIter.Iterator iter)
             S.made S.marks POLL_LIMIT MAX_CAPACITY (Some places)) }
-        ensures large { result ≡ Err NewFault.TooLarge
-            → DrawsMoreThan I.into_iter_gives I.IntoIter.next_gives iter MAX_CAPACITY }
+        ensures large { RefusesTooMany I.IntoIterator I.IntoIter.Iterator iter result }
     {
         let set = FuturesUnorderedBounded::over(env, alloc, iter)?;
         let outputs = empty_places(alloc, set.capacity())?;
@@ -119,90 +118,55 @@ impl<F: Drop, A: Drop, S: ReadySource> Joining<F, A, S> {
     }
 }
 
-impl<F: SlotFuture<S::Waker>, S: ReadySource> Joining<F, F::Output, S>
+impl<F, O, A, S> Joining<F, A, S>
 where
-    F::Output: Drop,
+    F: SlotFuture<S::Waker, Output = O>,
+    A: Drop,
+    S: ReadySource,
 {
-    // One poll of the set: an output fills its place.
-    fn fill_one(&mut self, cx: &mut Context<'_>) -> Poll<()>
+    // One poll of the set: what is kept of an output fills its place, or the output ends the join.
+    fn fill_one<R: JoinRule<O, Kept = A>>(
+        &mut self,
+        cx: &mut Context<'_>,
+    ) -> Poll<Result<(), R::Error>>
         requires some { 0 < held_count self.old.set.slots }
         requires held { AllHeld F.can_poll self.old.set.slots }
-        ensures ready { IfReady result (λ _.
-            FillsOne F.polled S.steps (λ x. x) F.can_poll self.old self.new) }
-        ensures pending { OnPending result
-            (WaitsOnce F.polled S.steps (λ x. x) F.can_poll self.old self.new) }
+        ensures ready { FillsOrFails (FillsOne F.polled S.steps (output_kept R.output_of)
+            F.can_poll self.old self.new) (Fails F.polled S.steps R.output_of self.old) result }
+        ensures pending { OnPending result (WaitsOnce F.polled S.steps
+            (output_kept R.output_of) F.can_poll self.old self.new) }
         ensures task { AsksSetTask S.steps S.needs (S.registers_poll self.old.set.source)
             (LeavesTask F.polled S.steps S.registers_poll self.old.set self.new.set)
             self.new.set.source result cx.old cx.new }
     {
         match self.set.poll_first(&PollFuture, cx) {
-            Poll::Ready((i, output)) => {
-                self.fill(i, output);
-                Poll::Ready(())
-            }
+            Poll::Ready((i, output)) => match R::keep(output) {
+                Ok(kept) => {
+                    self.fill(i, kept);
+                    Poll::Ready(Ok(()))
+                }
+                Err(error) => Poll::Ready(Err(error)),
+            },
             Poll::Pending => Poll::Pending,
         }
     }
 
-    // Polls of the set, until it is Pending or no future is waited for.
-    pub(crate) fn fill_all(&mut self, cx: &mut Context<'_>) -> Poll<()>
+    // Polls of the set, until it is Pending, no future is waited for, or an output ends the join.
+    pub(crate) fn fill_all<R: JoinRule<O, Kept = A>>(
+        &mut self,
+        cx: &mut Context<'_>,
+    ) -> Poll<Result<(), R::Error>>
         requires { AllHeld F.can_poll self.old.set.slots }
-        ensures ready { IfReady result (λ _.
-            FillsAll F.polled S.steps (λ x. x) F.can_poll self.old self.new) }
-        ensures pending { OnPending result
-            (WaitsAfter F.polled S.steps (λ x. x) F.can_poll self.old self.new) }
-        ensures task { PollsTask F.polled S.steps (λ x. x) S.needs S.registers_poll
-            (Some self.old) (Some self.new) result cx.old cx.new }
+        ensures ready { FillsOrFails (FillsAll F.polled S.steps (output_kept R.output_of)
+            F.can_poll self.old self.new) (FailsAfter F.polled S.steps R.output_of self.old)
+            result }
+        ensures pending { OnPending result (WaitsAfter F.polled S.steps
+            (output_kept R.output_of) F.can_poll self.old self.new) }
+        ensures task { PollsTask F.polled S.steps (output_kept R.output_of) S.needs
+            S.registers_poll (Some self.old) (Some self.new) result cx.old cx.new }
     {
         'places: while !self.is_done() {
-            match self.fill_one(cx) {
-                Poll::Ready(()) => {}
-                Poll::Pending => return Poll::Pending,
-            }
-        }
-        Poll::Ready(())
-    }
-}
-
-impl<F, T, E, S: ReadySource> Joining<F, T, S>
-where
-    F: SlotFuture<S::Waker, Output = Result<T, E>>,
-    T: Drop,
-{
-    // One poll of the set: an output fills its place, or an error comes.
-    fn try_fill_one(&mut self, cx: &mut Context<'_>) -> Poll<Result<(), E>>
-        requires some { 0 < held_count self.old.set.slots }
-        requires held { AllHeld F.can_poll self.old.set.slots }
-        ensures ready { FillsOrFails (FillsOne F.polled S.steps Ok F.can_poll self.old self.new)
-            (Fails F.polled S.steps self.old) result }
-        ensures pending { OnPending result
-            (WaitsOnce F.polled S.steps Ok F.can_poll self.old self.new) }
-        ensures task { AsksSetTask S.steps S.needs (S.registers_poll self.old.set.source)
-            (LeavesTask F.polled S.steps S.registers_poll self.old.set self.new.set)
-            self.new.set.source result cx.old cx.new }
-    {
-        match self.set.poll_first(&PollFuture, cx) {
-            Poll::Ready((i, Ok(output))) => {
-                self.fill(i, output);
-                Poll::Ready(Ok(()))
-            }
-            Poll::Ready((_, Err(error))) => Poll::Ready(Err(error)),
-            Poll::Pending => Poll::Pending,
-        }
-    }
-
-    // Polls of the set, until it is Pending, no future is waited for, or one gives an error.
-    pub(crate) fn try_fill_all(&mut self, cx: &mut Context<'_>) -> Poll<Result<(), E>>
-        requires { AllHeld F.can_poll self.old.set.slots }
-        ensures ready { FillsOrFails (FillsAll F.polled S.steps Ok F.can_poll self.old self.new)
-            (FailsAfter F.polled S.steps self.old) result }
-        ensures pending { OnPending result
-            (WaitsAfter F.polled S.steps Ok F.can_poll self.old self.new) }
-        ensures task { PollsTask F.polled S.steps Ok S.needs S.registers_poll
-            (Some self.old) (Some self.new) result cx.old cx.new }
-    {
-        'places: while !self.is_done() {
-            match self.try_fill_one(cx) {
+            match self.fill_one::<R>(cx) {
                 Poll::Ready(Ok(())) => {}
                 Poll::Ready(Err(error)) => return Poll::Ready(Err(error)),
                 Poll::Pending => return Poll::Pending,

@@ -4,12 +4,15 @@
 //!
 //! - `join`: `join_all` and `JoinAll`, ready with all outputs once the last future is done.
 //! - `try_join`: `try_join_all` and `TryJoinAll`, whose futures may fail, ready at the first error as well.
-//! - `joining`: what both keep until they end, a set of the futures and the outputs that have come.
+//! - `join_by`: the type of both, by a rule: what is kept of an output, and which output ends the join.
+//! - `joining`: what a join keeps until it ends, a set of the futures and the outputs that have come.
 #![tactic(auto)]
 
 pub mod join;
+pub mod join_by;
 mod joining;
 pub mod try_join;
 
 pub use join::{Join, JoinAll, join_all};
+pub use join_by::{JoinBy, JoinName, JoinRule};
 pub use try_join::{TryJoin, TryJoinAll, try_join_all};

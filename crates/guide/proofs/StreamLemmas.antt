@@ -1,5 +1,5 @@
 -- What came from iterators, queues, streams of futures and joins that have ended.
-use Rattle.std.proofs.Common.{◌≡◌, ℕ, List, [], ◌∷◌, map, length, Option, Some, None, MatchOption, IsSomeAnd, inl, inr, refl, sym, subst, ap, ◌∙◌}
+use Rattle.std.proofs.Common.{◌≡◌, ℕ, List, [], ◌∷◌, map, length, Option, Some, None, Ok, MatchOption, IsSomeAnd, inl, inr, refl, sym, subst, ap, ◌∙◌}
 use Rattle.std.specs.Iterator.{Drains}
 use Rattle.std.specs.Vec.Iter.{into_iter_items, into_iter_len, into_iter_steps}
 use Rattle.std.specs.declared.vec.IntoIter.{IntoIter}
@@ -12,6 +12,7 @@ use Rattle.futures_buffered.specs.Buffer.{Ahead}
 use Rattle.futures_buffered.specs.OrderedEntries.{InTurn}
 use Rattle.futures_buffered.specs.Joining.{Places, IsNewJoin}
 use Rattle.futures_buffered.specs.Join.{JoinMayGive}
+use Rattle.futures_buffered.specs.JoinRule.{kept_as_it_is}
 
 -- all that the iterator of a vector gives is the vector's elements
 pub gave_all : {A Z : Type 0} (it : IntoIter A Z) (elements given : List A) → into_iter_items it ≡ elements
@@ -43,7 +44,8 @@ behind_nothing first second xs none (inr came) =
 -- a join of these items that is ready with outputs has one of each
 pub one_of_each_item : {F A S : Type 0} (polled : ℕ → F → Poll A → F → Type 0) (made marks : _) (names : ℕ)
     (join : Option (Places F A S)) (items : List F) (outputs : List A)
-    → IsSomeAnd join (IsNewJoin made marks names items) → JoinMayGive polled join outputs → length outputs ≡ length items
+    → IsSomeAnd join (IsNewJoin made marks names items) → JoinMayGive polled kept_as_it_is join (Ok outputs)
+    → length outputs ≡ length items
 one_of_each_item polled made marks names None items outputs new may = absurd new
 one_of_each_item polled made marks names (Some places) items outputs new may =
     may.as_many ∙ ap length new.none_done ∙ length-replicate (length items) None
