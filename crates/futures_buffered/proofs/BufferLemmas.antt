@@ -7,8 +7,8 @@ use Rattle.futures.specs.declared.task.context.Context.{Context}
 use Rattle.futures.specs.Task.{Lasting, Covers, Keeps, Hears}
 use Rattle.futures.specs.Runs.{Runs, After, Within, Ends, Leads, Chains, Resolves, firsts}
 use Rattle.futures.specs.Buffered.{GathersWith}
-use Rattle.futures_buffered.specs.FutureQueue.{MayCome, AddsOutput}
-use Rattle.futures_buffered.specs.Buffer.{Buffering, Ahead, AsksStream, DrawsAll, HasNoTurn, Calls, CanDraw, WaitsAt, OneComes, Comes, BufferGives, answer_from, answer_of_none}
+use Rattle.futures_buffered.specs.FutureQueue.{MayCome, AddsOutput, PushLeavesQueue}
+use Rattle.futures_buffered.specs.Buffer.{Buffering, Ahead, AsksStream, DrawsAll, DrawsBuffer, DrawsTask, HasNoTurn, CallGives, CallLeavesTask, PollsWithTask, CanDraw, WaitsAt, OneComes, Comes, BufferGives, answer_from, answer_of_none}
 
 None-Some : {X F : Type 0} {f : F} → None ≡ Some f → X
 None-Some e = cc
@@ -130,32 +130,32 @@ module _ {St X A Q : Type 0} (yields : St → Runs X) (item_gives : X → A → 
   one_less s s2 item q rest y (inl any) = inl any
   one_less s s2 item q rest y (inr any) = inr (item ∷ any.0, any.1, rest any.0 (Some any.1) any.2, any.3)
 
-  -- an item was drawn, and what came of it pushed
-  pub item_comes : (s s2 : St) (item : X) (P : A → Type 0) (old new : Q) → ((x : A) → P x → item_gives item x) → AddsOutput false (comes old) P (comes new) → count new ≡ count old + 1 → yields s [] (Some item) → After (yields s) item (yields s2)
+  -- an item was drawn and pushed
+  item_comes : (s s2 : St) (item : X) (old new : Q) → AddsOutput false (comes old) (item_gives item) (comes new) → count new ≡ count old + 1 → yields s [] (Some item) → After (yields s) item (yields s2)
       → Within (Any (Some s) old) (Any (Some s2) new)
-  item_comes s s2 item P old new of_item adds one_more came rest =
+  item_comes s s2 item old new adds one_more came rest =
       gathers_within (One (Some s) old) (One (Some s2) new) (count old) (count new) (yields s) (yields s2) weaker
       (λ all e. (item ∷ all, rest all None e, omega (arith, one_more)))
     where
-      by_queue : (y : A) → MayCome (comes old) y ⊎ P y → One (Some s) old y
+      by_queue : (y : A) → MayCome (comes old) y ⊎ item_gives item y → One (Some s) old y
       by_queue y (inl any) = inl any
-      by_queue y (inr gave) = inr ([], item, came, of_item y gave)
+      by_queue y (inr gave) = inr ([], item, came, gave)
 
       weaker : (y : A) → One (Some s2) new y → One (Some s) old y
       weaker y (inl any) = by_queue y (adds y any)
       weaker y (inr any) = inr (item ∷ any.0, any.1, rest any.0 (Some any.1) any.2, any.3)
 
-  -- an item was drawn that is an answer itself
-  pub item_value : (s : St) (item : X) (x : A) (q : Q) → item_gives item x → yields s [] (Some item) → Any (Some s) q [] (Some x)
+  -- an item was drawn whose push handed back this answer
+  item_value : (s : St) (item : X) (x : A) (q : Q) → item_gives item x → yields s [] (Some item) → Any (Some s) q [] (Some x)
   item_value s item x q gives came = record { each = tt; ends = inr ([], item, came, gives) }
 
-  pub item_after : (s s2 : St) (item : X) (x : A) (q : Q) → item_gives item x → yields s [] (Some item) → After (yields s) item (yields s2)
+  item_after : (s s2 : St) (item : X) (x : A) (q : Q) → item_gives item x → yields s [] (Some item) → After (yields s) item (yields s2)
       → After (Any (Some s) q) x (Any (Some s2) q)
   item_after s s2 item x q gives came rest =
       gathers_after (One (Some s) q) (One (Some s2) q) (count q) (count q) (yields s) (yields s2) x (inr ([], item, came, gives)) (one_less s s2 item q rest)
       (λ all e. (item ∷ all, rest all None e, omega arith))
 
-  pub pending_comes : (s s2 : St) (q : Q) → Within (yields s) (yields s2) → Within (Any (Some s) q) (Any (Some s2) q)
+  pending_comes : (s s2 : St) (q : Q) → Within (yields s) (yields s2) → Within (Any (Some s) q) (Any (Some s2) q)
   pending_comes s s2 q same =
       gathers_within (One (Some s) q) (One (Some s2) q) (count q) (count q) (yields s) (yields s2) weaker
       (λ all e. (all, same all None e, refl))
@@ -164,7 +164,7 @@ module _ {St X A Q : Type 0} (yields : St → Runs X) (item_gives : X → A → 
       weaker y (inl any) = inl any
       weaker y (inr any) = inr (any.0, any.1, same any.0 (Some any.1) any.2, any.3)
 
-  pub end_comes : (s : St) (q : Q) → yields s [] None → Within (Any (Some s) q) (Any None q)
+  end_comes : (s : St) (q : Q) → yields s [] None → Within (Any (Some s) q) (Any None q)
   end_comes s q ended =
       gathers_within (One (Some s) q) (One None q) (count q) (count q) (yields s) Ends weaker
       (λ all e. ([], ended, rw e.0 refl))
@@ -173,7 +173,7 @@ module _ {St X A Q : Type 0} (yields : St → Runs X) (item_gives : X → A → 
       weaker y (inl any) = inl any
       weaker y (inr any) = let e = any.2.1 in cc
 
-  pub queue_comes : (stream : Option St) (old new : Q) → Within (comes old) (comes new) → count new ≡ count old → Within (Any stream old) (Any stream new)
+  queue_comes : (stream : Option St) (old new : Q) → Within (comes old) (comes new) → count new ≡ count old → Within (Any stream old) (Any stream new)
   queue_comes stream old new same len =
       gathers_within (One stream old) (One stream new) (count old) (count new) (Ahead yields stream) (Ahead yields stream) weaker
       (λ all e. (all, e, ap (λ (n : ℕ). n + length all) len))
@@ -182,10 +182,10 @@ module _ {St X A Q : Type 0} (yields : St → Runs X) (item_gives : X → A → 
       weaker y (inl any) = inl (any.0, same any.0 (Some y) any.1)
       weaker y (inr any) = inr any
 
-  pub queue_gave : (stream : Option St) (q : Q) (x : A) → comes q [] (Some x) → Any stream q [] (Some x)
+  queue_gave : (stream : Option St) (q : Q) (x : A) → comes q [] (Some x) → Any stream q [] (Some x)
   queue_gave stream q x value = record { each = tt; ends = inl ([], value) }
 
-  pub queue_rest : (stream : Option St) (old new : Q) (x : A) → comes old [] (Some x) → After (comes old) x (comes new) → count new + 1 ≡ count old → After (Any stream old) x (Any stream new)
+  queue_rest : (stream : Option St) (old new : Q) (x : A) → comes old [] (Some x) → After (comes old) x (comes new) → count new + 1 ≡ count old → After (Any stream old) x (Any stream new)
   queue_rest stream old new x value rest len =
       gathers_after (One stream old) (One stream new) (count old) (count new) (Ahead yields stream) (Ahead yields stream) x (inl ([], value)) weaker
       (λ all e. (all, e, omega (arith, len)))
@@ -194,17 +194,25 @@ module _ {St X A Q : Type 0} (yields : St → Runs X) (item_gives : X → A → 
       weaker y (inl any) = inl (x ∷ any.0, rest any.0 (Some y) any.1)
       weaker y (inr any) = inr any
 
-  pub queue_ended : (q : Q) → count q ≡ 0 → Any None q [] None
+  queue_ended : (q : Q) → count q ≡ 0 → Any None q [] None
   queue_ended q none = record { each = tt; ends = ([], (refl, refl), omega (arith, none)) }
 
   abbrev Gives : Bool → Option St → Q → Runs A
   Gives in_order stream q = BufferGives yields item_gives count comes in_order (Of stream q)
 
   -- an item was drawn and pushed
-  pub item_within : (in_order : Bool) (s s2 : St) (item : X) (old new : Q) → AddsOutput in_order (comes old) (item_gives item) (comes new) → count new ≡ count old + 1 → yields s [] (Some item) → After (yields s) item (yields s2)
+  item_within : (in_order : Bool) (s s2 : St) (item : X) (old new : Q) → AddsOutput in_order (comes old) (item_gives item) (comes new) → count new ≡ count old + 1 → yields s [] (Some item) → After (yields s) item (yields s2)
       → Within (Gives in_order (Some s) old) (Gives in_order (Some s2) new)
   item_within true s s2 item old new adds one_more came rest = item_chains item_gives (yields s) (yields s2) item (comes old) came rest (comes new) adds
-  item_within false s s2 item old new adds one_more came rest = item_comes s s2 item (item_gives item) old new (λ x gave. gave) adds one_more came rest
+  item_within false s s2 item old new adds one_more came rest = item_comes s s2 item old new adds one_more came rest
+
+  -- an item was drawn, and its push handed back this answer
+  given_value : (in_order : Bool) (s : St) (item : X) (x : A) (q : Q) → in_order ≡ false → item_gives item x → yields s [] (Some item) → Gives in_order (Some s) q [] (Some x)
+  given_value in_order s item x q is gives came = rw is (item_value s item x q gives came)
+
+  given_after : (in_order : Bool) (s s2 : St) (item : X) (x : A) (old new : Q) → in_order ≡ false → new ≡ old → item_gives item x → yields s [] (Some item) → After (yields s) item (yields s2)
+      → After (Gives in_order (Some s) old) x (Gives in_order (Some s2) new)
+  given_after in_order s s2 item x old new is same gives came rest = rw (is, same) (item_after s s2 item x old gives came rest)
 
   -- the stream was pending
   pub pending_within : (in_order : Bool) (s s2 : St) (q : Q) → Within (yields s) (yields s2) → Within (Gives in_order (Some s) q) (Gives in_order (Some s2) q)
@@ -237,7 +245,7 @@ module _ {St X A Q : Type 0} (yields : St → Runs X) (item_gives : X → A → 
 
 module _ {St X Q : Type 0} (can_next : St → Type 0) (yields : St → Runs X) (is_fit : X → Type 0) (can_poll : Q → Type 0) where
   -- an item was drawn, and what came of it pushed or given
-  pub item_can : (s s2 : St) (item : X) (old new : Q) → (can_poll old → is_fit item → can_poll new) → CanDraw can_next yields is_fit can_poll (record { stream = Some s; queue = old }) → yields s [] (Some item) → After (yields s) item (yields s2) → can_next s2
+  item_can : (s s2 : St) (item : X) (old new : Q) → (can_poll old → is_fit item → can_poll new) → CanDraw can_next yields is_fit can_poll (record { stream = Some s; queue = old }) → yields s [] (Some item) → After (yields s) item (yields s2) → can_next s2
       → CanDraw can_next yields is_fit can_poll (record { stream = Some s2; queue = new })
   item_can s s2 item old new again can came rest next =
       record { stream = next; to_come = λ xs x h. can.to_come (item ∷ xs) x (rest xs (Some x) h); held = again can.held (can.to_come [] item came) }
@@ -258,21 +266,65 @@ module _ {St X Q : Type 0} (can_next : St → Type 0) (yields : St → Runs X) (
       subst (λ (q : Q). CanDraw can_next yields is_fit can_poll (record { stream = stream; queue = q })) (sym same)
       (subst (λ (c : Buffering St Q). CanDraw can_next yields is_fit can_poll c) is can)
 
+-- what an item leaves that was drawn, by whether its push handed back an answer
+module _ {St X A Q : Type 0} (can_next : St → Type 0) (yields : St → Runs X) (item_gives : X → A → Type 0) (is_fit : X → Type 0) (count room : Q → ℕ) (comes : Q → Runs A) (can_poll : Q → Type 0) (in_order : Bool) (b : Buffering St Q) (s s2 : St) (item : X) (old new : Q) (is : b ≡ record { stream = Some s; queue = old })
+    (below : count old < room old) (can : CanDraw can_next yields is_fit can_poll b) (came : yields s [] (Some item)) (rest : After (yields s) item (yields s2)) (next : can_next s2) where
+  again_can : (can_poll old → is_fit item → can_poll new) → CanDraw can_next yields is_fit can_poll (record { stream = Some s2; queue = new })
+  again_can again = item_can can_next yields is_fit can_poll s s2 item old new again (subst (CanDraw can_next yields is_fit can_poll) is can) came rest next
+
+  pub item_leaves : (given : Option A) → PushLeavesQueue count room in_order comes item_gives is_fit can_poll old item given new
+      → DrawsBuffer count room (CanDraw can_next yields is_fit can_poll) (BufferGives yields item_gives count comes in_order) b given (record { stream = Some s2; queue = new })
+  item_leaves None push =
+      rw is (record {
+        same_room = push.same_room;
+        bound = omega (arith, below, push.one_more, push.same_room);
+        again = again_can push.again;
+        within = item_within yields item_gives count comes in_order s s2 item old new push.adds push.one_more came rest;
+        value = tt;
+        after = tt;
+      })
+  item_leaves (Some x) push =
+      rw is (record {
+        same_room = push.same_room;
+        bound = let e = ap count push.stays in omega (arith, below, e, push.same_room);
+        again = again_can push.again;
+        within = tt;
+        value = given_value yields item_gives count comes in_order s item x old push.overtakes push.value came;
+        after = given_after yields item_gives count comes in_order s s2 item x old new push.overtakes push.stays push.value came rest;
+      })
+
+-- what the last draw leaves, where those before it handed nothing back
+pub after_draws : {St A Q : Type 0} (count room : Q → ℕ) (can_draw : Buffering St Q → Type 0) (yields : Buffering St Q → Runs A) (old now new : Buffering St Q) (given : Option A) → room now.queue ≡ room old.queue → Within (yields old) (yields now)
+    → DrawsBuffer count room can_draw yields now given new → DrawsBuffer count room can_draw yields old given new
+after_draws count room can_draw yields old now new None same less last =
+    record { same_room = last.same_room ∙ same; bound = last.bound; again = last.again; within = λ xs end h. less xs end (last.within xs end h); value = tt; after = tt }
+after_draws count room can_draw yields old now new (Some x) same less last =
+    record { same_room = last.same_room ∙ same; bound = last.bound; again = last.again; within = tt; value = less [] (Some x) last.value; after = λ xs end h. less (x ∷ xs) end (last.after xs end h) }
+
 -- one call, of its draws and its poll of the queue
-pub call_of : {St F A Q : Type 0} (next : St → Poll (Option F) → St → Type 0) (count : Q → ℕ) (n : ℕ) (pushes : Q → F → Q → Type 0) (polls : Q → Poll (Option A) → Q → Type 0) (old filled : Buffering St Q) (stream : Option St) (queue left : Q) (queue_answer answer : Poll (Option A))
-    → filled ≡ record { stream = stream; queue = queue } → (drawn : List F) × DrawsAll next count n pushes old drawn filled → polls queue queue_answer left → answer ≡ answer_from stream queue_answer
-    → (drawn : List F) × Calls next count n pushes polls old drawn answer (record { stream = stream; queue = left })
+pub call_of : {St F A Q : Type 0} (next : St → Poll (Option F) → St → Type 0) (count : Q → ℕ) (n : ℕ) (pushes : Q → F → Option A → Q → Type 0) (polls : Q → Poll (Option A) → Q → Type 0) (old filled : Buffering St Q) (stream : Option St) (queue left : Q) (queue_answer answer : Poll (Option A))
+    → filled ≡ record { stream = stream; queue = queue } → (drawn : List F) × DrawsAll next count n pushes old drawn None filled → polls queue queue_answer left → answer ≡ answer_from stream queue_answer
+    → CallGives next count n pushes polls old answer (record { stream = stream; queue = left })
 call_of next count n pushes polls old filled stream queue left queue_answer answer is draws polled gives = (
   draws.0,
   record {
+    given = None;
     filled = filled;
     draws = draws.1;
-    queue_answer = queue_answer;
-    polls_queue = rw is polled;
-    same_stream = rw is refl;
-    gives = rw is gives;
+    ends = record {
+      queue_answer = queue_answer;
+      polls_queue = rw is polled;
+      same_stream = rw is refl;
+      gives = rw is gives;
+    };
   },
 )
+
+pub task_of : {St F A Q : Type 0} (next : St → Poll (Option F) → St → Type 0) (count : Q → ℕ) (n : ℕ) (pushes : Q → F → Option A → Q → Type 0) (polls : Q → Poll (Option A) → Q → Type 0) (leaves : Q → Poll (Option A) → Q → Context → Context → Type 0) (old filled : Buffering St Q) (stream : Option St) (queue left : Q) (queue_answer answer : Poll (Option A)) (cx drawn after : Context)
+    → filled ≡ record { stream = stream; queue = queue } → (items : List F) × DrawsAll next count n pushes old items None filled → polls queue queue_answer left → leaves queue queue_answer left drawn after → answer ≡ answer_from stream queue_answer → Keeps cx drawn → (HasNoTurn next count n old → drawn ≡ cx)
+    → CallLeavesTask (λ polls. CallGives next count n pushes polls old answer (record { stream = stream; queue = left })) (HasNoTurn next count n old) polls leaves cx after
+task_of next count n pushes polls leaves old filled stream queue left queue_answer answer cx drawn after is draws polled left_so gives kept not_polled =
+    record { drawn = drawn; kept = kept; not_polled = not_polled; called = call_of next count n pushes (PollsWithTask polls leaves drawn after) old filled stream queue left queue_answer answer is draws (polled, left_so) gives }
 
 -- the end of the queue, where the stream goes on and where it has ended
 pub some_pends : {St A : Type 0} (stream : Option St) → is_some stream ≡ true → ◌≡◌ {A = Poll (Option A)} Pending (answer_of_none stream)
@@ -330,3 +382,8 @@ had_turn {St} {X} {Q} next count n old s q is room none = by_turn (subst (HasNoT
 pub asked_had_turn : {St X Q : Type 0} (next : St → Poll (Option X) → St → Type 0) (count : Q → ℕ) (n : ℕ) (old : Buffering St Q) (answer : Poll (Option X)) (left : St) → AsksStream next count n old answer left → HasNoTurn next count n old → ⊥
 asked_had_turn next count n old answer left asks (inl ended) = None-Some (sym ended ∙ asks.not_ended)
 asked_had_turn next count n old answer left asks (inr full) = absurd (omega (arith, full, asks.has_room))
+
+-- what a poll of the stream leaves of the task
+pub polled_task : {St X Q : Type 0} (next : St → Poll (Option X) → St → Type 0) (count room : Q → ℕ) (needs : St → ℕ → Type 0) (none_came : Type 0) (old new : Buffering St Q) (s : St) (q : Q) (cx left : Context) → old ≡ record { stream = Some s; queue = q } → count q < room old.queue
+    → (none_came → count new.queue < room new.queue → IfSome new.stream (λ stream. Covers left (needs stream))) → Keeps cx left → DrawsTask next count room needs none_came old new cx left
+polled_task next count room needs none_came old new s q cx left is below covered kept = record { covered = covered; no_turn = λ none. absurd (had_turn next count (room old.queue) old s q is below none); kept = kept }

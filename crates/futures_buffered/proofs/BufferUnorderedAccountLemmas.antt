@@ -1,5 +1,5 @@
 -- Where each value held came from, and that no item drawn is lost or counted twice.
-use Rattle.std.proofs.Common.{◌≡◌, ℕ, zero, suc, ◌<◌, List, [], ◌∷◌, ◌++◌, length, set, get_or, filter_map, Option, Some, None, Result, MatchOption, is_some, count_by, cond, refl, sym, subst, inl, inr, arith, append-nil, append_assoc}
+use Rattle.std.proofs.Common.{◌≡◌, ℕ, zero, suc, ◌<◌, List, [], ◌∷◌, ◌++◌, length, set, get_or, filter_map, Option, Some, None, Result, MatchOption, is_some, count_by, cond, refl, sym, subst, arith, append-nil}
 use Rattle.std.specs.Prelude.{IsPermutation, ⊤}
 use Rattle.std.specs.Option.{option_to_list}
 use Rattle.std.specs.List.{FoldsTo, AllZip}
@@ -14,9 +14,12 @@ use Rattle.futures_buffered_table.specs.declared.answer.Woke.{Woke}
 use Rattle.futures_buffered_core.specs.ReadySource.{SourceSteps}
 use Rattle.futures_buffered_unordered.specs.Held.{Passes, Yields}
 use Rattle.futures_buffered_unordered.specs.FuturesUnorderedBounded.{Bounded, Pushes, PollGives, held_in}
-use Rattle.futures_buffered.proofs.TryBufferAccountLemmas.{many_calls_with_errors}
-use Rattle.futures_buffered.specs.Buffer.{Buffering, PollsStream, DrawsOne, DrawsNone, Calls, CallsInTurn, all_drawn, all_outputs, output_of, answer_from}
-use Rattle.futures_buffered.specs.BufferUnordered.{PendsTo, WaitsInSlot, MayGiveInSlot, LosesNothing, TryLosesNothing}
+use Rattle.futures_buffered.specs.FutureQueue.{OnlyPushes}
+use Rattle.futures_buffered.specs.Buffer.{Accounts, PollsStream, output_of}
+use Rattle.futures_buffered.specs.BufferUnordered.{PendsTo, WaitsInSlot, MayGiveInSlot, LosesNothing, TryLosesNothing, held_values}
+use Rattle.futures_buffered.specs.TryBuffer.{PushesOk}
+use Rattle.futures_buffered.proofs.BufferAccountLemmas.{many_calls}
+use Rattle.futures_buffered.proofs.TryBufferAccountLemmas.{AmongErrors, error_handed, ok_drew, queue_gave}
 
 abbrev pub somes : {F : Type 0} → List (Option F) → List F
 somes = filter_map (λ o. o)
@@ -174,57 +177,31 @@ module _ {F A S : Type 0} (polled : ℕ → F → Poll A → F → Type 0) (step
   gave_one drawn outputs old new Pending so h =
       rw (append-nil outputs) (record { gone = so.gone; origins = so.origins; all = so.all; gave = so.gave; came = ran_on polled so.origins h.1.0 old.slots new.slots so.came h.1.3.passes })
 
-module _ {St F A S : Type 0} (yields : St → Runs F) (polled : ℕ → F → Poll A → F → Type 0) (steps : SourceSteps S) (marks : S → ℕ → Woke → S → Type 0) (n : ℕ) where
-  abbrev So : List F → List A → Buffering St (Bounded F S) → Type 0
-  So drawn outputs b = SoFar polled drawn outputs b.queue.slots
+-- the same accounts at a set
+module _ {F A S : Type 0} (polled : ℕ → F → Poll A → F → Type 0) (marks : S → ℕ → Woke → S → Type 0) where
+  abbrev So : List F → List A → Bounded F S → Type 0
+  So drawn outputs set = SoFar polled drawn outputs set.slots
 
-  drew_all : (items drawn : List F) (outputs : List A) (old full : Buffering St (Bounded F S)) → So drawn outputs old → FoldsTo (DrawsOne (PollsStream yields) held_in n (Pushes marks)) old items full → So (drawn ++ items) outputs full
-  drew_all [] drawn outputs old full so ran = rw (append-nil drawn) (subst (So drawn outputs) ran so)
-  drew_all (f ∷ items) drawn outputs old full so ran =
-      rw (← append_assoc drawn (f ∷ []) items) (drew_all items (drawn ++ f ∷ []) outputs ran.0 full (drew polled drawn outputs old.queue.slots ran.0.queue.slots ran.1.pushed.0 f so ran.1.pushed.1.inserted) ran.2)
+  set_drew : (drawn : List F) (outputs : List A) (old new : Bounded F S) (f : F) → So drawn outputs old → Pushes marks old f new → So (drawn ++ f ∷ []) outputs new
+  set_drew drawn outputs old new f so push = drew polled drawn outputs old.slots new.slots push.0 f so push.1.inserted
 
-  drew_none : (drawn : List F) (outputs : List A) (full new : Buffering St (Bounded F S)) → So drawn outputs full → DrawsNone (PollsStream yields) held_in n full new → So drawn outputs new
-  drew_none drawn outputs full new so (inl h) = subst (So drawn outputs) (sym h.1) so
-  drew_none drawn outputs full new so (inr (inl h)) = rw h.2 so
-  drew_none drawn outputs full new so (inr (inr h)) = rw h.2 so
+  start : (set : Bounded F S) → held_in set ≡ 0 → So [] [] set
+  start set empty =
+      let none = nothing polled set.slots.places empty in
+      record { gone = []; origins = set.slots.places; all = rw none.1 (IsPermutation-refl []); gave = tt; came = none.0 }
 
-  pub same_output : (stream : Option St) (queue_answer : Poll (Option A)) → output_of (answer_from stream queue_answer) ≡ output_of queue_answer
-  same_output stream (Ready (Some x)) = refl
-  same_output None (Ready None) = refl
-  same_output (Some s) (Ready None) = refl
-  same_output stream Pending = refl
-
-  one_call : (items drawn : List F) (outputs : List A) (answer : Poll (Option A)) (old new : Buffering St (Bounded F S)) → So drawn outputs old → Calls (PollsStream yields) held_in n (Pushes marks) (PollGives polled steps) old items answer new
-      → So (drawn ++ items) (outputs ++ option_to_list (output_of answer)) new
-  one_call items drawn outputs answer old new so call =
-      let filled = drew_none (drawn ++ items) outputs call.draws.full call.filled (drew_all items drawn outputs old call.draws.full so call.draws.items) call.draws.last in
-      rw (call.gives, same_output call.filled.stream call.queue_answer) (gave_one polled steps (drawn ++ items) outputs call.filled.queue new.queue call.queue_answer filled call.polls_queue)
-
-  pub outputs_cons : (items : List F) (answer : Poll (Option A)) (calls : List (List F × Poll (Option A))) → all_outputs ((items, answer) ∷ calls) ≡ option_to_list (output_of answer) ++ all_outputs calls
-  outputs_cons items (Ready None) calls = refl
-  outputs_cons items (Ready (Some x)) calls = refl
-  outputs_cons items Pending calls = refl
-
-  many_calls : (calls : List (List F × Poll (Option A))) (drawn : List F) (outputs : List A) (old new : Buffering St (Bounded F S)) → So drawn outputs old → CallsInTurn (PollsStream yields) held_in n (Pushes marks) (PollGives polled steps) old calls new
-      → So (drawn ++ all_drawn calls) (outputs ++ all_outputs calls) new
-  many_calls [] drawn outputs old new so ran = rw (append-nil drawn, append-nil outputs) (subst (So drawn outputs) ran so)
-  many_calls ((items, answer) ∷ calls) drawn outputs old new so ran =
-      rw (outputs_cons items answer calls, ← append_assoc drawn items (all_drawn calls), ← append_assoc outputs (option_to_list (output_of answer)) (all_outputs calls))
-      (many_calls calls (drawn ++ items) (outputs ++ option_to_list (output_of answer)) ran.0 new (one_call items drawn outputs answer old ran.0 so ran.1) ran.2)
+  account : (drawn : List F) (outputs : List A) (set : Bounded F S) → So drawn outputs set → Accounts IsPermutation (MayGiveInSlot polled) (WaitsInSlot polled) drawn outputs (held_values set.slots)
+  account drawn outputs set so = record { gone = so.gone; kept = somes so.origins; all = so.all; gave = so.gave; became = kept_came polled polled (λ f g w. w) so.origins set.slots.places so.came }
 
 pub loses_nothing : {St F A S : Type 0} (yields : St → Runs F) (polled : ℕ → F → Poll A → F → Type 0) (steps : SourceSteps S) (marks : S → ℕ → Woke → S → Type 0) → LosesNothing yields polled steps marks
 loses_nothing yields polled steps marks n old new calls empty ran =
-    let none = nothing polled old.queue.slots.places empty in
-    let so = many_calls yields polled steps marks n calls [] [] old new (record { gone = []; origins = old.queue.slots.places; all = rw none.1 (IsPermutation-refl []); gave = tt; came = none.0 }) ran in
-    record { gone = so.gone; kept = somes so.origins; all = so.all; gave = so.gave; became = kept_came polled polled (λ f g w. w) so.origins new.queue.slots.places so.came }
+    account polled marks _ _ new.queue
+    (many_calls (PollsStream yields) held_in n (OnlyPushes (Pushes marks)) (PollGives polled steps) (So polled marks) (set_drew polled marks) (λ drawn outputs before after f x so never. absurd never) (gave_one polled steps)
+    calls [] [] old new (start polled marks old.queue empty) ran)
 
 -- the same where the stream gives errors as well
 pub try_loses_nothing : {St F T E S : Type 0} (yields : St → Runs (Result F E)) (polled : ℕ → F → Poll (Result T E) → F → Type 0) (steps : SourceSteps S) (marks : S → ℕ → Woke → S → Type 0) → TryLosesNothing yields polled steps marks
-try_loses_nothing {St} {F} {T} {E} {S} yields polled steps marks n old new calls empty ran =
-    let none = nothing polled old.queue.slots.places empty in
-    let start : SoFar polled [] [] old.queue.slots = record { gone = []; origins = old.queue.slots.places; all = rw none.1 (IsPermutation-refl []); gave = tt; came = none.0 } in
-    let so = many_calls_with_errors (PollsStream yields) held_in n (Pushes marks) (PollGives polled steps) (λ drawn outputs (b : Bounded F S). SoFar polled drawn outputs b.slots)
-    (λ drawn outputs before after f so push. drew polled drawn outputs before.slots after.slots push.0 f so push.1.inserted)
-    (λ drawn outputs before after answer so gives. gave_one polled steps drawn outputs before after answer so gives)
-    calls [] [] old new ([], start, ([], (refl, refl))) ran in
-    (so.0, so.2, record { gone = so.1.gone; kept = somes so.1.origins; all = so.1.all; gave = so.1.gave; became = kept_came polled polled (λ f g w. w) so.1.origins new.queue.slots.places so.1.came })
+try_loses_nothing yields polled steps marks n old new calls empty ran =
+    let so = many_calls (PollsStream yields) held_in n (PushesOk (OnlyPushes (Pushes marks))) (PollGives polled steps) (AmongErrors (So polled marks)) (ok_drew (So polled marks) (Pushes marks) (set_drew polled marks)) (error_handed (So polled marks) (Pushes marks)) (queue_gave (So polled marks) (PollGives polled steps) (gave_one polled steps))
+    calls [] [] old new ([], start polled marks old.queue empty, ([], (refl, refl))) ran in
+    (so.0, so.2, account polled marks _ _ new.queue so.1)

@@ -25,12 +25,15 @@ use Rattle.futures_buffered_ordered.specs.declared.ordered_entries.Entry.{Entry}
 use Rattle.futures_buffered_ordered.specs.declared.ordered_entries.Entry.TheVariants.{Running, Kept}
 use Rattle.futures_buffered_ordered.proofs.NumberedLemmas.{count-names, in_slots, none_held, numbers_inserted, numbers_polled}
 use Rattle.futures_buffered_ordered.proofs.OrderedEntriesInvariantLemmas.{runs-set}
-use Rattle.futures_buffered.proofs.TryBufferAccountLemmas.{many_calls_with_errors}
-use Rattle.futures_buffered.specs.Buffer.{Buffering, PollsStream, DrawsOne, DrawsNone, Calls, CallsInTurn, all_drawn, all_outputs, output_of}
+use Rattle.futures_buffered.specs.FutureQueue.{OnlyPushes}
+use Rattle.futures_buffered.specs.Buffer.{Accounts, PollsStream, output_of}
 use Rattle.futures_buffered.specs.BufferUnordered.{PendsTo, MayGiveInSlot}
 use Rattle.futures_buffered.specs.BufferedOrdered.{BecomesEntry, GivesInOrder, TryGivesInOrder, queue_len}
+use Rattle.futures_buffered.specs.TryBuffer.{PushesOk}
+use Rattle.futures_buffered.proofs.BufferAccountLemmas.{many_calls}
+use Rattle.futures_buffered.proofs.TryBufferAccountLemmas.{AmongErrors, error_handed, ok_drew, queue_gave}
 use Rattle.futures_buffered.proofs.BufferedOrderedLemmas.{one_slot}
-use Rattle.futures_buffered.proofs.BufferUnorderedAccountLemmas.{waits_more, outputs_cons, same_output}
+use Rattle.futures_buffered.proofs.BufferUnorderedAccountLemmas.{waits_more}
 
 None-Some : {X F : Type 0} {f : F} → None ≡ Some f → X
 None-Some e = cc
@@ -295,50 +298,27 @@ module _ {F A S : Type 0} (polled : ℕ → F → Poll A → F → Type 0) (step
             as_many = λ n. omega (arith, then.as_many n, numbers_polled n polled steps h.before.set new.set Pending step.1, ap (λ (l : List (Entry A)). count_by (runs_with n) l) step.2);
           })
 
-module _ {St F A S : Type 0} (yields : St → Runs F) (polled : ℕ → F → Poll A → F → Type 0) (steps : SourceSteps S) (marks : S → ℕ → Woke → S → Type 0) (n : ℕ) where
-  abbrev So : List F → List A → Buffering St (OrderedBounded F A S) → Type 0
-  So drawn outputs b = SoFar polled drawn outputs b.queue
-
-  drew_all : (items drawn : List F) (outputs : List A) (old full : Buffering St (OrderedBounded F A S)) → So drawn outputs old → FoldsTo (DrawsOne (PollsStream yields) queue_len n (AddsBack (PushesNumber marks))) old items full → So (drawn ++ items) outputs full
-  drew_all [] drawn outputs old full so ran = rw (append-nil drawn) (subst (So drawn outputs) ran so)
-  drew_all (f ∷ items) drawn outputs old full so ran =
-      rw (← append_assoc drawn (f ∷ []) items) (drew_all items (drawn ++ f ∷ []) outputs ran.0 full (drew polled marks drawn outputs old.queue ran.0.queue f so ran.1.pushed) ran.2)
-
-  drew_none : (drawn : List F) (outputs : List A) (full new : Buffering St (OrderedBounded F A S)) → So drawn outputs full → DrawsNone (PollsStream yields) queue_len n full new → So drawn outputs new
-  drew_none drawn outputs full new so (inl h) = subst (So drawn outputs) (sym h.1) so
-  drew_none drawn outputs full new so (inr (inl h)) = rw h.2 so
-  drew_none drawn outputs full new so (inr (inr h)) = rw h.2 so
-
-  one_call : (items drawn : List F) (outputs : List A) (answer : Poll (Option A)) (old new : Buffering St (OrderedBounded F A S)) → So drawn outputs old → Calls (PollsStream yields) queue_len n (AddsBack (PushesNumber marks)) (OrderedGives (SetGives polled steps) held_in) old items answer new
-      → So (drawn ++ items) (outputs ++ option_to_list (output_of answer)) new
-  one_call items drawn outputs answer old new so call =
-      let filled = drew_none (drawn ++ items) outputs call.draws.full call.filled (drew_all items drawn outputs old call.draws.full so call.draws.items) call.draws.last in
-      rw (call.gives, same_output yields polled steps marks n call.filled.stream call.queue_answer) (one_poll polled steps (drawn ++ items) outputs call.filled.queue new.queue call.queue_answer filled call.polls_queue)
-
-  many_calls : (calls : List (List F × Poll (Option A))) (drawn : List F) (outputs : List A) (old new : Buffering St (OrderedBounded F A S)) → So drawn outputs old → CallsInTurn (PollsStream yields) queue_len n (AddsBack (PushesNumber marks)) (OrderedGives (SetGives polled steps) held_in) old calls new
-      → So (drawn ++ all_drawn calls) (outputs ++ all_outputs calls) new
-  many_calls [] drawn outputs old new so ran = rw (append-nil drawn, append-nil outputs) (subst (So drawn outputs) ran so)
-  many_calls ((items, answer) ∷ calls) drawn outputs old new so ran =
-      rw (outputs_cons yields polled steps marks n items answer calls, ← append_assoc drawn items (all_drawn calls), ← append_assoc outputs (option_to_list (output_of answer)) (all_outputs calls))
-      (many_calls calls (drawn ++ items) (outputs ++ option_to_list (output_of answer)) ran.0 new (one_call items drawn outputs answer old ran.0 so ran.1) ran.2)
-
 pub nil_of : {X : Type 0} (xs : List X) → length xs ≡ 0 → xs ≡ []
 nil_of [] none = refl
 nil_of (x ∷ xs) none = absurd (omega (arith, none))
 
+start : {F A S : Type 0} (polled : ℕ → F → Poll A → F → Type 0) (queue : OrderedBounded F A S) → queue_len queue ≡ 0 → held_in queue.set ≡ 0 → SoFar polled [] [] queue
+start polled queue empty none_in =
+    let none = nil_of queue.entries empty in
+    record { gone = []; kept = []; all = refl; gave = tt; came = rw none tt; each = rw none tt; as_many = λ i. rw none (none_held i queue.set.slots none_in) }
+
+account : {F A S : Type 0} (polled : ℕ → F → Poll A → F → Type 0) (drawn : List F) (outputs : List A) (queue : OrderedBounded F A S) → SoFar polled drawn outputs queue → Accounts (λ drawn items. drawn ≡ items) (MayGiveInSlot polled) (BecomesEntry polled queue.set.slots) drawn outputs queue.entries
+account polled drawn outputs queue so = record { gone = so.gone; kept = so.kept; all = so.all; gave = so.gave; became = so.came }
+
 pub gives_in_order : {St F A S : Type 0} (yields : St → Runs F) (polled : ℕ → F → Poll A → F → Type 0) (steps : SourceSteps S) (marks : S → ℕ → Woke → S → Type 0) → GivesInOrder yields polled steps marks
 gives_in_order yields polled steps marks n old new calls empty none_in ran =
-    let none = nil_of old.queue.entries empty in
-    let so = many_calls yields polled steps marks n calls [] [] old new (record { gone = []; kept = []; all = refl; gave = tt; came = rw none tt; each = rw none tt; as_many = λ i. rw none (none_held i old.queue.set.slots none_in) }) ran in
-    record { gone = so.gone; kept = so.kept; all = so.all; gave = so.gave; became = so.came }
+    account polled _ _ new.queue
+    (many_calls (PollsStream yields) queue_len n (OnlyPushes (AddsBack (PushesNumber marks))) (OrderedGives (SetGives polled steps) held_in) (SoFar polled) (drew polled marks) (λ drawn outputs before after f x so never. absurd never) (one_poll polled steps)
+    calls [] [] old new (start polled old.queue empty none_in) ran)
 
 -- the same where the stream gives errors as well
 pub try_gives_in_order : {St F T E S : Type 0} (yields : St → Runs (Result F E)) (polled : ℕ → F → Poll (Result T E) → F → Type 0) (steps : SourceSteps S) (marks : S → ℕ → Woke → S → Type 0) → TryGivesInOrder yields polled steps marks
-try_gives_in_order {St} {F} {T} {E} {S} yields polled steps marks n old new calls empty none_in ran =
-    let none = nil_of old.queue.entries empty in
-    let start : SoFar polled [] [] old.queue = record { gone = []; kept = []; all = refl; gave = tt; came = rw none tt; each = rw none tt; as_many = λ i. rw none (none_held i old.queue.set.slots none_in) } in
-    let so = many_calls_with_errors (PollsStream yields) queue_len n (AddsBack (PushesNumber marks)) (OrderedGives (SetGives polled steps) held_in) (λ drawn outputs q. SoFar polled drawn outputs q)
-    (λ drawn outputs before after f so added. drew polled marks drawn outputs before after f so added)
-    (λ drawn outputs before after answer so gives. one_poll polled steps drawn outputs before after answer so gives)
-    calls [] [] old new ([], start, ([], (refl, refl))) ran in
-    (so.0, so.2, record { gone = so.1.gone; kept = so.1.kept; all = so.1.all; gave = so.1.gave; became = so.1.came })
+try_gives_in_order yields polled steps marks n old new calls empty none_in ran =
+    let so = many_calls (PollsStream yields) queue_len n (PushesOk (OnlyPushes (AddsBack (PushesNumber marks)))) (OrderedGives (SetGives polled steps) held_in) (AmongErrors (SoFar polled)) (ok_drew (SoFar polled) (AddsBack (PushesNumber marks)) (drew polled marks)) (error_handed (SoFar polled) (AddsBack (PushesNumber marks))) (queue_gave (SoFar polled) (OrderedGives (SetGives polled steps) held_in) (one_poll polled steps))
+    calls [] [] old new ([], start polled old.queue empty none_in, ([], (refl, refl))) ran in
+    (so.0, so.2, account polled _ _ new.queue so.1)

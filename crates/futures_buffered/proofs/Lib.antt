@@ -1,9 +1,10 @@
 pub mod BufferLemmas
 pub mod BufferUnorderedLemmas
 pub mod BufferedOrderedLemmas
+pub mod BufferAccountLemmas
+pub mod TryBufferLemmas
+pub mod TryBufferAccountLemmas
 pub mod BufferUnorderedAccountLemmas
 pub mod BufferedOrderedAccountLemmas
-pub mod TryBufferLemmas
 pub mod ForEachConcurrentLemmas
 pub mod TryForEachConcurrentLemmas
-pub mod TryBufferAccountLemmas

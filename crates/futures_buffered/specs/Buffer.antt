@@ -1,9 +1,11 @@
 -- One call of a buffer, which draws from a stream while there is room and then polls its queue
--- once; what many calls make together; and what may come. The queue may be any that has a number of
--- entries, a push and a poll.
+-- once, unless a push handed back an answer; what many calls make together; and what may come. The
+-- queue may be any that has a number of entries, a push and a poll.
 use Rattle.std.specs.Prelude.{◌≡◌, ℕ, ◌+◌, ◌-◌, ◌<◌, ◌≤◌, ◌^◌, List, [], ◌++◌, Option, Some, None}
 use Rattle.std.specs.Prelude.{IfSome, IfNone, IsSomeAnd, Bool, true, false, ◌⊎◌, cond, min}
 use Rattle.std.specs.Prelude.{nat_lt, refl, filter_map, flat_map}
+use Rattle.std.specs.declared.ops.ControlFlow.{ControlFlow}
+use Rattle.std.specs.declared.ops.ControlFlow.TheVariants.{Continue, Break}
 use Rattle.std.specs.Option.{option_and_then}
 use Rattle.std.specs.List.{FoldsTo, AllZip}
 use Rattle.std.specs.Coded.{Coded, code_by, coded×, coded_option}
@@ -60,6 +62,21 @@ abbrev pub output_of : {A : Type 0} → Poll (Option A) → Option A
 output_of (Ready o) = o
 output_of Pending = None
 
+module _ {St A Q : Type 0} (polls : Q → Poll (Option A) → Q → Type 0) where
+  -- the queue was polled once, and the stream was not
+  pub record PollsQueue (old : Buffering St Q) (answer : Poll (Option A))
+      (new : Buffering St Q) : Type 0 where
+    pub queue_answer : Poll (Option A)
+    pub polls_queue : polls old.queue queue_answer new.queue
+    pub same_stream : new.stream ≡ old.stream
+    pub gives : answer ≡ answer_from old.stream queue_answer
+
+  -- how a call ends once it has drawn: with the answer that was handed back, or else with a poll of
+  -- the queue
+  abbrev pub CallEnds : Option A → Buffering St Q → Poll (Option A) → Buffering St Q → Type 0
+  CallEnds None filled answer new = PollsQueue filled answer new
+  CallEnds (Some x) filled answer new = (answer ≡ Ready (Some x)) × (new ≡ filled)
+
 module _ {St X Q : Type 0} (next : St → Poll (Option X) → St → Type 0) (count : Q → ℕ) (n : ℕ) where
   -- the stream was polled: it had not ended, and fewer than n were held
   pub record AsksStream (old : Buffering St Q) (answer : Poll (Option X)) (left : St) : Type 0 where
@@ -78,39 +95,44 @@ module _ {St X Q : Type 0} (next : St → Poll (Option X) → St → Type 0) (co
       ⊎ (((left : St) × AsksStream old Pending left × (new ≡ record old { stream = Some left }))
       ⊎ ((left : St) × AsksStream old (Ready None) left × (new ≡ record old { stream = None })))
 
-  module _ (pushes : Q → X → Q → Type 0) where
-    -- an item came, and was pushed
-    pub record DrawsOne (old : Buffering St Q) (item : X) (new : Buffering St Q) : Type 0 where
+  module _ {A : Type 0} (pushes : Q → X → Option A → Q → Type 0) where
+    -- an item came, and its push handed this back
+    pub record DrawsItem (given : Option A) (old : Buffering St Q) (item : X)
+        (new : Buffering St Q) : Type 0 where
       pub left : St
       pub asks : AsksStream old (Ready (Some item)) left
       pub stream_left : new.stream ≡ Some left
-      pub pushed : pushes old.queue item new.queue
+      pub pushed : pushes old.queue item given new.queue
+
+    -- how drawing ends: no item came, or one whose push handed back this answer
+    abbrev pub DrawsLast : Buffering St Q → Option A → Buffering St Q → Type 0
+    DrawsLast old None new = DrawsNone old new
+    DrawsLast old (Some answer) new = (item : X) × DrawsItem (Some answer) old item new
+
+    -- at most one item is drawn, and drawing goes on only where it is held
+    abbrev pub DrawsUpToOne : Buffering St Q → ControlFlow (Option A) (Unit {0})
+        → Buffering St Q → Type 0
+    DrawsUpToOne old (Continue _) new = (item : X)
+        × DrawsItem None old item new
+        × (count new.queue ≡ count old.queue + 1)
+    DrawsUpToOne old (Break given) new = DrawsLast old given new
 
     -- these items came one after another and were pushed, each while fewer than n were held, and
-    -- then none came
-    pub record DrawsAll (old : Buffering St Q) (drawn : List X)
+    -- then drawing ended: what was pushed stays held
+    pub record DrawsAll (old : Buffering St Q) (drawn : List X) (given : Option A)
         (new : Buffering St Q) : Type 0 where
       pub full : Buffering St Q
-      pub items : FoldsTo DrawsOne old drawn full
-      pub last : DrawsNone full new
+      pub items : FoldsTo (DrawsItem None) old drawn full
+      pub last : DrawsLast full given new
 
-    -- by whether an item came: it was pushed, so that one more is held; or none came
-    abbrev pub DrawsUpToOne : Buffering St Q → Bool → Buffering St Q → Type 0
-    DrawsUpToOne old true new = (item : X)
-        × DrawsOne old item new
-        × (count new.queue ≡ count old.queue + 1)
-    DrawsUpToOne old false new = DrawsNone old new
-
-    module _ {A : Type 0} (polls : Q → Poll (Option A) → Q → Type 0) where
-      -- one call: these items were drawn, and then the queue was polled once
+    module _ (polls : Q → Poll (Option A) → Q → Type 0) where
+      -- one call: these items were drawn and are held, and then it ended
       pub record Calls (old : Buffering St Q) (drawn : List X) (answer : Poll (Option A))
           (new : Buffering St Q) : Type 0 where
+        pub given : Option A
         pub filled : Buffering St Q
-        pub draws : DrawsAll old drawn filled
-        pub queue_answer : Poll (Option A)
-        pub polls_queue : polls filled.queue queue_answer new.queue
-        pub same_stream : new.stream ≡ filled.stream
-        pub gives : answer ≡ answer_from filled.stream queue_answer
+        pub draws : DrawsAll old drawn given filled
+        pub ends : CallEnds polls given filled answer new
 
       -- the same, where it does not matter which items were drawn
       abbrev pub CallGives : Buffering St Q → Poll (Option A) → Buffering St Q → Type 0
@@ -120,6 +142,11 @@ module _ {St X Q : Type 0} (next : St → Poll (Option X) → St → Type 0) (co
       abbrev pub CallsInTurn : Buffering St Q → List (List X × Poll (Option A)) → Buffering St Q
           → Type 0
       CallsInTurn = FoldsTo (λ old call new. Calls old call.0 call.1 new)
+
+-- the answer that was handed back where drawing ended, if one was
+abbrev pub handed_back : {A : Type 0} → ControlFlow (Option A) (Unit {0}) → Option A
+handed_back (Continue _) = None
+handed_back (Break given) = given
 
 -- What drawing leaves of a buffer. `can_draw` says whether items may be drawn, `yields` what may
 -- come from the buffer, and `gave` is the answer that came in place of an item, if one did.

@@ -10,9 +10,10 @@ use Rattle.futures_buffered_core.specs.ReadySource.{SourceSteps}
 use Rattle.futures_buffered_unordered.specs.Held.{MayGive}
 use Rattle.futures_buffered_unordered.specs.FuturesUnorderedBounded.{Bounded, Pushes, PollGives}
 use Rattle.futures_buffered_unordered.specs.FuturesUnorderedBounded.{held_in}
+use Rattle.futures_buffered.specs.FutureQueue.{OnlyPushes}
 use Rattle.futures_buffered.specs.Buffer.{Buffering, PollsStream, CallsInTurn, Accounts}
 use Rattle.futures_buffered.specs.Buffer.{all_drawn, all_outputs}
-use Rattle.futures_buffered.specs.TryBuffer.{TryCallsInTurn, WithErrors, futures_of}
+use Rattle.futures_buffered.specs.TryBuffer.{PushesOk, WithErrors, futures_of}
 
 -- a pending poll of a set waits with its source
 abbrev pub SetWaitsAt : {F S : Type 0} → (S → ℕ → Type 0) → Bounded F S → ℕ → Type 0
@@ -47,7 +48,7 @@ abbrev pub LosesNothing : {St F A S : Type 0}
 LosesNothing {St} {F} {A} {S} yields polled steps marks =
     (n : ℕ) (old new : Buffering St (Bounded F S))
     (calls : List (List F × Poll (Option A))) → held_in old.queue ≡ 0
-    → CallsInTurn (PollsStream yields) held_in n (Pushes marks)
+    → CallsInTurn (PollsStream yields) held_in n (OnlyPushes (Pushes marks))
     (PollGives polled steps) old calls new
     → Accounts IsPermutation (MayGiveInSlot polled) (WaitsInSlot polled)
     (all_drawn calls) (all_outputs calls) (held_values new.queue.slots)
@@ -63,7 +64,7 @@ abbrev pub TryLosesNothing : {St F T E S : Type 0}
 TryLosesNothing {St} {F} {T} {E} {S} yields polled steps marks =
     (n : ℕ) (old new : Buffering St (Bounded F S))
     (calls : List (List (Result F E) × Poll (Option (Result T E)))) → held_in old.queue ≡ 0
-    → TryCallsInTurn (PollsStream yields) held_in n (Pushes marks)
+    → CallsInTurn (PollsStream yields) held_in n (PushesOk (OnlyPushes (Pushes marks)))
     (PollGives polled steps) old calls new
     → (outputs : List (Result T E)) × WithErrors outputs (all_outputs calls)
     × Accounts IsPermutation (MayGiveInSlot polled) (WaitsInSlot polled)

@@ -12,10 +12,11 @@ use Rattle.futures_buffered_ordered.specs.FuturesOrderedBounded.{SetGives}
 use Rattle.futures_buffered_ordered.specs.declared.numbered.Numbered.{Numbered}
 use Rattle.futures_buffered_ordered.specs.declared.ordered_entries.Entry.{Entry}
 use Rattle.futures_buffered_ordered.specs.declared.ordered_entries.Entry.TheVariants.{Running, Kept}
+use Rattle.futures_buffered.specs.FutureQueue.{OnlyPushes}
 use Rattle.futures_buffered.specs.Buffer.{Buffering, PollsStream, CallsInTurn, Accounts}
 use Rattle.futures_buffered.specs.Buffer.{all_drawn, all_outputs}
 use Rattle.futures_buffered.specs.BufferUnordered.{PendsTo, MayGiveInSlot, SetWaitsAt}
-use Rattle.futures_buffered.specs.TryBuffer.{TryCallsInTurn, WithErrors, futures_of}
+use Rattle.futures_buffered.specs.TryBuffer.{PushesOk, WithErrors, futures_of}
 
 -- how many entries a queue has, futures in progress and outputs that are kept
 abbrev pub queue_len : {F A S : Type 0} → OrderedBounded F A S → ℕ
@@ -50,7 +51,7 @@ GivesInOrder {St} {F} {A} {S} yields polled steps marks =
     (n : ℕ) (old new : Buffering St (OrderedBounded F A S))
     (calls : List (List F × Poll (Option A))) → queue_len old.queue ≡ 0
     → held_in old.queue.set ≡ 0
-    → CallsInTurn (PollsStream yields) queue_len n (AddsBack (PushesNumber marks))
+    → CallsInTurn (PollsStream yields) queue_len n (OnlyPushes (AddsBack (PushesNumber marks)))
     (OrderedGives (SetGives polled steps) held_in) old calls new
     → Accounts (λ drawn items. drawn ≡ items) (MayGiveInSlot polled)
     (BecomesEntry polled new.queue.set.slots)
@@ -67,7 +68,8 @@ TryGivesInOrder {St} {F} {T} {E} {S} yields polled steps marks =
     (n : ℕ) (old new : Buffering St (OrderedBounded F (Result T E) S))
     (calls : List (List (Result F E) × Poll (Option (Result T E)))) → queue_len old.queue ≡ 0
     → held_in old.queue.set ≡ 0
-    → TryCallsInTurn (PollsStream yields) queue_len n (AddsBack (PushesNumber marks))
+    → CallsInTurn (PollsStream yields) queue_len n
+    (PushesOk (OnlyPushes (AddsBack (PushesNumber marks))))
     (OrderedGives (SetGives polled steps) held_in) old calls new
     → (outputs : List (Result T E)) × WithErrors outputs (all_outputs calls)
     × Accounts (λ drawn items. drawn ≡ items) (MayGiveInSlot polled)

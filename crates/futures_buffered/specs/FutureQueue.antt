@@ -1,6 +1,6 @@
 -- What a push and a poll leave of a queue of futures.
-use Rattle.std.specs.Prelude.{◌≡◌, ℕ, ◌+◌, ◌<◌, ◌≤◌, List, Option, Some, IfNone, OnSome}
-use Rattle.std.specs.Prelude.{Bool, true, false, ◌⊎◌}
+use Rattle.std.specs.Prelude.{◌≡◌, ℕ, ◌+◌, ◌<◌, ◌≤◌, List, Option, Some, None, IfSome, IfNone}
+use Rattle.std.specs.Prelude.{OnSome, Bool, true, false, ◌⊎◌}
 use Rattle.futures.specs.declared.task.Poll.{Poll}
 use Rattle.futures.specs.Poll.{IfReady, OnPending}
 use Rattle.futures.specs.Runs.{Runs, Within, Leads, Chains, Ends}
@@ -15,8 +15,13 @@ abbrev pub AddsOutput : {A : Type 0} → Bool → Runs A → (A → Type 0) → 
 AddsOutput true old P new = Within (Chains old (Leads P Ends)) new
 AddsOutput {A = A} false old P new = (x : A) → MayCome new x → MayCome old x ⊎ P x
 
--- What a push leaves of a queue. `count` says how many it holds, `room` how many it can hold, and
--- `yields` what may come from it.
+-- a push of a queue that hands nothing back
+abbrev pub OnlyPushes : {F A Q : Type 0} → (Q → F → Q → Type 0) → Q → F → Option A → Q → Type 0
+OnlyPushes pushes old item None new = pushes old item new
+OnlyPushes pushes old item (Some answer) new = ⊥
+
+-- What a push leaves of a queue, where `given` is what it handed back. `count` says how many it
+-- holds, `room` how many it can hold, and `yields` what may come from it.
 pub record PushLeavesQueue
     {F A Q : Type 0}
     (count room : Q → ℕ)
@@ -26,17 +31,24 @@ pub record PushLeavesQueue
     (is_fit : F → Type 0)
     (can_poll : Q → Type 0)
     (old : Q)
-    (future : F)
+    (item : F)
+    (given : Option A)
     (new : Q)
     : Type 0 where
-  -- the queue holds one more
-  pub one_more : count new ≡ count old + 1
+  -- without an answer the queue holds one more
+  pub one_more : IfNone given (count new ≡ count old + 1)
+  -- and an output of the item may come, besides those that might come before
+  pub adds : IfNone given (AddsOutput in_order (yields old) (gives item) (yields new))
+  -- an answer is one that the item may give
+  pub value : IfSome given (gives item)
+  -- it leaves the queue as it was
+  pub stays : OnSome given (new ≡ old)
+  -- and comes before what is held, so that the order is not kept
+  pub overtakes : OnSome given (in_order ≡ false)
   -- the queue can hold as many as before
   pub same_room : room new ≡ room old
-  -- an output of the future may come, besides those that might come before
-  pub adds : AddsOutput in_order (yields old) (gives future) (yields new)
-  -- the queue can be polled if it could be before and the future is fit
-  pub again : can_poll old → is_fit future → can_poll new
+  -- the queue can be polled if it could be before and the item is fit
+  pub again : can_poll old → is_fit item → can_poll new
 
 -- What a poll leaves of what a queue holds.
 pub record PollLeavesQueue

@@ -10,8 +10,7 @@ use Rattle.futures.specs.declared.task.Poll.TheVariants.{Ready, Pending}
 use Rattle.futures.specs.Poll.{IfReady, OnPending}
 use Rattle.futures.specs.Runs.{Runs, Ends}
 use Rattle.futures_buffered.specs.Buffer.{Buffering, buffer_code, CallLeavesBuffer, CallLeavesTask}
-use Rattle.futures_buffered.specs.Buffer.{HasNoTurn, IsNewBuffer}
-use Rattle.futures_buffered.specs.TryBuffer.{TryCallGives}
+use Rattle.futures_buffered.specs.Buffer.{CallGives, HasNoTurn, IsNewBuffer}
 
 -- the buffer, or nothing after its end or an error; and how many turns one call takes at most
 pub record Draining (St Q : Type 0) : Type 0 where
@@ -33,24 +32,24 @@ abbrev pub IsNewDrain : {St Q : Type 0} → (Q → Type 0) → ℕ → St → Dr
 IsNewDrain is_new limit stream d =
     IsSomeAnd d.buffer (IsNewBuffer is_new stream) × (d.limit ≡ limit)
 
--- one call of a buffer whose futures give nothing but their end or an error: what it answers, what
--- it leaves of what is held, and what it leaves of its task
-pub record CallsTryBuffer
-    {St F E Q : Type 0}
-    (next : St → Poll (Option (Result F E)) → St → Type 0)
+-- one call of a buffer: what it answers, what it leaves of what is held, and what it leaves of its
+-- task
+pub record CallsBuffer
+    {St X A Q : Type 0}
+    (next : St → Poll (Option X) → St → Type 0)
     (count room : Q → ℕ)
-    (pushes : Q → F → Q → Type 0)
-    (polls : Q → Poll (Option (Result (Unit {0}) E)) → Q → Type 0)
-    (leaves : Q → Poll (Option (Result (Unit {0}) E)) → Q → Context → Context → Type 0)
+    (pushes : Q → X → Option A → Q → Type 0)
+    (polls : Q → Poll (Option A) → Q → Type 0)
+    (leaves : Q → Poll (Option A) → Q → Context → Context → Type 0)
     (old : Buffering St Q)
-    (answer : Poll (Option (Result (Unit {0}) E)))
+    (answer : Poll (Option A))
     (new : Buffering St Q)
     (cx left : Context)
     : Type 0 where
-  pub gives : TryCallGives next count (room old.queue) pushes polls old answer new
+  pub gives : CallGives next count (room old.queue) pushes polls old answer new
   pub buffer : CallLeavesBuffer count room old answer new
   pub task : CallLeavesTask
-      (λ polls. TryCallGives next count (room old.queue) pushes polls old answer new)
+      (λ polls. CallGives next count (room old.queue) pushes polls old answer new)
       (HasNoTurn next count (room old.queue) old) polls leaves cx left
 
 module _ {E : Type 0} where

@@ -1,8 +1,9 @@
 //! Some futures of a stream at a time, in any queue of futures.
-ghost use Rattle.std.specs.Prelude.{◌≡◌, ◌<◌, ◌≤◌, ◌↔◌, List, IfOk, IsTrue, None, false, option_copied};
+ghost use Rattle.std.specs.Prelude.{◌≡◌, ◌<◌, ◌≤◌, ◌↔◌, List, IfOk, IsTrue, None, option_copied};
+ghost use Rattle.std.specs.declared.ops.ControlFlow.TheVariants.{Break};
 ghost use Rattle.futures_buffered_core.specs.Answer.{RefusesTooLarge};
 ghost use Rattle.futures_buffered_unordered.specs.StreamAnswers.{StreamAnswers};
-ghost use Rattle.futures_buffered.specs.Buffer.{PollsStream, DrawsAll, DrawsUpToOne, DrawsBuffer, DrawsTask, CallGives, CallLeavesBuffer, CallLeavesTask, HasNoTurn, IsNewBuffer, CanDraw, WaitsAt, BufferGives, hint_with, hint_ahead};
+ghost use Rattle.futures_buffered.specs.Buffer.{PollsStream, DrawsAll, DrawsUpToOne, DrawsBuffer, DrawsTask, CallGives, CallLeavesBuffer, CallLeavesTask, HasNoTurn, IsNewBuffer, CanDraw, WaitsAt, BufferGives, handed_back, hint_with, hint_ahead};
 
 use crate::future_queue::{FutureQueue, NewQueue};
 use futures::Stream;
@@ -13,6 +14,7 @@ use futures_buffered_unordered::{FusedStream, SizeHint};
 use std::alloc::Global;
 use std::fmt;
 use std::marker::Model;
+use std::ops::ControlFlow;
 
 /// Futures of a stream, at most as many at a time as its queue has room for.
 ///
@@ -96,48 +98,56 @@ impl<St: Stream, Q: FutureQueue<St::Item>> Buffer<St, Q> {
         self.stream.as_ref()
     }
 
-    // Draws one item, if the stream has not ended, there is room, and an item comes. Says whether one was drawn.
-    fn draw_one(&mut self, cx: &mut Context<'_>) -> bool
+    // Draws one item, if the stream has not ended, there is room, and an item comes. Breaks where none was drawn, and where its push handed back an answer.
+    fn draw_one(&mut self, cx: &mut Context<'_>) -> ControlFlow<Option<Q::Output>>
         requires { CanDraw St.can_poll St.yields Q.is_fit Q.can_poll self.old }
         ensures draws { DrawsUpToOne (PollsStream St.yields) Q.count (Q.room self.old.queue)
             Q.pushes self.old result self.new }
         ensures buffer { DrawsBuffer Q.count Q.room
             (CanDraw St.can_poll St.yields Q.is_fit Q.can_poll)
-            (BufferGives St.yields Q.gives Q.count Q.yields Q.in_order) self.old None self.new }
-        ensures task { DrawsTask (PollsStream St.yields) Q.count Q.room St.needs (result ≡ false)
-            self.old self.new cx.old cx.new }
+            (BufferGives St.yields Q.gives Q.count Q.yields Q.in_order)
+            self.old (handed_back result) self.new }
+        ensures task { DrawsTask (PollsStream St.yields) Q.count Q.room St.needs
+            (result ≡ Break None) self.old self.new cx.old cx.new }
     {
         if self.queue.len() >= self.queue.capacity() {
-            return false;
+            return ControlFlow::Break(None);
         }
         let Some(stream) = &mut self.stream else {
-            return false;
+            return ControlFlow::Break(None);
         };
         match stream.poll_next(cx) {
             Poll::Ready(Some(item)) => {
-                self.queue.push(item);
-                true
+                if let Some(answer) = self.queue.push(item) {
+                    return ControlFlow::Break(Some(answer));
+                }
+                ControlFlow::Continue(())
             }
             Poll::Ready(None) => {
                 self.stream = None;
-                false
+                ControlFlow::Break(None)
             }
-            Poll::Pending => false,
+            Poll::Pending => ControlFlow::Break(None),
         }
     }
 
-    // Draws while the stream has not ended, there is room, and an item comes.
-    fn fill(&mut self, cx: &mut Context<'_>)
+    // Draws while the stream has not ended, there is room, and an item comes, up to the first push that hands back an answer, which it returns.
+    fn fill(&mut self, cx: &mut Context<'_>) -> Option<Q::Output>
         requires { CanDraw St.can_poll St.yields Q.is_fit Q.can_poll self.old }
         ensures draws { (drawn : List St.Item) × DrawsAll (PollsStream St.yields)
-            Q.count (Q.room self.old.queue) Q.pushes self.old drawn self.new }
+            Q.count (Q.room self.old.queue) Q.pushes self.old drawn result self.new }
         ensures buffer { DrawsBuffer Q.count Q.room
             (CanDraw St.can_poll St.yields Q.is_fit Q.can_poll)
-            (BufferGives St.yields Q.gives Q.count Q.yields Q.in_order) self.old None self.new }
-        ensures task { DrawsTask (PollsStream St.yields) Q.count Q.room St.needs (Unit {0})
+            (BufferGives St.yields Q.gives Q.count Q.yields Q.in_order) self.old result self.new }
+        ensures task { DrawsTask (PollsStream St.yields) Q.count Q.room St.needs (result ≡ None)
             self.old self.new cx.old cx.new }
     {
-        'draws: while self.draw_one(cx) {}
+        'draws: loop {
+            match self.draw_one(cx) {
+                ControlFlow::Continue(()) => {}
+                ControlFlow::Break(given) => return given,
+            }
+        }
     }
 }
 
@@ -150,7 +160,7 @@ impl<St: Stream, Q: FutureQueue<St::Item>> Stream for Buffer<St, Q> {
 
     ghost yields = { BufferGives St.yields Q.gives Q.count Q.yields Q.in_order };
 
-    /// Draws items while there is room, the stream has not ended, and an item comes at once; then polls the queue once. `Ready(None)` where the stream has ended and nothing is held, and then again.
+    /// Draws items while there is room, the stream has not ended, and an item comes at once; then polls the queue once. Where a push hands back an answer, that is the answer instead: what was drawn stays held, and the stream goes on. `Ready(None)` where the stream has ended and nothing is held, and then again.
     ///
     /// Takes no memory, and waits for nobody where the source's calls do not. Takes time in proportion to the items drawn and the names that one poll of the queue takes, besides the polls.
     fn poll_next(&mut self, cx: &mut Context<'_>) -> Poll<Option<Q::Output>>
@@ -167,7 +177,9 @@ impl<St: Stream, Q: FutureQueue<St::Item>> Stream for Buffer<St, Q> {
             (HasNoTurn (PollsStream St.yields) Q.count (Q.room self.old.queue) self.old)
             Q.polls Q.leaves cx.old cx.new }
     {
-        self.fill(cx);
+        if let Some(answer) = self.fill(cx) {
+            return Poll::Ready(Some(answer));
+        }
         match self.queue.poll_output(cx) {
             Poll::Ready(Some(output)) => return Poll::Ready(Some(output)),
             Poll::Ready(None) => {}

@@ -4,6 +4,7 @@ ghost use Rattle.futures_buffered_core.specs.Answer.{RefusesTooLarge};
 ghost use Rattle.futures_buffered_core.specs.ReadyShared.{IsNewShared};
 ghost use Rattle.futures_buffered_unordered.specs.Held.{AllHeld, ComesFrom};
 ghost use Rattle.futures_buffered_unordered.specs.FuturesUnorderedBounded.{Pushes, PollGives, PollLeavesTask, IsNewSet, held_in, slots_in};
+ghost use Rattle.futures_buffered.specs.FutureQueue.{OnlyPushes};
 ghost use Rattle.futures_buffered.specs.Buffer.{IsNewBuffer};
 ghost use Rattle.futures_buffered.specs.BufferUnordered.{LosesNothing, MayGiveInSlot, SetWaitsAt};
 
@@ -58,7 +59,7 @@ impl<F: SlotFuture<S::Waker>, S: ReadySource> FutureQueue<F> for CompletionQueue
 
     ghost room = { slots_in };
 
-    ghost pushes = { Pushes S.marks };
+    ghost pushes = { OnlyPushes (Pushes S.marks) };
 
     ghost polls = { PollGives F.polled S.steps };
 
@@ -84,8 +85,9 @@ impl<F: SlotFuture<S::Waker>, S: ReadySource> FutureQueue<F> for CompletionQueue
         self.set.capacity()
     }
 
-    fn push(&mut self, future: F) {
+    fn push(&mut self, future: F) -> Option<F::Output> {
         self.set.push(future);
+        None
     }
 
     fn poll_output(&mut self, cx: &mut Context<'_>) -> Poll<Option<F::Output>> {

@@ -5,6 +5,7 @@ ghost use Rattle.futures_buffered_core.specs.ReadyShared.{IsNewShared};
 ghost use Rattle.futures_buffered_unordered.specs.FuturesUnorderedBounded.{held_in};
 ghost use Rattle.futures_buffered_ordered.specs.OrderedEntries.{AddsBack, ComesInOrder, OrderedGives, OrderedLeavesTask};
 ghost use Rattle.futures_buffered_ordered.specs.FuturesOrderedBounded.{EachRunning, IsNewBoundedQueue, PushesNumber, SetGives, SetLeavesTask, SetMayGive};
+ghost use Rattle.futures_buffered.specs.FutureQueue.{OnlyPushes};
 ghost use Rattle.futures_buffered.specs.Buffer.{IsNewBuffer};
 ghost use Rattle.futures_buffered.specs.BufferUnordered.{MayGiveInSlot};
 ghost use Rattle.futures_buffered.specs.BufferedOrdered.{GivesInOrder, QueueWaitsAt, queue_len, queue_room};
@@ -64,7 +65,7 @@ where
 
     ghost room = { queue_room };
 
-    ghost pushes = { AddsBack (PushesNumber S.marks) };
+    ghost pushes = { OnlyPushes (AddsBack (PushesNumber S.marks)) };
 
     ghost polls = { OrderedGives (SetGives F.polled S.steps) held_in };
 
@@ -91,9 +92,10 @@ where
         self.queue.capacity()
     }
 
-    fn push(&mut self, future: F) {
+    fn push(&mut self, future: F) -> Option<A> {
         prove!(self.queue.len() < self.queue.capacity());
         self.queue.push_back(future);
+        None
     }
 
     fn poll_output(&mut self, cx: &mut Context<'_>) -> Poll<Option<A>> {

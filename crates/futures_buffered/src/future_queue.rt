@@ -1,6 +1,6 @@
 //! What a buffer holds: futures, of each of which one output comes.
 //!
-//! A buffer is written once, for any such queue. `CompletionQueue` is one whose outputs come as the futures finish, `OrderedQueue` one that keeps the order of the pushes.
+//! A buffer is written once, for any such queue. `CompletionQueue` is one whose outputs come as the futures finish, `OrderedQueue` one that keeps the order of the pushes, and `TryQueue` makes of either one to which errors can be given as well.
 ghost use Rattle.std.specs.Prelude.{◌≡◌, ◌<◌, ◌≤◌, ℕ, Bool, List, Option, IfOk};
 ghost use Rattle.futures_buffered_core.specs.Answer.{RefusesTooLarge};
 ghost use Rattle.futures_buffered_unordered.specs.StreamAnswers.{StreamAnswers};
@@ -12,12 +12,12 @@ use std::alloc::Global;
 
 /// Holds some futures at a time, and gives an output of each.
 ///
-/// Beside the calls an impl states what they may do: relations between what it holds before, the answer, and what it holds after. A push adds one output to those that may come, in the place that `in_order` says.
-pub trait FutureQueue<F>: Drop {
+/// Beside the calls an impl states what they may do: relations between what it holds before, the answer, and what it holds after. A push adds one output to those that may come, in the place that `in_order` says, or hands one back at once.
+pub trait FutureQueue<I>: Drop {
     ghost use Rattle.futures.specs.declared.task.Poll.{Poll};
     ghost use Rattle.futures.specs.declared.task.context.Context.{Context};
 
-    /// What a future gives when it is done.
+    /// What a future gives when it is done, and what a push may hand back.
     type Output;
 
     // How many are held, outputs that wait for their turn among them.
@@ -26,8 +26,8 @@ pub trait FutureQueue<F>: Drop {
     // How many can be held.
     ghost room: { Self → ℕ };
 
-    // What a push makes of it.
-    ghost pushes: { Self → F → Self → Type 0 };
+    // What a push may hand back, and make of it.
+    ghost pushes: { Self → I → Option Self.Output → Self → Type 0 };
 
     // What a poll may answer, and make of it.
     ghost polls: { Self → Poll (Option Self.Output) → Self → Type 0 };
@@ -35,14 +35,14 @@ pub trait FutureQueue<F>: Drop {
     // What a poll leaves of its task.
     ghost leaves: { Self → Poll (Option Self.Output) → Self → Context → Context → Type 0 };
 
-    // The futures that may be pushed.
-    ghost is_fit: { F → Type 0 };
+    // The items that may be pushed.
+    ghost is_fit: { I → Type 0 };
 
     // Holds where each future that is held may be polled.
     ghost can_poll: { Self → Type 0 };
 
-    // What a future may give.
-    ghost gives: { F → Self.Output → Type 0 };
+    // What an item may give.
+    ghost gives: { I → Self.Output → Type 0 };
 
     // The outputs that may come, and one more answer.
     ghost yields: { Self → List Self.Output → Option Self.Output → Type 0 };
@@ -62,12 +62,12 @@ pub trait FutureQueue<F>: Drop {
     fn capacity(&self) -> usize
         ensures { result ≡ room self.now };
 
-    /// Adds a future, so that a later poll polls it. Takes no memory, polls nothing, and wakes nobody.
-    fn push(&mut self, future: F)
+    /// Adds the item's future, so that a later poll polls it; or hands back an answer at once, and changes nothing. Takes no memory, polls nothing, and wakes nobody.
+    fn push(&mut self, item: I) -> Option<Self::Output>
         requires { count self.old < room self.old }
-        ensures pushed { pushes self.old future self.new }
+        ensures pushed { pushes self.old item result self.new }
         ensures queue { PushLeavesQueue count room in_order yields gives is_fit can_poll
-            self.old future self.new };
+            self.old item result self.new };
 
     /// One poll. `Ready(None)` where nothing is held. Takes no memory.
     fn poll_output(&mut self, cx: &mut Context<'_>) -> Poll<Option<Self::Output>>

@@ -10,7 +10,7 @@
 //! - `buffered_ordered`: `BufferedOrdered`, whose outputs come in the order of the futures.
 //! - `for_each_concurrent`: `ForEachConcurrent`, which makes its futures of the items by a closure.
 //! - `buffered`: `BufferedStreamExt`, these adaptors as methods of a stream.
-//! - `try_buffer`: `TryBuffer`, as `Buffer`, over a stream that gives errors as well.
+//! - `try_buffer`: `TryBuffer`, a `Buffer` over a stream that gives errors as well, and `TryQueue`, which it is made of.
 //! - `try_buffer_unordered` and `try_buffered_ordered`: `TryBufferUnordered` and `TryBufferedOrdered`, whose stream gives errors as well.
 //! - `try_for_each_concurrent`: `TryForEachConcurrent`, as `ForEachConcurrent`, over such a stream, and `TryDrain`, which it is made of.
 //! - `try_buffered`: `BufferedTryStreamExt`, these as methods of a stream.
@@ -64,7 +64,7 @@ pub use futures_buffered_sets::{
     try_join_all,
 };
 pub use iter_ext::IterExt;
-pub use try_buffer::TryBuffer;
+pub use try_buffer::{TryBuffer, TryQueue};
 pub use try_buffer_unordered::TryBufferUnordered;
 pub use try_buffered::BufferedTryStreamExt;
 pub use try_buffered_ordered::TryBufferedOrdered;

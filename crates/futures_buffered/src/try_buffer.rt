@@ -1,264 +1,86 @@
 //! Some futures of a stream at a time, in any queue of futures, where the stream gives errors as well.
-ghost use Rattle.std.specs.Prelude.{◌≡◌, ◌<◌, ◌≤◌, ◌↔◌, [], List, Result, Ok, IfOk, IfErr, IsOk, OnOk, IsTrue, false, option_copied};
-ghost use Rattle.futures_buffered_core.specs.Answer.{RefusesTooLarge};
-ghost use Rattle.futures_buffered_unordered.specs.StreamAnswers.{StreamAnswers};
-ghost use Rattle.futures_buffered.specs.Buffer.{PollsStream, DrawsAll, DrawsUpToOne, DrawsBuffer, DrawsTask, CallLeavesBuffer, CallLeavesTask, HasNoTurn, IsNewBuffer, WaitsAt, hint_with, hint_ahead};
-ghost use Rattle.futures_buffered.specs.TryBuffer.{PushesOk, DrawsError, TryCallGives, CanTryDraw, TryBufferGives, error_given};
+ghost use Rattle.std.specs.Prelude.{IfOk, false};
+ghost use Rattle.futures_buffered.specs.TryBuffer.{PushesOk, TryItemGives};
 
+use crate::buffer::Buffer;
 use crate::future_queue::{FutureQueue, NewQueue};
-use futures::Stream;
 use futures::task::{Context, Poll};
 use futures_buffered_core::ready_core::NewFault;
-use futures_buffered_unordered::futures_unordered_bounded::POLL_LIMIT;
-use futures_buffered_unordered::{FusedStream, SizeHint};
 use std::alloc::Global;
-use std::fmt;
 use std::marker::Model;
 
-/// Futures of a stream that gives errors as well, at most as many at a time as its queue has room for. An error of the stream comes as soon as it is met, before what is held, and ends nothing.
-///
-/// A contract sees the stream, or nothing once it has ended, and what it sees of the queue. A poll takes no memory. A stream that ended is dropped at once.
+/// A queue to which futures and errors are given. A future goes into the queue inside, and an error is handed back at once and changes nothing. A contract sees what it sees of the queue inside.
 #[derive(Drop)]
-pub struct TryBuffer<St: Drop, Q: Drop> {
-    stream: Option<St>,
+pub struct TryQueue<Q: Drop> {
     queue: Q,
 }
 
-impl<St: Drop, Q: Drop> Model for TryBuffer<St, Q> {
-    ghost use Rattle.futures_buffered.specs.Buffer.{Buffering, buffer_code};
+impl<Q: Drop> Model for TryQueue<Q> {
+    ghost Value = { Q };
 
-    ghost Value = { Buffering St Q };
+    ghost coded = { Q.code };
 
-    ghost coded = { buffer_code St.code Q.code };
-
-    ghost view = { λ s. record { stream = s.stream; queue = s.queue } };
+    ghost view = { λ s. s.queue };
 }
 
-impl<St: Drop, Q: NewQueue> TryBuffer<St, Q> {
-    /// Over this stream, with at most `n` held at a time and a queue made for them. Nothing is polled.
-    ///
-    /// Takes time and memory in proportion to `n`. The stream is dropped where it is refused: `TooLarge` where `n` is above `MAX_CAPACITY`, and `Memory` where a request for memory was refused.
-    pub fn over(env: &Q::Env, alloc: Global, stream: St, n: usize) -> Result<Self, NewFault>
-        requires { 0 < n }
-        ensures new { IfOk result (IsNewBuffer (Q.made n POLL_LIMIT) stream) }
-        ensures refuses { RefusesTooLarge n result }
-    {
-        Self::over_limit(env, alloc, stream, n, POLL_LIMIT)
-    }
+impl<Q: NewQueue> NewQueue for TryQueue<Q> {
+    type Env = Q::Env;
 
-    /// As `over`, where one poll of the queue's set takes at most `limit` names.
-    pub fn over_limit(
-        env: &Q::Env,
-        alloc: Global,
-        stream: St,
-        n: usize,
-        limit: usize,
-    ) -> Result<Self, NewFault>
-        requires room { 0 < n }
-        requires some { 1 ≤ limit }
-        ensures new { IfOk result (IsNewBuffer (Q.made n limit) stream) }
-        ensures refuses { RefusesTooLarge n result }
-    {
+    ghost made = { Q.made };
+
+    fn make(env: &Q::Env, alloc: Global, n: usize, limit: usize) -> Result<Self, NewFault> {
         let queue = Q::make(env, alloc, n, limit)?;
-        Ok(TryBuffer {
-            stream: Some(stream),
-            queue,
-        })
+        Ok(TryQueue { queue })
     }
 }
 
-impl<St, F, T, E, Q> TryBuffer<St, Q>
+impl<F, T, E, Q> FutureQueue<Result<F, E>> for TryQueue<Q>
 where
-    St: Stream<Item = Result<F, E>>,
     Q: FutureQueue<F, Output = Result<T, E>>,
-    E: Drop,
 {
-    /// How many are held: futures in progress, and outputs that wait for their turn. Takes the same time at any number.
-    pub fn len(&self) -> usize
-        ensures value { result ≡ Q.count self.now.queue }
-        ensures bound { Q.count self.now.queue ≤ Q.room self.now.queue }
-    {
+    type Output = Result<T, E>;
+
+    ghost count = { Q.count };
+
+    ghost room = { Q.room };
+
+    ghost pushes = { PushesOk Q.pushes };
+
+    ghost polls = { Q.polls };
+
+    ghost leaves = { Q.leaves };
+
+    ghost is_fit = { λ item. IfOk item Q.is_fit };
+
+    ghost can_poll = { Q.can_poll };
+
+    ghost gives = { TryItemGives Q.gives };
+
+    ghost yields = { Q.yields };
+
+    ghost in_order = { false };
+
+    ghost needs = { Q.needs };
+
+    fn len(&self) -> usize {
         self.queue.len()
     }
 
-    /// Whether nothing is held. The stream may have more to give. Takes the same time at any number.
-    pub fn is_empty(&self) -> bool
-        ensures { IsTrue result ↔ (Q.count self.now.queue ≡ 0) }
-    {
-        self.queue.len() == 0
-    }
-
-    /// How many can be held at a time, which never changes. Takes the same time at any number.
-    pub fn capacity(&self) -> usize
-        ensures { result ≡ Q.room self.now.queue }
-    {
+    fn capacity(&self) -> usize {
         self.queue.capacity()
     }
 
-    /// The stream that futures are drawn from, or `None` once it has ended: it was dropped then. Takes the same time at any number.
-    pub fn stream(&self) -> Option<&St>
-        ensures { option_copied result ≡ self.now.stream }
-    {
-        self.stream.as_ref()
-    }
-
-    // Draws one future, if the stream has not ended, there is room, and one comes. Says whether one was drawn, or the error that came in its place.
-    fn draw_one(&mut self, cx: &mut Context<'_>) -> Result<bool, E>
-        requires { CanTryDraw St.can_poll St.yields Q.is_fit Q.can_poll self.old }
-        ensures draws { IfOk result (λ drew. DrawsUpToOne (PollsStream St.yields) Q.count
-            (Q.room self.old.queue) (PushesOk Q.pushes) self.old drew self.new) }
-        ensures error { IfErr result (λ e. DrawsError (PollsStream St.yields) Q.count
-            (Q.room self.old.queue) Q.pushes self.old [] e self.new) }
-        ensures buffer { DrawsBuffer Q.count Q.room
-            (CanTryDraw St.can_poll St.yields Q.is_fit Q.can_poll)
-            (TryBufferGives St.yields Q.gives Q.count Q.yields)
-            self.old (error_given result) self.new }
-        ensures task { DrawsTask (PollsStream St.yields) Q.count Q.room St.needs
-            (result ≡ Ok false) self.old self.new cx.old cx.new }
-    {
-        if self.queue.len() >= self.queue.capacity() {
-            return Ok(false);
-        }
-        let Some(stream) = &mut self.stream else {
-            return Ok(false);
-        };
-        match stream.poll_next(cx) {
-            Poll::Ready(Some(Ok(future))) => {
-                self.queue.push(future);
-                Ok(true)
-            }
-            Poll::Ready(Some(Err(error))) => Err(error),
-            Poll::Ready(None) => {
-                self.stream = None;
-                Ok(false)
-            }
-            Poll::Pending => Ok(false),
+    fn push(&mut self, item: Result<F, E>) -> Option<Result<T, E>> {
+        match item {
+            Ok(future) => self.queue.push(future),
+            Err(error) => Some(Err(error)),
         }
     }
 
-    // Draws while the stream has not ended, there is room, and a future comes. Says the error that ended it, if one did.
-    fn fill(&mut self, cx: &mut Context<'_>) -> Result<(), E>
-        requires { CanTryDraw St.can_poll St.yields Q.is_fit Q.can_poll self.old }
-        ensures draws { OnOk result ((drawn : List (Result F E)) × DrawsAll (PollsStream St.yields)
-            Q.count (Q.room self.old.queue) (PushesOk Q.pushes) self.old drawn self.new) }
-        ensures error { IfErr result (λ e. (drawn : List (Result F E)) × DrawsError
-            (PollsStream St.yields) Q.count (Q.room self.old.queue) Q.pushes
-            self.old drawn e self.new) }
-        ensures buffer { DrawsBuffer Q.count Q.room
-            (CanTryDraw St.can_poll St.yields Q.is_fit Q.can_poll)
-            (TryBufferGives St.yields Q.gives Q.count Q.yields)
-            self.old (error_given result) self.new }
-        ensures task { DrawsTask (PollsStream St.yields) Q.count Q.room St.needs (IsOk result)
-            self.old self.new cx.old cx.new }
-    {
-        'draws: loop {
-            match self.draw_one(cx) {
-                Ok(drew) => {
-                    if !drew {
-                        return Ok(());
-                    }
-                }
-                Err(error) => return Err(error),
-            }
-        }
+    fn poll_output(&mut self, cx: &mut Context<'_>) -> Poll<Option<Result<T, E>>> {
+        self.queue.poll_output(cx)
     }
 }
 
-impl<St, F, T, E, Q> Stream for TryBuffer<St, Q>
-where
-    St: Stream<Item = Result<F, E>>,
-    Q: FutureQueue<F, Output = Result<T, E>>,
-    E: Drop,
-{
-    type Item = Result<T, E>;
-
-    ghost can_poll = { CanTryDraw St.can_poll St.yields Q.is_fit Q.can_poll };
-
-    ghost needs = { WaitsAt St.needs Q.needs Q.count Q.room };
-
-    ghost yields = { TryBufferGives St.yields Q.gives Q.count Q.yields };
-
-    /// Draws futures while there is room, the stream has not ended, and one comes at once. Where an error comes, it is the answer, what was drawn stays held, and the stream goes on. Else polls the queue once. `Ready(None)` where the stream has ended and nothing is held, and then again.
-    ///
-    /// Takes no memory, and waits for nobody where the source's calls do not. Takes time in proportion to the items drawn and the names that one poll of the queue takes, besides the polls.
-    fn poll_next(&mut self, cx: &mut Context<'_>) -> Poll<Option<Result<T, E>>>
-        requires { CanTryDraw St.can_poll St.yields Q.is_fit Q.can_poll self.old }
-        ensures called { TryCallGives (PollsStream St.yields) Q.count (Q.room self.old.queue)
-            Q.pushes Q.polls self.old result self.new }
-        ensures buffer { CallLeavesBuffer Q.count Q.room self.old result self.new }
-        ensures stream { StreamAnswers (CanTryDraw St.can_poll St.yields Q.is_fit Q.can_poll)
-            (WaitsAt St.needs Q.needs Q.count Q.room)
-            (TryBufferGives St.yields Q.gives Q.count Q.yields)
-            self.old result self.new cx.old cx.new }
-        ensures leaves { CallLeavesTask (λ polls. TryCallGives (PollsStream St.yields) Q.count
-            (Q.room self.old.queue) Q.pushes polls self.old result self.new)
-            (HasNoTurn (PollsStream St.yields) Q.count (Q.room self.old.queue) self.old)
-            Q.polls Q.leaves cx.old cx.new }
-    {
-        if let Err(error) = self.fill(cx) {
-            return Poll::Ready(Some(Err(error)));
-        }
-        match self.queue.poll_output(cx) {
-            Poll::Ready(Some(output)) => return Poll::Ready(Some(output)),
-            Poll::Ready(None) => {}
-            Poll::Pending => return Poll::Pending,
-        }
-        if self.stream.is_some() {
-            return Poll::Pending;
-        }
-        Poll::Ready(None)
-    }
-}
-
-/// Whether the stream has ended and nothing is held. Takes the same time at any capacity.
-impl<St, F, T, E, Q> FusedStream for TryBuffer<St, Q>
-where
-    St: Stream<Item = Result<F, E>>,
-    Q: FutureQueue<F, Output = Result<T, E>>,
-    E: Drop,
-{
-    ghost use Rattle.std.specs.Prelude.{◌≡◌, None};
-
-    ghost is_over = { λ b. (b.stream ≡ None) × (Q.count b.queue ≡ 0) };
-
-    fn is_terminated(&self) -> bool {
-        self.stream.is_none() && self.queue.len() == 0
-    }
-}
-
-/// What the stream says of itself, or nothing once it has ended, and as many more as are held.
-impl<St, F, T, E, Q> SizeHint for TryBuffer<St, Q>
-where
-    St: Stream<Item = Result<F, E>> + SizeHint,
-    Q: FutureQueue<F, Output = Result<T, E>>,
-    E: Drop,
-{
-    ghost items_left = { λ b. hint_with (Q.count b.queue) (hint_ahead St.items_left b.stream) };
-
-    fn size_hint(&self) -> (usize, Option<usize>) {
-        let held = self.queue.len();
-        let (least, most) = match &self.stream {
-            Some(stream) => stream.size_hint(),
-            None => (0, Some(0)),
-        };
-        (
-            least.saturating_add(held),
-            most.and_then(|most| most.checked_add(held)),
-        )
-    }
-}
-
-/// Prints whether the stream has ended, and how many are held.
-impl<St, F, T, E, Q> fmt::Debug for TryBuffer<St, Q>
-where
-    St: Stream<Item = Result<F, E>>,
-    Q: FutureQueue<F, Output = Result<T, E>>,
-    E: Drop,
-{
-    fn fmt<W: fmt::Write>(&self, f: &mut fmt::Formatter<W>) -> fmt::Result {
-        f.debug_struct("TryBuffer")
-            .field("has_ended", &self.stream.is_none())
-            .field("len", &self.queue.len())
-            .finish_non_exhaustive()
-    }
-}
+/// Futures of a stream that gives errors as well, at most as many at a time as its queue has room for. An error of the stream comes as soon as it is met, before what is held, and ends nothing.
+pub type TryBuffer<St, Q> = Buffer<St, TryQueue<Q>>;

@@ -6,8 +6,9 @@ ghost use Rattle.futures_buffered_core.specs.ReadyShared.{IsNewShared};
 ghost use Rattle.futures_buffered.specs.Buffer.{IsNewBuffer};
 ghost use Rattle.futures_buffered.specs.BufferUnordered.{TryLosesNothing};
 
+use crate::buffer::Buffer;
 use crate::buffer_unordered::CompletionQueue;
-use crate::try_buffer::TryBuffer;
+use crate::try_buffer::{TryBuffer, TryQueue};
 use futures::Stream;
 use futures_buffered_core::ready_core::NewFault;
 use futures_buffered_core::ready_shared::SharedReady;
@@ -18,7 +19,7 @@ use std::alloc::Global;
 /// Futures of a stream that gives errors as well, at most as many at a time as its set has slots, whose outputs come as they finish. An error of the stream comes as soon as it is met, and ends nothing.
 pub type TryBufferUnordered<St, F, S> = TryBuffer<St, CompletionQueue<F, S>>;
 
-impl<St: Drop, F: Drop> TryBuffer<St, CompletionQueue<F, SharedReady>> {
+impl<St: Drop, F: Drop> Buffer<St, TryQueue<CompletionQueue<F, SharedReady>>> {
     /// As `over_limit`, with a shared source, whose futures are woken from any thread.
     pub fn with_limit(alloc: Global, stream: St, n: usize, limit: usize) -> Result<Self, NewFault>
         requires room { 0 < n }

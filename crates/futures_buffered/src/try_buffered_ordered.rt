@@ -6,8 +6,9 @@ ghost use Rattle.futures_buffered.specs.Buffer.{IsNewBuffer};
 ghost use Rattle.futures_buffered.specs.BufferedOrdered.{TryGivesInOrder};
 ghost use Rattle.futures_buffered_ordered.specs.FuturesOrderedBounded.{IsNewBoundedQueue};
 
+use crate::buffer::Buffer;
 use crate::buffered_ordered::OrderedQueue;
-use crate::try_buffer::TryBuffer;
+use crate::try_buffer::{TryBuffer, TryQueue};
 use futures::Stream;
 use futures_buffered_core::ready_core::NewFault;
 use futures_buffered_core::ready_shared::{SharedReady, SharedWaker};
@@ -21,7 +22,7 @@ pub type TryBufferedOrdered<St, F, S> = TryBuffer<
     OrderedQueue<F, <F as SlotFuture<<S as ReadySource>::Waker>>::Output, S>,
 >;
 
-impl<St, F, A> TryBuffer<St, OrderedQueue<F, A, SharedReady>>
+impl<St, F, A> Buffer<St, TryQueue<OrderedQueue<F, A, SharedReady>>>
 where
     St: Drop,
     F: SlotFuture<SharedWaker, Output = A>,

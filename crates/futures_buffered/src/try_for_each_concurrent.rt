@@ -6,13 +6,13 @@ ghost use Rattle.futures.specs.Task.{Covers, Keeps};
 ghost use Rattle.futures.specs.Poll.{OnPending};
 ghost use Rattle.futures_buffered_core.specs.Answer.{RefusesTooLarge};
 ghost use Rattle.futures_buffered_unordered.specs.FuturesUnorderedBounded.{IsWoken};
-ghost use Rattle.futures_buffered.specs.Buffer.{PollsStream, WaitsAt};
-ghost use Rattle.futures_buffered.specs.TryBuffer.{CanTryDraw, TryBufferGives};
-ghost use Rattle.futures_buffered.specs.TryForEachConcurrent.{CallsTryBuffer, CanDrain, DrainCall, DrainGives, DrainTurn, DrainWaitsAt, GoingLeavesDrain, IsDrained, IsNewDrain, LeavesDrain};
+ghost use Rattle.futures_buffered.specs.Buffer.{PollsStream, CanDraw, WaitsAt, BufferGives};
+ghost use Rattle.futures_buffered.specs.TryForEachConcurrent.{CallsBuffer, CanDrain, DrainCall, DrainGives, DrainTurn, DrainWaitsAt, GoingLeavesDrain, IsDrained, IsNewDrain, LeavesDrain};
 
+use crate::buffer::Buffer;
 use crate::buffer_unordered::CompletionQueue;
 use crate::future_queue::{FutureQueue, NewQueue};
-use crate::try_buffer::TryBuffer;
+use crate::try_buffer::TryQueue;
 use futures::stream::MapOk;
 use futures::task::{Context, Poll};
 use futures::{Future, Stream};
@@ -23,12 +23,12 @@ use std::alloc::Global;
 use std::fmt;
 use std::marker::Model;
 
-/// Polls a `TryBuffer` whose futures give `Ok(())` or an error, to its end or to the first error.
+/// Polls a buffer that gives `Ok(())` and errors, to its end or to the first error.
 ///
 /// A contract sees the buffer, or nothing once it has ended or failed, and how many turns one poll takes. A poll takes no memory of its own. A buffer that ended or failed is dropped at once, with what it holds.
 #[derive(Drop)]
 pub struct TryDrain<St: Drop, Q: Drop> {
-    buffer: Option<TryBuffer<St, Q>>,
+    buffer: Option<Buffer<St, Q>>,
     limit: usize,
 }
 
@@ -47,7 +47,10 @@ impl<St: Drop, Q: Drop> Model for TryDrain<St, Q> {
 }
 
 /// Gives each `Ok` item of a stream to a closure, once and in order, and runs the futures that it makes, at most as many at a time as its set has slots, up to the first error.
-pub type TryForEachConcurrent<St, F, Fut, S> = TryDrain<MapOk<St, F>, CompletionQueue<Fut, S>>;
+pub type TryForEachConcurrent<St, F, Fut, S> = TryDrain<
+    MapOk<St, F>,
+    TryQueue<CompletionQueue<Fut, S>>,
+>;
 
 impl<St: Drop, Q: NewQueue> TryDrain<St, Q> {
     /// Over this stream, with at most `n` held at a time and a queue made for them. Nothing is polled.
@@ -74,7 +77,7 @@ impl<St: Drop, Q: NewQueue> TryDrain<St, Q> {
         ensures new { IfOk result (IsNewDrain (Q.made n limit) limit stream) }
         ensures refuses { RefusesTooLarge n result }
     {
-        let buffer = TryBuffer::over_limit(env, alloc, stream, n, limit)?;
+        let buffer = Buffer::over_limit(env, alloc, stream, n, limit)?;
         Ok(TryDrain {
             buffer: Some(buffer),
             limit,
@@ -84,31 +87,31 @@ impl<St: Drop, Q: NewQueue> TryDrain<St, Q> {
 
 impl<St: Drop, Q: Drop> TryDrain<St, Q> {
     /// The buffer that is polled, or `None` once it has ended or failed: it was dropped then, with what it held. Takes the same time at any number.
-    pub fn buffer(&self) -> Option<&TryBuffer<St, Q>>
+    pub fn buffer(&self) -> Option<&Buffer<St, Q>>
         ensures { option_copied result ≡ self.now.buffer }
     {
         self.buffer.as_ref()
     }
 }
 
-impl<St, F, E, Q> TryDrain<St, Q>
+impl<St, E, Q> TryDrain<St, Q>
 where
-    St: Stream<Item = Result<F, E>>,
-    Q: FutureQueue<F, Output = Result<(), E>>,
+    St: Stream,
+    Q: FutureQueue<St::Item, Output = Result<(), E>>,
     E: Drop,
 {
     // Polls the buffer once. The answer of the call, where it ends here.
     fn turn(&mut self, cx: &mut Context<'_>) -> Option<Poll<Result<(), E>>>
-        requires { CanDrain (CanTryDraw St.can_poll St.yields Q.is_fit Q.can_poll) self.old }
-        ensures turn { DrainTurn (CallsTryBuffer (PollsStream St.yields) Q.count Q.room Q.pushes
+        requires { CanDrain (CanDraw St.can_poll St.yields Q.is_fit Q.can_poll) self.old }
+        ensures turn { DrainTurn (CallsBuffer (PollsStream St.yields) Q.count Q.room Q.pushes
             Q.polls Q.leaves) self.old.buffer result self.new.buffer cx.old cx.new }
         ensures goes { IfNone result (GoingLeavesDrain
-            (CanDrain (CanTryDraw St.can_poll St.yields Q.is_fit Q.can_poll))
-            (DrainGives (TryBufferGives St.yields Q.gives Q.count Q.yields))
+            (CanDrain (CanDraw St.can_poll St.yields Q.is_fit Q.can_poll))
+            (DrainGives (BufferGives St.yields Q.gives Q.count Q.yields Q.in_order))
             self.old self.new) }
         ensures ends { IfSome result (λ answer. LeavesDrain
-            (CanDrain (CanTryDraw St.can_poll St.yields Q.is_fit Q.can_poll))
-            (DrainGives (TryBufferGives St.yields Q.gives Q.count Q.yields))
+            (CanDrain (CanDraw St.can_poll St.yields Q.is_fit Q.can_poll))
+            (DrainGives (BufferGives St.yields Q.gives Q.count Q.yields Q.in_order))
             self.old answer self.new) }
         ensures registered { IfSome result (λ answer. OnPending answer (Covers cx.new
             (DrainWaitsAt (WaitsAt St.needs Q.needs Q.count Q.room) self.new))) }
@@ -132,31 +135,31 @@ where
     }
 }
 
-impl<St, F, E, Q> Future for TryDrain<St, Q>
+impl<St, E, Q> Future for TryDrain<St, Q>
 where
-    St: Stream<Item = Result<F, E>>,
-    Q: FutureQueue<F, Output = Result<(), E>>,
+    St: Stream,
+    Q: FutureQueue<St::Item, Output = Result<(), E>>,
     E: Drop,
 {
     type Output = Result<(), E>;
 
-    ghost can_poll = { CanDrain (CanTryDraw St.can_poll St.yields Q.is_fit Q.can_poll) };
+    ghost can_poll = { CanDrain (CanDraw St.can_poll St.yields Q.is_fit Q.can_poll) };
 
     ghost needs = { DrainWaitsAt (WaitsAt St.needs Q.needs Q.count Q.room) };
 
-    ghost gives = { DrainGives (TryBufferGives St.yields Q.gives Q.count Q.yields) };
+    ghost gives = { DrainGives (BufferGives St.yields Q.gives Q.count Q.yields Q.in_order) };
 
     /// At most as many turns as the limit is, each of which polls the buffer once. Another follows where a future was done without an error. `Ready` with the first error, of the stream or of a future, or with `Ok(())` where the stream has ended and nothing is held: what is held is dropped then, and a later poll answers `Ok(())` and polls nothing. At the limit the task is woken at once.
     ///
     /// Takes no memory but what the stream takes, and waits for nobody where the source's calls do not. Takes time in proportion to the turns, the items drawn, and the names that the turns' polls of the set take, besides the polls.
     fn poll(&mut self, cx: &mut Context<'_>) -> Poll<Result<(), E>>
-        requires { CanDrain (CanTryDraw St.can_poll St.yields Q.is_fit Q.can_poll) self.old }
-        ensures called { DrainCall (CallsTryBuffer (PollsStream St.yields) Q.count Q.room Q.pushes
+        requires { CanDrain (CanDraw St.can_poll St.yields Q.is_fit Q.can_poll) self.old }
+        ensures called { DrainCall (CallsBuffer (PollsStream St.yields) Q.count Q.room Q.pushes
             Q.polls Q.leaves) IsWoken self.old.limit
             self.old.buffer result self.new.buffer cx.old cx.new }
         ensures drain { LeavesDrain
-            (CanDrain (CanTryDraw St.can_poll St.yields Q.is_fit Q.can_poll))
-            (DrainGives (TryBufferGives St.yields Q.gives Q.count Q.yields))
+            (CanDrain (CanDraw St.can_poll St.yields Q.is_fit Q.can_poll))
+            (DrainGives (BufferGives St.yields Q.gives Q.count Q.yields Q.in_order))
             self.old result self.new }
         ensures registered { OnPending result (Covers cx.new
             (DrainWaitsAt (WaitsAt St.needs Q.needs Q.count Q.room) self.new)) }
@@ -172,10 +175,10 @@ where
 }
 
 /// Whether there is no buffer, or its stream has ended and it holds nothing. Takes the same time at any capacity.
-impl<St, F, E, Q> FusedFuture for TryDrain<St, Q>
+impl<St, E, Q> FusedFuture for TryDrain<St, Q>
 where
-    St: Stream<Item = Result<F, E>>,
-    Q: FutureQueue<F, Output = Result<(), E>>,
+    St: Stream,
+    Q: FutureQueue<St::Item, Output = Result<(), E>>,
     E: Drop,
 {
     ghost is_over = { IsDrained Q.count };

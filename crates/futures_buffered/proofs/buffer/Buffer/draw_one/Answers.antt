@@ -1,36 +1,37 @@
-use Rattle.std.proofs.Common.{rules, ◌≡◌, ◌<◌, Some, sym, subst}
+use Rattle.std.proofs.Common.{rules, ◌≡◌, Some, None, sym, subst}
 use Rattle.futures_buffered.specs.Buffer.{PollsStream, CanDraw, BufferGives}
-use Rattle.futures_buffered.proofs.BufferLemmas.{as_before, had_turn, item_within, pending_within, end_within, item_can, pending_can}
+use Rattle.futures_buffered.proofs.BufferLemmas.{as_before, item_leaves, pending_within, end_within, pending_can, polled_task}
 use Rattle.futures_buffered.proofs.buffer.Buffer.draw_one.Goals as goal
 
-pub returns-in-Ready-Some-clause-buffer : goal.returns-in-Ready-Some-clause-buffer
-returns-in-Ready-Some-clause-buffer g c =
+pub returns-in_default-push-clause-buffer : goal.returns-in_default-push-clause-buffer
+returns-in_default-push-clause-buffer g c =
     let stream = g.St.Stream in
     let queue = g.Q.FutureQueue in
     let was : c.args.self.now ≡ record { stream = Some c.in-Some.stream; queue = c.self.inside.queue } = let e = c.self.view_is in let k = c.in-Some.stream-is in cc in
-    record {
-      same_room = search rules;
-      bound = search rules;
-      again = item_can stream.can_poll stream.yields queue.is_fit queue.can_poll c.in-Some.stream c.poll_next.new.self c.in-Ready-Some.item c.self.inside.queue c.push.new.self c.push.ensures.queue.again
-          (subst (CanDraw stream.can_poll stream.yields queue.is_fit queue.can_poll) was c.requires)
-          (rw c.in-Ready-Some.field-0-is at c.in-Ready-Some.ensures.value) (rw c.in-Ready-Some.field-0-is at c.in-Ready-Some.ensures.rest) (rw c.in-Ready-Some.field-0-is at c.in-Ready-Some.ensures.goes);
-      within = λ xs last h. as_before (BufferGives stream.yields queue.gives queue.count queue.yields queue.in_order) _ _ was xs last
-          (item_within stream.yields queue.gives queue.count queue.yields queue.in_order c.in-Some.stream c.poll_next.new.self c.in-Ready-Some.item c.self.inside.queue c.push.new.self c.push.ensures.queue.adds c.push.ensures.queue.one_more (rw c.in-Ready-Some.field-0-is at c.in-Ready-Some.ensures.value) (rw c.in-Ready-Some.field-0-is at c.in-Ready-Some.ensures.rest) xs last h);
-      value = tt;
-      after = tt;
-    }
+    item_leaves stream.can_poll stream.yields queue.gives queue.is_fit queue.count queue.room queue.yields queue.can_poll queue.in_order c.args.self.now c.in-Some.stream c.poll_next.new.self c.in-Ready-Some.item c.self.inside.queue c.push.new.self was (search rules) c.requires
+    (rw c.in-Ready-Some.field-0-is at c.in-Ready-Some.ensures.value) (rw c.in-Ready-Some.field-0-is at c.in-Ready-Some.ensures.rest) (rw c.in-Ready-Some.field-0-is at c.in-Ready-Some.ensures.goes) None c.in_default-push.ensures.queue
 
-pub returns-in-Ready-Some-clause-task : goal.returns-in-Ready-Some-clause-task
-returns-in-Ready-Some-clause-task g c =
+pub returns-in_default-push-clause-task : goal.returns-in_default-push-clause-task
+returns-in_default-push-clause-task g c =
     let stream = g.St.Stream in
     let queue = g.Q.FutureQueue in
     let was : c.args.self.now ≡ record { stream = Some c.in-Some.stream; queue = c.self.inside.queue } = let e = c.self.view_is in let k = c.in-Some.stream-is in cc in
-    let room : queue.count c.self.inside.queue < queue.room c.args.self.now.queue = search rules in
-    record {
-      covered = search rules;
-      no_turn = λ none. absurd (had_turn (PollsStream stream.yields) queue.count (queue.room c.args.self.now.queue) c.args.self.now c.in-Some.stream c.self.inside.queue was room none);
-      kept = search rules;
-    }
+    polled_task (PollsStream stream.yields) queue.count queue.room stream.needs _ c.args.self.now _ c.in-Some.stream c.self.inside.queue c.args.cx.now c.poll_next.new.cx was (search rules) (λ never. cc) (search rules)
+
+pub returns-in-Some-push-clause-buffer : goal.returns-in-Some-push-clause-buffer
+returns-in-Some-push-clause-buffer g c =
+    let stream = g.St.Stream in
+    let queue = g.Q.FutureQueue in
+    let was : c.args.self.now ≡ record { stream = Some c.in-Some.stream; queue = c.self.inside.queue } = let e = c.self.view_is in let k = c.in-Some.stream-is in cc in
+    item_leaves stream.can_poll stream.yields queue.gives queue.is_fit queue.count queue.room queue.yields queue.can_poll queue.in_order c.args.self.now c.in-Some.stream c.poll_next.new.self c.in-Ready-Some.item c.self.inside.queue c.push.new.self was (search rules) c.requires
+    (rw c.in-Ready-Some.field-0-is at c.in-Ready-Some.ensures.value) (rw c.in-Ready-Some.field-0-is at c.in-Ready-Some.ensures.rest) (rw c.in-Ready-Some.field-0-is at c.in-Ready-Some.ensures.goes) (Some c.in-Some-push.answer) c.in-Some-push.ensures.queue
+
+pub returns-in-Some-push-clause-task : goal.returns-in-Some-push-clause-task
+returns-in-Some-push-clause-task g c =
+    let stream = g.St.Stream in
+    let queue = g.Q.FutureQueue in
+    let was : c.args.self.now ≡ record { stream = Some c.in-Some.stream; queue = c.self.inside.queue } = let e = c.self.view_is in let k = c.in-Some.stream-is in cc in
+    polled_task (PollsStream stream.yields) queue.count queue.room stream.needs _ c.args.self.now _ c.in-Some.stream c.self.inside.queue c.args.cx.now c.poll_next.new.cx was (search rules) (λ never. cc) (search rules)
 
 pub returns-in-Ready-None-clause-buffer : goal.returns-in-Ready-None-clause-buffer
 returns-in-Ready-None-clause-buffer g c =
@@ -52,12 +53,7 @@ returns-in-Ready-None-clause-task g c =
     let stream = g.St.Stream in
     let queue = g.Q.FutureQueue in
     let was : c.args.self.now ≡ record { stream = Some c.in-Some.stream; queue = c.self.inside.queue } = let e = c.self.view_is in let k = c.in-Some.stream-is in cc in
-    let room : queue.count c.self.inside.queue < queue.room c.args.self.now.queue = search rules in
-    record {
-      covered = search rules;
-      no_turn = λ none. absurd (had_turn (PollsStream stream.yields) queue.count (queue.room c.args.self.now.queue) c.args.self.now c.in-Some.stream c.self.inside.queue was room none);
-      kept = search rules;
-    }
+    polled_task (PollsStream stream.yields) queue.count queue.room stream.needs _ c.args.self.now _ c.in-Some.stream c.self.inside.queue c.args.cx.now c.poll_next.new.cx was (search rules) (search rules) (search rules)
 
 pub returns-in-Pending-clause-buffer : goal.returns-in-Pending-clause-buffer
 returns-in-Pending-clause-buffer g c =
@@ -80,12 +76,7 @@ returns-in-Pending-clause-task g c =
     let stream = g.St.Stream in
     let queue = g.Q.FutureQueue in
     let was : c.args.self.now ≡ record { stream = Some c.in-Some.stream; queue = c.self.inside.queue } = let e = c.self.view_is in let k = c.in-Some.stream-is in cc in
-    let room : queue.count c.self.inside.queue < queue.room c.args.self.now.queue = search rules in
-    record {
-      covered = search rules;
-      no_turn = λ none. absurd (had_turn (PollsStream stream.yields) queue.count (queue.room c.args.self.now.queue) c.args.self.now c.in-Some.stream c.self.inside.queue was room none);
-      kept = search rules;
-    }
+    polled_task (PollsStream stream.yields) queue.count queue.room stream.needs _ c.args.self.now _ c.in-Some.stream c.self.inside.queue c.args.cx.now c.poll_next.new.cx was (search rules) (search rules) (search rules)
 
 pub returns-in_default-clause-buffer : goal.returns-in_default-clause-buffer
 returns-in_default-clause-buffer g c =

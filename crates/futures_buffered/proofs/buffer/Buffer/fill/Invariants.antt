@@ -1,8 +1,8 @@
-use Rattle.std.proofs.Common.{◌≡◌, ◌-◌, List}
+use Rattle.std.proofs.Common.{◌≡◌, ◌-◌, List, None}
 use Rattle.std.specs.List.{FoldsTo}
 use Rattle.futures.specs.Task.{Keeps}
 use Rattle.futures.specs.Runs.{Within}
-use Rattle.futures_buffered.specs.Buffer.{PollsStream, HasNoTurn, DrawsOne, CanDraw, BufferGives}
+use Rattle.futures_buffered.specs.Buffer.{PollsStream, HasNoTurn, DrawsItem, CanDraw, BufferGives}
 use Rattle.futures_buffered.proofs.buffer.Buffer.fill.Given as goal
 
 abbrev pub invariant-draws : goal.invariant-draws
@@ -11,7 +11,7 @@ invariant-draws g l =
     let queue = g.Q.FutureQueue in
     record {
       drawn : List g.row.St-Item.Denot;
-      items : FoldsTo (DrawsOne (PollsStream stream.yields) queue.count (queue.room l.fn.self.queue) queue.pushes) l.fn.self drawn l.self;
+      items : FoldsTo (DrawsItem (PollsStream stream.yields) queue.count (queue.room l.fn.self.queue) queue.pushes None) l.fn.self drawn l.self;
       room : queue.room l.self.queue ≡ queue.room l.fn.self.queue;
       again : CanDraw stream.can_poll stream.yields queue.is_fit queue.can_poll l.self;
       within : Within (BufferGives stream.yields queue.gives queue.count queue.yields queue.in_order l.fn.self) (BufferGives stream.yields queue.gives queue.count queue.yields queue.in_order l.self);

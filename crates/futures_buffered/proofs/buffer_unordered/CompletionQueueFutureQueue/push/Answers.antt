@@ -7,7 +7,10 @@ returns-clause-queue g c =
     let marks = g.S.ReadySource.marks in
     rw (← c.self.view_is) (record {
       one_more = push.count;
-      same_room = push.capacity;
       adds = adds_one marks c.self.inside.set c.push.new.self c.args.future push.pushed g.F.SlotFuture.polled;
+      value = tt;
+      stays = tt;
+      overtakes = tt;
+      same_room = push.capacity;
       again = pushed_can marks c.self.inside.set c.push.new.self c.args.future push.pushed g.F.SlotFuture.can_poll;
     })

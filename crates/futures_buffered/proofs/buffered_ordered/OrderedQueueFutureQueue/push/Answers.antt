@@ -10,7 +10,10 @@ returns-clause-queue g c =
     let pushed = c.push_back.ensures.pushed in
     rw (← c.self.view_is) (record {
       one_more = pushed_len marks old new c.args.future pushed;
-      same_room = c.push_back.ensures.capacity;
       adds = adds_behind future.polled marks old new c.args.future c.len.ensures.each pushed;
+      value = tt;
+      stays = tt;
+      overtakes = tt;
+      same_room = c.push_back.ensures.capacity;
       again = pushed_can marks future.can_poll old new c.args.future pushed;
     })

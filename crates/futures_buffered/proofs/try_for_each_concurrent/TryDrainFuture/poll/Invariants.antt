@@ -1,22 +1,21 @@
 use Rattle.std.proofs.Common.{◌≡◌, List, Result, length}
 use Rattle.std.specs.List.{FoldsTo}
 use Rattle.futures.specs.Task.{Keeps}
-use Rattle.futures_buffered.specs.Buffer.{PollsStream}
-use Rattle.futures_buffered.specs.TryBuffer.{CanTryDraw, TryBufferGives}
-use Rattle.futures_buffered.specs.TryForEachConcurrent.{CallsTryBuffer, CanDrain, DrainGives, GoesOn}
+use Rattle.futures_buffered.specs.Buffer.{PollsStream, CanDraw, BufferGives}
+use Rattle.futures_buffered.specs.TryForEachConcurrent.{CallsBuffer, CanDrain, DrainGives, GoesOn}
 use Rattle.futures_buffered.proofs.try_for_each_concurrent.TryDrainFuture.poll.Given as goal
 
 abbrev pub invariant-turns : goal.invariant-turns
 invariant-turns g l =
     let stream = g.St.Stream in
     let queue = g.Q.FutureQueue in
-    let gives = DrainGives (TryBufferGives stream.yields queue.gives queue.count queue.yields) in
+    let gives = DrainGives (BufferGives stream.yields queue.gives queue.count queue.yields queue.in_order) in
     record {
       done : List (Unit {0});
-      row : FoldsTo (GoesOn (CallsTryBuffer (PollsStream stream.yields) queue.count queue.room queue.pushes queue.polls queue.leaves)) (l.fn.self.buffer, l.fn.cx) done (l.self.buffer, l.cx);
+      row : FoldsTo (GoesOn (CallsBuffer (PollsStream stream.yields) queue.count queue.room queue.pushes queue.polls queue.leaves)) (l.fn.self.buffer, l.fn.cx) done (l.self.buffer, l.cx);
       count : length done ≡ l._turn;
       limit : l.self.limit ≡ l.fn.self.limit;
-      again : CanDrain (CanTryDraw stream.can_poll stream.yields queue.is_fit queue.can_poll) l.self;
+      again : CanDrain (CanDraw stream.can_poll stream.yields queue.is_fit queue.can_poll) l.self;
       gives : (x : Result (Unit {0}) g.row.E.Denot) → gives l.self x → gives l.fn.self x;
       kept : Keeps l.fn.cx l.cx;
     }

@@ -1,5 +1,0 @@
-use Rattle.futures_buffered_joins.proofs.JoinLemmas.{joins_by_place}
-use Rattle.futures_buffered_joins.proofs.join.outputs_come_by_place.Goals as goal
-
-pub returns : goal.returns
-returns g c = joins_by_place g.F.SlotFuture.polled g.S.ReadySource.steps g.S.NewSource.made g.S.ReadySource.marks 61
