@@ -1,9 +1,12 @@
 -- A seat of a list, and the steps that it makes.
-use Rattle.std.proofs.Common.{◌≡◌, ℕ, ◌+◌, ◌<◌, List, ◌++◌, sym, ap, ◌∙◌, arith, append_assoc}
+use Rattle.std.proofs.Common.{◌≡◌, ℕ, ◌+◌, ◌<◌, ◌≤◌, List, ◌++◌, sym, ap, ◌∙◌, arith, append_assoc, inl, inr, refl}
 use mathlib.Core.Option.{none}
 use Rattle.atomic_table.specs.Table.{step as table_step, Allows}
 use Rattle.futures_buffered_table.specs.declared.view.AtomicStep.{AtomicStep}
 use Rattle.futures_buffered_table.specs.declared.view.Role.{Role}
+use Rattle.futures_buffered_table.specs.declared.view.Role.TheVariants.{Polls}
+use Rattle.futures_buffered_table.specs.declared.view.Phase.TheVariants.{Moved, StubLinked}
+use Rattle.futures_buffered_table.specs.Taking.{ReadsSlot}
 use Rattle.futures_buffered_table.specs.declared.view.View.{View}
 use Rattle.atomic_table.specs.Seated.{TableId}
 use Rattle.atomic_table.specs.declared.shared.Seat.{Seat}
@@ -69,6 +72,16 @@ module _ (table : TableId) (key n : ℕ) (L : KeepsList table key n) (seen : Lis
       allows_store n seat.id i seat.me.0.steps role (lt cap) there table.slots key L.keyed seat.me is_me
           new put blind told,
     )
+
+  -- it may read the link of its head, a slot
+  pub may_read_slot : (seat : Seat ℕ View) (head : ℕ) → ReadsSlot seen head seat → head ≤ seen.capacity
+      → (seat.table_id ≡ table) × (n + head < table.words)
+      × Allows (HoldsRow key) table.slots seat.id seat.me (n + head) (λ found. found)
+      (PlaysRole (table_step table.slots (n + head) 0 0 none) seat.me)
+  may_read_slot seat head (inl sits) le =
+      may_step seat (Polls head Moved) sits (n + head) (λ cap. tt) refl (λ cap. omega arith) 0 0 (λ found. found) (λ _. refl)
+  may_read_slot seat head (inr sits) le =
+      may_step seat (Polls head StubLinked) sits (n + head) (λ cap. tt) refl (λ cap. omega arith) 0 0 (λ found. found) (λ _. refl)
 
 pub adds_more : (a b c : Seat ℕ View) (s t : List AtomicStep) → AddsSteps a b s → AddsSteps b c t → AddsSteps a c (s ++ t)
 adds_more a b c s t one two = two ∙ (ap (λ (l : List AtomicStep). l ++ t) one ∙ append_assoc a.me.0.steps s t)

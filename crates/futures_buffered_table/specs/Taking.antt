@@ -1,13 +1,24 @@
 -- The shapes of a taking: which steps it makes, with what was found, for each answer. There is no
 -- other shape.
 -- In each, h is the poller's head before these steps, and `head` its head after them.
-use Rattle.std.specs.Prelude.{◌≡◌, ◌≢◌, ◌⊎◌, ℕ, suc, List, [], ◌∷◌, ◌++◌}
+use Rattle.std.specs.Prelude.{◌≡◌, ◌≢◌, ◌<◌, ◌≤◌, ◌⊎◌, ℕ, suc, List, [], ◌∷◌, ◌++◌}
 use Rattle.futures_buffered_table.specs.declared.answer.Taken.{Taken}
 use Rattle.futures_buffered_table.specs.declared.answer.Taken.TheVariants.{Slot, Empty, Pause}
 use Rattle.futures_buffered_table.specs.declared.view.AtomicStep.{AtomicStep}
 use Rattle.futures_buffered_table.specs.declared.view.AtomicStep.TheVariants.{LinkClear, TailSwap}
 use Rattle.futures_buffered_table.specs.declared.view.AtomicStep.TheVariants.{LinkWrite, LinkRead}
 use Rattle.futures_buffered_table.specs.declared.view.AtomicStep.TheVariants.{TailRead, Unmark}
+use Rattle.atomic_table.specs.declared.shared.Seat.{Seat}
+use Rattle.futures_buffered_table.specs.declared.view.Phase.TheVariants.{Moved, Start, StubLinked}
+use Rattle.futures_buffered_table.specs.declared.view.Role.TheVariants.{Polls}
+use Rattle.futures_buffered_table.specs.declared.view.View.{View}
+use Rattle.futures_buffered_table.specs.ReadyList.{AddsSteps, IsInRole, ListIdentity}
+
+-- the seat is to read the link of its head, a slot: the head moved there from the stub, or the stub
+-- stands behind it now
+abbrev pub ReadsSlot : ListIdentity → ℕ → Seat ℕ View → Type 0
+ReadsSlot list head seat =
+    IsInRole list (Polls head Moved) seat ⊎ IsInRole list (Polls head StubLinked) seat
 
 -- the link of h names the entry `head`: the slot h is answered, its unmark the last step
 abbrev pub IsHanded : ℕ → List AtomicStep → Taken → ℕ → Type 0
@@ -64,3 +75,26 @@ CallsAtStub leaves n made Empty head before after =
 CallsAtStub leaves n made Pause head before after =
     ((head ≡ n) × leaves (made ++ LinkRead n 0 ∷ []) before after)
     ⊎ ((head ≢ n) × (after ≡ before))
+
+-- What the part of a taking leaves that goes on from the slot at the head; its steps have this
+-- shape.
+pub record TakesFromSlot
+    (list : ListIdentity)
+    (h : ℕ)
+    (has_shape : ℕ → ℕ → List AtomicStep → Taken → ℕ → Type 0)
+    (old : Seat ℕ View)
+    (answer : Taken)
+    (head : ℕ)
+    (new : Seat ℕ View)
+    : Type 0 where
+  -- the seat is between two takings, and its head is an entry
+  pub role : IsInRole list (Polls head Start) new × (head ≤ list.capacity)
+  -- the list is not empty
+  pub never : answer ≢ Empty
+  -- at a pause the head stays
+  pub stays : answer ≡ Pause → head ≡ h
+  -- a slot that is named is below the capacity
+  pub named : (slot : ℕ) → answer ≡ Slot slot → slot < list.capacity
+  -- the steps that it made
+  pub shape : (shape : List AtomicStep) × AddsSteps old new shape
+      × has_shape list.capacity h shape answer head

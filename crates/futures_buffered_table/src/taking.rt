@@ -6,7 +6,7 @@ ghost use Rattle.futures_buffered_table.specs.declared.view.AtomicStep.TheVarian
 ghost use Rattle.futures_buffered_table.specs.declared.view.Phase.TheVariants.{Start, AtStub, Moved, NoNext, Last, StubCleared, StubPut, StubLinked, InHand};
 ghost use Rattle.futures_buffered_table.specs.declared.view.Role.TheVariants.{Polls};
 ghost use Rattle.futures_buffered_table.specs.Effect.{next_role};
-ghost use Rattle.futures_buffered_table.specs.Taking.{CallsAtStub, IsAtLast, IsFromSlot, IsTaking};
+ghost use Rattle.futures_buffered_table.specs.Taking.{CallsAtStub, IsAtLast, IsFromSlot, IsTaking, ReadsSlot, TakesFromSlot};
 
 use crate::answer::Taken;
 use crate::ready_list::{PollSeat, ReadyList};
@@ -118,27 +118,12 @@ impl ReadyList {
             .store::<SeatStep>(seat, self.capacity + before, self.capacity as u64 + 1);
     }
 
-    // Reads the link of a slot, to which the head moved from the stub.
+    // Reads the link of the head, a slot: it moved there from the stub, or the stub stands behind it now.
     fn read_slot(&self, seat: &mut Seat<u8, View>, head: usize) -> usize
-        requires role { IsInRole self.now (Polls head Moved) seat.old
-            × (head ≤ self.now.capacity) }
+        requires role { ReadsSlot self.now head seat.old × (head ≤ self.now.capacity) }
         ensures low { result ≤ self.now.capacity + 1 }
         ensures role { IsInRole self.now
-            (next_role self.now.capacity 0 (Polls head Moved) result) seat.new }
-        ensures adds { AddsSteps seat.old seat.new (LinkRead head result ∷ []) }
-    {
-        self.table
-            .shared
-            .load::<SeatStep>(seat, self.capacity + head) as usize
-    }
-
-    // Reads the link of the head again, now that the stub stands behind it.
-    fn read_again(&self, seat: &mut Seat<u8, View>, head: usize) -> usize
-        requires role { IsInRole self.now (Polls head StubLinked) seat.old
-            × (head ≤ self.now.capacity) }
-        ensures low { result ≤ self.now.capacity + 1 }
-        ensures role { IsInRole self.now
-            (next_role self.now.capacity 0 (Polls head StubLinked) result) seat.new }
+            (next_role self.now.capacity 0 seat.old.me.0.role result) seat.new }
         ensures adds { AddsSteps seat.old seat.new (LinkRead head result ∷ []) }
     {
         self.table
@@ -171,13 +156,7 @@ impl ReadyList {
     fn take_last(&self, seat: &mut Seat<u8, View>, head: usize) -> (usize, Taken)
         requires role { IsInRole self.now (Polls head NoNext) seat.old
             × (head < self.now.capacity) }
-        ensures role { IsInRole self.now (Polls result.0 Start) seat.new
-            × (result.0 ≤ self.now.capacity) }
-        ensures never { result.1 ≢ Empty }
-        ensures stays { result.1 ≡ Pause → result.0 ≡ head }
-        ensures named { (slot : ℕ) → result.1 ≡ Slot slot → slot < self.now.capacity }
-        ensures shape { (shape : List AtomicStep) × AddsSteps seat.old seat.new shape
-            × IsAtLast self.now.capacity head shape result.1 result.0 }
+        ensures { TakesFromSlot self.now head IsAtLast seat.old result.1 result.0 seat.new }
     {
         if self.read_tail(seat, head) != head {
             return (head, Taken::Pause);
@@ -185,25 +164,19 @@ impl ReadyList {
         self.clear_stub(seat, head);
         let before = self.swap_stub(seat, head);
         self.link_stub(seat, head, before);
-        let found = self.read_again(seat, head);
-        if found == 0 {
+        let next = self.read_slot(seat, head);
+        if next == 0 {
             return (head, Taken::Pause);
         }
-        self.unmark(seat, found - 1, head);
-        (found - 1, Taken::Slot(head))
+        self.unmark(seat, next - 1, head);
+        (next - 1, Taken::Slot(head))
     }
 
     // Goes on with a taking whose head moved from the stub to this slot.
     fn take_slot(&self, seat: &mut Seat<u8, View>, head: usize) -> (usize, Taken)
         requires role { IsInRole self.now (Polls head Moved) seat.old
             × (head < self.now.capacity) }
-        ensures role { IsInRole self.now (Polls result.0 Start) seat.new
-            × (result.0 ≤ self.now.capacity) }
-        ensures never { result.1 ≢ Empty }
-        ensures stays { result.1 ≡ Pause → result.0 ≡ head }
-        ensures named { (slot : ℕ) → result.1 ≡ Slot slot → slot < self.now.capacity }
-        ensures shape { (shape : List AtomicStep) × AddsSteps seat.old seat.new shape
-            × IsFromSlot self.now.capacity head shape result.1 result.0 }
+        ensures { TakesFromSlot self.now head IsFromSlot seat.old result.1 result.0 seat.new }
     {
         let found = self.read_slot(seat, head);
         if found == 0 {

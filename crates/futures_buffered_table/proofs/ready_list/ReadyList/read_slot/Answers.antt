@@ -1,11 +1,7 @@
-use Rattle.std.proofs.Common.{refl, arith}
-use Rattle.futures_buffered_table.specs.declared.view.Phase.TheVariants.{Moved}
-use Rattle.futures_buffered_table.specs.declared.view.Role.TheVariants.{Polls}
-use Rattle.futures_buffered_table.proofs.ReadyListLemmas.{may_step}
+use Rattle.futures_buffered_table.proofs.ReadyListLemmas.{may_read_slot}
 use Rattle.futures_buffered_table.proofs.ready_list.ReadyList.read_slot.Goals as goal
 
 pub load-requires : goal.load-requires
 load-requires c =
-    may_step c.self.inside.table.shared.table_id _ c.self.inside.capacity c.self.invariant _ c.self.view_is c.args.seat.now
-    (Polls c.args.head Moved) c.requires.role.0
-    _ (λ cap. tt) refl (λ cap. let a = c.requires.role.1 in omega arith) 0 0 (λ found. found) (λ _. refl)
+    may_read_slot c.self.inside.table.shared.table_id _ c.self.inside.capacity c.self.invariant _ c.self.view_is c.args.seat.now
+    c.args.head c.requires.role.0 c.requires.role.1
