@@ -29,3 +29,4 @@ pub mod SlotMapInvariant
 pub mod SlotMapLends
 pub mod SlotMapIterMut
 pub mod Drawn
+pub mod Made

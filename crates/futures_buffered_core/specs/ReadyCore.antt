@@ -1,6 +1,7 @@
 -- What a ready core stands for, and what one event does to it.
 use Rattle.std.specs.Prelude.{◌≡◌, ℕ, ◌<◌, Bool, true, false, eqb, List, [], ◌∷◌, ◌++◌}
 use Rattle.std.specs.List.{list_any}
+use Rattle.futures_buffered_core.specs.ReadySource.{SourceLaws, WaitsNowhere, laws_of_takes, only_takes}
 use Rattle.futures_buffered_table.specs.declared.answer.Woke.{Woke}
 use Rattle.futures_buffered_table.specs.declared.answer.Woke.TheVariants.{Fresh, Already}
 use Rattle.futures_buffered_table.specs.declared.answer.Taken.{Taken}
@@ -41,3 +42,8 @@ abbrev pub Takes : Standing → Taken → Standing → Type 0
 Takes old taken new = TakeGives old.marked taken new.marked
     × IsNameBelow old.capacity taken
     × (new.capacity ≡ old.capacity)
+
+-- the laws of a core as a source at which a registration changes nothing
+abbrev pub core_laws : SourceLaws Marks (only_takes Takes) WaitsNowhere (λ (s : Standing). s.capacity)
+core_laws = laws_of_takes Marks Takes (λ s. s.capacity) (λ old i new taken. taken.1)
+    (λ old i woke new marked. marked.1) (λ old taken new took. took.2)

@@ -1,6 +1,9 @@
 -- What a set may make of its source, and what the laws of sources cite.
-use Rattle.std.specs.Prelude.{ℕ, ◌↔◌}
+use mathlib.Core.Path.{ap}
+use Rattle.std.specs.Prelude.{◌≡◌, ◌<◌, ◌↔◌, ℕ, refl}
 use Rattle.futures_buffered_table.specs.declared.answer.Taken.{Taken}
+use Rattle.futures_buffered_table.specs.declared.answer.Taken.TheVariants.{Slot}
+use Rattle.futures_buffered_table.specs.declared.answer.Woke.{Woke}
 
 -- what a poll may make of a source: a registration, and a taking by its answer
 pub record SourceSteps (S : Type 0) : Type 1 where
@@ -10,3 +13,69 @@ pub record SourceSteps (S : Type 0) : Type 1 where
 -- both wait at the same places of a task's wakes, by what a source needs
 abbrev pub WaitsAlike : {S : Type 0} → (S → ℕ → Type 0) → S → S → Type 0
 WaitsAlike needs a b = (n : ℕ) → needs a n ↔ needs b n
+
+module _ {S : Type 0} (marks : S → ℕ → Woke → S → Type 0) (steps : SourceSteps S)
+    (needs : S → ℕ → Type 0)
+  where
+    -- What holds of each source: its names are slots of its own, and its calls keep their number and
+    -- wait at no new place.
+    pub record SourceLaws (slots : S → ℕ) : Type 0 where
+      -- a slot that is named is below the capacity
+      pub names_below : (old : S) (i : ℕ) (new : S) → steps.takes old (Slot i) new → i < slots old
+      -- the capacity stays
+      pub mark_keeps : (old : S) (i : ℕ) (woke : Woke) (new : S) → marks old i woke new
+          → slots new ≡ slots old
+      pub take_keeps : (old : S) (taken : Taken) (new : S) → steps.takes old taken new
+          → slots new ≡ slots old
+      pub register_keeps : (old new : S) → steps.registers old new → slots new ≡ slots old
+      -- a registration waits no longer at more places than before
+      pub take_needs : (old : S) (taken : Taken) (new : S) → steps.takes old taken new
+          → (n : ℕ) → needs new n → needs old n
+      pub register_needs : (old new : S) → steps.registers old new
+          → (n : ℕ) → needs new n → needs old n
+
+    -- What holds of each source that waits at the same places for good, so that sources that stand
+    -- beside one another stay so.
+    pub record WaitsForGood : Type 0 where
+      -- a source at which nobody registers, since a source beside it did, is as after a registration
+      pub covered : (s : S) → steps.registers s s
+      -- no call changes where it waits
+      pub mark_waits : (old : S) (i : ℕ) (woke : Woke) (new : S) → marks old i woke new
+          → WaitsAlike needs old new
+      pub take_waits : (old : S) (taken : Taken) (new : S) → steps.takes old taken new
+          → WaitsAlike needs old new
+      pub register_waits : (old new : S) → steps.registers old new → WaitsAlike needs old new
+
+-- what a poll may make of a source at which a registration changes nothing
+abbrev pub only_takes : {S : Type 0} → (S → Taken → S → Type 0) → SourceSteps S
+only_takes takes = record { registers = λ old new. new ≡ old; takes = takes }
+
+-- a registration waits at no place
+abbrev pub WaitsNowhere : {S : Type 0} → S → ℕ → Type 0
+WaitsNowhere source n = ⊥
+
+module _ {S : Type 0} (marks : S → ℕ → Woke → S → Type 0) (takes : S → Taken → S → Type 0) where
+  -- the laws of a source at which a registration changes nothing and waits nowhere, by those of its
+  -- marks and takings
+  abbrev pub laws_of_takes : (slots : S → ℕ)
+      → ((old : S) (i : ℕ) (new : S) → takes old (Slot i) new → i < slots old)
+      → ((old : S) (i : ℕ) (woke : Woke) (new : S) → marks old i woke new → slots new ≡ slots old)
+      → ((old : S) (taken : Taken) (new : S) → takes old taken new → slots new ≡ slots old)
+      → SourceLaws marks (only_takes takes) WaitsNowhere slots
+  laws_of_takes slots below mark take = record {
+    names_below = below;
+    mark_keeps = mark;
+    take_keeps = take;
+    register_keeps = λ old new same. ap slots same;
+    take_needs = λ old taken new h n waits. waits;
+    register_needs = λ old new same n waits. waits;
+  }
+
+  -- it waits at no place for good
+  abbrev pub never_waits : WaitsForGood marks (only_takes takes) WaitsNowhere
+  never_waits = record {
+    covered = λ s. refl;
+    mark_waits = λ old i woke new h n. (λ waits. waits, λ waits. waits);
+    take_waits = λ old taken new h n. (λ waits. waits, λ waits. waits);
+    register_waits = λ old new h n. (λ waits. waits, λ waits. waits);
+  }

@@ -1,6 +1,7 @@
 //! The source of one caller: a ready core, whose wakers do nothing.
-ghost use Rattle.std.specs.Prelude.{◌≡◌};
-ghost use Rattle.futures_buffered_core.specs.ReadyCore.{Marks, Takes};
+ghost use Rattle.futures.specs.Task.{IsArmed, Keeps};
+ghost use Rattle.futures_buffered_core.specs.ReadyCore.{Marks, Takes, core_laws};
+ghost use Rattle.futures_buffered_core.specs.ReadySource.{WaitsNowhere, never_waits, only_takes};
 
 use crate::ready_core::{NewFault, ReadyCore, Taken, Woke};
 use crate::ready_source::{NewSource, ReadySource, SlotHandle, SlotWaker};
@@ -42,31 +43,19 @@ impl Model for CoreSource {
 }
 
 impl ReadySource for CoreSource {
-    ghost use Rattle.futures.specs.Task.{IsArmed, Keeps};
-
     type Waker = NoopWaker;
 
     ghost slots = { λ s. s.capacity };
 
     ghost marks = { Marks };
 
-    ghost steps = { record { registers = λ old new. new ≡ old; takes = Takes } };
+    ghost steps = { only_takes Takes };
 
     ghost registers_poll = { λ _ old new. IsArmed new × Keeps old new };
 
-    ghost needs = { λ _ _. ⊥ };
+    ghost needs = { WaitsNowhere };
 
-    ghost names_below = { λ old i new h. h.1 };
-
-    ghost mark_keeps = { λ old i woke new h. h.1 };
-
-    ghost take_keeps = { λ old taken new h. h.2 };
-
-    ghost register_keeps = { λ old new h. Prim.cc (h) };
-
-    ghost take_needs = { λ old taken new h n k. k };
-
-    ghost register_needs = { λ old new h n k. k };
+    ghost laws = { core_laws };
 
     fn capacity(&self) -> usize {
         self.core.capacity()
@@ -90,7 +79,7 @@ impl ReadySource for CoreSource {
 }
 
 impl NewSource for CoreSource {
-    ghost use Rattle.std.specs.Prelude.{◌≡◌, [], refl};
+    ghost use Rattle.std.specs.Prelude.{◌≡◌, []};
 
     type Env = ();
 
@@ -98,13 +87,7 @@ impl NewSource for CoreSource {
 
     ghost made_slots = { λ cap new h. Prim.cc (h) };
 
-    ghost covered = { λ s. refl };
-
-    ghost mark_waits = { λ old i woke new h n. (λ k. k, λ k. k) };
-
-    ghost take_waits = { λ old taken new h n. (λ k. k, λ k. k) };
-
-    ghost register_waits = { λ old new h n. (λ k. k, λ k. k) };
+    ghost waits = { never_waits Marks Takes };
 
     fn make(_env: &(), alloc: Global, cap: usize) -> Result<CoreSource, NewFault> {
         let core = ReadyCore::new(alloc, cap)?;

@@ -1,13 +1,13 @@
 //! Which slots are marked, and which one is named next.
 //!
 //! Events are marks and takings. A mark of a slot is unserved until a taking names that slot. A taking names the slot whose unserved mark is oldest. Nothing here waits, and after construction nothing takes memory but `run`, for its replies.
-ghost use Rattle.std.specs.Prelude.{◌≡◌, ◌+◌, ◌<◌, [], IfOk, ℕ, List, ◌++◌, length, slice_set, OnOk, OnErr, nat_eq, vec_len};
+ghost use Rattle.std.specs.Prelude.{◌≡◌, ◌+◌, ◌<◌, [], ℕ, List, ◌++◌, length, slice_set, OnOk, OnErr, nat_eq, vec_len};
 ghost use Rattle.std.specs.List.{IsDistinct};
 ghost use Rattle.futures_buffered_core.specs.ReadyCore.{MarkGives, TakeGives, IsNameBelow};
 ghost use Rattle.futures_buffered_core.specs.declared.ready_core.Reply.{Reply};
 ghost use Rattle.futures_buffered_core.specs.History.{Answers};
 ghost use Rattle.futures_buffered_core.specs.WrongName.{NamesAllBelow, IsFirstWrong};
-ghost use Rattle.futures_buffered_table.specs.Answer.{RefusesTooLarge};
+ghost use Rattle.futures_buffered_core.specs.Made.{MakesSlots};
 
 use crate::wrong_name::first_wrong;
 pub use futures_buffered_table::answer::{MAX_CAPACITY, NewFault, Taken, Woke};
@@ -83,8 +83,7 @@ impl ReadyCore {
     ///
     /// Takes time and memory in proportion to `cap`: `cap` marks and `cap + 1` links, so that no later call takes any. `Memory` where a request for that room was refused.
     pub fn new(alloc: Global, cap: usize) -> Result<Self, NewFault>
-        ensures empty { IfOk result (λ core. core ≡ record { capacity = cap; marked = [] }) }
-        ensures refuses { RefusesTooLarge cap result }
+        ensures { MakesSlots cap (λ core. core ≡ record { capacity = cap; marked = [] }) result }
     {
         if cap > MAX_CAPACITY {
             return Err(NewFault::TooLarge);

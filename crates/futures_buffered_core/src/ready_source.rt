@@ -6,9 +6,8 @@ ghost use Rattle.futures.specs.Task.{Covers, Keeps};
 ghost use Rattle.futures.specs.declared.task.context.Context.{Context};
 ghost use Rattle.futures_buffered_table.specs.declared.answer.Woke.{Woke};
 ghost use Rattle.futures_buffered_table.specs.declared.answer.Taken.{Taken};
-ghost use Rattle.futures_buffered_table.specs.declared.answer.Taken.TheVariants.{Slot};
-ghost use Rattle.futures_buffered_table.specs.Answer.{RefusesTooLarge};
-ghost use Rattle.futures_buffered_core.specs.ReadySource.{SourceSteps, WaitsAlike};
+ghost use Rattle.futures_buffered_core.specs.Made.{MakesSlots};
+ghost use Rattle.futures_buffered_core.specs.ReadySource.{SourceLaws, SourceSteps, WaitsAlike, WaitsForGood};
 
 pub use crate::core_source::{CoreSource, NoopWaker};
 use crate::ready_core::{NewFault, Taken, Woke};
@@ -75,25 +74,8 @@ pub trait ReadySource: Drop {
         ensures covered { Covers cx.new (needs self.old) }
         ensures kept { Keeps cx.old cx.new };
 
-    // A slot that is named is below the capacity.
-    ghost names_below: { (old : Self) (i : ℕ) (new : Self) →
-        steps.takes old (Slot i) new → i < slots old };
-
-    // The capacity stays.
-    ghost mark_keeps: { (old : Self) (i : ℕ) (woke : Woke) (new : Self) →
-        marks old i woke new → slots new ≡ slots old };
-
-    ghost take_keeps: { (old : Self) (taken : Taken) (new : Self) →
-        steps.takes old taken new → slots new ≡ slots old };
-
-    ghost register_keeps: { (old new : Self) → steps.registers old new → slots new ≡ slots old };
-
-    // A registration waits no longer at more places than before.
-    ghost take_needs: { (old : Self) (taken : Taken) (new : Self) →
-        steps.takes old taken new → (n : ℕ) → needs new n → needs old n };
-
-    ghost register_needs: { (old new : Self) →
-        steps.registers old new → (n : ℕ) → needs new n → needs old n };
+    // Names are below the capacity, the capacity stays, and no call waits at a new place.
+    ghost laws: { SourceLaws marks steps needs slots };
 }
 
 /// A source that a set can make for itself, and to which it can add others beside it.
@@ -106,30 +88,19 @@ pub trait NewSource: ReadySource {
 
     /// A source of `cap` slots. Takes time and memory in proportion to `cap`, so that no later call takes any.
     fn make(env: &Self::Env, alloc: Global, cap: usize) -> Result<Self, NewFault>
-        ensures made { IfOk result (made cap) }
-        ensures refuses { RefusesTooLarge cap result };
+        ensures { MakesSlots cap (made cap) result };
 
     /// A source of `cap` slots beside this one: a fresh wake of either wakes the task that registered last at either. So in one poll that asks both, one registration covers both.
     ///
     /// Takes time and memory as `make` does, and where it is refused nothing changes.
     fn make_sibling(&mut self, alloc: Global, cap: usize) -> Result<Self, NewFault>
-        ensures made { IfOk result (made cap) }
+        ensures source { MakesSlots cap (made cap) result }
         ensures beside { IfOk result (WaitsAlike Self.needs self.old) }
-        ensures same { self.new ≡ self.old }
-        ensures refuses { RefusesTooLarge cap result };
+        ensures same { self.new ≡ self.old };
 
     // A new source has the capacity that was asked for.
     ghost made_slots: { (cap : ℕ) (new : Self) → made cap new → Self.slots new ≡ cap };
 
-    // A source at which nobody registers, since a source beside it did, is as after a registration.
-    ghost covered: { (s : Self) → Self.steps.registers s s };
-
     // It waits at the same places for good, so sources that stand beside one another stay so.
-    ghost mark_waits: { (old : Self) (i : ℕ) (woke : Woke) (new : Self) →
-        Self.marks old i woke new → WaitsAlike Self.needs old new };
-
-    ghost take_waits: { (old : Self) (taken : Taken) (new : Self) →
-        Self.steps.takes old taken new → WaitsAlike Self.needs old new };
-
-    ghost register_waits: { (old new : Self) → Self.steps.registers old new → WaitsAlike Self.needs old new };
+    ghost waits: { WaitsForGood Self.marks Self.steps Self.needs };
 }

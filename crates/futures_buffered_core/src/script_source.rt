@@ -1,5 +1,8 @@
 //! The source of a test: it names what a list says.
 ghost use Rattle.std.specs.Prelude.{◌≡◌, ◌≢◌, ℕ, IfOk, OnOk, length};
+ghost use Rattle.futures.specs.Task.{IsArmed, Keeps};
+ghost use Rattle.futures_buffered_core.specs.ReadySource.{WaitsNowhere, laws_of_takes, only_takes};
+ghost use Rattle.futures_buffered_core.specs.ScriptSource.{MarksNothing, TakesNext};
 ghost use Rattle.futures_buffered_core.specs.WrongName.{NamesAllBelow, IsFirstWrong};
 
 use crate::core_source::NoopWaker;
@@ -65,32 +68,20 @@ impl ScriptSource {
 }
 
 impl ReadySource for ScriptSource {
-    ghost use Rattle.futures.specs.Task.{IsArmed, Keeps};
-    ghost use Rattle.futures_buffered_core.specs.ScriptSource.{TakesNext, MarksNothing};
-
     type Waker = NoopWaker;
 
     ghost slots = { λ s. s.capacity };
 
     ghost marks = { MarksNothing };
 
-    ghost steps = { record { registers = λ old new. new ≡ old; takes = TakesNext } };
+    ghost steps = { only_takes TakesNext };
 
     ghost registers_poll = { λ _ old new. IsArmed new × Keeps old new };
 
-    ghost needs = { λ _ _. ⊥ };
+    ghost needs = { WaitsNowhere };
 
-    ghost names_below = { λ old i new h. h.1 };
-
-    ghost mark_keeps = { λ old i woke new h. Prim.cc (h.1) };
-
-    ghost take_keeps = { λ old taken new h. h.2 };
-
-    ghost register_keeps = { λ old new h. Prim.cc (h) };
-
-    ghost take_needs = { λ old taken new h n k. k };
-
-    ghost register_needs = { λ old new h n k. k };
+    ghost laws = { laws_of_takes MarksNothing TakesNext (λ s. s.capacity) (λ old i new h. h.1)
+        (λ old i woke new h. Prim.cc (h.1)) (λ old taken new h. h.2) };
 
     fn capacity(&self) -> usize {
         self.capacity

@@ -7,7 +7,7 @@ ghost use Rattle.std.specs.VecDeque.{deque_capacity};
 ghost use Rattle.std.specs.Option.{option_copied_mut};
 ghost use Rattle.std.specs.Option.Follows.{option_follows_value};
 ghost use Rattle.std.specs.Borrow.{sem};
-ghost use Rattle.futures_buffered_table.specs.Answer.{RefusesTooLarge};
+ghost use Rattle.futures_buffered_core.specs.Made.{MakesSlots};
 ghost use Rattle.futures_buffered_core.specs.Drawn.{Draws, IsFiniteSource, RefusesTooMany};
 ghost use Rattle.futures_buffered_core.specs.SlotMap.{value_in, held_count, slot_count, no_slots, all_slots, with_slot_freed, IsFull, Inserts, IsFirstHeld, NoneHeldFrom};
 
@@ -84,8 +84,7 @@ impl<F: Drop> PinSlotMap<F> {
     ///
     /// Takes time and memory in proportion to `capacity`. `Memory` where a request for memory was refused.
     pub fn new(alloc: Global, capacity: usize) -> Result<Self, NewFault>
-        ensures empty { IfOk result (λ m. m ≡ no_slots capacity) }
-        ensures refuses { RefusesTooLarge capacity result }
+        ensures { MakesSlots capacity (λ m. m ≡ no_slots capacity) result }
     {
         if capacity > MAX_CAPACITY {
             return Err(NewFault::TooLarge);

@@ -48,17 +48,14 @@ impl<S: ReadySource> ReadySource for DroppedSource<S> {
 
     ghost needs = { λ s n. S.needs s.source n };
 
-    ghost names_below = { λ old i new h. S.names_below old.source i new.source h };
-
-    ghost mark_keeps = { λ old i woke new h. S.mark_keeps old.source i woke new.source h };
-
-    ghost take_keeps = { λ old taken new h. S.take_keeps old.source taken new.source h };
-
-    ghost register_keeps = { λ old new h. S.register_keeps old.source new.source h };
-
-    ghost take_needs = { λ old taken new h n k. S.take_needs old.source taken new.source h n k };
-
-    ghost register_needs = { λ old new h n k. S.register_needs old.source new.source h n k };
+    ghost laws = { record {
+      names_below = λ old i new h. S.laws.names_below old.source i new.source h;
+      mark_keeps = λ old i woke new h. S.laws.mark_keeps old.source i woke new.source h;
+      take_keeps = λ old taken new h. S.laws.take_keeps old.source taken new.source h;
+      register_keeps = λ old new h. S.laws.register_keeps old.source new.source h;
+      take_needs = λ old taken new h n k. S.laws.take_needs old.source taken new.source h n k;
+      register_needs = λ old new h n k. S.laws.register_needs old.source new.source h n k;
+    } };
 
     fn capacity(&self) -> usize {
         self.source.capacity()
@@ -88,13 +85,12 @@ impl<S: NewSource<Env = ()>> NewSource for DroppedSource<S> {
 
     ghost made_slots = { λ cap new h. S.made_slots cap new.source h };
 
-    ghost covered = { λ s. S.covered s.source };
-
-    ghost mark_waits = { λ old i woke new h. S.mark_waits old.source i woke new.source h };
-
-    ghost take_waits = { λ old taken new h. S.take_waits old.source taken new.source h };
-
-    ghost register_waits = { λ old new h. S.register_waits old.source new.source h };
+    ghost waits = { record {
+      covered = λ s. S.waits.covered s.source;
+      mark_waits = λ old i woke new h. S.waits.mark_waits old.source i woke new.source h;
+      take_waits = λ old taken new h. S.waits.take_waits old.source taken new.source h;
+      register_waits = λ old new h. S.waits.register_waits old.source new.source h;
+    } };
 
     fn make(env: &Counter, alloc: Global, cap: usize) -> Result<DroppedSource<S>, NewFault> {
         let source = S::make(&(), alloc, cap)?;

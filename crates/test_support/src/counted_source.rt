@@ -1,6 +1,6 @@
 //! A source whose drops and registrations are counted, that is made only as often as a test allows, and that leaves the task's waker to the test.
-ghost use Rattle.std.specs.Prelude.{◌≡◌};
-ghost use Rattle.futures_buffered_core.specs.ReadyCore.{Marks, Takes};
+ghost use Rattle.futures_buffered_core.specs.ReadyCore.{Marks, Takes, core_laws};
+ghost use Rattle.futures_buffered_core.specs.ReadySource.{WaitsNowhere, never_waits, only_takes};
 
 use crate::counter::{Counter, new_counter};
 use crate::dropped::Dropped;
@@ -86,23 +86,13 @@ impl ReadySource for CountedSource {
 
     ghost marks = { Marks };
 
-    ghost steps = { record { registers = λ old new. new ≡ old; takes = Takes } };
+    ghost steps = { only_takes Takes };
 
     ghost registers_poll = { λ _ old new. IsArmed new × Keeps old new };
 
-    ghost needs = { λ _ _. ⊥ };
+    ghost needs = { WaitsNowhere };
 
-    ghost names_below = { λ old i new h. h.1 };
-
-    ghost mark_keeps = { λ old i woke new h. h.1 };
-
-    ghost take_keeps = { λ old taken new h. h.2 };
-
-    ghost register_keeps = { λ old new h. Prim.cc (h) };
-
-    ghost take_needs = { λ old taken new h n k. k };
-
-    ghost register_needs = { λ old new h n k. k };
+    ghost laws = { core_laws };
 
     fn capacity(&self) -> usize {
         self.core.capacity()
@@ -130,7 +120,7 @@ impl ReadySource for CountedSource {
 }
 
 impl NewSource for CountedSource {
-    ghost use Rattle.std.specs.Prelude.{◌≡◌, [], refl};
+    ghost use Rattle.std.specs.Prelude.{◌≡◌, []};
 
     type Env = SourceLog;
 
@@ -138,13 +128,7 @@ impl NewSource for CountedSource {
 
     ghost made_slots = { λ cap new h. Prim.cc (h) };
 
-    ghost covered = { λ s. refl };
-
-    ghost mark_waits = { λ old i woke new h n. (λ k. k, λ k. k) };
-
-    ghost take_waits = { λ old taken new h n. (λ k. k, λ k. k) };
-
-    ghost register_waits = { λ old new h n. (λ k. k, λ k. k) };
+    ghost waits = { never_waits Marks Takes };
 
     fn make(env: &SourceLog, alloc: Global, cap: usize) -> Result<CountedSource, NewFault> {
         if cap <= MAX_CAPACITY && env.left.load(SeqCst) == 0 {

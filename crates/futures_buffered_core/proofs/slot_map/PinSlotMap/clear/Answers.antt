@@ -1,6 +1,5 @@
-use Rattle.std.proofs.Common.{◌≡◌, ◌++◌, ◌∷◌, [], ℕ, List, Option, None, length, take, ap, sym, ◌∙◌, arith, length-set}
+use Rattle.std.proofs.Common.{◌≡◌, ◌++◌, ◌∷◌, [], ℕ, List, Option, None, length, ap, sym, ◌∙◌, arith, length-set}
 use Rattle.std.proofs.lemmas.List.{take_more_set, replicate_more, take_all}
-use Rattle.std.proofs.lemmas.Grind.{common_steps}
 use Rattle.futures_buffered_core.specs.SlotMap.{slot_count}
 use Rattle.futures_buffered_core.proofs.RangeLemmas.{range_push}
 use Rattle.futures_buffered_core.proofs.SlotMapLemmas.{KeepsPlaces-new}
