@@ -1,14 +1,31 @@
 -- What the items of a source make of what they go into, one after another.
-use Rattle.std.specs.Prelude.{◌<◌, ◌⊎◌, ℕ, List, Some, max}
+use Rattle.std.specs.Prelude.{◌≡◌, ◌<◌, ◌≤◌, ◌⊎◌, ℕ, List, Some, Result, Err, IfOk, IfErr}
+use Rattle.std.specs.Prelude.{OnOk, max}
 use Rattle.std.specs.Iterator.{YieldsThen}
 use Rattle.std.specs.List.{FoldsTo}
 use Rattle.futures_buffered_core.specs.Drawn.{SourceOf, IteratorOf, Draws, DrawsAndOne, SaysAtLeast}
+use Rattle.futures_buffered_core.specs.Drawn.{RefusesTooMany}
+use Rattle.futures_buffered_table.specs.declared.answer.NewFault.{NewFault}
+use Rattle.futures_buffered_table.specs.declared.answer.NewFault.TheVariants.{TooLarge}
 use Rattle.futures_buffered_table.specs.declared.answer.TheConstants.{MAX_CAPACITY}
 
 module _ {U F I X : Type 0} (by : SourceOf U F I) (gives : IteratorOf I F) (source : U) where
   -- what holds all items that came
   abbrev pub HoldsAllOf : (List F → X → Type 0) → X → Type 0
   HoldsAllOf holds new = (items : List F) × Draws by gives source items × holds items new
+
+  -- What a constructor makes that gives each item a slot, or why it makes nothing.
+  pub record MakesFull
+      (slots : X → ℕ)
+      (is_full_of : List F → X → Type 0)
+      (result : Result X NewFault)
+      : Type 0 where
+    -- it holds all that came
+    pub holds : IfOk result (HoldsAllOf is_full_of)
+    -- it has no more slots than there may be
+    pub fits : IfOk result (λ made. slots made ≤ MAX_CAPACITY)
+    -- it is `TooLarge` only where more came
+    pub large : RefusesTooMany by gives source result
 
   -- These items came and went in. The next one came, was refused, and had to go back. No further
   -- one was asked for.
@@ -35,6 +52,31 @@ module _ {U F I X : Type 0} (by : SourceOf U F I) (gives : IteratorOf I F) (sour
       × FoldsTo adds start items stopped
       × is_at_bound stopped
 
+  -- What a call makes of old that adds each item, and what it does with the first that is refused.
+  pub record Extends
+      (adds : X → F → X → Type 0)
+      (refuses : X → X → Type 0)
+      (old : X)
+      (result : Result (Unit {0}) F)
+      (new : X)
+      : Type 0 where
+    -- all that came went in, in order
+    pub all : OnOk result (HoldsAllOf (FoldsTo adds old) new)
+    -- or the first that was refused came back, and no further one was asked for
+    pub stops : IfErr result (λ back. ExtendsUntil adds refuses old back new)
+
+  -- What a constructor makes that adds each item to what begins so, or why it makes nothing.
+  pub record MakesExtended
+      (adds : X → F → X → Type 0)
+      (is_at_bound : X → Type 0)
+      (start : X)
+      (result : Result X NewFault)
+      : Type 0 where
+    -- all that came went in, in order
+    pub holds : IfOk result (HoldsAllOf (FoldsTo adds start))
+    -- it is `TooLarge` only where nothing more went in
+    pub large : result ≡ Err TooLarge → StopsAtBound adds is_at_bound start
+
   module _ (first : ℕ) (starts : ℕ → X → Type 0) (adds : X → F → X → Type 0) where
     -- what began with room for as many items as the source said that there are at least, and
     -- for no fewer than the first number, and then took in all that came
@@ -52,3 +94,10 @@ module _ {U F I X : Type 0} (by : SourceOf U F I) (gives : IteratorOf I F) (sour
         × ((MAX_CAPACITY < max least first) ⊎ ((start : X)
         × starts (max least first) start
         × StopsAtBound adds is_at_bound start))
+
+    -- What a constructor makes that begins with such room, or why it makes nothing.
+    pub record MakesGrown (is_at_bound : X → Type 0) (result : Result X NewFault) : Type 0 where
+      -- all that came went in, in order
+      pub holds : IfOk result GrowsByAllOf
+      -- it is `TooLarge` only where it could not begin so, or nothing more went in
+      pub large : result ≡ Err TooLarge → Outgrows is_at_bound

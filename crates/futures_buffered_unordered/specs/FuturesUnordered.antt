@@ -1,6 +1,6 @@
 -- What a contract sees of a set that grows, and what its calls make of it.
 use Rattle.std.specs.Prelude.{◌≡◌, ◌↔◌, ℕ, ◌+◌, ◌-◌, ◌*◌, ◌<◌, List, [], ◌∷◌, ◌++◌, ◌⊎◌, Option, None}
-use Rattle.std.specs.Prelude.{IfNone, refl}
+use Rattle.std.specs.Prelude.{IfNone, refl, Result, OnOk, OnErr}
 use Rattle.std.specs.List.{sum_by, All, FoldsTo}
 use Rattle.std.specs.Coded.{Coded, code_by, coded×, coded_ℕ}
 use Rattle.futures.specs.Task.{Covers, Keeps}
@@ -129,6 +129,26 @@ module _ {F S : Type 0} where
   -- as a set may hold
   abbrev pub SetMayRefuse : Growing F S → Type 0
   SetMayRefuse set = (held_in_all set.groups.listed ≡ MAX_HELD) ⊎ LastIsFull set.groups.listed
+
+  -- What a push makes of a set that grows, or that it leaves the set as it was.
+  pub record PushesOrStays
+      {E : Type 0}
+      (marks : S → ℕ → Woke → S → Type 0)
+      (made : ℕ → S → Type 0)
+      (old : Growing F S)
+      (value : F)
+      (result : Result (Unit {0}) E)
+      (new : Growing F S)
+      : Type 0 where
+    -- the value went into the last group, or into one that was made behind it
+    pub pushed : OnOk result (GrowingPushes marks made FIRST_GROUP old value new)
+    -- one value more is held
+    pub count : OnOk result
+        (held_in_all new.groups.listed ≡ held_in_all old.groups.listed + 1)
+    -- or nothing has changed
+    pub same : OnErr result (new ≡ old)
+    -- then as many were held as may be, or a group would have had to be made
+    pub room : OnErr result (SetMayRefuse old)
 
   -- one group of so many slots, or none where that number is 0
   abbrev pub IsNewGrowing : (ℕ → S → Type 0) → ℕ → ℕ → Growing F S → Type 0

@@ -1,6 +1,6 @@
 -- What a contract sees of a bounded set, and what its calls make of it.
 use Rattle.std.specs.Prelude.{◌≡◌, ◌⊎◌, ℕ, ◌+◌, ◌<◌, List, ◌++◌, map, length, Option, Some, None}
-use Rattle.std.specs.Prelude.{IfNone, OnSome, is_some, refl}
+use Rattle.std.specs.Prelude.{IfNone, OnSome, is_some, refl, Result, OnOk, IfErr}
 use Rattle.std.specs.List.{FoldsTo, range_with_len}
 use Rattle.std.specs.Option.{option_to_list}
 use Rattle.std.specs.Coded.{Coded, code_by, coded×, coded_ℕ}
@@ -10,7 +10,7 @@ use Rattle.futures.specs.declared.task.context.Context.{Context}
 use Rattle.futures.specs.declared.task.Poll.{Poll}
 use Rattle.futures.specs.declared.task.Poll.TheVariants.{Ready, Pending}
 use Rattle.futures_buffered_core.specs.SlotMap.{Slots, slots_code, held_count, slot_count, no_slots}
-use Rattle.futures_buffered_core.specs.SlotMap.{all_slots, value_in, with_slot_freed, Inserts}
+use Rattle.futures_buffered_core.specs.SlotMap.{all_slots, value_in, with_slot_freed, Inserts, IsFull}
 use Rattle.futures_buffered_table.specs.declared.answer.Taken.{Taken}
 use Rattle.futures_buffered_table.specs.declared.answer.Taken.TheVariants.{Slot, Empty, Pause}
 use Rattle.futures_buffered_table.specs.declared.answer.Woke.{Woke}
@@ -103,6 +103,37 @@ pub record PushesAt
 abbrev pub Pushes : {F S : Type 0}
     → (S → ℕ → Woke → S → Type 0) → Bounded F S → F → Bounded F S → Type 0
 Pushes marks old value new = (i : ℕ) × PushesAt marks old i value new
+
+-- What a push makes of a set that has a free slot.
+pub record PushesOne
+    {F S : Type 0}
+    (marks : S → ℕ → Woke → S → Type 0)
+    (old : Bounded F S)
+    (value : F)
+    (new : Bounded F S)
+    : Type 0 where
+  -- the value went into the first free slot, which was marked
+  pub pushed : Pushes marks old value new
+  -- one value more is held
+  pub count : held_in new ≡ held_in old + 1
+  -- there are as many slots as before
+  pub capacity : slots_in new ≡ slots_in old
+
+-- What a push makes of any set.
+pub record PushesIfRoom
+    {F S : Type 0}
+    (marks : S → ℕ → Woke → S → Type 0)
+    (old : Bounded F S)
+    (value : F)
+    (result : Result (Unit {0}) F)
+    (new : Bounded F S)
+    : Type 0 where
+  -- the value went in
+  pub pushed : OnOk result (PushesOne marks old value new)
+  -- or no slot was free, the value comes back, and nothing has changed
+  pub full : IfErr result (λ back. (back ≡ value) × (new ≡ old) × IsFull old.slots)
+  -- there are as many slots as before
+  pub capacity : slots_in new ≡ slots_in old
 
 -- fewer names than the limit came, and then Empty or Pause; or as many as the limit, and nothing
 -- more was asked

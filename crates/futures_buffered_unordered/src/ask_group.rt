@@ -19,7 +19,7 @@ use futures_buffered_core::ready_source::NewSource;
 pub trait AskGroup<F: Drop, S: NewSource> {
     ghost use Rattle.futures.specs.declared.task.Poll.{Poll};
     ghost use Rattle.futures.specs.declared.task.context.Context.{Context};
-    ghost use Rattle.futures_buffered_unordered.specs.FuturesUnorderedBounded.{Bounded, IsNewSet};
+    ghost use Rattle.futures_buffered_unordered.specs.FuturesUnorderedBounded.{Bounded};
     ghost use Rattle.std.specs.Prelude.{Option};
 
     /// What a group gives.

@@ -1,20 +1,21 @@
 //! A set of futures that grows by groups of slots, yielded as they finish.
 //!
 //! Each group is a bounded set. A push goes into the last group, and makes one of twice its slots where it is full. A poll asks each group in turn, from the place where the poll before ended, until one gives an output. How one group is asked, `AskGroup` says. One registration of the task does for all groups.
-ghost use Rattle.std.specs.Prelude.{◌≡◌, ◌↔◌, ◌<◌, ◌≤◌, ◌+◌, ◌++◌, length, take, drop, IsTrue, Err, OnOk, OnErr, IsOk, IsErr, IfOk, IfErr, IfNone};
+ghost use Rattle.std.specs.Prelude.{◌≡◌, ◌↔◌, ◌<◌, ◌≤◌, ◌+◌, ◌++◌, length, take, drop, IsTrue, Err, OnOk, OnErr, IsErr, IfOk, IfErr, IfNone};
 ghost use Rattle.std.specs.List.{All};
 ghost use Rattle.futures.specs.Poll.{IfReady, OnPending};
 ghost use Rattle.futures.specs.Task.{Keeps};
 ghost use Rattle.futures_buffered_core.specs.Drawn.{IsFiniteSource};
 ghost use Rattle.futures_buffered_core.specs.Answer.{RefusesTooLarge};
+ghost use Rattle.futures_buffered_core.specs.Made.{MakesGroup, MakesSlots};
 ghost use Rattle.futures_buffered_core.specs.ReadyShared.{IsNewShared, MarksShared};
 ghost use Rattle.futures_buffered_core.specs.ReadySource.{WaitsAlike};
 ghost use Rattle.futures_buffered_unordered.specs.FuturesUnorderedBounded.{AsksInPart, IsNewSet, OnlyRegisters, PollAsksToEmpty, PollGives};
 ghost use Rattle.futures_buffered_unordered.specs.Groups.{GroupsGive};
 ghost use Rattle.futures_buffered_unordered.specs.GroupsStep.{AsksOne, OneLeavesTask, next_place};
-ghost use Rattle.futures_buffered_unordered.specs.FuturesUnordered.{EachHeld, EachCovered, Growing, GrowingPushes, IsAtBound, IsNewGrowing, LastIsFull, PollsGroupsTask, PollsGrowing, PushesEach, no_groups, held_in_all, capacity_of, next_capacity, spare_places, SetRefuses, SetMayRefuse};
+ghost use Rattle.futures_buffered_unordered.specs.FuturesUnordered.{EachHeld, EachCovered, Growing, GrowingPushes, IsAtBound, IsNewGrowing, LastIsFull, PollsGroupsTask, PollsGrowing, PushesOrStays, no_groups, held_in_all, capacity_of, next_capacity, spare_places, SetRefuses, SetMayRefuse};
 ghost use Rattle.futures_buffered_unordered.specs.FuturesUnorderedInvariant.{AddsGroup, PushesLast};
-ghost use Rattle.futures_buffered_unordered.specs.Extended.{ExtendsUntil, GrowsByAllOf, HoldsAllOf, Outgrows};
+ghost use Rattle.futures_buffered_unordered.specs.Extended.{Extends, MakesGrown};
 
 use crate::ask_group::{AskGroup, ByRule};
 use crate::futures_unordered_bounded::{FuturesUnorderedBounded, POLL_LIMIT};
@@ -36,7 +37,7 @@ const _: () = prove!(FIRST_GROUP == 32);
 
 /// Futures in groups of slots, or streams.
 ///
-/// A contract sees the groups, each a bounded set, the place where the next poll begins, and the limit of names that one poll takes from each group. Only the calls that make a set and a push that makes a group take memory. The calls wait for nobody where those of the source do not. A merge that grows is made of one too.
+/// A contract sees the groups, each a bounded set, the place where the next poll begins, and the limit of names that one poll takes from each group. Only the calls that make a set and a push that makes a group take memory, besides what the calls of a source take, and no call waits for anybody where those do not. A merge that grows is made of one too.
 #[derive(Drop)]
 pub struct FuturesUnordered<F: Drop, S: NewSource> {
     groups: Vec<FuturesUnorderedBounded<F, S>>,
@@ -95,9 +96,7 @@ impl<F: Drop, S: NewSource> FuturesUnordered<F, S> {
     ///
     /// Takes time and memory in proportion to `n`. `TooLarge` where `n` is above `MAX_CAPACITY`, and `Memory` where a request for memory was refused.
     pub fn over(env: S::Env, alloc: Global, n: usize) -> Result<Self, NewFault>
-        ensures empty { IfOk result (IsNewGrowing S.made n POLL_LIMIT) }
-        ensures refuses { RefusesTooLarge n result }
-        ensures none { n ≡ 0 → IsOk result }
+        ensures { MakesGroup n (IsNewGrowing S.made n POLL_LIMIT) result }
     {
         Self::over_limit(env, alloc, n, POLL_LIMIT)
     }
@@ -105,9 +104,7 @@ impl<F: Drop, S: NewSource> FuturesUnordered<F, S> {
     /// As `over`, where one poll takes at most `limit` names from each group, also from those that are made later.
     pub fn over_limit(env: S::Env, alloc: Global, n: usize, limit: usize) -> Result<Self, NewFault>
         requires { 1 ≤ limit }
-        ensures empty { IfOk result (IsNewGrowing S.made n limit) }
-        ensures refuses { RefusesTooLarge n result }
-        ensures none { n ≡ 0 → IsOk result }
+        ensures { MakesGroup n (IsNewGrowing S.made n limit) result }
     {
         let mut groups = Self::without_groups(env, alloc, limit);
         if n > 0 {
@@ -177,12 +174,11 @@ impl<F: Drop, S: NewSource> FuturesUnordered<F, S> {
 
     // An empty group beside the others.
     fn make_group(&mut self, capacity: usize) -> Result<FuturesUnorderedBounded<F, S>, NewFault>
-        ensures new { IfOk result (IsNewSet S.made capacity self.old.limit) }
+        ensures group { MakesSlots capacity (IsNewSet S.made capacity self.old.limit) result }
         ensures beside { IfOk result (λ group.
             All (λ other. WaitsAlike S.needs other.source group.source)
             self.old.groups.listed) }
         ensures same { self.new ≡ self.old }
-        ensures refuses { RefusesTooLarge capacity result }
     {
         let groups = self.groups.len();
         if groups == 0 {
@@ -237,14 +233,10 @@ impl<F: Drop, S: NewSource> FuturesUnordered<F, S> {
 
     /// Puts the value into the last group. Where that is full, or there is none, a group is made behind it: of twice as many slots, or of `FIRST_GROUP`.
     ///
-    /// The value comes back, and nothing has changed, where `MAX_HELD` values are held, where the new group would have more than `MAX_CAPACITY` slots, and where a request for memory was refused. Takes the same time at any capacity where the last group has a free place, and then no memory; else time and memory in proportion to the new group. Polls nothing, and wakes nobody.
+    /// The value comes back, and nothing has changed, where `MAX_HELD` values are held, where the new group would have more than `MAX_CAPACITY` slots, and where a request for memory was refused. Takes the same time at any capacity where the last group has a free place, and then no memory; else time and memory in proportion to the new group. Polls nothing. Count on no wake from it: a task that waits is woken only where a group is made while a wake is at the place of its waker.
     pub fn push(&mut self, value: F) -> Result<(), F>
-        ensures pushed { OnOk result
-            (GrowingPushes S.marks S.made FIRST_GROUP self.old value self.new) }
-        ensures count { OnOk result
-            (held_in_all self.new.groups.listed ≡ held_in_all self.old.groups.listed + 1) }
-        ensures back { IfErr result (λ back. (back ≡ value) × (self.new ≡ self.old)) }
-        ensures room { OnErr result (SetMayRefuse self.old) }
+        ensures push { PushesOrStays S.marks S.made self.old value result self.new }
+        ensures back { IfErr result (λ back. back ≡ value) }
         ensures large { IsAtBound self.old.groups.listed → IsErr result }
     {
         if self.held == MAX_HELD {
@@ -262,12 +254,7 @@ impl<F: Drop, S: NewSource> FuturesUnordered<F, S> {
 
     /// As `push`, for a caller that has no use for a value that is refused: it is dropped, nothing else has changed, and the error says why. So `?` takes it.
     pub fn add(&mut self, value: F) -> Result<(), NewFault>
-        ensures pushed { OnOk result
-            (GrowingPushes S.marks S.made FIRST_GROUP self.old value self.new) }
-        ensures count { OnOk result
-            (held_in_all self.new.groups.listed ≡ held_in_all self.old.groups.listed + 1) }
-        ensures same { OnErr result (self.new ≡ self.old) }
-        ensures room { OnErr result (SetMayRefuse self.old) }
+        ensures push { PushesOrStays S.marks S.made self.old value result self.new }
         ensures large { (result ≡ Err NewFault.TooLarge) ↔ IsAtBound self.old.groups.listed }
     {
         if self.push(value).is_ok() {
@@ -283,11 +270,9 @@ impl<F: Drop, S: NewSource> FuturesUnordered<F, S> {
     /// Pushes each item, in order, as `push` does. The first that is refused comes back; those before it stay, and the iterator is asked for no further one.
     pub fn extend<I: IntoIterator<Item = F>>(&mut self, iter: I) -> Result<(), F>
         requires { IsFiniteSource I.IntoIterator I.IntoIter.Iterator iter }
-        ensures all { OnOk result (HoldsAllOf I.IntoIterator I.IntoIter.Iterator iter
-            (PushesEach S.marks S.made self.old) self.new) }
-        ensures stops { IfErr result (λ back. ExtendsUntil I.IntoIterator I.IntoIter.Iterator iter (GrowingPushes S.marks S.made FIRST_GROUP)
-            (λ stopped new. SetMayRefuse stopped × (new ≡ stopped))
-            self.old back self.new) }
+        ensures { Extends I.IntoIterator I.IntoIter.Iterator iter
+            (GrowingPushes S.marks S.made FIRST_GROUP)
+            (λ stopped new. SetMayRefuse stopped × (new ≡ stopped)) self.old result self.new }
     {
         for item in iter {
             self.push(item)?;
@@ -364,7 +349,7 @@ impl<F: Drop, S: NewSource> FuturesUnordered<F, S> {
 
     /// One poll, where `rule` says how a group is asked: each group that stands as the poll begins is asked once, in turn, until one gives an output.
     ///
-    /// `Ready(None)` where each group answered the end. A group that answered the end leaves, unless it is the last. Takes no memory. Takes time in proportion to the number of groups, besides what asking them takes.
+    /// `Ready(None)` where each group answered the end. A group that answered the end leaves, unless it is the last. Takes no memory, and time in proportion to the number of groups, besides what asking them takes.
     pub fn poll_groups<R: AskGroup<F, S>>(
         &mut self,
         rule: &R,
@@ -398,7 +383,7 @@ impl<F: Drop, S: NewSource> FuturesUnordered<F, S> {
 
     /// One poll of the set, where `rule` says how one held value is polled.
     ///
-    /// `Ready(None)` where nothing is held. Else each group that stands as the poll begins is asked once, in turn, until one gives an output. A group that holds nothing leaves, unless it is the last. Registers the task once, and takes no memory. Takes time in proportion to the number of groups and to the names taken, besides the polls.
+    /// `Ready(None)` where nothing is held. Else each group that stands as the poll begins is asked once, in turn, until one gives an output. A group that holds nothing leaves, unless it is the last. Registers the task once, and takes no memory where the calls of the sources take none. Takes time in proportion to the number of groups and to the names taken, besides the polls.
     pub fn poll_with<R: PollOne<F, S::Waker>>(
         &mut self,
         rule: &R,
@@ -417,8 +402,6 @@ impl<F: Drop, S: NewSource> FuturesUnordered<F, S> {
 }
 
 impl<F: Drop> FuturesUnordered<F, SharedReady> {
-    ghost use Rattle.std.specs.Prelude.{ℕ, List, max};
-
     /// An empty set without a group, whose values are woken from any thread. Takes no memory.
     pub fn new(alloc: Global) -> Self
         ensures { result ≡ no_groups POLL_LIMIT }
@@ -428,9 +411,7 @@ impl<F: Drop> FuturesUnordered<F, SharedReady> {
 
     /// An empty set with one group of `n` slots, or none where `n` is 0, whose values are woken from any thread. It is `over` with shared sources, and refuses as `over` does.
     pub fn with_capacity(alloc: Global, n: usize) -> Result<Self, NewFault>
-        ensures empty { IfOk result (IsNewGrowing IsNewShared n POLL_LIMIT) }
-        ensures refuses { RefusesTooLarge n result }
-        ensures none { n ≡ 0 → IsOk result }
+        ensures { MakesGroup n (IsNewGrowing IsNewShared n POLL_LIMIT) result }
     {
         Self::with_limit(alloc, n, POLL_LIMIT)
     }
@@ -438,9 +419,7 @@ impl<F: Drop> FuturesUnordered<F, SharedReady> {
     /// As `with_capacity`, where one poll takes at most `limit` names from each group, also from those that are made later.
     pub fn with_limit(alloc: Global, n: usize, limit: usize) -> Result<Self, NewFault>
         requires { 1 ≤ limit }
-        ensures empty { IfOk result (IsNewGrowing IsNewShared n limit) }
-        ensures refuses { RefusesTooLarge n result }
-        ensures none { n ≡ 0 → IsOk result }
+        ensures { MakesGroup n (IsNewGrowing IsNewShared n limit) result }
     {
         Self::over_limit((), alloc, n, limit)
     }
@@ -450,20 +429,13 @@ impl<F: Drop> FuturesUnordered<F, SharedReady> {
     /// Takes time and memory in proportion to the number of items and to that first number. Where it is refused, the items that came are dropped: `TooLarge` where that number or a later group is too large, or more than `MAX_HELD` came, and `Memory` where a request for memory was refused.
     pub fn from_iter<I: IntoIterator<Item = F>>(alloc: Global, iter: I) -> Result<Self, NewFault>
         requires { IsFiniteSource I.IntoIterator I.IntoIter.Iterator iter }
-        ensures holds { IfOk result (GrowsByAllOf I.IntoIterator I.IntoIter.Iterator iter FIRST_GROUP (λ n. IsNewGrowing IsNewShared n POLL_LIMIT)
-            (GrowingPushes MarksShared IsNewShared FIRST_GROUP)) }
-        ensures large { result ≡ Err NewFault.TooLarge
-            → Outgrows I.IntoIterator I.IntoIter.Iterator iter FIRST_GROUP (λ n. IsNewGrowing IsNewShared n POLL_LIMIT)
-            (GrowingPushes MarksShared IsNewShared FIRST_GROUP) SetRefuses }
+        ensures { MakesGrown I.IntoIterator I.IntoIter.Iterator iter FIRST_GROUP
+            (λ n. IsNewGrowing IsNewShared n POLL_LIMIT)
+            (GrowingPushes MarksShared IsNewShared FIRST_GROUP) SetRefuses result }
     {
         let iter = iter.into_iter();
         let (least, _most) = iter.size_hint();
-        let first = if least > FIRST_GROUP {
-            least
-        } else {
-            FIRST_GROUP
-        };
-        let mut set = Self::with_capacity(alloc, first)?;
+        let mut set = Self::with_capacity(alloc, least.max(FIRST_GROUP))?;
         for item in iter {
             if let Err(fault) = set.add(item) {
                 return Err(fault);

@@ -1,18 +1,17 @@
 //! A set of as many futures as it has slots, yielded as they finish.
 //!
 //! Each future stands in a slot. A push marks its slot, and a future's waker marks it again. A poll takes the names of marked slots from the set's source, at most as many as its limit, and polls what these slots hold until one is ready. A slot that nobody marked costs nothing.
-ghost use Rattle.std.specs.Prelude.{◌≡◌, ◌<◌, ◌≤◌, ◌+◌, ◌==◌, ◌↔◌, List, IfOk, IfErr, OnOk, IsSome, IsTrue};
+ghost use Rattle.std.specs.Prelude.{◌≡◌, ◌<◌, ◌≤◌, ◌+◌, ◌==◌, ◌↔◌, IfOk, IsSome, IsTrue};
 ghost use Rattle.futures.specs.Task.{Covers};
 ghost use Rattle.futures.specs.Poll.{IfReady};
-ghost use Rattle.std.specs.List.{FoldsTo};
-ghost use Rattle.futures_buffered_core.specs.Answer.{RefusesTooLarge};
-ghost use Rattle.futures_buffered_core.specs.Drawn.{IsFiniteSource, RefusesTooMany};
+ghost use Rattle.futures_buffered_core.specs.Drawn.{IsFiniteSource};
+ghost use Rattle.futures_buffered_core.specs.Made.{MakesSlots};
 ghost use Rattle.futures_buffered_core.specs.ReadyShared.{IsNewShared, MarksShared};
 ghost use Rattle.futures_buffered_core.specs.ReadySource.{WaitsAlike};
 ghost use Rattle.futures_buffered_core.specs.SlotMap.{value_in, held_count, slot_count, no_slots, IsFull};
 ghost use Rattle.futures_buffered_unordered.specs.Held.{AllHeld};
-ghost use Rattle.futures_buffered_unordered.specs.FuturesUnorderedBounded.{AsksSet, AsksSetTask, AsksUntil, HoldsEach, IsNewSet, LeavesTask, PollGives, PollsSet, PollsSetTask, Pushes, emptied, with_empty_slot, with_source};
-ghost use Rattle.futures_buffered_unordered.specs.Extended.{ExtendsUntil, HoldsAllOf};
+ghost use Rattle.futures_buffered_unordered.specs.FuturesUnorderedBounded.{AsksSet, AsksSetTask, AsksUntil, HoldsEach, IsNewSet, LeavesTask, PollGives, PollsSet, PollsSetTask, Pushes, PushesIfRoom, PushesOne, emptied, slots_in, with_empty_slot, with_source};
+ghost use Rattle.futures_buffered_unordered.specs.Extended.{Extends, MakesFull};
 
 use crate::poll_one::PollOne;
 use futures::task::{Context, Poll};
@@ -30,7 +29,7 @@ const _: () = prove!(POLL_LIMIT == 61);
 
 /// Futures in slots, over a source that names the slots to poll.
 ///
-/// A contract sees what each slot holds and which slots are free, the content of the source, and the limit of names of one poll. The calls take no memory once the set is made, and wait for nobody where those of the source do not: those of `CoreSource` and `SharedReady` do not.
+/// A contract sees what each slot holds and which slots are free, the content of the source, and the limit of names of one poll. Once the set is made, its calls take no memory and wait for nobody where those of the source do neither, as those of `CoreSource` and `SharedReady`.
 #[derive(Drop)]
 pub struct FuturesUnorderedBounded<F: Drop, S: ReadySource> {
     slots: PinSlotMap<F>,
@@ -58,9 +57,8 @@ impl<F: Drop, S: ReadySource> FuturesUnorderedBounded<F, S> {
     ///
     /// Takes time and memory in proportion to that number. `Memory` where a request for it was refused. The source is dropped where the set is refused.
     pub fn with_source(alloc: Global, source: S) -> Result<Self, NewFault>
-        ensures empty { IfOk result (λ set. set
-            ≡ record { slots = no_slots (S.slots source); source = source; limit = POLL_LIMIT }) }
-        ensures refuses { RefusesTooLarge (S.slots source) result }
+        ensures { MakesSlots (S.slots source) (λ set. set
+            ≡ record { slots = no_slots (S.slots source); source = source; limit = POLL_LIMIT }) result }
     {
         Self::with_source_limit(alloc, source, POLL_LIMIT)
     }
@@ -68,9 +66,8 @@ impl<F: Drop, S: ReadySource> FuturesUnorderedBounded<F, S> {
     /// As `with_source`, where one poll takes at most `limit` names.
     pub fn with_source_limit(alloc: Global, source: S, limit: usize) -> Result<Self, NewFault>
         requires { 1 ≤ limit }
-        ensures empty { IfOk result (λ set. set
-            ≡ record { slots = no_slots (S.slots source); source = source; limit = limit }) }
-        ensures refuses { RefusesTooLarge (S.slots source) result }
+        ensures { MakesSlots (S.slots source) (λ set. set
+            ≡ record { slots = no_slots (S.slots source); source = source; limit = limit }) result }
     {
         let slots = PinSlotMap::new(alloc, source.capacity())?;
         Ok(FuturesUnorderedBounded {
@@ -79,7 +76,9 @@ impl<F: Drop, S: ReadySource> FuturesUnorderedBounded<F, S> {
             limit,
         })
     }
+}
 
+impl<F: Drop, S: NewSource> FuturesUnorderedBounded<F, S> {
     /// An empty set of `cap` slots over a source made for it, where one poll takes at most `limit` names.
     ///
     /// Takes time and memory in proportion to `cap`, and refuses as `with_source` does. The source is not known here but by what its trait says, so nobody can have marked or taken.
@@ -89,11 +88,8 @@ impl<F: Drop, S: ReadySource> FuturesUnorderedBounded<F, S> {
         cap: usize,
         limit: usize,
     ) -> Result<Self, NewFault>
-    where
-        S: NewSource,
         requires { 1 ≤ limit }
-        ensures new { IfOk result (IsNewSet S.made cap limit) }
-        ensures refuses { RefusesTooLarge cap result }
+        ensures { MakesSlots cap (IsNewSet S.made cap limit) result }
     {
         let source = S::make(env, alloc, cap)?;
         Self::with_source_limit(alloc, source, limit)
@@ -103,12 +99,9 @@ impl<F: Drop, S: ReadySource> FuturesUnorderedBounded<F, S> {
     ///
     /// Takes time and memory, and refuses, as `with_new_source` does. This set stays as it is.
     pub fn make_sibling(&mut self, alloc: Global, cap: usize) -> Result<Self, NewFault>
-    where
-        S: NewSource,
-        ensures new { IfOk result (IsNewSet S.made cap self.old.limit) }
+        ensures set { MakesSlots cap (IsNewSet S.made cap self.old.limit) result }
         ensures beside { IfOk result (λ set. WaitsAlike S.needs self.old.source set.source) }
         ensures same { self.new ≡ self.old }
-        ensures refuses { RefusesTooLarge cap result }
     {
         let source = self.source.make_sibling(alloc, cap)?;
         let slots = PinSlotMap::new(alloc, cap)?;
@@ -127,13 +120,9 @@ impl<F: Drop, S: ReadySource> FuturesUnorderedBounded<F, S> {
         alloc: Global,
         iter: I,
     ) -> Result<Self, NewFault>
-    where
-        S: NewSource,
         requires { IsFiniteSource I.IntoIterator I.IntoIter.Iterator iter }
-        ensures holds { IfOk result (HoldsAllOf I.IntoIterator I.IntoIter.Iterator iter
-            (HoldsEach S.made S.marks POLL_LIMIT)) }
-        ensures fits { IfOk result (λ set. slot_count set.slots ≤ MAX_CAPACITY) }
-        ensures large { RefusesTooMany I.IntoIterator I.IntoIter.Iterator iter result }
+        ensures { MakesFull I.IntoIterator I.IntoIter.Iterator iter slots_in
+            (HoldsEach S.made S.marks POLL_LIMIT) result }
     {
         Self::over_limit(env, alloc, iter, POLL_LIMIT)
     }
@@ -145,14 +134,10 @@ impl<F: Drop, S: ReadySource> FuturesUnorderedBounded<F, S> {
         iter: I,
         limit: usize,
     ) -> Result<Self, NewFault>
-    where
-        S: NewSource,
         requires finite { IsFiniteSource I.IntoIterator I.IntoIter.Iterator iter }
         requires some { 1 ≤ limit }
-        ensures holds { IfOk result (HoldsAllOf I.IntoIterator I.IntoIter.Iterator iter
-            (HoldsEach S.made S.marks limit)) }
-        ensures fits { IfOk result (λ set. slot_count set.slots ≤ MAX_CAPACITY) }
-        ensures large { RefusesTooMany I.IntoIterator I.IntoIter.Iterator iter result }
+        ensures { MakesFull I.IntoIterator I.IntoIter.Iterator iter slots_in
+            (HoldsEach S.made S.marks limit) result }
     {
         let slots = PinSlotMap::from_iter(alloc, iter)?;
         let mut source = S::make(env, alloc, slots.capacity())?;
@@ -165,7 +150,9 @@ impl<F: Drop, S: ReadySource> FuturesUnorderedBounded<F, S> {
             limit,
         })
     }
+}
 
+impl<F: Drop, S: ReadySource> FuturesUnorderedBounded<F, S> {
     /// The number of futures held. Takes the same time at any capacity.
     pub fn len(&self) -> usize
         ensures { result ≡ held_count self.now.slots }
@@ -207,11 +194,7 @@ impl<F: Drop, S: ReadySource> FuturesUnorderedBounded<F, S> {
     ///
     /// Takes the same time at any capacity. Polls nothing, and wakes nobody: a task that waits for this set polls it again by itself.
     pub fn try_push(&mut self, value: F) -> Result<(), F>
-        ensures ok { OnOk result (Pushes S.marks self.old value self.new) }
-        ensures count { OnOk result (held_count self.new.slots ≡ held_count self.old.slots + 1) }
-        ensures full { IfErr result (λ back. (back ≡ value) × (self.new ≡ self.old)
-            × IsFull self.old.slots) }
-        ensures capacity { slot_count self.new.slots ≡ slot_count self.old.slots }
+        ensures { PushesIfRoom S.marks self.old value result self.new }
     {
         let i = self.slots.insert_with(value, |value| value)?;
         let _woke = self.source.mark(i);
@@ -221,9 +204,7 @@ impl<F: Drop, S: ReadySource> FuturesUnorderedBounded<F, S> {
     /// As `try_push`, for a set of which `is_full` is false.
     pub fn push(&mut self, value: F)
         requires { held_count self.old.slots < slot_count self.old.slots }
-        ensures pushed { Pushes S.marks self.old value self.new }
-        ensures count { held_count self.new.slots ≡ held_count self.old.slots + 1 }
-        ensures capacity { slot_count self.new.slots ≡ slot_count self.old.slots }
+        ensures { PushesOne S.marks self.old value self.new }
     {
         match self.try_push(value) {
             Ok(()) => {}
@@ -234,10 +215,8 @@ impl<F: Drop, S: ReadySource> FuturesUnorderedBounded<F, S> {
     /// Pushes each item, in order, as `try_push` does. The first for which there is no free slot comes back; those before it stay, and the iterator is asked for no further one.
     pub fn extend<I: IntoIterator<Item = F>>(&mut self, iter: I) -> Result<(), F>
         requires { IsFiniteSource I.IntoIterator I.IntoIter.Iterator iter }
-        ensures all { OnOk result (HoldsAllOf I.IntoIterator I.IntoIter.Iterator iter
-            (FoldsTo (Pushes S.marks) self.old) self.new) }
-        ensures stops { IfErr result (λ back. ExtendsUntil I.IntoIterator I.IntoIter.Iterator iter (Pushes S.marks)
-            (λ stopped new. IsFull stopped.slots × (new ≡ stopped)) self.old back self.new) }
+        ensures extends { Extends I.IntoIterator I.IntoIter.Iterator iter (Pushes S.marks)
+            (λ stopped new. IsFull stopped.slots × (new ≡ stopped)) self.old result self.new }
         ensures capacity { slot_count self.new.slots ≡ slot_count self.old.slots }
     {
         for item in iter {
@@ -336,7 +315,7 @@ impl<F: Drop, S: ReadySource> FuturesUnorderedBounded<F, S> {
 
     /// One poll of the set, where `rule` says how one held value is polled.
     ///
-    /// `Ready(None)` where nothing is held, and then nothing was asked. Else names are taken from the source and the values named are polled, in that order, until one is ready: it is yielded, and its slot is freed. `Pending` where no further name came or the limit was reached; where the source paused and at the limit the task is woken at once. Takes no memory, and time in proportion to the names taken, besides the polls.
+    /// `Ready(None)` where nothing is held, and then nothing was asked. Else names are taken from the source and the values named are polled, in that order, until one is ready: it is yielded, and its slot is freed. `Pending` where no further name came or the limit was reached; where the source paused and at the limit the task is woken at once. Takes no memory where the calls of the source take none, and time in proportion to the names taken, besides the polls.
     pub fn poll_with<R: PollOne<F, S::Waker>>(
         &mut self,
         rule: &R,
@@ -390,14 +369,11 @@ impl<F: Drop, S: ReadySource> FuturesUnorderedBounded<F, S> {
 }
 
 impl<F: Drop> FuturesUnorderedBounded<F, SharedReady> {
-    ghost use Rattle.std.specs.Prelude.{List};
-
     /// An empty set whose values are woken from any thread.
     ///
     /// Takes time and memory in proportion to `cap`, all that the set ever needs. `Memory` where a request for it was refused.
     pub fn new(alloc: Global, cap: usize) -> Result<Self, NewFault>
-        ensures new { IfOk result (IsNewSet IsNewShared cap POLL_LIMIT) }
-        ensures refuses { RefusesTooLarge cap result }
+        ensures { MakesSlots cap (IsNewSet IsNewShared cap POLL_LIMIT) result }
     {
         Self::with_limit(alloc, cap, POLL_LIMIT)
     }
@@ -405,8 +381,7 @@ impl<F: Drop> FuturesUnorderedBounded<F, SharedReady> {
     /// As `new`, where one poll takes at most `limit` names.
     pub fn with_limit(alloc: Global, cap: usize, limit: usize) -> Result<Self, NewFault>
         requires { 1 ≤ limit }
-        ensures new { IfOk result (IsNewSet IsNewShared cap limit) }
-        ensures refuses { RefusesTooLarge cap result }
+        ensures { MakesSlots cap (IsNewSet IsNewShared cap limit) result }
     {
         Self::with_new_source(&(), alloc, cap, limit)
     }
@@ -414,10 +389,8 @@ impl<F: Drop> FuturesUnorderedBounded<F, SharedReady> {
     /// A set without a free slot, which holds item k in slot k, each marked, in this order, and whose values are woken from any thread. It is `over` with a shared source, and refuses as `over` does.
     pub fn from_iter<I: IntoIterator<Item = F>>(alloc: Global, iter: I) -> Result<Self, NewFault>
         requires { IsFiniteSource I.IntoIterator I.IntoIter.Iterator iter }
-        ensures holds { IfOk result (HoldsAllOf I.IntoIterator I.IntoIter.Iterator iter
-            (HoldsEach IsNewShared MarksShared POLL_LIMIT)) }
-        ensures fits { IfOk result (λ set. slot_count set.slots ≤ MAX_CAPACITY) }
-        ensures large { RefusesTooMany I.IntoIterator I.IntoIter.Iterator iter result }
+        ensures { MakesFull I.IntoIterator I.IntoIter.Iterator iter slots_in
+            (HoldsEach IsNewShared MarksShared POLL_LIMIT) result }
     {
         Self::over(&(), alloc, iter)
     }

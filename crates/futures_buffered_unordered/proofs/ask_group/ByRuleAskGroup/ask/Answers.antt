@@ -5,13 +5,13 @@ pub returns-then-is_registered-clause-keeps : goal.returns-then-is_registered-cl
 returns-then-is_registered-clause-keeps g c =
     let source = g.S.ReadySource in
     let it = c.poll_registered in
-    keeps_polled source.needs g.R.PollOne.polled source.steps g.met.S.NewSource.register_waits g.met.S.NewSource.take_waits _ _ _ it.ensures.polled it.ensures.set.capacity it.ensures.set.limit
+    keeps_polled source.needs g.R.PollOne.polled source.steps g.met.S.NewSource.waits.register_waits g.met.S.NewSource.waits.take_waits _ _ _ it.ensures.polled it.ensures.set.capacity it.ensures.set.limit
 
 pub returns-else-is_registered-clause-keeps : goal.returns-else-is_registered-clause-keeps
 returns-else-is_registered-clause-keeps g c =
     let source = g.S.ReadySource in
     let it = c.poll_with in
-    keeps_polled source.needs g.R.PollOne.polled source.steps g.met.S.NewSource.register_waits g.met.S.NewSource.take_waits _ _ _ it.ensures.polled it.ensures.set.capacity it.ensures.set.limit
+    keeps_polled source.needs g.R.PollOne.polled source.steps g.met.S.NewSource.waits.register_waits g.met.S.NewSource.waits.take_waits _ _ _ it.ensures.polled it.ensures.set.capacity it.ensures.set.limit
 
 pub returns-then-is_registered-clause-task : goal.returns-then-is_registered-clause-task
 returns-then-is_registered-clause-task g c =

@@ -21,7 +21,7 @@ invariant_of-self g c =
     let room = subst (λ (v : Growing g.row.F.Denot g.row.S.Denot). 0 < spare_places v.groups.listed) (sym c.self.view_is) c.requires.room in
     let last : c.len-last.result - 1 + 1 ≡ length c.self.inside.groups.items = omega (arith, spare_some c.self.inside.groups.items room, c.len-last.ensures) in
     let few = subst (λ (v : Growing g.row.F.Denot g.row.S.Denot). held_in_all v.groups.listed < 9223372036854775807) (sym c.self.view_is) c.requires.few in
-    let kind : SameKind g.S.ReadySource.needs c.index_mut.result.now c.push.new.self = record { same_slots = c.push.ensures.capacity; same_limit = c.push.ensures.pushed.1.same_limit; waits = g.met.S.NewSource.mark_waits _ _ _ _ c.push.ensures.pushed.1.marked } in
+    let kind : SameKind g.S.ReadySource.needs c.index_mut.result.now c.push.new.self = record { same_slots = c.push.ensures.capacity; same_limit = c.push.ensures.pushed.1.same_limit; waits = g.met.S.NewSource.waits.mark_waits _ _ _ _ c.push.ensures.pushed.1.marked } in
     keeps_grown g.S.ReadySource.needs _ _ _ _ _ _ c.self.invariant last c.index_mut.ensures.value kind c.push.ensures.count (omega (arith, few, c.self.invariant.counted))
 
 pub returns-clause-pushed : goal.returns-clause-pushed

@@ -26,14 +26,14 @@ returns-in-Ready-clause-polled g c =
     λ before first. ready_after rule.can_poll rule.polled source.steps c.args.self.now before first _ _ c.in-Slot.i slots _ _ _ c.poll_one.new.held c.in-Ready.output c.names.invariant.so_far c.names.invariant.same_limit (omega (arith, ap (λ (v : Bounded g.row.F.Denot g.row.S.Denot). v.limit) c.self.view_is)) c.in-Slot.ensures (sym c.in-Some.ensures.value) (c.in-Ready.ensures.polled c.in-Slot.i c.waker-waker.ensures)
 
 pub returns-in-Ready-clause-still_covered : goal.returns-in-Ready-clause-still_covered
-returns-in-Ready-clause-still_covered g c = (c.names.invariant.covers.0, λ n h. c.names.invariant.covers.1 n (g.met.S.ReadySource.take_needs _ _ _ c.in-Slot.ensures n h))
+returns-in-Ready-clause-still_covered g c = (c.names.invariant.covers.0, λ n h. c.names.invariant.covers.1 n (g.met.S.ReadySource.laws.take_needs _ _ _ c.in-Slot.ensures n h))
 
 pub names-preserved : goal.names-preserved
 names-preserved g c =
     let source = g.S.ReadySource in
     let rule = g.R.PollOne in
     let slots = c.names.self-inside.slots in
-    let keeps = g.met.S.ReadySource.take_keeps _ _ _ c.in-Slot.ensures ∙ c.names.invariant.same_size in
+    let keeps = g.met.S.ReadySource.laws.take_keeps _ _ _ c.in-Slot.ensures ∙ c.names.invariant.same_size in
     elim c.match-get.branch [
       | in-Some+in_default-poll_one w ↦ rw w.self-inside-is (record {
         so_far = SoFar-pending rule.can_poll rule.polled source.steps c.args.self.now _ c.in-Slot.i slots _ _ _ w.poll_one.new.held c.names.invariant.so_far c.in-Slot.ensures (sym w.in-Some.ensures.value) (w.in_default-poll_one.ensures.polled c.in-Slot.i c.waker-waker.ensures) w.in_default-poll_one.ensures.again;
@@ -43,7 +43,7 @@ names-preserved g c =
         some_names = c.names.invariant.some_names;
         same_limit = c.names.invariant.same_limit;
         same_slots = λ j. same-with slots c.in-Slot.i j _ w.poll_one.new.held w.in-Some.ensures.value ∙ c.names.invariant.same_slots j;
-        covers = (c.names.invariant.covers.0, λ n h. c.names.invariant.covers.1 n (g.met.S.ReadySource.take_needs _ _ _ c.in-Slot.ensures n h));
+        covers = (c.names.invariant.covers.0, λ n h. c.names.invariant.covers.1 n (g.met.S.ReadySource.laws.take_needs _ _ _ c.in-Slot.ensures n h));
         same_context = c.names.invariant.same_context;
       })
       | in_default w ↦ rw w.self-inside-is (record {
@@ -54,7 +54,7 @@ names-preserved g c =
         some_names = c.names.invariant.some_names;
         same_limit = c.names.invariant.same_limit;
         same_slots = c.names.invariant.same_slots;
-        covers = (c.names.invariant.covers.0, λ n h. c.names.invariant.covers.1 n (g.met.S.ReadySource.take_needs _ _ _ c.in-Slot.ensures n h));
+        covers = (c.names.invariant.covers.0, λ n h. c.names.invariant.covers.1 n (g.met.S.ReadySource.laws.take_needs _ _ _ c.in-Slot.ensures n h));
         same_context = c.names.invariant.same_context;
       })
     ]
@@ -69,7 +69,7 @@ returns-in-Empty-clause-task g c =
     let source = g.S.ReadySource in
     let rule = g.R.PollOne in
     record {
-      covered = (c.names.invariant.covers.0, λ n h. c.names.invariant.covers.1 n (g.met.S.ReadySource.take_needs _ _ _ c.in-Empty.ensures n h));
+      covered = (c.names.invariant.covers.0, λ n h. c.names.invariant.covers.1 n (g.met.S.ReadySource.laws.take_needs _ _ _ c.in-Empty.ensures n h));
       woken = inr ((_, c.in-Empty.ensures), c.names.invariant.same_context);
       leaves = λ before first. inl (emptied_after rule.can_poll rule.polled source.steps c.args.self.now before first _ _ _ _ c.names.invariant.so_far (omega (arith, c.names.invariant.same_limit, ap (λ (v : Bounded g.row.F.Denot g.row.S.Denot). v.limit) c.self.view_is)) c.in-Empty.ensures, c.names.invariant.same_context);
       only_registered = tt;

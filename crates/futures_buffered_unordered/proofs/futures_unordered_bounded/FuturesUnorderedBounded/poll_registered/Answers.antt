@@ -10,12 +10,12 @@ empty_slot-requires g c = some_from_end (g.R.PollOne.polled c.in-Ready.i) _ _ c.
 pub returns-in-Ready-clause-polled : goal.returns-in-Ready-clause-polled
 returns-in-Ready-clause-polled g c =
     let some_held : 0 < held_count c.args.self.now.slots = grind (arith, common_steps) in
-    (some_held, (c.in-Ready.i, c.poll_first_registered.new.self, c.in-Ready.ensures.polled c.args.self.now.source (g.met.S.NewSource.covered c.args.self.now.source), c.empty_slot.ensures.emptied))
+    (some_held, (c.in-Ready.i, c.poll_first_registered.new.self, c.in-Ready.ensures.polled c.args.self.now.source (g.met.S.NewSource.waits.covered c.args.self.now.source), c.empty_slot.ensures.emptied))
 
 pub returns-in-Pending-clause-polled : goal.returns-in-Pending-clause-polled
 returns-in-Pending-clause-polled g c =
     let some_held : 0 < held_count c.args.self.now.slots = grind (arith, common_steps) in
-    (some_held, c.in-Pending.ensures.polled c.args.self.now.source (g.met.S.NewSource.covered c.args.self.now.source))
+    (some_held, c.in-Pending.ensures.polled c.args.self.now.source (g.met.S.NewSource.waits.covered c.args.self.now.source))
 
 pub returns-in-Ready-clause-set : goal.returns-in-Ready-clause-set
 returns-in-Ready-clause-set g c =
@@ -33,7 +33,7 @@ returns-in-Pending-clause-task g c =
     record {
       covered = task.covered;
       woken = task.woken;
-      leaves = task.leaves c.args.self.now.source (g.met.S.NewSource.covered c.args.self.now.source);
+      leaves = task.leaves c.args.self.now.source (g.met.S.NewSource.waits.covered c.args.self.now.source);
       untouched = tt;
       only_registered = tt;
       kept = task.kept;
