@@ -7,8 +7,8 @@ use Rattle.std.proofs.lemmas.Bool.{cases_lt, eq-eqb}
 use Rattle.std.proofs.lemmas.Bool.Decides.{eqb_tells}
 use Rattle.std.proofs.lemmas.Option.{slice_get_within, get_or_from_slice_get}
 use Rattle.futures_buffered_ordered.specs.Numbered.{one_at}
-use Rattle.futures_buffered_ordered.specs.OrderedEntries.{EachHasOne, IsUnused, Stays, is_running, runs_with, starts_running}
-use Rattle.futures_buffered_ordered.specs.OrderedEntriesInvariant.{IsNumbered, KeepsNumbers, Numbering, place_of}
+use Rattle.futures_buffered_ordered.specs.OrderedEntries.{EachHasOne, IsLength, IsUnused, Stays, is_running, runs_with, starts_running}
+use Rattle.futures_buffered_ordered.specs.OrderedEntriesInvariant.{Admits, IsNumbered, KeepsNumbers, Numbering, place_of}
 use Rattle.futures_buffered_ordered.specs.declared.ordered_entries.Entry.{Entry}
 use Rattle.futures_buffered_ordered.specs.declared.ordered_entries.Entry.TheVariants.{Running, Kept}
 
@@ -230,6 +230,15 @@ module _ {Q A : Type 0} (with_number : ℕ → Q → ℕ) (count : Q → ℕ) wh
   pub held_by_entries : (set : Q) (es : List (Entry A)) (o : ℕ) → KeepsNumbers with_number count set es o → count set ≤ length es
   held_by_entries set es o keeps = omega (arith, keeps.counted, count_by-le-length is_running es)
 
+  -- what a queue says of its length
+  pub is_length : (q : Numbering Q A) (n : ℕ) → IsNumbered with_number count q → n ≡ length q.queue.entries → IsLength with_number count q.queue n
+  is_length q n keeps long =
+      record {
+        value = long;
+        each = each_has_one q.queue.set q.queue.entries q.outgoing q.queue.room keeps;
+        in_progress = held_by_entries q.queue.set q.queue.entries q.outgoing keeps;
+      }
+
   pub some_held : (set : Q) (es : List (Entry A)) (o : ℕ) → KeepsNumbers with_number count set es o → starts_running es ≡ true → 0 < count set
   some_held set es o keeps runs = omega (arith, keeps.counted, some_running es runs)
 
@@ -260,3 +269,11 @@ module _ {Q A : Type 0} (with_number : ℕ → Q → ℕ) (count : Q → ℕ) (o
 -- the number behind all others is unused
 pub unused_at : {Q A : Type 0} (with_number : ℕ → Q → ℕ) (count : Q → ℕ) (set : Q) (es : List (Entry A)) (o n : ℕ) → KeepsNumbers with_number count set es o → n ≡ length es → IsUnused ((o + n) % 2 ^ 64) es
 unused_at with_number count set es o n keeps long = subst (λ k. IsUnused ((o + k) % 2 ^ 64) es) (sym long) (unused-back with_number count set es o keeps)
+
+-- the entry of a future that went into the set came behind all others
+pub back_admitted : {F Q A : Type 0} (pushes : Q → F → ℕ → Q → Type 0) (count : Q → ℕ) (with_number : ℕ → Q → ℕ) (keeps : Q → Q → Type 0) (old mid : Numbering Q A) (future : F) (i n : ℕ) (after : List (Entry A))
+    → IsNumbered with_number count old → Admits pushes count with_number keeps old.queue future i mid.queue → mid.outgoing ≡ old.outgoing → n ≡ length old.queue.entries → i ≡ (old.outgoing + n) % 2 ^ 64 → after ≡ mid.queue.entries ++ Running i ∷ []
+    → KeepsNumbers with_number count mid.queue.set after mid.outgoing
+back_admitted {A = A} pushes count with_number keeps old mid future i n after numbered admitted same long is now =
+    let fits : length old.queue.entries + 1 < 2 ^ 63 = let short = admitted.short in omega (arith, short) in
+    rw same (back_keeps with_number count old.queue.set mid.queue.set old.queue.entries old.outgoing i numbered admitted.went_in.numbers admitted.went_in.one_more fits n after long is (now ∙ ap (λ (l : List (Entry A)). l ++ Running i ∷ []) admitted.entries))

@@ -42,6 +42,10 @@ module _ {F S : Type 0} where
       → Type 0
   IsNewGrowingQueue made n limit = IsNewQueue (IsNewGrowing made n limit) n
 
+  -- the limit of names stays
+  abbrev pub SameLimit : Growing (Numbered F) S → Growing (Numbered F) S → Type 0
+  SameLimit old new = new.limit ≡ old.limit
+
   -- P holds of each future in progress
   abbrev pub EachInProgress : (F → Type 0) → Growing (Numbered F) S → Type 0
   EachInProgress P set = EachHeld (CanPollFuture P) set.groups.listed

@@ -12,7 +12,7 @@ use Rattle.futures_buffered_unordered.specs.Held.{AllHeld, AnyMayGive}
 use Rattle.futures_buffered_unordered.specs.FuturesUnorderedBounded.{Bounded, IsNewSet, Pushes}
 use Rattle.futures_buffered_unordered.specs.FuturesUnorderedBounded.{PollGives, PollLeavesTask}
 use Rattle.futures_buffered_unordered.specs.FuturesUnorderedBounded.{IsWoken, SaidEmpty}
-use Rattle.futures_buffered_unordered.specs.FuturesUnorderedBounded.{held_in, names_taken}
+use Rattle.futures_buffered_unordered.specs.FuturesUnorderedBounded.{held_in, names_taken, slots_in}
 use Rattle.futures_buffered_ordered.specs.Numbered.{CanPollFuture, PollsNumbered}
 use Rattle.futures_buffered_ordered.specs.OrderedEntries.{Ordered, IsNewQueue, AddsEachBack}
 use Rattle.futures_buffered_ordered.specs.OrderedEntries.{SetYields, LastStep, OrderedGives}
@@ -38,6 +38,20 @@ module _ {F S : Type 0} where
   pub record SameSlots (old new : Bounded (Numbered F) S) : Type 0 where
     pub capacity : slot_count new.slots ≡ slot_count old.slots
     pub limit : new.limit ≡ old.limit
+
+  -- What a push at an end makes of a queue that has fewer entries than slots: `adds` says what it is
+  -- to go in there.
+  pub record PushesEntry
+      {A : Type 0}
+      (adds : OrderedBounded F A S → F → OrderedBounded F A S → Type 0)
+      (old : OrderedBounded F A S)
+      (future : F)
+      (new : OrderedBounded F A S)
+      : Type 0 where
+    -- the future went in at this end
+    pub pushed : adds old future new
+    -- there are as many slots as before
+    pub capacity : slots_in new.set ≡ slots_in old.set
 
   -- what a pending poll leaves of its task: it hears of the source, and it was asked to poll again
   -- or no further name came

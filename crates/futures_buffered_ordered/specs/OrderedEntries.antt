@@ -1,8 +1,9 @@
 -- What a contract sees of an ordered queue, and what its calls make of it. The set that holds the
 -- futures in progress may be any that takes a number with a future and gives it back with the
 -- output.
-use Rattle.std.specs.Prelude.{◌≡◌, ◌≢◌, ◌⊎◌, ℕ, ◌+◌, ◌<◌, ◌≤◌, ◌==◌, Bool, true, false, List, []}
-use Rattle.std.specs.Prelude.{◌∷◌, ◌++◌, length, Option, Some, None, count_by, slice_set}
+use Rattle.std.specs.Prelude.{◌≡◌, ◌≢◌, ◌⊎◌, ◌↔◌, ℕ, ◌+◌, ◌<◌, ◌≤◌, ◌==◌, Bool, true, false, List}
+use Rattle.std.specs.Prelude.{[], ◌∷◌, ◌++◌, length, Option, Some, None, count_by, slice_set, Result}
+use Rattle.std.specs.Prelude.{Err, IfErr, OnOk, OnErr, IsErr}
 use Rattle.std.specs.List.{FoldsTo, slice_get}
 use Rattle.futures.specs.Task.{Keeps}
 use Rattle.futures.specs.Poll.{OnPending}
@@ -10,8 +11,8 @@ use Rattle.futures.specs.declared.task.context.Context.{Context}
 use Rattle.futures.specs.declared.task.Poll.{Poll}
 use Rattle.futures.specs.declared.task.Poll.TheVariants.{Ready, Pending}
 use Rattle.futures.specs.Runs.{Runs, Leads, Ends}
-use Rattle.futures_buffered_core.specs.Drawn.{SourceOf, IteratorOf}
-use Rattle.futures_buffered_unordered.specs.Extended.{ExtendsUntil}
+use Rattle.futures_buffered_table.specs.declared.answer.NewFault.{NewFault}
+use Rattle.futures_buffered_table.specs.declared.answer.NewFault.TheVariants.{TooLarge}
 use Rattle.futures_buffered_ordered.specs.declared.ordered_entries.Entry.{Entry}
 use Rattle.futures_buffered_ordered.specs.declared.ordered_entries.Entry.TheVariants.{Running, Kept}
 use Rattle.futures_buffered_ordered.specs.declared.ordered_entries.TheConstants.{MAX_LEN}
@@ -52,6 +53,17 @@ module _ {Q A : Type 0} where
     pub once : (j k i : ℕ) → slice_get q.entries j ≡ Some (Running i)
         → slice_get q.entries k ≡ Some (Running i) → j ≡ k
 
+  -- n is the length of a queue, whose set holds as many futures as `count` says, and as many with a
+  -- number as `with_number` says.
+  pub record IsLength (with_number : ℕ → Q → ℕ) (count : Q → ℕ) (q : Ordered Q A) (n : ℕ)
+      : Type 0 where
+    -- the number of entries
+    pub value : n ≡ length q.entries
+    -- each entry in progress has a future of its own
+    pub each : EachHasOne with_number q
+    -- no more futures are in progress than there are entries
+    pub in_progress : count q.set ≤ length q.entries
+
   -- the set is new; there is no entry, and a place for so many at least
   pub record IsNewQueue (is_new : Q → Type 0) (n : ℕ) (q : Ordered Q A) : Type 0 where
     pub new_set : is_new q.set
@@ -73,6 +85,10 @@ module _ {Q A : Type 0} where
   abbrev pub MayRefuse : (Q → Type 0) → Ordered Q A → Type 0
   MayRefuse set_may_refuse q =
       (q.room ≤ length q.entries) ⊎ set_may_refuse q.set ⊎ (length q.entries ≡ MAX_LEN)
+
+  -- such a push may be refused, and no entry and no future has changed
+  abbrev pub RefusesOne : (Q → Type 0) → Ordered Q A → Ordered Q A → Type 0
+  RefusesOne set_may_refuse old new = MayRefuse set_may_refuse old × Stays old new
 
   -- nothing more goes in: the queue is as long as it may be, or its set refuses
   abbrev pub IsAtEnd : (Q → Type 0) → Ordered Q A → Type 0
@@ -113,6 +129,40 @@ pub record HandsBack
   -- such a push may be refused
   pub may_refuse : MayRefuse set_may_refuse old
 
+-- What a push at an end, from old to new, makes of a queue: `adds` says what it is to go in at this
+-- end, and `keeps` what stays of the set in any case.
+module _
+    {F Q A : Type 0}
+    (adds : Ordered Q A → F → Ordered Q A → Type 0)
+    (set_may_refuse set_refuses : Q → Type 0)
+    (keeps : Q → Q → Type 0)
+    (old : Ordered Q A)
+    (future : F)
+  where
+    -- a push that hands the future back where it is refused
+    pub record PushesOrHandsBack (result : Result (Unit {0}) F) (new : Ordered Q A) : Type 0 where
+      -- the future went in at this end
+      pub pushed : OnOk result (adds old future new)
+      -- or it comes back, and no entry and no future has changed
+      pub back : IfErr result (λ back. HandsBack set_may_refuse old future back new)
+      -- it comes back where nothing more goes in
+      pub large : IsAtEnd set_refuses old → IsErr result
+      -- this stays of the set
+      pub set : keeps old.set new.set
+
+    -- a push that drops the future where it is refused, and says why
+    pub record AddsOrStays (result : Result (Unit {0}) NewFault) (new : Ordered Q A) : Type 0 where
+      -- the future went in at this end
+      pub pushed : OnOk result (adds old future new)
+      -- or no entry and no other future has changed
+      pub stays : OnErr result (Stays old new)
+      -- such a push may be refused
+      pub room : OnErr result (MayRefuse set_may_refuse old)
+      -- it is `TooLarge` exactly where nothing more goes in
+      pub large : (result ≡ Err TooLarge) ↔ IsAtEnd set_refuses old
+      -- this stays of the set
+      pub set : keeps old.set new.set
+
 module _ {F Q A : Type 0} (pushes : Q → F → ℕ → Q → Type 0) where
   -- the future went into the set, with a number that no entry in progress had
   pub record PushesNumbered (old : Ordered Q A) (future : F) (i : ℕ)
@@ -134,13 +184,6 @@ module _ {F Q A : Type 0} (pushes : Q → F → ℕ → Q → Type 0) where
   -- these futures were added at the back, one after another
   abbrev pub AddsEachBack : Ordered Q A → List F → Ordered Q A → Type 0
   AddsEachBack = FoldsTo AddsBack
-
-  -- These items came and were added at the back. The next one came, might be refused, and had to go
-  -- back. No further one was asked for.
-  abbrev pub StopsAt : {U I : Type 0} → (Q → Type 0) → SourceOf U F I → IteratorOf I F → U
-      → Ordered Q A → F → Ordered Q A → Type 0
-  StopsAt set_may_refuse by gives source = ExtendsUntil by gives source AddsBack
-      (λ stopped new. MayRefuse set_may_refuse stopped × Stays stopped new)
 
 module _ {Q A : Type 0} (gives : Q → Poll (Option (ℕ × A)) → Q → Type 0) where
   -- while the front is in progress, the set is polled; the future with number i gives x, and its

@@ -1,9 +1,11 @@
--- How an ordered queue finds the entry of a future, and what its calls ask and keep of that. No
--- public clause cites it.
+-- How an ordered queue finds the entry of a future: what its numbers are, and what its calls ask and
+-- keep of them. The contracts of `OrderedEntries` cite it, and those of the queues do not.
 use Rattle.std.specs.Prelude.{◌≡◌, ℕ, ◌+◌, ◌-◌, ◌^◌, ◌%◌, ◌<◌, ◌≤◌, List, length, Some, count_by}
 use Rattle.std.specs.List.{slice_get}
+use Rattle.futures_buffered_ordered.specs.Numbered.{PushesInto}
 use Rattle.futures_buffered_ordered.specs.declared.ordered_entries.Entry.{Entry}
 use Rattle.futures_buffered_ordered.specs.declared.ordered_entries.Entry.TheVariants.{Running}
+use Rattle.futures_buffered_ordered.specs.declared.ordered_entries.TheConstants.{MAX_LEN}
 use Rattle.futures_buffered_ordered.specs.OrderedEntries.{Ordered, is_running, runs_with}
 
 -- the place of the entry with this number, where the front has the number outgoing and numbers wrap
@@ -35,6 +37,26 @@ pub record KeepsNumbers
 abbrev pub IsNumbered : {Q A : Type 0} → (ℕ → Q → ℕ) → (Q → ℕ) → Numbering Q A → Type 0
 IsNumbered with_number count n =
     KeepsNumbers with_number count n.queue.set n.queue.entries n.outgoing
+
+-- The future went into the set with number i, and its entry is still to come: there is a place for
+-- it.
+pub record Admits
+    {F Q A : Type 0}
+    (pushes : Q → F → ℕ → Q → Type 0)
+    (count : Q → ℕ)
+    (with_number : ℕ → Q → ℕ)
+    (keeps : Q → Q → Type 0)
+    (old : Ordered Q A)
+    (future : F)
+    (i : ℕ)
+    (new : Ordered Q A)
+    : Type 0 where
+  pub went_in : PushesInto pushes count with_number keeps
+      old.set (record { future = future; number = i }) new.set
+  pub entries : new.entries ≡ old.entries
+  pub room : old.room ≤ new.room
+  pub has_room : length new.entries < new.room
+  pub short : length old.entries < MAX_LEN
 
 -- What additions, from old to new, leave of a queue, whether they go in or not.
 pub record AddingKeeps

@@ -1,15 +1,14 @@
 //! A queue of any number of futures in progress, which yields outputs in the order of its entries.
 //!
 //! The futures stand in a set that grows by groups. Each has an entry in a list, to which pushes add at either end. A poll yields the front alone: an output that comes before its turn is kept in its entry.
-ghost use Rattle.std.specs.Prelude.{◌≡◌, ◌↔◌, ◌<◌, ◌≤◌, [], length, Err, IfOk, IfErr, OnOk, OnErr, IsOk, IsErr, IsTrue};
+ghost use Rattle.std.specs.Prelude.{◌≡◌, ◌↔◌, ◌≤◌, [], length, IsTrue};
 ghost use Rattle.futures_buffered_core.specs.Drawn.{IsFiniteSource};
-ghost use Rattle.futures_buffered_core.specs.Answer.{RefusesTooLarge};
-ghost use Rattle.futures_buffered_core.specs.ReadyShared.{IsNewShared, MarksShared, Shared};
-ghost use Rattle.futures_buffered_unordered.specs.FuturesUnordered.{EachCovered, no_groups};
-ghost use Rattle.futures_buffered_ordered.specs.OrderedEntries.{AddsBack, AddsEachBack, AddsFront, EachHasOne, HandsBack, IsAtEnd, MayRefuse, OrderedGives, PollsQueue, PollsQueueTask, Stays, StopsAt, without_entries};
-ghost use Rattle.futures_buffered_unordered.specs.FuturesUnordered.{SetMayRefuse, SetRefuses};
-ghost use Rattle.futures_buffered_unordered.specs.Extended.{GrowsByAllOf, HoldsAllOf, Outgrows};
-ghost use Rattle.futures_buffered_ordered.specs.FuturesOrdered.{EachInProgress, IsNewGrowingQueue, OrderedGrowing, GrowingPushesNumber, GroupsGiveNumbered, GroupsLeaveTaskNumbered, held_in_groups, held_in_groups_with};
+ghost use Rattle.futures_buffered_core.specs.Made.{MakesGroup};
+ghost use Rattle.futures_buffered_core.specs.ReadyShared.{IsNewShared, MarksShared};
+ghost use Rattle.futures_buffered_unordered.specs.FuturesUnordered.{EachCovered, SetMayRefuse, SetRefuses, no_groups};
+ghost use Rattle.futures_buffered_unordered.specs.Extended.{Extends, MakesGrown};
+ghost use Rattle.futures_buffered_ordered.specs.OrderedEntries.{AddsBack, AddsFront, AddsOrStays, IsAtEnd, IsLength, OrderedGives, PollsQueue, PollsQueueTask, PushesOrHandsBack, RefusesOne, without_entries};
+ghost use Rattle.futures_buffered_ordered.specs.FuturesOrdered.{EachInProgress, GrowingPushesNumber, GroupsGiveNumbered, GroupsLeaveTaskNumbered, IsNewGrowingQueue, SameLimit, held_in_groups, held_in_groups_with};
 
 use crate::numbered::{Numbered, PollNumbered};
 use crate::numbered_set::{NumberedSet, PollNumberedSet};
@@ -29,7 +28,7 @@ impl<T: Drop, S: NewSource> NumberedSet for FuturesUnordered<Numbered<T>, S> {
     ghost use Rattle.std.proofs.Common.{◌≡◌, OnOk, OnErr, IfErr, IsErr, refl, ◌∙◌};
     ghost use Rattle.futures_buffered_ordered.specs.Numbered.{PushesInto};
     ghost use Rattle.futures_buffered_unordered.specs.FuturesUnordered.{SetMayRefuse, SetRefuses};
-    ghost use Rattle.futures_buffered_ordered.specs.FuturesOrdered.{GrowingPushesNumber, held_in_groups, held_in_groups_with};
+    ghost use Rattle.futures_buffered_ordered.specs.FuturesOrdered.{GrowingPushesNumber, SameLimit, held_in_groups, held_in_groups_with};
 
     type Future = T;
 
@@ -43,7 +42,7 @@ impl<T: Drop, S: NewSource> NumberedSet for FuturesUnordered<Numbered<T>, S> {
 
     ghost refuses = { SetRefuses };
 
-    ghost keeps = { λ old new. new.limit ≡ old.limit };
+    ghost keeps = { SameLimit };
 
     fn refuses_all(&self) -> bool {
         self.is_at_bound()
@@ -51,8 +50,7 @@ impl<T: Drop, S: NewSource> NumberedSet for FuturesUnordered<Numbered<T>, S> {
 
     fn push_numbered(&mut self, value: Numbered<T>) -> Result<(), Numbered<T>>
         ensures pushed { OnOk result (PushesInto (GrowingPushesNumber S.marks S.made)
-            held_in_groups held_in_groups_with (λ old new. new.limit ≡ old.limit)
-            self.old value self.new) }
+            held_in_groups held_in_groups_with SameLimit self.old value self.new) }
         ensures back { IfErr result (λ back. (back ≡ value) × (self.new ≡ self.old)) }
         ensures room { OnErr result (SetMayRefuse self.old) }
         ensures full { SetRefuses self.old → IsErr result }
@@ -115,9 +113,7 @@ impl<T: Drop, A: Drop, S: NewSource> Model for GrowingQueue<T, A, S> {
 impl<T: Drop, A: Drop, S: NewSource> GrowingQueue<T, A, S> {
     /// The number of entries, in progress and kept. Takes the same time at any length.
     pub fn len(&self) -> usize
-        ensures value { result ≡ length self.now.entries }
-        ensures each { EachHasOne held_in_groups_with self.now }
-        ensures in_progress { held_in_groups self.now.set ≤ length self.now.entries }
+        ensures { IsLength held_in_groups_with held_in_groups self.now result }
     {
         self.queue.len()
     }
@@ -138,38 +134,26 @@ impl<T: Drop, A: Drop, S: NewSource> GrowingQueue<T, A, S> {
 
     /// Adds the future behind all others, in progress. It goes into the set as its `push` does, so that a later poll polls it.
     ///
-    /// The future comes back where the queue has `MAX_LEN` entries, where the set refuses it, and where a request for memory was refused; no entry and no future has changed then. Asks for memory only where there are as many entries as places for them, and where the last group is full. Polls nothing, and wakes nobody.
+    /// The future comes back where the queue has `MAX_LEN` entries, where the set refuses it, and where a request for memory was refused; no entry and no future has changed then. Asks for memory only where there are as many entries as places for them, and where the last group is full. Polls nothing. A caller should count on no wake from it, though one that makes a group may wake the task that waits.
     pub fn push_back(&mut self, future: T) -> Result<(), T>
-        ensures pushed { OnOk result
-            (AddsBack (GrowingPushesNumber S.marks S.made) self.old future self.new) }
-        ensures back { IfErr result (λ back. HandsBack SetMayRefuse
-            self.old future back self.new) }
-        ensures large { IsAtEnd SetRefuses self.old → IsErr result }
-        ensures limit { self.new.set.limit ≡ self.old.set.limit }
+        ensures { PushesOrHandsBack (AddsBack (GrowingPushesNumber S.marks S.made))
+            SetMayRefuse SetRefuses SameLimit self.old future result self.new }
     {
         self.queue.add_back(future)
     }
 
     /// As `push_back`, before all others: its output is the next to be yielded.
     pub fn push_front(&mut self, future: T) -> Result<(), T>
-        ensures pushed { OnOk result
-            (AddsFront (GrowingPushesNumber S.marks S.made) self.old future self.new) }
-        ensures back { IfErr result (λ back. HandsBack SetMayRefuse
-            self.old future back self.new) }
-        ensures large { IsAtEnd SetRefuses self.old → IsErr result }
-        ensures limit { self.new.set.limit ≡ self.old.set.limit }
+        ensures { PushesOrHandsBack (AddsFront (GrowingPushesNumber S.marks S.made))
+            SetMayRefuse SetRefuses SameLimit self.old future result self.new }
     {
         self.queue.add_front(future)
     }
 
     /// As `push_back`, for a caller that has no use for a future that is refused: it is dropped, no entry and no other future has changed, and the error says why. So `?` takes it.
     pub fn add_back(&mut self, future: T) -> Result<(), NewFault>
-        ensures pushed { OnOk result
-            (AddsBack (GrowingPushesNumber S.marks S.made) self.old future self.new) }
-        ensures stays { OnErr result (Stays self.old self.new) }
-        ensures room { OnErr result (MayRefuse SetMayRefuse self.old) }
-        ensures large { (result ≡ Err NewFault.TooLarge) ↔ IsAtEnd SetRefuses self.old }
-        ensures limit { self.new.set.limit ≡ self.old.set.limit }
+        ensures { AddsOrStays (AddsBack (GrowingPushesNumber S.marks S.made))
+            SetMayRefuse SetRefuses SameLimit self.old future result self.new }
     {
         let Ok(()) = self.push_back(future) else {
             return Err(self.fault());
@@ -179,12 +163,8 @@ impl<T: Drop, A: Drop, S: NewSource> GrowingQueue<T, A, S> {
 
     /// As `add_back`, before all others: its output is the next to be yielded.
     pub fn add_front(&mut self, future: T) -> Result<(), NewFault>
-        ensures pushed { OnOk result
-            (AddsFront (GrowingPushesNumber S.marks S.made) self.old future self.new) }
-        ensures stays { OnErr result (Stays self.old self.new) }
-        ensures room { OnErr result (MayRefuse SetMayRefuse self.old) }
-        ensures large { (result ≡ Err NewFault.TooLarge) ↔ IsAtEnd SetRefuses self.old }
-        ensures limit { self.new.set.limit ≡ self.old.set.limit }
+        ensures { AddsOrStays (AddsFront (GrowingPushesNumber S.marks S.made))
+            SetMayRefuse SetRefuses SameLimit self.old future result self.new }
     {
         let Ok(()) = self.push_front(future) else {
             return Err(self.fault());
@@ -195,10 +175,9 @@ impl<T: Drop, A: Drop, S: NewSource> GrowingQueue<T, A, S> {
     /// Adds each item at the back, in order, as `push_back` does. The first that is refused comes back; those before it stay, and the iterator is asked for no further one.
     pub fn extend<I: IntoIterator<Item = T>>(&mut self, iter: I) -> Result<(), T>
         requires { IsFiniteSource I.IntoIterator I.IntoIter.Iterator iter }
-        ensures all { OnOk result (HoldsAllOf I.IntoIterator I.IntoIter.Iterator iter
-            (AddsEachBack (GrowingPushesNumber S.marks S.made) self.old) self.new) }
-        ensures stops { IfErr result (λ back. StopsAt (GrowingPushesNumber S.marks S.made) SetMayRefuse
-            I.IntoIterator I.IntoIter.Iterator iter self.old back self.new) }
+        ensures { Extends I.IntoIterator I.IntoIter.Iterator iter
+            (AddsBack (GrowingPushesNumber S.marks S.made)) (RefusesOne SetMayRefuse)
+            self.old result self.new }
     {
         self.queue.extend(iter)
     }
@@ -215,7 +194,7 @@ impl<T: Drop, A: Drop, S: NewSource> GrowingQueue<T, A, S> {
 
     /// One poll of the queue, where `rule` says how one held future is polled.
     ///
-    /// `Ready(None)` where there is no entry. A front whose output is kept leaves with it, and the set is not asked. Else the set is polled again and again: each output that it gives is kept in its entry, until the front's has come and is yielded, or the set answers `Pending`. Takes no memory. Takes the time of the set's polls, of which there is at most one more than outputs came.
+    /// `Ready(None)` where there is no entry. A front whose output is kept leaves with it, and the set is not asked. Else the set is polled again and again: each output that it gives is kept in its entry, until the front's has come and is yielded, or the set answers `Pending`. Takes no memory but what the calls of the source take. Takes the time of the set's polls, of which there is at most one more than outputs came.
     pub fn poll_with<R: PollOne<T, S::Waker, Output = A>>(
         &mut self,
         rule: &R,
@@ -224,8 +203,8 @@ impl<T: Drop, A: Drop, S: NewSource> GrowingQueue<T, A, S> {
         requires { EachInProgress R.can_poll self.old.set }
         ensures polled { OrderedGives (GroupsGiveNumbered R.polled S.steps) held_in_groups
             self.old result self.new }
-        ensures queue { PollsQueue (EachInProgress R.can_poll) held_in_groups
-            (λ old new. new.limit ≡ old.limit) self.old result self.new }
+        ensures queue { PollsQueue (EachInProgress R.can_poll) held_in_groups SameLimit
+            self.old result self.new }
         ensures task { PollsQueueTask (GroupsGiveNumbered R.polled S.steps)
             (GroupsLeaveTaskNumbered R.polled S.steps S.registers_poll) held_in_groups
             (λ left set. EachCovered S.needs left set.groups.listed)
@@ -260,9 +239,7 @@ impl<T: SlotFuture<S::Waker, Output = A>, A: Drop, S: NewSource> GrowingQueue<T,
     ///
     /// Takes time and memory in proportion to `n`. `TooLarge` where `n` is above `MAX_CAPACITY`, and `Memory` where a request for memory was refused.
     pub fn over(env: S::Env, alloc: Global, n: usize) -> Result<Self, NewFault>
-        ensures empty { IfOk result (IsNewGrowingQueue S.made n POLL_LIMIT) }
-        ensures refuses { RefusesTooLarge n result }
-        ensures none { n ≡ 0 → IsOk result }
+        ensures { MakesGroup n (IsNewGrowingQueue S.made n POLL_LIMIT) result }
     {
         Self::over_limit(env, alloc, n, POLL_LIMIT)
     }
@@ -270,9 +247,7 @@ impl<T: SlotFuture<S::Waker, Output = A>, A: Drop, S: NewSource> GrowingQueue<T,
     /// As `over`, where one poll of the set takes at most `limit` names from each group, also from those that are made later.
     pub fn over_limit(env: S::Env, alloc: Global, n: usize, limit: usize) -> Result<Self, NewFault>
         requires { 1 ≤ limit }
-        ensures empty { IfOk result (IsNewGrowingQueue S.made n limit) }
-        ensures refuses { RefusesTooLarge n result }
-        ensures none { n ≡ 0 → IsOk result }
+        ensures { MakesGroup n (IsNewGrowingQueue S.made n limit) result }
     {
         let set = FuturesUnordered::over_limit(env, alloc, n, limit)?;
         let queue = OrderedEntries::with_room(alloc, set, n)?;
@@ -293,19 +268,15 @@ impl<T: SlotFuture<SharedWaker, Output = A>, A: Drop> GrowingQueue<T, A, SharedR
 
     /// An empty queue with one group of `n` slots, or none where `n` is 0, and a place for `n` entries, whose futures are woken from any thread. It is `over` with shared sources, and refuses as `over` does.
     pub fn with_capacity(alloc: Global, n: usize) -> Result<Self, NewFault>
-        ensures empty { IfOk result (IsNewGrowingQueue IsNewShared n POLL_LIMIT) }
-        ensures refuses { RefusesTooLarge n result }
-        ensures none { n ≡ 0 → IsOk result }
+        ensures { MakesGroup n (IsNewGrowingQueue IsNewShared n POLL_LIMIT) result }
     {
-        Self::with_limit(alloc, n, POLL_LIMIT)
+        Self::over((), alloc, n)
     }
 
     /// As `with_capacity`, where one poll of the set takes at most `limit` names from each group, also from those that are made later.
     pub fn with_limit(alloc: Global, n: usize, limit: usize) -> Result<Self, NewFault>
         requires { 1 ≤ limit }
-        ensures empty { IfOk result (IsNewGrowingQueue IsNewShared n limit) }
-        ensures refuses { RefusesTooLarge n result }
-        ensures none { n ≡ 0 → IsOk result }
+        ensures { MakesGroup n (IsNewGrowingQueue IsNewShared n limit) result }
     {
         Self::over_limit((), alloc, n, limit)
     }
@@ -315,25 +286,15 @@ impl<T: SlotFuture<SharedWaker, Output = A>, A: Drop> GrowingQueue<T, A, SharedR
     /// Takes time and memory in proportion to the number of items and to that first number. Where it is refused, the items that came are dropped: `TooLarge` where that number or a later group is too large, or more than `MAX_LEN` came, and `Memory` where a request for memory was refused.
     pub fn from_iter<I: IntoIterator<Item = T>>(alloc: Global, iter: I) -> Result<Self, NewFault>
         requires { IsFiniteSource I.IntoIterator I.IntoIter.Iterator iter }
-        ensures holds { IfOk result (GrowsByAllOf I.IntoIterator I.IntoIter.Iterator iter FIRST_GROUP (λ n. IsNewGrowingQueue IsNewShared n POLL_LIMIT)
-            (AddsBack (GrowingPushesNumber MarksShared IsNewShared))) }
-        ensures large { result ≡ Err NewFault.TooLarge
-            → Outgrows I.IntoIterator I.IntoIter.Iterator iter FIRST_GROUP (λ n (start : OrderedGrowing T A Shared).
-            IsNewGrowingQueue IsNewShared n POLL_LIMIT start)
-            (AddsBack (GrowingPushesNumber MarksShared IsNewShared)) (IsAtEnd SetRefuses) }
+        ensures { MakesGrown I.IntoIterator I.IntoIter.Iterator iter
+            FIRST_GROUP (λ n. IsNewGrowingQueue IsNewShared n POLL_LIMIT)
+            (AddsBack (GrowingPushesNumber MarksShared IsNewShared)) (IsAtEnd SetRefuses) result }
     {
         let iter = iter.into_iter();
         let (least, _most) = iter.size_hint();
-        let first = if least > FIRST_GROUP {
-            least
-        } else {
-            FIRST_GROUP
-        };
-        let mut queue = Self::with_capacity(alloc, first)?;
+        let mut queue = Self::with_capacity(alloc, least.max(FIRST_GROUP))?;
         for item in iter {
-            if let Err(fault) = queue.add_back(item) {
-                return Err(fault);
-            }
+            queue.add_back(item)?;
         }
         Ok(queue)
     }

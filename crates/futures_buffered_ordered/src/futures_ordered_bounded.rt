@@ -1,16 +1,16 @@
 //! A queue of as many futures in progress as it has slots, which yields outputs in the order of its entries.
 //!
 //! The futures stand in a bounded set. Each has an entry in a list, to which pushes add at either end. A poll yields the front alone: an output that comes before its turn is kept in its entry.
-ghost use Rattle.std.specs.Prelude.{◌≡◌, ◌↔◌, ◌<◌, ◌≤◌, length, IfOk, IfErr, OnOk, IsOk, IsErr, IsTrue};
-ghost use Rattle.futures_buffered_core.specs.Answer.{RefusesTooLarge};
-ghost use Rattle.futures_buffered_core.specs.Drawn.{Draws, IsFiniteSource, RefusesTooMany};
+ghost use Rattle.std.specs.Prelude.{◌≡◌, ◌↔◌, ◌<◌, ◌≤◌, length, IsOk, IsTrue};
+ghost use Rattle.futures_buffered_core.specs.Drawn.{IsFiniteSource};
+ghost use Rattle.futures_buffered_core.specs.Made.{MakesSlots};
 ghost use Rattle.futures_buffered_core.specs.ReadyShared.{IsNewShared, MarksShared};
 ghost use Rattle.futures_buffered_core.specs.SlotMap.{slot_count};
-ghost use Rattle.futures_buffered_unordered.specs.FuturesUnorderedBounded.{emptied, held_in};
-ghost use Rattle.futures_buffered_unordered.specs.Extended.{HoldsAllOf};
+ghost use Rattle.futures_buffered_unordered.specs.FuturesUnorderedBounded.{emptied, held_in, slots_in};
+ghost use Rattle.futures_buffered_unordered.specs.Extended.{Extends, MakesFull};
 ghost use Rattle.futures_buffered_ordered.specs.Numbered.{held_with};
-ghost use Rattle.futures_buffered_ordered.specs.OrderedEntries.{AddsBack, AddsEachBack, AddsFront, EachHasOne, HandsBack, IsAtEnd, OrderedGives, PollsQueue, PollsQueueTask, StopsAt, without_entries};
-ghost use Rattle.futures_buffered_ordered.specs.FuturesOrderedBounded.{EachRunning, HoldsInOrder, QueueIsFull, IsNewBoundedQueue, PushesNumber, SameSlots, SetGives, SetIsFull, SetLeavesTask, SetPends, TakesFewNames};
+ghost use Rattle.futures_buffered_ordered.specs.OrderedEntries.{AddsBack, AddsFront, IsLength, OrderedGives, PollsQueue, PollsQueueTask, PushesOrHandsBack, RefusesOne, without_entries};
+ghost use Rattle.futures_buffered_ordered.specs.FuturesOrderedBounded.{EachRunning, HoldsInOrder, IsNewBoundedQueue, PushesEntry, PushesNumber, QueueIsFull, SameSlots, SetGives, SetIsFull, SetLeavesTask, SetPends, TakesFewNames};
 
 use crate::numbered::{Numbered, PollNumbered};
 use crate::numbered_set::{NumberedSet, PollNumberedSet};
@@ -118,9 +118,7 @@ impl<T: Drop, A: Drop, S: ReadySource> Model for BoundedQueue<T, A, S> {
 impl<T: Drop, A: Drop, S: ReadySource> BoundedQueue<T, A, S> {
     /// The number of entries, in progress and kept. Takes the same time at any length.
     pub fn len(&self) -> usize
-        ensures value { result ≡ length self.now.entries }
-        ensures each { EachHasOne held_with self.now }
-        ensures in_progress { held_in self.now.set ≤ length self.now.entries }
+        ensures { IsLength held_with held_in self.now result }
     {
         self.queue.len()
     }
@@ -169,22 +167,18 @@ impl<T: Drop, A: Drop, S: ReadySource> BoundedQueue<T, A, S> {
     ///
     /// The future comes back, and no entry has changed, where the queue is full, where it has `MAX_LEN` entries, and where a request for memory was refused. Asks for memory only where there are more entries than ever before, and as many as slots: so it succeeds wherever `len` is below `capacity`. Polls nothing, and wakes nobody.
     pub fn try_push_back(&mut self, future: T) -> Result<(), T>
-        ensures pushed { OnOk result (AddsBack (PushesNumber S.marks) self.old future self.new) }
-        ensures back { IfErr result (λ back. HandsBack SetIsFull self.old future back self.new) }
-        ensures large { IsAtEnd SetIsFull self.old → IsErr result }
+        ensures push { PushesOrHandsBack (AddsBack (PushesNumber S.marks)) SetIsFull SetIsFull
+            SameSlots self.old future result self.new }
         ensures room { length self.old.entries < slot_count self.old.set.slots → IsOk result }
-        ensures capacity { slot_count self.new.set.slots ≡ slot_count self.old.set.slots }
     {
         self.queue.add_back(future)
     }
 
     /// As `try_push_back`, before all others: its output is the next to be yielded.
     pub fn try_push_front(&mut self, future: T) -> Result<(), T>
-        ensures pushed { OnOk result (AddsFront (PushesNumber S.marks) self.old future self.new) }
-        ensures back { IfErr result (λ back. HandsBack SetIsFull self.old future back self.new) }
-        ensures large { IsAtEnd SetIsFull self.old → IsErr result }
+        ensures push { PushesOrHandsBack (AddsFront (PushesNumber S.marks)) SetIsFull SetIsFull
+            SameSlots self.old future result self.new }
         ensures room { length self.old.entries < slot_count self.old.set.slots → IsOk result }
-        ensures capacity { slot_count self.new.set.slots ≡ slot_count self.old.set.slots }
     {
         self.queue.add_front(future)
     }
@@ -192,8 +186,7 @@ impl<T: Drop, A: Drop, S: ReadySource> BoundedQueue<T, A, S> {
     /// As `try_push_back`, for a queue whose `len` is below its `capacity`. Takes no memory.
     pub fn push_back(&mut self, future: T)
         requires { length self.old.entries < slot_count self.old.set.slots }
-        ensures pushed { AddsBack (PushesNumber S.marks) self.old future self.new }
-        ensures capacity { slot_count self.new.set.slots ≡ slot_count self.old.set.slots }
+        ensures { PushesEntry (AddsBack (PushesNumber S.marks)) self.old future self.new }
     {
         match self.try_push_back(future) {
             Ok(()) => {}
@@ -204,8 +197,7 @@ impl<T: Drop, A: Drop, S: ReadySource> BoundedQueue<T, A, S> {
     /// As `try_push_front`, for a queue whose `len` is below its `capacity`. Takes no memory.
     pub fn push_front(&mut self, future: T)
         requires { length self.old.entries < slot_count self.old.set.slots }
-        ensures pushed { AddsFront (PushesNumber S.marks) self.old future self.new }
-        ensures capacity { slot_count self.new.set.slots ≡ slot_count self.old.set.slots }
+        ensures { PushesEntry (AddsFront (PushesNumber S.marks)) self.old future self.new }
     {
         match self.try_push_front(future) {
             Ok(()) => {}
@@ -216,10 +208,8 @@ impl<T: Drop, A: Drop, S: ReadySource> BoundedQueue<T, A, S> {
     /// Adds each item at the back, in order, as `try_push_back` does. The first that is refused comes back; those before it stay, and the iterator is asked for no further one.
     pub fn extend<I: IntoIterator<Item = T>>(&mut self, iter: I) -> Result<(), T>
         requires { IsFiniteSource I.IntoIterator I.IntoIter.Iterator iter }
-        ensures all { OnOk result (HoldsAllOf I.IntoIterator I.IntoIter.Iterator iter
-            (AddsEachBack (PushesNumber S.marks) self.old) self.new) }
-        ensures stops { IfErr result (λ back. StopsAt (PushesNumber S.marks) SetIsFull
-            I.IntoIterator I.IntoIter.Iterator iter self.old back self.new) }
+        ensures extends { Extends I.IntoIterator I.IntoIter.Iterator iter
+            (AddsBack (PushesNumber S.marks)) (RefusesOne SetIsFull) self.old result self.new }
         ensures capacity { slot_count self.new.set.slots ≡ slot_count self.old.set.slots }
     {
         self.queue.extend(iter)
@@ -237,7 +227,7 @@ impl<T: Drop, A: Drop, S: ReadySource> BoundedQueue<T, A, S> {
 
     /// One poll of the queue, where `rule` says how one held future is polled.
     ///
-    /// `Ready(None)` where there is no entry. A front whose output is kept leaves with it, and the source is not asked. Else the set is polled again and again: each output that it gives is kept in its entry, until the front's has come and is yielded, or the set answers `Pending`. Takes no memory. Takes at most `limit` names for each future in progress, and the time of the polls of what these hold.
+    /// `Ready(None)` where there is no entry. A front whose output is kept leaves with it, and the source is not asked. Else the set is polled again and again: each output that it gives is kept in its entry, until the front's has come and is yielded, or the set answers `Pending`. Takes no memory but what the calls of the source take. Takes at most `limit` names for each future in progress, and the time of the polls of what these hold.
     pub fn poll_with<R: PollOne<T, S::Waker, Output = A>>(
         &mut self,
         rule: &R,
@@ -267,29 +257,22 @@ impl<T: Drop, A: Drop, S: NewSource> BoundedQueue<T, A, S>
 where
     T: SlotFuture<S::Waker, Output = A>,
 {
-    /// An empty queue of `capacity` slots over a source made for it.
+    /// An empty queue of `n` slots over a source made for it.
     ///
-    /// Takes time and memory in proportion to `capacity`: the slots, their numbers, and a place for an output of each. `TooLarge` where `capacity` is above `MAX_CAPACITY`, and `Memory` where a request for memory was refused.
-    pub fn over(env: &S::Env, alloc: Global, capacity: usize) -> Result<Self, NewFault>
-        ensures empty { IfOk result (IsNewBoundedQueue S.made capacity POLL_LIMIT) }
-        ensures refuses { RefusesTooLarge capacity result }
+    /// Takes time and memory in proportion to `n`: the slots, their numbers, and a place for an output of each. `TooLarge` where `n` is above `MAX_CAPACITY`, and `Memory` where a request for memory was refused.
+    pub fn over(env: &S::Env, alloc: Global, n: usize) -> Result<Self, NewFault>
+        ensures { MakesSlots n (IsNewBoundedQueue S.made n POLL_LIMIT) result }
     {
-        Self::over_limit(env, alloc, capacity, POLL_LIMIT)
+        Self::over_limit(env, alloc, n, POLL_LIMIT)
     }
 
     /// As `over`, where one poll of the set takes at most `limit` names.
-    pub fn over_limit(
-        env: &S::Env,
-        alloc: Global,
-        capacity: usize,
-        limit: usize,
-    ) -> Result<Self, NewFault>
+    pub fn over_limit(env: &S::Env, alloc: Global, n: usize, limit: usize) -> Result<Self, NewFault>
         requires { 1 ≤ limit }
-        ensures empty { IfOk result (IsNewBoundedQueue S.made capacity limit) }
-        ensures refuses { RefusesTooLarge capacity result }
+        ensures { MakesSlots n (IsNewBoundedQueue S.made n limit) result }
     {
-        let set = FuturesUnorderedBounded::with_new_source(env, alloc, capacity, limit)?;
-        let queue = OrderedEntries::with_room(alloc, set, capacity)?;
+        let set = FuturesUnorderedBounded::with_new_source(env, alloc, n, limit)?;
+        let queue = OrderedEntries::with_room(alloc, set, n)?;
         Ok(BoundedQueue { queue })
     }
 }
@@ -299,10 +282,8 @@ fn drawn<I: IntoIterator>(alloc: Global, iter: I) -> Result<Vec<I::Item>, NewFau
 where
     I::Item: Drop,
     requires { IsFiniteSource I.IntoIterator I.IntoIter.Iterator iter }
-    ensures items { IfOk result (λ items.
-        Draws I.IntoIterator I.IntoIter.Iterator iter items.items) }
-    ensures fits { IfOk result (λ items. length items.items ≤ MAX_CAPACITY) }
-    ensures large { RefusesTooMany I.IntoIterator I.IntoIter.Iterator iter result }
+    ensures { MakesFull I.IntoIterator I.IntoIter.Iterator iter (λ made. length made.items)
+        (λ came made. made.items ≡ came) result }
 {
     let mut items = Vec::new(alloc);
     for item in iter {
@@ -316,21 +297,19 @@ where
 }
 
 impl<T: SlotFuture<SharedWaker, Output = A>, A: Drop> BoundedQueue<T, A, SharedReady> {
-    /// An empty queue of `capacity` slots, whose futures are woken from any thread. It is `over` with a shared source, and refuses as `over` does.
-    pub fn new(alloc: Global, capacity: usize) -> Result<Self, NewFault>
-        ensures empty { IfOk result (IsNewBoundedQueue IsNewShared capacity POLL_LIMIT) }
-        ensures refuses { RefusesTooLarge capacity result }
+    /// An empty queue of `n` slots, whose futures are woken from any thread. It is `over` with a shared source, and refuses as `over` does.
+    pub fn new(alloc: Global, n: usize) -> Result<Self, NewFault>
+        ensures { MakesSlots n (IsNewBoundedQueue IsNewShared n POLL_LIMIT) result }
     {
-        Self::with_limit(alloc, capacity, POLL_LIMIT)
+        Self::over(&(), alloc, n)
     }
 
     /// As `new`, where one poll of the set takes at most `limit` names.
-    pub fn with_limit(alloc: Global, capacity: usize, limit: usize) -> Result<Self, NewFault>
+    pub fn with_limit(alloc: Global, n: usize, limit: usize) -> Result<Self, NewFault>
         requires { 1 ≤ limit }
-        ensures empty { IfOk result (IsNewBoundedQueue IsNewShared capacity limit) }
-        ensures refuses { RefusesTooLarge capacity result }
+        ensures { MakesSlots n (IsNewBoundedQueue IsNewShared n limit) result }
     {
-        Self::over_limit(&(), alloc, capacity, limit)
+        Self::over_limit(&(), alloc, n, limit)
     }
 
     /// A full queue of the items, each added at the back, in order. It has as many slots as there are items.
@@ -338,10 +317,8 @@ impl<T: SlotFuture<SharedWaker, Output = A>, A: Drop> BoundedQueue<T, A, SharedR
     /// Takes time and memory in proportion to that number. Where it is refused, the items that came are dropped: `TooLarge` where one more than `MAX_CAPACITY` came, and `Memory` where a request for memory was refused.
     pub fn from_iter<I: IntoIterator<Item = T>>(alloc: Global, iter: I) -> Result<Self, NewFault>
         requires { IsFiniteSource I.IntoIterator I.IntoIter.Iterator iter }
-        ensures holds { IfOk result (HoldsAllOf I.IntoIterator I.IntoIter.Iterator iter
-            (HoldsInOrder IsNewShared MarksShared POLL_LIMIT)) }
-        ensures fits { IfOk result (λ q. slot_count q.set.slots ≤ MAX_CAPACITY) }
-        ensures large { RefusesTooMany I.IntoIterator I.IntoIter.Iterator iter result }
+        ensures { MakesFull I.IntoIterator I.IntoIter.Iterator iter (λ q. slots_in q.set)
+            (HoldsInOrder IsNewShared MarksShared POLL_LIMIT) result }
     {
         let items = drawn(alloc, iter)?;
         let mut queue = Self::new(alloc, items.len())?;

@@ -67,7 +67,7 @@ pub trait PollNumberedSet<R>: NumberedSet {
     // What a poll leaves of its task.
     ghost leaves: { Self → Poll (Option (ℕ × Self.Output)) → Self → Context → Context → Type 0 };
 
-    /// One poll of the set. `Ready(None)` where nothing is held. Takes no memory.
+    /// One poll of the set. `Ready(None)` where nothing is held. Takes no memory but what the calls of its sources take.
     fn poll_numbered(
         &mut self,
         rule: &R,

@@ -5,10 +5,10 @@ ghost use Rattle.std.specs.Prelude.{◌≡◌, ◌↔◌, ◌<◌, ◌≤◌, �
 ghost use Rattle.futures.specs.Task.{Keeps};
 ghost use Rattle.futures.specs.Poll.{IfReady, OnPending};
 ghost use Rattle.futures_buffered_core.specs.Drawn.{IsFiniteSource};
-ghost use Rattle.futures_buffered_unordered.specs.Extended.{HoldsAllOf};
+ghost use Rattle.futures_buffered_unordered.specs.Extended.{Extends};
 ghost use Rattle.futures_buffered_ordered.specs.declared.ordered_entries.Entry.TheVariants.{Kept};
-ghost use Rattle.futures_buffered_ordered.specs.OrderedEntries.{AddsBack, AddsEachBack, AddsFront, GivesWithTask, HandsBack, IsAtEnd, LastStep, MayRefuse, OrderedGives, PollsQueue, PollsQueueTask, SetYields, Stays, StopsAt, starts_running, with_task, without_entries};
-ghost use Rattle.futures_buffered_ordered.specs.OrderedEntriesInvariant.{AddingKeeps, CanPollEntries, IsNumbered};
+ghost use Rattle.futures_buffered_ordered.specs.OrderedEntries.{AddsBack, AddsFront, GivesWithTask, HandsBack, IsAtEnd, LastStep, MayRefuse, OrderedGives, PollsQueue, PollsQueueTask, PushesOrHandsBack, RefusesOne, SetYields, Stays, starts_running, with_task, without_entries};
+ghost use Rattle.futures_buffered_ordered.specs.OrderedEntriesInvariant.{AddingKeeps, Admits, CanPollEntries, IsNumbered};
 
 use crate::numbered::Numbered;
 use crate::numbered_set::{NumberedSet, PollNumberedSet};
@@ -135,51 +135,51 @@ impl<Q: NumberedSet, A: Drop> OrderedEntries<Q, A> {
         self.entries.reserve(1).is_ok()
     }
 
+    // Makes a place for one entry more, and puts the future into the set with this number. The entry is still to come. Where either is refused, the future comes back.
+    fn admit(&mut self, future: Q::Future, number: usize) -> Result<(), Q::Future>
+        ensures admitted { OnOk result (Admits Q.pushes Q.count Q.with_number Q.keeps
+            self.old.queue future number self.new.queue) }
+        ensures back { IfErr result (λ back. HandsBack Q.may_refuse
+            self.old.queue future back self.new.queue) }
+        ensures large { IsAtEnd Q.refuses self.old.queue → IsErr result }
+        ensures same { self.new.outgoing ≡ self.old.outgoing }
+    {
+        if !self.reserve_entry() {
+            return Err(future);
+        }
+        match self.set.push_numbered(Numbered { future, number }) {
+            Ok(()) => Ok(()),
+            Err(back) => Err(back.future),
+        }
+    }
+
     /// Adds the future behind all others, in progress, with the next number.
     ///
     /// The future comes back where the queue has `MAX_LEN` entries, where the set refuses it, and where a request for memory was refused; no entry and no future has changed then. Asks for memory only where there are as many entries as places for them, and where the set does.
     pub fn add_back(&mut self, future: Q::Future) -> Result<(), Q::Future>
         requires { IsNumbered Q.with_number Q.count self.old }
-        ensures pushed { OnOk result (AddsBack Q.pushes self.old.queue future self.new.queue) }
-        ensures back { IfErr result (λ back. HandsBack Q.may_refuse
-            self.old.queue future back self.new.queue) }
-        ensures large { IsAtEnd Q.refuses self.old.queue → IsErr result }
+        ensures push { PushesOrHandsBack (AddsBack Q.pushes) Q.may_refuse Q.refuses Q.keeps
+            self.old.queue future result self.new.queue }
         ensures keeps { AddingKeeps Q.with_number Q.count Q.keeps self.old self.new }
     {
-        if !self.reserve_entry() {
-            return Err(future);
-        }
         let number = self.outgoing.wrapping_add(self.entries.len());
-        match self.set.push_numbered(Numbered { future, number }) {
-            Ok(()) => {
-                self.entries.push_back_reserved(Entry::Running(number));
-                Ok(())
-            }
-            Err(back) => Err(back.future),
-        }
+        self.admit(future, number)?;
+        self.entries.push_back_reserved(Entry::Running(number));
+        Ok(())
     }
 
     /// As `add_back`, before all others: its output is the next to be yielded.
     pub fn add_front(&mut self, future: Q::Future) -> Result<(), Q::Future>
         requires { IsNumbered Q.with_number Q.count self.old }
-        ensures pushed { OnOk result (AddsFront Q.pushes self.old.queue future self.new.queue) }
-        ensures back { IfErr result (λ back. HandsBack Q.may_refuse
-            self.old.queue future back self.new.queue) }
-        ensures large { IsAtEnd Q.refuses self.old.queue → IsErr result }
+        ensures push { PushesOrHandsBack (AddsFront Q.pushes) Q.may_refuse Q.refuses Q.keeps
+            self.old.queue future result self.new.queue }
         ensures keeps { AddingKeeps Q.with_number Q.count Q.keeps self.old self.new }
     {
-        if !self.reserve_entry() {
-            return Err(future);
-        }
         let number = self.outgoing.wrapping_sub(1);
-        match self.set.push_numbered(Numbered { future, number }) {
-            Ok(()) => {
-                self.outgoing = number;
-                self.entries.push_front_reserved(Entry::Running(number));
-                Ok(())
-            }
-            Err(back) => Err(back.future),
-        }
+        self.admit(future, number)?;
+        self.outgoing = number;
+        self.entries.push_front_reserved(Entry::Running(number));
+        Ok(())
     }
 
     #[tactic(auto, using(crate::proofs::OrderedEntriesLemmas::adds_one_more))]
@@ -187,9 +187,8 @@ impl<Q: NumberedSet, A: Drop> OrderedEntries<Q, A> {
     pub fn extend<I: IntoIterator<Item = Q::Future>>(&mut self, iter: I) -> Result<(), Q::Future>
         requires finite { IsFiniteSource I.IntoIterator I.IntoIter.Iterator iter }
         requires numbered { IsNumbered Q.with_number Q.count self.old }
-        ensures all { OnOk result (HoldsAllOf I.IntoIterator I.IntoIter.Iterator iter
-            (AddsEachBack Q.pushes self.old.queue) self.new.queue) }
-        ensures stops { IfErr result (λ back. StopsAt Q.pushes Q.may_refuse I.IntoIterator I.IntoIter.Iterator iter self.old.queue back self.new.queue) }
+        ensures extends { Extends I.IntoIterator I.IntoIter.Iterator iter (AddsBack Q.pushes)
+            (RefusesOne Q.may_refuse) self.old.queue result self.new.queue }
         ensures keeps { AddingKeeps Q.with_number Q.count Q.keeps self.old self.new }
     {
         for item in iter {
@@ -251,7 +250,7 @@ impl<Q: NumberedSet, A: Drop> OrderedEntries<Q, A> {
 
     /// One poll of the queue, where `rule` says how one held future is polled.
     ///
-    /// `Ready(None)` where there is no entry. A front whose output is kept leaves with it, and the set is not asked. Else the set is polled again and again: each output that it gives is kept in its entry, until the front's has come and is yielded, or the set answers `Pending`. Takes no memory. Takes the time of the set's polls, of which there is at most one more than outputs came.
+    /// `Ready(None)` where there is no entry. A front whose output is kept leaves with it, and the set is not asked. Else the set is polled again and again: each output that it gives is kept in its entry, until the front's has come and is yielded, or the set answers `Pending`. Takes no memory but what the set's polls take, and their time: there is at most one more of them than outputs came.
     pub fn poll_entries<R>(&mut self, rule: &R, cx: &mut Context<'_>) -> Poll<Option<A>>
     where
         Q: PollNumberedSet<R, Output = A>,

@@ -3,7 +3,7 @@ ghost use Rattle.std.specs.Prelude.{◌≡◌, length};
 ghost use Rattle.futures_buffered_unordered.specs.StreamAnswers.{StreamAnswers};
 ghost use Rattle.futures_buffered_unordered.specs.FuturesUnordered.{AnyNeeds, EachCovered};
 ghost use Rattle.futures_buffered_ordered.specs.OrderedEntries.{ComesInOrder, OrderedGives, PollsQueue, PollsQueueTask};
-ghost use Rattle.futures_buffered_ordered.specs.FuturesOrdered.{EachInProgress, GroupsGiveNumbered, GroupsLeaveTaskNumbered, GrowingMayGive, held_in_groups};
+ghost use Rattle.futures_buffered_ordered.specs.FuturesOrdered.{EachInProgress, GroupsGiveNumbered, GroupsLeaveTaskNumbered, GrowingMayGive, SameLimit, held_in_groups};
 
 use crate::futures_ordered::GrowingQueue;
 use futures::Stream;
@@ -36,8 +36,8 @@ where
         ensures stream { StreamAnswers (λ q. EachInProgress T.can_poll q.set)
             (λ q. AnyNeeds S.needs q.set.groups.listed)
             (ComesInOrder (GrowingMayGive T.polled)) self.old result self.new cx.old cx.new }
-        ensures queue { PollsQueue (EachInProgress T.can_poll) held_in_groups
-            (λ old new. new.limit ≡ old.limit) self.old result self.new }
+        ensures queue { PollsQueue (EachInProgress T.can_poll) held_in_groups SameLimit
+            self.old result self.new }
         ensures task { PollsQueueTask (GroupsGiveNumbered T.polled S.steps)
             (GroupsLeaveTaskNumbered T.polled S.steps S.registers_poll) held_in_groups
             (λ left set. EachCovered S.needs left set.groups.listed)

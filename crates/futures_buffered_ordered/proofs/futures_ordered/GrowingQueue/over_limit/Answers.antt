@@ -1,4 +1,4 @@
-use Rattle.std.proofs.Common.{sym, subst}
+use Rattle.std.proofs.Common.{rules, sym, subst}
 use Rattle.futures_buffered_unordered.specs.FuturesUnordered.{Growing, IsNewGrowing}
 use Rattle.futures_buffered_ordered.specs.declared.numbered.Numbered.{Numbered}
 use Rattle.futures_buffered_ordered.specs.FuturesOrdered.{held_in_groups, held_in_groups_with}
@@ -9,15 +9,19 @@ use Rattle.futures_buffered_ordered.proofs.futures_ordered.GrowingQueue.over_lim
 pub invariant_of-result : goal.invariant_of-result
 invariant_of-result g c =
     let set = c.in_ok-set.set in
-    let empty = c.in_ok-set.ensures.empty in
+    let empty = c.in_ok-set.ensures.made in
     let made = c.in_ok-queue.ensures in
     new_is_numbered held_in_groups_with held_in_groups c.in_ok-queue.queue set made.set made.entries made.first (new_numbers g.S.NewSource.made c.args.n _ set empty) (new_held g.S.NewSource.made c.args.n _ set empty)
 
-pub returns-clause-empty : goal.returns-clause-empty
-returns-clause-empty g c =
+pub returns : goal.returns
+returns g c =
     let made = c.in_ok-queue.ensures in
     record {
-      new_set = subst (λ (set : Growing (Numbered g.row.T.Denot) g.row.S.Denot). IsNewGrowing g.S.NewSource.made c.args.n c.args.limit set) (sym made.set) c.in_ok-set.ensures.empty;
-      no_entries = made.entries;
-      has_room = made.room;
+      made = record {
+        new_set = subst (λ (set : Growing (Numbered g.row.T.Denot) g.row.S.Denot). IsNewGrowing g.S.NewSource.made c.args.n c.args.limit set) (sym made.set) c.in_ok-set.ensures.made;
+        no_entries = made.entries;
+        has_room = made.room;
+      };
+      refuses = search rules;
+      none = search rules;
     }

@@ -7,5 +7,5 @@ use Rattle.futures_buffered_ordered.proofs.futures_ordered_bounded.BoundedQueue.
 pub invariant_of-result : goal.invariant_of-result
 invariant_of-result g c =
     let made = c.in_ok-queue.ensures in
-    let free = ap (λ (set : Bounded (Numbered g.row.T.Denot) g.row.S.Denot). set.slots) made.set ∙ c.in_ok-set.ensures.new.none_held in
-    new_keeps c.in_ok-queue.queue c.args.capacity free made.entries made.room made.first (omega (arith, c.in_ok-set.ensures.refuses.fits))
+    let free = ap (λ (set : Bounded (Numbered g.row.T.Denot) g.row.S.Denot). set.slots) made.set ∙ c.in_ok-set.ensures.made.none_held in
+    new_keeps c.in_ok-queue.queue c.args.n free made.entries made.room made.first (omega (arith, c.in_ok-set.ensures.refuses.fits))

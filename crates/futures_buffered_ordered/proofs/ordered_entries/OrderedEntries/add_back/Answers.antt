@@ -1,16 +1,23 @@
 use Rattle.std.proofs.lemmas.Grind.{common_steps}
-use Rattle.std.proofs.Common.{rules, ◌≡◌, ◌+◌, ◌%◌, ◌^◌, ◌<◌, length, refl, sym, subst, arith}
-use Rattle.futures_buffered_ordered.specs.OrderedEntriesInvariant.{IsNumbered, KeepsNumbers, Numbering}
-use Rattle.futures_buffered_ordered.proofs.OrderedEntriesInvariantLemmas.{back_keeps, stays_numbered}
+use Rattle.std.proofs.Common.{rules, ◌≡◌, ◌+◌, ◌++◌, [], ◌∷◌, ◌%◌, ◌^◌, length, sym, subst, ap, arith, ◌∙◌}
+use Rattle.futures_buffered_ordered.specs.OrderedEntriesInvariant.{KeepsNumbers, Numbering}
+use Rattle.futures_buffered_ordered.specs.declared.ordered_entries.Entry.TheVariants.{Running}
+use Rattle.futures_buffered_ordered.proofs.OrderedEntriesInvariantLemmas.{back_admitted}
 use Rattle.futures_buffered_ordered.proofs.ordered_entries.OrderedEntries.add_back.Goals as goal
 
-pub returns-in-Ok-clause-keeps : goal.returns-in-Ok-clause-keeps
-returns-in-Ok-clause-keeps g c =
-    let keeps : KeepsNumbers g.Q.NumberedSet.with_number g.Q.NumberedSet.count c.self.inside.set c.self.inside.entries.items c.self.inside.outgoing = subst (λ (v : Numbering g.row.Q.Denot g.row.A.Denot). IsNumbered g.Q.NumberedSet.with_number g.Q.NumberedSet.count v) (sym c.self.view_is) (stays_numbered _ _ c.args.self.now c.reserve_entry.new.self c.requires c.reserve_entry.ensures.stays c.reserve_entry.ensures.same) in
-    let long : c.len.result ≡ length c.self.inside.entries.items = grind (arith, common_steps) in
-    let fits : length c.self.inside.entries.items + 1 < 2 ^ 63 = grind (arith, common_steps) in
+pub returns-clause-keeps : goal.returns-clause-keeps
+returns-clause-keeps g c =
+    let set = g.Q.NumberedSet in
+    let old = c.args.self.now in
+    let mid = c.admit.new.self in
+    let after = c.push_back_reserved.new.self.items in
+    let number = (c.self.inside.outgoing + c.len.result) % 2 ^ 64 in
+    let long : c.len.result ≡ length old.queue.entries = grind (arith, common_steps) in
+    let is : number ≡ (old.outgoing + c.len.result) % 2 ^ 64 = ap (λ (v : Numbering g.row.Q.Denot g.row.A.Denot). (v.outgoing + c.len.result) % 2 ^ 64) c.self.view_is in
+    let now : after ≡ mid.queue.entries ++ Running number ∷ [] = c.push_back_reserved.ensures.items ∙ ap (λ (v : Numbering g.row.Q.Denot g.row.A.Denot). v.queue.entries ++ Running number ∷ []) c.self-2.view_is in
     record {
       set = search rules;
       room = search rules;
-      numbered = back_keeps g.Q.NumberedSet.with_number g.Q.NumberedSet.count c.self.inside.set c.push_numbered.new.self c.self.inside.entries.items c.self.inside.outgoing ((c.self.inside.outgoing + c.len.result) % 2 ^ 64) keeps c.in-Ok.ensures.pushed.numbers c.in-Ok.ensures.pushed.one_more fits c.len.result c.push_back_reserved.new.self.items long refl c.push_back_reserved.ensures.items;
+      numbered = subst (λ (v : Numbering g.row.Q.Denot g.row.A.Denot). KeepsNumbers set.with_number set.count v.queue.set after v.outgoing) (sym c.self-2.view_is)
+          (back_admitted set.pushes set.count set.with_number set.keeps old mid c.args.future number c.len.result after c.requires c.in_ok-admit.ensures.admitted c.in_ok-admit.ensures.same long is now);
     }

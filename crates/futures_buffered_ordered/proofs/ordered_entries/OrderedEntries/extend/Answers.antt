@@ -1,10 +1,12 @@
 use Rattle.std.proofs.Common.{rules}
-use Rattle.futures_buffered_ordered.specs.OrderedEntries.{StopsAt}
+use Rattle.futures_buffered_unordered.specs.Extended.{ExtendsUntil}
+use Rattle.futures_buffered_ordered.specs.OrderedEntries.{AddsBack, RefusesOne}
 use Rattle.futures_buffered_ordered.proofs.ordered_entries.OrderedEntries.extend.Goals as goal
 
-pub returns-in_err-add_back-clause-stops : goal.returns-in_err-add_back-clause-stops
-returns-in_err-add_back-clause-stops g c =
-    let stops : StopsAt g.Q.NumberedSet.pushes g.Q.NumberedSet.may_refuse g.I.IntoIterator g.I.IntoIter.Iterator c.args.iter c.args.self.now.queue c.in-Some.item c.add_back.new.self.queue = record {
+pub returns-in_err-add_back-clause-extends : goal.returns-in_err-add_back-clause-extends
+returns-in_err-add_back-clause-extends g c =
+    let back = c.in_err-add_back.ensures.push.back in
+    let stops : ExtendsUntil g.I.IntoIterator g.I.IntoIter.Iterator c.args.iter (AddsBack g.Q.NumberedSet.pushes) (RefusesOne g.Q.NumberedSet.may_refuse) c.args.self.now.queue c.in-Some.item c.add_back.new.self.queue = record {
       items = c.loop-item.yielded;
       it = c.into_iter-item-iterator.result;
       rest = c.next.new.self;
@@ -12,6 +14,6 @@ returns-in_err-add_back-clause-stops g c =
       came = search rules;
       stopped = c.loop-item.self.queue;
       added = c.loop-item.invariant.2;
-      refused = (c.in_err-add_back.ensures.back.may_refuse, c.in_err-add_back.ensures.back.stays);
+      refused = (back.may_refuse, back.stays);
     } in
     search (rules, stops)
