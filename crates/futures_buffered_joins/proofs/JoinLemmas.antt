@@ -11,7 +11,7 @@ use Rattle.futures_buffered_unordered.specs.Held.{AllHeld}
 use Rattle.futures_buffered_joins.specs.Joining.{Places, MayBeAll}
 use Rattle.futures_buffered_joins.specs.JoinRule.{Outcome, output_kept}
 use Rattle.futures_buffered_joins.specs.Join.{JoinGives, JoinMayGive, JoinsByPlace}
-use Rattle.futures_buffered_joins.specs.JoinTask.{PollsJoin}
+use Rattle.futures_buffered_joins.specs.JoinTask.{PollsJoin, ReadySourceOf, SlotFutureOf, JoinRuleOf}
 use Rattle.futures_buffered_joins.proofs.JoiningGivenLemmas.{all_back, all_now, any_back, waits_back, by_place}
 
 module _ {F O A E S : Type 0} (polled : ℕ → F → Poll O → F → Type 0) (steps : SourceSteps S) (output_of : Result A E → O) where
@@ -35,18 +35,6 @@ module _ {F O A E S : Type 0} (polled : ℕ → F → Poll O → F → Type 0) (
       by_outcome (Ok outputs) all = all_back polled steps (output_kept output_of) h.0 old h.1 outputs h.2 (waits_back polled steps (output_kept output_of) h.1 new outputs h.3 all)
       by_outcome (Err e) any = any_back polled steps (output_kept output_of) h.0 old h.1 (output_of (Err e)) h.2 (gives_passed polled h.3.is_pending.0 h.1.set.slots new.set.slots (output_of (Err e)) h.3.is_pending.3.passes any)
 
-  -- all that a poll promises that is ready, by what its answer shows
-  pub polls_ready : {B : Type 0} (seen : B → Outcome A E) (can_poll : F → Type 0) (old new : Option (Places F A S)) (answer : B) (outcome : Outcome A E) → seen answer ≡ outcome → JoinGives polled steps output_of old (Ready outcome) new → new ≡ None
-      → PollsJoin (JoinGives polled steps output_of) (JoinMayGive polled output_of) seen can_poll old (Ready answer) new
-  polls_ready seen can_poll old new answer outcome shows gives ended =
-      let gave = subst (λ (r : Outcome A E). JoinGives polled steps output_of old (Ready r) new) (sym shows) gives in
-      record { gave = gave; value = ready_value old new (Ready (seen answer)) gave; again = tt; same = tt; ended = ended }
-
-  -- and of one that is Pending, and can be polled again
-  pub polls_pending : {B : Type 0} (seen : B → Outcome A E) (can_poll : F → Type 0) (old new : Option (Places F A S)) → JoinGives polled steps output_of old Pending new → IfSome new (λ places. AllHeld can_poll places.set.slots)
-      → PollsJoin (JoinGives polled steps output_of) (JoinMayGive polled output_of) seen can_poll old Pending new
-  polls_pending seen can_poll old new gives again = record { gave = gives; value = tt; again = again; same = pending_same old new Pending gives; ended = tt }
-
   later_back : (later : List (Places F A S)) (first last : Places F A S) (outputs : List A) → FoldsTo (λ old left new. JoinGives polled steps output_of (Some old) Pending (Some left) × (new ≡ left)) first later last → MayBeAll polled (output_kept output_of) last outputs → MayBeAll polled (output_kept output_of) first outputs
   later_back [] first last outputs ran all = subst (λ (w : Places F A S). MayBeAll polled (output_kept output_of) w outputs) (sym ran) all
   later_back (left ∷ later) first last outputs ran all =
@@ -55,3 +43,14 @@ module _ {F O A E S : Type 0} (polled : ℕ → F → Poll O → F → Type 0) (
   pub joins_by_place : (made : ℕ → S → Type 0) (marks : S → ℕ → Woke → S → Type 0) (names : ℕ) → JoinsByPlace polled steps output_of made marks names
   joins_by_place made marks names items first last later outputs after new ran gives =
       by_place polled steps (output_kept output_of) made marks names items first outputs new (later_back later first last outputs ran (ready_value (Some last) after (Ready (Ok outputs)) gives))
+
+module _ {F W R O A E B S V : Type 0} (future : SlotFutureOf F W O) (rule : JoinRuleOf R O A E B) (source : ReadySourceOf S V) where
+  -- all that a poll promises that is ready, by what its answer shows
+  pub polls_ready : (old new : Option (Places F A S)) (answer : B) (outcome : Outcome A E) → rule.seen answer ≡ outcome → JoinGives future.polled source.steps rule.output_of old (Ready outcome) new → new ≡ None → PollsJoin future rule source old (Ready answer) new
+  polls_ready old new answer outcome shows gives ended =
+      let gave = subst (λ (r : Outcome A E). JoinGives future.polled source.steps rule.output_of old (Ready r) new) (sym shows) gives in
+      record { gave = gave; value = ready_value future.polled source.steps rule.output_of old new (Ready (rule.seen answer)) gave; again = tt; same = tt; ended = ended }
+
+  -- and of one that is Pending, and can be polled again
+  pub polls_pending : (old new : Option (Places F A S)) → JoinGives future.polled source.steps rule.output_of old Pending new → IfSome new (λ places. AllHeld future.can_poll places.set.slots) → PollsJoin future rule source old Pending new
+  polls_pending old new gives again = record { gave = gives; value = tt; again = again; same = pending_same future.polled source.steps rule.output_of old new Pending gives; ended = tt }

@@ -1,22 +1,20 @@
 -- What a join is made of.
-use Rattle.std.specs.Prelude.{ℕ, ◌≤◌, List, Option, IsSomeAnd}
-use Rattle.futures_buffered_core.specs.SlotMap.{slot_count}
+use Rattle.std.specs.Prelude.{ℕ, Option, Some, None, IsSomeAnd, Result}
+use Rattle.futures_buffered_core.specs.Drawn.{SourceOf, IteratorOf}
+use Rattle.futures_buffered_table.specs.declared.answer.NewFault.{NewFault}
 use Rattle.futures_buffered_table.specs.declared.answer.Woke.{Woke}
-use Rattle.futures_buffered_joins.specs.Joining.{Places, IsNewJoin}
+use Rattle.futures_buffered_unordered.specs.Extended.{MakesFull}
+use Rattle.futures_buffered_joins.specs.Joining.{Places, IsNewJoin, places_in}
 
--- A join that was made of what an iterator gave, of which `came` tells, with at most so many places.
-pub record IsMadeOf
-    {F A S : Type 0}
-    (came : List F → Type 0)
-    (made : ℕ → S → Type 0)
-    (marks : S → ℕ → Woke → S → Type 0)
-    (names most : ℕ)
-    (join : Option (Places F A S))
-    : Type 0 where
-  pub items : List F
-  -- the iterator gave these items
-  pub drawn : came items
-  -- each waits at its place, and no output has come
-  pub waits_for : IsSomeAnd join (IsNewJoin made marks names items)
-  -- no more places than there may be
-  pub fits : IsSomeAnd join (λ places. slot_count places.set.slots ≤ most)
+-- how many places a join has, and none once it has ended
+abbrev pub join_places : {F A S : Type 0} → Option (Places F A S) → ℕ
+join_places None = 0
+join_places (Some places) = places_in places
+
+-- What a constructor of a join makes of what an iterator gives, or why it makes nothing. It makes a
+-- join that has a place for each item: the item waits there, and no output has come.
+abbrev pub MakesJoin : {U F I A S : Type 0} → SourceOf U F I → IteratorOf I F → U
+    → (ℕ → S → Type 0) → (S → ℕ → Woke → S → Type 0) → ℕ
+    → Result (Option (Places F A S)) NewFault → Type 0
+MakesJoin by gives source made marks names = MakesFull by gives source join_places
+    (λ items join. IsSomeAnd join (IsNewJoin made marks names items))

@@ -11,7 +11,7 @@ use Rattle.futures_buffered_table.specs.declared.answer.Woke.{Woke}
 use Rattle.futures_buffered_core.specs.ReadySource.{SourceSteps}
 use Rattle.futures_buffered_unordered.specs.Held.{MayGive}
 use Rattle.futures_buffered_unordered.specs.FuturesUnorderedBounded.{Bounded, HoldsEach, AsksUntil}
-use Rattle.futures_buffered_unordered.specs.FuturesUnorderedBounded.{with_empty_slot}
+use Rattle.futures_buffered_unordered.specs.FuturesUnorderedBounded.{slots_in, with_empty_slot}
 use Rattle.futures_buffered_unordered.specs.FuturesUnorderedBounded.{LeavesTask, OnlyRegisters}
 
 -- the places of a join that has not ended: a set of the futures that it waits for, each in the slot
@@ -30,6 +30,10 @@ places_code {F} {A} {S} code set_code =
     (λ p. (p.set, p.outputs))
     (λ p. record { set = p.0; outputs = p.1 })
     (λ _. refl)
+
+-- how many places there are
+abbrev pub places_in : {F A S : Type 0} → Places F A S → ℕ
+places_in places = slots_in places.set
 
 -- the output that has come at a place, if any
 abbrev pub output_at : {F A S : Type 0} → Places F A S → ℕ → Option A

@@ -1,12 +1,12 @@
 //! All of some futures, whose outputs come together.
-ghost use Rattle.std.specs.Prelude.{◌≡◌, IfOk};
-ghost use Rattle.futures_buffered_core.specs.Drawn.{Draws, IsFiniteSource, RefusesTooMany};
+ghost use Rattle.std.specs.Prelude.{◌≡◌};
+ghost use Rattle.futures_buffered_core.specs.Drawn.{IsFiniteSource};
 ghost use Rattle.futures_buffered_core.specs.ReadyShared.{IsNewShared, MarksShared};
-ghost use Rattle.futures_buffered_joins.specs.JoinMade.{IsMadeOf};
+ghost use Rattle.futures_buffered_joins.specs.JoinMade.{MakesJoin};
 
 pub use crate::join_by::outputs_come_by_place;
 use crate::join_by::{JoinBy, JoinName, JoinRule};
-use futures_buffered_core::ready_core::{MAX_CAPACITY, NewFault};
+use futures_buffered_core::ready_core::NewFault;
 use futures_buffered_core::ready_shared::{SharedReady, SharedWaker};
 use futures_buffered_core::ready_source::ReadySource;
 use futures_buffered_unordered::SlotFuture;
@@ -64,10 +64,8 @@ where
     I::Item: SlotFuture<SharedWaker>,
     <I::Item as SlotFuture<SharedWaker>>::Output: Drop,
     requires { IsFiniteSource I.IntoIterator I.IntoIter.Iterator iter }
-    ensures made { IfOk result (IsMadeOf
-        (Draws I.IntoIterator I.IntoIter.Iterator iter)
-        IsNewShared MarksShared POLL_LIMIT MAX_CAPACITY) }
-    ensures large { RefusesTooMany I.IntoIterator I.IntoIter.Iterator iter result }
+    ensures { MakesJoin I.IntoIterator I.IntoIter.Iterator iter
+        IsNewShared MarksShared POLL_LIMIT result }
 {
     Join::over(&(), alloc, iter)
 }

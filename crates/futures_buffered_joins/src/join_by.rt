@@ -1,17 +1,17 @@
 //! A join by a rule: what is kept of each output, which output ends the join at once, and what the join is ready with.
-ghost use Rattle.std.specs.Prelude.{◌≡◌, None, IfOk, IfSome, IsSomeAnd};
-ghost use Rattle.futures_buffered_core.specs.Drawn.{Draws, IsFiniteSource, RefusesTooMany};
+ghost use Rattle.std.specs.Prelude.{◌≡◌, None, IfSome, IsSomeAnd};
+ghost use Rattle.futures_buffered_core.specs.Drawn.{IsFiniteSource};
 ghost use Rattle.futures_buffered_unordered.specs.Held.{AllHeld};
 ghost use Rattle.futures_buffered_joins.specs.Joining.{Places};
-ghost use Rattle.futures_buffered_joins.specs.JoinMade.{IsMadeOf};
+ghost use Rattle.futures_buffered_joins.specs.JoinMade.{MakesJoin};
 ghost use Rattle.futures_buffered_joins.specs.JoinTask.{PollsJoin, PollsTask};
-ghost use Rattle.futures_buffered_joins.specs.JoinRule.{output_kept};
-ghost use Rattle.futures_buffered_joins.specs.Join.{JoinGives, JoinMayGive, JoinsByPlace};
+ghost use Rattle.futures_buffered_joins.specs.Join.{JoinMayGive, JoinsByPlace};
 
+pub use crate::join_rule::{JoinName, JoinRule};
 use crate::joining::Joining;
 use futures::Future;
 use futures::task::{Context, Poll};
-use futures_buffered_core::ready_core::{MAX_CAPACITY, NewFault};
+use futures_buffered_core::ready_core::NewFault;
 use futures_buffered_core::ready_source::{NewSource, ReadySource};
 use futures_buffered_unordered::futures_unordered_bounded::POLL_LIMIT;
 use futures_buffered_unordered::{FusedFuture, SlotFuture};
@@ -19,44 +19,9 @@ use std::alloc::Global;
 use std::fmt;
 use std::marker::{Model, PhantomData};
 
-/// What a join makes of outputs `O`.
-pub trait JoinRule<O> {
-    ghost use Rattle.std.specs.Prelude.{Result};
-    ghost use Rattle.futures_buffered_joins.specs.JoinRule.{Outcome, shown_by_result};
-
-    /// What is kept of an output.
-    type Kept: Drop;
-
-    /// With what an output ends the join at once.
-    type Error;
-
-    /// What the join is ready with.
-    type Answer;
-
-    // The output that is kept so, or that ends the join so.
-    ghost output_of: { Result Self.Kept Self.Error → O };
-
-    // What an answer shows.
-    ghost seen: { Self.Answer → Outcome Self.Kept Self.Error };
-
-    /// What is kept of an output, or the error by which it ends the join.
-    fn keep(output: O) -> Result<Self::Kept, Self::Error>
-        ensures { output_of result ≡ output };
-
-    /// The answer of a join that has all outputs, or that an error ended.
-    fn answer(outcome: Result<Vec<Self::Kept>, Self::Error>) -> Self::Answer
-        ensures { seen result ≡ shown_by_result outcome };
-}
-
-/// What a join by this rule is called where it is printed.
-pub trait JoinName {
-    /// The name that a caller writes.
-    fn join_name() -> &'static str;
-}
-
 /// All of some futures by a rule `R`: ready once each of them is done, with what is kept of their outputs, each at its future's place, or as soon as an output ends it.
 ///
-/// A contract sees the places, or nothing once the join has ended: a set of the futures that are waited for, each in the slot of its place, and the outputs that have come. A poll takes no memory. Once the join has ended, early too, it holds nothing, and further polls give what shows an empty vector.
+/// A contract sees the places, or nothing once the join has ended: a set of the futures that are waited for, each in the slot of its place, and the outputs that have come. A poll takes no memory but what the calls of the source take. Once the join has ended, early too, it holds nothing, and further polls give what shows an empty vector.
 #[derive(Drop)]
 pub struct JoinBy<R, F: Drop, A: Drop, S: ReadySource> {
     joining: Option<Joining<F, A, S>>,
@@ -82,23 +47,19 @@ where
     R: JoinRule<O, Kept = A>,
     F: SlotFuture<S::Waker, Output = O>,
     A: Drop,
-    S: ReadySource,
+    S: NewSource,
 {
     /// A join of these futures, in their order, over a source made for them. Nothing is polled.
     ///
-    /// Takes time and memory in proportion to their number, all that the join ever needs. Where it is refused, the futures that came are dropped: `TooLarge` where one more than `MAX_CAPACITY` came, and `Memory` where a request for memory was refused.
+    /// Takes time and memory in proportion to their number, all that the join ever needs but what the calls of the source take. Where it is refused, the futures that came are dropped: `TooLarge` where one more than `MAX_CAPACITY` came, and `Memory` where a request for memory was refused.
     pub fn over<I: IntoIterator<Item = F>>(
         env: &S::Env,
         alloc: Global,
         iter: I,
     ) -> Result<Self, NewFault>
-    where
-        S: NewSource,
         requires { IsFiniteSource I.IntoIterator I.IntoIter.Iterator iter }
-        ensures made { IfOk result (IsMadeOf
-            (Draws I.IntoIterator I.IntoIter.Iterator iter)
-            S.made S.marks POLL_LIMIT MAX_CAPACITY) }
-        ensures large { RefusesTooMany I.IntoIterator I.IntoIter.Iterator iter result }
+        ensures { MakesJoin I.IntoIterator I.IntoIter.Iterator iter
+            S.made S.marks POLL_LIMIT result }
     {
         let joining = Joining::over(env, alloc, iter)?;
         Ok(JoinBy {
@@ -126,13 +87,12 @@ where
 
     /// Polls the set of the futures again and again, each output filling its place, until that is Pending, no future is left or an output ends the join. With no future left it is ready with all outputs; at an error it is ready with that error, and the other futures and all outputs are dropped in this call. In both cases it holds nothing more: later polls give no outputs, and poll nothing.
     ///
-    /// Takes no memory, and waits for nobody where the source's calls do not. Takes time in proportion to the names that its polls of the set take, and at the end to the number of places, besides the polls.
+    /// Takes no memory but what the calls of the source take, and waits for nobody where they do not. Takes time in proportion to the names that its polls of the set take, and at the end to the number of places, besides the polls.
     fn poll(&mut self, cx: &mut Context<'_>) -> Poll<R::Answer>
         requires { IfSome self.old (λ places. AllHeld F.can_poll places.set.slots) }
-        ensures join { PollsJoin (JoinGives F.polled S.steps R.output_of)
-            (JoinMayGive F.polled R.output_of) R.seen F.can_poll self.old result self.new }
-        ensures task { PollsTask F.polled S.steps (output_kept R.output_of) S.needs
-            S.registers_poll self.old self.new result cx.old cx.new }
+        ensures join { PollsJoin F.SlotFuture R.JoinRule S.ReadySource self.old result self.new }
+        ensures task { PollsTask F.SlotFuture R.JoinRule S.ReadySource
+            self.old self.new result cx.old cx.new }
         ensures untouched { self.old ≡ None → cx.new ≡ cx.old }
     {
         let Some(mut joining) = self.joining.take() else {

@@ -1,21 +1,20 @@
 //! What a join keeps until it ends: a set of its futures, and the outputs that have come.
-ghost use Rattle.std.specs.Prelude.{◌≡◌, ◌<◌, ◌+◌, Some, None, IfOk, IsSome, IsTrue, ◌↔◌, map, slice_set};
+ghost use Rattle.std.specs.Prelude.{◌≡◌, ◌<◌, ◌+◌, Some, None, IsSome, IsTrue, ◌↔◌, map, slice_set};
 ghost use Rattle.futures.specs.Poll.{OnPending};
 ghost use Rattle.futures.specs.declared.task.context.Context.{Context};
-ghost use Rattle.futures_buffered_core.specs.Drawn.{Draws, IsFiniteSource, RefusesTooMany};
+ghost use Rattle.futures_buffered_core.specs.Drawn.{IsFiniteSource};
 ghost use Rattle.futures_buffered_core.specs.SlotMap.{value_in, held_count};
 ghost use Rattle.futures_buffered_unordered.specs.Held.{AllHeld};
 ghost use Rattle.futures_buffered_unordered.specs.FuturesUnorderedBounded.{AsksSetTask, LeavesTask, with_empty_slot};
-ghost use Rattle.futures_buffered_joins.specs.Joining.{Places};
-ghost use Rattle.futures_buffered_joins.specs.JoinMade.{IsMadeOf};
+ghost use Rattle.futures_buffered_unordered.specs.Extended.{MakesFull};
+ghost use Rattle.futures_buffered_joins.specs.Joining.{IsNewJoin, Places, places_in};
 ghost use Rattle.futures_buffered_joins.specs.JoinTask.{PollsTask};
 ghost use Rattle.futures_buffered_joins.specs.JoiningFills.{FillsOne, FillsAll, FillsOrFails, WaitsOnce, WaitsAfter};
-ghost use Rattle.futures_buffered_joins.specs.JoinRule.{output_kept};
 ghost use Rattle.futures_buffered_joins.specs.Join.{Fails, FailsAfter};
 
-use crate::join_by::JoinRule;
+use crate::join_rule::JoinRule;
 use futures::task::{Context, Poll};
-use futures_buffered_core::ready_core::{MAX_CAPACITY, NewFault};
+use futures_buffered_core::ready_core::NewFault;
 use futures_buffered_core::ready_source::{NewSource, ReadySource};
 use futures_buffered_core::slot_map::empty_places;
 use futures_buffered_unordered::futures_unordered_bounded::{FuturesUnorderedBounded, POLL_LIMIT};
@@ -48,20 +47,16 @@ impl<F: Drop, A: Drop, S: ReadySource> Model for Joining<F, A, S> {
         s.gathered.items (vec_capacity s.gathered) };
 }
 
-impl<F: Drop, A: Drop, S: ReadySource> Joining<F, A, S> {
+impl<F: Drop, A: Drop, S: NewSource> Joining<F, A, S> {
     // Item k waits at place k, over a source made for the items.
     pub(crate) fn over<I: IntoIterator<Item = F>>(
         env: &S::Env,
         alloc: Global,
         iter: I,
     ) -> Result<Self, NewFault>
-    where
-        S: NewSource,
         requires { IsFiniteSource I.IntoIterator I.IntoIter.Iterator iter }
-        ensures made { IfOk result (λ places. IsMadeOf
-            (Draws I.IntoIterator I.IntoIter.Iterator iter)
-            S.made S.marks POLL_LIMIT MAX_CAPACITY (Some places)) }
-        ensures large { RefusesTooMany I.IntoIterator I.IntoIter.Iterator iter result }
+        ensures { MakesFull I.IntoIterator I.IntoIter.Iterator iter places_in
+            (IsNewJoin S.made S.marks POLL_LIMIT) result }
     {
         let set = FuturesUnorderedBounded::over(env, alloc, iter)?;
         let outputs = empty_places(alloc, set.capacity())?;
@@ -72,7 +67,9 @@ impl<F: Drop, A: Drop, S: ReadySource> Joining<F, A, S> {
             gathered,
         })
     }
+}
 
+impl<F: Drop, A: Drop, S: ReadySource> Joining<F, A, S> {
     // How many futures are waited for.
     pub(crate) fn len(&self) -> usize
         ensures { result ≡ held_count self.now.set.slots }
@@ -131,10 +128,11 @@ where
     ) -> Poll<Result<(), R::Error>>
         requires some { 0 < held_count self.old.set.slots }
         requires held { AllHeld F.can_poll self.old.set.slots }
-        ensures ready { FillsOrFails (FillsOne F.polled S.steps (output_kept R.output_of)
-            F.can_poll self.old self.new) (Fails F.polled S.steps R.output_of self.old) result }
-        ensures pending { OnPending result (WaitsOnce F.polled S.steps
-            (output_kept R.output_of) F.can_poll self.old self.new) }
+        ensures ready { FillsOrFails
+            (FillsOne F.SlotFuture R.JoinRule S.ReadySource self.old self.new)
+            (Fails F.polled S.steps R.output_of self.old) result }
+        ensures pending { OnPending result
+            (WaitsOnce F.SlotFuture R.JoinRule S.ReadySource self.old self.new) }
         ensures task { AsksSetTask S.steps S.needs (S.registers_poll self.old.set.source)
             (LeavesTask F.polled S.steps S.registers_poll self.old.set self.new.set)
             self.new.set.source result cx.old cx.new }
@@ -157,13 +155,13 @@ where
         cx: &mut Context<'_>,
     ) -> Poll<Result<(), R::Error>>
         requires { AllHeld F.can_poll self.old.set.slots }
-        ensures ready { FillsOrFails (FillsAll F.polled S.steps (output_kept R.output_of)
-            F.can_poll self.old self.new) (FailsAfter F.polled S.steps R.output_of self.old)
-            result }
-        ensures pending { OnPending result (WaitsAfter F.polled S.steps
-            (output_kept R.output_of) F.can_poll self.old self.new) }
-        ensures task { PollsTask F.polled S.steps (output_kept R.output_of) S.needs
-            S.registers_poll (Some self.old) (Some self.new) result cx.old cx.new }
+        ensures ready { FillsOrFails
+            (FillsAll F.SlotFuture R.JoinRule S.ReadySource self.old self.new)
+            (FailsAfter F.polled S.steps R.output_of self.old) result }
+        ensures pending { OnPending result
+            (WaitsAfter F.SlotFuture R.JoinRule S.ReadySource self.old self.new) }
+        ensures task { PollsTask F.SlotFuture R.JoinRule S.ReadySource
+            (Some self.old) (Some self.new) result cx.old cx.new }
     {
         'places: while !self.is_done() {
             match self.fill_one::<R>(cx) {

@@ -4,12 +4,14 @@
 //!
 //! - `join`: `join_all` and `JoinAll`, ready with all outputs once the last future is done.
 //! - `try_join`: `try_join_all` and `TryJoinAll`, whose futures may fail, ready at the first error as well.
-//! - `join_by`: the type of both, by a rule: what is kept of an output, and which output ends the join.
+//! - `join_rule`: by what rule a join goes: what is kept of an output, and which output ends the join.
+//! - `join_by`: the type of both, by a rule.
 //! - `joining`: what a join keeps until it ends, a set of the futures and the outputs that have come.
 #![tactic(auto)]
 
 pub mod join;
 pub mod join_by;
+pub mod join_rule;
 mod joining;
 pub mod try_join;
 
