@@ -4,15 +4,18 @@
 //!
 //! - `slot_stream`: `SlotStream`, what a merge holds: a stream that is polled with the waker of its slot; and `PollStream`, the rule that polls it.
 //! - `merging`: one poll of the streams that a set holds.
+//! - `merge_of`: `MergeOf`, the type of both merges, by the set in which the streams are held.
 //! - `merge_bounded`: `MergeBounded`, as many streams as it has slots.
 //! - `merge_unbounded`: `MergeUnbounded`, any number of streams, in groups of slots.
 #![tactic(auto)]
 
 pub mod merge_bounded;
+pub mod merge_of;
 pub mod merge_unbounded;
 mod merging;
 pub mod slot_stream;
 
 pub use merge_bounded::{Merge, MergeBounded};
+pub use merge_of::{MergeOf, StreamSet};
 pub use merge_unbounded::MergeUnbounded;
 pub use slot_stream::{PollStream, SlotStream};

@@ -1,53 +1,50 @@
 //! As many streams as it has slots, polled as one.
 //!
 //! Each stream stands in a slot, and a poll asks the source which slots to poll, as a set of futures does. A stream that gives an item stays, and its slot is marked, so that a later poll polls it again behind the others that were marked before. A stream that ends leaves its slot to the next push.
-ghost use Rattle.std.specs.Prelude.{◌≡◌, ◌<◌, ◌≤◌, ◌+◌, ◌↔◌, IfOk, IfErr, OnOk, IsTrue};
-ghost use Rattle.std.specs.List.{FoldsTo};
-ghost use Rattle.futures_buffered_core.specs.Drawn.{IsFiniteSource, RefusesTooMany};
+ghost use Rattle.std.specs.Prelude.{◌≡◌, ◌<◌, ◌≤◌, ◌↔◌, IsTrue};
+ghost use Rattle.futures_buffered_core.specs.Drawn.{IsFiniteSource};
 ghost use Rattle.futures_buffered_core.specs.ReadyShared.{IsNewShared, MarksShared};
 ghost use Rattle.futures_buffered_core.specs.SlotMap.{held_count, slot_count, IsFull};
 ghost use Rattle.futures_buffered_unordered.specs.StreamAnswers.{StreamAnswers};
 ghost use Rattle.futures_buffered_unordered.specs.Held.{AllHeld};
-ghost use Rattle.futures_buffered_unordered.specs.FuturesUnorderedBounded.{HoldsEach, OnlyRegisters, Pushes, emptied};
-ghost use Rattle.futures_buffered_unordered.specs.Extended.{ExtendsUntil, HoldsAllOf};
+ghost use Rattle.futures_buffered_unordered.specs.FuturesUnorderedBounded.{HoldsEach, OnlyRegisters, Pushes, PushesIfRoom, PushesOne, emptied, held_in, slots_in};
+ghost use Rattle.futures_buffered_unordered.specs.Extended.{Extends, MakesFull};
 ghost use Rattle.futures_buffered_merges.specs.Merging.{MergeGives, PollsStreams, PollsStreamsTask};
 ghost use Rattle.futures_buffered_merges.specs.MergeBounded.{KeepsOrder, KeepsOrderWithPushes, ComesFromStreams};
 
+use crate::merge_of::{MergeOf, StreamSet};
 use crate::merging::poll_streams;
 use crate::slot_stream::SlotStream;
 use futures::Stream;
 use futures::task::{Context, Poll};
-use futures_buffered_core::ready_core::{MAX_CAPACITY, NewFault};
+use futures_buffered_core::ready_core::NewFault;
 use futures_buffered_core::ready_shared::SharedReady;
 use futures_buffered_core::ready_source::{NewSource, ReadySource};
-use futures_buffered_unordered::fused::{FusedStream, SizeHint};
+use futures_buffered_unordered::fused::FusedStream;
 use futures_buffered_unordered::futures_unordered_bounded::{FuturesUnorderedBounded, POLL_LIMIT};
 use std::alloc::Global;
-use std::fmt;
-use std::marker::Model;
 
 /// Streams in slots, over a source that names the slots to poll.
 ///
-/// A contract sees what each slot holds and which slots are free, the content of the source, and the limit of names of one count. The calls take no memory once the merge is made, and wait for nobody where those of the source do not.
-#[derive(Drop)]
-pub struct MergeBounded<St: Drop, S: ReadySource> {
-    set: FuturesUnorderedBounded<St, S>,
-}
+/// A contract sees what each slot holds and which slots are free, the content of the source, and the limit of names of one count. Once the merge is made its calls take no memory but what those of the source take, and they wait for nobody where those of the source do not.
+pub type MergeBounded<St, S> = MergeOf<FuturesUnorderedBounded<St, S>>;
 
 /// The same merge, by its short name.
 pub type Merge<St, S> = MergeBounded<St, S>;
 
-impl<St: Drop, S: ReadySource> Model for MergeBounded<St, S> {
-    ghost use Rattle.futures_buffered_unordered.specs.FuturesUnorderedBounded.{Bounded, bounded_code};
+impl<St: Drop, S: ReadySource> StreamSet for FuturesUnorderedBounded<St, S> {
+    ghost count = { held_in };
 
-    ghost Value = { Bounded St S };
+    fn streams_held(&self) -> usize {
+        self.len()
+    }
 
-    ghost coded = { bounded_code St.code S.code };
-
-    ghost view = { λ m. m.set };
+    fn merge_name() -> &'static str {
+        "MergeBounded"
+    }
 }
 
-impl<St: Drop, S: ReadySource> MergeBounded<St, S> {
+impl<St: Drop, S: NewSource> MergeBounded<St, S> {
     /// A merge without a free slot, which holds item k in slot k, each marked, in this order. It has as many slots as there are items, and a source made for it.
     ///
     /// Takes time and memory in proportion to that number. Where it is refused, the streams that came are dropped: `TooLarge` where one more than `MAX_CAPACITY` came, and `Memory` where a request for memory was refused.
@@ -56,13 +53,9 @@ impl<St: Drop, S: ReadySource> MergeBounded<St, S> {
         alloc: Global,
         iter: I,
     ) -> Result<Self, NewFault>
-    where
-        S: NewSource,
         requires { IsFiniteSource I.IntoIterator I.IntoIter.Iterator iter }
-        ensures holds { IfOk result (HoldsAllOf I.IntoIterator I.IntoIter.Iterator iter
-            (HoldsEach S.made S.marks POLL_LIMIT)) }
-        ensures fits { IfOk result (λ merge. slot_count merge.slots ≤ MAX_CAPACITY) }
-        ensures large { RefusesTooMany I.IntoIterator I.IntoIter.Iterator iter result }
+        ensures { MakesFull I.IntoIterator I.IntoIter.Iterator iter slots_in
+            (HoldsEach S.made S.marks POLL_LIMIT) result }
     {
         Self::over_limit(env, alloc, iter, POLL_LIMIT)
     }
@@ -74,33 +67,17 @@ impl<St: Drop, S: ReadySource> MergeBounded<St, S> {
         iter: I,
         limit: usize,
     ) -> Result<Self, NewFault>
-    where
-        S: NewSource,
         requires finite { IsFiniteSource I.IntoIterator I.IntoIter.Iterator iter }
         requires some { 1 ≤ limit }
-        ensures holds { IfOk result (HoldsAllOf I.IntoIterator I.IntoIter.Iterator iter
-            (HoldsEach S.made S.marks limit)) }
-        ensures fits { IfOk result (λ merge. slot_count merge.slots ≤ MAX_CAPACITY) }
-        ensures large { RefusesTooMany I.IntoIterator I.IntoIter.Iterator iter result }
+        ensures { MakesFull I.IntoIterator I.IntoIter.Iterator iter slots_in
+            (HoldsEach S.made S.marks limit) result }
     {
         let set = FuturesUnorderedBounded::over_limit(env, alloc, iter, limit)?;
-        Ok(MergeBounded { set })
+        Ok(MergeOf { set })
     }
+}
 
-    /// The number of streams held. Takes the same time at any capacity.
-    pub fn len(&self) -> usize
-        ensures { result ≡ held_count self.now.slots }
-    {
-        self.set.len()
-    }
-
-    /// Whether no stream is held. Takes the same time at any capacity.
-    pub fn is_empty(&self) -> bool
-        ensures { IsTrue result ↔ (held_count self.now.slots ≡ 0) }
-    {
-        self.set.is_empty()
-    }
-
+impl<St: Drop, S: ReadySource> MergeBounded<St, S> {
     /// The number of slots, which never changes. Takes the same time at any capacity.
     pub fn capacity(&self) -> usize
         ensures { result ≡ slot_count self.now.slots }
@@ -119,11 +96,7 @@ impl<St: Drop, S: ReadySource> MergeBounded<St, S> {
     ///
     /// Takes the same time at any capacity. Polls nothing, and wakes nobody: a task that waits for this merge polls it again by itself.
     pub fn try_push(&mut self, stream: St) -> Result<(), St>
-        ensures ok { OnOk result (Pushes S.marks self.old stream self.new) }
-        ensures count { OnOk result (held_count self.new.slots ≡ held_count self.old.slots + 1) }
-        ensures full { IfErr result (λ back. (back ≡ stream) × (self.new ≡ self.old)
-            × IsFull self.old.slots) }
-        ensures capacity { slot_count self.new.slots ≡ slot_count self.old.slots }
+        ensures { PushesIfRoom S.marks self.old stream result self.new }
     {
         self.set.try_push(stream)
     }
@@ -131,9 +104,7 @@ impl<St: Drop, S: ReadySource> MergeBounded<St, S> {
     /// As `try_push`, for a merge of which `is_full` is false.
     pub fn push(&mut self, stream: St)
         requires { held_count self.old.slots < slot_count self.old.slots }
-        ensures pushed { Pushes S.marks self.old stream self.new }
-        ensures count { held_count self.new.slots ≡ held_count self.old.slots + 1 }
-        ensures capacity { slot_count self.new.slots ≡ slot_count self.old.slots }
+        ensures { PushesOne S.marks self.old stream self.new }
     {
         self.set.push(stream);
     }
@@ -141,10 +112,8 @@ impl<St: Drop, S: ReadySource> MergeBounded<St, S> {
     /// Pushes each item, in order, as `try_push` does. The first for which there is no free slot comes back; those before it stay, and the iterator is asked for no further one.
     pub fn extend<I: IntoIterator<Item = St>>(&mut self, iter: I) -> Result<(), St>
         requires { IsFiniteSource I.IntoIterator I.IntoIter.Iterator iter }
-        ensures all { OnOk result (HoldsAllOf I.IntoIterator I.IntoIter.Iterator iter
-            (FoldsTo (Pushes S.marks) self.old) self.new) }
-        ensures stops { IfErr result (λ back. ExtendsUntil I.IntoIterator I.IntoIter.Iterator iter (Pushes S.marks)
-            (λ stopped new. IsFull stopped.slots × (new ≡ stopped)) self.old back self.new) }
+        ensures extends { Extends I.IntoIterator I.IntoIter.Iterator iter (Pushes S.marks)
+            (λ stopped new. IsFull stopped.slots × (new ≡ stopped)) self.old result self.new }
         ensures capacity { slot_count self.new.slots ≡ slot_count self.old.slots }
     {
         self.set.extend(iter)
@@ -164,10 +133,8 @@ impl<St: Drop> MergeBounded<St, SharedReady> {
     /// A merge without a free slot, which holds item k in slot k, each marked, in this order, and whose streams are woken from any thread. It is `over` with a shared source, and refuses as `over` does.
     pub fn from_iter<I: IntoIterator<Item = St>>(alloc: Global, iter: I) -> Result<Self, NewFault>
         requires { IsFiniteSource I.IntoIterator I.IntoIter.Iterator iter }
-        ensures holds { IfOk result (HoldsAllOf I.IntoIterator I.IntoIter.Iterator iter
-            (HoldsEach IsNewShared MarksShared POLL_LIMIT)) }
-        ensures fits { IfOk result (λ merge. slot_count merge.slots ≤ MAX_CAPACITY) }
-        ensures large { RefusesTooMany I.IntoIterator I.IntoIter.Iterator iter result }
+        ensures { MakesFull I.IntoIterator I.IntoIter.Iterator iter slots_in
+            (HoldsEach IsNewShared MarksShared POLL_LIMIT) result }
     {
         Self::with_limit(alloc, iter, POLL_LIMIT)
     }
@@ -180,10 +147,8 @@ impl<St: Drop> MergeBounded<St, SharedReady> {
     ) -> Result<Self, NewFault>
         requires finite { IsFiniteSource I.IntoIterator I.IntoIter.Iterator iter }
         requires some { 1 ≤ limit }
-        ensures holds { IfOk result (HoldsAllOf I.IntoIterator I.IntoIter.Iterator iter
-            (HoldsEach IsNewShared MarksShared limit)) }
-        ensures fits { IfOk result (λ merge. slot_count merge.slots ≤ MAX_CAPACITY) }
-        ensures large { RefusesTooMany I.IntoIterator I.IntoIter.Iterator iter result }
+        ensures { MakesFull I.IntoIterator I.IntoIter.Iterator iter slots_in
+            (HoldsEach IsNewShared MarksShared limit) result }
     {
         Self::over_limit(&(), alloc, iter, limit)
     }
@@ -200,7 +165,7 @@ impl<St: SlotStream<S::Waker>, S: ReadySource> Stream for MergeBounded<St, S> {
 
     /// One poll: names are taken, in counts that each begin with a registration of the task, and the streams named are polled.
     ///
-    /// A stream that gives an item stays, and its slot is marked. A stream that ends is dropped, and where another is still held a new count begins. `Ready(None)` at once where no stream is held, and only there. `Pending` where no further name came or a count reached the limit; where the source paused and at the limit the task is woken at once. Takes no memory, and time in proportion to the names taken, besides the polls.
+    /// A stream that gives an item stays, and its slot is marked. A stream that ends is dropped, and where another is still held a new count begins. `Ready(None)` at once where no stream is held, and only there. `Pending` where no further name came or a count reached the limit; where the source paused and at the limit the task is woken at once. Takes no memory but what the calls of the source take, and time in proportion to the names taken, besides the polls.
     fn poll_next(&mut self, cx: &mut Context<'_>) -> Poll<Option<St::Item>>
         requires { AllHeld St.can_poll self.old.slots }
         ensures polled { MergeGives St.polled S.steps S.marks
@@ -227,22 +192,6 @@ impl<St: SlotStream<S::Waker>, S: ReadySource> FusedStream for MergeBounded<St, 
 
     fn is_terminated(&self) -> bool {
         self.is_empty()
-    }
-}
-
-/// Nothing is known of how many items are left.
-impl<St: Drop, S: ReadySource> SizeHint for MergeBounded<St, S> {
-    fn size_hint(&self) -> (usize, Option<usize>) {
-        (0, None)
-    }
-}
-
-/// Prints the number of streams held.
-impl<St: Drop, S: ReadySource> fmt::Debug for MergeBounded<St, S> {
-    fn fmt<W: fmt::Write>(&self, f: &mut fmt::Formatter<W>) -> fmt::Result {
-        f.debug_struct("MergeBounded")
-            .field("len", &self.len())
-            .finish_non_exhaustive()
     }
 }
 

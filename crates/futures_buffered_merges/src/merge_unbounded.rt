@@ -1,17 +1,18 @@
 //! Streams in groups of slots, polled as one: a merge that grows.
 //!
-//! Each group is a set of as many streams as it has slots, and is asked as a bounded merge is polled. The first group that holds a stream registers the task, which does for those beside it.
-ghost use Rattle.std.specs.Prelude.{◌≡◌, ◌↔◌, ◌≤◌, ◌+◌, Err, IsTrue, OnOk, OnErr, IsErr, IfOk, IfErr};
+//! Each group is a set of as many streams as it has slots, and is asked as a bounded merge is polled. A group that is asked registers the task, until one is pending: its registration does for the groups after it.
+ghost use Rattle.std.specs.Prelude.{◌≡◌, ◌↔◌, ◌≤◌, Err, IsTrue, IsErr, IfErr};
 ghost use Rattle.futures_buffered_core.specs.Drawn.{IsFiniteSource};
 ghost use Rattle.futures_buffered_core.specs.ReadyShared.{IsNewShared, MarksShared};
 ghost use Rattle.futures_buffered_unordered.specs.StreamAnswers.{StreamAnswers};
 ghost use Rattle.futures_buffered_unordered.specs.FuturesUnorderedBounded.{OnlyRegisters};
 ghost use Rattle.futures_buffered_unordered.specs.Groups.{GroupsGive};
-ghost use Rattle.futures_buffered_unordered.specs.FuturesUnordered.{EachHeld, AnyNeeds, GrowingPushes, IsAtBound, PollsGroupsTask, PushesEach, no_groups, held_in_all, capacity_of, SetRefuses, SetMayRefuse};
-ghost use Rattle.futures_buffered_unordered.specs.Extended.{ExtendsUntil, HoldsAllOf, StopsAtBound};
+ghost use Rattle.futures_buffered_unordered.specs.FuturesUnordered.{EachHeld, AnyNeeds, GrowingPushes, IsAtBound, PollsGroupsTask, PushesOrStays, no_groups, held_in_all, capacity_of, SetRefuses, SetMayRefuse};
+ghost use Rattle.futures_buffered_unordered.specs.Extended.{Extends, MakesExtended};
 ghost use Rattle.futures_buffered_merges.specs.Merging.{MergeAsksToEmpty, MergeGives, MergeStops};
 ghost use Rattle.futures_buffered_merges.specs.MergeUnbounded.{ItemsComeFromGroups, KeepsOrderInGroups, KeepsOrderInGroupsWithPushes};
 
+use crate::merge_of::{MergeOf, StreamSet};
 use crate::merging::poll_streams;
 use crate::slot_stream::SlotStream;
 use futures::Stream;
@@ -20,29 +21,26 @@ use futures_buffered_core::ready_core::NewFault;
 use futures_buffered_core::ready_shared::SharedReady;
 use futures_buffered_core::ready_source::NewSource;
 use futures_buffered_unordered::ask_group::AskGroup;
-use futures_buffered_unordered::fused::{FusedStream, SizeHint};
+use futures_buffered_unordered::fused::FusedStream;
 use futures_buffered_unordered::futures_unordered::{FIRST_GROUP, FuturesUnordered, MAX_HELD};
 use futures_buffered_unordered::futures_unordered_bounded::{FuturesUnorderedBounded, POLL_LIMIT};
 use std::alloc::Global;
-use std::fmt;
-use std::marker::Model;
 
 /// Streams in groups of slots.
 ///
-/// A contract sees the groups, each with what its slots hold, the content of its source and its limit; the place where the next poll begins; and the limit of names of one count. Only a push that makes a group, and a constructor that pushes, take memory. The calls wait for nobody where those of the source do not.
-#[derive(Drop)]
-pub struct MergeUnbounded<St: Drop, S: NewSource> {
-    set: FuturesUnordered<St, S>,
-}
+/// A contract sees the groups, each with what its slots hold, the content of its source and its limit; the place where the next poll begins; and the limit of names of one count. Only a push that makes a group, a constructor that pushes, and the calls of the source take memory. The calls wait for nobody where those of the source do not.
+pub type MergeUnbounded<St, S> = MergeOf<FuturesUnordered<St, S>>;
 
-impl<St: Drop, S: NewSource> Model for MergeUnbounded<St, S> {
-    ghost use Rattle.futures_buffered_unordered.specs.FuturesUnordered.{Growing, growing_code};
+impl<St: Drop, S: NewSource> StreamSet for FuturesUnordered<St, S> {
+    ghost count = { λ set. held_in_all set.groups.listed };
 
-    ghost Value = { Growing St S };
+    fn streams_held(&self) -> usize {
+        self.len()
+    }
 
-    ghost coded = { growing_code St.code S.code };
-
-    ghost view = { λ m. m.set };
+    fn merge_name() -> &'static str {
+        "MergeUnbounded"
+    }
 }
 
 // Asks a group as a bounded merge is polled.
@@ -85,7 +83,7 @@ impl<St: Drop, S: NewSource> MergeUnbounded<St, S> {
         requires { 1 ≤ limit }
         ensures { result ≡ no_groups limit }
     {
-        MergeUnbounded {
+        MergeOf {
             set: FuturesUnordered::without_groups(env, alloc, limit),
         }
     }
@@ -99,11 +97,8 @@ impl<St: Drop, S: NewSource> MergeUnbounded<St, S> {
         iter: I,
     ) -> Result<Self, NewFault>
         requires { IsFiniteSource I.IntoIterator I.IntoIter.Iterator iter }
-        ensures holds { IfOk result (HoldsAllOf I.IntoIterator I.IntoIter.Iterator iter
-            (PushesEach S.marks S.made (no_groups POLL_LIMIT))) }
-        ensures large { result ≡ Err NewFault.TooLarge
-            → StopsAtBound I.IntoIterator I.IntoIter.Iterator iter
-            (GrowingPushes S.marks S.made FIRST_GROUP) SetRefuses (no_groups POLL_LIMIT) }
+        ensures { MakesExtended I.IntoIterator I.IntoIter.Iterator iter
+            (GrowingPushes S.marks S.made FIRST_GROUP) SetRefuses (no_groups POLL_LIMIT) result }
     {
         Self::over_limit(env, alloc, iter, POLL_LIMIT)
     }
@@ -117,11 +112,8 @@ impl<St: Drop, S: NewSource> MergeUnbounded<St, S> {
     ) -> Result<Self, NewFault>
         requires finite { IsFiniteSource I.IntoIterator I.IntoIter.Iterator iter }
         requires some { 1 ≤ limit }
-        ensures holds { IfOk result (HoldsAllOf I.IntoIterator I.IntoIter.Iterator iter
-            (PushesEach S.marks S.made (no_groups limit))) }
-        ensures large { result ≡ Err NewFault.TooLarge
-            → StopsAtBound I.IntoIterator I.IntoIter.Iterator iter
-            (GrowingPushes S.marks S.made FIRST_GROUP) SetRefuses (no_groups limit) }
+        ensures { MakesExtended I.IntoIterator I.IntoIter.Iterator iter
+            (GrowingPushes S.marks S.made FIRST_GROUP) SetRefuses (no_groups limit) result }
     {
         let mut merge = Self::without_groups(env, alloc, limit);
         for stream in iter {
@@ -130,20 +122,6 @@ impl<St: Drop, S: NewSource> MergeUnbounded<St, S> {
             }
         }
         Ok(merge)
-    }
-
-    /// The number of streams held. Takes the same time at any number of groups.
-    pub fn len(&self) -> usize
-        ensures { result ≡ held_in_all self.now.groups.listed }
-    {
-        self.set.len()
-    }
-
-    /// Whether no stream is held. Takes the same time at any number of groups.
-    pub fn is_empty(&self) -> bool
-        ensures { IsTrue result ↔ (held_in_all self.now.groups.listed ≡ 0) }
-    {
-        self.set.is_empty()
     }
 
     /// How many streams it has room for: of several groups, what they hold and the free places of the last one; of one, its slots; without groups, 0.
@@ -157,14 +135,12 @@ impl<St: Drop, S: NewSource> MergeUnbounded<St, S> {
 
     /// Puts the stream into the last group. Where that is full, or there is none, a group is made behind it: of twice as many slots, or of `FIRST_GROUP`.
     ///
-    /// The stream comes back, and nothing has changed, where `MAX_HELD` streams are held, where the new group would have more than `MAX_CAPACITY` slots, and where a request for memory was refused. Takes the same time at any capacity where the last group has a free place, and then no memory; else time and memory in proportion to the new group. Polls nothing, and wakes nobody.
+    /// The stream comes back, and nothing has changed, where `MAX_HELD` streams are held, where the new group would have more than `MAX_CAPACITY` slots, and where a request for memory was refused. Takes the same time at any capacity where the last group has a free place, and then no memory; else time and memory in proportion to the new group.
+    ///
+    /// Polls nothing, and a caller counts on no wake: a task that waits for this merge polls it again by itself. Only a push that makes a group may wake that task, where a wake stands at the place of the task's waker at that moment.
     pub fn push(&mut self, stream: St) -> Result<(), St>
-        ensures pushed { OnOk result
-            (GrowingPushes S.marks S.made FIRST_GROUP self.old stream self.new) }
-        ensures count { OnOk result
-            (held_in_all self.new.groups.listed ≡ held_in_all self.old.groups.listed + 1) }
-        ensures back { IfErr result (λ back. (back ≡ stream) × (self.new ≡ self.old)) }
-        ensures room { OnErr result (SetMayRefuse self.old) }
+        ensures push { PushesOrStays S.marks S.made self.old stream result self.new }
+        ensures back { IfErr result (λ back. back ≡ stream) }
         ensures large { IsAtBound self.old.groups.listed → IsErr result }
     {
         self.set.push(stream)
@@ -172,12 +148,7 @@ impl<St: Drop, S: NewSource> MergeUnbounded<St, S> {
 
     /// As `push`, for a caller that has no use for a stream that is refused: it is dropped, nothing else has changed, and the error says why. So `?` takes it.
     pub fn add(&mut self, stream: St) -> Result<(), NewFault>
-        ensures pushed { OnOk result
-            (GrowingPushes S.marks S.made FIRST_GROUP self.old stream self.new) }
-        ensures count { OnOk result
-            (held_in_all self.new.groups.listed ≡ held_in_all self.old.groups.listed + 1) }
-        ensures same { OnErr result (self.new ≡ self.old) }
-        ensures room { OnErr result (SetMayRefuse self.old) }
+        ensures push { PushesOrStays S.marks S.made self.old stream result self.new }
         ensures large { (result ≡ Err NewFault.TooLarge) ↔ IsAtBound self.old.groups.listed }
     {
         self.set.add(stream)
@@ -186,11 +157,9 @@ impl<St: Drop, S: NewSource> MergeUnbounded<St, S> {
     /// Pushes each item, in order, as `push` does. The first that is refused comes back; those before it stay, and the iterator is asked for no further one.
     pub fn extend<I: IntoIterator<Item = St>>(&mut self, iter: I) -> Result<(), St>
         requires { IsFiniteSource I.IntoIterator I.IntoIter.Iterator iter }
-        ensures all { OnOk result (HoldsAllOf I.IntoIterator I.IntoIter.Iterator iter
-            (PushesEach S.marks S.made self.old) self.new) }
-        ensures stops { IfErr result (λ back. ExtendsUntil I.IntoIterator I.IntoIter.Iterator iter (GrowingPushes S.marks S.made FIRST_GROUP)
-            (λ stopped new. SetMayRefuse stopped × (new ≡ stopped))
-            self.old back self.new) }
+        ensures { Extends I.IntoIterator I.IntoIter.Iterator iter
+            (GrowingPushes S.marks S.made FIRST_GROUP)
+            (λ stopped new. SetMayRefuse stopped × (new ≡ stopped)) self.old result self.new }
     {
         self.set.extend(iter)
     }
@@ -225,7 +194,7 @@ impl<St: SlotStream<S::Waker>, S: NewSource> Stream for MergeUnbounded<St, S> {
 
     /// One poll: each group that stands as the poll begins is asked once, in turn, until one gives an item.
     ///
-    /// A stream that gives an item stays, and its slot is marked. A stream that ends is dropped. A group that holds nothing leaves, unless it is the last. `Ready(None)` where no stream is held any more. The first group that holds a stream registers the task, at each of its counts. Takes no memory. Takes time in proportion to the number of groups and to the names taken, besides the polls.
+    /// A stream that gives an item stays, and its slot is marked. A stream that ends is dropped. A group that holds nothing leaves, unless it is the last. `Ready(None)` where no stream is held any more. A group that is asked registers the task, at each of its counts, until one is pending. Takes no memory but what the calls of the source take. Takes time in proportion to the number of groups and to the names taken, besides the polls.
     fn poll_next(&mut self, cx: &mut Context<'_>) -> Poll<Option<St::Item>>
         requires { EachHeld St.can_poll self.old.groups.listed }
         ensures polled { GroupsGive (MergeGives St.polled S.steps S.marks)
@@ -254,22 +223,6 @@ impl<St: SlotStream<S::Waker>, S: NewSource> FusedStream for MergeUnbounded<St, 
 
     fn is_terminated(&self) -> bool {
         self.is_empty()
-    }
-}
-
-/// Nothing is known of how many items are left.
-impl<St: Drop, S: NewSource> SizeHint for MergeUnbounded<St, S> {
-    fn size_hint(&self) -> (usize, Option<usize>) {
-        (0, None)
-    }
-}
-
-/// Prints the number of streams held.
-impl<St: Drop, S: NewSource> fmt::Debug for MergeUnbounded<St, S> {
-    fn fmt<W: fmt::Write>(&self, f: &mut fmt::Formatter<W>) -> fmt::Result {
-        f.debug_struct("MergeUnbounded")
-            .field("len", &self.len())
-            .finish_non_exhaustive()
     }
 }
 
@@ -306,12 +259,9 @@ impl<St: Drop> MergeUnbounded<St, SharedReady> {
     /// A merge of these streams, pushed in order, whatever the iterator says of their number. It is `over` with shared sources, and refuses as `over` does.
     pub fn from_iter<I: IntoIterator<Item = St>>(alloc: Global, iter: I) -> Result<Self, NewFault>
         requires { IsFiniteSource I.IntoIterator I.IntoIter.Iterator iter }
-        ensures holds { IfOk result (HoldsAllOf I.IntoIterator I.IntoIter.Iterator iter
-            (PushesEach MarksShared IsNewShared (no_groups POLL_LIMIT))) }
-        ensures large { result ≡ Err NewFault.TooLarge
-            → StopsAtBound I.IntoIterator I.IntoIter.Iterator iter
+        ensures { MakesExtended I.IntoIterator I.IntoIter.Iterator iter
             (GrowingPushes MarksShared IsNewShared FIRST_GROUP) SetRefuses
-            (no_groups POLL_LIMIT) }
+            (no_groups POLL_LIMIT) result }
     {
         Self::over((), alloc, iter)
     }

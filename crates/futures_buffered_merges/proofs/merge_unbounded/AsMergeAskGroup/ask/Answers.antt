@@ -8,7 +8,7 @@ pub returns-clause-keeps : goal.returns-clause-keeps
 returns-clause-keeps g c =
     let source = g.S.ReadySource in
     let it = c.poll_streams.ensures in
-    keeps_streams source.needs g.St.SlotStream.polled source.steps source.marks g.met.S.NewSource.register_waits g.met.S.NewSource.mark_waits g.met.S.NewSource.take_waits _ _ _ it.polled it.streams.fewer it.streams.pending it.streams.ends it.streams.capacity it.streams.limit
+    keeps_streams source.needs g.St.SlotStream.polled source.steps source.marks g.met.S.NewSource.waits.register_waits g.met.S.NewSource.waits.mark_waits g.met.S.NewSource.waits.take_waits _ _ _ it.polled it.streams.fewer it.streams.pending it.streams.ends it.streams.capacity it.streams.limit
 
 pub returns-clause-task : goal.returns-clause-task
 returns-clause-task g c =

@@ -1,5 +1,0 @@
-use Rattle.std.proofs.Common.{rules}
-use Rattle.futures_buffered_merges.proofs.merge_bounded.MergeBounded+St+SharedReady.with_limit.Goals as goal
-
-pub returns-clause-holds : goal.returns-clause-holds
-returns-clause-holds g c = search rules steps 200000
