@@ -14,7 +14,7 @@ use Rattle.futures_buffered_held.specs.declared.oneshot_place.Left.{Left}
 use Rattle.futures_buffered_held.specs.declared.oneshot_place.Left.TheVariants.{Nothing}
 use Rattle.futures_buffered_held.specs.declared.oneshot_place.View.{View}
 use Rattle.futures_buffered_held.specs.declared.oneshot_place.View.TheVariants.{Spent, Both, Sender, Writing, Sent, Waiting, Idle, Got, Compared}
-use Rattle.futures_buffered_held.specs.OneshotPlace.{Inside, value_of, IsHome, IsFull, Fits, HoldsOne, sent_by, sent_view, begun, finished, opened, looked, withdrawn, registered, gone, matched, compared_view, compared}
+use Rattle.futures_buffered_held.specs.OneshotPlace.{Inside, value_of, IsHome, IsFull, Fits, HoldsOne, stands_at, sent_by, sent_view, finished, opened, looked, turned, matched}
 
 at_end : {A : Type 0} (l : List A) (a b : A) (j : ℕ) → get_elem? (l ++ a ∷ []) j ≡ some b → (get_elem? l j ≡ some b) ⊎ ((j ≡ length l) × (a ≡ b))
 at_end [] a b zero e = inr (refl, some-injective a b e)
@@ -124,22 +124,23 @@ module _ {T W : Type 0} where
     abbrev Moves : Whole T W → Mine T W → ℕ → (Mine T W → Type 0) → Type 0
     Moves s m new then = (w : View T) × (act : Act (Left T W)) × Valid s.homes m.1 act × HoldsOne (stepped s 0 new id m.1 w act) × then (w, carried_after m.1 act)
 
-    begins_at : (s : Whole T W) (h : HoldsOne s) → get_elem? s.views id ≡ some Sender → Moves s (Sender, []) (get_or s.words 0 0) (begun (Sender, []))
-    begins_at s h at =
+    -- what a seat shows of a look
+    abbrev Looks : View T → List (ℕ × Left T W) → Whole T W → Type 0
+    Looks v c s = Moves s (v, c) (get_or s.words 0 0) (looked (v, c) (get_or s.words 0 0))
+
+    begins_at : (c : List (ℕ × Left T W)) (s : Whole T W) (h : HoldsOne s) → get_elem? s.views id ≡ some Sender → Looks Sender c s
+    begins_at c s h at =
         let x = h.inside in
         let mine = h.each_view id Sender at in
         let y = mine.3.0 in (
           Writing,
           takes 0 y,
           ap (λ (hs : List (Home T W)). get_elem? hs 0) h.homes ∙ ap some mine.3.1,
-          after s h (get_or s.words 0 0) [] Writing (takes 0 y) (changed x x.word none x.waker_home x.sent)
+          after s h (get_or s.words 0 0) c Writing (takes 0 y) (changed x x.word none x.waker_home x.sent)
               (ap (λ ws. set ws 0 (get_or ws 0 0)) h.words) (ap (λ (hs : List (Home T W)). set hs 0 none) h.homes) h.waits
               (by_sender x id x.word none x.waker_home x.sent mine.0 mine.2 mine.1 inl inl) (mine.0, mine.1, mine.2),
           (y, refl),
         )
-
-    pub begins : (m : Mine T W) → m ≡ (Sender, []) → Allows HoldsOne slots id m 0 (λ n. n) (λ _ n. begun m n)
-    begins m is = subst (λ (m : Mine T W). Allows HoldsOne slots id m 0 (λ n. n) (λ _ n. begun m n)) (sym is) (λ s h _ at _. begins_at s h at)
 
     abbrev Finishes : Left T W → Whole T W → Type 0
     Finishes z s = Moves s (Writing, (0, z) ∷ []) 2 (finished (Writing, (0, z) ∷ []) (get_or s.words 0 0))
@@ -217,8 +218,8 @@ module _ {T W : Type 0} where
     stays : (m : Mine T W) (s : Whole T W) (h : HoldsOne s) (new : ℕ) → set s.words 0 new ≡ h.inside.word ∷ [] → get_elem? s.views id ≡ some m.0 → HoldsOne (stepped s 0 new id m.1 m.0 keeps)
     stays m s h new words at = after s h new m.1 m.0 keeps h.inside words h.homes h.waits (same_others h.inside id) (h.each_view id m.0 at)
 
-    looks_at : (s : Whole T W) (h : HoldsOne s) → get_elem? s.views id ≡ some Waiting → Moves s (Waiting, []) (get_or s.words 0 0) (looked (Waiting, []) (get_or s.words 0 0))
-    looks_at s h at =
+    waits_at : (c : List (ℕ × Left T W)) (s : Whole T W) (h : HoldsOne s) → get_elem? s.views id ≡ some Waiting → Looks Waiting c s
+    waits_at c s h at =
         let mine = h.each_view id Waiting at in
         let found = finds s h in
         let words = ap (λ ws. set ws 0 (get_or ws 0 0)) h.words in
@@ -227,110 +228,23 @@ module _ {T W : Type 0} where
           Waiting,
           keeps,
           tt,
-          stays (Waiting, []) s h (get_or s.words 0 0) words at,
+          stays (Waiting, c) s h (get_or s.words 0 0) words at,
           ((λ two. absurd (omega arith)), (λ _. refl)),
         ))
         (λ (full : IsFull h.inside).
-        let o = opens_value (Waiting, []) s h (get_or s.words 0 0) words mine.0 full in
+        let o = opens_value (Waiting, c) s h (get_or s.words 0 0) words mine.0 full in
         (o.0, o.1, o.2, o.3, ((λ _. o.4), (λ other. absurd (other (found ∙ full.0))))))
         mine.1
 
-    pub looks : (m : Mine T W) → m ≡ (Waiting, []) → Allows HoldsOne slots id m 0 (λ n. n) (λ found n. looked m found n)
-    looks m is = subst (λ (m : Mine T W). Allows HoldsOne slots id m 0 (λ n. n) (λ found n. looked m found n)) (sym is) (λ s h _ at _. looks_at s h at)
+    -- a look that changes nothing
+    keeps_view : (v : View T) (c : List (ℕ × Left T W)) (s : Whole T W) (h : HoldsOne s) → looked (v, c) (get_or s.words 0 0) (v, c)
+        → get_elem? s.views id ≡ some v → Looks v c s
+    keeps_view v c s h same at = (v, keeps, tt, stays (v, c) s h (get_or s.words 0 0) (ap (λ ws. set ws 0 (get_or ws 0 0)) h.words) at, same)
 
-    withdraws_at : (s : Whole T W) (h : HoldsOne s) → get_elem? s.views id ≡ some Waiting
-        → Moves s (Waiting, []) (either (eqb (get_or s.words 0 0) 1) 0 (get_or s.words 0 0)) (withdrawn (Waiting, []) (get_or s.words 0 0))
-    withdraws_at s h at =
-        let x = h.inside in
-        let mine = h.each_view id Waiting at in
-        let found = finds s h in
-        let words = ap (λ ws. set ws 0 (either (eqb (get_or ws 0 0) 1) 0 (get_or ws 0 0))) h.words in
-        ⊎_elim
-        (λ (one : x.word ≡ 1).
-        let waker = h.waits one in
-        let y = waker.0 in (
-          Idle,
-          takes 1 y,
-          ap (λ (hs : List (Home T W)). get_elem? hs 1) h.homes ∙ ap some waker.1,
-          after s h _ [] Idle (takes 1 y) (changed x 0 x.value_home none x.sent)
-              (words ∙ ap (λ (n : ℕ). n ∷ []) (agrees x.word 1 0 one)) (ap (λ (hs : List (Home T W)). set hs 1 none) h.homes) (λ (e : 0 ≡ 1). absurd (omega arith))
-              (by_receiver x id 0 x.value_home none mine.0 (λ _. ((λ e. absurd (omega arith)), refl))) (mine.0, inl refl),
-          ((λ _. (y, refl)), (λ other. absurd (other (found ∙ one)))),
-        ))
-        (λ (full : IsFull x).
-        let two = full.0 in
-        let o = opens_value (Waiting, []) s h _ (words ∙ ap (λ (n : ℕ). n ∷ []) (differs x.word 1 0 (λ e. absurd (omega arith)))) mine.0 full in
-        (o.0, o.1, o.2, o.3, ((λ one. absurd (omega arith)), (λ _. o.4))))
-        mine.1
-
-    pub withdraws : (m : Mine T W) → m ≡ (Waiting, []) → Allows HoldsOne slots id m 0 (λ n. either (eqb n 1) 0 n) (λ found n. withdrawn m found n)
-    withdraws m is = subst (λ (m : Mine T W). Allows HoldsOne slots id m 0 (λ n. either (eqb n 1) 0 n) (λ found n. withdrawn m found n)) (sym is) (λ s h _ at _. withdraws_at s h at)
-
-    registers_at : (z : Left T W) (s : Whole T W) (h : HoldsOne s) → get_elem? s.views id ≡ some Idle
-        → Moves s (Idle, (1, z) ∷ []) (either (eqb (get_or s.words 0 0) 0) 1 (get_or s.words 0 0)) (registered (Idle, (1, z) ∷ []) (get_or s.words 0 0))
-    registers_at z s h at =
-        let x = h.inside in
-        let mine = h.each_view id Idle at in
-        let found = finds s h in
-        let words = ap (λ ws. set ws 0 (either (eqb (get_or ws 0 0) 0) 1 (get_or ws 0 0))) h.words in
-        ⊎_elim
-        (λ (idle : x.word ≡ 0). (
-          Waiting,
-          gives,
-          tt,
-          after s h _ ((1, z) ∷ []) Waiting gives (changed x 1 x.value_home (some z) x.sent)
-              (words ∙ ap (λ (n : ℕ). n ∷ []) (agrees x.word 0 1 idle)) (ap (λ (hs : List (Home T W)). set hs 1 (some z)) h.homes) (λ _. (z, refl))
-              (by_receiver x id 1 x.value_home (some z) mine.0 (λ _. ((λ e. absurd (omega arith)), refl))) (mine.0, inl refl),
-          ((λ _. refl), (λ other. absurd (other (found ∙ idle)))),
-        ))
-        (λ (full : IsFull x).
-        let two = full.0 in
-        let o = opens_value (Idle, (1, z) ∷ []) s h _ (words ∙ ap (λ (n : ℕ). n ∷ []) (differs x.word 0 1 (λ e. absurd (omega arith)))) mine.0 full in
-        (o.0, o.1, o.2, o.3, ((λ idle. absurd (omega arith)), (λ _. o.4))))
-        mine.1
-
-    pub registers : (z : Left T W) (m : Mine T W) → m ≡ (Idle, (1, z) ∷ []) → Allows HoldsOne slots id m 0 (λ n. either (eqb n 0) 1 n) (λ found n. registered m found n)
-    registers z m is = subst (λ (m : Mine T W). Allows HoldsOne slots id m 0 (λ n. either (eqb n 0) 1 n) (λ found n. registered m found n)) (sym is) (λ s h _ at _. registers_at z s h at)
-
-    leaves_at : (s : Whole T W) (h : HoldsOne s) → get_elem? s.views id ≡ some Waiting → Moves s (Waiting, []) 3 (gone (Waiting, []) (get_or s.words 0 0))
-    leaves_at s h at =
-        let x = h.inside in
-        let mine = h.each_view id Waiting at in
-        let found = finds s h in
-        let words = ap (λ ws. set ws 0 3) h.words in
-        ⊎_elim
-        (λ (one : x.word ≡ 1).
-        let waker = h.waits one in
-        let y = waker.0 in (
-          Spent,
-          takes 1 y,
-          ap (λ (hs : List (Home T W)). get_elem? hs 1) h.homes ∙ ap some waker.1,
-          after s h 3 [] Spent (takes 1 y) (changed x 3 x.value_home none x.sent)
-              words (ap (λ (hs : List (Home T W)). set hs 1 none) h.homes) (λ (e : 3 ≡ 1). absurd (omega arith))
-              (by_receiver x id 3 x.value_home none mine.0 (λ _. ((λ e. absurd (omega arith)), refl))) tt,
-          ((λ two. absurd (omega arith)), (λ _. (y, refl))),
-        ))
-        (λ (full : IsFull x).
-        let two = full.0 in
-        let y = full.1.0 in (
-          Spent,
-          takes 0 y,
-          ap (λ (hs : List (Home T W)). get_elem? hs 0) h.homes ∙ ap some full.1.1,
-          after s h 3 [] Spent (takes 0 y) (changed x 3 none x.waker_home x.sent)
-              words (ap (λ (hs : List (Home T W)). set hs 0 none) h.homes) (λ (e : 3 ≡ 1). absurd (omega arith))
-              (by_receiver x id 3 none x.waker_home mine.0 (λ other. absurd (other two))) tt,
-          ((λ _. (y, refl)), (λ one. absurd (omega arith))),
-        ))
-        mine.1
-
-    pub leaves : (m : Mine T W) → m ≡ (Waiting, []) → Allows HoldsOne slots id m 0 (λ _. 3) (λ found n. gone m found n)
-    leaves m is = subst (λ (m : Mine T W). Allows HoldsOne slots id m 0 (λ _. 3) (λ found n. gone m found n)) (sym is) (λ s h _ at _. leaves_at s h at)
-
-    compares_kept : (v : View T) (c : List (ℕ × Left T W)) → compared_view v v → (s : Whole T W) (h : HoldsOne s) → get_elem? s.views id ≡ some v → Moves s (v, c) (get_or s.words 0 0) (compared (v, c))
-    compares_kept v c same s h at = (v, keeps, tt, stays (v, c) s h (get_or s.words 0 0) (ap (λ ws. set ws 0 (get_or ws 0 0)) h.words) at, (same, refl))
-
-    compares_at : (v : View T) (c : List (ℕ × Left T W)) (s : Whole T W) (h : HoldsOne s) → get_elem? s.views id ≡ some v → Moves s (v, c) (get_or s.words 0 0) (compared (v, c))
-    compares_at (Compared o v) c s h at =
+    looks_at : (v : View T) (c : List (ℕ × Left T W)) (s : Whole T W) (h : HoldsOne s) → get_elem? s.views id ≡ some v → Looks v c s
+    looks_at Sender c s h at = begins_at c s h at
+    looks_at Waiting c s h at = waits_at c s h at
+    looks_at (Compared o v) c s h at =
         let x = h.inside in
         let mine = h.each_view id (Compared o v) at in (
           Got o,
@@ -339,10 +253,74 @@ module _ {T W : Type 0} where
           after s h (get_or s.words 0 0) c (Got o) keeps x (ap (λ ws. set ws 0 (get_or ws 0 0)) h.words) h.homes h.waits (same_others x id) (mine.0, mine.1, mine.2),
           ((sym mine.2 ∙ mine.3, refl), refl),
         )
-    compares_at v c s h at = compares_kept v c refl s h at
+    looks_at v c s h at = keeps_view v c s h (refl, refl) at
 
-    pub compares : (m : Mine T W) → Allows HoldsOne slots id m 0 (λ n. n) (λ _ n. compared m n)
-    compares m = λ s h _ at _. compares_at m.0 m.1 s h at
+    pub looks : (m : Mine T W) → Allows HoldsOne slots id m 0 (λ n. n) (looked m)
+    looks m = λ s h _ at _. looks_at m.0 m.1 s h at
+
+    abbrev Turns : Mine T W → ℕ → ℕ → Whole T W → Type 0
+    Turns m before new s = Moves s m (either (eqb (get_or s.words 0 0) before) new (get_or s.words 0 0)) (turned before new m (get_or s.words 0 0))
+
+    -- the word that a receiver found, and what its turning made of it
+    turned_word : (before new : ℕ) (s : Whole T W) (h : HoldsOne s) → set s.words 0 (either (eqb (get_or s.words 0 0) before) new (get_or s.words 0 0)) ≡ either (eqb h.inside.word before) new h.inside.word ∷ []
+    turned_word before new s h = ap (λ ws. set ws 0 (either (eqb (get_or ws 0 0) before) new (get_or ws 0 0))) h.words
+
+    -- the sender is done
+    turns_late : (m : Mine T W) (before new : ℕ) (s : Whole T W) (h : HoldsOne s) → id ≡ h.inside.receiver → before ≢ 2 → IsFull h.inside → Turns m before new s
+    turns_late m before new s h me apart full =
+        let late : h.inside.word ≢ before = λ e. apart (sym e ∙ full.0) in
+        let o = opens_value m s h _ (turned_word before new s h ∙ ap (λ (n : ℕ). n ∷ []) (differs h.inside.word before new late)) me full in
+        (o.0, o.1, o.2, o.3, ((λ e. absurd (late (sym (finds s h) ∙ e))), (λ _. o.4)))
+
+    -- a receiver that waits takes the place of the waker
+    takes_waker : (w : View T) (new : ℕ) → new ≢ 1 → new ≢ 2 → ((x : Inside T W) → id ≡ x.receiver → x.word ≡ new → Fits x id w)
+        → ((y : Left T W) → stands_at new [] (w, (1, y) ∷ [])) → (s : Whole T W) (h : HoldsOne s) → get_elem? s.views id ≡ some Waiting → Turns (Waiting, []) 1 new s
+    takes_waker w new unwaiting undone fits stands s h at =
+        let x = h.inside in
+        let mine = h.each_view id Waiting at in
+        ⊎_elim
+        (λ (one : x.word ≡ 1).
+        let waker = h.waits one in
+        let y = waker.0 in
+        let next : Inside T W = changed x new x.value_home none x.sent in (
+          w,
+          takes 1 y,
+          ap (λ (hs : List (Home T W)). get_elem? hs 1) h.homes ∙ ap some waker.1,
+          after s h _ [] w (takes 1 y) next
+              (turned_word 1 new s h ∙ ap (λ (n : ℕ). n ∷ []) (agrees x.word 1 new one)) (ap (λ (hs : List (Home T W)). set hs 1 none) h.homes) (λ e. absurd (unwaiting e))
+              (by_receiver x id new x.value_home none mine.0 (λ _. (undone, refl))) (fits next mine.0 refl),
+          ((λ _. stands y), (λ other. absurd (other (finds s h ∙ one)))),
+        ))
+        (λ (full : IsFull x). turns_late (Waiting, []) 1 new s h mine.0 (λ e. absurd (omega arith)) full)
+        mine.1
+
+    pub withdraws : (m : Mine T W) → m ≡ (Waiting, []) → Allows HoldsOne slots id m 0 (λ n. either (eqb n 1) 0 n) (turned 1 0 m)
+    withdraws m is = subst (λ (m : Mine T W). Allows HoldsOne slots id m 0 (λ n. either (eqb n 1) 0 n) (turned 1 0 m)) (sym is)
+        (λ s h _ at _. takes_waker Idle 0 (λ e. absurd (omega arith)) (λ e. absurd (omega arith)) (λ x me now. (me, inl now)) (λ y. (y, refl)) s h at)
+
+    pub leaves : (m : Mine T W) → m ≡ (Waiting, []) → Allows HoldsOne slots id m 0 (λ n. either (eqb n 1) 3 n) (turned 1 3 m)
+    leaves m is = subst (λ (m : Mine T W). Allows HoldsOne slots id m 0 (λ n. either (eqb n 1) 3 n) (turned 1 3 m)) (sym is)
+        (λ s h _ at _. takes_waker Spent 3 (λ e. absurd (omega arith)) (λ e. absurd (omega arith)) (λ x me now. tt) (λ y. (y, refl)) s h at)
+
+    registers_at : (z : Left T W) (s : Whole T W) (h : HoldsOne s) → get_elem? s.views id ≡ some Idle → Turns (Idle, (1, z) ∷ []) 0 1 s
+    registers_at z s h at =
+        let x = h.inside in
+        let mine = h.each_view id Idle at in
+        ⊎_elim
+        (λ (idle : x.word ≡ 0). (
+          Waiting,
+          gives,
+          tt,
+          after s h _ ((1, z) ∷ []) Waiting gives (changed x 1 x.value_home (some z) x.sent)
+              (turned_word 0 1 s h ∙ ap (λ (n : ℕ). n ∷ []) (agrees x.word 0 1 idle)) (ap (λ (hs : List (Home T W)). set hs 1 (some z)) h.homes) (λ _. (z, refl))
+              (by_receiver x id 1 x.value_home (some z) mine.0 (λ _. ((λ e. absurd (omega arith)), refl))) (mine.0, inl refl),
+          ((λ _. refl), (λ other. absurd (other (finds s h ∙ idle)))),
+        ))
+        (λ (full : IsFull x). turns_late (Idle, (1, z) ∷ []) 0 1 s h mine.0 (λ e. absurd (omega arith)) full)
+        mine.1
+
+    pub registers : (z : Left T W) (m : Mine T W) → m ≡ (Idle, (1, z) ∷ []) → Allows HoldsOne slots id m 0 (λ n. either (eqb n 0) 1 n) (turned 0 1 m)
+    registers z m is = subst (λ (m : Mine T W). Allows HoldsOne slots id m 0 (λ n. either (eqb n 0) 1 n) (turned 0 1 m)) (sym is) (λ s h _ at _. registers_at z s h at)
 
   fits_matched : (x : Inside T W) (seat other : ℕ) (v w : View T) → Fits x seat v → Fits x other w → Fits x seat (matched v w)
   fits_matched x seat other (Got o) (Sent v) f g = (f.0, f.1, f.2, g)
@@ -415,8 +393,12 @@ module _ {T W : Type 0} where
   pub cuts : (id : ℕ) (v : View T) → v ≡ Both → Splits {S = Left T W} HoldsOne id v Sender Waiting
   cuts id v is = subst (λ (u : View T). Splits {S = Left T W} HoldsOne id u Sender Waiting) (sym is) (cuts_at id)
 
-module _ {T : Type 0} where
+module _ {T W : Type 0} where
+  -- a look of a seat that has not begun to send
+  pub sender_looked : (m n : Mine T W) (found : ℕ) → m ≡ (Sender, []) → looked m found n → (y : Left T W) × (n ≡ (Writing, (0, y) ∷ []))
+  sender_looked m n found is told = subst (λ (m : Mine T W). looked m found n) is told
+
   -- what a receiver answered is what was sent
-  pub answered : (old receipt new : View T) → compared_view (matched old receipt) new
-      → (answer : Option T) (sent : T) → old ≡ Got answer → receipt ≡ Sent sent → (answer ≡ Some sent) × (new ≡ Got answer)
-  answered old receipt new c answer sent is was = subst (λ v. compared_view v new) (λ i. matched (is i) (was i)) c
+  pub answered : (old receipt : View T) (c : List (ℕ × Left T W)) (n : Mine T W) (found : ℕ) → looked (matched old receipt, c) found n
+      → (answer : Option T) (sent : T) → old ≡ Got answer → receipt ≡ Sent sent → (answer ≡ Some sent) × (n.0 ≡ Got answer)
+  answered old receipt c n found told answer sent is was = (subst (λ (v : View T). looked (v, c) found n) (λ i. matched (is i) (was i)) told).0

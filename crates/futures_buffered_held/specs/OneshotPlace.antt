@@ -1,5 +1,5 @@
 -- The rule of a one-shot, and what its steps tell. Its word is 0 while the receiver has the place of the waker, 1 while it waits, 2 once the sender is done, and 3 once the receiver is gone.
-use Rattle.std.specs.Prelude.{◌≡◌, ◌≢◌, ◌⊎◌, ℕ, List, [], ◌∷◌, Option, Some, None, MatchOption}
+use Rattle.std.specs.Prelude.{◌≡◌, ◌≢◌, ◌⊎◌, ℕ, zero, suc, List, [], ◌∷◌, Option, Some, None, MatchOption}
 use mathlib.Core.Option as maybe
 use mathlib.Core.Option.{some}
 use lib.ListN.{get_elem?}
@@ -90,10 +90,6 @@ module _ {T W : Type 0} where
   sent_from [] = Spent
   sent_from (x ∷ xs) = sent_view (value_of x.1)
 
-  -- the sender has the place of the value
-  abbrev pub begun : Me (Left T W) (View T) → Me (Left T W) (View T) → Type 0
-  begun m n = (y : Left T W) × (n ≡ (Writing, (0, y) ∷ m.1))
-
   -- the sender is done. Where the receiver is gone, the seat has still what it was to send, and where it waits, the seat has the place of the waker
   abbrev pub finished : Me (Left T W) (View T) → ℕ → Me (Left T W) (View T) → Type 0
   finished m found n = (found ≡ 3 → n ≡ (Spent, m.1))
@@ -104,27 +100,23 @@ module _ {T W : Type 0} where
   abbrev pub opened : Me (Left T W) (View T) → Me (Left T W) (View T) → Type 0
   opened m n = (y : Left T W) × (n ≡ (Got (value_of y), (0, y) ∷ m.1))
 
-  -- the receiver looks whether the sender is done
+  -- What a look at the word tells a seat, by what the seat knows. A sender takes the place of the value. A receiver that
+  -- waits does so where the sender is done. One with a receipt compares what it received with what the receipt says.
   abbrev pub looked : Me (Left T W) (View T) → ℕ → Me (Left T W) (View T) → Type 0
-  looked m found n = (found ≡ 2 → opened m n) × (found ≢ 2 → n ≡ m)
+  looked (Sender, held) found n = (y : Left T W) × (n ≡ (Writing, (0, y) ∷ held))
+  looked (Waiting, held) found n = (found ≡ 2 → opened (Waiting, held) n) × (found ≢ 2 → n ≡ (Waiting, held))
+  looked (v, held) found n = compared_view v n.0 × (n.1 ≡ held)
 
-  -- the receiver takes the place of the waker, unless the sender is done
-  abbrev pub withdrawn : Me (Left T W) (View T) → ℕ → Me (Left T W) (View T) → Type 0
-  withdrawn m found n = (found ≡ 1 → (y : Left T W) × (n ≡ (Idle, (1, y) ∷ m.1)))
-      × (found ≢ 1 → opened m n)
+  -- what the receiver is, and what it holds, once it has put this number into the word: it has taken the place of the
+  -- waker, has given it back and waits, or has taken it and is gone
+  abbrev pub stands_at : ℕ → List (ℕ × Left T W) → Me (Left T W) (View T) → Type 0
+  stands_at zero held n = (y : Left T W) × (n ≡ (Idle, (1, y) ∷ held))
+  stands_at (suc zero) held n = n ≡ (Waiting, rest held)
+  stands_at word held n = (y : Left T W) × (n ≡ (Spent, (1, y) ∷ held))
 
-  -- the receiver gives the place of the waker back, unless the sender is done
-  abbrev pub registered : Me (Left T W) (View T) → ℕ → Me (Left T W) (View T) → Type 0
-  registered m found n = (found ≡ 0 → n ≡ (Waiting, rest m.1)) × (found ≢ 0 → opened m n)
-
-  -- the receiver goes. Where the sender is done, the seat has the place of the value, and else that of the waker
-  abbrev pub gone : Me (Left T W) (View T) → ℕ → Me (Left T W) (View T) → Type 0
-  gone m found n = (found ≡ 2 → (y : Left T W) × (n ≡ (Spent, (0, y) ∷ m.1)))
-      × (found ≡ 1 → (y : Left T W) × (n ≡ (Spent, (1, y) ∷ m.1)))
-
-  -- the receiver compares what it received with what a receipt says
-  abbrev pub compared : Me (Left T W) (View T) → Me (Left T W) (View T) → Type 0
-  compared m n = compared_view m.0 n.0 × (n.1 ≡ m.1)
+  -- the receiver turns the word from one number to another, unless the sender is done
+  abbrev pub turned : ℕ → ℕ → Me (Left T W) (View T) → ℕ → Me (Left T W) (View T) → Type 0
+  turned before after m found n = (found ≡ before → stands_at after m.1 n) × (found ≢ before → opened m n)
 
   -- the receiver has the place of the waker
   abbrev pub IsIdle : Me (Left T W) (View T) → Type 0

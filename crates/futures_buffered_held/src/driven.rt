@@ -1,9 +1,10 @@
 //! A source that has futures of the kit polled.
 ghost use Rattle.std.specs.Prelude.{◌≡◌, ◌<◌, ◌≤◌, [], ◌∷◌, IfOk, IfSome, IfNone, vec_len, map};
 ghost use Rattle.std.specs.List.{range_with_len};
-ghost use Rattle.futures_buffered_table.specs.Answer.{RefusesTooLarge};
+ghost use Rattle.futures_buffered_core.specs.Made.{MakesSlots};
 ghost use Rattle.futures_buffered_core.specs.ReadyCore.{Marks};
-ghost use Rattle.futures_buffered_held.specs.Driven.{IsNewDriven, TakesOrCollects};
+ghost use Rattle.futures_buffered_core.specs.ReadySource.{WaitsNowhere, never_waits, only_takes};
+ghost use Rattle.futures_buffered_held.specs.Driven.{IsNewDriven, TakesOrCollects, driven_laws};
 ghost use Rattle.futures_buffered_held.specs.Mailbox.{mailbox_at};
 
 use crate::desk::{Desk, Finished};
@@ -178,8 +179,7 @@ impl<F: Future<Output: Drop>> Driven<F> {
         source: u64,
         cap: usize,
     ) -> Result<Self, NewFault>
-        ensures made { IfOk result (IsNewDriven cap) }
-        ensures refuses { RefusesTooLarge cap result }
+        ensures { MakesSlots cap (IsNewDriven cap) result }
     {
         let names = ReadyCore::new(alloc, cap)?;
         let visited = ReadyCore::new(alloc, cap)?;
@@ -196,8 +196,7 @@ impl<F: Future<Output: Drop>> Driven<F> {
 
     // A source of `cap` slots beside those of this driver. Its desk comes last, so that a refusal leaves nothing with the driver.
     fn over(driver: &Arc<Mutex<Driver<F>>>, alloc: Global, cap: usize) -> Result<Self, NewFault>
-        ensures made { IfOk result (IsNewDriven cap) }
-        ensures refuses { RefusesTooLarge cap result }
+        ensures { MakesSlots cap (IsNewDriven cap) result }
     {
         if cap > MAX_CAPACITY {
             return Err(NewFault::TooLarge);
@@ -281,23 +280,13 @@ impl<F: Future<Output: Drop>> ReadySource for Driven<F> {
 
     ghost marks = { Marks };
 
-    ghost steps = { record { registers = λ old new. new ≡ old; takes = TakesOrCollects } };
+    ghost steps = { only_takes TakesOrCollects };
 
     ghost registers_poll = { λ _ old new. Keeps old new };
 
-    ghost needs = { λ _ _. ⊥ };
+    ghost needs = { WaitsNowhere };
 
-    ghost names_below = { λ old i new h. h.1 };
-
-    ghost mark_keeps = { λ old i woke new h. h.1 };
-
-    ghost take_keeps = { λ old taken new h. h.0 };
-
-    ghost register_keeps = { λ old new h. Prim.cc (h) };
-
-    ghost take_needs = { λ old taken new h n k. k };
-
-    ghost register_needs = { λ old new h n k. k };
+    ghost laws = { driven_laws };
 
     fn capacity(&self) -> usize {
         self.mailboxes.len()
@@ -335,7 +324,6 @@ impl<F: Future<Output: Drop>> ReadySource for Driven<F> {
 }
 
 impl<F: Future<Output: Drop>> NewSource for Driven<F> {
-    ghost use Rattle.std.specs.Prelude.{refl};
     ghost use Rattle.futures_buffered_held.specs.Driven.{IsNewDriven};
 
     type Env = ();
@@ -344,13 +332,7 @@ impl<F: Future<Output: Drop>> NewSource for Driven<F> {
 
     ghost made_slots = { λ cap new h. Prim.cc (h) };
 
-    ghost covered = { λ s. refl };
-
-    ghost mark_waits = { λ old i woke new h n. (λ k. k, λ k. k) };
-
-    ghost take_waits = { λ old taken new h n. (λ k. k, λ k. k) };
-
-    ghost register_waits = { λ old new h n. (λ k. k, λ k. k) };
+    ghost waits = { never_waits Marks TakesOrCollects };
 
     fn make(_env: &(), alloc: Global, cap: usize) -> Result<Driven<F>, NewFault> {
         if cap > MAX_CAPACITY {

@@ -1,17 +1,15 @@
 //! Sets, queues, joins and merges of futures and streams of the kit, each by a short name and made in one call.
 //!
 //! A slot holds a `Foreign`, or any future made of one: `map(Foreign::new(receiver), closure)`.
-ghost use Rattle.std.specs.Prelude.{◌≡◌, ◌≤◌, IfOk, IsOk, Err};
-ghost use Rattle.futures_buffered_core.specs.Drawn.{Draws, IsFiniteSource, RefusesTooMany};
+ghost use Rattle.futures_buffered_core.specs.Drawn.{IsFiniteSource};
+ghost use Rattle.futures_buffered_core.specs.Made.{MakesGroup, MakesSlots};
 ghost use Rattle.futures_buffered_core.specs.ReadyCore.{Marks};
-ghost use Rattle.futures_buffered_core.specs.SlotMap.{slot_count};
-ghost use Rattle.futures_buffered_table.specs.Answer.{RefusesTooLarge};
-ghost use Rattle.futures_buffered_unordered.specs.Extended.{HoldsAllOf, StopsAtBound};
-ghost use Rattle.futures_buffered_unordered.specs.FuturesUnorderedBounded.{HoldsEach, IsNewSet};
-ghost use Rattle.futures_buffered_unordered.specs.FuturesUnordered.{GrowingPushes, IsNewGrowing, PushesEach, SetRefuses, no_groups};
+ghost use Rattle.futures_buffered_unordered.specs.Extended.{MakesExtended, MakesFull};
+ghost use Rattle.futures_buffered_unordered.specs.FuturesUnorderedBounded.{HoldsEach, IsNewSet, slots_in};
+ghost use Rattle.futures_buffered_unordered.specs.FuturesUnordered.{GrowingPushes, IsNewGrowing, SetRefuses, no_groups};
 ghost use Rattle.futures_buffered_ordered.specs.FuturesOrderedBounded.{IsNewBoundedQueue};
 ghost use Rattle.futures_buffered_ordered.specs.FuturesOrdered.{IsNewGrowingQueue};
-ghost use Rattle.futures_buffered_joins.specs.JoinMade.{IsMadeOf};
+ghost use Rattle.futures_buffered_joins.specs.JoinMade.{MakesJoin};
 ghost use Rattle.futures_buffered_held.specs.Driven.{IsNewDriven};
 
 use crate::driven::Driven;
@@ -20,7 +18,7 @@ use crate::foreign_stream::{ForeignMerge, GrowingForeignMerge};
 use crate::mailbox::Mailbox;
 use futures::stream::StreamFuture;
 use futures::{Future, Stream};
-use futures_buffered_core::ready_core::{MAX_CAPACITY, NewFault};
+use futures_buffered_core::ready_core::NewFault;
 use futures_buffered_joins::join::{Join, JoinAll};
 use futures_buffered_joins::try_join::{TryJoin, TryJoinAll};
 use futures_buffered_merges::merge_bounded::MergeBounded;
@@ -58,8 +56,7 @@ pub fn foreign_set<F: Future<Output: Drop>, T: Drop>(
     alloc: Global,
     cap: usize,
 ) -> Result<ForeignSet<F, T>, NewFault>
-    ensures empty { IfOk result (IsNewSet IsNewDriven cap POLL_LIMIT) }
-    ensures refuses { RefusesTooLarge cap result }
+    ensures { MakesSlots cap (IsNewSet IsNewDriven cap POLL_LIMIT) result }
 {
     FuturesUnorderedBounded::with_new_source(&(), alloc, cap, POLL_LIMIT)
 }
@@ -71,9 +68,7 @@ pub fn growing_foreign_set<F: Future<Output: Drop>, T: Drop>(
     alloc: Global,
     cap: usize,
 ) -> Result<GrowingForeignSet<F, T>, NewFault>
-    ensures empty { IfOk result (IsNewGrowing IsNewDriven cap POLL_LIMIT) }
-    ensures refuses { RefusesTooLarge cap result }
-    ensures none { cap ≡ 0 → IsOk result }
+    ensures { MakesGroup cap (IsNewGrowing IsNewDriven cap POLL_LIMIT) result }
 {
     FuturesUnordered::over((), alloc, cap)
 }
@@ -81,14 +76,11 @@ pub fn growing_foreign_set<F: Future<Output: Drop>, T: Drop>(
 /// An empty queue of `cap` slots, whose outputs come in the order of the pushes.
 ///
 /// Takes time and memory in proportion to `cap`. `Memory` where a request for it was refused.
-pub fn foreign_queue<F: Future<Output: Drop>, T: SlotFuture<Mailbox<F>>>(
+pub fn foreign_queue<F: Future<Output: Drop>, T: SlotFuture<Mailbox<F>, Output: Drop>>(
     alloc: Global,
     cap: usize,
 ) -> Result<ForeignQueue<F, T>, NewFault>
-where
-    T::Output: Drop,
-    ensures empty { IfOk result (IsNewBoundedQueue IsNewDriven cap POLL_LIMIT) }
-    ensures refuses { RefusesTooLarge cap result }
+    ensures { MakesSlots cap (IsNewBoundedQueue IsNewDriven cap POLL_LIMIT) result }
 {
     FuturesOrderedBounded::over(&(), alloc, cap)
 }
@@ -96,81 +88,61 @@ where
 /// An empty queue that grows, as `growing_foreign_set`, whose outputs come in the order of the pushes.
 ///
 /// Takes time and memory in proportion to `cap`. `Memory` where a request for it was refused.
-pub fn growing_foreign_queue<F: Future<Output: Drop>, T: SlotFuture<Mailbox<F>>>(
+pub fn growing_foreign_queue<F: Future<Output: Drop>, T: SlotFuture<Mailbox<F>, Output: Drop>>(
     alloc: Global,
     cap: usize,
 ) -> Result<GrowingForeignQueue<F, T>, NewFault>
-where
-    T::Output: Drop,
-    ensures empty { IfOk result (IsNewGrowingQueue IsNewDriven cap POLL_LIMIT) }
-    ensures refuses { RefusesTooLarge cap result }
-    ensures none { cap ≡ 0 → IsOk result }
+    ensures { MakesGroup cap (IsNewGrowingQueue IsNewDriven cap POLL_LIMIT) result }
 {
     FuturesOrdered::over((), alloc, cap)
 }
 
-/// A join of what this iterator gives, in its order. Nothing is polled, and it refuses as `JoinAll::over` does.
-pub fn foreign_join_all<F: Future<Output: Drop>, I: IntoIterator>(
-    alloc: Global,
-    iter: I,
-) -> Result<ForeignJoin<F, I::Item>, NewFault>
-where
-    I::Item: SlotFuture<Mailbox<F>>,
-    <I::Item as SlotFuture<Mailbox<F>>>::Output: Drop,
-    requires { IsFiniteSource I.IntoIterator I.IntoIter.Iterator iter }
-    ensures made { IfOk result (IsMadeOf
-        (Draws I.IntoIterator I.IntoIter.Iterator iter)
-        IsNewDriven Marks POLL_LIMIT MAX_CAPACITY) }
-    ensures large { RefusesTooMany I.IntoIterator I.IntoIter.Iterator iter result }
-{
-    Join::over(&(), alloc, iter)
-}
-
-/// As `foreign_join_all`, of what may fail: it is ready as soon as one gives an error.
-pub fn foreign_try_join_all<F: Future<Output: Drop>, I: IntoIterator, A: Drop, E>(
-    alloc: Global,
-    iter: I,
-) -> Result<ForeignTryJoin<F, I::Item>, NewFault>
-where
-    I::Item: SlotFuture<Mailbox<F>, Output = Result<A, E>>,
-    requires { IsFiniteSource I.IntoIterator I.IntoIter.Iterator iter }
-    ensures made { IfOk result (IsMadeOf
-        (Draws I.IntoIterator I.IntoIter.Iterator iter)
-        IsNewDriven Marks POLL_LIMIT MAX_CAPACITY) }
-    ensures large { RefusesTooMany I.IntoIterator I.IntoIter.Iterator iter result }
-{
-    TryJoin::over(&(), alloc, iter)
-}
-
 /// A merge without a free slot of the streams that this iterator gives, in its order. It refuses as `MergeBounded::over` does.
-pub fn foreign_merge<St: Stream<Item: Drop>, I: IntoIterator>(
-    alloc: Global,
-    iter: I,
-) -> Result<ForeignMerge<St, I::Item>, NewFault>
-where
-    I::Item: SlotStream<Mailbox<StreamFuture<St>>>,
+pub fn foreign_merge<
+    St: Stream<Item: Drop>,
+    I: IntoIterator<Item: SlotStream<Mailbox<StreamFuture<St>>>>,
+>(alloc: Global, iter: I) -> Result<ForeignMerge<St, I::Item>, NewFault>
     requires { IsFiniteSource I.IntoIterator I.IntoIter.Iterator iter }
-    ensures holds { IfOk result (HoldsAllOf I.IntoIterator I.IntoIter.Iterator iter
-        (HoldsEach IsNewDriven Marks POLL_LIMIT)) }
-    ensures fits { IfOk result (λ merge. slot_count merge.slots ≤ MAX_CAPACITY) }
-    ensures large { RefusesTooMany I.IntoIterator I.IntoIter.Iterator iter result }
+    ensures { MakesFull I.IntoIterator I.IntoIter.Iterator iter slots_in
+        (HoldsEach IsNewDriven Marks POLL_LIMIT) result }
 {
     MergeBounded::over(&(), alloc, iter)
 }
 
 /// A merge that grows, of the streams that this iterator gives, in its order. It refuses as `MergeUnbounded::over` does.
-pub fn growing_foreign_merge<St: Stream<Item: Drop>, I: IntoIterator>(
-    alloc: Global,
-    iter: I,
-) -> Result<GrowingForeignMerge<St, I::Item>, NewFault>
-where
-    I::Item: SlotStream<Mailbox<StreamFuture<St>>>,
+pub fn growing_foreign_merge<
+    St: Stream<Item: Drop>,
+    I: IntoIterator<Item: SlotStream<Mailbox<StreamFuture<St>>>>,
+>(alloc: Global, iter: I) -> Result<GrowingForeignMerge<St, I::Item>, NewFault>
     requires { IsFiniteSource I.IntoIterator I.IntoIter.Iterator iter }
-    ensures holds { IfOk result (HoldsAllOf I.IntoIterator I.IntoIter.Iterator iter
-        (PushesEach Marks IsNewDriven (no_groups POLL_LIMIT))) }
-    ensures large { result ≡ Err NewFault.TooLarge
-        → StopsAtBound I.IntoIterator I.IntoIter.Iterator iter
-        (GrowingPushes Marks IsNewDriven FIRST_GROUP) SetRefuses (no_groups POLL_LIMIT) }
+    ensures { MakesExtended I.IntoIterator I.IntoIter.Iterator iter
+        (GrowingPushes Marks IsNewDriven FIRST_GROUP) SetRefuses (no_groups POLL_LIMIT) result }
 {
     MergeUnbounded::over((), alloc, iter)
+}
+
+/// A join of what this iterator gives, in its order. Nothing is polled, and it refuses as `JoinAll::over` does.
+pub fn foreign_join_all<
+    F: Future<Output: Drop>,
+    I: IntoIterator<Item: SlotFuture<Mailbox<F>, Output: Drop>>,
+>(alloc: Global, iter: I) -> Result<ForeignJoin<F, I::Item>, NewFault>
+    requires { IsFiniteSource I.IntoIterator I.IntoIter.Iterator iter }
+    ensures { MakesJoin I.IntoIterator I.IntoIter.Iterator iter
+        IsNewDriven Marks POLL_LIMIT result }
+{
+    Join::over(&(), alloc, iter)
+}
+
+/// As `foreign_join_all`, of what may fail: it is ready as soon as one gives an error.
+pub fn foreign_try_join_all<
+    F: Future<Output: Drop>,
+    I: IntoIterator<Item: SlotFuture<Mailbox<F>, Output = Result<A, E>>>,
+    A: Drop,
+    E,
+>(alloc: Global, iter: I) -> Result<ForeignTryJoin<F, I::Item>, NewFault>
+    requires { IsFiniteSource I.IntoIterator I.IntoIter.Iterator iter }
+    ensures { MakesJoin I.IntoIterator I.IntoIter.Iterator iter
+        IsNewDriven Marks POLL_LIMIT result }
+{
+    TryJoin::over(&(), alloc, iter)
 }

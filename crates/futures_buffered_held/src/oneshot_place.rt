@@ -5,9 +5,7 @@ ghost use Rattle.futures_buffered_held.specs.declared.oneshot_place.Left.TheVari
 ghost use Rattle.futures_buffered_held.specs.declared.oneshot_place.View.TheVariants.{Sender, Sent, Waiting, Got};
 ghost use Rattle.futures_buffered_held.specs.OneshotPlace.{Answers, IsIdle, HasOpened, finished};
 
-use crate::oneshot_plays::{
-    Begin, Compare, Ends, Finish, Leave, Look, Match, OneValue, Receipted, Register, Withdraw,
-};
+use crate::oneshot_plays::{Ends, Finish, Look, Match, OneValue, Receipted, Turn};
 use atomic_table::{Refused, Table};
 use std::alloc::{AllocError, Global};
 use std::marker::Model;
@@ -115,7 +113,7 @@ impl<T: Drop, W: Drop> Place<T, W> {
         ensures told { finished (Sender, (0, sent) ∷ []) result seat.new.me }
     {
         let shared = &self.table.shared;
-        shared.load::<Begin>(seat, 0);
+        shared.load::<Look>(seat, 0);
         drop(shared.exchange(seat, VALUE, sent));
         shared.swap::<Finish>(seat, 0, DONE)
     }
@@ -198,7 +196,7 @@ impl<T: Drop, W: Drop> Place<T, W> {
         ensures answer { MatchOption result (IsIdle seat.new.me) (λ got. seat.new.me.0 ≡ Got got) }
     {
         let shared = &self.table.shared;
-        if shared.compare_exchange::<Withdraw>(seat, 0, WAITING, IDLE) == WAITING {
+        if shared.compare_exchange::<Turn>(seat, 0, WAITING, IDLE) == WAITING {
             return None;
         }
         Some(self.open(seat))
@@ -215,7 +213,7 @@ impl<T: Drop, W: Drop> Place<T, W> {
         }
         let shared = &self.table.shared;
         drop(shared.exchange(seat, WAKER, Left::Waker(waker)));
-        if shared.compare_exchange::<Register>(seat, 0, IDLE, WAITING) == IDLE {
+        if shared.compare_exchange::<Turn>(seat, 0, IDLE, WAITING) == IDLE {
             return None;
         }
         Some(self.open(seat))
@@ -226,10 +224,10 @@ impl<T: Drop, W: Drop> Place<T, W> {
         requires { (seat.old.table_id ≡ self.now) × (seat.old.me ≡ (Waiting, [])) }
     {
         let shared = &self.table.shared;
-        match shared.swap::<Leave>(seat, 0, GONE) {
-            DONE => drop(shared.exchange(seat, VALUE, Left::Nothing)),
-            WAITING => drop(shared.exchange(seat, WAKER, Left::Nothing)),
-            _ => {}
+        if shared.compare_exchange::<Turn>(seat, 0, WAITING, GONE) == WAITING {
+            drop(shared.exchange(seat, WAKER, Left::Nothing));
+        } else {
+            drop(self.open(seat));
         }
     }
 
@@ -254,6 +252,6 @@ impl<T: Drop, W: Drop> Place<T, W> {
     {
         let shared = &self.table.shared;
         shared.join_seat::<Match>(seat, receipt);
-        shared.load::<Compare>(seat, 0);
+        shared.load::<Look>(seat, 0);
     }
 }

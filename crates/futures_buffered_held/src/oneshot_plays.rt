@@ -13,67 +13,31 @@ impl<T, W> TableRule<Left<T, W>, View<T>, ()> for OneValue {
     ghost first = { λ _. Both };
 }
 
-// The sender takes the place of the value.
-pub(crate) struct Begin;
-
-impl<T, W> Play<Left<T, W>, View<T>> for Begin {
-    ghost use Rattle.futures_buffered_held.specs.OneshotPlace.{begun};
-
-    ghost then = { λ _ m _ n. begun m n };
-}
-
-// The sender is done.
-pub(crate) struct Finish;
-
-impl<T, W> Play<Left<T, W>, View<T>> for Finish {
-    ghost use Rattle.futures_buffered_held.specs.OneshotPlace.{finished};
-
-    ghost then = { λ _ m found n. finished m found n };
-}
-
-// The receiver looks whether the sender is done.
+// A load.
 pub(crate) struct Look;
 
 impl<T, W> Play<Left<T, W>, View<T>> for Look {
     ghost use Rattle.futures_buffered_held.specs.OneshotPlace.{looked};
 
-    ghost then = { λ _ m found n. looked m found n };
+    ghost then = { λ _. looked };
 }
 
-// The receiver takes the place of the waker.
-pub(crate) struct Withdraw;
+// A compare-exchange, by which the receiver takes the place of the waker, gives it back or goes.
+pub(crate) struct Turn;
 
-impl<T, W> Play<Left<T, W>, View<T>> for Withdraw {
-    ghost use Rattle.futures_buffered_held.specs.OneshotPlace.{withdrawn};
+impl<T, W> Play<Left<T, W>, View<T>> for Turn {
+    ghost use Rattle.futures_buffered_held.specs.OneshotPlace.{turned};
 
-    ghost then = { λ _ m found n. withdrawn m found n };
+    ghost then = { λ step. turned step.first step.second };
 }
 
-// The receiver gives it back, and waits.
-pub(crate) struct Register;
+// The swap by which the sender is done.
+pub(crate) struct Finish;
 
-impl<T, W> Play<Left<T, W>, View<T>> for Register {
-    ghost use Rattle.futures_buffered_held.specs.OneshotPlace.{registered};
+impl<T, W> Play<Left<T, W>, View<T>> for Finish {
+    ghost use Rattle.futures_buffered_held.specs.OneshotPlace.{finished};
 
-    ghost then = { λ _ m found n. registered m found n };
-}
-
-// The receiver goes.
-pub(crate) struct Leave;
-
-impl<T, W> Play<Left<T, W>, View<T>> for Leave {
-    ghost use Rattle.futures_buffered_held.specs.OneshotPlace.{gone};
-
-    ghost then = { λ _ m found n. gone m found n };
-}
-
-// The receiver compares what it received with a receipt.
-pub(crate) struct Compare;
-
-impl<T, W> Play<Left<T, W>, View<T>> for Compare {
-    ghost use Rattle.futures_buffered_held.specs.OneshotPlace.{compared};
-
-    ghost then = { λ _ m _ n. compared m n };
+    ghost then = { λ _. finished };
 }
 
 // The two ends are cut.

@@ -3,9 +3,11 @@
 //! Its values go through the ring of `rtrb`, and a sending wakes the slot of the receiver where that waits (`spsc_place`). No call waits for the other end, and only the constructors take memory.
 //!
 //! A sender that finds no room gets its value back, and nobody tells it when there is room again: who receives can wake it, as by a one-shot or a channel that goes the other way.
-ghost use Rattle.std.specs.Prelude.{◌≡◌, ◌++◌, length, IfOk, IfSome};
+ghost use Rattle.std.specs.Prelude.{◌≡◌, ◌++◌, length, IfSome};
 ghost use Rattle.std.specs.declared.alloc.Global.{Global};
-ghost use Rattle.futures_buffered_table.specs.Answer.{RefusesTooLarge};
+ghost use Rattle.rtrb.specs.declared.consumer.Consumer.{Consumer};
+ghost use Rattle.rtrb.specs.declared.producer.Producer.{Producer};
+ghost use Rattle.futures_buffered_core.specs.Made.{MakesSlots};
 ghost use Rattle.futures_buffered_held.specs.Spsc.{IsNewChannel, Sends, Receives, KeepsSendingOrder, poll_of, sent, received, known_items, producer_capacity, consumer_capacity, all_sent, IsPair, Finishes, IsFinishedOf, SameProducer, ProducerLooked, ConsumerLooked};
 
 use crate::spsc_place::WaitingPlace;
@@ -32,9 +34,6 @@ pub struct Sender<T: Drop, P: Protocol<T> = AnyItems> {
 }
 
 impl<T: Drop, P: Protocol<T>> Model for Sender<T, P> {
-    ghost use Rattle.std.specs.declared.alloc.Global.{Global};
-    ghost use Rattle.rtrb.specs.declared.producer.Producer.{Producer};
-
     ghost Value = { Producer T Global P };
 
     ghost view = { λ sender. sender.ring };
@@ -51,9 +50,6 @@ pub struct Receiver<T: Drop, P: Protocol<T> = AnyItems> {
 }
 
 impl<T: Drop, P: Protocol<T>> Model for Receiver<T, P> {
-    ghost use Rattle.std.specs.declared.alloc.Global.{Global};
-    ghost use Rattle.rtrb.specs.declared.consumer.Consumer.{Consumer};
-
     ghost Value = { Consumer T Global P };
 
     ghost view = { λ receiver. receiver.ring };
@@ -88,8 +84,7 @@ pub fn channel<T: Drop>(
     alloc: Global,
     capacity: usize,
 ) -> Result<(Sender<T>, Receiver<T>), NewFault>
-    ensures made { IfOk result (λ ends. IsNewChannel capacity ends.0 ends.1) }
-    ensures refuses { RefusesTooLarge capacity result }
+    ensures { MakesSlots capacity (λ ends. IsNewChannel capacity ends.0 ends.1) result }
 {
     with_protocol::<T, AnyItems>(alloc, capacity)
 }
@@ -99,8 +94,7 @@ pub fn with_protocol<T: Drop, P: Protocol<T>>(
     alloc: Global,
     capacity: usize,
 ) -> Result<(Sender<T, P>, Receiver<T, P>), NewFault>
-    ensures made { IfOk result (λ ends. IsNewChannel capacity ends.0 ends.1) }
-    ensures refuses { RefusesTooLarge capacity result }
+    ensures { MakesSlots capacity (λ ends. IsNewChannel capacity ends.0 ends.1) result }
 {
     if capacity > MAX_CAPACITY {
         return Err(NewFault::TooLarge);

@@ -1,16 +1,14 @@
-use Rattle.std.proofs.Common.{rules, ◌≡◌, [], ◌∷◌, ap, ◌∙◌}
+use Rattle.std.proofs.Common.{rules, ◌∷◌, ap, ◌∙◌}
 use Rattle.atomic_table.specs.Table.{Me, rest}
 use Rattle.futures_buffered_held.specs.declared.oneshot_place.Left.{Left}
 use Rattle.futures_buffered_held.specs.declared.oneshot_place.View.{View}
-use Rattle.futures_buffered_held.specs.declared.oneshot_place.View.TheVariants.{Writing}
-use Rattle.futures_buffered_held.proofs.OneshotPlaceLemmas.{begins, finishes}
+use Rattle.futures_buffered_held.proofs.OneshotPlaceLemmas.{sender_looked, looks, finishes}
 use Rattle.futures_buffered_held.proofs.oneshot_place.Place.finish.Goals as goal
 
 pub load-requires : goal.load-requires
-load-requires g c = (search rules, search rules, begins _ _ _ c.requires.1)
+load-requires g c = (search rules, search rules, looks _ _ _)
 
 pub swap-requires : goal.swap-requires
 swap-requires g c =
-    let begun = c.load.ensures.2 in
-    let holds : c.load.new.seat.me ≡ (Writing, (0, begun.0) ∷ []) = begun.1 ∙ ap (λ (m : Me (Left g.row.T.Denot g.row.W.Denot) (View g.row.T.Denot)). (Writing, (0, begun.0) ∷ m.1)) c.requires.1 in
-    (search rules, search rules, finishes _ _ c.args.sent _ (c.exchange.ensures.3 ∙ ap (λ (m : Me (Left g.row.T.Denot g.row.W.Denot) (View g.row.T.Denot)). (m.0, (0, c.args.sent) ∷ rest m.1)) holds))
+    let begun = sender_looked _ _ _ c.requires.1 c.load.ensures.2 in
+    (search rules, search rules, finishes _ _ c.args.sent _ (c.exchange.ensures.3 ∙ ap (λ (m : Me (Left g.row.T.Denot g.row.W.Denot) (View g.row.T.Denot)). (m.0, (0, c.args.sent) ∷ rest m.1)) begun.1))
