@@ -6,7 +6,6 @@ use Rattle.futures.specs.declared.task.Poll.{Poll}
 use Rattle.futures.specs.declared.task.Poll.TheVariants.{Ready, Pending}
 use Rattle.futures.specs.Runs.{Runs}
 use Rattle.futures_buffered_unordered.specs.StreamAnswers.{StreamAnswers}
-use Rattle.futures_buffered.specs.Buffer.{Buffering}
 use Rattle.futures_buffered.specs.TryForEachConcurrent.{CanDrain, Draining, DrainGives, DrainTurn, GoingLeavesDrain, LeavesDrain, buffer_answer, last_of, left_after}
 
 module _ {B E : Type 0} (calls : B → Poll (Option (Result (Unit {0}) E)) → B → Context → Context → Type 0) where
@@ -14,8 +13,8 @@ module _ {B E : Type 0} (calls : B → Poll (Option (Result (Unit {0}) E)) → B
   pub turn_of : (old : Option B) (buffer after : B) (answer : Poll (Option (Result (Unit {0}) E))) (turn : Option (Poll (Result (Unit {0}) E))) (cx left : Context) → old ≡ Some buffer → answer ≡ buffer_answer turn → calls buffer answer after cx left → DrainTurn calls old turn (left_after turn after) cx left
   turn_of old buffer after answer turn cx left is same called = rw is (after, rw same at called, refl)
 
-module _ {St Q E : Type 0} (can_poll : Buffering St Q → Type 0) (needs : Buffering St Q → ℕ → Type 0) (yields : Buffering St Q → Runs (Result (Unit {0}) E))
-    (old : Draining St Q) (buffer after : Buffering St Q) (limit : ℕ) (answer : Poll (Option (Result (Unit {0}) E))) (cx left : Context)
+module _ {B E : Type 0} (can_poll : B → Type 0) (needs : B → ℕ → Type 0) (yields : B → Runs (Result (Unit {0}) E))
+    (old : Draining B) (buffer after : B) (limit : ℕ) (answer : Poll (Option (Result (Unit {0}) E))) (cx left : Context)
     (is : old ≡ record { buffer = Some buffer; limit = limit }) (answers : StreamAnswers can_poll needs yields buffer answer after cx left) where
   -- a future was done without an error
   pub going : answer ≡ Ready (Some (Ok tt)) → GoingLeavesDrain (CanDrain can_poll) (DrainGives yields) old (record { buffer = Some after; limit = limit })
@@ -56,6 +55,6 @@ module _ {St Q E : Type 0} (can_poll : Buffering St Q → Type 0) (needs : Buffe
   }
 
 -- what the last turn leaves, the whole call leaves
-pub call_leaves : {St Q E : Type 0} (can_poll : Draining St Q → Type 0) (gives : Draining St Q → Result (Unit {0}) E → Type 0) (old now new : Draining St Q) (answer : Poll (Result (Unit {0}) E)) → now.limit ≡ old.limit → ((x : Result (Unit {0}) E) → gives now x → gives old x) → LeavesDrain can_poll gives now answer new → LeavesDrain can_poll gives old answer new
+pub call_leaves : {B E : Type 0} (can_poll : Draining B → Type 0) (gives : Draining B → Result (Unit {0}) E → Type 0) (old now new : Draining B) (answer : Poll (Result (Unit {0}) E)) → now.limit ≡ old.limit → ((x : Result (Unit {0}) E) → gives now x → gives old x) → LeavesDrain can_poll gives now answer new → LeavesDrain can_poll gives old answer new
 call_leaves can_poll gives old now new (Ready x) limit same last = record { ended = last.ended; value = same x last.value; again = tt; same = tt; limit = last.limit ∙ limit }
 call_leaves can_poll gives old now new Pending limit same last = record { ended = tt; value = tt; again = last.again; same = λ x h. same x (last.same x h); limit = last.limit ∙ limit }

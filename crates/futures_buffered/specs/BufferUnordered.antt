@@ -9,11 +9,16 @@ use Rattle.futures_buffered_table.specs.declared.answer.Woke.{Woke}
 use Rattle.futures_buffered_core.specs.ReadySource.{SourceSteps}
 use Rattle.futures_buffered_unordered.specs.Held.{MayGive}
 use Rattle.futures_buffered_unordered.specs.FuturesUnorderedBounded.{Bounded, Pushes, PollGives}
-use Rattle.futures_buffered_unordered.specs.FuturesUnorderedBounded.{held_in}
+use Rattle.futures_buffered_unordered.specs.FuturesUnorderedBounded.{IsNewSet, held_in}
 use Rattle.futures_buffered.specs.FutureQueue.{OnlyPushes}
 use Rattle.futures_buffered.specs.Buffer.{Buffering, PollsStream, CallsInTurn, Accounts}
-use Rattle.futures_buffered.specs.Buffer.{all_drawn, all_outputs}
+use Rattle.futures_buffered.specs.Buffer.{IsNewBuffer, all_drawn, all_outputs}
 use Rattle.futures_buffered.specs.TryBuffer.{PushesOk, WithErrors, futures_of}
+
+-- nothing was drawn, and the set is a new one of n slots
+abbrev pub IsNewUnordered : {St F S : Type 0}
+    → (ℕ → S → Type 0) → ℕ → St → ℕ → Buffering St (Bounded F S) → Type 0
+IsNewUnordered made names stream n = IsNewBuffer (IsNewSet made n names) stream
 
 -- a pending poll of a set waits with its source
 abbrev pub SetWaitsAt : {F S : Type 0} → (S → ℕ → Type 0) → Bounded F S → ℕ → Type 0

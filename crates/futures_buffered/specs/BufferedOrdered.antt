@@ -8,13 +8,13 @@ use Rattle.futures_buffered_core.specs.ReadySource.{SourceSteps}
 use Rattle.futures_buffered_unordered.specs.FuturesUnorderedBounded.{held_in}
 use Rattle.futures_buffered_ordered.specs.OrderedEntries.{AddsBack, OrderedGives}
 use Rattle.futures_buffered_ordered.specs.FuturesOrderedBounded.{OrderedBounded, PushesNumber}
-use Rattle.futures_buffered_ordered.specs.FuturesOrderedBounded.{SetGives}
+use Rattle.futures_buffered_ordered.specs.FuturesOrderedBounded.{IsNewBoundedQueue, SetGives}
 use Rattle.futures_buffered_ordered.specs.declared.numbered.Numbered.{Numbered}
 use Rattle.futures_buffered_ordered.specs.declared.ordered_entries.Entry.{Entry}
 use Rattle.futures_buffered_ordered.specs.declared.ordered_entries.Entry.TheVariants.{Running, Kept}
 use Rattle.futures_buffered.specs.FutureQueue.{OnlyPushes}
 use Rattle.futures_buffered.specs.Buffer.{Buffering, PollsStream, CallsInTurn, Accounts}
-use Rattle.futures_buffered.specs.Buffer.{all_drawn, all_outputs}
+use Rattle.futures_buffered.specs.Buffer.{IsNewBuffer, all_drawn, all_outputs}
 use Rattle.futures_buffered.specs.BufferUnordered.{PendsTo, MayGiveInSlot, SetWaitsAt}
 use Rattle.futures_buffered.specs.TryBuffer.{PushesOk, WithErrors, futures_of}
 
@@ -25,6 +25,11 @@ queue_len queue = length queue.entries
 -- how many futures can be in progress
 abbrev pub queue_room : {F A S : Type 0} → OrderedBounded F A S → ℕ
 queue_room queue = slot_count queue.set.slots
+
+-- nothing was drawn, and the queue is a new one of n slots
+abbrev pub IsNewOrdered : {St F A S : Type 0}
+    → (ℕ → S → Type 0) → ℕ → St → ℕ → Buffering St (OrderedBounded F A S) → Type 0
+IsNewOrdered made names stream n = IsNewBuffer (IsNewBoundedQueue made n names) stream
 
 -- a pending poll of a queue waits with the source of its set
 abbrev pub QueueWaitsAt : {F A S : Type 0} → (S → ℕ → Type 0) → OrderedBounded F A S → ℕ → Type 0

@@ -11,10 +11,11 @@ use Rattle.futures.specs.declared.task.Poll.TheVariants.{Ready, Pending}
 use Rattle.futures.specs.Poll.{IfReady, OnPending}
 use Rattle.futures.specs.Runs.{Runs, AtEachItem}
 use Rattle.futures_buffered_unordered.specs.Held.{AllHeld}
-use Rattle.futures_buffered_unordered.specs.FuturesUnorderedBounded.{Bounded, IsNewSet, held_in}
+use Rattle.futures_buffered_unordered.specs.FuturesUnorderedBounded.{Bounded, held_in}
 use Rattle.futures_buffered_unordered.specs.FuturesUnorderedBounded.{slots_in}
 use Rattle.futures_buffered.specs.Buffer.{Buffering, buffer_code, Ahead, AsksStream}
-use Rattle.futures_buffered.specs.Buffer.{HasNoTurn, IsNewBuffer}
+use Rattle.futures_buffered.specs.Buffer.{HasNoTurn}
+use Rattle.futures_buffered.specs.BufferUnordered.{IsNewUnordered}
 
 -- the stream and the set, and the closure
 pub record ForEach (St Fn Q : Type 0) : Type 0 where
@@ -36,7 +37,7 @@ for_each_code {St} {Fn} {Q} stream_code closure_code queue_code =
 abbrev pub IsNewForEach : {St Fn F S : Type 0}
     → (ℕ → S → Type 0) → ℕ → St → Fn → ℕ → ForEach St Fn (Bounded F S) → Type 0
 IsNewForEach made names stream closure n b =
-    IsNewBuffer (IsNewSet made n names) stream b.buffer × (b.closure ≡ closure)
+    IsNewUnordered made names stream n b.buffer × (b.closure ≡ closure)
 
 -- the stream has ended and nothing is held
 abbrev pub IsDone : {St Fn Q : Type 0} → (Q → ℕ) → ForEach St Fn Q → Type 0

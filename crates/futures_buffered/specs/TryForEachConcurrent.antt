@@ -9,26 +9,27 @@ use Rattle.futures.specs.declared.task.Poll.{Poll}
 use Rattle.futures.specs.declared.task.Poll.TheVariants.{Ready, Pending}
 use Rattle.futures.specs.Poll.{IfReady, OnPending}
 use Rattle.futures.specs.Runs.{Runs, Ends}
-use Rattle.futures_buffered.specs.Buffer.{Buffering, buffer_code, CallLeavesBuffer, CallLeavesTask}
+use Rattle.futures_buffered.specs.Buffer.{Buffering, CallLeavesBuffer, CallLeavesTask}
 use Rattle.futures_buffered.specs.Buffer.{CallGives, HasNoTurn, IsNewBuffer}
 
 -- the buffer, or nothing after its end or an error; and how many turns one call takes at most
-pub record Draining (St Q : Type 0) : Type 0 where
-  pub buffer : Option (Buffering St Q)
+pub record Draining (B : Type 0) : Type 0 where
+  pub buffer : Option B
   pub limit : ℕ
 
--- its code, made of those of its parts
-abbrev pub draining_code : {St Q : Type 0} → Coded St → Coded Q → Coded (Draining St Q)
-draining_code {St} {Q} stream_code queue_code =
+-- its code, made of that of a buffer
+abbrev pub draining_code : {B : Type 0} → Coded B → Coded (Draining B)
+draining_code {B} code =
     code_by
-    (Option (Buffering St Q) × ℕ)
-    (coded× (coded_option (buffer_code stream_code queue_code)) coded_ℕ)
+    (Option B × ℕ)
+    (coded× (coded_option code) coded_ℕ)
     (λ d. (d.buffer, d.limit))
     (λ p. record { buffer = p.0; limit = p.1 })
     (λ _. refl)
 
 -- nothing was drawn from the stream, and one call takes so many turns at most
-abbrev pub IsNewDrain : {St Q : Type 0} → (Q → Type 0) → ℕ → St → Draining St Q → Type 0
+abbrev pub IsNewDrain : {St Q : Type 0} → (Q → Type 0) → ℕ → St → Draining (Buffering St Q)
+    → Type 0
 IsNewDrain is_new limit stream d =
     IsSomeAnd d.buffer (IsNewBuffer is_new stream) × (d.limit ≡ limit)
 
@@ -118,34 +119,32 @@ last_of (Err error) = Some (Err error)
 
 -- it may end with this answer, where its buffer may come to the end or to that error, without one
 -- before
-abbrev pub DrainGives : {St Q E : Type 0}
-    → (Buffering St Q → Runs (Result (Unit {0}) E))
-    → Draining St Q → Result (Unit {0}) E → Type 0
+abbrev pub DrainGives : {B E : Type 0}
+    → (B → Runs (Result (Unit {0}) E)) → Draining B → Result (Unit {0}) E → Type 0
 DrainGives yields d answer = (outputs : List (Unit {0}))
     × FromBuffer yields d.buffer (map (λ x. Ok x) outputs) (last_of answer)
 
 -- its buffer may be polled, if there is one
-abbrev pub CanDrain : {St Q : Type 0} → (Buffering St Q → Type 0) → Draining St Q → Type 0
+abbrev pub CanDrain : {B : Type 0} → (B → Type 0) → Draining B → Type 0
 CanDrain can_poll d = IfSome d.buffer can_poll
 
 -- a pending call waits where its buffer waits
-abbrev pub DrainWaitsAt : {St Q : Type 0} → (Buffering St Q → ℕ → Type 0) → Draining St Q → ℕ
-    → Type 0
+abbrev pub DrainWaitsAt : {B : Type 0} → (B → ℕ → Type 0) → Draining B → ℕ → Type 0
 DrainWaitsAt needs d place = IsSomeAnd d.buffer (λ buffer. needs buffer place)
 
 -- nothing more is polled: there is no buffer, or its stream has ended and it holds nothing
-abbrev pub IsDrained : {St Q : Type 0} → (Q → ℕ) → Draining St Q → Type 0
+abbrev pub IsDrained : {St Q : Type 0} → (Q → ℕ) → Draining (Buffering St Q) → Type 0
 IsDrained count d = IfSome d.buffer (λ buffer. (buffer.stream ≡ None) × (count buffer.queue ≡ 0))
 
 -- What a call, from old to new, leaves of a drain, of which `can_poll` says whether it may be polled
 -- and `gives` what it may answer.
 pub record LeavesDrain
-    {St Q E : Type 0}
-    (can_poll : Draining St Q → Type 0)
-    (gives : Draining St Q → Result (Unit {0}) E → Type 0)
-    (old : Draining St Q)
+    {B E : Type 0}
+    (can_poll : Draining B → Type 0)
+    (gives : Draining B → Result (Unit {0}) E → Type 0)
+    (old : Draining B)
     (answer : Poll (Result (Unit {0}) E))
-    (new : Draining St Q)
+    (new : Draining B)
     : Type 0 where
   -- where it is ready, nothing is left of the buffer
   pub ended : IfReady answer (λ _. new.buffer ≡ None)
@@ -160,10 +159,10 @@ pub record LeavesDrain
 
 -- What a turn that goes on leaves of it.
 pub record GoingLeavesDrain
-    {St Q E : Type 0}
-    (can_poll : Draining St Q → Type 0)
-    (gives : Draining St Q → Result (Unit {0}) E → Type 0)
-    (old new : Draining St Q)
+    {B E : Type 0}
+    (can_poll : Draining B → Type 0)
+    (gives : Draining B → Result (Unit {0}) E → Type 0)
+    (old new : Draining B)
     : Type 0 where
   -- it can be polled again
   pub again : can_poll new

@@ -1,7 +1,7 @@
 //! Some futures of a stream at a time, in any queue of futures.
-ghost use Rattle.std.specs.Prelude.{◌≡◌, ◌<◌, ◌≤◌, ◌↔◌, List, IfOk, IsTrue, None, option_copied};
+ghost use Rattle.std.specs.Prelude.{◌≡◌, ◌<◌, ◌≤◌, ◌↔◌, List, IsTrue, None, option_copied};
 ghost use Rattle.std.specs.declared.ops.ControlFlow.TheVariants.{Break};
-ghost use Rattle.futures_buffered_core.specs.Answer.{RefusesTooLarge};
+ghost use Rattle.futures_buffered_core.specs.Made.{MakesSlots};
 ghost use Rattle.futures_buffered_unordered.specs.StreamAnswers.{StreamAnswers};
 ghost use Rattle.futures_buffered.specs.Buffer.{PollsStream, DrawsAll, DrawsUpToOne, DrawsBuffer, DrawsTask, CallGives, CallLeavesBuffer, CallLeavesTask, HasNoTurn, IsNewBuffer, CanDraw, WaitsAt, BufferGives, handed_back, hint_with, hint_ahead};
 
@@ -9,6 +9,7 @@ use crate::future_queue::{FutureQueue, NewQueue};
 use futures::Stream;
 use futures::task::{Context, Poll};
 use futures_buffered_core::ready_core::NewFault;
+use futures_buffered_core::ready_shared::SharedReady;
 use futures_buffered_unordered::futures_unordered_bounded::POLL_LIMIT;
 use futures_buffered_unordered::{FusedStream, SizeHint};
 use std::alloc::Global;
@@ -18,7 +19,7 @@ use std::ops::ControlFlow;
 
 /// Futures of a stream, at most as many at a time as its queue has room for.
 ///
-/// A contract sees the stream, or nothing once it has ended, and what it sees of the queue. A poll takes no memory. A stream that ended is dropped at once.
+/// A contract sees the stream, or nothing once it has ended, and what it sees of the queue. A poll takes no memory but what the stream, the futures and the source's calls take. A stream that ended is dropped at once.
 #[derive(Drop)]
 pub struct Buffer<St: Drop, Q: Drop> {
     stream: Option<St>,
@@ -41,8 +42,7 @@ impl<St: Drop, Q: NewQueue> Buffer<St, Q> {
     /// Takes time and memory in proportion to `n`. The stream is dropped where it is refused: `TooLarge` where `n` is above `MAX_CAPACITY`, and `Memory` where a request for memory was refused.
     pub fn over(env: &Q::Env, alloc: Global, stream: St, n: usize) -> Result<Self, NewFault>
         requires { 0 < n }
-        ensures new { IfOk result (IsNewBuffer (Q.made n POLL_LIMIT) stream) }
-        ensures refuses { RefusesTooLarge n result }
+        ensures { MakesSlots n (IsNewBuffer (Q.made n POLL_LIMIT) stream) result }
     {
         Self::over_limit(env, alloc, stream, n, POLL_LIMIT)
     }
@@ -57,14 +57,24 @@ impl<St: Drop, Q: NewQueue> Buffer<St, Q> {
     ) -> Result<Self, NewFault>
         requires room { 0 < n }
         requires some { 1 ≤ limit }
-        ensures new { IfOk result (IsNewBuffer (Q.made n limit) stream) }
-        ensures refuses { RefusesTooLarge n result }
+        ensures { MakesSlots n (IsNewBuffer (Q.made n limit) stream) result }
     {
         let queue = Q::make(env, alloc, n, limit)?;
         Ok(Buffer {
             stream: Some(stream),
             queue,
         })
+    }
+}
+
+impl<St: Drop, Q: NewQueue<Env = (), Source = SharedReady>> Buffer<St, Q> {
+    /// As `over_limit`, with a shared source, whose futures are woken from any thread.
+    pub fn with_limit(alloc: Global, stream: St, n: usize, limit: usize) -> Result<Self, NewFault>
+        requires room { 0 < n }
+        requires some { 1 ≤ limit }
+        ensures { MakesSlots n (IsNewBuffer (Q.made n limit) stream) result }
+    {
+        Self::over_limit(&(), alloc, stream, n, limit)
     }
 }
 
@@ -162,7 +172,7 @@ impl<St: Stream, Q: FutureQueue<St::Item>> Stream for Buffer<St, Q> {
 
     /// Draws items while there is room, the stream has not ended, and an item comes at once; then polls the queue once. Where a push hands back an answer, that is the answer instead: what was drawn stays held, and the stream goes on. `Ready(None)` where the stream has ended and nothing is held, and then again.
     ///
-    /// Takes no memory, and waits for nobody where the source's calls do not. Takes time in proportion to the items drawn and the names that one poll of the queue takes, besides the polls.
+    /// Takes no memory but what the stream, the futures and the source's calls take, and waits for nobody where these do not. Takes time in proportion to the items drawn and the names that one poll of the queue takes, besides the polls.
     fn poll_next(&mut self, cx: &mut Context<'_>) -> Poll<Option<Q::Output>>
         requires { CanDraw St.can_poll St.yields Q.is_fit Q.can_poll self.old }
         ensures called { CallGives (PollsStream St.yields) Q.count (Q.room self.old.queue)
@@ -223,7 +233,7 @@ impl<St: Stream + SizeHint, Q: FutureQueue<St::Item>> SizeHint for Buffer<St, Q>
 /// Prints whether the stream has ended, and how many are held.
 impl<St: Stream, Q: FutureQueue<St::Item>> fmt::Debug for Buffer<St, Q> {
     fn fmt<W: fmt::Write>(&self, f: &mut fmt::Formatter<W>) -> fmt::Result {
-        f.debug_struct("Buffer")
+        f.debug_struct(Q::buffer_name())
             .field("has_ended", &self.stream.is_none())
             .field("len", &self.queue.len())
             .finish_non_exhaustive()

@@ -1,11 +1,8 @@
 //! Some futures of a stream at a time, whose outputs come as they finish.
-ghost use Rattle.std.specs.Prelude.{◌<◌, ◌≤◌, IfOk, false};
-ghost use Rattle.futures_buffered_core.specs.Answer.{RefusesTooLarge};
-ghost use Rattle.futures_buffered_core.specs.ReadyShared.{IsNewShared};
+ghost use Rattle.std.specs.Prelude.{false};
 ghost use Rattle.futures_buffered_unordered.specs.Held.{AllHeld, ComesFrom};
 ghost use Rattle.futures_buffered_unordered.specs.FuturesUnorderedBounded.{Pushes, PollGives, PollLeavesTask, IsNewSet, held_in, slots_in};
 ghost use Rattle.futures_buffered.specs.FutureQueue.{OnlyPushes};
-ghost use Rattle.futures_buffered.specs.Buffer.{IsNewBuffer};
 ghost use Rattle.futures_buffered.specs.BufferUnordered.{LosesNothing, MayGiveInSlot, SetWaitsAt};
 
 use crate::buffer::Buffer;
@@ -13,7 +10,6 @@ use crate::future_queue::{FutureQueue, NewQueue};
 use futures::Stream;
 use futures::task::{Context, Poll};
 use futures_buffered_core::ready_core::NewFault;
-use futures_buffered_core::ready_shared::SharedReady;
 use futures_buffered_core::ready_source::{NewSource, ReadySource};
 use futures_buffered_unordered::SlotFuture;
 use futures_buffered_unordered::futures_unordered_bounded::FuturesUnorderedBounded;
@@ -27,22 +23,23 @@ pub struct CompletionQueue<F: Drop, S: ReadySource> {
 }
 
 impl<F: Drop, S: ReadySource> Model for CompletionQueue<F, S> {
-    ghost use Rattle.futures_buffered_unordered.specs.FuturesUnorderedBounded.{Bounded, bounded_code};
+    ghost use Rattle.futures_buffered_unordered.specs.FuturesUnorderedBounded.{Bounded, bounded_code, slots_in};
 
     ghost Value = { Bounded F S };
 
     ghost coded = { bounded_code F.code S.code };
 
     ghost use Rattle.std.specs.Prelude.{◌<◌};
-    ghost use Rattle.futures_buffered_core.specs.SlotMap.{slot_count};
 
     ghost view = { λ s. s.set };
 
-    ghost invariant = { λ s. 0 < slot_count s.set.slots };
+    ghost invariant = { λ s. 0 < slots_in s.set };
 }
 
 impl<F: Drop, S: NewSource> NewQueue for CompletionQueue<F, S> {
     type Env = S::Env;
+
+    type Source = S;
 
     ghost made = { IsNewSet S.made };
 
@@ -97,18 +94,6 @@ impl<F: SlotFuture<S::Waker>, S: ReadySource> FutureQueue<F> for CompletionQueue
 
 /// Futures of a stream, at most as many at a time as its set has slots, whose outputs come as they finish.
 pub type BufferUnordered<St, S> = Buffer<St, CompletionQueue<<St as Stream>::Item, S>>;
-
-impl<St: Drop, F: Drop> Buffer<St, CompletionQueue<F, SharedReady>> {
-    /// As `over_limit`, with a shared source, whose futures are woken from any thread.
-    pub fn with_limit(alloc: Global, stream: St, n: usize, limit: usize) -> Result<Self, NewFault>
-        requires room { 0 < n }
-        requires some { 1 ≤ limit }
-        ensures new { IfOk result (IsNewBuffer (IsNewSet IsNewShared n limit) stream) }
-        ensures refuses { RefusesTooLarge n result }
-    {
-        Self::over_limit(&(), alloc, stream, n, limit)
-    }
-}
 
 /// After any calls of one buffer that held nothing at first, each item drawn either gave one of the outputs given, or is held still: no output is of two items or of none, and no item is lost.
 ///

@@ -1,13 +1,12 @@
 //! Adaptors of a stream of futures, as methods of the stream.
 //!
 //! Each is its type's `over` with a shared source, so that what it holds is woken from any thread.
-ghost use Rattle.futures_buffered_unordered.specs.FuturesUnorderedBounded.{IsNewSet};
-ghost use Rattle.std.specs.Prelude.{◌<◌, IfOk};
-ghost use Rattle.futures_buffered_core.specs.Answer.{RefusesTooLarge};
+ghost use Rattle.std.specs.Prelude.{◌<◌};
+ghost use Rattle.futures_buffered_core.specs.Made.{MakesSlots};
 ghost use Rattle.futures_buffered_core.specs.ReadyShared.{IsNewShared};
 ghost use Rattle.futures_buffered_held.specs.Driven.{IsNewDriven};
-ghost use Rattle.futures_buffered.specs.Buffer.{IsNewBuffer};
-ghost use Rattle.futures_buffered_ordered.specs.FuturesOrderedBounded.{IsNewBoundedQueue};
+ghost use Rattle.futures_buffered.specs.BufferUnordered.{IsNewUnordered};
+ghost use Rattle.futures_buffered.specs.BufferedOrdered.{IsNewOrdered};
 ghost use Rattle.futures_buffered.specs.ForEachConcurrent.{IsNewForEach};
 
 pub use crate::buffer_unordered::BufferUnordered;
@@ -23,7 +22,7 @@ use futures_buffered_unordered::futures_unordered_bounded::POLL_LIMIT;
 use std::alloc::Global;
 
 /// Adaptors that keep some futures of a stream in progress.
-pub trait BufferedStreamExt: Stream {
+pub trait BufferedStreamExt: Stream + Sized {
     /// The outputs of this stream's futures in the order of the stream, with at most `n` held at a time: in progress, or done and waiting for their turn. Nothing is polled.
     ///
     /// Takes time and memory in proportion to `n`. The stream is dropped where it is refused: `TooLarge` where `n` is above `MAX_CAPACITY`, and `Memory` where a request for memory was refused.
@@ -33,13 +32,9 @@ pub trait BufferedStreamExt: Stream {
         n: usize,
     ) -> Result<BufferedOrdered<Self, SharedReady>, NewFault>
     where
-        Self: Sized,
-        Self::Item: SlotFuture<SharedWaker>,
-        <Self::Item as SlotFuture<SharedWaker>>::Output: Drop,
+        Self::Item: SlotFuture<SharedWaker, Output: Drop>,
         requires { 0 < n }
-        ensures new { IfOk result
-            (IsNewBuffer (IsNewBoundedQueue IsNewShared n POLL_LIMIT) self) }
-        ensures refuses { RefusesTooLarge n result }
+        ensures { MakesSlots n (IsNewOrdered IsNewShared POLL_LIMIT self n) result }
     {
         BufferedOrdered::over(&(), alloc, self, n)
     }
@@ -53,12 +48,9 @@ pub trait BufferedStreamExt: Stream {
         n: usize,
     ) -> Result<BufferUnordered<Self, SharedReady>, NewFault>
     where
-        Self: Sized,
         Self::Item: SlotFuture<SharedWaker>,
         requires { 0 < n }
-        ensures new { IfOk result
-            (IsNewBuffer (IsNewSet IsNewShared n POLL_LIMIT) self) }
-        ensures refuses { RefusesTooLarge n result }
+        ensures { MakesSlots n (IsNewUnordered IsNewShared POLL_LIMIT self n) result }
     {
         BufferUnordered::over(&(), alloc, self, n)
     }
@@ -72,12 +64,9 @@ pub trait BufferedStreamExt: Stream {
         n: usize,
     ) -> Result<BufferedOrdered<Foreigns<Self>, Driven<Self::Item>>, NewFault>
     where
-        Self: Sized,
         Self::Item: Future<Output: Drop>,
         requires { 0 < n }
-        ensures new { IfOk result
-            (IsNewBuffer (IsNewBoundedQueue IsNewDriven n POLL_LIMIT) self) }
-        ensures refuses { RefusesTooLarge n result }
+        ensures { MakesSlots n (IsNewOrdered IsNewDriven POLL_LIMIT self n) result }
     {
         BufferedOrdered::over(&(), alloc, Foreigns::new(self), n)
     }
@@ -91,12 +80,9 @@ pub trait BufferedStreamExt: Stream {
         n: usize,
     ) -> Result<BufferUnordered<Foreigns<Self>, Driven<Self::Item>>, NewFault>
     where
-        Self: Sized,
         Self::Item: Future<Output: Drop>,
         requires { 0 < n }
-        ensures new { IfOk result
-            (IsNewBuffer (IsNewSet IsNewDriven n POLL_LIMIT) self) }
-        ensures refuses { RefusesTooLarge n result }
+        ensures { MakesSlots n (IsNewUnordered IsNewDriven POLL_LIMIT self n) result }
     {
         BufferUnordered::over(&(), alloc, Foreigns::new(self), n)
     }
@@ -113,12 +99,10 @@ pub trait BufferedStreamExt: Stream {
         f: F,
     ) -> Result<ForEachConcurrent<Self, F, Fut, SharedReady>, NewFault>
     where
-        Self: Sized,
         F: FnMut(Self::Item) -> Fut + Drop,
         Fut: SlotFuture<SharedWaker, Output = ()>,
         requires { 0 < limit }
-        ensures new { IfOk result (IsNewForEach IsNewShared POLL_LIMIT self f limit) }
-        ensures refuses { RefusesTooLarge limit result }
+        ensures { MakesSlots limit (IsNewForEach IsNewShared POLL_LIMIT self f limit) result }
     {
         ForEachConcurrent::over(&(), alloc, self, limit, f)
     }
@@ -133,13 +117,11 @@ pub trait BufferedStreamExt: Stream {
         f: F,
     ) -> Result<ForEachConcurrent<Self, F, T, Driven<Fut>>, NewFault>
     where
-        Self: Sized,
         Fut: Future<Output: Drop>,
         F: FnMut(Self::Item) -> T + Drop,
         T: SlotFuture<Mailbox<Fut>, Output = ()>,
         requires { 0 < limit }
-        ensures new { IfOk result (IsNewForEach IsNewDriven POLL_LIMIT self f limit) }
-        ensures refuses { RefusesTooLarge limit result }
+        ensures { MakesSlots limit (IsNewForEach IsNewDriven POLL_LIMIT self f limit) result }
     {
         ForEachConcurrent::over_limit(&(), alloc, self, limit, POLL_LIMIT, f)
     }

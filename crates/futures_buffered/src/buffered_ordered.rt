@@ -1,12 +1,9 @@
 //! Some futures of a stream at a time, whose outputs come in the order of the items.
-ghost use Rattle.std.specs.Prelude.{◌<◌, ◌≤◌, IfOk, true};
-ghost use Rattle.futures_buffered_core.specs.Answer.{RefusesTooLarge};
-ghost use Rattle.futures_buffered_core.specs.ReadyShared.{IsNewShared};
+ghost use Rattle.std.specs.Prelude.{true};
 ghost use Rattle.futures_buffered_unordered.specs.FuturesUnorderedBounded.{held_in};
 ghost use Rattle.futures_buffered_ordered.specs.OrderedEntries.{AddsBack, ComesInOrder, OrderedGives, OrderedLeavesTask};
 ghost use Rattle.futures_buffered_ordered.specs.FuturesOrderedBounded.{EachRunning, IsNewBoundedQueue, PushesNumber, SetGives, SetLeavesTask, SetMayGive};
 ghost use Rattle.futures_buffered.specs.FutureQueue.{OnlyPushes};
-ghost use Rattle.futures_buffered.specs.Buffer.{IsNewBuffer};
 ghost use Rattle.futures_buffered.specs.BufferUnordered.{MayGiveInSlot};
 ghost use Rattle.futures_buffered.specs.BufferedOrdered.{GivesInOrder, QueueWaitsAt, queue_len, queue_room};
 
@@ -15,7 +12,6 @@ use crate::future_queue::{FutureQueue, NewQueue};
 use futures::Stream;
 use futures::task::{Context, Poll};
 use futures_buffered_core::ready_core::NewFault;
-use futures_buffered_core::ready_shared::{SharedReady, SharedWaker};
 use futures_buffered_core::ready_source::{NewSource, ReadySource};
 use futures_buffered_ordered::BoundedQueue;
 use futures_buffered_unordered::SlotFuture;
@@ -44,6 +40,8 @@ impl<F: Drop, A: Drop, S: ReadySource> Model for OrderedQueue<F, A, S> {
 impl<F: SlotFuture<S::Waker, Output = A>, A: Drop, S: NewSource> NewQueue
     for OrderedQueue<F, A, S> {
     type Env = S::Env;
+
+    type Source = S;
 
     ghost made = { IsNewBoundedQueue S.made };
 
@@ -112,23 +110,6 @@ pub type BufferedOrdered<St, S> = Buffer<
         S,
     >,
 >;
-
-impl<St, F, A> Buffer<St, OrderedQueue<F, A, SharedReady>>
-where
-    St: Drop,
-    F: SlotFuture<SharedWaker, Output = A>,
-    A: Drop,
-{
-    /// As `over_limit`, with a shared source, whose futures are woken from any thread.
-    pub fn with_limit(alloc: Global, stream: St, n: usize, limit: usize) -> Result<Self, NewFault>
-        requires room { 0 < n }
-        requires some { 1 ≤ limit }
-        ensures new { IfOk result (IsNewBuffer (IsNewBoundedQueue IsNewShared n limit) stream) }
-        ensures refuses { RefusesTooLarge n result }
-    {
-        Self::over_limit(&(), alloc, stream, n, limit)
-    }
-}
 
 /// After any calls of one buffer that held nothing at first, the outputs given so far are those of the first items drawn, in the order in which these were drawn, and the other items are held still, in that order.
 ///

@@ -1,11 +1,11 @@
 //! A closure called with each item of a stream, and some of the futures that it makes at a time.
-ghost use Rattle.std.specs.Prelude.{◌≡◌, ◌<◌, ◌≤◌, ◌↔◌, Option, IfOk, IsTrue, true, false, option_copied};
+ghost use Rattle.std.specs.Prelude.{◌≡◌, ◌<◌, ◌≤◌, ◌↔◌, Option, IsTrue, true, false, option_copied};
 ghost use Rattle.futures.specs.Task.{Covers, Keeps};
 ghost use Rattle.futures.specs.Runs.{Calls};
 ghost use Rattle.futures.specs.Poll.{OnPending};
 ghost use Rattle.futures.specs.declared.task.Poll.{Poll};
 ghost use Rattle.futures.specs.declared.task.Poll.TheVariants.{Pending};
-ghost use Rattle.futures_buffered_core.specs.Answer.{RefusesTooLarge};
+ghost use Rattle.futures_buffered_core.specs.Made.{MakesSlots};
 ghost use Rattle.futures_buffered_core.specs.ReadyShared.{IsNewShared};
 ghost use Rattle.futures_buffered_unordered.specs.FuturesUnorderedBounded.{Pushes, PollGives, PollLeavesTask, IsWoken, held_in, slots_in};
 ghost use Rattle.futures_buffered.specs.Buffer.{PollsStream, DrawsTask, WaitsAt};
@@ -25,7 +25,7 @@ use std::marker::Model;
 
 /// Gives each item of a stream to a closure, once and in order, and runs the futures that it makes, at most as many at a time as its set has slots.
 ///
-/// A contract sees the stream, or nothing once it has ended, what it sees of the set, and the closure. A poll takes no memory of its own. A stream that ended is dropped at once.
+/// A contract sees the stream, or nothing once it has ended, what it sees of the set, and the closure. A poll takes no memory but what the stream, the closure, the futures and the source's calls take. A stream that ended is dropped at once.
 #[derive(Drop)]
 pub struct ForEachConcurrent<St: Drop, F: Drop, Fut: Drop, S: ReadySource> {
     stream: Option<St>,
@@ -34,7 +34,7 @@ pub struct ForEachConcurrent<St: Drop, F: Drop, Fut: Drop, S: ReadySource> {
 }
 
 impl<St: Drop, F: Drop, Fut: Drop, S: ReadySource> Model for ForEachConcurrent<St, F, Fut, S> {
-    ghost use Rattle.futures_buffered_unordered.specs.FuturesUnorderedBounded.{Bounded, bounded_code};
+    ghost use Rattle.futures_buffered_unordered.specs.FuturesUnorderedBounded.{Bounded, bounded_code, slots_in};
     ghost use Rattle.futures_buffered.specs.ForEachConcurrent.{ForEach, for_each_code};
 
     ghost Value = { ForEach St F (Bounded Fut S) };
@@ -42,14 +42,13 @@ impl<St: Drop, F: Drop, Fut: Drop, S: ReadySource> Model for ForEachConcurrent<S
     ghost coded = { for_each_code St.code F.code (bounded_code Fut.code S.code) };
 
     ghost use Rattle.std.specs.Prelude.{◌<◌, ◌≤◌};
-    ghost use Rattle.futures_buffered_core.specs.SlotMap.{slot_count};
 
     ghost view = { λ s. record {
       buffer = record { stream = s.stream; queue = s.queue };
       closure = s.closure;
     } };
 
-    ghost invariant = { λ s. (0 < slot_count s.queue.slots) × (1 ≤ s.queue.limit) };
+    ghost invariant = { λ s. (0 < slots_in s.queue) × (1 ≤ s.queue.limit) };
 }
 
 impl<St: Drop, F: Drop, Fut: Drop, S: ReadySource> ForEachConcurrent<St, F, Fut, S> {
@@ -66,8 +65,7 @@ impl<St: Drop, F: Drop, Fut: Drop, S: ReadySource> ForEachConcurrent<St, F, Fut,
     where
         S: NewSource,
         requires { 0 < n }
-        ensures new { IfOk result (IsNewForEach S.made POLL_LIMIT stream closure n) }
-        ensures refuses { RefusesTooLarge n result }
+        ensures { MakesSlots n (IsNewForEach S.made POLL_LIMIT stream closure n) result }
     {
         Self::over_limit(env, alloc, stream, n, POLL_LIMIT, closure)
     }
@@ -85,8 +83,7 @@ impl<St: Drop, F: Drop, Fut: Drop, S: ReadySource> ForEachConcurrent<St, F, Fut,
         S: NewSource,
         requires room { 0 < n }
         requires some { 1 ≤ limit }
-        ensures new { IfOk result (IsNewForEach S.made limit stream closure n) }
-        ensures refuses { RefusesTooLarge n result }
+        ensures { MakesSlots n (IsNewForEach S.made limit stream closure n) result }
     {
         let queue = FuturesUnorderedBounded::with_new_source(env, alloc, n, limit)?;
         Ok(ForEachConcurrent {
@@ -138,8 +135,7 @@ impl<St: Drop, F: Drop, Fut: Drop> ForEachConcurrent<St, F, Fut, SharedReady> {
     ) -> Result<Self, NewFault>
         requires room { 0 < n }
         requires some { 1 ≤ limit }
-        ensures new { IfOk result (IsNewForEach IsNewShared limit stream closure n) }
-        ensures refuses { RefusesTooLarge n result }
+        ensures { MakesSlots n (IsNewForEach IsNewShared limit stream closure n) result }
     {
         Self::over_limit(&(), alloc, stream, n, limit, closure)
     }
@@ -209,7 +205,7 @@ impl<
 
     /// At most as many turns as the limit is. A turn draws at most one item, where there is room, calls the closure with it, holds the future that comes of it, and polls the set once. Another follows where an item was drawn or a future was done. `Ready` where the stream has ended and nothing is held, and then again; at the limit the task is woken at once.
     ///
-    /// Takes no memory but what the closure takes, and waits for nobody where the source's calls do not. Takes time in proportion to the turns and the names that their polls of the set take, besides the polls and the closure's calls.
+    /// Takes no memory but what the stream, the closure, the futures and the source's calls take, and waits for nobody where these do not. Takes time in proportion to the turns and the names that their polls of the set take, besides the polls and the closure's calls.
     fn poll(&mut self, cx: &mut Context<'_>) -> Poll<()>
         requires { CanForEach St.can_poll St.yields F.pre (Calls F.FnMut) Fut.can_poll self.old }
         ensures called { ForEachCall (PollsStream St.yields) held_in

@@ -1,13 +1,14 @@
 //! What a buffer holds: futures, of each of which one output comes.
 //!
 //! A buffer is written once, for any such queue. `CompletionQueue` is one whose outputs come as the futures finish, `OrderedQueue` one that keeps the order of the pushes, and `TryQueue` makes of either one to which errors can be given as well.
-ghost use Rattle.std.specs.Prelude.{◌≡◌, ◌<◌, ◌≤◌, ℕ, Bool, List, Option, IfOk};
-ghost use Rattle.futures_buffered_core.specs.Answer.{RefusesTooLarge};
+ghost use Rattle.std.specs.Prelude.{◌≡◌, ◌<◌, ◌≤◌, ℕ, Bool, List, Option};
+ghost use Rattle.futures_buffered_core.specs.Made.{MakesSlots};
 ghost use Rattle.futures_buffered_unordered.specs.StreamAnswers.{StreamAnswers};
 ghost use Rattle.futures_buffered.specs.FutureQueue.{PollLeavesQueue, PushLeavesQueue};
 
 use futures::task::{Context, Poll};
 use futures_buffered_core::ready_core::NewFault;
+use futures_buffered_core::ready_source::NewSource;
 use std::alloc::Global;
 
 /// Holds some futures at a time, and gives an output of each.
@@ -69,7 +70,7 @@ pub trait FutureQueue<I>: Drop {
         ensures queue { PushLeavesQueue count room in_order yields gives is_fit can_poll
             self.old item result self.new };
 
-    /// One poll. `Ready(None)` where nothing is held. Takes no memory.
+    /// One poll. `Ready(None)` where nothing is held. Takes no memory but what the futures and the calls of a source take.
     fn poll_output(&mut self, cx: &mut Context<'_>) -> Poll<Option<Self::Output>>
         requires { can_poll self.old }
         ensures polled { polls self.old result self.new }
@@ -77,12 +78,20 @@ pub trait FutureQueue<I>: Drop {
         ensures stream { StreamAnswers can_poll needs yields
             self.old result self.new cx.old cx.new }
         ensures leaves { leaves self.old result self.new cx.old cx.new };
+
+    /// What a buffer over such a queue is called where it is printed.
+    fn buffer_name() -> &'static str {
+        "Buffer"
+    }
 }
 
 /// A queue that a buffer can make for itself.
 pub trait NewQueue: Drop {
     /// What making one needs besides memory.
     type Env: Drop;
+
+    /// The source that its set is over.
+    type Source: NewSource;
 
     // What a new queue that can hold so many, and one poll of which takes so many names at most, may be.
     ghost made: { ℕ → ℕ → Self → Type 0 };
@@ -93,6 +102,5 @@ pub trait NewQueue: Drop {
     fn make(env: &Self::Env, alloc: Global, n: usize, limit: usize) -> Result<Self, NewFault>
         requires room { 0 < n }
         requires some { 1 ≤ limit }
-        ensures made { IfOk result (made n limit) }
-        ensures refuses { RefusesTooLarge n result };
+        ensures { MakesSlots n (made n limit) result };
 }

@@ -1,17 +1,16 @@
-//! Constructors of sets, joins and merges as methods of what gives the items.
-ghost use Rattle.std.specs.Prelude.{◌≡◌, ◌≤◌, ◌<◌, IfOk};
-ghost use Rattle.futures_buffered_core.specs.Drawn.{Draws, IsFiniteSource, RefusesTooMany};
-ghost use Rattle.futures_buffered_core.specs.ReadyShared.{IsNewShared, MarksShared, Shared};
-ghost use Rattle.futures_buffered_core.specs.SlotMap.{slot_count};
-ghost use Rattle.futures_buffered_unordered.specs.FuturesUnorderedBounded.{HoldsEach};
-ghost use Rattle.futures_buffered_unordered.specs.FuturesUnordered.{IsNewGrowing, PushesEach, no_groups, SetRefuses, GrowingPushes};
-ghost use Rattle.futures_buffered_unordered.specs.Extended.{GrowsByAllOf, HoldsAllOf, Outgrows, StopsAtBound};
-ghost use Rattle.futures_buffered_joins.specs.JoinMade.{IsMadeOf};
+//! Constructors of sets, queues, joins and merges as methods of what gives the items.
+ghost use Rattle.futures_buffered_core.specs.Drawn.{IsFiniteSource};
+ghost use Rattle.futures_buffered_core.specs.ReadyShared.{IsNewShared, MarksShared};
+ghost use Rattle.futures_buffered_unordered.specs.FuturesUnorderedBounded.{HoldsEach, slots_in};
+ghost use Rattle.futures_buffered_unordered.specs.FuturesUnordered.{IsNewGrowing, no_groups, SetRefuses, GrowingPushes};
+ghost use Rattle.futures_buffered_unordered.specs.Extended.{MakesExtended, MakesFull, MakesGrown};
+ghost use Rattle.futures_buffered_joins.specs.JoinMade.{MakesJoin};
 ghost use Rattle.futures_buffered_ordered.specs.OrderedEntries.{AddsBack, IsAtEnd};
 ghost use Rattle.futures_buffered_ordered.specs.FuturesOrderedBounded.{HoldsInOrder};
-ghost use Rattle.futures_buffered_ordered.specs.FuturesOrdered.{IsNewGrowingQueue, OrderedGrowing, GrowingPushesNumber};
+ghost use Rattle.futures_buffered_ordered.specs.FuturesOrdered.{IsNewGrowingQueue, GrowingPushesNumber};
+ghost use Rattle.futures_buffered.specs.BufferedOrdered.{queue_room};
 
-use futures_buffered_core::ready_core::{MAX_CAPACITY, NewFault};
+use futures_buffered_core::ready_core::NewFault;
 use futures_buffered_core::ready_shared::{SharedReady, SharedWaker};
 use futures_buffered_joins::{JoinAll, TryJoinAll};
 use futures_buffered_merges::{MergeBounded, MergeUnbounded, SlotStream};
@@ -21,9 +20,9 @@ use futures_buffered_unordered::futures_unordered::{FIRST_GROUP, FuturesUnordere
 use futures_buffered_unordered::futures_unordered_bounded::{FuturesUnorderedBounded, POLL_LIMIT};
 use std::alloc::Global;
 
-/// Sets, joins and merges of what an iterator gives, where it ends.
-pub trait IterExt: IntoIterator {
-    /// A set of these futures without a free slot, whose outputs come as they finish. It is `FuturesUnorderedBounded::from_iter`, and refuses as that does. A slot that is freed takes a push.
+/// Sets, queues, joins and merges of what an iterator gives, where it ends.
+pub trait IterExt: IntoIterator + Sized {
+    /// A set of these futures without a free slot, whose outputs come as they finish. It is `FuturesUnorderedBounded::from_iter`, and refuses as that does. A freed slot can be pushed into.
     ///
     /// Takes time and memory in proportion to the number of futures.
     final fn into_unordered_stream(
@@ -31,12 +30,10 @@ pub trait IterExt: IntoIterator {
         alloc: Global,
     ) -> Result<FuturesUnorderedBounded<Self::Item, SharedReady>, NewFault>
     where
-        Self: Sized,
         Self::Item: SlotFuture<SharedWaker>,
         requires { IsFiniteSource Self.IntoIterator Self.IntoIter.Iterator self }
-        ensures holds { IfOk result (HoldsAllOf Self.IntoIterator Self.IntoIter.Iterator self (HoldsEach IsNewShared MarksShared POLL_LIMIT)) }
-        ensures fits { IfOk result (λ set. slot_count set.slots ≤ MAX_CAPACITY) }
-        ensures large { RefusesTooMany Self.IntoIterator Self.IntoIter.Iterator self result }
+        ensures { MakesFull Self.IntoIterator Self.IntoIter.Iterator self slots_in
+            (HoldsEach IsNewShared MarksShared POLL_LIMIT) result }
     {
         FuturesUnorderedBounded::from_iter(alloc, self)
     }
@@ -49,19 +46,16 @@ pub trait IterExt: IntoIterator {
         alloc: Global,
     ) -> Result<FuturesUnordered<Self::Item, SharedReady>, NewFault>
     where
-        Self: Sized,
         Self::Item: SlotFuture<SharedWaker>,
         requires { IsFiniteSource Self.IntoIterator Self.IntoIter.Iterator self }
-        ensures holds { IfOk result (GrowsByAllOf Self.IntoIterator Self.IntoIter.Iterator self FIRST_GROUP (λ n. IsNewGrowing IsNewShared n POLL_LIMIT)
-            (GrowingPushes MarksShared IsNewShared FIRST_GROUP)) }
-        ensures large { result ≡ Err NewFault.TooLarge
-            → Outgrows Self.IntoIterator Self.IntoIter.Iterator self FIRST_GROUP (λ n. IsNewGrowing IsNewShared n POLL_LIMIT)
-            (GrowingPushes MarksShared IsNewShared FIRST_GROUP) SetRefuses }
+        ensures { MakesGrown Self.IntoIterator Self.IntoIter.Iterator self FIRST_GROUP
+            (λ n. IsNewGrowing IsNewShared n POLL_LIMIT)
+            (GrowingPushes MarksShared IsNewShared FIRST_GROUP) SetRefuses result }
     {
         FuturesUnordered::from_iter(alloc, self)
     }
 
-    /// A full queue of these futures, whose outputs come in their order. It is `FuturesOrderedBounded::from_iter`, and refuses as that does. A slot that is freed takes a push.
+    /// A full queue of these futures, whose outputs come in their order. It is `FuturesOrderedBounded::from_iter`, and refuses as that does. A freed slot can be pushed into.
     ///
     /// Takes time and memory in proportion to the number of futures.
     final fn into_ordered_stream(
@@ -69,13 +63,10 @@ pub trait IterExt: IntoIterator {
         alloc: Global,
     ) -> Result<FuturesOrderedBounded<Self::Item, SharedReady>, NewFault>
     where
-        Self: Sized,
-        Self::Item: SlotFuture<SharedWaker>,
-        <Self::Item as SlotFuture<SharedWaker>>::Output: Drop,
+        Self::Item: SlotFuture<SharedWaker, Output: Drop>,
         requires { IsFiniteSource Self.IntoIterator Self.IntoIter.Iterator self }
-        ensures holds { IfOk result (HoldsAllOf Self.IntoIterator Self.IntoIter.Iterator self (HoldsInOrder IsNewShared MarksShared POLL_LIMIT)) }
-        ensures fits { IfOk result (λ q. slot_count q.set.slots ≤ MAX_CAPACITY) }
-        ensures large { RefusesTooMany Self.IntoIterator Self.IntoIter.Iterator self result }
+        ensures { MakesFull Self.IntoIterator Self.IntoIter.Iterator self queue_room
+            (HoldsInOrder IsNewShared MarksShared POLL_LIMIT) result }
     {
         FuturesOrderedBounded::from_iter(alloc, self)
     }
@@ -88,16 +79,11 @@ pub trait IterExt: IntoIterator {
         alloc: Global,
     ) -> Result<FuturesOrdered<Self::Item, SharedReady>, NewFault>
     where
-        Self: Sized,
-        Self::Item: SlotFuture<SharedWaker>,
-        <Self::Item as SlotFuture<SharedWaker>>::Output: Drop,
+        Self::Item: SlotFuture<SharedWaker, Output: Drop>,
         requires { IsFiniteSource Self.IntoIterator Self.IntoIter.Iterator self }
-        ensures holds { IfOk result (GrowsByAllOf Self.IntoIterator Self.IntoIter.Iterator self FIRST_GROUP (λ n. IsNewGrowingQueue IsNewShared n POLL_LIMIT)
-            (AddsBack (GrowingPushesNumber MarksShared IsNewShared))) }
-        ensures large { result ≡ Err NewFault.TooLarge
-            → Outgrows Self.IntoIterator Self.IntoIter.Iterator self FIRST_GROUP (λ n (start : OrderedGrowing Self.Item
-            Self.Item.Output Shared). IsNewGrowingQueue IsNewShared n POLL_LIMIT start)
-            (AddsBack (GrowingPushesNumber MarksShared IsNewShared)) (IsAtEnd SetRefuses) }
+        ensures { MakesGrown Self.IntoIterator Self.IntoIter.Iterator self FIRST_GROUP
+            (λ n. IsNewGrowingQueue IsNewShared n POLL_LIMIT)
+            (AddsBack (GrowingPushesNumber MarksShared IsNewShared)) (IsAtEnd SetRefuses) result }
     {
         FuturesOrdered::from_iter(alloc, self)
     }
@@ -107,14 +93,10 @@ pub trait IterExt: IntoIterator {
     /// Takes time and memory in proportion to the number of futures.
     final fn join_all(self, alloc: Global) -> Result<JoinAll<Self::Item, SharedReady>, NewFault>
     where
-        Self: Sized,
-        Self::Item: SlotFuture<SharedWaker>,
-        <Self::Item as SlotFuture<SharedWaker>>::Output: Drop,
+        Self::Item: SlotFuture<SharedWaker, Output: Drop>,
         requires { IsFiniteSource Self.IntoIterator Self.IntoIter.Iterator self }
-        ensures made { IfOk result (IsMadeOf
-            (Draws Self.IntoIterator Self.IntoIter.Iterator self)
-            IsNewShared MarksShared POLL_LIMIT MAX_CAPACITY) }
-        ensures large { RefusesTooMany Self.IntoIterator Self.IntoIter.Iterator self result }
+        ensures { MakesJoin Self.IntoIterator Self.IntoIter.Iterator self IsNewShared MarksShared
+            POLL_LIMIT result }
     {
         futures_buffered_joins::join::join_all(alloc, self)
     }
@@ -127,14 +109,11 @@ pub trait IterExt: IntoIterator {
         alloc: Global,
     ) -> Result<TryJoinAll<Self::Item, SharedReady>, NewFault>
     where
-        Self: Sized,
         Self::Item: SlotFuture<SharedWaker, Output = Result<T, E>>,
         T: Drop,
         requires { IsFiniteSource Self.IntoIterator Self.IntoIter.Iterator self }
-        ensures made { IfOk result (IsMadeOf
-            (Draws Self.IntoIterator Self.IntoIter.Iterator self)
-            IsNewShared MarksShared POLL_LIMIT MAX_CAPACITY) }
-        ensures large { RefusesTooMany Self.IntoIterator Self.IntoIter.Iterator self result }
+        ensures { MakesJoin Self.IntoIterator Self.IntoIter.Iterator self IsNewShared MarksShared
+            POLL_LIMIT result }
     {
         futures_buffered_joins::try_join::try_join_all(alloc, self)
     }
@@ -144,12 +123,10 @@ pub trait IterExt: IntoIterator {
     /// Takes time and memory in proportion to the number of streams.
     final fn merge(self, alloc: Global) -> Result<MergeBounded<Self::Item, SharedReady>, NewFault>
     where
-        Self: Sized,
         Self::Item: SlotStream<SharedWaker>,
         requires { IsFiniteSource Self.IntoIterator Self.IntoIter.Iterator self }
-        ensures holds { IfOk result (HoldsAllOf Self.IntoIterator Self.IntoIter.Iterator self (HoldsEach IsNewShared MarksShared POLL_LIMIT)) }
-        ensures fits { IfOk result (λ merge. slot_count merge.slots ≤ MAX_CAPACITY) }
-        ensures large { RefusesTooMany Self.IntoIterator Self.IntoIter.Iterator self result }
+        ensures { MakesFull Self.IntoIterator Self.IntoIter.Iterator self slots_in
+            (HoldsEach IsNewShared MarksShared POLL_LIMIT) result }
     {
         MergeBounded::from_iter(alloc, self)
     }
@@ -162,14 +139,11 @@ pub trait IterExt: IntoIterator {
         alloc: Global,
     ) -> Result<MergeUnbounded<Self::Item, SharedReady>, NewFault>
     where
-        Self: Sized,
         Self::Item: SlotStream<SharedWaker>,
         requires { IsFiniteSource Self.IntoIterator Self.IntoIter.Iterator self }
-        ensures holds { IfOk result (HoldsAllOf Self.IntoIterator Self.IntoIter.Iterator self (PushesEach MarksShared IsNewShared (no_groups POLL_LIMIT))) }
-        ensures large { result ≡ Err NewFault.TooLarge
-            → StopsAtBound Self.IntoIterator Self.IntoIter.Iterator self
-            (GrowingPushes MarksShared IsNewShared FIRST_GROUP) SetRefuses
-            (no_groups POLL_LIMIT) }
+        ensures { MakesExtended Self.IntoIterator Self.IntoIter.Iterator self
+            (GrowingPushes MarksShared IsNewShared FIRST_GROUP) SetRefuses (no_groups POLL_LIMIT)
+            result }
     {
         MergeUnbounded::from_iter(alloc, self)
     }

@@ -26,6 +26,8 @@ impl<Q: Drop> Model for TryQueue<Q> {
 impl<Q: NewQueue> NewQueue for TryQueue<Q> {
     type Env = Q::Env;
 
+    type Source = Q::Source;
+
     ghost made = { Q.made };
 
     fn make(env: &Q::Env, alloc: Global, n: usize, limit: usize) -> Result<Self, NewFault> {
@@ -79,6 +81,10 @@ where
 
     fn poll_output(&mut self, cx: &mut Context<'_>) -> Poll<Option<Result<T, E>>> {
         self.queue.poll_output(cx)
+    }
+
+    fn buffer_name() -> &'static str {
+        "TryBuffer"
     }
 }
 

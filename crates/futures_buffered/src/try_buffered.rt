@@ -2,12 +2,12 @@
 //!
 //! Each is its type's `over` with a shared source, so that what it holds is woken from any thread.
 ghost use Rattle.futures_buffered_unordered.specs.FuturesUnorderedBounded.{IsNewSet};
-ghost use Rattle.std.specs.Prelude.{◌<◌, IfOk};
-ghost use Rattle.futures_buffered_core.specs.Answer.{RefusesTooLarge};
+ghost use Rattle.std.specs.Prelude.{◌<◌};
+ghost use Rattle.futures_buffered_core.specs.Made.{MakesSlots};
 ghost use Rattle.futures_buffered_core.specs.ReadyShared.{IsNewShared};
 ghost use Rattle.futures_buffered_held.specs.Driven.{IsNewDriven};
-ghost use Rattle.futures_buffered.specs.Buffer.{IsNewBuffer};
-ghost use Rattle.futures_buffered_ordered.specs.FuturesOrderedBounded.{IsNewBoundedQueue};
+ghost use Rattle.futures_buffered.specs.BufferUnordered.{IsNewUnordered};
+ghost use Rattle.futures_buffered.specs.BufferedOrdered.{IsNewOrdered};
 ghost use Rattle.futures_buffered.specs.TryForEachConcurrent.{IsNewDrain};
 
 pub use crate::try_buffer_unordered::TryBufferUnordered;
@@ -24,7 +24,7 @@ use futures_buffered_unordered::futures_unordered_bounded::POLL_LIMIT;
 use std::alloc::Global;
 
 /// Adaptors that keep some futures of a stream in progress, where the stream gives errors as well.
-pub trait BufferedTryStreamExt: Stream {
+pub trait BufferedTryStreamExt: Stream + Sized {
     /// The outputs of this stream's futures in the order of the stream, with at most `n` held at a time: in progress, or done and waiting for their turn. Each error of the stream comes as soon as it is met. Nothing is polled.
     ///
     /// Takes time and memory in proportion to `n`. The stream is dropped where it is refused: `TooLarge` where `n` is above `MAX_CAPACITY`, and `Memory` where a request for memory was refused.
@@ -34,14 +34,12 @@ pub trait BufferedTryStreamExt: Stream {
         n: usize,
     ) -> Result<TryBufferedOrdered<Self, F, SharedReady>, NewFault>
     where
-        Self: Stream<Item = Result<F, E>> + Sized,
+        Self: Stream<Item = Result<F, E>>,
         F: SlotFuture<SharedWaker, Output = Result<T, E>>,
         T: Drop,
         E: Drop,
         requires { 0 < n }
-        ensures new { IfOk result
-            (IsNewBuffer (IsNewBoundedQueue IsNewShared n POLL_LIMIT) self) }
-        ensures refuses { RefusesTooLarge n result }
+        ensures { MakesSlots n (IsNewOrdered IsNewShared POLL_LIMIT self n) result }
     {
         TryBufferedOrdered::over(&(), alloc, self, n)
     }
@@ -55,12 +53,10 @@ pub trait BufferedTryStreamExt: Stream {
         n: usize,
     ) -> Result<TryBufferUnordered<Self, F, SharedReady>, NewFault>
     where
-        Self: Stream<Item = Result<F, E>> + Sized,
+        Self: Stream<Item = Result<F, E>>,
         F: SlotFuture<SharedWaker, Output = Result<T, E>>,
         requires { 0 < n }
-        ensures new { IfOk result
-            (IsNewBuffer (IsNewSet IsNewShared n POLL_LIMIT) self) }
-        ensures refuses { RefusesTooLarge n result }
+        ensures { MakesSlots n (IsNewUnordered IsNewShared POLL_LIMIT self n) result }
     {
         TryBufferUnordered::over(&(), alloc, self, n)
     }
@@ -74,14 +70,12 @@ pub trait BufferedTryStreamExt: Stream {
         n: usize,
     ) -> Result<TryBufferedOrdered<TryForeigns<Self>, Foreign<F>, Driven<F>>, NewFault>
     where
-        Self: Stream<Item = Result<F, E>> + Sized,
+        Self: Stream<Item = Result<F, E>>,
         F: Future<Output = Result<T, E>>,
         T: Drop,
         E: Drop,
         requires { 0 < n }
-        ensures new { IfOk result
-            (IsNewBuffer (IsNewBoundedQueue IsNewDriven n POLL_LIMIT) self) }
-        ensures refuses { RefusesTooLarge n result }
+        ensures { MakesSlots n (IsNewOrdered IsNewDriven POLL_LIMIT self n) result }
     {
         TryBufferedOrdered::over(&(), alloc, TryForeigns::new(self), n)
     }
@@ -95,14 +89,12 @@ pub trait BufferedTryStreamExt: Stream {
         n: usize,
     ) -> Result<TryBufferUnordered<TryForeigns<Self>, Foreign<F>, Driven<F>>, NewFault>
     where
-        Self: Stream<Item = Result<F, E>> + Sized,
+        Self: Stream<Item = Result<F, E>>,
         F: Future<Output = Result<T, E>>,
         T: Drop,
         E: Drop,
         requires { 0 < n }
-        ensures new { IfOk result
-            (IsNewBuffer (IsNewSet IsNewDriven n POLL_LIMIT) self) }
-        ensures refuses { RefusesTooLarge n result }
+        ensures { MakesSlots n (IsNewUnordered IsNewDriven POLL_LIMIT self n) result }
     {
         TryBufferUnordered::over(&(), alloc, TryForeigns::new(self), n)
     }
@@ -119,14 +111,13 @@ pub trait BufferedTryStreamExt: Stream {
         f: F,
     ) -> Result<TryForEachConcurrent<Self, F, Fut, SharedReady>, NewFault>
     where
-        Self: Stream<Item = Result<T, E>> + Sized,
+        Self: Stream<Item = Result<T, E>>,
         E: Drop,
         F: FnMut(T) -> Fut + Drop,
         Fut: SlotFuture<SharedWaker, Output = Result<(), E>>,
         requires { 0 < limit }
-        ensures new { IfOk result (IsNewDrain (IsNewSet IsNewShared limit POLL_LIMIT) POLL_LIMIT
-            (record { stream = self; f = f })) }
-        ensures refuses { RefusesTooLarge limit result }
+        ensures { MakesSlots limit (IsNewDrain (IsNewSet IsNewShared limit POLL_LIMIT) POLL_LIMIT
+            (record { stream = self; f = f })) result }
     {
         TryForEachConcurrent::over(&(), alloc, self.map_ok(f), limit)
     }
@@ -141,15 +132,14 @@ pub trait BufferedTryStreamExt: Stream {
         f: F,
     ) -> Result<TryForEachConcurrent<Self, F, Held, Driven<Fut>>, NewFault>
     where
-        Self: Stream<Item = Result<T, E>> + Sized,
+        Self: Stream<Item = Result<T, E>>,
         E: Drop,
         Fut: Future<Output: Drop>,
         F: FnMut(T) -> Held + Drop,
         Held: SlotFuture<Mailbox<Fut>, Output = Result<(), E>>,
         requires { 0 < limit }
-        ensures new { IfOk result (IsNewDrain (IsNewSet IsNewDriven limit POLL_LIMIT) POLL_LIMIT
-            (record { stream = self; f = f })) }
-        ensures refuses { RefusesTooLarge limit result }
+        ensures { MakesSlots limit (IsNewDrain (IsNewSet IsNewDriven limit POLL_LIMIT) POLL_LIMIT
+            (record { stream = self; f = f })) result }
     {
         TryForEachConcurrent::over_limit(&(), alloc, self.map_ok(f), limit, POLL_LIMIT)
     }

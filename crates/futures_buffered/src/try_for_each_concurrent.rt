@@ -1,10 +1,10 @@
 //! A closure called with each item of a stream that gives errors as well, up to the first error, and some of the futures that it makes at a time.
 //!
 //! The stream with the closure is the kit's `MapOk`. A `TryBuffer` draws from it, and a `TryDrain` polls that to its end.
-ghost use Rattle.std.specs.Prelude.{◌≡◌, ◌<◌, ◌≤◌, IfOk, IfSome, IfNone, option_copied};
+ghost use Rattle.std.specs.Prelude.{◌≡◌, ◌<◌, ◌≤◌, IfSome, IfNone, option_copied};
 ghost use Rattle.futures.specs.Task.{Covers, Keeps};
 ghost use Rattle.futures.specs.Poll.{OnPending};
-ghost use Rattle.futures_buffered_core.specs.Answer.{RefusesTooLarge};
+ghost use Rattle.futures_buffered_core.specs.Made.{MakesSlots};
 ghost use Rattle.futures_buffered_unordered.specs.FuturesUnorderedBounded.{IsWoken};
 ghost use Rattle.futures_buffered.specs.Buffer.{PollsStream, CanDraw, WaitsAt, BufferGives};
 ghost use Rattle.futures_buffered.specs.TryForEachConcurrent.{CallsBuffer, CanDrain, DrainCall, DrainGives, DrainTurn, DrainWaitsAt, GoingLeavesDrain, IsDrained, IsNewDrain, LeavesDrain};
@@ -25,7 +25,7 @@ use std::marker::Model;
 
 /// Polls a buffer that gives `Ok(())` and errors, to its end or to the first error.
 ///
-/// A contract sees the buffer, or nothing once it has ended or failed, and how many turns one poll takes. A poll takes no memory of its own. A buffer that ended or failed is dropped at once, with what it holds.
+/// A contract sees the buffer, or nothing once it has ended or failed, and how many turns one poll takes. A poll takes no memory but what the stream, the futures and the source's calls take. A buffer that ended or failed is dropped at once, with what it holds.
 #[derive(Drop)]
 pub struct TryDrain<St: Drop, Q: Drop> {
     buffer: Option<Buffer<St, Q>>,
@@ -33,11 +33,12 @@ pub struct TryDrain<St: Drop, Q: Drop> {
 }
 
 impl<St: Drop, Q: Drop> Model for TryDrain<St, Q> {
+    ghost use Rattle.futures_buffered.specs.Buffer.{Buffering, buffer_code};
     ghost use Rattle.futures_buffered.specs.TryForEachConcurrent.{Draining, draining_code};
 
-    ghost Value = { Draining St Q };
+    ghost Value = { Draining (Buffering St Q) };
 
-    ghost coded = { draining_code St.code Q.code };
+    ghost coded = { draining_code (buffer_code St.code Q.code) };
 
     ghost use Rattle.std.specs.Prelude.{◌≤◌};
 
@@ -58,8 +59,7 @@ impl<St: Drop, Q: NewQueue> TryDrain<St, Q> {
     /// Takes time and memory in proportion to `n`. The stream is dropped where it is refused: `TooLarge` where `n` is above `MAX_CAPACITY`, and `Memory` where a request for memory was refused.
     pub fn over(env: &Q::Env, alloc: Global, stream: St, n: usize) -> Result<Self, NewFault>
         requires { 0 < n }
-        ensures new { IfOk result (IsNewDrain (Q.made n POLL_LIMIT) POLL_LIMIT stream) }
-        ensures refuses { RefusesTooLarge n result }
+        ensures { MakesSlots n (IsNewDrain (Q.made n POLL_LIMIT) POLL_LIMIT stream) result }
     {
         Self::over_limit(env, alloc, stream, n, POLL_LIMIT)
     }
@@ -74,8 +74,7 @@ impl<St: Drop, Q: NewQueue> TryDrain<St, Q> {
     ) -> Result<Self, NewFault>
         requires room { 0 < n }
         requires some { 1 ≤ limit }
-        ensures new { IfOk result (IsNewDrain (Q.made n limit) limit stream) }
-        ensures refuses { RefusesTooLarge n result }
+        ensures { MakesSlots n (IsNewDrain (Q.made n limit) limit stream) result }
     {
         let buffer = Buffer::over_limit(env, alloc, stream, n, limit)?;
         Ok(TryDrain {
@@ -151,7 +150,7 @@ where
 
     /// At most as many turns as the limit is, each of which polls the buffer once. Another follows where a future was done without an error. `Ready` with the first error, of the stream or of a future, or with `Ok(())` where the stream has ended and nothing is held: what is held is dropped then, and a later poll answers `Ok(())` and polls nothing. At the limit the task is woken at once.
     ///
-    /// Takes no memory but what the stream takes, and waits for nobody where the source's calls do not. Takes time in proportion to the turns, the items drawn, and the names that the turns' polls of the set take, besides the polls.
+    /// Takes no memory but what the stream, the futures and the source's calls take, and waits for nobody where these do not. Takes time in proportion to the turns, the items drawn, and the names that the turns' polls of the set take, besides the polls.
     fn poll(&mut self, cx: &mut Context<'_>) -> Poll<Result<(), E>>
         requires { CanDrain (CanDraw St.can_poll St.yields Q.is_fit Q.can_poll) self.old }
         ensures called { DrainCall (CallsBuffer (PollsStream St.yields) Q.count Q.room Q.pushes

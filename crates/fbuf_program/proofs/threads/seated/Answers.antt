@@ -21,7 +21,7 @@ loop-number-init g c =
 
 pub loop-number-preserved : goal.loop-number-preserved
 loop-number-preserved g c =
-    let put = c.in-Ok.ensures.ok in
+    let put = c.in-Ok.ensures.pushed.pushed in
     record {
       len = grind (arith, common_steps);
       room = grind (arith, common_steps);

@@ -11,7 +11,7 @@ use Rattle.guide.proofs.proved.adaptors.doubled.Goals as goal
 
 pub returns : goal.returns
 returns g c =
-    let fresh = c.in_ok-outputs.ensures.new in
+    let fresh = c.in_ok-outputs.ensures.made in
     let outputs = c.in_ok-outputs.outputs in
     let collected = rw (c.in_ok-branch.was, c.collect.ensures.0, c.collect.ensures.1) at c.in_ok-block_on.ensures in
     let behind =

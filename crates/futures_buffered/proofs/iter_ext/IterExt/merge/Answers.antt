@@ -1,5 +1,0 @@
-use Rattle.std.proofs.Common.{rules}
-use Rattle.futures_buffered.proofs.iter_ext.IterExt.merge.Goals as goal
-
-pub returns-clause-holds : goal.returns-clause-holds
-returns-clause-holds g c = search rules steps 200000
