@@ -11,7 +11,7 @@ as a word of its text or as a file's name. Names of the Rust crate, of the kit a
 
 The contracts that CALLING.md quotes stand in a source: each signature up to its bounds, in a file that names the type, and each clause by
 its name, with `self` for `self.old` and `self.now`, and `self'` for `self.new`. README and the newest entry of CHANGELOG name the same
-version and the same kit, and `rt version`, where there is one, answers that kit.
+version and the same logic of the kit, and `rt version`, where there is one, ends with that logic.
 
 The last line is 'N names, M paths, L blocks and K contracts, F faults', and the status is 0 where there is none.
 """
@@ -143,18 +143,18 @@ def faults_of_contracts(text, count):
 
 
 def faults_of_version(readme, changes):
-    """README and the newest entry of the changes have one version and one kit, which is that of this machine."""
+    """README and the newest entry of the changes have one version, and one logic, which is that of the kit here. Kits of one logic prove the same."""
     version = re.search(r"^## (\S+)$", changes, re.M)
-    kit = re.search(r"^Proved with `(.+?)`", changes, re.M)
-    if not version or not kit:
-        yield "no heading of a version, or no line 'Proved with' and the kit"
+    logic = re.search(r"^Proved with `(logic \w+)`", changes, re.M)
+    if not version or not logic:
+        yield "no heading of a version, or no line 'Proved with' and the logic of the kit"
         return
-    if f"Version {version[1]}, proved with `{kit[1]}`" not in readme:
-        yield f"README does not name version {version[1]} and the kit `{kit[1]}`"
+    if f"Version {version[1]}, proved with `{logic[1]}`" not in readme:
+        yield f"README does not name version {version[1]} and `{logic[1]}`"
     if shutil.which("rt"):
         here = subprocess.run(["rt", "version"], capture_output=True, text=True, check=False).stdout.strip()
-        if here != kit[1]:
-            yield f"the kit here is `{here}`, and not `{kit[1]}`"
+        if not here.endswith(logic[1]):
+            yield f"the kit here is `{here}`, and not of `{logic[1]}`"
 
 
 def all_faults(count):
