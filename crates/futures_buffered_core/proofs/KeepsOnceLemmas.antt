@@ -1,12 +1,11 @@
 -- What a mark and a taking leave of marks and queue.
-use Rattle.std.proofs.Common.{◌≡◌, ℕ, ◌<◌, ◌≤◌, Bool, true, false, ◌||◌, eqb, List, [], ◌∷◌, ◌++◌, length, get_or, set, replicate, refl, sym, ap, subst, ◌∙◌, inl, inr, arith, length-set, length-append}
+use Rattle.std.proofs.Common.{◌≡◌, ℕ, ◌<◌, ◌≤◌, Bool, true, false, ◌||◌, eqb, List, [], ◌∷◌, ◌++◌, length, get_or, set, replicate, refl, sym, ap, subst, ◌∙◌, inl, inr, arith, length-set}
 use Rattle.std.specs.List.{list_any, IsDistinct, AllByRecursion}
 use Rattle.std.proofs.lemmas.Bool.{cases_lt, or_parts, or_left, eq-eqb}
 use Rattle.std.proofs.lemmas.List.{length-replicate, get_or-set_same, get_or-set_other, get_or_past, get_or-replicate}
 use Rattle.std.proofs.lemmas.List.Folds.{list_any-append}
 use Rattle.std.proofs.lemmas.Bool.Decides.{eqb_tells, nat_tests}
 use Rattle.std.proofs.lemmas.Map.Keys.{IsDistinct-push, IsDistinct-cons, IsDistinct-head, IsDistinct-tail}
-use Rattle.std.proofs.lemmas.Map.Steps.{length-le_from_distinct_below}
 use Rattle.std.specs.Cmp.{nat_eq_equiv}
 use Rattle.futures_buffered_core.specs.KeepsOnce.{KeepsOnce}
 
@@ -31,26 +30,6 @@ listed_push queue i q = list_any-append (eqb q) queue (i ∷ []) ∙ or_last (li
     or_last true b = refl
     or_last false true = refl
     or_last false false = refl
-
--- a slot that is not marked leaves room in the queue
-pub KeepsOnce-room : (marks : List Bool) (queue : List ℕ) (n i : ℕ) → KeepsOnce marks queue n → i < length marks → get_or marks i false ≡ false → length queue < n
-KeepsOnce-room marks queue n i kept within clear =
-    let absent : list_any (eqb i) queue ≡ false = sym (kept.exact i) ∙ clear in
-    let apart = IsDistinct-push nat_eq_equiv queue i kept.distinct absent in
-    let bound : length (queue ++ i ∷ []) ≤ length marks = length-le_from_distinct_below (queue ++ i ∷ []) (length marks) apart (λ q listed.
-    elim (eqb_tells q i) [
-      | inl same ↦ let e = same.1 in omega arith
-      | inr other ↦ KeepsOnce-below marks queue n q kept (in_front q other.0 listed)
-    ]) in
-    let fits = kept.fits in
-    omega (arith, length-append queue (i ∷ []))
-  where
-    in_front : (q : ℕ) → eqb q i ≡ false → list_any (eqb q) (queue ++ i ∷ []) ≡ true → list_any (eqb q) queue ≡ true
-    in_front q other listed = drop_last (list_any (eqb q) queue) (eqb q i) other (sym (listed_push queue i q) ∙ listed)
-      where
-        drop_last : (a b : Bool) → b ≡ false → (a || b) ≡ true → a ≡ true
-        drop_last true b e h = refl
-        drop_last false b e h = cc
 
 pub KeepsOnce-mark : (marks : List Bool) (queue : List ℕ) (n i : ℕ) → KeepsOnce marks queue n → i < length marks → get_or marks i false ≡ false → KeepsOnce (set marks i true) (queue ++ i ∷ []) n
 KeepsOnce-mark marks queue n i kept within clear =

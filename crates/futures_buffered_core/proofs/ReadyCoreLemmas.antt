@@ -179,17 +179,6 @@ KeepsLinks-mark n marks links head tail row i kept within clear =
         subst (λ (k : ℕ). LeadsThrough new k ((e ∷ rest) ++ i ∷ [])) (sym stays)
         (leads_put links (first_link links n head) i e rest leads once.distinct (all_apart i (e ∷ rest) absent) (omega (arith, kept.entries)) (omega (arith, kept.entries, kept.slots)))
 
--- the row of a core without a marked slot
-pub KeepsLinks-empty : (n : ℕ) (marks : List Bool) (links : List ℕ) (head tail : ℕ) (row : List ℕ) →
-    KeepsLinks n marks links head tail row → head ≡ n → get_or links n 0 ≡ 0 →
-    (row ≡ []) × (tail ≡ n)
-KeepsLinks-empty n marks links head tail row kept at_stub last = at row kept.ends (subst (λ (h : ℕ). LeadsThrough links (first_link links n h) row) at_stub kept.linked)
-  where
-    at : (row : List ℕ) → last_entry n row ≡ tail → LeadsThrough links (first_link links n n) row →
-        (row ≡ []) × (tail ≡ n)
-    at [] ends leads = (refl, sym ends)
-    at (e ∷ rest) ends leads = let here = leads.0 in absurd (omega (arith, first_at_stub links n))
-
 -- a head that is a slot is the first of the row
 pub KeepsLinks-first : (n : ℕ) (marks : List Bool) (links : List ℕ) (head tail : ℕ) (row : List ℕ) →
     KeepsLinks n marks links head tail row → head ≢ n →

@@ -1,44 +1,28 @@
 -- How many futures with a number a set that grows holds, before and after its calls.
-use Rattle.std.proofs.Common.{◌≡◌, ℕ, ◌+◌, ◌<◌, List, [], Option, Some, ap, inl, inr, arith, ◌∙◌}
+use Rattle.std.proofs.Common.{◌≡◌, ℕ, ◌+◌, ◌<◌, [], Option, Some, ap, inl, inr, arith, ◌∙◌}
 use Rattle.std.specs.List.{sum_by}
-use Rattle.std.proofs.lemmas.List.Sums.{sum_by-cons, sum_by_push}
+use Rattle.std.proofs.lemmas.List.Sums.{sum_by-cons}
 use Rattle.futures.specs.Task.{Covers}
 use Rattle.futures.specs.Poll.{OnPending}
 use Rattle.futures.specs.declared.task.context.Context.{Context}
 use Rattle.futures.specs.declared.task.Poll.{Poll}
 use Rattle.futures.specs.declared.task.Poll.TheVariants.{Ready, Pending}
-use Rattle.futures_buffered_table.specs.declared.answer.Woke.{Woke}
 use Rattle.futures_buffered_core.specs.ReadySource.{SourceSteps}
 use Rattle.futures_buffered_unordered.specs.FuturesUnorderedBounded.{Bounded, PollGives, held_in}
 use Rattle.futures_buffered_unordered.specs.Groups.{Groups, GroupsGive}
-use Rattle.futures_buffered_unordered.specs.FuturesUnordered.{AnyNeeds, EachCovered, Growing, GrowingPushes, IsNewGrowing, held_in_all}
+use Rattle.futures_buffered_unordered.specs.FuturesUnordered.{AnyNeeds, EachCovered, Growing, IsNewGrowing, held_in_all}
 use Rattle.futures_buffered_unordered.proofs.FuturesUnorderedLemmas.{covered_of, new_holds_none}
 use Rattle.futures_buffered_unordered.proofs.FuturesUnorderedStreamLemmas.{gave, still}
 use Rattle.futures_buffered_unordered.proofs.FuturesUnorderedPollLemmas.{sum_left}
-use Rattle.futures_buffered_ordered.specs.Numbered.{PollsNumbered, held_with, one_at, outputs_with}
+use Rattle.futures_buffered_ordered.specs.Numbered.{PollsNumbered, held_with, outputs_with}
 use Rattle.futures_buffered_ordered.specs.declared.numbered.Numbered.{Numbered}
-use Rattle.futures_buffered_ordered.proofs.NumberedLemmas.{numbers_polled, numbers_ended, numbers_inserted, numbers_none, brings_none}
+use Rattle.futures_buffered_ordered.proofs.NumberedLemmas.{numbers_polled, numbers_ended, numbers_none, brings_none}
 use Rattle.futures_buffered_ordered.specs.FuturesOrdered.{held_in_groups, held_in_groups_with, GroupsGiveNumbered, GrowingMayGive}
 
 module _ {F A S : Type 0} (i : ℕ) (polled : ℕ → F → Poll A → F → Type 0) (steps : SourceSteps S) where
   -- one poll of all groups
   pub numbers_left : (old new : Groups (Bounded (Numbered F) S)) (answer : Poll (Option (ℕ × A))) → GroupsGive (PollGives (PollsNumbered polled) steps) old answer new → sum_by (held_with i) new.listed + outputs_with i answer ≡ sum_by (held_with i) old.listed
   numbers_left old new answer h = sum_left (PollGives (PollsNumbered polled) steps) (held_with i) (outputs_with i) (numbers_polled i polled steps) (numbers_ended i polled steps) (brings_none i polled steps) old new answer h
-
-module _ {F S : Type 0} (i : ℕ) (marks : S → ℕ → Woke → S → Type 0) (made : ℕ → S → Type 0) (first : ℕ) where
-  -- one push
-  pub numbers_pushed : (old new : Growing (Numbered F) S) (value : Numbered F) → GrowingPushes marks made first old value new → held_in_groups_with i new ≡ held_in_groups_with i old + one_at i value.number
-  numbers_pushed old new value h =
-      let one : held_with i h.pushed_into ≡ held_with i h.into + one_at i value.number = numbers_inserted i marks h.into h.pushed_into value h.pushed in
-      let now : held_in_groups_with i new ≡ sum_by (held_with i) h.before + held_with i h.pushed_into = ap (λ (l : List (Bounded (Numbered F) S)). sum_by (held_with i) l) h.now_listed ∙ sum_by_push (held_with i) h.before h.pushed_into in
-      elim h.goes_into [
-        | inl stood ↦
-            let was : held_in_groups_with i old ≡ sum_by (held_with i) h.before + held_with i h.into = ap (λ (l : List (Bounded (Numbered F) S)). sum_by (held_with i) l) stood.0 ∙ sum_by_push (held_with i) h.before h.into in
-            omega (arith, one, now, was)
-        | inr made_new ↦
-            let was : held_in_groups_with i old ≡ sum_by (held_with i) h.before = ap (λ (l : List (Bounded (Numbered F) S)). sum_by (held_with i) l) made_new.0 in
-            omega (arith, one, now, was, numbers_none i h.into _ made_new.2.none_held)
-      ]
 
 module _ {F S : Type 0} (made : ℕ → S → Type 0) (n limit : ℕ) (start : Growing (Numbered F) S) where
   -- a new set holds nothing

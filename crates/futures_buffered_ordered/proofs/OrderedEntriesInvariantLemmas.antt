@@ -7,7 +7,7 @@ use Rattle.std.proofs.lemmas.Bool.{cases_lt, eq-eqb}
 use Rattle.std.proofs.lemmas.Bool.Decides.{eqb_tells}
 use Rattle.std.proofs.lemmas.Option.{slice_get_within, get_or_from_slice_get}
 use Rattle.futures_buffered_ordered.specs.Numbered.{one_at}
-use Rattle.futures_buffered_ordered.specs.OrderedEntries.{EachHasOne, IsLength, IsUnused, Stays, is_running, runs_with, starts_running}
+use Rattle.futures_buffered_ordered.specs.OrderedEntries.{EachHasOne, IsLength, is_running, runs_with, starts_running}
 use Rattle.futures_buffered_ordered.specs.OrderedEntriesInvariant.{Admits, IsNumbered, KeepsNumbers, Numbering, place_of}
 use Rattle.futures_buffered_ordered.specs.declared.ordered_entries.Entry.{Entry}
 use Rattle.futures_buffered_ordered.specs.declared.ordered_entries.Entry.TheVariants.{Running, Kept}
@@ -92,20 +92,6 @@ module _ {A : Type 0} where
   some_running (Kept x ∷ es) e = absurd (true≢false (sym e))
 
 module _ {Q A : Type 0} (with_number : ℕ → Q → ℕ) (count : Q → ℕ) where
-  -- a queue that has a number below the bound of its length unused: the next one behind all others
-  pub unused-back : (set : Q) (es : List (Entry A)) (o : ℕ) → KeepsNumbers with_number count set es o → IsUnused ((o + length es) % 2 ^ 64) es
-  unused-back set es o keeps k at =
-      let within = slice_get_within es k _ at in
-      let is = same_place o k (length es) _ keeps.word (omega (arith, within, keeps.short)) keeps.short (keeps.placed k _ at) refl in
-      absurd (omega (arith, is, within))
-
-  -- and the one before them
-  pub unused-front : (set : Q) (es : List (Entry A)) (o : ℕ) → KeepsNumbers with_number count set es o → IsUnused ((o + (2 ^ 64 - 1)) % 2 ^ 64) es
-  unused-front set es o keeps k at =
-      let within = slice_get_within es k _ at in
-      let is = keeps.placed k _ at in
-      absurd (omega (arith, is, within, keeps.word, keeps.short))
-
   module _ (old new : Q) (es : List (Entry A)) (o i : ℕ) (keeps : KeepsNumbers with_number count old es o)
       (more : (n : ℕ) → with_number n new ≡ with_number n old + one_at n i)
       (one : count new ≡ count old + 1) (fits : length es + 1 < 2 ^ 63) where
@@ -188,20 +174,6 @@ module _ {Q A : Type 0} (with_number : ℕ → Q → ℕ) (count : Q → ℕ) wh
         word = keeps.word;
       }
 
-  pub KeepsNumbers-pop : (set : Q) (rest : List (Entry A)) (o : ℕ) (x : A) → KeepsNumbers with_number count set (Kept x ∷ rest) o → KeepsNumbers with_number count set rest ((o + 1) % 2 ^ 64)
-  KeepsNumbers-pop set rest o x keeps =
-      record {
-        placed = λ k i h. let was = keeps.placed (suc k) i h in omega (arith, was, keeps.word);
-        as_many = keeps.as_many;
-        counted = keeps.counted;
-        short = omega (arith, keeps.short);
-        word = omega arith;
-      }
-
-  pub KeepsNumbers-popped : (set : Q) (es rest : List (Entry A)) (o : ℕ) (e : Entry A) (x : A) → KeepsNumbers with_number count set es o → es ≡ e ∷ rest → e ≡ Kept x → KeepsNumbers with_number count set rest ((o + 1) % 2 ^ 64)
-  KeepsNumbers-popped set es rest o e x keeps same is =
-      KeepsNumbers-pop set rest o x (subst (λ (l : List (Entry A)). KeepsNumbers with_number count set l o) (same ∙ ap (λ (h : Entry A). h ∷ rest) is) keeps)
-
   -- a new queue: nothing is held, and there is no entry
   pub KeepsNumbers-new : (set : Q) (es : List (Entry A)) → es ≡ [] → ((n : ℕ) → with_number n set ≡ 0) → count set ≡ 0 → KeepsNumbers with_number count set es 0
   KeepsNumbers-new set es none no_numbers empty =
@@ -242,17 +214,6 @@ module _ {Q A : Type 0} (with_number : ℕ → Q → ℕ) (count : Q → ℕ) wh
   pub some_held : (set : Q) (es : List (Entry A)) (o : ℕ) → KeepsNumbers with_number count set es o → starts_running es ≡ true → 0 < count set
   some_held set es o keeps runs = omega (arith, keeps.counted, some_running es runs)
 
--- a place for more entries changes no number
-pub stays_numbered : {Q A : Type 0} (with_number : ℕ → Q → ℕ) (count : Q → ℕ) (old new : Numbering Q A) → IsNumbered with_number count old → Stays old.queue new.queue → new.outgoing ≡ old.outgoing → IsNumbered with_number count new
-stays_numbered with_number count old new keeps stays same =
-    record {
-      placed = rw (stays.entries, same) keeps.placed;
-      as_many = rw (stays.set, stays.entries) keeps.as_many;
-      counted = rw (stays.set, stays.entries) keeps.counted;
-      short = rw stays.entries keeps.short;
-      word = rw same keeps.word;
-    }
-
 module _ {Q A : Type 0} (with_number : ℕ → Q → ℕ) (count : Q → ℕ) (old new : Q) (es : List (Entry A)) (o i : ℕ) (keeps : KeepsNumbers with_number count old es o)
     (more : (n : ℕ) → with_number n new ≡ with_number n old + one_at n i) (one : count new ≡ count old + 1) (fits : length es + 1 < 2 ^ 63) where
   -- an entry more behind all others, or before them
@@ -260,15 +221,6 @@ module _ {Q A : Type 0} (with_number : ℕ → Q → ℕ) (count : Q → ℕ) (o
   back_keeps n after long is now =
       subst (λ (l : List (Entry A)). KeepsNumbers with_number count new l o) (sym now)
       (KeepsNumbers-back with_number count old new es o i keeps more one fits (is ∙ ap (λ k. (o + k) % 2 ^ 64) long))
-
-  pub front_keeps : (after : List (Entry A)) → i ≡ (o + (2 ^ 64 - 1)) % 2 ^ 64 → after ≡ Running i ∷ es → KeepsNumbers with_number count new after i
-  front_keeps after is now =
-      subst (λ (l : List (Entry A)). KeepsNumbers with_number count new l i) (sym now)
-      (KeepsNumbers-front with_number count old new es o i keeps more one fits is)
-
--- the number behind all others is unused
-pub unused_at : {Q A : Type 0} (with_number : ℕ → Q → ℕ) (count : Q → ℕ) (set : Q) (es : List (Entry A)) (o n : ℕ) → KeepsNumbers with_number count set es o → n ≡ length es → IsUnused ((o + n) % 2 ^ 64) es
-unused_at with_number count set es o n keeps long = subst (λ k. IsUnused ((o + k) % 2 ^ 64) es) (sym long) (unused-back with_number count set es o keeps)
 
 -- the entry of a future that went into the set came behind all others
 pub back_admitted : {F Q A : Type 0} (pushes : Q → F → ℕ → Q → Type 0) (count : Q → ℕ) (with_number : ℕ → Q → ℕ) (keeps : Q → Q → Type 0) (old mid : Numbering Q A) (future : F) (i n : ℕ) (after : List (Entry A))

@@ -32,9 +32,6 @@ module _ {F A S : Type 0} (can_poll : F → Type 0) (polled : ℕ → F → Poll
     pub passes : FoldsTo (Passes polled) old.slots names slots
     pub pollable : AllHeld can_poll slots
 
-  pub SoFar-none : (old : Bounded F S) → AllHeld can_poll old.slots → SoFar old 0 old.slots old.source
-  SoFar-none old all = record { names = []; counted = refl; answers = refl; passes = refl; pollable = all }
-
   pub SoFar-skip : (old : Bounded F S) (count i : ℕ) (slots : Slots F) (source left : S) → SoFar old count slots source → steps.takes source (Slot i) left → value_in slots i ≡ None → SoFar old (count + 1) slots left
   SoFar-skip old count i slots source left so taken e =
       record {

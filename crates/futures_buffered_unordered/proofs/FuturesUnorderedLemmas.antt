@@ -2,10 +2,10 @@
 use Rattle.std.proofs.Common.{◌≡◌, ◌≢◌, ◌⊎◌, ℕ, zero, suc, ◌+◌, ◌-◌, ◌*◌, ◌<◌, ◌≤◌, List, [], ◌∷◌, ◌++◌, length, take, drop, set, get_or, Option, None, is_some, cond, refl, sym, ap, subst, inl, inr, arith, length-set, ◌∙◌}
 use Rattle.std.specs.List.{All}
 use Rattle.std.proofs.lemmas.Bool.{cases_eq}
-use Rattle.std.proofs.lemmas.List.{get_or-set_other, get_or_append_left, get_or_push, length_push, set-get_or, drop_all, length-replicate}
+use Rattle.std.proofs.lemmas.List.{get_or-set_other, get_or_append_left, get_or_push, length_push, drop_all, length-replicate}
 use Rattle.std.proofs.lemmas.List.Elements.{All-push, All-tail}
 use Rattle.std.proofs.lemmas.List.Folds.{sum_by-replicate}
-use Rattle.std.proofs.lemmas.List.Sums.{sum_by-set, sum_by_push, count_by-le-length}
+use Rattle.std.proofs.lemmas.List.Sums.{sum_by-set, sum_by_push}
 use Rattle.futures.specs.Poll.{OnPending}
 use Rattle.futures.specs.Task.{Covers, Hears}
 use Rattle.futures.specs.declared.task.context.Context.{Context}
@@ -20,7 +20,7 @@ use Rattle.futures_buffered_unordered.specs.Groups.{Groups, outputs_in}
 use Rattle.futures_buffered_unordered.proofs.GroupsLemmas.{same_parts}
 use Rattle.futures_buffered_unordered.proofs.GroupsStepLemmas.{split_at, split_set}
 use Rattle.futures_buffered_unordered.specs.declared.futures_unordered.TheConstants.{MAX_HELD}
-use Rattle.futures_buffered_unordered.specs.FuturesUnordered.{Growing, GrowingPushes, IsNewGrowing, LastIsFull, no_groups, held_in_all, spare_places, capacity_of, next_capacity, AnyNeeds, EachCovered}
+use Rattle.futures_buffered_unordered.specs.FuturesUnordered.{Growing, GrowingPushes, IsNewGrowing, LastIsFull, no_groups, held_in_all, spare_places, next_capacity, AnyNeeds, EachCovered}
 use Rattle.futures_buffered_unordered.specs.FuturesUnorderedInvariant.{IsGroup, KeepsGroups, SameKind, AddsGroup, PushesLast}
 use Rattle.futures_buffered_unordered.proofs.FuturesUnorderedInvariantLemmas.{alike_self, alike_back, each_set, alike_set}
 
@@ -40,35 +40,9 @@ module _ {F S : Type 0} where
   next_last first (g ∷ next ∷ gs) zero d last = absurd (omega (arith, last))
   next_last first (g ∷ next ∷ gs) (suc q) d last = next_last first (next ∷ gs) q d (omega (arith, last))
 
-  pub next_none : (first : ℕ) (gs : List (Bounded F S)) → length gs ≡ 0 → next_capacity first gs ≡ first
-  next_none first [] none = refl
-  next_none first (g ∷ gs) none = absurd (omega (arith, none))
-
-  pub spare_none : (gs : List (Bounded F S)) → length gs ≡ 0 → spare_places gs ≡ 0
-  spare_none [] none = refl
-  spare_none (g ∷ gs) none = absurd (omega (arith, none))
-
   pub spare_some : (gs : List (Bounded F S)) → 0 < spare_places gs → 0 < length gs
   spare_some [] some = absurd (omega (arith, some))
   spare_some (g ∷ gs) some = omega arith
-
-  pub capacity_none : (gs : List (Bounded F S)) → length gs ≡ 0 → capacity_of gs ≡ 0
-  capacity_none [] none = refl
-  capacity_none (g ∷ gs) none = absurd (omega (arith, none))
-
-  pub capacity_one : (gs : List (Bounded F S)) (d : Bounded F S) → length gs ≡ 1 → capacity_of gs ≡ slot_count (get_or gs 0 d).slots
-  capacity_one [] d one = absurd (omega (arith, one))
-  capacity_one (g ∷ []) d one = refl
-  capacity_one (g ∷ next ∷ gs) d one = absurd (omega (arith, one))
-
-  pub capacity_several : (gs : List (Bounded F S)) → 1 < length gs → capacity_of gs ≡ held_in_all gs + spare_places gs
-  capacity_several [] more = absurd (omega (arith, more))
-  capacity_several (g ∷ []) more = absurd (omega (arith, more))
-  capacity_several (g ∷ next ∷ gs) more = refl
-
-  -- no group holds more than it has slots
-  pub held_le : (group : Bounded F S) → held_in group ≤ slot_count group.slots
-  held_le group = count_by-le-length is_some group.slots.places
 
   -- a new group holds nothing
   pub new_holds_none : (made : ℕ → S → Type 0) (cap limit : ℕ) (group : Bounded F S) → IsNewSet made cap limit group → (held_in group ≡ 0) × (slot_count group.slots ≡ cap)
@@ -120,10 +94,6 @@ module _ {F S : Type 0} (needs : S → ℕ → Type 0) where
     where
       within : q < length g.listed
       within = omega (arith, last)
-
-  -- the same group, where no group was changed
-  pub same_again : (gs : List (Bounded F S)) (q : ℕ) (group left : Bounded F S) → group ≡ get_or gs q group → left ≡ group → set gs q left ≡ gs
-  same_again gs q group left is same = ap (set gs q) (same ∙ is) ∙ set-get_or gs q group
 
 module _ {F S : Type 0} (marks : S → ℕ → Woke → S → Type 0) where
   -- a push into the last group, as it stands in the list

@@ -228,10 +228,6 @@ pub and_true : (b : Bool) → (b && true) ≡ b
 and_true true = refl
 and_true false = refl
 
-pub and_assoc : (a b c : Bool) → ((a && b) && c) ≡ (a && (b && c))
-and_assoc true b c = refl
-and_assoc false b c = refl
-
 pub and_swap : (a b c : Bool) → ((a && c) && b) ≡ ((a && b) && c)
 and_swap true true true = refl
 and_swap true true false = refl

@@ -9,7 +9,7 @@ use Rattle.futures.specs.declared.task.Poll.TheVariants.{Pending}
 use Rattle.futures.specs.Runs.{After, Within}
 use Rattle.futures.specs.Queued.{Gathers}
 use Rattle.futures_buffered_core.specs.SlotMap.{Slots, value_in, with_value, with_slot_freed}
-use Rattle.futures_buffered_unordered.specs.Held.{AllHeld, AllHeldBut, Passes, Yields, MayGive, AnyMayGive}
+use Rattle.futures_buffered_unordered.specs.Held.{Passes, Yields, MayGive, AnyMayGive}
 use Rattle.futures_buffered_unordered.proofs.HeldLemmas.{value_in-with_value}
 
 module _ {A : Type 0} {P Q : A → Type 0} (weaker : (x : A) → Q x → P x) where
@@ -31,14 +31,6 @@ value_in-with_slot_freed {F} m i =
 
 pub value_in-with_slot_freed_other : {F : Type 0} (m : Slots F) (i j : ℕ) → j ≢ i → value_in (with_slot_freed m i) j ≡ value_in m j
 value_in-with_slot_freed_other {F} m i j other = get_or-set_other {A = Option F} m.places i j None None other
-
--- once a slot is emptied, what each other slot holds is all that is held
-pub AllHeld-freed : {F : Type 0} (P : F → Type 0) (m : Slots F) (i : ℕ) → AllHeldBut i P m → AllHeld P (with_slot_freed m i)
-AllHeld-freed P m i others j =
-    elim (cases_eq j i) [
-      | inl same ↦ rw (same, value_in-with_slot_freed m i) tt
-      | inr other ↦ rw (value_in-with_slot_freed_other m i j other) (others j other)
-    ]
 
 pub None-Some : {F : Type 0} {f : F} → None ≡ Some f → ⊥
 None-Some e = cc
