@@ -98,7 +98,7 @@ TargetGives (target.Growing old) command reply new =
 TargetGives (target.Steps old) command reply new =
     (machine : Machine) × MachineGives old command reply machine × (new ≡ target.Steps machine)
 
--- a command that begins something, or sets the limit, stands always
+-- a command that begins something stands always, and one that sets a limit from 1 on
 abbrev pub CommandGives : ScriptSession → Command → Reply → ScriptSession → Type 0
 CommandGives old (Unordered capacity) reply new = BeginsSet old capacity reply new
 CommandGives old (Ordered capacity) reply new = BeginsQueue old capacity reply new

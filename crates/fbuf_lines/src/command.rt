@@ -7,7 +7,7 @@ ghost use Rattle.fbuf_lines.specs.Command.{rest_text, spaced_number};
 use crate::ready_after::ReadyAfter;
 use memchr::memchr;
 
-/// A line that can be carried out.
+/// What a line asks for, whether that stands now or not.
 #[derive(Clone, Copy, Debug, PartialEq, Eq)]
 pub enum Command {
     /// `unordered C`: begins a bounded set of this capacity.

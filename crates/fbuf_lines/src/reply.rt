@@ -46,8 +46,8 @@ pub enum Reply {
     Bad,
 }
 
-// The longest reply is `some`, a number of 20 digits, and a line feed.
-const LONGEST: usize = 48;
+// Room for any reply: the longest is `some`, a space, a number of 20 digits and a line feed.
+const REPLY_ROOM: usize = 48;
 
 // Appends the word before the number, the number and a line feed, or nothing where there is no
 // memory.
@@ -57,7 +57,7 @@ fn append_number(text: &mut Vec<u8>, before: &[u8], number: u64) -> Result<(), A
         (text.new.items ≡ text.old.items ++ before.now ++ decimal number ++ line_feed) }
     ensures err { OnErr result (text.new.items ≡ text.old.items) }
 {
-    text.reserve(LONGEST)?;
+    text.reserve(REPLY_ROOM)?;
     let mut digits = Buffer::new();
     append_reserved(text, before);
     append_reserved(text, digits.format(number).as_bytes());

@@ -70,9 +70,10 @@ impl Session {
     /// The time is that of the line's bytes and of the one call that it asks for. A line that
     /// begins a target takes time and memory in its capacity, and the drop of the one before it
     /// takes time in that one's. A push that makes a group of a growing set takes time and memory
-    /// in that group's capacity, and one that makes an ordered queue longer than ever before takes
-    /// memory in its length; the other lines take no memory. `Err` says that the memory of a new
-    /// target was refused, or a push into a growing set or into a queue that is not full.
+    /// in that group's capacity, and one that makes an ordered queue longer than its capacity and
+    /// than ever before may take memory in its length; the other lines take no memory. `Err` says
+    /// that the memory of a new target was refused, or a push into a growing set or into a queue
+    /// that is not full.
     pub fn answer(
         &mut self,
         alloc: Global,
@@ -95,7 +96,7 @@ impl Session {
         }
     }
 
-    // What was there before is dropped, unless the capacity is too large.
+    // What was there before is dropped, unless the new one is refused.
     fn begin_unordered(&mut self, alloc: Global, capacity: usize) -> Result<Reply, AllocError>
         ensures reply { IfOk result (λ reply. BeginsSet self.old capacity reply self.new) }
         ensures memory { OnErr result (self.new ≡ self.old) }

@@ -1,7 +1,7 @@
 -- What a contract sees of a watched reader or writer.
 use Rattle.std.specs.Prelude.{ℕ, Bool, true, List, length, Result, Ok, Err, ◌&&◌, ◌==◌, not}
 
--- what is wrapped, and whether a read or a write of it has failed
+-- what is wrapped, and whether a read, a write or a flush of it has failed
 pub record Watch (T : Type 0) : Type 0 where
   pub inner : T
   pub failed : Bool

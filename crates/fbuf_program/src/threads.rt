@@ -41,10 +41,10 @@ const _: () = prove!(MAX_THREADS == 32);
 
 const _: () = prove!(MAX_WAKES == 1000000);
 
-/// Why a run printed nothing, or not all of its line.
+/// Why a run did not print its line, or may not have printed all of it.
 #[derive(Clone, Copy, Debug, PartialEq, Eq, Error)]
 pub enum ThreadsFault {
-    /// Memory was refused: nothing was written.
+    /// Memory was refused, or a future left no waker: nothing was written.
     #[error("out of memory")]
     Memory,
     /// A thread, or the run itself, could not be started: nothing was written.
@@ -257,7 +257,8 @@ fn fault_of(error: io::Error) -> ThreadsFault
     }
 }
 
-// One poll names each future, and each keeps its waker. It may answer what one of them gave.
+// Where no future is done, one poll names each, and each keeps its waker. Else it answers what the
+// first one gave.
 fn poll_once<R: Wait + RandomSource + AllocGlobal + Drop>(
     rt: &R,
     set: &mut Set<R>,
@@ -383,7 +384,8 @@ fn write_line<W: io::Write>(output: &mut W, n: usize, m: usize, outputs: &[usize
 /// Holds `n` futures in a set, and starts as many threads. Thread i adds one to the counter of
 /// future i and wakes its slot, `m` times, and passes the gate before and after each of these
 /// wakes. Future i answers i once its counter is `m`. The line that is written has the numbers that
-/// were answered, in rising order, and is flushed.
+/// were answered, in rising order, and is flushed. With `m` 0 a run of some threads fails with
+/// `Memory`: its futures are done before they leave a waker.
 ///
 /// Each thread that was started has ended when this returns, also at a fault. The memory is that of
 /// `n` threads, slots and counters. A wake waits for nobody.

@@ -8,7 +8,7 @@ use std::io;
 use std::io::{Read, Write};
 use std::marker::Model;
 
-/// Passes reads and writes on to what it wraps, and remembers whether one failed.
+/// Passes reads, writes and flushes on to what it wraps, and remembers whether one failed.
 #[derive(Drop)]
 pub struct Watched<T: Drop> {
     inner: T,
@@ -42,7 +42,7 @@ impl<T: Drop> Watched<T> {
         inner
     }
 
-    /// Whether a read or a write failed; a write that took nothing of some bytes counts.
+    /// Whether a read, a write or a flush failed; a write that took nothing of some bytes counts.
     pub fn failed(&self) -> bool
         ensures { result ≡ self.now.failed }
     {

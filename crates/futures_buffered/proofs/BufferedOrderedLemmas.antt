@@ -27,7 +27,7 @@ use Rattle.futures_buffered_ordered.proofs.NumberedLemmas.{in_slot, in_slots}
 use Rattle.futures_buffered_ordered.proofs.OrderedEntriesInvariantLemmas.{entry_with}
 use Rattle.futures_buffered.specs.FutureQueue.{AddsOutput}
 use Rattle.futures_buffered.specs.BufferUnordered.{MayGiveInSlot}
-use Rattle.futures_buffered.specs.BufferedOrdered.{queue_len, queue_room}
+use Rattle.futures_buffered.specs.BufferedOrdered.{queue_len, queue_slots}
 
 Some-same : {F : Type 0} {f g : F} → Some f ≡ Some g → f ≡ g
 Some-same e = cc
@@ -191,7 +191,7 @@ module _ {F A S : Type 0} (polled : ℕ → F → Poll A → F → Type 0) (step
       by_row (out ∷ row) ran = absurd (no_start old.entries none ran.1.front_runs)
 
   -- the queue holds no more than it has slots
-  pub still_fits : (old new : OrderedBounded F A S) (answer : Poll (Option A)) → OrderedGives (SetGives polled steps) held_in old answer new → queue_room new ≡ queue_room old → (0 < queue_room old) × (queue_len old ≤ queue_room old) → (0 < queue_room new) × (queue_len new ≤ queue_room new)
+  pub still_fits : (old new : OrderedBounded F A S) (answer : Poll (Option A)) → OrderedGives (SetGives polled steps) held_in old answer new → queue_slots new ≡ queue_slots old → (0 < queue_slots old) × (queue_len old ≤ queue_slots old) → (0 < queue_slots new) × (queue_len new ≤ queue_slots new)
   still_fits old new answer h same fits =
       let some = fits.0 in
       let most = fits.1 in

@@ -18,7 +18,7 @@ use Rattle.futures_buffered.specs.TryBuffer.{PushesOk, WithErrors, futures_of}
 -- nothing was drawn, and the set is a new one of n slots
 abbrev pub IsNewUnordered : {St F S : Type 0}
     → (ℕ → S → Type 0) → ℕ → St → ℕ → Buffering St (Bounded F S) → Type 0
-IsNewUnordered made names stream n = IsNewBuffer (IsNewSet made n names) stream
+IsNewUnordered made limit stream n = IsNewBuffer (IsNewSet made n limit) stream
 
 -- a pending poll of a set waits with its source
 abbrev pub SetWaitsAt : {F S : Type 0} → (S → ℕ → Type 0) → Bounded F S → ℕ → Type 0
@@ -58,8 +58,8 @@ LosesNothing {St} {F} {A} {S} yields polled steps marks =
     → Accounts IsPermutation (MayGiveInSlot polled) (WaitsInSlot polled)
     (all_drawn calls) (all_outputs calls) (held_values new.queue.slots)
 
--- The same where the stream gives errors as well: these come among the outputs, and of the futures
--- drawn none is lost.
+-- The same where the stream gives errors as well: some errors come among the outputs, and of the
+-- futures drawn none is lost.
 abbrev pub TryLosesNothing : {St F T E S : Type 0}
     → (St → Runs (Result F E))
     → (ℕ → F → Poll (Result T E) → F → Type 0)

@@ -23,13 +23,13 @@ abbrev pub queue_len : {F A S : Type 0} → OrderedBounded F A S → ℕ
 queue_len queue = length queue.entries
 
 -- how many futures can be in progress
-abbrev pub queue_room : {F A S : Type 0} → OrderedBounded F A S → ℕ
-queue_room queue = slot_count queue.set.slots
+abbrev pub queue_slots : {F A S : Type 0} → OrderedBounded F A S → ℕ
+queue_slots queue = slot_count queue.set.slots
 
 -- nothing was drawn, and the queue is a new one of n slots
 abbrev pub IsNewOrdered : {St F A S : Type 0}
     → (ℕ → S → Type 0) → ℕ → St → ℕ → Buffering St (OrderedBounded F A S) → Type 0
-IsNewOrdered made names stream n = IsNewBuffer (IsNewBoundedQueue made n names) stream
+IsNewOrdered made limit stream n = IsNewBuffer (IsNewBoundedQueue made n limit) stream
 
 -- a pending poll of a queue waits with the source of its set
 abbrev pub QueueWaitsAt : {F A S : Type 0} → (S → ℕ → Type 0) → OrderedBounded F A S → ℕ → Type 0
@@ -62,7 +62,7 @@ GivesInOrder {St} {F} {A} {S} yields polled steps marks =
     (BecomesEntry polled new.queue.set.slots)
     (all_drawn calls) (all_outputs calls) new.queue.entries
 
--- The same where the stream gives errors as well: these come among the outputs.
+-- The same where the stream gives errors as well: some errors come among the outputs.
 abbrev pub TryGivesInOrder : {St F T E S : Type 0}
     → (St → Runs (Result F E))
     → (ℕ → F → Poll (Result T E) → F → Type 0)

@@ -36,8 +36,8 @@ for_each_code {St} {Fn} {Q} stream_code closure_code queue_code =
 -- nothing was drawn, and the closure is as it was given
 abbrev pub IsNewForEach : {St Fn F S : Type 0}
     → (ℕ → S → Type 0) → ℕ → St → Fn → ℕ → ForEach St Fn (Bounded F S) → Type 0
-IsNewForEach made names stream closure n b =
-    IsNewUnordered made names stream n b.buffer × (b.closure ≡ closure)
+IsNewForEach made limit stream closure n b =
+    IsNewUnordered made limit stream n b.buffer × (b.closure ≡ closure)
 
 -- the stream has ended and nothing is held
 abbrev pub IsDone : {St Fn Q : Type 0} → (Q → ℕ) → ForEach St Fn Q → Type 0

@@ -21,7 +21,7 @@ futures_of [] = []
 futures_of (Ok future ∷ items) = future ∷ futures_of items
 futures_of (Err error ∷ items) = futures_of items
 
--- what was given is what the queue gave, and between that errors of the stream, each as an answer
+-- what was given is what the queue gave, and between that some errors, each as an answer
 abbrev pub WithErrors : {T E : Type 0} → List (Result T E) → List (Result T E) → Type 0
 WithErrors {T} {E} outputs given =
     (errors : List E) × Interleaves outputs (map Err errors) given

@@ -1,6 +1,6 @@
 //! Adaptors of a stream of futures, as methods of the stream.
 //!
-//! Each is its type's `over` with a shared source, so that what it holds is woken from any thread.
+//! Each is its type's `over`: with a shared source, so that what it holds is woken from any thread, or, where its name begins with `foreign`, with `Driven`.
 ghost use Rattle.std.specs.Prelude.{◌<◌};
 ghost use Rattle.futures_buffered_core.specs.Made.{MakesSlots};
 ghost use Rattle.futures_buffered_core.specs.ReadyShared.{IsNewShared};
@@ -57,7 +57,7 @@ pub trait BufferedStreamExt: Stream + Sized {
 
     /// As `buffered_ordered`, of a stream of futures of the kit. These are polled with the task's own context.
     ///
-    /// Takes time and memory in proportion to `n`. Where it is refused, so is `buffered_ordered`.
+    /// Takes time and memory in proportion to `n`. It refuses as `buffered_ordered` does.
     final fn foreign_buffered_ordered(
         self,
         alloc: Global,
@@ -73,7 +73,7 @@ pub trait BufferedStreamExt: Stream + Sized {
 
     /// As `buffered_unordered`, of a stream of futures of the kit. These are polled with the task's own context.
     ///
-    /// Takes time and memory in proportion to `n`. Where it is refused, so is `buffered_unordered`.
+    /// Takes time and memory in proportion to `n`. It refuses as `buffered_unordered` does.
     final fn foreign_buffered_unordered(
         self,
         alloc: Global,
@@ -109,7 +109,7 @@ pub trait BufferedStreamExt: Stream + Sized {
 
     /// As `for_each_concurrent`, where `f` makes a `Foreign` of each item, or a future made of one, as `map(Foreign::new(receiver), |_| ())`. The futures of the kit are polled with the task's own context.
     ///
-    /// Takes time and memory in proportion to `limit`. Where it is refused, so is `for_each_concurrent`.
+    /// Takes time and memory in proportion to `limit`. It refuses as `for_each_concurrent` does.
     final fn foreign_for_each_concurrent<Fut, T, F>(
         self,
         alloc: Global,

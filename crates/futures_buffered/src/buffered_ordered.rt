@@ -5,7 +5,7 @@ ghost use Rattle.futures_buffered_ordered.specs.OrderedEntries.{AddsBack, ComesI
 ghost use Rattle.futures_buffered_ordered.specs.FuturesOrderedBounded.{EachRunning, IsNewBoundedQueue, PushesNumber, SetGives, SetLeavesTask, SetMayGive};
 ghost use Rattle.futures_buffered.specs.FutureQueue.{OnlyPushes};
 ghost use Rattle.futures_buffered.specs.BufferUnordered.{MayGiveInSlot};
-ghost use Rattle.futures_buffered.specs.BufferedOrdered.{GivesInOrder, QueueWaitsAt, queue_len, queue_room};
+ghost use Rattle.futures_buffered.specs.BufferedOrdered.{GivesInOrder, QueueWaitsAt, queue_len, queue_slots};
 
 use crate::buffer::Buffer;
 use crate::future_queue::{FutureQueue, NewQueue};
@@ -30,11 +30,11 @@ impl<F: Drop, A: Drop, S: ReadySource> Model for OrderedQueue<F, A, S> {
     ghost Value = { OrderedBounded F A S };
 
     ghost use Rattle.std.specs.Prelude.{◌<◌, ◌≤◌};
-    ghost use Rattle.futures_buffered.specs.BufferedOrdered.{queue_len, queue_room};
+    ghost use Rattle.futures_buffered.specs.BufferedOrdered.{queue_len, queue_slots};
 
     ghost view = { λ s. s.queue };
 
-    ghost invariant = { λ s. (0 < queue_room s.queue) × (queue_len s.queue ≤ queue_room s.queue) };
+    ghost invariant = { λ s. (0 < queue_slots s.queue) × (queue_len s.queue ≤ queue_slots s.queue) };
 }
 
 impl<F: SlotFuture<S::Waker, Output = A>, A: Drop, S: NewSource> NewQueue
@@ -61,7 +61,7 @@ where
 
     ghost count = { queue_len };
 
-    ghost room = { queue_room };
+    ghost room = { queue_slots };
 
     ghost pushes = { OnlyPushes (AddsBack (PushesNumber S.marks)) };
 

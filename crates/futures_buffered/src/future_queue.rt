@@ -93,7 +93,7 @@ pub trait NewQueue: Drop {
     /// The source that its set is over.
     type Source: NewSource;
 
-    // What a new queue that can hold so many, and one poll of which takes so many names at most, may be.
+    // What a new queue may be that can hold so many, and one poll of whose set takes so many names at most.
     ghost made: { ℕ → ℕ → Self → Type 0 };
 
     /// An empty queue that can hold `n`. One poll of its set takes at most `limit` names.

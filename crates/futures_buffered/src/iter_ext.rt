@@ -5,10 +5,10 @@ ghost use Rattle.futures_buffered_unordered.specs.FuturesUnorderedBounded.{Holds
 ghost use Rattle.futures_buffered_unordered.specs.FuturesUnordered.{IsNewGrowing, no_groups, SetRefuses, GrowingPushes};
 ghost use Rattle.futures_buffered_unordered.specs.Extended.{MakesExtended, MakesFull, MakesGrown};
 ghost use Rattle.futures_buffered_joins.specs.JoinMade.{MakesJoin};
-ghost use Rattle.futures_buffered_ordered.specs.OrderedEntries.{AddsBack, IsAtEnd};
+ghost use Rattle.futures_buffered_ordered.specs.OrderedEntries.{AddsBack, QueueIsAtBound};
 ghost use Rattle.futures_buffered_ordered.specs.FuturesOrderedBounded.{HoldsInOrder};
 ghost use Rattle.futures_buffered_ordered.specs.FuturesOrdered.{IsNewGrowingQueue, GrowingPushesNumber};
-ghost use Rattle.futures_buffered.specs.BufferedOrdered.{queue_room};
+ghost use Rattle.futures_buffered.specs.BufferedOrdered.{queue_slots};
 
 use futures_buffered_core::ready_core::NewFault;
 use futures_buffered_core::ready_shared::{SharedReady, SharedWaker};
@@ -65,7 +65,7 @@ pub trait IterExt: IntoIterator + Sized {
     where
         Self::Item: SlotFuture<SharedWaker, Output: Drop>,
         requires { IsFiniteSource Self.IntoIterator Self.IntoIter.Iterator self }
-        ensures { MakesFull Self.IntoIterator Self.IntoIter.Iterator self queue_room
+        ensures { MakesFull Self.IntoIterator Self.IntoIter.Iterator self queue_slots
             (HoldsInOrder IsNewShared MarksShared POLL_LIMIT) result }
     {
         FuturesOrderedBounded::from_iter(alloc, self)
@@ -83,7 +83,7 @@ pub trait IterExt: IntoIterator + Sized {
         requires { IsFiniteSource Self.IntoIterator Self.IntoIter.Iterator self }
         ensures { MakesGrown Self.IntoIterator Self.IntoIter.Iterator self FIRST_GROUP
             (λ n. IsNewGrowingQueue IsNewShared n POLL_LIMIT)
-            (AddsBack (GrowingPushesNumber MarksShared IsNewShared)) (IsAtEnd SetRefuses) result }
+            (AddsBack (GrowingPushesNumber MarksShared IsNewShared)) (QueueIsAtBound SetRefuses) result }
     {
         FuturesOrdered::from_iter(alloc, self)
     }

@@ -1,6 +1,6 @@
 //! Adaptors that draw futures from a stream and keep some of them in progress, over the sets of `futures_buffered_sets`.
 //!
-//! Everything here is found under its own module, and what is named most often by its name alone as well. It gives out every name of the crates below, so that a user depends on this one alone.
+//! Everything here is found under its own module, and what is named most often by its name alone as well. It gives out what a user names of the crates below, so that a user depends on this one alone.
 //!
 //! In the order in which to read them:
 //!

@@ -1,6 +1,6 @@
 //! Adaptors of a stream of futures and errors, as methods of the stream.
 //!
-//! Each is its type's `over` with a shared source, so that what it holds is woken from any thread.
+//! Each is its type's `over`: with a shared source, so that what it holds is woken from any thread, or, where its name begins with `foreign`, with `Driven`.
 ghost use Rattle.futures_buffered_unordered.specs.FuturesUnorderedBounded.{IsNewSet};
 ghost use Rattle.std.specs.Prelude.{◌<◌};
 ghost use Rattle.futures_buffered_core.specs.Made.{MakesSlots};
@@ -63,7 +63,7 @@ pub trait BufferedTryStreamExt: Stream + Sized {
 
     /// As `try_buffered_ordered`, of a stream of futures of the kit and errors. The futures are polled with the task's own context.
     ///
-    /// Takes time and memory in proportion to `n`. Where it is refused, so is `try_buffered_ordered`.
+    /// Takes time and memory in proportion to `n`. It refuses as `try_buffered_ordered` does.
     final fn foreign_try_buffered_ordered<F, T, E>(
         self,
         alloc: Global,
@@ -82,7 +82,7 @@ pub trait BufferedTryStreamExt: Stream + Sized {
 
     /// As `try_buffered_unordered`, of a stream of futures of the kit and errors. The futures are polled with the task's own context.
     ///
-    /// Takes time and memory in proportion to `n`. Where it is refused, so is `try_buffered_unordered`.
+    /// Takes time and memory in proportion to `n`. It refuses as `try_buffered_unordered` does.
     final fn foreign_try_buffered_unordered<F, T, E>(
         self,
         alloc: Global,
@@ -124,7 +124,7 @@ pub trait BufferedTryStreamExt: Stream + Sized {
 
     /// As `try_for_each_concurrent`, where `f` makes a `Foreign` of each item, or a future made of one. The futures of the kit are polled with the task's own context.
     ///
-    /// Takes time and memory in proportion to `limit`. Where it is refused, so is `try_for_each_concurrent`.
+    /// Takes time and memory in proportion to `limit`. It refuses as `try_for_each_concurrent` does.
     final fn foreign_try_for_each_concurrent<T, E, Fut, Held, F>(
         self,
         alloc: Global,

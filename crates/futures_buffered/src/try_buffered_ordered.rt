@@ -13,7 +13,7 @@ pub type TryBufferedOrdered<St, F, S> = TryBuffer<
     OrderedQueue<F, <F as SlotFuture<<S as ReadySource>::Waker>>::Output, S>,
 >;
 
-/// After any calls of one such buffer that held nothing at first, the outputs given so far are those of the first futures drawn, in the order in which these were drawn, and the other futures are held still, in that order. The errors of the stream came between the outputs.
+/// After any calls of one such buffer that held nothing at first, the outputs given so far are those of the first futures drawn, in the order in which these were drawn, and the other futures are held still, in that order. What else was given are errors, between the outputs.
 ///
 /// This is of the words that a poll's contract says of each call. Nothing is done.
 pub fn try_calls_give_in_order<St, F, T, E, S: ReadySource>()

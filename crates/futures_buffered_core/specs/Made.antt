@@ -8,14 +8,14 @@ module _ {X : Type 0} (n : ℕ) (is_new : X → Type 0) (result : Result X NewFa
   pub record MakesSlots : Type 0 where
     -- what it makes is new
     pub made : IfOk result is_new
-    -- it is refused for its number exactly where that is too large, and asks for memory only else
+    -- it is `TooLarge` exactly where that number is too large, and `Memory` only where it is not
     pub refuses : RefusesTooLarge n result
 
   -- a call that makes one group of n slots, or no group
   pub record MakesGroup : Type 0 where
     -- what it makes is new
     pub made : IfOk result is_new
-    -- it is refused for its number exactly where that is too large, and asks for memory only else
+    -- it is `TooLarge` exactly where that number is too large, and `Memory` only where it is not
     pub refuses : RefusesTooLarge n result
     -- without a group it is never refused
     pub none : n ≡ 0 → IsOk result

@@ -17,8 +17,8 @@ WaitsAlike needs a b = (n : ℕ) → needs a n ↔ needs b n
 module _ {S : Type 0} (marks : S → ℕ → Woke → S → Type 0) (steps : SourceSteps S)
     (needs : S → ℕ → Type 0)
   where
-    -- What holds of each source: its names are slots of its own, and its calls keep their number and
-    -- wait at no new place.
+    -- What holds of each source: its names are slots of its own, its calls keep their number, and no
+    -- taking or registration waits at a new place.
     pub record SourceLaws (slots : S → ℕ) : Type 0 where
       -- a slot that is named is below the capacity
       pub names_below : (old : S) (i : ℕ) (new : S) → steps.takes old (Slot i) new → i < slots old
@@ -28,7 +28,7 @@ module _ {S : Type 0} (marks : S → ℕ → Woke → S → Type 0) (steps : Sou
       pub take_keeps : (old : S) (taken : Taken) (new : S) → steps.takes old taken new
           → slots new ≡ slots old
       pub register_keeps : (old new : S) → steps.registers old new → slots new ≡ slots old
-      -- a registration waits no longer at more places than before
+      -- after either call a registration waits at no more places than before
       pub take_needs : (old : S) (taken : Taken) (new : S) → steps.takes old taken new
           → (n : ℕ) → needs new n → needs old n
       pub register_needs : (old new : S) → steps.registers old new

@@ -81,7 +81,7 @@ fn put_last(links: &mut Vec<usize>, tail: &mut usize, entry: usize)
 impl ReadyCore {
     /// A core of `cap` slots, none of which is marked.
     ///
-    /// Takes time and memory in proportion to `cap`: `cap` marks and `cap + 1` links, so that no later call takes any. `Memory` where a request for that room was refused.
+    /// Takes time and memory in proportion to `cap`: `cap` marks and `cap + 1` links, so that no later call takes any. `TooLarge` where `cap` is above `MAX_CAPACITY`, and `Memory` where a request for memory was refused.
     pub fn new(alloc: Global, cap: usize) -> Result<Self, NewFault>
         ensures { MakesSlots cap (λ core. core ≡ record { capacity = cap; marked = [] }) result }
     {

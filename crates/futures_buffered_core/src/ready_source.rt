@@ -23,7 +23,7 @@ pub trait SlotHandle {
 
 /// Wakes one slot, any number of times, also once the set that it came from is gone.
 pub trait SlotWaker: SlotHandle {
-    /// Marks the slot; where that mark was fresh, wakes the task that registered last.
+    /// Marks the slot, unless it is a waker that does nothing. Where that mark is fresh and the task's waker is kept for wakes, takes that out and wakes the task.
     fn wake(&self);
 }
 
@@ -67,14 +67,14 @@ pub trait ReadySource: Drop {
         requires { i < slots self.now }
         ensures { Self.Waker.wakes result.now i };
 
-    /// Keeps the waker of the task that polls, in place of the one kept before.
+    /// Keeps the waker of the task that polls in place of the one kept before, or polls what the source waits for with `cx`.
     fn register(&mut self, cx: &mut Context<'_>)
         ensures registered { steps.registers self.old self.new }
         ensures poll { registers_poll self.old cx.old cx.new }
         ensures covered { Covers cx.new (needs self.old) }
         ensures kept { Keeps cx.old cx.new };
 
-    // Names are below the capacity, the capacity stays, and no call waits at a new place.
+    // Names are below the capacity, the capacity stays, and no taking or registration waits at a new place.
     ghost laws: { SourceLaws marks steps needs slots };
 }
 
@@ -86,13 +86,13 @@ pub trait NewSource: ReadySource {
     // What a new source of this capacity may be.
     ghost made: { ℕ → Self → Type 0 };
 
-    /// A source of `cap` slots. Takes time and memory in proportion to `cap`, so that no later call takes any.
+    /// A source of `cap` slots. Takes time and memory in proportion to `cap`, so that no later mark takes any. Whether a taking does the source says.
     fn make(env: &Self::Env, alloc: Global, cap: usize) -> Result<Self, NewFault>
         ensures { MakesSlots cap (made cap) result };
 
-    /// A source of `cap` slots beside this one: a fresh wake of either wakes the task that registered last at either. So in one poll that asks both, one registration covers both.
+    /// A source of `cap` slots beside this one, which waits at the same places of a task's wakes. So in one poll that asks both, one registration covers both.
     ///
-    /// Takes time and memory as `make` does, and where it is refused nothing changes.
+    /// Takes time and memory as `make` does. Where it is refused this source's content stays as it was; the task's waker may be kept at another place from then on.
     fn make_sibling(&mut self, alloc: Global, cap: usize) -> Result<Self, NewFault>
         ensures source { MakesSlots cap (made cap) result }
         ensures beside { IfOk result (WaitsAlike Self.needs self.old) }

@@ -14,7 +14,7 @@ use std::alloc::Global;
 use std::marker::Model;
 use std::vec;
 
-/// Gives the answers of a list in order, and then `Empty` for good: for a test of what a set does with the names that it gets. Its wakers do nothing, and it never wakes the task that it keeps.
+/// Gives the answers of a list in order, and then `Empty` for good: for a test of what a set does with the names that it gets. Its wakers do nothing, and no call wakes the task that it keeps but a registration of another. That task is woken too where the source is dropped.
 ///
 /// A contract sees the capacity and the answers that are left.
 #[derive(Drop)]

@@ -82,7 +82,7 @@ impl<F: Drop> PinSlotMap<F> {
 
     /// A map of `capacity` free slots.
     ///
-    /// Takes time and memory in proportion to `capacity`. `Memory` where a request for memory was refused.
+    /// Takes time and memory in proportion to `capacity`. `TooLarge` where it is above `MAX_CAPACITY`, and `Memory` where a request for memory was refused.
     pub fn new(alloc: Global, capacity: usize) -> Result<Self, NewFault>
         ensures { MakesSlots capacity (λ m. m ≡ no_slots capacity) result }
     {
@@ -96,7 +96,7 @@ impl<F: Drop> PinSlotMap<F> {
 
     /// A map without a free slot, which has item k in slot k, and as many slots as there are items.
     ///
-    /// Takes time and memory in proportion to that number. Where it is refused, the items that came are dropped: `TooLarge` where one more than `MAX_CAPACITY` came, and `Memory` where there was no room for the next.
+    /// Takes time and memory in proportion to that number. Where it is refused, the items that came are dropped: `TooLarge` where one more than `MAX_CAPACITY` came, and `Memory` where a request for memory was refused.
     pub fn from_iter<I: IntoIterator<Item = F>>(alloc: Global, iter: I) -> Result<Self, NewFault>
         requires { IsFiniteSource I.IntoIterator I.IntoIter.Iterator iter }
         ensures full { IfOk result (λ m. (items : List F)

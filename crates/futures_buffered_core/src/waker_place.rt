@@ -1,11 +1,11 @@
 //! Where a fresh wake finds the waker of the task.
 //!
-//! A wake puts its slot into the list first, and looks here then. One word says whether a waker is kept here, and who has the place. Nobody waits: wakes and the poller each try a compare-exchange of the word once. No wake is lost by that, in whatever order the steps come.
+//! A wake puts its slot into the list first, and looks here then. One word says that a waker is kept here, that none is, or that somebody has the place. Nobody waits: wakes and the poller each try a compare-exchange of the word once. No wake is lost by that, in whatever order the steps come.
 //!
 //! - The poller puts its waker in before it reads the tail that lets it answer `Empty`. A wake whose slot went into the tail before that read makes the poller answer `Pause`, after which the task polls again. A wake whose slot went in later finds the waker, unless another wake took it out in between: that one wakes the task.
 //! - A wake that finds another wake at the place leaves the task to it. That one wakes the task.
 //! - A wake that finds the poller at the place, or no waker, leaves its slot to the poller, which reads the tail later, or to the wake that took the waker.
-//! - The poller that finds a wake at the place wakes the task itself.
+//! - A poller that is to put its waker in and finds a wake at the place wakes the task itself.
 //!
 //! Every step is sequentially consistent, so all of them stand in one order.
 ghost use Rattle.std.specs.Prelude.{◌≡◌, ◌⊎◌, ℕ, IfOk, IfSome};
@@ -26,7 +26,7 @@ use std::sync::Arc;
 
 /// What a fresh wake of a slot wakes in its turn.
 pub trait OuterWaker: Drop {
-    /// Wakes it, once. Nobody has the place of the source meanwhile.
+    /// Wakes it, once. The caller has left the place of the waker by then.
     fn wake_outer(self);
 }
 
@@ -73,9 +73,9 @@ impl<O: OuterWaker> WakerPlace<O> {
         }
     }
 
-    /// Takes out the waker that is kept and wakes it, unless another call is at the place. Of many wakes after one registration one pays for more than a load.
+    /// Takes out the waker that is kept and wakes it, unless another call is at the place. Of many wakes after one registration one takes it out, and those that come later pay for a load.
     ///
-    /// The seat shows that a fresh wake has put its slot into the list: nobody looks here earlier.
+    /// The seat shows that a fresh wake has put its slot into the list: no wake looks here earlier.
     pub fn wake(&self, _made: &WakeSeat)
         requires { (slot : ℕ) × IsWake slot _made.now.steps Fresh }
     {
@@ -118,7 +118,7 @@ impl<O: OuterWaker> WakerPlace<O> {
         self.take_place(seen)
     }
 
-    /// Keeps a waker in place of the one before, which is let go once nobody has the place. Where another call is at the place, it wakes the waker at once.
+    /// Keeps a waker in place of the one before, which is let go once this call has left the place. Where another call is there, it wakes the waker at once.
     pub fn put_in(&self, outer: O) {
         match self.take_any_place() {
             Some(claim) => {
@@ -131,7 +131,7 @@ impl<O: OuterWaker> WakerPlace<O> {
 
 /// The poller's side.
 ///
-/// Where no source stands beside this one and the shared place keeps no waker, the task's waker is kept here, and is put in there only before the poller can answer `Empty`. So a poll that ends with an output makes no step at the place, and nobody wakes a task that polls again by itself. Else a registration takes back the waker that the place keeps, and puts its own in.
+/// Where no source stands beside this one and the shared place keeps no waker, the task's waker is kept here, and is put in there only before the poller can answer `Empty`. So a poll that ends with an output changes nothing at the place, and nobody wakes a task that polls again by itself. Else a registration takes back the waker that the place keeps, and puts its own in.
 #[derive(Drop)]
 pub struct PollerWaker<O> {
     shared: Arc<WakerPlace<O>>,
@@ -158,7 +158,7 @@ impl<O: OuterWaker> PollerWaker<O> {
         })
     }
 
-    /// Makes the side of a source beside this one. What is kept here goes to the place that both share.
+    /// Makes the side of a source beside this one. What is kept here goes to the place that both share, as by `put_in`.
     pub fn beside(&mut self) -> Result<PollerWaker<O>, AllocError>
         ensures shared { IfOk result (λ place. place ≡ self.old) }
         ensures same { self.new ≡ self.old }
@@ -187,7 +187,7 @@ impl<O: OuterWaker> PollerWaker<O> {
 }
 
 impl PollerWaker<Waker> {
-    /// Has the task heard by the next wake.
+    /// Keeps the task's waker: here where the source stands alone and the place keeps none, else at the place, as by `put_in`.
     pub fn register(&mut self, cx: &mut Context<'_>)
         ensures same { self.new ≡ self.old }
         ensures armed { IsArmed cx.new }
@@ -220,7 +220,7 @@ impl<O: OuterWaker> BeforeEmpty for PollerWaker<O> {
 }
 
 impl<O: OuterWaker> PollerWaker<O> {
-    // Wakes find the waker from here on.
+    // Puts the waker where wakes find it, as by `put_in`.
     #[inline(never)]
     fn give_up_own(&mut self)
         ensures { self.new ≡ self.old }

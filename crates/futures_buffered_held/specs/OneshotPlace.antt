@@ -1,4 +1,5 @@
--- The rule of a one-shot, and what its steps tell. Its word is 0 while the receiver has the place of the waker, 1 while it waits, 2 once the sender is done, and 3 once the receiver is gone.
+-- The rule of a one-shot, and what its steps tell. Its word is 0 while the receiver has the place
+-- of the waker, 1 while it waits, 2 once the sender is done, and 3 once the receiver is gone.
 use Rattle.std.specs.Prelude.{◌≡◌, ◌≢◌, ◌⊎◌, ℕ, zero, suc, List, [], ◌∷◌, Option, Some, None, MatchOption}
 use mathlib.Core.Option as maybe
 use mathlib.Core.Option.{some}
@@ -35,7 +36,8 @@ module _ {T : Type 0} where
   compared_view (Compared answer x) w = (answer ≡ Some x) × (w ≡ Got answer)
   compared_view v w = w ≡ v
 
--- what a one-shot is, beside the views: the seats of its ends, its word, what lies at its places, and what was sent
+-- what a one-shot is, beside the views: the seats of its ends, its word, what lies at its places,
+-- and what was sent
 pub record Inside (T W : Type 0) : Type 0 where
   -- the numbers of the seats
   pub sender : ℕ

@@ -21,9 +21,9 @@ use std::sync::{Arc, Mutex};
 
 /// A source that has the futures polled for which `Foreign`s stand, and names the slots whose outputs have come.
 ///
-/// A contract sees the capacity and the marked slots, oldest mark first, as of a ready core. A taking that finds no slot marked looks for outputs: it marks the slots of those that came, and takes over what was handed to its mailboxes. It answers `Pause` where it has taken futures over, since they were not polled yet. Taking one over asks for the memory of a push into the kit's set; where that is refused the future waits in its mailbox for the next taking.
+/// A contract sees the capacity and the marked slots, oldest mark first, as of a ready core. A taking that finds no slot marked looks for outputs: it marks the slots of those that came, and takes over what was handed to its mailboxes. It names the oldest slot that it marked. Where it marked none it answers `Pause` if a future lay in a mailbox, since that was not polled yet, and else `Empty`. Taking one over asks for the memory of a push into the kit's set; where that is refused the future waits in its mailbox, and is asked for again, at the latest by the next taking.
 ///
-/// The futures of a source and of those beside it stand in one `FuturesUnordered` of the kit, which a registration with any of them polls with the task's context, each future that was woken once. It lies under a lock that is only tried: a call that finds another thread there answers as where nothing came, and has the task polled again.
+/// The futures of a source and of those beside it stand in one `FuturesUnordered` of the kit, which a registration with any of them polls with the task's context: those futures that were woken. It lies under a lock that is only tried: a call that finds another thread there answers as where nothing came, and has the task polled again.
 pub struct Driven<F: Future<Output: Drop>> {
     // The slots to name.
     names: ReadyCore,
@@ -312,7 +312,7 @@ impl<F: Future<Output: Drop>> ReadySource for Driven<F> {
         &self.mailboxes[i]
     }
 
-    /// Polls the futures of this source and of those beside it that were woken. Where another thread polls them, the task yields.
+    /// Polls futures of this source and of those beside it that were woken, at most 128 one after another without an output; where more are left, the task is woken. Where another thread polls them, the task yields.
     fn register(&mut self, cx: &mut Context<'_>) {
         match self.driver.try_lock() {
             Some(mut driver) => driver.drive(cx),

@@ -65,7 +65,7 @@ impl<F: Future<Output: Drop>> Driver<F> {
         Some(self.desks.swap_remove(place))
     }
 
-    /// Takes a future over, or hands it back where memory lacks. It is polled at the next drive.
+    /// Takes a future over, or hands it back where memory lacks. The next drive polls it, behind those that were woken before.
     pub(crate) fn start(&mut self, ticket: Ticket, future: Held<F>) -> Result<(), Held<F>> {
         self.running.push(ticket, future)?;
         if let Some(desk) = self.desk(ticket.source) {
@@ -80,7 +80,7 @@ impl<F: Future<Output: Drop>> Driver<F> {
         }
     }
 
-    /// Polls the futures that were woken, each once at most, and leaves what they gave on the desks.
+    /// Polls futures that were woken, until the kit's set is pending or as many gave an output as ran at first, and leaves the outputs on the desks. One that wakes itself may be polled again. After 128 polls without an output the kit's set is pending, and has the task woken where more are left.
     pub(crate) fn drive(&mut self, cx: &mut Context<'_>)
         ensures covered { Covers cx.new (λ _. ⊥) }
         ensures kept { Keeps cx.old cx.new }

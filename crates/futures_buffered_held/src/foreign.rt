@@ -12,7 +12,7 @@ use std::marker::Model;
 ///
 /// A contract sees the future, until it is handed over. After that an output is one that some future of the type may give. That it is the output of this very future is tested: a cell's content is in no contract.
 ///
-/// A `Foreign` that is dropped before its output has come does not end its future, which goes once it is done, or with its source and all those beside it.
+/// A `Foreign` that is dropped before its first poll drops its future. One that is dropped later does not end it: the future goes once it is done, or with its source and all those beside it.
 #[derive(Drop)]
 pub struct Foreign<F: Future<Output: Drop>> {
     future: Option<Held<F>>,

@@ -51,7 +51,7 @@ pub type ForeignTryJoin<F, T = Foreign<F>> = TryJoinAll<T, Driven<F>>;
 
 /// An empty set of `cap` slots.
 ///
-/// Takes time and memory in proportion to `cap`. `Memory` where a request for it was refused.
+/// Takes time and memory in proportion to `cap`. `TooLarge` where `cap` is above `MAX_CAPACITY`, and `Memory` where a request for memory was refused.
 pub fn foreign_set<F: Future<Output: Drop>, T: Drop>(
     alloc: Global,
     cap: usize,
@@ -63,7 +63,7 @@ pub fn foreign_set<F: Future<Output: Drop>, T: Drop>(
 
 /// An empty set that grows, with one group of `cap` slots, or none where `cap` is 0, and no request for memory then.
 ///
-/// Takes time and memory in proportion to `cap`. `Memory` where a request for it was refused.
+/// Takes time and memory in proportion to `cap`, and refuses as `foreign_set` does.
 pub fn growing_foreign_set<F: Future<Output: Drop>, T: Drop>(
     alloc: Global,
     cap: usize,
@@ -73,9 +73,9 @@ pub fn growing_foreign_set<F: Future<Output: Drop>, T: Drop>(
     FuturesUnordered::over((), alloc, cap)
 }
 
-/// An empty queue of `cap` slots, whose outputs come in the order of the pushes.
+/// An empty queue of `cap` slots, whose outputs come in the order of its entries, to which pushes add at either end.
 ///
-/// Takes time and memory in proportion to `cap`. `Memory` where a request for it was refused.
+/// Takes time and memory in proportion to `cap`, and refuses as `foreign_set` does.
 pub fn foreign_queue<F: Future<Output: Drop>, T: SlotFuture<Mailbox<F>, Output: Drop>>(
     alloc: Global,
     cap: usize,
@@ -85,9 +85,9 @@ pub fn foreign_queue<F: Future<Output: Drop>, T: SlotFuture<Mailbox<F>, Output: 
     FuturesOrderedBounded::over(&(), alloc, cap)
 }
 
-/// An empty queue that grows, as `growing_foreign_set`, whose outputs come in the order of the pushes.
+/// An empty queue that grows, as `growing_foreign_set`, whose outputs come in the order of its entries.
 ///
-/// Takes time and memory in proportion to `cap`. `Memory` where a request for it was refused.
+/// Takes time and memory in proportion to `cap`, and refuses as `foreign_set` does.
 pub fn growing_foreign_queue<F: Future<Output: Drop>, T: SlotFuture<Mailbox<F>, Output: Drop>>(
     alloc: Global,
     cap: usize,

@@ -1,6 +1,6 @@
 //! A channel for one value.
 //!
-//! Sender and receiver share one word, a place for a value and one for a waker. A receiver that waits has left its waker, and says so by the word. A sender leaves its value, and says that it is done by one swap of the word: by what it finds there it is given the waker, or its value back where the receiver is gone. So no call waits for the other, and no wake is lost, in whatever order the steps come:
+//! Sender and receiver share one word, a place for a value and one for a waker. The word says from the start that the receiver waits, and each of its pending polls leaves its waker. A sender leaves its value, and says that it is done by one swap of the word: by what it finds there it is given the waker, or its value back where the receiver is gone. So no call waits for the other, and no wake is lost, in whatever order the steps come:
 //!
 //! - A receiver takes its waker back before it puts another in. A sender that is done meanwhile finds none, and wakes nobody: the receiver finds that it is done when it says that it waits again.
 //! - A sender that finds a waker wakes it.
@@ -133,7 +133,7 @@ fn wake(waker: Option<SharedWaker>) {
 }
 
 impl<T: Drop> Sender<T> {
-    /// Sends the value and wakes the slot of the receiver once. Where the receiver is gone, it hands the value back.
+    /// Sends the value. Where the receiver has left a waker, its slot is woken once. Where the receiver is gone, the value comes back.
     pub fn send(self, value: T) -> Result<(), T>
         ensures back { IfErr result (λ back. back ≡ value) }
     {
@@ -158,7 +158,7 @@ impl<T: Drop> Sender<T> {
     }
 }
 
-/// Wakes the slot of the receiver, whose answer is `Canceled` where no value was sent.
+/// Where the receiver has left a waker, its slot is woken. Its answer is `Canceled`.
 impl<T: Drop> Drop for Sender<T> {
     fn drop(self) {
         let Sender { place, mut seat } = self;

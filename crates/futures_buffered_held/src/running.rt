@@ -111,7 +111,7 @@ impl<F: Future<Output: Drop>> Running<F> {
         }
     }
 
-    /// What a future that was woken gave. `None` where each that was woken is pending, or none runs.
+    /// What a future that was woken gave. `None` where the kit's set is pending, or none runs.
     pub(crate) fn poll_one(&mut self, cx: &mut Context<'_>) -> Option<Finished<F>>
         ensures covered { IfNone result (Covers cx.new (λ _. ⊥)) }
         ensures kept { Keeps cx.old cx.new }

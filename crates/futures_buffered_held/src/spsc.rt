@@ -148,7 +148,7 @@ impl<T: Drop, P: Protocol<T>> Sender<T, P> {
         self.ring.is_abandoned()
     }
 
-    /// How many values have room.
+    /// For how many values the channel was made. It never changes.
     pub fn capacity(&self) -> usize
         ensures { result ≡ producer_capacity self.now }
     {
@@ -199,7 +199,7 @@ impl<T: Drop, P: Protocol<T>> Receiver<T, P> {
         }
     }
 
-    /// How many values have room.
+    /// For how many values the channel was made. It never changes.
     pub fn capacity(&self) -> usize
         ensures { result ≡ consumer_capacity self.now }
     {
@@ -236,7 +236,7 @@ impl<T: Drop, P: Protocol<T>> Receiver<T, P> {
     }
 }
 
-/// The values that did not come are dropped, but for one that is sent at that moment: that is dropped with the sender.
+/// The values that did not come are dropped, but for those that are sent meanwhile: these are dropped with the sender.
 impl<T: Drop, P: Protocol<T>> Drop for Receiver<T, P> {
     fn drop(self) {
         let Receiver { mut ring, waiting } = self;

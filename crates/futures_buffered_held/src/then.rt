@@ -10,7 +10,7 @@ pub enum Then<F, B, C> {
     First(F, C),
     /// The future that the closure made.
     Second(B),
-    /// Neither of the two. No poll leaves it so.
+    /// Neither of the two: pending for good. No poll makes it so.
     Gone,
 }
 

@@ -40,9 +40,9 @@ module _ {F O A E S : Type 0} (polled : ℕ → F → Poll O → F → Type 0) (
   later_back (left ∷ later) first last outputs ran all =
       pending_same (Some first) (Some left) Pending ran.1.0 (Ok outputs) (subst (λ (w : Places F A S). MayBeAll polled (output_kept output_of) w outputs) ran.1.1 (later_back later ran.0 last outputs ran.2 all))
 
-  pub joins_by_place : (made : ℕ → S → Type 0) (marks : S → ℕ → Woke → S → Type 0) (names : ℕ) → JoinsByPlace polled steps output_of made marks names
-  joins_by_place made marks names items first last later outputs after new ran gives =
-      by_place polled steps (output_kept output_of) made marks names items first outputs new (later_back later first last outputs ran (ready_value (Some last) after (Ready (Ok outputs)) gives))
+  pub joins_by_place : (made : ℕ → S → Type 0) (marks : S → ℕ → Woke → S → Type 0) (limit : ℕ) → JoinsByPlace polled steps output_of made marks limit
+  joins_by_place made marks limit items first last later outputs after new ran gives =
+      by_place polled steps (output_kept output_of) made marks limit items first outputs new (later_back later first last outputs ran (ready_value (Some last) after (Ready (Ok outputs)) gives))
 
 module _ {F W R O A E B S V : Type 0} (future : SlotFutureOf F W O) (rule : JoinRuleOf R O A E B) (source : ReadySourceOf S V) where
   -- all that a poll promises that is ready, by what its answer shows

@@ -124,8 +124,8 @@ module _ {F R A S : Type 0} (polled : ℕ → F → Poll R → F → Type 0) (st
       }
 
   -- all outputs of a new join are one of each item
-  pub by_place : (made : ℕ → S → Type 0) (marks : S → ℕ → Woke → S → Type 0) (names : ℕ) (items : List F) (first : Places F A S) (outputs : List A) → IsNewJoin made marks names items first → MayBeAll polled as_output first outputs → CameByPlace polled as_output items outputs
-  by_place made marks names items first outputs new all =
+  pub by_place : (made : ℕ → S → Type 0) (marks : S → ℕ → Woke → S → Type 0) (limit : ℕ) (items : List F) (first : Places F A S) (outputs : List A) → IsNewJoin made marks limit items first → MayBeAll polled as_output first outputs → CameByPlace polled as_output items outputs
+  by_place made marks limit items first outputs new all =
       record {
         as_many = all.as_many ∙ (ap length new.none_done ∙ length-replicate (length items) None);
         each = λ k item x of_item got.

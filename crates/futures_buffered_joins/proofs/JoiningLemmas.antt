@@ -7,11 +7,11 @@ use Rattle.std.proofs.lemmas.Bool.{cases_lt}
 use Rattle.std.specs.Prelude.{replicate}
 use Rattle.futures.specs.declared.task.Poll.{Poll}
 use Rattle.futures.specs.declared.task.Poll.TheVariants.{Ready}
-use Rattle.futures_buffered_core.specs.SlotMap.{value_in, held_count, slot_count}
+use Rattle.futures_buffered_core.specs.SlotMap.{value_in, slot_count}
 use Rattle.futures_buffered_table.specs.declared.answer.Woke.{Woke}
 use Rattle.futures_buffered_core.specs.ReadySource.{SourceSteps}
 use Rattle.futures_buffered_unordered.specs.FuturesUnorderedBounded.{Bounded, HoldsEach, AsksUntil, with_empty_slot}
-use Rattle.futures_buffered_joins.specs.Joining.{Places, Fills, output_at}
+use Rattle.futures_buffered_joins.specs.Joining.{Places, Fills}
 use Rattle.futures_buffered_joins.specs.JoiningInvariant.{KeepsJoinPlaces}
 use Rattle.futures_buffered_joins.specs.Join.{Fails}
 
@@ -49,9 +49,9 @@ module _ {F O A S : Type 0} (polled : ℕ → F → Poll O → F → Type 0) (st
   fails_place output_of old held mid outputs i output e is of gave = rw is (i, mid, subst (λ (a : O). AsksUntil polled steps held (Ready (i, a)) mid) (sym of) gave)
 
 -- a new join keeps itself
-pub keeps_new : {F A S : Type 0} (made : ℕ → S → Type 0) (marks : S → ℕ → Woke → S → Type 0) (names : ℕ) (items : List F) (held : Bounded F S) (outputs : List (Option A)) (gathered : List A) (room : ℕ) → HoldsEach made marks names items held → outputs ≡ replicate (slot_count held.slots) None → gathered ≡ [] → room ≡ slot_count held.slots
+pub keeps_new : {F A S : Type 0} (made : ℕ → S → Type 0) (marks : S → ℕ → Woke → S → Type 0) (limit : ℕ) (items : List F) (held : Bounded F S) (outputs : List (Option A)) (gathered : List A) (room : ℕ) → HoldsEach made marks limit items held → outputs ≡ replicate (slot_count held.slots) None → gathered ≡ [] → room ≡ slot_count held.slots
     → KeepsJoinPlaces {F = F} {A = A} {S = S} (record { set = held; outputs = outputs }) gathered room
-keeps_new {F} {A} made marks names items held outputs gathered room new is empty enough =
+keeps_new {F} {A} made marks limit items held outputs gathered room new is empty enough =
     let size : length outputs ≡ slot_count held.slots = ap length is ∙ length-replicate (slot_count held.slots) None in
     let count : slot_count held.slots ≡ length items = ap slot_count new.slots_hold ∙ length-map items Some in
     record {
@@ -67,7 +67,3 @@ keeps_new {F} {A} made marks names items held outputs gathered room new is empty
     there [] k below = absurd (omega arith)
     there (x ∷ xs) zero below = refl
     there (x ∷ xs) (suc k) below = there xs k (omega arith)
-
--- once no future is waited for, each output has come
-pub all_come : {F A S : Type 0} (places : Places F A S) (gathered : List A) (room : ℕ) → KeepsJoinPlaces places gathered room → held_count places.set.slots ≡ 0 → (k : ℕ) → k < length places.outputs → is_some (output_at places k) ≡ true
-all_come places gathered room keeps none k below = keeps.either k below ∙ ap not (none_counted places.set.slots.places k none)

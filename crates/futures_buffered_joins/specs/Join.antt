@@ -50,9 +50,9 @@ module _
     -- Where a join was made of these items, then after any pending polls the outputs that it is
     -- ready with are one of each item, each at its item's place.
     abbrev pub JoinsByPlace : (ℕ → S → Type 0) → (S → ℕ → Woke → S → Type 0) → ℕ → Type 0
-    JoinsByPlace made marks names = (items : List F) (first last : Places F A S)
+    JoinsByPlace made marks limit = (items : List F) (first last : Places F A S)
         (later : List (Places F A S)) (outputs : List A) (after : Option (Places F A S))
-        → IsNewJoin made marks names items first
+        → IsNewJoin made marks limit items first
         → FoldsTo (λ old left new. JoinGives (Some old) Pending (Some left) × (new ≡ left))
         first later last
         → JoinGives (Some last) (Ready (Ok outputs)) after

@@ -16,5 +16,5 @@ join_places (Some places) = places_in places
 abbrev pub MakesJoin : {U F I A S : Type 0} → SourceOf U F I → IteratorOf I F → U
     → (ℕ → S → Type 0) → (S → ℕ → Woke → S → Type 0) → ℕ
     → Result (Option (Places F A S)) NewFault → Type 0
-MakesJoin by gives source made marks names = MakesFull by gives source join_places
-    (λ items join. IsSomeAnd join (IsNewJoin made marks names items))
+MakesJoin by gives source made marks limit = MakesFull by gives source join_places
+    (λ items join. IsSomeAnd join (IsNewJoin made marks limit items))

@@ -66,7 +66,7 @@ module _
       pub leaves : OnPending answer (IsSomeAnd old (λ was. IsSomeAnd new (λ now.
           JoinLeavesTask future.polled source.steps (output_kept rule.output_of)
           source.registers_poll was now cx left)))
-      -- a ready join only registered the task
+      -- the context of a ready join was only registered
       pub only_registered : IfReady answer (λ _. OnlyRegisters source.registers_poll cx left)
       -- nothing of the task is lost
       pub kept : Keeps cx left

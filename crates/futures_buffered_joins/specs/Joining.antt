@@ -44,11 +44,11 @@ pub record IsNewJoin
     {F A S : Type 0}
     (made : ℕ → S → Type 0)
     (marks : S → ℕ → Woke → S → Type 0)
-    (names : ℕ)
+    (limit : ℕ)
     (items : List F)
     (places : Places F A S)
     : Type 0 where
-  pub waits_for : HoldsEach made marks names items places.set
+  pub waits_for : HoldsEach made marks limit items places.set
   pub none_done : places.outputs ≡ replicate (length items) None
 
 module _

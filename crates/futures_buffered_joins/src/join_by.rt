@@ -85,7 +85,7 @@ where
 
     ghost gives = { λ join answer. JoinMayGive F.polled R.output_of join (R.seen answer) };
 
-    /// Polls the set of the futures again and again, each output filling its place, until that is Pending, no future is left or an output ends the join. With no future left it is ready with all outputs; at an error it is ready with that error, and the other futures and all outputs are dropped in this call. In both cases it holds nothing more: later polls give no outputs, and poll nothing.
+    /// Polls the set of the futures again and again, each output filling its place, until that is Pending, no future is left or an output ends the join. With no future left it is ready with all outputs; at an error it is ready with that error, and the other futures and all outputs are dropped in this call. In both cases it holds nothing more: its source is dropped, which may wake the task, and later polls give no outputs, and poll nothing.
     ///
     /// Takes no memory but what the calls of the source take, and waits for nobody where they do not. Takes time in proportion to the names that its polls of the set take, and at the end to the number of places, besides the polls.
     fn poll(&mut self, cx: &mut Context<'_>) -> Poll<R::Answer>

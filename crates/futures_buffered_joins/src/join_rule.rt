@@ -15,7 +15,7 @@ pub trait JoinRule<O> {
     /// With what the join is ready.
     type Answer;
 
-    // The output that is kept so, or that ends the join so.
+    // The output of which this is kept, or that ends the join with this error.
     ghost output_of: { Result Self.Kept Self.Error → O };
 
     // What an answer shows.
@@ -25,7 +25,7 @@ pub trait JoinRule<O> {
     fn keep(output: O) -> Result<Self::Kept, Self::Error>
         ensures { output_of result ≡ output };
 
-    /// The answer of a join that has all outputs, or that an error ended.
+    /// The answer of a join that has all outputs, or that an error ended; and, of no outputs, that of each later poll.
     fn answer(outcome: Result<Vec<Self::Kept>, Self::Error>) -> Self::Answer
         ensures { seen result ≡ shown_by_result outcome };
 }

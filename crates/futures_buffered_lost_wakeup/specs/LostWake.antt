@@ -40,7 +40,7 @@ pub data Event : Type 0 where
   GoBack : Event
   -- it keeps the task's waker with the poller
   KeepOwn : Event
-  -- or it lacks memory: the task is woken
+  -- or it can make no waker: the task is woken
   Lacks : Event
   -- the poller goes to the place with its waker, before a read of the tail that can answer Empty
   LayOut : Event

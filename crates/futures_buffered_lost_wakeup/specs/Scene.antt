@@ -16,7 +16,7 @@ pub data Errand : Type 0 where
   -- it has the task's waker, and wakes the task
   Wakes : Errand
 
--- what the word of the place says
+-- what the word of the place says, and who has the place
 pub data Place : Type 0 where
   -- no waker is kept
   Bare : Place

@@ -1,25 +1,25 @@
 //! That no wake is lost, as a law over every order of the steps of any wakes and of one poller.
 //!
-//! The ready list is the one of `futures_buffered_table`, step by step. What its wakes and its poller do at the place of the task's waker is defined here, a step for each atomic step of `waker_place` in `futures_buffered_core`, so that a reader can lay the two side by side. Nothing ties the two but this reading and the tests; the steps of the list are tied to the code by contracts.
+//! The ready list is the one of `futures_buffered_table`, step by step. What its wakes and its poller do at the place of the task's waker is defined here, a step for each atomic step of `waker_place` in `futures_buffered_core`, so that a reader can lay the two side by side. Two things are left out: what `beside` and `set_outer` put in between polls, and the loads with which the poller's calls begin. Nothing ties the two but this reading and the tests; the steps of the list are tied to the code by contracts.
 //!
 //! | Step here | Step of the code |
 //! |---|---|
 //! | `Looks`, `Tries`, `Inside`, then `Wakes` | `WakerPlace::wake`: in `take_out` the load of the word, the compare-exchange, and the store of `put`; then `wake_outer` |
 //! | `GoBack`, and `AtPlace` from `TakesBack` | `PollerWaker::register`, where the poller keeps no waker: in `take_out` the compare-exchange, and the store of `put`. Where the word says that none is kept, or the exchange is lost, nothing changes |
 //! | `KeepOwn` | `Context::register`, which leaves the task's waker with the poller |
-//! | `Lacks` | `Context::register` that finds no memory for the waker, and has the task woken |
-//! | `LayOut`, and `AtPlace` from `LaysOut` | `before_empty`, between the link read and the tail read of a taking, or `register` where the source stands beside another: `WakerPlace::put_in`, with its compare-exchange and the store of `put` |
+//! | `Lacks` | `Context::register` that can make no waker, and has the task woken |
+//! | `LayOut`, and `AtPlace` from `LaysOut` | `before_empty`, between the link read and the tail read of a taking, or `register` where the source stands beside another or took a waker back: `WakerPlace::put_in`, with its compare-exchange and the store of `put` |
 //! | `LayOut` that finds a wake at the place, `Misses` | `put_in` that finds the place taken, or loses the exchange, and wakes its waker |
 //! | `Stop` | a poll that ends with its task woken: by an output, after which the task polls again by itself, or at its limit |
 //! | `Stop`, `Begin` | the same poll registers once more, before it asks the list again |
-//! | `FromBeside` | a wake of a source beside this one, whose list stands for itself |
+//! | `FromBeside` | a wake of a source beside this one, whose own list is not in the scene |
 #![tactic(auto)]
 
 ghost use Rattle.futures_buffered_lost_wakeup.specs.LostWake.{NoWakeIsLost};
 
 /// In every order of steps: where each wake has ended and the task is not woken, and no poll is under way, no slot is marked.
 ///
-/// So a mark that a poll has not served is of a wake that is still under way, or the task was woken for it. Of marks that are made by whoever holds the source, it says that the task polls again; no poll asks that of a set's owner, who does so after a push.
+/// So where a slot is marked, a wake or a poll is under way, or the task is to poll again. That it polls again after a mark by hand, as a push makes one, the law takes for granted: nothing wakes it.
 pub fn no_wake_is_lost()
     ensures { NoWakeIsLost }
 {}

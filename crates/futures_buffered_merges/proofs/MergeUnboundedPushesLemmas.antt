@@ -74,7 +74,7 @@ module _ {F A S : Type 0} (polled : ℕ → F → Poll (Option A) → F → Type
       first_after_polls group groups mid added new first items streams h k (λ listed behind others more into a b. after_polls groups listed added behind others more into a b)
 
 -- a new set holds nothing
-new_holds_none : {F S : Type 0} {made : ℕ → S → Type 0} {n names : ℕ} (set : Bounded F S) → IsNewSet made n names set → HoldsNone set.slots
+new_holds_none : {F S : Type 0} {made : ℕ → S → Type 0} {n limit : ℕ} (set : Bounded F S) → IsNewSet made n limit set → HoldsNone set.slots
 new_holds_none {F = F} {n = n} set h j = rw h.none_held (by_place (cases_lt j n))
   where
     nothing : Option F

@@ -24,8 +24,8 @@ module _
     (steps : SourceSteps S)
     (marks : S → ℕ → Woke → S → Type 0)
   where
-    -- one count of names, which began with a registration and ended with the end of the stream of
-    -- slot i: that stream is dropped, and its slot is the first free one
+    -- one count of names, which ended with the end of the stream of slot i: that stream is dropped,
+    -- and its slot is the first free one
     abbrev pub CountEnds : Bounded F S → ℕ → Bounded F S → Type 0
     CountEnds old i new = (0 < held_count old.slots)
         × ((left : Bounded F S)

@@ -94,7 +94,7 @@ impl<St: Drop, S: ReadySource> MergeBounded<St, S> {
 
     /// Puts the stream into the first free slot and marks that slot, so that a later poll polls it. A full merge hands the stream back.
     ///
-    /// Takes the same time at any capacity. Polls nothing, and wakes nobody: a task that waits for this merge polls it again by itself.
+    /// Takes the same time at any capacity. Polls nothing, and wakes nobody: who pushes sees to it that the merge is polled afterwards.
     pub fn try_push(&mut self, stream: St) -> Result<(), St>
         ensures { PushesIfRoom S.marks self.old stream result self.new }
     {
@@ -121,7 +121,7 @@ impl<St: Drop, S: ReadySource> MergeBounded<St, S> {
 
     /// Drops each stream that is held. Each slot is free then, and slot 0 is the first to be used again.
     ///
-    /// A slot that was marked stays marked. Takes no memory, and time in proportion to the capacity, besides the drops. Wakes nobody.
+    /// A slot that was marked stays marked. Takes no memory, and time in proportion to the capacity, besides the drops. Wakes nobody itself; what is dropped may.
     pub fn clear(&mut self)
         ensures { self.new ≡ emptied self.old }
     {
@@ -165,7 +165,7 @@ impl<St: SlotStream<S::Waker>, S: ReadySource> Stream for MergeBounded<St, S> {
 
     /// One poll: names are taken, in counts that each begin with a registration of the task, and the streams named are polled.
     ///
-    /// A stream that gives an item stays, and its slot is marked. A stream that ends is dropped, and where another is still held a new count begins. `Ready(None)` at once where no stream is held, and only there. `Pending` where no further name came or a count reached the limit; where the source paused and at the limit the task is woken at once. Takes no memory but what the calls of the source take, and time in proportion to the names taken, besides the polls.
+    /// A stream that gives an item stays, and its slot is marked. A stream that ends is dropped, and where another is still held a new count begins. `Ready(None)` where no stream is held, at first or any more. `Pending` where no further name came or a count reached the limit; where the source paused and at the limit the task is woken at once. Takes no memory but what the calls of the source take, and time in proportion to the names taken, besides the polls.
     fn poll_next(&mut self, cx: &mut Context<'_>) -> Poll<Option<St::Item>>
         requires { AllHeld St.can_poll self.old.slots }
         ensures polled { MergeGives St.polled S.steps S.marks

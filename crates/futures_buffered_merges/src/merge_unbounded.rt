@@ -1,6 +1,6 @@
 //! Streams in groups of slots, polled as one: a merge that grows.
 //!
-//! Each group is a set of as many streams as it has slots, and is asked as a bounded merge is polled. A group that is asked registers the task, until one is pending: its registration does for the groups after it.
+//! Each group is a set of as many streams as it has slots, and is asked as a bounded merge is polled. A group that holds a stream registers the task as it is asked, until one is pending: its registration does for the groups after it.
 ghost use Rattle.std.specs.Prelude.{◌≡◌, ◌↔◌, ◌≤◌, Err, IsTrue, IsErr, IfErr};
 ghost use Rattle.futures_buffered_core.specs.Drawn.{IsFiniteSource};
 ghost use Rattle.futures_buffered_core.specs.ReadyShared.{IsNewShared, MarksShared};
@@ -137,7 +137,7 @@ impl<St: Drop, S: NewSource> MergeUnbounded<St, S> {
     ///
     /// The stream comes back, and nothing has changed, where `MAX_HELD` streams are held, where the new group would have more than `MAX_CAPACITY` slots, and where a request for memory was refused. Takes the same time at any capacity where the last group has a free place, and then no memory; else time and memory in proportion to the new group.
     ///
-    /// Polls nothing, and a caller counts on no wake: a task that waits for this merge polls it again by itself. Only a push that makes a group may wake that task, where a wake stands at the place of the task's waker at that moment.
+    /// Polls nothing, and a caller counts on no wake: who pushes sees to it that the merge is polled afterwards. Only a push that makes a group may wake a task that waits, where a wake stands at the place of the task's waker at that moment.
     pub fn push(&mut self, stream: St) -> Result<(), St>
         ensures push { PushesOrStays S.marks S.made self.old stream result self.new }
         ensures back { IfErr result (λ back. back ≡ stream) }
@@ -173,7 +173,7 @@ impl<St: Drop, S: NewSource> MergeUnbounded<St, S> {
         self.set.is_at_bound()
     }
 
-    /// Drops each stream that is held, with the groups: the merge is as `new` made it, but that its sources are made as before.
+    /// Drops each stream that is held, with the groups. The limit stays, and later sources are made as before.
     ///
     /// Takes time in proportion to the slots of all groups, and no memory. Wakes a task that waits, as that of `FuturesUnordered` does.
     pub fn clear(&mut self)
@@ -194,7 +194,7 @@ impl<St: SlotStream<S::Waker>, S: NewSource> Stream for MergeUnbounded<St, S> {
 
     /// One poll: each group that stands as the poll begins is asked once, in turn, until one gives an item.
     ///
-    /// A stream that gives an item stays, and its slot is marked. A stream that ends is dropped. A group that holds nothing leaves, unless it is the last. `Ready(None)` where no stream is held any more. A group that is asked registers the task, at each of its counts, until one is pending. Takes no memory but what the calls of the source take. Takes time in proportion to the number of groups and to the names taken, besides the polls.
+    /// A stream that gives an item stays, and its slot is marked. A stream that ends is dropped. A group that is asked and holds nothing any more is dropped, unless it is the last. `Ready(None)` where no stream is held any more. A group that is asked registers the task, at each of its counts, until one is pending. Takes no memory but what the calls of the source take. Takes time in proportion to the number of groups, to the names taken and to the slots of groups that are dropped, besides the polls.
     fn poll_next(&mut self, cx: &mut Context<'_>) -> Poll<Option<St::Item>>
         requires { EachHeld St.can_poll self.old.groups.listed }
         ensures polled { GroupsGive (MergeGives St.polled S.steps S.marks)

@@ -35,7 +35,7 @@ module _ {F S : Type 0} where
   SetIsFull set = held_in set ≡ slot_count set.slots
 
   -- as many slots, and the limit of names
-  pub record SameSlots (old new : Bounded (Numbered F) S) : Type 0 where
+  pub record SameSize (old new : Bounded (Numbered F) S) : Type 0 where
     pub capacity : slot_count new.slots ≡ slot_count old.slots
     pub limit : new.limit ≡ old.limit
 

@@ -91,8 +91,8 @@ module _ {Q A : Type 0} where
   RefusesOne set_may_refuse old new = MayRefuse set_may_refuse old × Stays old new
 
   -- nothing more goes in: the queue is as long as it may be, or its set refuses
-  abbrev pub IsAtEnd : (Q → Type 0) → Ordered Q A → Type 0
-  IsAtEnd set_refuses q = (length q.entries ≡ MAX_LEN) ⊎ set_refuses q.set
+  abbrev pub QueueIsAtBound : (Q → Type 0) → Ordered Q A → Type 0
+  QueueIsAtBound set_refuses q = (length q.entries ≡ MAX_LEN) ⊎ set_refuses q.set
 
   -- What one poll, from old to new, leaves of a queue: `count` says how many futures its set holds,
   -- and `keeps` what stays of the set.
@@ -146,7 +146,7 @@ module _
       -- or it comes back, and no entry and no future has changed
       pub back : IfErr result (λ back. HandsBack set_may_refuse old future back new)
       -- it comes back where nothing more goes in
-      pub large : IsAtEnd set_refuses old → IsErr result
+      pub large : QueueIsAtBound set_refuses old → IsErr result
       -- this stays of the set
       pub set : keeps old.set new.set
 
@@ -157,9 +157,9 @@ module _
       -- or no entry and no other future has changed
       pub stays : OnErr result (Stays old new)
       -- such a push may be refused
-      pub room : OnErr result (MayRefuse set_may_refuse old)
+      pub may_refuse : OnErr result (MayRefuse set_may_refuse old)
       -- it is `TooLarge` exactly where nothing more goes in
-      pub large : (result ≡ Err TooLarge) ↔ IsAtEnd set_refuses old
+      pub large : (result ≡ Err TooLarge) ↔ QueueIsAtBound set_refuses old
       -- this stays of the set
       pub set : keeps old.set new.set
 

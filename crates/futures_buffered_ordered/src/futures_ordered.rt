@@ -7,7 +7,7 @@ ghost use Rattle.futures_buffered_core.specs.Made.{MakesGroup};
 ghost use Rattle.futures_buffered_core.specs.ReadyShared.{IsNewShared, MarksShared};
 ghost use Rattle.futures_buffered_unordered.specs.FuturesUnordered.{EachCovered, SetMayRefuse, SetRefuses, no_groups};
 ghost use Rattle.futures_buffered_unordered.specs.Extended.{Extends, MakesGrown};
-ghost use Rattle.futures_buffered_ordered.specs.OrderedEntries.{AddsBack, AddsFront, AddsOrStays, IsAtEnd, IsLength, OrderedGives, PollsQueue, PollsQueueTask, PushesOrHandsBack, RefusesOne, without_entries};
+ghost use Rattle.futures_buffered_ordered.specs.OrderedEntries.{AddsBack, AddsFront, AddsOrStays, IsLength, OrderedGives, PollsQueue, PollsQueueTask, PushesOrHandsBack, QueueIsAtBound, RefusesOne, without_entries};
 ghost use Rattle.futures_buffered_ordered.specs.FuturesOrdered.{EachInProgress, GrowingPushesNumber, GroupsGiveNumbered, GroupsLeaveTaskNumbered, IsNewGrowingQueue, SameLimit, held_in_groups, held_in_groups_with};
 
 use crate::numbered::{Numbered, PollNumbered};
@@ -86,7 +86,7 @@ impl<T: Drop, S: NewSource, R: PollOne<T, S::Waker>> PollNumberedSet<R>
 
 /// Any number of futures, whose outputs come in the order of a list, with additions at both ends.
 ///
-/// A contract sees the set that holds the futures in progress, each with a number, the entries from the front to the back, where one in progress has the number of its future, and how many entries there is a place for. Of a number it says no more than which entry and which future have it. A push, the keeping of an output and its yielding take the same time at any length; where a push finds more entries than there was room for, the list grows, and where the last group is full, the set does, which over many pushes is the same time for each. The calls wait for nobody where those of the source do not.
+/// A contract sees the set that holds the futures in progress, each with a number, the entries from the front to the back, where one in progress has the number of its future, and how many entries there is a place for. Of a number it says no more than which entry and which future have it. A push, the keeping of an output and its yielding take the same time at any length; where a push finds as many entries as there is room for, the list grows, and where the last group is full, the set does, which over many pushes is the same time for each. The calls wait for nobody where those of the source do not.
 #[derive(Drop)]
 pub struct GrowingQueue<T: Drop, A: Drop, S: NewSource> {
     queue: OrderedEntries<FuturesUnordered<Numbered<T>, S>, A>,
@@ -217,14 +217,14 @@ impl<T: Drop, A: Drop, S: NewSource> GrowingQueue<T, A, S> {
     ///
     /// Takes the same time at any length and any number of groups.
     pub fn is_at_bound(&self) -> bool
-        ensures { IsTrue result ↔ IsAtEnd SetRefuses self.now }
+        ensures { IsTrue result ↔ QueueIsAtBound SetRefuses self.now }
     {
         self.queue.set.is_at_bound() || self.queue.len() == MAX_LEN
     }
 
     // Why a push that was refused just now was refused.
     fn fault(&self) -> NewFault
-        ensures { (result ≡ NewFault.TooLarge) ↔ IsAtEnd SetRefuses self.now }
+        ensures { (result ≡ NewFault.TooLarge) ↔ QueueIsAtBound SetRefuses self.now }
     {
         if self.is_at_bound() {
             NewFault::TooLarge
@@ -288,7 +288,7 @@ impl<T: SlotFuture<SharedWaker, Output = A>, A: Drop> GrowingQueue<T, A, SharedR
         requires { IsFiniteSource I.IntoIterator I.IntoIter.Iterator iter }
         ensures { MakesGrown I.IntoIterator I.IntoIter.Iterator iter
             FIRST_GROUP (λ n. IsNewGrowingQueue IsNewShared n POLL_LIMIT)
-            (AddsBack (GrowingPushesNumber MarksShared IsNewShared)) (IsAtEnd SetRefuses) result }
+            (AddsBack (GrowingPushesNumber MarksShared IsNewShared)) (QueueIsAtBound SetRefuses) result }
     {
         let iter = iter.into_iter();
         let (least, _most) = iter.size_hint();

@@ -10,7 +10,7 @@ ghost use Rattle.futures_buffered_unordered.specs.FuturesUnorderedBounded.{empti
 ghost use Rattle.futures_buffered_unordered.specs.Extended.{Extends, MakesFull};
 ghost use Rattle.futures_buffered_ordered.specs.Numbered.{held_with};
 ghost use Rattle.futures_buffered_ordered.specs.OrderedEntries.{AddsBack, AddsFront, IsLength, OrderedGives, PollsQueue, PollsQueueTask, PushesOrHandsBack, RefusesOne, without_entries};
-ghost use Rattle.futures_buffered_ordered.specs.FuturesOrderedBounded.{EachRunning, HoldsInOrder, IsNewBoundedQueue, PushesEntry, PushesNumber, QueueIsFull, SameSlots, SetGives, SetIsFull, SetLeavesTask, SetPends, TakesFewNames};
+ghost use Rattle.futures_buffered_ordered.specs.FuturesOrderedBounded.{EachRunning, HoldsInOrder, IsNewBoundedQueue, PushesEntry, PushesNumber, QueueIsFull, SameSize, SetGives, SetIsFull, SetLeavesTask, SetPends, TakesFewNames};
 
 use crate::numbered::{Numbered, PollNumbered};
 use crate::numbered_set::{NumberedSet, PollNumberedSet};
@@ -30,7 +30,7 @@ impl<T: Drop, S: ReadySource> NumberedSet for FuturesUnorderedBounded<Numbered<T
     ghost use Rattle.std.proofs.Common.{◌≡◌, OnOk, OnErr, IfErr, IsErr, refl, ◌∙◌};
     ghost use Rattle.futures_buffered_unordered.specs.FuturesUnorderedBounded.{held_in};
     ghost use Rattle.futures_buffered_ordered.specs.Numbered.{PushesInto, held_with};
-    ghost use Rattle.futures_buffered_ordered.specs.FuturesOrderedBounded.{PushesNumber, SameSlots, SetIsFull};
+    ghost use Rattle.futures_buffered_ordered.specs.FuturesOrderedBounded.{PushesNumber, SameSize, SetIsFull};
 
     type Future = T;
 
@@ -44,14 +44,14 @@ impl<T: Drop, S: ReadySource> NumberedSet for FuturesUnorderedBounded<Numbered<T
 
     ghost refuses = { SetIsFull };
 
-    ghost keeps = { SameSlots };
+    ghost keeps = { SameSize };
 
     fn refuses_all(&self) -> bool {
         self.len() == self.capacity()
     }
 
     fn push_numbered(&mut self, value: Numbered<T>) -> Result<(), Numbered<T>>
-        ensures pushed { OnOk result (PushesInto (PushesNumber S.marks) held_in held_with SameSlots
+        ensures pushed { OnOk result (PushesInto (PushesNumber S.marks) held_in held_with SameSize
             self.old value self.new) }
         ensures back { IfErr result (λ back. (back ≡ value) × (self.new ≡ self.old)) }
         ensures room { OnErr result (SetIsFull self.old) }
@@ -91,7 +91,7 @@ impl<T: Drop, S: ReadySource, R: PollOne<T, S::Waker>> PollNumberedSet<R>
 
 /// Futures whose outputs come in the order of a list, with additions at both ends.
 ///
-/// A contract sees the set that holds the futures in progress, each with a number, the entries from the front to the back, where one in progress has the number of its future, and how many entries there is a place for. Outputs that are kept take no slot, so `len` may pass `capacity`. A push, the keeping of an output and its yielding take the same time at any length; where a push finds more entries than there was room for, the list grows, which over many pushes is the same time for each. The calls wait for nobody where those of the source do not.
+/// A contract sees the set that holds the futures in progress, each with a number, the entries from the front to the back, where one in progress has the number of its future, and how many entries there is a place for. Outputs that are kept take no slot, so `len` may pass `capacity`. A push, the keeping of an output and its yielding take the same time at any length; where a push finds as many entries as there is room for, the list grows, which over many pushes is the same time for each. The calls wait for nobody where those of the source do not.
 #[derive(Drop)]
 pub struct BoundedQueue<T: Drop, A: Drop, S: ReadySource> {
     queue: OrderedEntries<FuturesUnorderedBounded<Numbered<T>, S>, A>,
@@ -165,10 +165,10 @@ impl<T: Drop, A: Drop, S: ReadySource> BoundedQueue<T, A, S> {
 
     /// Adds the future behind all others, in progress. It goes into a slot, which is marked, so that a later poll polls it.
     ///
-    /// The future comes back, and no entry has changed, where the queue is full, where it has `MAX_LEN` entries, and where a request for memory was refused. Asks for memory only where there are more entries than ever before, and as many as slots: so it succeeds wherever `len` is below `capacity`. Polls nothing, and wakes nobody.
+    /// The future comes back, and no entry has changed, where the queue is full, where it has `MAX_LEN` entries, and where a request for memory was refused. Asks for memory only where there are as many entries as places for them, which are never fewer than the slots: so it succeeds wherever `len` is below `capacity`. Polls nothing, and wakes nobody.
     pub fn try_push_back(&mut self, future: T) -> Result<(), T>
         ensures push { PushesOrHandsBack (AddsBack (PushesNumber S.marks)) SetIsFull SetIsFull
-            SameSlots self.old future result self.new }
+            SameSize self.old future result self.new }
         ensures room { length self.old.entries < slot_count self.old.set.slots → IsOk result }
     {
         self.queue.add_back(future)
@@ -177,7 +177,7 @@ impl<T: Drop, A: Drop, S: ReadySource> BoundedQueue<T, A, S> {
     /// As `try_push_back`, before all others: its output is the next to be yielded.
     pub fn try_push_front(&mut self, future: T) -> Result<(), T>
         ensures push { PushesOrHandsBack (AddsFront (PushesNumber S.marks)) SetIsFull SetIsFull
-            SameSlots self.old future result self.new }
+            SameSize self.old future result self.new }
         ensures room { length self.old.entries < slot_count self.old.set.slots → IsOk result }
     {
         self.queue.add_front(future)
@@ -217,7 +217,7 @@ impl<T: Drop, A: Drop, S: ReadySource> BoundedQueue<T, A, S> {
 
     /// Drops each entry: the future that is in progress, or the output that is kept. Each slot is free then, and slot 0 is the first to be used again.
     ///
-    /// A slot that was marked stays marked, as with `clear` of the set. There is a place for as many entries as before. Takes no memory, and time in proportion to the capacity and the entries, besides the drops. Wakes nobody.
+    /// A slot that was marked stays marked, as with `clear` of the set. There is a place for as many entries as before. Takes no memory, and time in proportion to the capacity and the entries, besides the drops. Wakes nobody itself; what is dropped may.
     pub fn clear(&mut self)
         ensures { self.new ≡ without_entries (emptied self.old.set) self.old }
     {
@@ -236,7 +236,7 @@ impl<T: Drop, A: Drop, S: ReadySource> BoundedQueue<T, A, S> {
         requires { EachRunning R.can_poll self.old.set }
         ensures polled { OrderedGives (SetGives R.polled S.steps) held_in
             self.old result self.new }
-        ensures queue { PollsQueue (EachRunning R.can_poll) held_in SameSlots
+        ensures queue { PollsQueue (EachRunning R.can_poll) held_in SameSize
             self.old result self.new }
         ensures task { PollsQueueTask (SetGives R.polled S.steps)
             (SetLeavesTask R.polled S.steps S.registers_poll) held_in
@@ -259,7 +259,7 @@ where
 {
     /// An empty queue of `n` slots over a source made for it.
     ///
-    /// Takes time and memory in proportion to `n`: the slots, their numbers, and a place for an output of each. `TooLarge` where `n` is above `MAX_CAPACITY`, and `Memory` where a request for memory was refused.
+    /// Takes time and memory in proportion to `n`: the slots, the source, and a place for `n` entries. `TooLarge` where `n` is above `MAX_CAPACITY`, and `Memory` where a request for memory was refused.
     pub fn over(env: &S::Env, alloc: Global, n: usize) -> Result<Self, NewFault>
         ensures { MakesSlots n (IsNewBoundedQueue S.made n POLL_LIMIT) result }
     {

@@ -7,7 +7,7 @@ ghost use Rattle.futures.specs.Poll.{IfReady, OnPending};
 ghost use Rattle.futures_buffered_core.specs.Drawn.{IsFiniteSource};
 ghost use Rattle.futures_buffered_unordered.specs.Extended.{Extends};
 ghost use Rattle.futures_buffered_ordered.specs.declared.ordered_entries.Entry.TheVariants.{Kept};
-ghost use Rattle.futures_buffered_ordered.specs.OrderedEntries.{AddsBack, AddsFront, GivesWithTask, HandsBack, IsAtEnd, LastStep, MayRefuse, OrderedGives, PollsQueue, PollsQueueTask, PushesOrHandsBack, RefusesOne, SetYields, Stays, starts_running, with_task, without_entries};
+ghost use Rattle.futures_buffered_ordered.specs.OrderedEntries.{AddsBack, AddsFront, GivesWithTask, HandsBack, LastStep, MayRefuse, OrderedGives, PollsQueue, PollsQueueTask, PushesOrHandsBack, QueueIsAtBound, RefusesOne, SetYields, Stays, starts_running, with_task, without_entries};
 ghost use Rattle.futures_buffered_ordered.specs.OrderedEntriesInvariant.{AddingKeeps, Admits, CanPollEntries, IsNumbered};
 
 use crate::numbered::Numbered;
@@ -31,7 +31,7 @@ pub enum Entry<A> {
 
 /// A set of numbered futures and the list of entries over it.
 ///
-/// A contract sees the set, the entries from the front to the back, how many there is a place for, and the number of the front. It is what the queues are made of: each call asks that the numbers are in order, and leaves them so.
+/// A contract sees the set, the entries from the front to the back, how many there is a place for, and the number of the front. It is what the queues are made of. Pushes and polls ask that the numbers are in order, and leave them so; they are where a new one stands over a set that holds nothing.
 #[derive(Drop)]
 pub struct OrderedEntries<Q: Drop, A: Drop> {
     pub(crate) set: Q,
@@ -141,7 +141,7 @@ impl<Q: NumberedSet, A: Drop> OrderedEntries<Q, A> {
             self.old.queue future number self.new.queue) }
         ensures back { IfErr result (λ back. HandsBack Q.may_refuse
             self.old.queue future back self.new.queue) }
-        ensures large { IsAtEnd Q.refuses self.old.queue → IsErr result }
+        ensures large { QueueIsAtBound Q.refuses self.old.queue → IsErr result }
         ensures same { self.new.outgoing ≡ self.old.outgoing }
     {
         if !self.reserve_entry() {

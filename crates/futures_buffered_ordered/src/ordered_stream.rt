@@ -3,7 +3,7 @@ ghost use Rattle.std.specs.Prelude.{◌<◌, length};
 ghost use Rattle.futures_buffered_unordered.specs.StreamAnswers.{StreamAnswers};
 ghost use Rattle.futures_buffered_unordered.specs.FuturesUnorderedBounded.{held_in};
 ghost use Rattle.futures_buffered_ordered.specs.OrderedEntries.{ComesInOrder, OrderedGives, PollsQueue, PollsQueueTask};
-ghost use Rattle.futures_buffered_ordered.specs.FuturesOrderedBounded.{EachRunning, SameSlots, SetGives, SetLeavesTask, SetMayGive, SetPends};
+ghost use Rattle.futures_buffered_ordered.specs.FuturesOrderedBounded.{EachRunning, SameSize, SetGives, SetLeavesTask, SetMayGive, SetPends};
 
 use crate::futures_ordered_bounded::BoundedQueue;
 use futures::Stream;
@@ -36,7 +36,7 @@ where
         ensures stream { StreamAnswers (λ q. EachRunning T.can_poll q.set)
             (λ q n. (0 < held_in q.set) × S.needs q.set.source n)
             (ComesInOrder (SetMayGive T.polled)) self.old result self.new cx.old cx.new }
-        ensures queue { PollsQueue (EachRunning T.can_poll) held_in SameSlots
+        ensures queue { PollsQueue (EachRunning T.can_poll) held_in SameSize
             self.old result self.new }
         ensures task { PollsQueueTask (SetGives T.polled S.steps)
             (SetLeavesTask T.polled S.steps S.registers_poll) held_in

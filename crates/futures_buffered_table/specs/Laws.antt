@@ -24,7 +24,7 @@ RuleEmptiesRow = (n : ℕ) (s : State ℕ View) → HoldsRow n s → (j : ℕ) (
     get_elem? s.views j ≡ some v → v.role ≡ Polls h AtStub → tail n s.words ≡ n
     → (at : Whereabouts n s.words s.views) × (at.head ≡ n) × (at.rest ≡ [])
 
--- for each slot, the mark swaps in all lists that found it clear are the unmarks in all lists, and
+-- for each slot, the mark swaps of all seats that found it clear are the unmarks of all seats, and
 -- one more where it is marked
 abbrev pub RuleLosesNoMark : Type 0
 RuleLosesNoMark = (n : ℕ) (s : State ℕ View) → HoldsRow n s → (e : ℕ) → e < n →

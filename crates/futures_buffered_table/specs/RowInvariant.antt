@@ -1,5 +1,5 @@
--- How words and views keep themselves between any two steps (`KeepsRow`). No public clause needs
--- more of it than that it gives the whereabouts.
+-- How words and views keep themselves between any two steps (`KeepsRow`). The public laws take the
+-- whereabouts, the tally and the empty row from it.
 use Rattle.std.specs.Prelude.{◌≡◌, ◌≢◌, ℕ, suc, ◌+◌, ◌<◌, ◌≤◌, List, ◌∷◌, length}
 use mathlib.Core.Option.{some}
 use lib.ListN.{get_elem?}

@@ -21,10 +21,10 @@ new_waker_beside v = record { stub = v.stub; role = Idle; steps = [] }
 abbrev pub first_views : ℕ → ℕ → List View
 first_views count n = replicate count (new_waker_beside (first_poller n)) ++ first_poller n ∷ []
 
--- the seat that another went into keeps both lists
+-- the seat that another went into keeps the steps of both
 abbrev pub with_steps_of : View → View → View
 with_steps_of v w = record { stub = v.stub; role = v.role; steps = v.steps ++ w.steps }
 
--- a seat that went into another is idle, with an empty list
+-- a seat that went into another is idle, and has no steps
 abbrev pub spent_view : View
 spent_view = record { stub = 0; role = Idle; steps = [] }

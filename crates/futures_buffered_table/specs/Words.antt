@@ -9,7 +9,7 @@ tail_at n = n + n + 1
 abbrev pub empty_words : ℕ → List ℕ
 empty_words n = replicate (tail_at n) 0 ++ n ∷ []
 
--- the mark of an entry, its link, and the tail
+-- the mark of a slot, the link of an entry, and the tail
 abbrev pub mark : List ℕ → ℕ → ℕ
 mark words e = slice_index words e
 

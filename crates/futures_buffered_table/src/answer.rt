@@ -2,7 +2,7 @@
 use std::alloc::AllocError;
 use thiserror::Error;
 
-/// The most slots that a list, a core, a source or a set can have: 4611686018427387903.
+/// The most slots that a list, a core or one group of a set can have: 4611686018427387903.
 pub const MAX_CAPACITY: usize = usize::MAX / 4;
 
 const _: () = prove!(MAX_CAPACITY == 4611686018427387903);
@@ -10,11 +10,11 @@ const _: () = prove!(MAX_CAPACITY == 4611686018427387903);
 /// The answer of a taking.
 #[derive(Clone, Copy, Debug, PartialEq, Eq)]
 pub enum Taken {
-    /// This slot was marked, and is not any more.
+    /// This slot was marked, and the taking cleared that mark.
     Slot(usize),
-    /// No slot is marked.
+    /// There is no slot to name. Over a list of atomic words one may be marked that its waker has not put in yet.
     Empty,
-    /// A mark is being made by another thread: ask again later. A `ReadyCore` never answers it.
+    /// There may be a slot to name soon: ask again later. A list answers it where it met a mark that was half made, and a `ReadyCore` never.
     Pause,
 }
 
@@ -30,10 +30,10 @@ pub enum Woke {
 /// Why nothing was made.
 #[derive(Clone, Copy, Debug, PartialEq, Eq, Error)]
 pub enum NewFault {
-    /// A request for memory was refused.
+    /// A request for memory was refused, or what was asked for could not be made just now, as the call's docs say.
     #[error("out of memory")]
     Memory,
-    /// The capacity is above `MAX_CAPACITY`. This is tested before any memory is asked for.
+    /// More slots, items or entries than there can be. A capacity that is given is tested before any memory is asked for.
     #[error("the capacity is too large: at most 4611686018427387903 slots")]
     TooLarge,
 }

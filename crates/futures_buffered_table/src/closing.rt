@@ -32,7 +32,7 @@ impl Model for Closed {
 }
 
 impl PollSeat {
-    // The poll seat with the list of a wake seat that went into it.
+    // The poll seat with the steps of a wake seat that went into it.
     fn join(mut self, list: &ReadyList, other: WakeSeat) -> PollSeat
         requires { (self.list ≡ list.now.list) × (other.list ≡ list.now.list) }
         ensures joined { (result.list ≡ self.list) × (result.head ≡ self.head)
@@ -84,7 +84,7 @@ impl ReadyList {
     /// Ends the list: no thread has a `&` to it any more.
     ///
     /// The wake seats that are handed in are counted with the poll seat; one that was dropped is
-    /// not. Takes time in proportion to their number, with no atomic step and no memory.
+    /// not. Takes time in proportion to their number, an atomic load for each, and no memory.
     pub fn close(self, poll: PollSeat, seats: Vec<WakeSeat>) -> Closed
         requires poll { poll.list ≡ self.list }
         requires seats { All (λ s. s.list ≡ self.list) seats.items }

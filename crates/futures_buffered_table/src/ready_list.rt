@@ -46,7 +46,7 @@ impl Model for WakeSeat {
 }
 
 impl WakeSeat {
-    /// Two seats of one list, the second for another thread, with no atomic step, no lock and no
+    /// Two seats of one list, the second for another thread. Takes one atomic load, no lock and no
     /// memory.
     pub fn split(mut self, list: &ReadyList) -> (WakeSeat, WakeSeat)
         requires { self.list ≡ list.now.list }

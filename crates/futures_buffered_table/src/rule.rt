@@ -44,7 +44,7 @@ impl Split<View> for NewWaker {
     ghost right = { new_waker_beside };
 }
 
-/// A wake seat goes into the poll seat, with its list.
+/// A wake seat goes into the poll seat, with its steps.
 pub struct IntoPoller;
 
 impl Join<View> for IntoPoller {

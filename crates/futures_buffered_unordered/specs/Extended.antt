@@ -1,4 +1,4 @@
--- What the items of a source make of what they go into, one after another.
+-- What the items of an iterator make of what they go into, one after another.
 use Rattle.std.specs.Prelude.{◌≡◌, ◌<◌, ◌≤◌, ◌⊎◌, ℕ, List, Some, Result, Err, IfOk, IfErr}
 use Rattle.std.specs.Prelude.{OnOk, max}
 use Rattle.std.specs.Iterator.{YieldsThen}
@@ -78,7 +78,7 @@ module _ {U F I X : Type 0} (by : SourceOf U F I) (gives : IteratorOf I F) (sour
     pub large : result ≡ Err TooLarge → StopsAtBound adds is_at_bound start
 
   module _ (first : ℕ) (starts : ℕ → X → Type 0) (adds : X → F → X → Type 0) where
-    -- what began with room for as many items as the source said that there are at least, and
+    -- what began with room for as many items as the iterator said that there are at least, and
     -- for no fewer than the first number, and then took in all that came
     abbrev pub GrowsByAllOf : X → Type 0
     GrowsByAllOf new = (items : List F) × (least : ℕ) × ((start : X)

@@ -148,7 +148,7 @@ module _ {F S : Type 0} where
     -- or nothing has changed
     pub same : OnErr result (new ≡ old)
     -- then as many were held as may be, or a group would have had to be made
-    pub room : OnErr result (SetMayRefuse old)
+    pub may_refuse : OnErr result (SetMayRefuse old)
 
   -- one group of so many slots, or none where that number is 0
   abbrev pub IsNewGrowing : (ℕ → S → Type 0) → ℕ → ℕ → Growing F S → Type 0

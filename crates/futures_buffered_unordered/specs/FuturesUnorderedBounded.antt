@@ -150,7 +150,7 @@ StopsEarly limit names (Some Pause) = length names < limit
 StopsEarly limit names (Some (Slot i)) = ⊥
 StopsEarly limit names None = length names ≡ limit
 
--- the last answer of a source with this content was Empty
+-- a taking that answered Empty may have left this content
 abbrev pub SaidEmpty : {S : Type 0} → SourceSteps S → S → Type 0
 SaidEmpty {S} steps new = (before : S) × steps.takes before Empty new
 
@@ -169,9 +169,9 @@ module _
     (polled : ℕ → F → Poll A → F → Type 0)
     (steps : SourceSteps S)
   where
-    -- The task was registered first. The source then gave these names, in order, and one last
-    -- answer where there was one. The slots named were passed, in order, which took what the slots
-    -- hold to this.
+    -- The source was first as a registration may leave it, here or at a source beside it. It then
+    -- gave these names, in order, and one last answer where there was one. The slots named were
+    -- passed, in order, which took what the slots hold to this.
     pub record Asks
         (old : Bounded F S)
         (names : List ℕ)

@@ -48,7 +48,7 @@ module _ {F S : Type 0} where
     pub counted : held ≡ held_in_all groups.listed
     pub few : held ≤ MAX_HELD
 
-  -- what every call keeps of a group: its slots, its limit, and where its source waits
+  -- what every call keeps of a group: how many slots it has, its limit, and where its source waits
   pub record SameKind (needs : S → ℕ → Type 0) (group left : Bounded F S) : Type 0 where
     pub same_slots : slot_count left.slots ≡ slot_count group.slots
     pub same_limit : left.limit ≡ group.limit

@@ -1,5 +1,5 @@
--- How a poll asks one group of a list and goes on to the next. Private calls keep to this, and no
--- public clause cites it.
+-- How a poll asks one group of a list, and goes on to the next where that gave no output. Private
+-- calls keep to this, and no public clause cites it.
 use Rattle.std.specs.Prelude.{◌≡◌, ℕ, ◌+◌, cond, nat_lt, List, [], ◌∷◌, ◌++◌, length, take, drop}
 use Rattle.std.specs.Prelude.{Option, Some, None, ◌⊎◌}
 use Rattle.futures.specs.declared.task.context.Context.{Context}

@@ -40,7 +40,7 @@ pub trait AskGroup<F: Drop, S: NewSource> {
     // What a group that answers the end leaves of the task.
     ghost passes: { Context → Context → Type 0 };
 
-    /// One poll of a group: it registers the task, or leaves that out where the task is registered with a group beside it.
+    /// One poll of a group. Where the group holds a value it registers the task, unless that is registered with a group beside it.
     fn ask(
         &self,
         group: &mut FuturesUnorderedBounded<F, S>,
@@ -55,7 +55,7 @@ pub trait AskGroup<F: Drop, S: NewSource> {
         ensures task { PollsGroupTask asks_to_empty stops S.needs
             (OnlyRegisters S.registers_poll) passes group.old result group.new cx.old cx.new };
 
-    // A task that several groups pass by is as one passes it by, or as it was.
+    // Groups that end one after another leave of the task what one may leave, and so does none.
     ghost passes_none: { (cx : Context) → passes cx cx };
 
     ghost passes_more: { (a b c : Context) → passes a b → passes b c → passes a c };

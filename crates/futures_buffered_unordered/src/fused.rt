@@ -3,17 +3,17 @@ ghost use Rattle.std.specs.Prelude.{◌≡◌, ◌↔◌, ℕ, IsTrue, Option, N
 
 use futures::{Future, Stream};
 
-/// A stream that says when it has no more to give.
+/// A stream that says whether it has ended.
 pub trait FusedStream: Stream {
-    // Holds of a stream whose next poll gives the end.
+    // Holds of a stream that has ended: its next poll gives the end.
     ghost is_over: { Self → Type 0 };
 
-    /// Whether the next poll gives the end.
+    /// Whether the stream has ended. If so, its next poll gives the end; if not, that may end it.
     fn is_terminated(&self) -> bool
         ensures { IsTrue result ↔ is_over self.now };
 }
 
-/// A future that says when it is not to be polled again.
+/// A future that says whether it has ended.
 pub trait FusedFuture: Future {
     // Holds of a future that has ended.
     ghost is_over: { Self → Type 0 };

@@ -304,7 +304,7 @@ impl<F: Drop, S: NewSource> FuturesUnordered<F, S> {
         }
     }
 
-    // Asks the group at the place, and goes on to the next: a group that has ended leaves, unless it is the last.
+    // Asks the group at the place, and goes on to the next where it gave no output. A group that has ended leaves, unless it is the last.
     fn ask_one<R: AskGroup<F, S>>(
         &mut self,
         rule: &R,
@@ -349,7 +349,7 @@ impl<F: Drop, S: NewSource> FuturesUnordered<F, S> {
 
     /// One poll, where `rule` says how a group is asked: each group that stands as the poll begins is asked once, in turn, until one gives an output.
     ///
-    /// `Ready(None)` where each group answered the end. A group that answered the end leaves, unless it is the last. Takes no memory, and time in proportion to the number of groups, besides what asking them takes.
+    /// `Ready(None)` where each group answered the end. A group that answered the end is dropped, unless it is the last. Takes no memory, and time in proportion to the number of groups and to the slots of those that are dropped, besides what asking them takes.
     pub fn poll_groups<R: AskGroup<F, S>>(
         &mut self,
         rule: &R,
@@ -383,7 +383,7 @@ impl<F: Drop, S: NewSource> FuturesUnordered<F, S> {
 
     /// One poll of the set, where `rule` says how one held value is polled.
     ///
-    /// `Ready(None)` where nothing is held. Else each group that stands as the poll begins is asked once, in turn, until one gives an output. A group that holds nothing leaves, unless it is the last. Registers the task once, and takes no memory where the calls of the sources take none. Takes time in proportion to the number of groups and to the names taken, besides the polls.
+    /// `Ready(None)` where nothing is held. Else each group that stands as the poll begins is asked once, in turn, until one gives an output. A group that is asked and holds nothing is dropped, unless it is the last. Registers the task once, and takes no memory where the calls of the sources take none. Takes time in proportion to the number of groups, to the names taken and to the slots of groups that are dropped, besides the polls.
     pub fn poll_with<R: PollOne<F, S::Waker>>(
         &mut self,
         rule: &R,

@@ -29,7 +29,7 @@ const _: () = prove!(POLL_LIMIT == 61);
 
 /// Futures in slots, over a source that names the slots to poll.
 ///
-/// A contract sees what each slot holds and which slots are free, the content of the source, and the limit of names of one poll. Once the set is made, its calls take no memory and wait for nobody where those of the source do neither, as those of `CoreSource` and `SharedReady`.
+/// A contract sees what each slot holds and which slots are free, the content of the source, and the limit of names of one poll. Once the set is made, its calls but `make_sibling` take no memory, and none waits for anybody, where those of the source do neither, as those of `CoreSource` and `SharedReady`.
 #[derive(Drop)]
 pub struct FuturesUnorderedBounded<F: Drop, S: ReadySource> {
     slots: PinSlotMap<F>,
@@ -55,7 +55,7 @@ impl<F: Drop, S: ReadySource> Model for FuturesUnorderedBounded<F, S> {
 impl<F: Drop, S: ReadySource> FuturesUnorderedBounded<F, S> {
     /// An empty set over this source, with as many slots as the source has.
     ///
-    /// Takes time and memory in proportion to that number. `Memory` where a request for it was refused. The source is dropped where the set is refused.
+    /// Takes time and memory in proportion to that number. `TooLarge` where it is above `MAX_CAPACITY`, and `Memory` where a request for memory was refused. The source is dropped where the set is refused.
     pub fn with_source(alloc: Global, source: S) -> Result<Self, NewFault>
         ensures { MakesSlots (S.slots source) (λ set. set
             ≡ record { slots = no_slots (S.slots source); source = source; limit = POLL_LIMIT }) result }
@@ -81,7 +81,7 @@ impl<F: Drop, S: ReadySource> FuturesUnorderedBounded<F, S> {
 impl<F: Drop, S: NewSource> FuturesUnorderedBounded<F, S> {
     /// An empty set of `cap` slots over a source made for it, where one poll takes at most `limit` names.
     ///
-    /// Takes time and memory in proportion to `cap`, and refuses as `with_source` does. The source is not known here but by what its trait says, so nobody can have marked or taken.
+    /// Takes time and memory in proportion to `cap`, and refuses as `with_source` does. Of the source a contract says what `S.made` says of a new one.
     pub fn with_new_source(
         env: &S::Env,
         alloc: Global,
@@ -192,7 +192,7 @@ impl<F: Drop, S: ReadySource> FuturesUnorderedBounded<F, S> {
 
     /// Puts the value into the first free slot and marks that slot, so that a later poll polls it. A full set hands the value back.
     ///
-    /// Takes the same time at any capacity. Polls nothing, and wakes nobody: a task that waits for this set polls it again by itself.
+    /// Takes the same time at any capacity. Polls nothing, and wakes nobody: who pushes sees to it that the set is polled afterwards.
     pub fn try_push(&mut self, value: F) -> Result<(), F>
         ensures { PushesIfRoom S.marks self.old value result self.new }
     {
@@ -258,7 +258,7 @@ impl<F: Drop, S: ReadySource> FuturesUnorderedBounded<F, S> {
 
     /// As `poll_first`, for a task that is registered already, with this set or with one beside it. Registers nothing. It is public for merges that grow.
     ///
-    /// The source is as a registration may have left it.
+    /// The contract tells the poll from any source of which a registration may have made this one.
     #[inline(always)]
     pub fn poll_first_registered<R: PollOne<F, S::Waker>>(
         &mut self,
@@ -306,7 +306,7 @@ impl<F: Drop, S: ReadySource> FuturesUnorderedBounded<F, S> {
 
     /// Drops each future that is held. Each slot is free then, and slot 0 is the first to be used again.
     ///
-    /// A slot that was marked stays marked, so a later poll may be given its name, and polls what it holds by then. Takes no memory, and time in proportion to the capacity, besides the drops. Wakes nobody.
+    /// A slot that was marked stays marked, so a later poll may be given its name, and polls what it holds by then. Takes no memory, and time in proportion to the capacity, besides the drops. Wakes nobody itself; what is dropped may.
     pub fn clear(&mut self)
         ensures { self.new ≡ emptied self.old }
     {
@@ -371,7 +371,7 @@ impl<F: Drop, S: ReadySource> FuturesUnorderedBounded<F, S> {
 impl<F: Drop> FuturesUnorderedBounded<F, SharedReady> {
     /// An empty set whose values are woken from any thread.
     ///
-    /// Takes time and memory in proportion to `cap`, all that the set ever needs. `Memory` where a request for it was refused.
+    /// Takes time and memory in proportion to `cap`, all that the set ever needs. `TooLarge` where `cap` is above `MAX_CAPACITY`, and `Memory` where a request for memory was refused.
     pub fn new(alloc: Global, cap: usize) -> Result<Self, NewFault>
         ensures { MakesSlots cap (IsNewSet IsNewShared cap POLL_LIMIT) result }
     {

@@ -1,4 +1,4 @@
-//! Sets of futures that are polled by name: a poll asks a source which slots were woken, and polls what these hold.
+//! Sets of futures that are polled by name: a poll asks a source which slots were marked, and polls what these hold.
 //!
 //! In the order in which to read them:
 //!
@@ -7,7 +7,7 @@
 //! - `fused`: the traits `FusedStream`, `FusedFuture` and `SizeHint`, by which a type says whether it has ended and how much is left.
 //! - `futures_unordered_bounded`: `FuturesUnorderedBounded`, as many futures as it has slots, yielded as they finish; `bounded_stream` is the same set as a stream.
 //! - `ask_group`: `AskGroup`, how a poll asks one of several groups.
-//! - `futures_unordered`: `FuturesUnordered`, any number of futures in groups of slots, each twice as large as the one before, yielded as they finish; `growing_stream` is the same set as a stream.
+//! - `futures_unordered`: `FuturesUnordered`, any number of futures in groups of slots, each made twice as large as the last one, yielded as they finish; `growing_stream` is the same set as a stream.
 #![tactic(auto)]
 
 pub mod ask_group;

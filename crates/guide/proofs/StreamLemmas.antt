@@ -42,12 +42,12 @@ behind_nothing first second xs none (inr came) =
     subst (λ zs. second zs None) (sym same) came.4
 
 -- a join of these items that is ready with outputs has one of each
-pub one_of_each_item : {F A S : Type 0} (polled : ℕ → F → Poll A → F → Type 0) (made marks : _) (names : ℕ)
+pub one_of_each_item : {F A S : Type 0} (polled : ℕ → F → Poll A → F → Type 0) (made marks : _) (limit : ℕ)
     (join : Option (Places F A S)) (items : List F) (outputs : List A)
-    → IsSomeAnd join (IsNewJoin made marks names items) → JoinMayGive polled kept_as_it_is join (Ok outputs)
+    → IsSomeAnd join (IsNewJoin made marks limit items) → JoinMayGive polled kept_as_it_is join (Ok outputs)
     → length outputs ≡ length items
-one_of_each_item polled made marks names None items outputs new may = absurd new
-one_of_each_item polled made marks names (Some places) items outputs new may =
+one_of_each_item polled made marks limit None items outputs new may = absurd new
+one_of_each_item polled made marks limit (Some places) items outputs new may =
     may.as_many ∙ ap length new.none_done ∙ length-replicate (length items) None
 
 -- futures each of whose outputs is h of the future

@@ -4,7 +4,7 @@ use Rattle.futures_buffered_core.specs.Drawn.{Draws, DrawsAndOne, SaysAtLeast}
 use Rattle.futures_buffered_core.specs.ReadyShared.{MarksShared, IsNewShared}
 use Rattle.futures_buffered_unordered.specs.FuturesUnordered.{SetRefuses}
 use Rattle.futures_buffered_ordered.specs.FuturesOrdered.{GrowingPushesNumber, IsNewGrowingQueue}
-use Rattle.futures_buffered_ordered.specs.OrderedEntries.{IsAtEnd}
+use Rattle.futures_buffered_ordered.specs.OrderedEntries.{QueueIsAtBound}
 use Rattle.futures_buffered_ordered.proofs.OrderedEntriesLemmas.{adds_one_more}
 use Rattle.futures_buffered_ordered.proofs.futures_ordered.GrowingQueue+T+A+SharedReady.from_iter.Goals as goal
 
@@ -42,6 +42,6 @@ returns-in_err-add_back g c =
     record {
       holds = search rules;
       large = λ e.
-          let at_end : IsAtEnd SetRefuses c.loop-item.queue = search rules in
+          let at_end : QueueIsAtBound SetRefuses c.loop-item.queue = search rules in
           (least, says, inr (c.in_ok-queue.queue, start, (c.loop-item.yielded, c.loop-item.queue, draws, c.loop-item.invariant.2, at_end)));
     }

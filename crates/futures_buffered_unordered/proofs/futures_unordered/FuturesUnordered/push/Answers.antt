@@ -27,4 +27,4 @@ returns-clause-push g c =
       | then-spare_places-eq0+in-Ok w ↦ omega (arith, c.push_last.ensures.count, ap (λ (v : Growing g.row.F.Denot g.row.S.Denot). held_in_all v.groups.listed) w.self-is, (added_counts source.marks g.S.NewSource.made 32 _ _ _ w.in-Ok.ensures.added).0)
       | else-spare_places-eq0 w ↦ omega (arith, c.push_last.ensures.count, ap (λ (v : Growing g.row.F.Denot g.row.S.Denot). held_in_all v.groups.listed) w.self-is)
     ] in
-    record { pushed = pushed; count = count; same = tt; room = tt }
+    record { pushed = pushed; count = count; same = tt; may_refuse = tt }
