@@ -24,7 +24,7 @@ import sys
 ROOT = pathlib.Path(__file__).resolve().parent.parent
 AT_THE_TOP = ["README.md", "CALLING.md", "CONTRIBUTING.md", "CHANGELOG.md"]
 DOCUMENTS = [*(ROOT / name for name in AT_THE_TOP), *sorted((ROOT / "docs").glob("*.md")), *sorted((ROOT / "crates").glob("*/README.md"))]
-SOURCES = {".rt", ".antt", ".calls", ".edit", ".py", ".sh", ".txt", ""}
+SOURCES = {".rt", ".rs", ".antt", ".calls", ".edit", ".py", ".sh", ".txt", ""}
 ELSEWHERE = {
     "FromIterator", "Extend", "TryFuture", "TryStream",  # of Rust's library and of the Rust crate
     "must_use", "track_caller",  # marks of Rust
