@@ -32,7 +32,7 @@ module _ {St X A Q : Type 0} (next : St → Poll (Option X) → St → Type 0) (
   drew_none drawn given full new so (inr (inl h)) = rw h.2 so
   drew_none drawn given full new so (inr (inr h)) = rw h.2 so
 
-  ended : (drawn : List X) (given : List A) (full filled new : Buffering St Q) (back : Option A) (answer : Poll (Option A)) → So drawn given full.queue → DrawsLast next count n pushes full back filled → CallEnds polls back filled answer new → So drawn (given ++ option_to_list (output_of answer)) new.queue
+  ended : (drawn : List X) (given : List A) (full filled new : Buffering St Q) (back : Option A) (answer : Poll (Option A)) → So drawn given full.queue → DrawsLast next count n pushes full back filled → CallEnds polls (Unit {0}) back filled answer new → So drawn (given ++ option_to_list (output_of answer)) new.queue
   ended drawn given full filled new None answer so last ends =
       rw (ends.gives, same_output filled.stream ends.queue_answer) (gave drawn given filled.queue new.queue ends.queue_answer (drew_none drawn given full filled so last) ends.polls_queue)
   ended drawn given full filled new (Some x) answer so last ends = rw (ends.0, ends.1) (handed drawn given full.queue filled.queue last.0 x so last.1.pushed)

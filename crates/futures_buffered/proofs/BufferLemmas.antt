@@ -8,7 +8,7 @@ use Rattle.futures.specs.Task.{Lasting, Covers, Keeps, Hears}
 use Rattle.futures.specs.Runs.{Runs, After, Within, Ends, Leads, Chains, Resolves, firsts}
 use Rattle.futures.specs.Buffered.{GathersWith}
 use Rattle.futures_buffered.specs.FutureQueue.{MayCome, AddsOutput, PushLeavesQueue}
-use Rattle.futures_buffered.specs.Buffer.{Buffering, Ahead, AsksStream, DrawsAll, DrawsBuffer, DrawsTask, HasNoTurn, CallGives, CallLeavesTask, PollsWithTask, CanDraw, WaitsAt, OneComes, Comes, BufferGives, answer_from, answer_of_none}
+use Rattle.futures_buffered.specs.Buffer.{Buffering, Ahead, AsksStream, DrawsAll, DrawsBuffer, DrawsTask, HasNoTurn, CallGivesWith, CallLeavesTask, PollsWithTask, CanDraw, WaitsAt, OneComes, Comes, BufferGives, answer_from, answer_of_none}
 
 None-Some : {X F : Type 0} {f : F} → None ≡ Some f → X
 None-Some e = cc
@@ -302,10 +302,10 @@ after_draws count room can_draw yields old now new (Some x) same less last =
     record { same_room = last.same_room ∙ same; bound = last.bound; again = last.again; within = tt; value = less [] (Some x) last.value; after = λ xs end h. less (x ∷ xs) end (last.after xs end h) }
 
 -- one call, of its draws and its poll of the queue
-pub call_of : {St F A Q : Type 0} (next : St → Poll (Option F) → St → Type 0) (count : Q → ℕ) (n : ℕ) (pushes : Q → F → Option A → Q → Type 0) (polls : Q → Poll (Option A) → Q → Type 0) (old filled : Buffering St Q) (stream : Option St) (queue left : Q) (queue_answer answer : Poll (Option A))
+pub call_of : {St F A Q : Type 0} (next : St → Poll (Option F) → St → Type 0) (count : Q → ℕ) (n : ℕ) (pushes : Q → F → Option A → Q → Type 0) (polls : Q → Poll (Option A) → Q → Type 0) (alone : Type 0) (old filled : Buffering St Q) (stream : Option St) (queue left : Q) (queue_answer answer : Poll (Option A))
     → filled ≡ record { stream = stream; queue = queue } → (drawn : List F) × DrawsAll next count n pushes old drawn None filled → polls queue queue_answer left → answer ≡ answer_from stream queue_answer
-    → CallGives next count n pushes polls old answer (record { stream = stream; queue = left })
-call_of next count n pushes polls old filled stream queue left queue_answer answer is draws polled gives = (
+    → CallGivesWith next count n pushes polls alone old answer (record { stream = stream; queue = left })
+call_of next count n pushes polls alone old filled stream queue left queue_answer answer is draws polled gives = (
   draws.0,
   record {
     given = None;
@@ -322,9 +322,9 @@ call_of next count n pushes polls old filled stream queue left queue_answer answ
 
 pub task_of : {St F A Q : Type 0} (next : St → Poll (Option F) → St → Type 0) (count : Q → ℕ) (n : ℕ) (pushes : Q → F → Option A → Q → Type 0) (polls : Q → Poll (Option A) → Q → Type 0) (leaves : Q → Poll (Option A) → Q → Context → Context → Type 0) (old filled : Buffering St Q) (stream : Option St) (queue left : Q) (queue_answer answer : Poll (Option A)) (cx drawn after : Context)
     → filled ≡ record { stream = stream; queue = queue } → (items : List F) × DrawsAll next count n pushes old items None filled → polls queue queue_answer left → leaves queue queue_answer left drawn after → answer ≡ answer_from stream queue_answer → Keeps cx drawn → (HasNoTurn next count n old → drawn ≡ cx)
-    → CallLeavesTask (λ polls. CallGives next count n pushes polls old answer (record { stream = stream; queue = left })) (HasNoTurn next count n old) polls leaves cx after
+    → CallLeavesTask (λ polls alone. CallGivesWith next count n pushes polls alone old answer (record { stream = stream; queue = left })) (HasNoTurn next count n old) polls leaves cx after
 task_of next count n pushes polls leaves old filled stream queue left queue_answer answer cx drawn after is draws polled left_so gives kept not_polled =
-    record { drawn = drawn; kept = kept; not_polled = not_polled; called = call_of next count n pushes (PollsWithTask polls leaves drawn after) old filled stream queue left queue_answer answer is draws (polled, left_so) gives }
+    record { drawn = drawn; kept = kept; not_polled = not_polled; called = call_of next count n pushes (PollsWithTask polls leaves drawn after) (after ≡ drawn) old filled stream queue left queue_answer answer is draws (polled, left_so) gives }
 
 -- the end of the queue, where the stream goes on and where it has ended
 pub some_pends : {St A : Type 0} (stream : Option St) → is_some stream ≡ true → ◌≡◌ {A = Poll (Option A)} Pending (answer_of_none stream)

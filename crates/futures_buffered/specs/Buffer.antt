@@ -71,11 +71,13 @@ module _ {St A Q : Type 0} (polls : Q → Poll (Option A) → Q → Type 0) wher
     pub same_stream : new.stream ≡ old.stream
     pub gives : answer ≡ answer_from old.stream queue_answer
 
-  -- how a call ends once it has drawn: with the answer that was handed back, or else with a poll of
-  -- the queue
-  abbrev pub CallEnds : Option A → Buffering St Q → Poll (Option A) → Buffering St Q → Type 0
-  CallEnds None filled answer new = PollsQueue filled answer new
-  CallEnds (Some x) filled answer new = (answer ≡ Ready (Some x)) × (new ≡ filled)
+  -- how a call ends once it has drawn: with the answer that was handed back, where the queue is not
+  -- polled and `alone` holds; or else with a poll of the queue
+  abbrev pub CallEnds : Type 0 → Option A → Buffering St Q → Poll (Option A) → Buffering St Q
+      → Type 0
+  CallEnds alone None filled answer new = PollsQueue filled answer new
+  CallEnds alone (Some x) filled answer new =
+      (answer ≡ Ready (Some x)) × (new ≡ filled) × alone
 
 module _ {St X Q : Type 0} (next : St → Poll (Option X) → St → Type 0) (count : Q → ℕ) (n : ℕ) where
   -- the stream was polled: it had not ended, and fewer than n were held
@@ -125,23 +127,28 @@ module _ {St X Q : Type 0} (next : St → Poll (Option X) → St → Type 0) (co
       pub items : FoldsTo (DrawsItem None) old drawn full
       pub last : DrawsLast full given new
 
-    module _ (polls : Q → Poll (Option A) → Q → Type 0) where
+    module _ (polls : Q → Poll (Option A) → Q → Type 0) (alone : Type 0) where
       -- one call: these items were drawn and are held, and then it ended
       pub record Calls (old : Buffering St Q) (drawn : List X) (answer : Poll (Option A))
           (new : Buffering St Q) : Type 0 where
         pub given : Option A
         pub filled : Buffering St Q
         pub draws : DrawsAll old drawn given filled
-        pub ends : CallEnds polls given filled answer new
+        pub ends : CallEnds polls alone given filled answer new
 
       -- the same, where it does not matter which items were drawn
-      abbrev pub CallGives : Buffering St Q → Poll (Option A) → Buffering St Q → Type 0
-      CallGives old answer new = (drawn : List X) × Calls old drawn answer new
+      abbrev pub CallGivesWith : Buffering St Q → Poll (Option A) → Buffering St Q → Type 0
+      CallGivesWith old answer new = (drawn : List X) × Calls old drawn answer new
 
-      -- many calls in a row, each with the items that it drew and with its answer
+    module _ (polls : Q → Poll (Option A) → Q → Type 0) where
+      -- one call, of which no more is said where the queue is not polled
+      abbrev pub CallGives : Buffering St Q → Poll (Option A) → Buffering St Q → Type 0
+      CallGives = CallGivesWith polls (Unit {0})
+
+      -- many such calls in a row, each with the items that it drew and with its answer
       abbrev pub CallsInTurn : Buffering St Q → List (List X × Poll (Option A)) → Buffering St Q
           → Type 0
-      CallsInTurn = FoldsTo (λ old call new. Calls old call.0 call.1 new)
+      CallsInTurn = FoldsTo (λ old call new. Calls polls (Unit {0}) old call.0 call.1 new)
 
 -- the answer that was handed back where drawing ended, if one was
 abbrev pub handed_back : {A : Type 0} → ControlFlow (Option A) (Unit {0}) → Option A
@@ -216,10 +223,11 @@ PollsWithTask polls leaves cx left old answer new =
 
 -- What a call leaves of its task. The polls of the stream took the task to a context of which it is
 -- known that nothing was lost, and which is the first one where the stream had no turn. From there
--- the poll of the queue left it as that poll does.
+-- the poll of the queue left it as that poll does; where an answer that was handed back ended the
+-- call, the task stayed there.
 pub record CallLeavesTask
     {Q A : Type 0}
-    (call : (Q → Poll (Option A) → Q → Type 0) → Type 0)
+    (call : (Q → Poll (Option A) → Q → Type 0) → Type 0 → Type 0)
     (no_turn : Type 0)
     (polls : Q → Poll (Option A) → Q → Type 0)
     (leaves : Q → Poll (Option A) → Q → Context → Context → Type 0)
@@ -228,7 +236,7 @@ pub record CallLeavesTask
   pub drawn : Context
   pub kept : Keeps cx drawn
   pub not_polled : no_turn → drawn ≡ cx
-  pub called : call (PollsWithTask polls leaves drawn left)
+  pub called : call (PollsWithTask polls leaves drawn left) (left ≡ drawn)
 
 -- the items that these calls drew, in order, and the outputs that they gave
 abbrev pub all_drawn : {F A : Type 0} → List (List F × Poll (Option A)) → List F

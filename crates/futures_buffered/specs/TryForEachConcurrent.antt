@@ -10,7 +10,7 @@ use Rattle.futures.specs.declared.task.Poll.TheVariants.{Ready, Pending}
 use Rattle.futures.specs.Poll.{IfReady, OnPending}
 use Rattle.futures.specs.Runs.{Runs, Ends}
 use Rattle.futures_buffered.specs.Buffer.{Buffering, CallLeavesBuffer, CallLeavesTask}
-use Rattle.futures_buffered.specs.Buffer.{CallGives, HasNoTurn, IsNewBuffer}
+use Rattle.futures_buffered.specs.Buffer.{CallGives, CallGivesWith, HasNoTurn, IsNewBuffer}
 
 -- the buffer, or nothing after its end or an error; and how many turns one call takes at most
 pub record Draining (B : Type 0) : Type 0 where
@@ -50,7 +50,7 @@ pub record CallsBuffer
   pub gives : CallGives next count (room old.queue) pushes polls old answer new
   pub buffer : CallLeavesBuffer count room old answer new
   pub task : CallLeavesTask
-      (λ polls. CallGives next count (room old.queue) pushes polls old answer new)
+      (λ polls alone. CallGivesWith next count (room old.queue) pushes polls alone old answer new)
       (HasNoTurn next count (room old.queue) old) polls leaves cx left
 
 module _ {E : Type 0} where

@@ -3,7 +3,7 @@ ghost use Rattle.std.specs.Prelude.{◌≡◌, ◌<◌, ◌≤◌, ◌↔◌, Li
 ghost use Rattle.std.specs.declared.ops.ControlFlow.TheVariants.{Break};
 ghost use Rattle.futures_buffered_core.specs.Made.{MakesSlots};
 ghost use Rattle.futures_buffered_unordered.specs.StreamAnswers.{StreamAnswers};
-ghost use Rattle.futures_buffered.specs.Buffer.{PollsStream, DrawsAll, DrawsUpToOne, DrawsBuffer, DrawsTask, CallGives, CallLeavesBuffer, CallLeavesTask, HasNoTurn, IsNewBuffer, CanDraw, WaitsAt, BufferGives, handed_back, hint_with, hint_ahead};
+ghost use Rattle.futures_buffered.specs.Buffer.{PollsStream, DrawsAll, DrawsUpToOne, DrawsBuffer, DrawsTask, CallGives, CallGivesWith, CallLeavesBuffer, CallLeavesTask, HasNoTurn, IsNewBuffer, CanDraw, WaitsAt, BufferGives, handed_back, hint_with, hint_ahead};
 
 use crate::future_queue::{FutureQueue, NewQueue};
 use futures::Stream;
@@ -182,8 +182,8 @@ impl<St: Stream, Q: FutureQueue<St::Item>> Stream for Buffer<St, Q> {
             (WaitsAt St.needs Q.needs Q.count Q.room)
             (BufferGives St.yields Q.gives Q.count Q.yields Q.in_order)
             self.old result self.new cx.old cx.new }
-        ensures leaves { CallLeavesTask (λ polls. CallGives (PollsStream St.yields) Q.count
-            (Q.room self.old.queue) Q.pushes polls self.old result self.new)
+        ensures leaves { CallLeavesTask (λ polls alone. CallGivesWith (PollsStream St.yields)
+            Q.count (Q.room self.old.queue) Q.pushes polls alone self.old result self.new)
             (HasNoTurn (PollsStream St.yields) Q.count (Q.room self.old.queue) self.old)
             Q.polls Q.leaves cx.old cx.new }
     {

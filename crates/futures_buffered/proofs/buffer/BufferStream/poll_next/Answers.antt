@@ -7,7 +7,7 @@ pub returns-in-Pending-clause-called : goal.returns-in-Pending-clause-called
 returns-in-Pending-clause-called g c =
     let stream = g.St.Stream in
     let queue = g.Q.FutureQueue in
-    call_of (PollsStream stream.yields) queue.count (queue.room c.args.self.now.queue) queue.pushes queue.polls c.args.self.now c.fill.new.self c.self.inside.stream c.self.inside.queue c.poll_output.new.self c.poll_output.result _ (sym c.self.view_is) c.in_default.ensures.draws c.poll_output.ensures.polled
+    call_of (PollsStream stream.yields) queue.count (queue.room c.args.self.now.queue) queue.pushes queue.polls (Unit {0}) c.args.self.now c.fill.new.self c.self.inside.stream c.self.inside.queue c.poll_output.new.self c.poll_output.result _ (sym c.self.view_is) c.in_default.ensures.draws c.poll_output.ensures.polled
     (rw c.in-Pending.is refl)
 
 pub returns-in-Pending-clause-stream : goal.returns-in-Pending-clause-stream
@@ -37,7 +37,7 @@ pub returns-in-Ready-Some-clause-called : goal.returns-in-Ready-Some-clause-call
 returns-in-Ready-Some-clause-called g c =
     let stream = g.St.Stream in
     let queue = g.Q.FutureQueue in
-    call_of (PollsStream stream.yields) queue.count (queue.room c.args.self.now.queue) queue.pushes queue.polls c.args.self.now c.fill.new.self c.self.inside.stream c.self.inside.queue c.poll_output.new.self c.poll_output.result _ (sym c.self.view_is) c.in_default.ensures.draws c.poll_output.ensures.polled
+    call_of (PollsStream stream.yields) queue.count (queue.room c.args.self.now.queue) queue.pushes queue.polls (Unit {0}) c.args.self.now c.fill.new.self c.self.inside.stream c.self.inside.queue c.poll_output.new.self c.poll_output.result _ (sym c.self.view_is) c.in_default.ensures.draws c.poll_output.ensures.polled
     (rw (c.in-Ready-Some.is, c.in-Ready-Some.field-0-is) refl)
 
 pub returns-in-Ready-Some-clause-stream : goal.returns-in-Ready-Some-clause-stream
@@ -68,7 +68,7 @@ pub returns-then-is_some-clause-called : goal.returns-then-is_some-clause-called
 returns-then-is_some-clause-called g c =
     let stream = g.St.Stream in
     let queue = g.Q.FutureQueue in
-    call_of (PollsStream stream.yields) queue.count (queue.room c.args.self.now.queue) queue.pushes queue.polls c.args.self.now c.fill.new.self c.self.inside.stream c.self.inside.queue c.poll_output.new.self c.poll_output.result _ (sym c.self.view_is) c.in_default.ensures.draws c.poll_output.ensures.polled
+    call_of (PollsStream stream.yields) queue.count (queue.room c.args.self.now.queue) queue.pushes queue.polls (Unit {0}) c.args.self.now c.fill.new.self c.self.inside.stream c.self.inside.queue c.poll_output.new.self c.poll_output.result _ (sym c.self.view_is) c.in_default.ensures.draws c.poll_output.ensures.polled
     (rw (c.in-Ready-None.is, c.in-Ready-None.field-0-is) (some_pends c.self.inside.stream (sym c.if-is_some.ensures)))
 
 pub returns-then-is_some-clause-stream : goal.returns-then-is_some-clause-stream
@@ -99,7 +99,7 @@ pub returns-clause-called : goal.returns-clause-called
 returns-clause-called g c =
     let stream = g.St.Stream in
     let queue = g.Q.FutureQueue in
-    call_of (PollsStream stream.yields) queue.count (queue.room c.args.self.now.queue) queue.pushes queue.polls c.args.self.now c.fill.new.self c.self.inside.stream c.self.inside.queue c.poll_output.new.self c.poll_output.result _ (sym c.self.view_is) c.in_default.ensures.draws c.poll_output.ensures.polled
+    call_of (PollsStream stream.yields) queue.count (queue.room c.args.self.now.queue) queue.pushes queue.polls (Unit {0}) c.args.self.now c.fill.new.self c.self.inside.stream c.self.inside.queue c.poll_output.new.self c.poll_output.result _ (sym c.self.view_is) c.in_default.ensures.draws c.poll_output.ensures.polled
     (rw (c.in-Ready-None.is, c.in-Ready-None.field-0-is) (none_ends c.self.inside.stream (sym c.if-is_some.ensures)))
 
 pub returns-clause-stream : goal.returns-clause-stream
@@ -130,7 +130,7 @@ returns-clause-leaves g c =
 pub returns-in-Some-clause-called : goal.returns-in-Some-clause-called
 returns-in-Some-clause-called g c =
     let draws = c.in-Some.ensures.draws in
-    (draws.0, record { given = Some c.in-Some.answer; filled = c.fill.new.self; draws = draws.1; ends = (refl, refl) })
+    (draws.0, record { given = Some c.in-Some.answer; filled = c.fill.new.self; draws = draws.1; ends = (refl, refl, tt) })
 
 pub returns-in-Some-clause-leaves : goal.returns-in-Some-clause-leaves
 returns-in-Some-clause-leaves g c =
@@ -139,5 +139,5 @@ returns-in-Some-clause-leaves g c =
       drawn = c.fill.new.cx;
       kept = c.fill.ensures.task.kept;
       not_polled = c.fill.ensures.task.no_turn;
-      called = (draws.0, record { given = Some c.in-Some.answer; filled = c.fill.new.self; draws = draws.1; ends = (refl, refl) });
+      called = (draws.0, record { given = Some c.in-Some.answer; filled = c.fill.new.self; draws = draws.1; ends = (refl, refl, refl) });
     }
