@@ -8,16 +8,14 @@ use std::process::Abort;
 use std::test::Fail;
 
 // Events after which no slot is marked, with their replies.
-const ROW: [(Event, Reply); 10] = [
-    (Event::Mark(5), Reply::Woke(Woke::Fresh)),
-    (Event::Mark(1), Reply::Woke(Woke::Fresh)),
-    (Event::Mark(5), Reply::Woke(Woke::Already)),
-    (Event::Take, Reply::Taken(Taken::Slot(5))),
-    (Event::Mark(5), Reply::Woke(Woke::Fresh)),
+const ROW: [(Event, Reply); 8] = [
+    (Event::Mark(2), Reply::Woke(Woke::Fresh)),
     (Event::Mark(0), Reply::Woke(Woke::Fresh)),
-    (Event::Take, Reply::Taken(Taken::Slot(1))),
-    (Event::Take, Reply::Taken(Taken::Slot(5))),
+    (Event::Mark(2), Reply::Woke(Woke::Already)),
+    (Event::Take, Reply::Taken(Taken::Slot(2))),
+    (Event::Mark(2), Reply::Woke(Woke::Fresh)),
     (Event::Take, Reply::Taken(Taken::Slot(0))),
+    (Event::Take, Reply::Taken(Taken::Slot(2))),
     (Event::Take, Reply::Taken(Taken::Empty)),
 ];
 
@@ -41,8 +39,8 @@ fn replies(rt: &impl Abort, core: &mut ReadyCore) {
 
 #[test]
 fn names_the_oldest_unserved_mark(rt: HostRuntime) -> Result<(), Fail> {
-    let mut core = ReadyCore::new(rt.alloc(), 6)?;
-    assert_same(&rt, core.capacity(), 6);
+    let mut core = ReadyCore::new(rt.alloc(), 3)?;
+    assert_same(&rt, core.capacity(), 3);
     replies(&rt, &mut core);
     Ok(())
 }
@@ -80,10 +78,10 @@ fn try_run(rt: &impl Abort, alloc: Global, core: &mut ReadyCore, rows: usize) ->
 
 #[test]
 fn runs_a_list(rt: HostRuntime) -> Result<(), Fail> {
-    let mut core = ReadyCore::new(rt.alloc(), 6)?;
+    let mut core = ReadyCore::new(rt.alloc(), 3)?;
     try_run(&rt, rt.alloc(), &mut core, 0)?;
     try_run(&rt, rt.alloc(), &mut core, 1)?;
-    try_run(&rt, rt.alloc(), &mut core, 500)
+    try_run(&rt, rt.alloc(), &mut core, 700)
 }
 
 // The event at this place marks no slot. The core is as it was, and so are the replies.
@@ -104,13 +102,13 @@ fn refuses(
 
 #[test]
 fn refuses_a_list_that_marks_no_slot(rt: HostRuntime) -> Result<(), Fail> {
-    let mut core = ReadyCore::new(rt.alloc(), 6)?;
-    let short = [Event::Mark(0), Event::Mark(6), Event::Mark(7)];
+    let mut core = ReadyCore::new(rt.alloc(), 3)?;
+    let short = [Event::Mark(0), Event::Mark(3), Event::Mark(4)];
     refuses(&rt, rt.alloc(), &mut core, &short, 1)?;
-    let mut long = vec![in rt.alloc(); Event::Mark(3)]?;
-    add_rows(&mut long, &mut Vec::new(rt.alloc()), 500)?;
-    long.push(Event::Mark(6))?;
-    refuses(&rt, rt.alloc(), &mut core, long.as_slice(), 5_001)?;
+    let mut long = vec![in rt.alloc(); Event::Mark(1)]?;
+    add_rows(&mut long, &mut Vec::new(rt.alloc()), 700)?;
+    long.push(Event::Mark(3))?;
+    refuses(&rt, rt.alloc(), &mut core, long.as_slice(), 5_601)?;
     Ok(())
 }
 

@@ -96,3 +96,30 @@ fn a_script_source_keeps_the_tasks_waker(rt: HostRuntime) -> Result<(), Fail> {
     keeps_the_last(&rt, &one, &two, source, &answers);
     Ok(())
 }
+
+// A registration of the task that is kept, and a mark, wake nobody.
+fn lets_the_task_wait<S: ReadySource>(rt: &impl Abort, task: &MockTask, source: &mut S) {
+    register(task, source);
+    register(task, source);
+    assert_same(rt, task.is_woken(), false);
+    assert_same(rt, mark(source, 1), Some(Woke::Fresh));
+    assert_same(rt, task.is_woken(), false);
+}
+
+#[test]
+fn a_core_source_lets_its_task_wait(rt: HostRuntime) -> Result<(), Fail> {
+    let task = MockTask::new(&rt)?;
+    let mut source = CoreSource::make(&(), rt.alloc(), 2)?;
+    lets_the_task_wait(&rt, &task, &mut source);
+    let _beside = source.make_sibling(rt.alloc(), 1)?;
+    assert_same(&rt, task.is_woken(), false);
+    Ok(())
+}
+
+#[test]
+fn a_script_source_lets_its_task_wait(rt: HostRuntime) -> Result<(), Fail> {
+    let task = MockTask::new(&rt)?;
+    let mut source = ScriptSource::new(rt.alloc(), 2, Vec::new(rt.alloc()))?;
+    lets_the_task_wait(&rt, &task, &mut source);
+    Ok(())
+}

@@ -2,7 +2,8 @@
 //! `bounded_set.calls`, `set.calls` and the files of sizes beside them. No crate stands on this one.
 //!
 //! - `core_sources`, `sources`: sets over sources of one caller and of the tests' own, at 70,000 slots; what is dropped with a set.
-//! - `first_group`, `slots`, `closures`: items that are not drawn, the slot that a poll names, and futures that contain a closure.
+//! - `first_group`, `items`: items that are not drawn.
+//! - `slots`, `closures`: the slot that a poll names, and futures that contain a closure.
 //! - `each_wake`: each of 70,000 slots, woken alone.
 //! - `threads`, `answered_wakes`, `many_wakes`: sets on other threads, a thread whose wakes are each answered, and ten million
 //!   wakes.
@@ -23,6 +24,8 @@ mod dropped_source;
 mod each_wake;
 #[cfg(test)]
 mod first_group;
+#[cfg(test)]
+mod items;
 #[cfg(test)]
 mod kept;
 #[cfg(test)]

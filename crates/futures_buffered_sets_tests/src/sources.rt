@@ -184,6 +184,17 @@ fn each_of_six_groups_that_leave_drops_its_source(rt: HostRuntime) -> Result<(),
     Ok(())
 }
 
+// Groups with 1, 2 and 4 slots.
+#[test]
+fn a_set_that_is_cleared_drops_its_sources(rt: HostRuntime) -> Result<(), Fail> {
+    let drops = new_counter(rt.alloc())?;
+    let mut set: Sourced = FuturesUnordered::over(Arc::try_clone(&drops)?, rt.alloc(), 1)?;
+    assert_same(&rt, add_each(&mut set, 7), 7);
+    set.clear();
+    assert_same(&rt, (set.len(), drops.load(SeqCst)), (0, 3));
+    Ok(())
+}
+
 type Logged = FuturesUnordered<Timed, CountedSource>;
 
 // Adds so many that are pending at their first poll: whether each was taken.

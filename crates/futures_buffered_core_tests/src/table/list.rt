@@ -17,6 +17,32 @@ fn no_slots(rt: HostRuntime) -> Result<(), Fail> {
     Ok(())
 }
 
+// A slot that is woken again keeps its place.
+#[test]
+fn names_each_woken_slot_once(rt: HostRuntime) -> Result<(), Fail> {
+    let (list, mut poll, mut seat) = list_of(&rt, rt.alloc(), 2);
+    assert_same(&rt, list.wake(&mut seat, 0), Woke::Fresh);
+    assert_same(&rt, list.wake(&mut seat, 1), Woke::Fresh);
+    assert_same(&rt, list.wake(&mut seat, 0), Woke::Already);
+    assert_same(&rt, list.take(&mut poll), Taken::Slot(0));
+    assert_same(&rt, list.take(&mut poll), Taken::Slot(1));
+    assert_same(&rt, list.take(&mut poll), Taken::Empty);
+    let seats = vec![in rt.alloc(); seat]?;
+    list.close(poll, seats).free();
+    Ok(())
+}
+
+// A seat that is split marks no slot.
+#[test]
+fn a_split_seat_marks_nothing(rt: HostRuntime) -> Result<(), Fail> {
+    let (list, mut poll, seat) = list_of(&rt, rt.alloc(), 70);
+    let (one, two) = seat.split(&list);
+    assert_same(&rt, list.take(&mut poll), Taken::Empty);
+    let seats = vec![in rt.alloc(); one, two]?;
+    list.close(poll, seats).free();
+    Ok(())
+}
+
 #[test]
 fn too_large(rt: HostRuntime) -> Result<(), Fail> {
     match ReadyList::new(rt.alloc(), MAX_CAPACITY + 1) {

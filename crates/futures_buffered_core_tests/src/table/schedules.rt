@@ -105,10 +105,10 @@ fn many_long_schedules(rt: HostRuntime) -> Result<(), Fail> {
 
 // About five steps of eight are made.
 #[test]
-fn a_schedule_of_a_thousand_steps(rt: HostRuntime) -> Result<(), Fail> {
+fn a_schedule_of_two_thousand_steps(rt: HostRuntime) -> Result<(), Fail> {
     let mut schedule = Schedule::new(&rt, rt.alloc());
-    schedule.steps_by(2_000, 1)?;
-    assert_same(&rt, schedule.made.len() > 1_000, true);
+    schedule.steps_by(4_000, 1)?;
+    assert_same(&rt, schedule.made.len() > 2_000, true);
     schedule.repeats(&rt, rt.alloc())?;
     Ok(())
 }
