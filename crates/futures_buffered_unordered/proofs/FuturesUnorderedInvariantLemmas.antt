@@ -140,11 +140,8 @@ module _ {F S : Type 0} (needs : S → ℕ → Type 0) where
     some_asked = omega (arith, k.counted, get_or-le-sum_by held_in g.listed q group within, ap (λ (b : Bounded F S). held_in b) is, kept.fewer)
 
     -- what is held now, by the numbers that were counted before and after
-    pub counts_asked : (now before after : ℕ) (d e : Bounded F S) → d ≡ get_or g.listed q d → e ≡ get_or (set g.listed q left) q e → before ≡ held_in d → after ≡ held_in e → now ≡ held - (before - after) → now + (held_in group - held_in left) ≡ held
-    counts_asked now before after d e was is_now before_is after_is now_is =
-        let first = ap (λ (b : Bounded F S). held_in b) (was ∙ same_or g.listed q d group within ∙ sym is) in
-        let second = ap (λ (b : Bounded F S). held_in b) (is_now ∙ get_or-set_same g.listed q left e within) in
-        omega (arith, first, second, before_is, after_is, now_is, some_asked, kept.fewer)
+    pub counts_asked : (now before after : ℕ) → before ≡ held_in group → after ≡ held_in left → now ≡ held - (before - after) → now + (held_in group - held_in left) ≡ held
+    counts_asked now before after before_is after_is now_is = omega (arith, before_is, after_is, now_is, some_asked, kept.fewer)
 
     -- once the group at the place was asked, that is the place
     keeps_asked : (now : ℕ) → now + (held_in group - held_in left) ≡ held → KeepsGroups needs (record { listed = set g.listed q left; place = q }) limit now

@@ -1,6 +1,7 @@
 pub mod StreamAnswersLemmas
 pub mod HeldLemmas
 pub mod HeldGivesLemmas
+pub mod ExtendedLemmas
 pub mod FuturesUnorderedBoundedLemmas
 pub mod GroupsLemmas
 pub mod GroupsStepLemmas

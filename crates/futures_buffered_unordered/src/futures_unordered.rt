@@ -13,9 +13,9 @@ ghost use Rattle.futures_buffered_core.specs.ReadySource.{WaitsAlike};
 ghost use Rattle.futures_buffered_unordered.specs.FuturesUnorderedBounded.{AsksInPart, IsNewSet, OnlyRegisters, PollAsksToEmpty, PollGives};
 ghost use Rattle.futures_buffered_unordered.specs.Groups.{GroupsGive};
 ghost use Rattle.futures_buffered_unordered.specs.GroupsStep.{AsksOne, OneLeavesTask, next_place};
-ghost use Rattle.futures_buffered_unordered.specs.FuturesUnordered.{EachHeld, EachCovered, Growing, GrowingPushes, IsAtBound, IsNewGrowing, LastIsFull, PollsGroupsTask, PollsGrowing, PushesOrStays, no_groups, held_in_all, capacity_of, next_capacity, spare_places, SetRefuses, SetMayRefuse};
+ghost use Rattle.futures_buffered_unordered.specs.FuturesUnordered.{EachHeld, EachCovered, Growing, GrowingPushes, IsAtBound, IsNewGrowing, LastIsFull, PollsGroupsTask, PollsGrowing, PushesEach, PushesOrStays, no_groups, held_in_all, capacity_of, next_capacity, spare_places, SetRefuses, SetMayRefuse};
 ghost use Rattle.futures_buffered_unordered.specs.FuturesUnorderedInvariant.{AddsGroup, PushesLast};
-ghost use Rattle.futures_buffered_unordered.specs.Extended.{Extends, MakesGrown};
+ghost use Rattle.futures_buffered_unordered.specs.Extended.{Extends, HoldsAllOf, MakesGrown, StopsAtBound};
 
 use crate::ask_group::{AskGroup, ByRule};
 use crate::futures_unordered_bounded::{FuturesUnorderedBounded, POLL_LIMIT};
@@ -275,7 +275,24 @@ impl<F: Drop, S: NewSource> FuturesUnordered<F, S> {
             (λ stopped new. SetMayRefuse stopped × (new ≡ stopped)) self.old result self.new }
     {
         for item in iter {
-            self.push(item)?;
+            if let Err(back) = self.push(item) {
+                return Err(back);
+            }
+        }
+        Ok(())
+    }
+
+    // Adds each item, in order, up to the first that is refused.
+    fn add_each<I: IntoIterator<Item = F>>(&mut self, iter: I) -> Result<(), NewFault>
+        requires { IsFiniteSource I.IntoIterator I.IntoIter.Iterator iter }
+        ensures all { OnOk result (HoldsAllOf I.IntoIterator I.IntoIter.Iterator iter
+            (PushesEach S.marks S.made self.old) self.new) }
+        ensures large { result ≡ Err NewFault.TooLarge
+            → StopsAtBound I.IntoIterator I.IntoIter.Iterator iter
+            (GrowingPushes S.marks S.made FIRST_GROUP) SetRefuses self.old }
+    {
+        for item in iter {
+            self.add(item)?;
         }
         Ok(())
     }
@@ -328,9 +345,10 @@ impl<F: Drop, S: NewSource> FuturesUnordered<F, S> {
         ensures kept { Keeps cx.old cx.new }
     {
         let place = self.next_place();
-        let before = self.groups[place].len();
-        let answer = rule.ask(&mut self.groups[place], cx, is_registered);
-        self.held -= before - self.groups[place].len();
+        let group = &mut self.groups[place];
+        let before = group.len();
+        let answer = rule.ask(group, cx, is_registered);
+        self.held -= before - group.len();
         match &answer {
             Poll::Pending => self.place = place + 1,
             Poll::Ready(output) => {
@@ -436,11 +454,7 @@ impl<F: Drop> FuturesUnordered<F, SharedReady> {
         let iter = iter.into_iter();
         let (least, _most) = iter.size_hint();
         let mut set = Self::with_capacity(alloc, least.max(FIRST_GROUP))?;
-        for item in iter {
-            if let Err(fault) = set.add(item) {
-                return Err(fault);
-            }
-        }
+        set.add_each(iter)?;
         Ok(set)
     }
 }

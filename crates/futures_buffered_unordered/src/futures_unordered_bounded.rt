@@ -220,7 +220,9 @@ impl<F: Drop, S: ReadySource> FuturesUnorderedBounded<F, S> {
         ensures capacity { slot_count self.new.slots ≡ slot_count self.old.slots }
     {
         for item in iter {
-            self.try_push(item)?;
+            if let Err(back) = self.try_push(item) {
+                return Err(back);
+            }
         }
         Ok(())
     }

@@ -1,23 +1,11 @@
-use Rattle.std.proofs.Common.{◌<◌, rules, subst, inl, inr}
-use Rattle.std.proofs.lemmas.Fn.{FoldsTo-push}
+use Rattle.std.proofs.Common.{◌≡◌, ◌<◌, Err, rules, subst, inl, inr}
+use Rattle.futures_buffered_table.specs.declared.answer.NewFault.TheVariants.{TooLarge}
 use Rattle.futures_buffered_table.specs.declared.answer.TheConstants.{MAX_CAPACITY}
-use Rattle.futures_buffered_core.specs.Drawn.{Draws, DrawsAndOne, SaysAtLeast}
-use Rattle.futures_buffered_core.specs.ReadyShared.{IsNewShared, MarksShared}
-use Rattle.futures_buffered_unordered.specs.FuturesUnordered.{GrowingPushes, IsAtBound, IsNewGrowing}
+use Rattle.futures_buffered_core.specs.Drawn.{SaysAtLeast}
+use Rattle.futures_buffered_core.specs.ReadyShared.{IsNewShared}
+use Rattle.futures_buffered_unordered.specs.FuturesUnordered.{IsNewGrowing}
+use Rattle.futures_buffered_unordered.proofs.ExtendedLemmas.{draws_of, draws_and_one_of}
 use Rattle.futures_buffered_unordered.proofs.futures_unordered.FuturesUnordered+F+SharedReady.from_iter.Goals as goal
-
-pub loop-item-preserved : goal.loop-item-preserved
-loop-item-preserved g c = (search rules, search rules, FoldsTo-push (GrowingPushes MarksShared IsNewShared _) c.in_ok-set.set c.loop-item.yielded c.loop-item.set c.in-Some.item c.add.new.self c.loop-item.invariant.2 c.in_default.ensures.push.pushed)
-
-pub returns : goal.returns
-returns g c =
-    let draws : Draws g.I.IntoIterator g.I.IntoIter.Iterator c.args.iter c.loop-item.yielded = search rules in
-    let says : SaysAtLeast g.I.IntoIterator g.I.IntoIter.Iterator c.args.iter c.size_hint-least.result.0 = search rules in
-    let start = subst (λ n. IsNewGrowing IsNewShared n 61 c.in_ok-set.set) c.max.ensures c.in_ok-set.ensures.made in
-    record {
-      holds = (c.loop-item.yielded, c.size_hint-least.result.0, (c.in_ok-set.set, draws, says, start, c.loop-item.invariant.2));
-      large = search rules;
-    }
 
 pub returns-in_err-set : goal.returns-in_err-set
 returns-in_err-set g c =
@@ -29,14 +17,26 @@ returns-in_err-set g c =
           (c.size_hint-least.result.0, says, inl (subst (λ n. MAX_CAPACITY < n) c.max.ensures over));
     }
 
-pub returns-in-Err : goal.returns-in-Err
-returns-in-Err g c =
+pub returns : goal.returns
+returns g c =
+    let all = c.in_ok-add_each.ensures.all in
     let says : SaysAtLeast g.I.IntoIterator g.I.IntoIter.Iterator c.args.iter c.size_hint-least.result.0 = search rules in
-    let draws : DrawsAndOne g.I.IntoIterator g.I.IntoIter.Iterator c.args.iter c.loop-item.yielded = search rules in
+    let start = subst (λ n. IsNewGrowing IsNewShared n 61 c.in_ok-set.set) c.max.ensures c.in_ok-set.ensures.made in
+    let draws = draws_of g.I.IntoIterator g.I.IntoIter.Iterator c.args.iter c.into_iter-iter.result c.into_iter-iter.ensures.into_iter_gives all.0 all.1.0 all.1.1 all.1.2 in
+    record {
+      holds = (all.0, c.size_hint-least.result.0, (c.in_ok-set.set, draws, says, start, all.2));
+      large = search rules;
+    }
+
+pub returns-in_err-add_each : goal.returns-in_err-add_each
+returns-in_err-add_each g c =
+    let says : SaysAtLeast g.I.IntoIterator g.I.IntoIter.Iterator c.args.iter c.size_hint-least.result.0 = search rules in
     let start = subst (λ n. IsNewGrowing IsNewShared n 61 c.in_ok-set.set) c.max.ensures c.in_ok-set.ensures.made in
     record {
       holds = search rules;
       large = λ e.
-          let at_bound : IsAtBound c.loop-item.set.groups.listed = search rules in
-          (c.size_hint-least.result.0, says, inr (c.in_ok-set.set, start, (c.loop-item.yielded, c.loop-item.set, draws, c.loop-item.invariant.2, at_bound)));
+          let refused : c.add_each.result ≡ Err TooLarge = search rules in
+          let stops = c.add_each.ensures.large refused in
+          let draws = draws_and_one_of g.I.IntoIterator g.I.IntoIter.Iterator c.args.iter c.into_iter-iter.result c.into_iter-iter.ensures.into_iter_gives stops.0 stops.2.0 stops.2.1 stops.2.2 stops.2.3 stops.2.4 in
+          (c.size_hint-least.result.0, says, inr (c.in_ok-set.set, start, (stops.0, stops.1, draws, stops.3, stops.4)));
     }

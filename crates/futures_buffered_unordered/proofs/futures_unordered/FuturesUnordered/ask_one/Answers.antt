@@ -16,102 +16,102 @@ pub ask-answer-requires-clause-registered : goal.ask-answer-requires-clause-regi
 ask-answer-requires-clause-registered g c =
     let here = subst (λ (v : Growing g.row.F.Denot g.row.S.Denot). c.next_place-place.result ≡ next_place v.groups) (sym c.self.view_is) c.next_place-place.ensures.value in
     let within = subst (λ (v : Growing g.row.F.Denot g.row.S.Denot). c.next_place-place.result < length v.groups.listed) (sym c.self.view_is) c.next_place-place.ensures.below in
-    λ registered. covered_at g.S.ReadySource.needs _ _ _ _ c.index_mut.ensures.value within (subst (λ (v : Growing g.row.F.Denot g.row.S.Denot). EachCovered g.S.ReadySource.needs c.args.cx.now v.groups.listed) (sym c.self.view_is) (c.requires.registered registered))
+    λ registered. covered_at g.S.ReadySource.needs _ _ _ _ c.index_mut-group.ensures.value within (subst (λ (v : Growing g.row.F.Denot g.row.S.Denot). EachCovered g.S.ReadySource.needs c.args.cx.now v.groups.listed) (sym c.self.view_is) (c.requires.registered registered))
 
 pub invariant_of-self : goal.invariant_of-self
 invariant_of-self g c =
     let here = subst (λ (v : Growing g.row.F.Denot g.row.S.Denot). c.next_place-place.result ≡ next_place v.groups) (sym c.self.view_is) c.next_place-place.ensures.value in
     let within = subst (λ (v : Growing g.row.F.Denot g.row.S.Denot). c.next_place-place.result < length v.groups.listed) (sym c.self.view_is) c.next_place-place.ensures.below in
     let kept = c.ask-answer.ensures.keeps in
-    let counts = counts_asked g.S.ReadySource.needs _ _ _ _ _ _ _ c.self.invariant here within c.index_mut.ensures.value kept _ _ _ _ _ c.index.ensures c.index-2.ensures c.len-before.ensures c.len.ensures refl in
-    keeps_pending g.S.ReadySource.needs _ _ _ _ _ _ _ c.self.invariant here within c.index_mut.ensures.value kept _ counts c.in-Pending.is
+    let counts = counts_asked g.S.ReadySource.needs _ _ _ _ _ _ _ c.self.invariant here within c.index_mut-group.ensures.value kept _ _ _ c.len-before.ensures c.len.ensures refl in
+    keeps_pending g.S.ReadySource.needs _ _ _ _ _ _ _ c.self.invariant here within c.index_mut-group.ensures.value kept _ counts c.in-Pending.is
 
 pub invariant_of-self-then-is_some : goal.invariant_of-self-then-is_some
 invariant_of-self-then-is_some g c =
     let here = subst (λ (v : Growing g.row.F.Denot g.row.S.Denot). c.next_place-place.result ≡ next_place v.groups) (sym c.self.view_is) c.next_place-place.ensures.value in
     let within = subst (λ (v : Growing g.row.F.Denot g.row.S.Denot). c.next_place-place.result < length v.groups.listed) (sym c.self.view_is) c.next_place-place.ensures.below in
     let kept = c.ask-answer.ensures.keeps in
-    let counts = counts_asked g.S.ReadySource.needs _ _ _ _ _ _ _ c.self.invariant here within c.index_mut.ensures.value kept _ _ _ _ _ c.index.ensures c.index-2.ensures c.len-before.ensures c.len.ensures refl in
-    keeps_output g.S.ReadySource.needs _ _ _ _ _ _ _ c.self.invariant here within c.index_mut.ensures.value kept _ counts
+    let counts = counts_asked g.S.ReadySource.needs _ _ _ _ _ _ _ c.self.invariant here within c.index_mut-group.ensures.value kept _ _ _ c.len-before.ensures c.len.ensures refl in
+    keeps_output g.S.ReadySource.needs _ _ _ _ _ _ _ c.self.invariant here within c.index_mut-group.ensures.value kept _ counts
 
 pub invariant_of-self-then-place-len : goal.invariant_of-self-then-place-len
 invariant_of-self-then-place-len g c =
     let here = subst (λ (v : Growing g.row.F.Denot g.row.S.Denot). c.next_place-place.result ≡ next_place v.groups) (sym c.self.view_is) c.next_place-place.ensures.value in
     let within = subst (λ (v : Growing g.row.F.Denot g.row.S.Denot). c.next_place-place.result < length v.groups.listed) (sym c.self.view_is) c.next_place-place.ensures.below in
     let kept = c.ask-answer.ensures.keeps in
-    let counts = counts_asked g.S.ReadySource.needs _ _ _ _ _ _ _ c.self.invariant here within c.index_mut.ensures.value kept _ _ _ _ _ c.index.ensures c.index-2.ensures c.len-before.ensures c.len.ensures refl in
-    keeps_ended_last g.S.ReadySource.needs _ _ _ _ _ _ _ c.self.invariant here within c.index_mut.ensures.value kept _ counts (search rules)
+    let counts = counts_asked g.S.ReadySource.needs _ _ _ _ _ _ _ c.self.invariant here within c.index_mut-group.ensures.value kept _ _ _ c.len-before.ensures c.len.ensures refl in
+    keeps_ended_last g.S.ReadySource.needs _ _ _ _ _ _ _ c.self.invariant here within c.index_mut-group.ensures.value kept _ counts (search rules)
 
 pub invariant_of-self-else-place-len : goal.invariant_of-self-else-place-len
 invariant_of-self-else-place-len g c =
     let here = subst (λ (v : Growing g.row.F.Denot g.row.S.Denot). c.next_place-place.result ≡ next_place v.groups) (sym c.self.view_is) c.next_place-place.ensures.value in
     let within = subst (λ (v : Growing g.row.F.Denot g.row.S.Denot). c.next_place-place.result < length v.groups.listed) (sym c.self.view_is) c.next_place-place.ensures.below in
     let kept = c.ask-answer.ensures.keeps in
-    let counts = counts_asked g.S.ReadySource.needs _ _ _ _ _ _ _ c.self.invariant here within c.index_mut.ensures.value kept _ _ _ _ _ c.index.ensures c.index-2.ensures c.len-before.ensures c.len.ensures refl in
-    keeps_ended g.S.ReadySource.needs _ _ _ _ _ _ _ c.self.invariant here within c.index_mut.ensures.value kept _ counts _ _ c.in-Ready.is (search rules) (search rules) c.drop_group.ensures
+    let counts = counts_asked g.S.ReadySource.needs _ _ _ _ _ _ _ c.self.invariant here within c.index_mut-group.ensures.value kept _ _ _ c.len-before.ensures c.len.ensures refl in
+    keeps_ended g.S.ReadySource.needs _ _ _ _ _ _ _ c.self.invariant here within c.index_mut-group.ensures.value kept _ counts _ _ c.in-Ready.is (search rules) (search rules) c.drop_group.ensures
 
 pub returns-in-Pending-clause-asked : goal.returns-in-Pending-clause-asked
 returns-in-Pending-clause-asked g c =
     let asks = g.R.AskGroup.asks in
     let here = subst (λ (v : Growing g.row.F.Denot g.row.S.Denot). c.next_place-place.result ≡ next_place v.groups) (sym c.self.view_is) c.next_place-place.ensures.value in
     let within = subst (λ (v : Growing g.row.F.Denot g.row.S.Denot). c.next_place-place.result < length v.groups.listed) (sym c.self.view_is) c.next_place-place.ensures.below in
-    rw (← c.self.view_is) (one_pending asks _ _ _ _ _ c.in-Pending.is here within c.index_mut.ensures.value c.ask-answer.ensures.asked)
+    rw (← c.self.view_is) (one_pending asks _ _ _ _ _ c.in-Pending.is here within c.index_mut-group.ensures.value c.ask-answer.ensures.asked)
 
 pub returns-then-is_some-clause-asked : goal.returns-then-is_some-clause-asked
 returns-then-is_some-clause-asked g c =
     let asks = g.R.AskGroup.asks in
     let here = subst (λ (v : Growing g.row.F.Denot g.row.S.Denot). c.next_place-place.result ≡ next_place v.groups) (sym c.self.view_is) c.next_place-place.ensures.value in
     let within = subst (λ (v : Growing g.row.F.Denot g.row.S.Denot). c.next_place-place.result < length v.groups.listed) (sym c.self.view_is) c.next_place-place.ensures.below in
-    rw (← c.self.view_is) (one_some asks _ _ _ _ _ _ c.in-Ready.is (search rules) here within c.index_mut.ensures.value c.ask-answer.ensures.asked)
+    rw (← c.self.view_is) (one_some asks _ _ _ _ _ _ c.in-Ready.is (search rules) here within c.index_mut-group.ensures.value c.ask-answer.ensures.asked)
 
 pub returns-then-place-len-clause-asked : goal.returns-then-place-len-clause-asked
 returns-then-place-len-clause-asked g c =
     let asks = g.R.AskGroup.asks in
     let here = subst (λ (v : Growing g.row.F.Denot g.row.S.Denot). c.next_place-place.result ≡ next_place v.groups) (sym c.self.view_is) c.next_place-place.ensures.value in
     let within = subst (λ (v : Growing g.row.F.Denot g.row.S.Denot). c.next_place-place.result < length v.groups.listed) (sym c.self.view_is) c.next_place-place.ensures.below in
-    rw (← c.self.view_is) (one_last asks _ _ _ _ _ _ c.in-Ready.is (search rules) here within (search rules) c.index_mut.ensures.value c.ask-answer.ensures.asked)
+    rw (← c.self.view_is) (one_last asks _ _ _ _ _ _ c.in-Ready.is (search rules) here within (search rules) c.index_mut-group.ensures.value c.ask-answer.ensures.asked)
 
 pub returns-else-place-len-clause-asked : goal.returns-else-place-len-clause-asked
 returns-else-place-len-clause-asked g c =
     let asks = g.R.AskGroup.asks in
     let here = subst (λ (v : Growing g.row.F.Denot g.row.S.Denot). c.next_place-place.result ≡ next_place v.groups) (sym c.self.view_is) c.next_place-place.ensures.value in
     let within = subst (λ (v : Growing g.row.F.Denot g.row.S.Denot). c.next_place-place.result < length v.groups.listed) (sym c.self.view_is) c.next_place-place.ensures.below in
-    rw (← c.self.view_is) (one_left asks _ _ _ _ _ _ _ c.in-Ready.is (search rules) here within (search rules) c.index_mut.ensures.value c.ask-answer.ensures.asked c.drop_group.ensures)
+    rw (← c.self.view_is) (one_left asks _ _ _ _ _ _ _ c.in-Ready.is (search rules) here within (search rules) c.index_mut-group.ensures.value c.ask-answer.ensures.asked c.drop_group.ensures)
 
 pub returns-in-Pending-clause-covered : goal.returns-in-Pending-clause-covered
 returns-in-Pending-clause-covered g c =
     let here = subst (λ (v : Growing g.row.F.Denot g.row.S.Denot). c.next_place-place.result ≡ next_place v.groups) (sym c.self.view_is) c.next_place-place.ensures.value in
     let within = subst (λ (v : Growing g.row.F.Denot g.row.S.Denot). c.next_place-place.result < length v.groups.listed) (sym c.self.view_is) c.next_place-place.ensures.below in
     let kept = c.ask-answer.ensures.keeps in
-    rw c.in-Pending.is (covered_asked g.S.ReadySource.needs _ _ _ _ _ _ _ c.self.invariant here within c.index_mut.ensures.value kept _ (subst (λ a. OnPending a (Covers c.ask-answer.new.cx (g.S.ReadySource.needs c.ask-answer.new.group.source))) c.in-Pending.is c.ask-answer.ensures.task.covered))
+    rw c.in-Pending.is (covered_asked g.S.ReadySource.needs _ _ _ _ _ _ _ c.self.invariant here within c.index_mut-group.ensures.value kept _ (subst (λ a. OnPending a (Covers c.ask-answer.new.cx (g.S.ReadySource.needs c.ask-answer.new.group.source))) c.in-Pending.is c.ask-answer.ensures.task.covered))
 
 pub returns-in-Pending-clause-still_covered : goal.returns-in-Pending-clause-still_covered
 returns-in-Pending-clause-still_covered g c =
     let here = subst (λ (v : Growing g.row.F.Denot g.row.S.Denot). c.next_place-place.result ≡ next_place v.groups) (sym c.self.view_is) c.next_place-place.ensures.value in
     let within = subst (λ (v : Growing g.row.F.Denot g.row.S.Denot). c.next_place-place.result < length v.groups.listed) (sym c.self.view_is) c.next_place-place.ensures.below in
     let kept = c.ask-answer.ensures.keeps in
-    λ registered. still_asked g.S.ReadySource.needs _ _ _ _ _ _ _ c.self.invariant here within c.index_mut.ensures.value kept _ _ c.ask-answer.ensures.task.kept (subst (λ (v : Growing g.row.F.Denot g.row.S.Denot). EachCovered g.S.ReadySource.needs c.args.cx.now v.groups.listed) (sym c.self.view_is) (c.requires.registered registered))
+    λ registered. still_asked g.S.ReadySource.needs _ _ _ _ _ _ _ c.self.invariant here within c.index_mut-group.ensures.value kept _ _ c.ask-answer.ensures.task.kept (subst (λ (v : Growing g.row.F.Denot g.row.S.Denot). EachCovered g.S.ReadySource.needs c.args.cx.now v.groups.listed) (sym c.self.view_is) (c.requires.registered registered))
 
 pub returns-then-is_some-clause-still_covered : goal.returns-then-is_some-clause-still_covered
 returns-then-is_some-clause-still_covered g c =
     let here = subst (λ (v : Growing g.row.F.Denot g.row.S.Denot). c.next_place-place.result ≡ next_place v.groups) (sym c.self.view_is) c.next_place-place.ensures.value in
     let within = subst (λ (v : Growing g.row.F.Denot g.row.S.Denot). c.next_place-place.result < length v.groups.listed) (sym c.self.view_is) c.next_place-place.ensures.below in
     let kept = c.ask-answer.ensures.keeps in
-    λ registered. still_asked g.S.ReadySource.needs _ _ _ _ _ _ _ c.self.invariant here within c.index_mut.ensures.value kept _ _ c.ask-answer.ensures.task.kept (subst (λ (v : Growing g.row.F.Denot g.row.S.Denot). EachCovered g.S.ReadySource.needs c.args.cx.now v.groups.listed) (sym c.self.view_is) (c.requires.registered registered))
+    λ registered. still_asked g.S.ReadySource.needs _ _ _ _ _ _ _ c.self.invariant here within c.index_mut-group.ensures.value kept _ _ c.ask-answer.ensures.task.kept (subst (λ (v : Growing g.row.F.Denot g.row.S.Denot). EachCovered g.S.ReadySource.needs c.args.cx.now v.groups.listed) (sym c.self.view_is) (c.requires.registered registered))
 
 pub returns-then-place-len-clause-still_covered : goal.returns-then-place-len-clause-still_covered
 returns-then-place-len-clause-still_covered g c =
     let here = subst (λ (v : Growing g.row.F.Denot g.row.S.Denot). c.next_place-place.result ≡ next_place v.groups) (sym c.self.view_is) c.next_place-place.ensures.value in
     let within = subst (λ (v : Growing g.row.F.Denot g.row.S.Denot). c.next_place-place.result < length v.groups.listed) (sym c.self.view_is) c.next_place-place.ensures.below in
     let kept = c.ask-answer.ensures.keeps in
-    λ registered. still_asked g.S.ReadySource.needs _ _ _ _ _ _ _ c.self.invariant here within c.index_mut.ensures.value kept _ _ c.ask-answer.ensures.task.kept (subst (λ (v : Growing g.row.F.Denot g.row.S.Denot). EachCovered g.S.ReadySource.needs c.args.cx.now v.groups.listed) (sym c.self.view_is) (c.requires.registered registered))
+    λ registered. still_asked g.S.ReadySource.needs _ _ _ _ _ _ _ c.self.invariant here within c.index_mut-group.ensures.value kept _ _ c.ask-answer.ensures.task.kept (subst (λ (v : Growing g.row.F.Denot g.row.S.Denot). EachCovered g.S.ReadySource.needs c.args.cx.now v.groups.listed) (sym c.self.view_is) (c.requires.registered registered))
 
 pub returns-else-place-len-clause-still_covered : goal.returns-else-place-len-clause-still_covered
 returns-else-place-len-clause-still_covered g c =
     let here = subst (λ (v : Growing g.row.F.Denot g.row.S.Denot). c.next_place-place.result ≡ next_place v.groups) (sym c.self.view_is) c.next_place-place.ensures.value in
     let within = subst (λ (v : Growing g.row.F.Denot g.row.S.Denot). c.next_place-place.result < length v.groups.listed) (sym c.self.view_is) c.next_place-place.ensures.below in
     let kept = c.ask-answer.ensures.keeps in
-    λ registered. rw c.drop_group.ensures (All-removed (λ (b : Bounded g.row.F.Denot g.row.S.Denot). Covers c.ask-answer.new.cx (g.S.ReadySource.needs b.source)) _ c.next_place-place.result (still_asked g.S.ReadySource.needs _ _ _ _ _ _ _ c.self.invariant here within c.index_mut.ensures.value kept _ _ c.ask-answer.ensures.task.kept (subst (λ (v : Growing g.row.F.Denot g.row.S.Denot). EachCovered g.S.ReadySource.needs c.args.cx.now v.groups.listed) (sym c.self.view_is) (c.requires.registered registered))))
+    λ registered. rw c.drop_group.ensures (All-removed (λ (b : Bounded g.row.F.Denot g.row.S.Denot). Covers c.ask-answer.new.cx (g.S.ReadySource.needs b.source)) _ c.next_place-place.result (still_asked g.S.ReadySource.needs _ _ _ _ _ _ _ c.self.invariant here within c.index_mut-group.ensures.value kept _ _ c.ask-answer.ensures.task.kept (subst (λ (v : Growing g.row.F.Denot g.row.S.Denot). EachCovered g.S.ReadySource.needs c.args.cx.now v.groups.listed) (sym c.self.view_is) (c.requires.registered registered))))
 
 pub returns-else-place-len-clause-pollable : goal.returns-else-place-len-clause-pollable
 returns-else-place-len-clause-pollable g c =
@@ -130,25 +130,25 @@ returns-in-Pending-clause-leaves g c =
     let rule = g.R.AskGroup in
     let here = subst (λ (v : Growing g.row.F.Denot g.row.S.Denot). c.next_place-place.result ≡ next_place v.groups) (sym c.self.view_is) c.next_place-place.ensures.value in
     let within = subst (λ (v : Growing g.row.F.Denot g.row.S.Denot). c.next_place-place.result < length v.groups.listed) (sym c.self.view_is) c.next_place-place.ensures.below in
-    rw (← c.self.view_is) (one_leaves rule.asks rule.asks_to_empty rule.stops (OnlyRegisters g.S.ReadySource.registers_poll) _ _ _ _ _ _ _ (λ asks_now asked. one_pending asks_now _ _ _ _ _ c.in-Pending.is here within c.index_mut.ensures.value asked) c.ask-answer.ensures.asked c.ask-answer.ensures.task.leaves)
+    rw (← c.self.view_is) (one_leaves rule.asks rule.asks_to_empty rule.stops (OnlyRegisters g.S.ReadySource.registers_poll) _ _ _ _ _ _ _ (λ asks_now asked. one_pending asks_now _ _ _ _ _ c.in-Pending.is here within c.index_mut-group.ensures.value asked) c.ask-answer.ensures.asked c.ask-answer.ensures.task.leaves)
 
 pub returns-then-is_some-clause-leaves : goal.returns-then-is_some-clause-leaves
 returns-then-is_some-clause-leaves g c =
     let rule = g.R.AskGroup in
     let here = subst (λ (v : Growing g.row.F.Denot g.row.S.Denot). c.next_place-place.result ≡ next_place v.groups) (sym c.self.view_is) c.next_place-place.ensures.value in
     let within = subst (λ (v : Growing g.row.F.Denot g.row.S.Denot). c.next_place-place.result < length v.groups.listed) (sym c.self.view_is) c.next_place-place.ensures.below in
-    rw (← c.self.view_is) (one_leaves rule.asks rule.asks_to_empty rule.stops (OnlyRegisters g.S.ReadySource.registers_poll) _ _ _ _ _ _ _ (λ asks_now asked. one_some asks_now _ _ _ _ _ _ c.in-Ready.is (search rules) here within c.index_mut.ensures.value asked) c.ask-answer.ensures.asked c.ask-answer.ensures.task.leaves)
+    rw (← c.self.view_is) (one_leaves rule.asks rule.asks_to_empty rule.stops (OnlyRegisters g.S.ReadySource.registers_poll) _ _ _ _ _ _ _ (λ asks_now asked. one_some asks_now _ _ _ _ _ _ c.in-Ready.is (search rules) here within c.index_mut-group.ensures.value asked) c.ask-answer.ensures.asked c.ask-answer.ensures.task.leaves)
 
 pub returns-then-place-len-clause-leaves : goal.returns-then-place-len-clause-leaves
 returns-then-place-len-clause-leaves g c =
     let rule = g.R.AskGroup in
     let here = subst (λ (v : Growing g.row.F.Denot g.row.S.Denot). c.next_place-place.result ≡ next_place v.groups) (sym c.self.view_is) c.next_place-place.ensures.value in
     let within = subst (λ (v : Growing g.row.F.Denot g.row.S.Denot). c.next_place-place.result < length v.groups.listed) (sym c.self.view_is) c.next_place-place.ensures.below in
-    rw (← c.self.view_is) (one_leaves rule.asks rule.asks_to_empty rule.stops (OnlyRegisters g.S.ReadySource.registers_poll) _ _ _ _ _ _ _ (λ asks_now asked. one_last asks_now _ _ _ _ _ _ c.in-Ready.is (search rules) here within (search rules) c.index_mut.ensures.value asked) c.ask-answer.ensures.asked c.ask-answer.ensures.task.leaves)
+    rw (← c.self.view_is) (one_leaves rule.asks rule.asks_to_empty rule.stops (OnlyRegisters g.S.ReadySource.registers_poll) _ _ _ _ _ _ _ (λ asks_now asked. one_last asks_now _ _ _ _ _ _ c.in-Ready.is (search rules) here within (search rules) c.index_mut-group.ensures.value asked) c.ask-answer.ensures.asked c.ask-answer.ensures.task.leaves)
 
 pub returns-else-place-len-clause-leaves : goal.returns-else-place-len-clause-leaves
 returns-else-place-len-clause-leaves g c =
     let rule = g.R.AskGroup in
     let here = subst (λ (v : Growing g.row.F.Denot g.row.S.Denot). c.next_place-place.result ≡ next_place v.groups) (sym c.self.view_is) c.next_place-place.ensures.value in
     let within = subst (λ (v : Growing g.row.F.Denot g.row.S.Denot). c.next_place-place.result < length v.groups.listed) (sym c.self.view_is) c.next_place-place.ensures.below in
-    rw (← c.self.view_is) (one_leaves rule.asks rule.asks_to_empty rule.stops (OnlyRegisters g.S.ReadySource.registers_poll) _ _ _ _ _ _ _ (λ asks_now asked. one_left asks_now _ _ _ _ _ _ _ c.in-Ready.is (search rules) here within (search rules) c.index_mut.ensures.value asked c.drop_group.ensures) c.ask-answer.ensures.asked c.ask-answer.ensures.task.leaves)
+    rw (← c.self.view_is) (one_leaves rule.asks rule.asks_to_empty rule.stops (OnlyRegisters g.S.ReadySource.registers_poll) _ _ _ _ _ _ _ (λ asks_now asked. one_left asks_now _ _ _ _ _ _ _ c.in-Ready.is (search rules) here within (search rules) c.index_mut-group.ensures.value asked c.drop_group.ensures) c.ask-answer.ensures.asked c.ask-answer.ensures.task.leaves)

@@ -5,10 +5,10 @@ use Rattle.futures_buffered_unordered.specs.FuturesUnordered.{Growing, GrowingPu
 use Rattle.futures_buffered_unordered.proofs.futures_unordered.FuturesUnordered.extend.Goals as goal
 
 pub loop-item-preserved : goal.loop-item-preserved
-loop-item-preserved g c = (search rules, search rules, FoldsTo-push (GrowingPushes g.S.ReadySource.marks g.S.NewSource.made _) c.args.self.now c.loop-item.yielded c.loop-item.self c.in-Some.item c.push.new.self c.loop-item.invariant.2 c.in_ok-push.ensures.push.pushed)
+loop-item-preserved g c = (search rules, search rules, FoldsTo-push (GrowingPushes g.S.ReadySource.marks g.S.NewSource.made _) c.args.self.now c.loop-item.yielded c.loop-item.self c.in-Some.item c.push.new.self c.loop-item.invariant.2 c.in_default.ensures.push.pushed)
 
-pub returns-in_err-push : goal.returns-in_err-push
-returns-in_err-push g c =
+pub returns-in-Err : goal.returns-in-Err
+returns-in-Err g c =
     let source = g.S.ReadySource in
     let stops : ExtendsUntil g.I.IntoIterator g.I.IntoIter.Iterator c.args.iter (GrowingPushes source.marks g.S.NewSource.made 32) (λ (stopped new : Growing g.row.F.Denot g.row.S.Denot). SetMayRefuse stopped × (new ≡ stopped)) c.args.self.now c.in-Some.item c.push.new.self = record {
       items = c.loop-item.yielded;

@@ -7,11 +7,11 @@ use Rattle.futures_buffered_unordered.specs.FuturesUnorderedBounded.{Bounded, Pu
 use Rattle.futures_buffered_unordered.proofs.futures_unordered_bounded.FuturesUnorderedBounded.extend.Goals as goal
 
 pub loop-item-preserved : goal.loop-item-preserved
-loop-item-preserved g c = (search rules, search rules, FoldsTo-push (Pushes g.S.ReadySource.marks) c.args.self.now c.loop-item.yielded c.loop-item.self c.in-Some.item c.try_push.new.self c.loop-item.invariant.2 c.in_ok-try_push.ensures.pushed.pushed, c.try_push.ensures.capacity ∙ c.loop-item.invariant.3)
+loop-item-preserved g c = (search rules, search rules, FoldsTo-push (Pushes g.S.ReadySource.marks) c.args.self.now c.loop-item.yielded c.loop-item.self c.in-Some.item c.try_push.new.self c.loop-item.invariant.2 c.in_default.ensures.pushed.pushed, c.try_push.ensures.capacity ∙ c.loop-item.invariant.3)
 
-pub returns-in_err-try_push-clause-extends : goal.returns-in_err-try_push-clause-extends
-returns-in_err-try_push-clause-extends g c =
-    let full = c.in_err-try_push.ensures.full in
+pub returns-in-Err-clause-extends : goal.returns-in-Err-clause-extends
+returns-in-Err-clause-extends g c =
+    let full = c.in-Err.ensures.full in
     let Stops = λ (back : g.row.F.Denot). ExtendsUntil g.I.IntoIterator g.I.IntoIter.Iterator c.args.iter (Pushes g.S.ReadySource.marks) (λ (stopped new : Bounded g.row.F.Denot g.row.S.Denot). IsFull stopped.slots × (new ≡ stopped)) c.args.self.now back c.try_push.new.self in
     let stops : Stops c.in-Some.item = record {
       items = c.loop-item.yielded;
@@ -23,8 +23,7 @@ returns-in_err-try_push-clause-extends g c =
       added = c.loop-item.invariant.2;
       refused = (full.2, full.1);
     } in
-    let gone = err_from_is_err_and c.from_residual.result c.from_residual.ensures.1 in
-    rw gone.1 (record { all = tt; stops = subst Stops (sym (gone.2 ∙ full.0)) stops })
+    record { all = tt; stops = subst Stops (sym full.0) stops }
 
-pub returns-in_err-try_push-clause-capacity : goal.returns-in_err-try_push-clause-capacity
-returns-in_err-try_push-clause-capacity g c = c.try_push.ensures.capacity ∙ c.loop-item.invariant.3
+pub returns-in-Err-clause-capacity : goal.returns-in-Err-clause-capacity
+returns-in-Err-clause-capacity g c = c.try_push.ensures.capacity ∙ c.loop-item.invariant.3
