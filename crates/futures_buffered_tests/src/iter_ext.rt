@@ -8,42 +8,63 @@ use futures_buffered::{
 };
 use std::alloc::{AllocError, Global};
 use std::process::Abort;
+use std::sync::Wait;
 use std::test::Fail;
 use test_support::attempt::{Attempt, at_once};
+use test_support::cells::{Cells, new_cells, sent};
 use test_support::polling::{
     poll_growing_merge, poll_growing_set, poll_join, poll_merge, poll_queue, poll_set,
     poll_try_join,
 };
+use test_support::receiver::{Receiver, Sender};
 use test_support::stepped::{Stepped, from};
 
-type Set = FuturesUnorderedBounded<Attempt, SharedReady>;
+// Gives what its sender sends.
+type ByHand<R> = Receiver<Result<u64, u64>, R>;
+
+type Senders<R> = Vec<Sender<Result<u64, u64>, R>>;
+
+type Set<R> = FuturesUnorderedBounded<ByHand<R>, SharedReady>;
 
 type GrowingSet = FuturesUnordered<Attempt, SharedReady>;
 
-type Queue = FuturesOrderedBounded<Attempt, SharedReady>;
+type Queue<R> = FuturesOrderedBounded<ByHand<R>, SharedReady>;
 
 // The first wakes itself and is ready at its second poll, the second at its first.
-fn two_futures(alloc: Global, second: Result<u64, u64>) -> Result<Vec<Attempt>, AllocError> {
+fn two_futures(alloc: Global) -> Result<Vec<Attempt>, AllocError> {
     let first = Attempt {
         result: Ok(1),
         polls_left: 1,
     };
-    Ok(vec![in alloc; first, at_once(second)]?)
+    Ok(vec![in alloc; first, at_once(Ok(2))]?)
 }
 
-fn try_set<R: Abort>(rt: &R, task: &MockTask, set: &mut Set) {
-    assert_same(rt, (set.capacity(), set.size_hint()), (2, (2, Some(2))));
-    assert_same(rt, poll_set(task, set), Poll::Ready(Some(Ok(2))));
+// Three futures give 3, 2 and 1. They are finished in the order 1, 2, 3, or the second with an error.
+fn finish<R: Wait + Drop>(senders: &Senders<R>, second: Result<u64, u64>) -> bool {
+    sent(senders, 2, Ok(1)) && sent(senders, 1, second) && sent(senders, 0, Ok(3))
+}
+
+fn try_set<R: Abort + Wait + Drop>(
+    rt: &R,
+    task: &MockTask,
+    senders: &Senders<R>,
+    set: &mut Set<R>,
+) {
+    assert_same(rt, (set.capacity(), set.size_hint()), (3, (3, Some(3))));
+    assert_same(rt, poll_set(task, set), Poll::Pending);
+    assert_same(rt, finish(senders, Ok(2)), true);
     assert_same(rt, poll_set(task, set), Poll::Ready(Some(Ok(1))));
+    assert_same(rt, poll_set(task, set), Poll::Ready(Some(Ok(2))));
+    assert_same(rt, poll_set(task, set), Poll::Ready(Some(Ok(3))));
     assert_same(rt, poll_set(task, set), Poll::Ready(None));
 }
 
 #[test]
 fn a_set_gives_outputs_as_they_finish(rt: HostRuntime) -> Result<(), Fail> {
     let task = MockTask::new(&rt)?;
-    let futures = two_futures(rt.alloc(), Ok(2))?;
-    let mut set = futures.into_unordered_stream(rt.alloc())?;
-    try_set(&rt, &task, &mut set);
+    let Cells { senders, receivers } = new_cells(&rt, rt.alloc(), 3)?;
+    let mut set = receivers.into_unordered_stream(rt.alloc())?;
+    try_set(&rt, &task, &senders, &mut set);
     Ok(())
 }
 
@@ -57,24 +78,32 @@ fn try_growing_set<R: Abort>(rt: &R, task: &MockTask, set: &mut GrowingSet) {
 #[test]
 fn a_growing_set_has_a_first_group_of_32(rt: HostRuntime) -> Result<(), Fail> {
     let task = MockTask::new(&rt)?;
-    let futures = two_futures(rt.alloc(), Ok(2))?;
+    let futures = two_futures(rt.alloc())?;
     let mut set = futures.into_unordered_stream_unbounded(rt.alloc())?;
     try_growing_set(&rt, &task, &mut set);
     Ok(())
 }
 
-fn try_queue<R: Abort>(rt: &R, task: &MockTask, queue: &mut Queue) {
-    assert_same(rt, poll_queue(task, queue), Poll::Ready(Some(Ok(1))));
+fn try_queue<R: Abort + Wait + Drop>(
+    rt: &R,
+    task: &MockTask,
+    senders: &Senders<R>,
+    queue: &mut Queue<R>,
+) {
+    assert_same(rt, poll_queue(task, queue), Poll::Pending);
+    assert_same(rt, finish(senders, Ok(2)), true);
+    assert_same(rt, poll_queue(task, queue), Poll::Ready(Some(Ok(3))));
     assert_same(rt, poll_queue(task, queue), Poll::Ready(Some(Ok(2))));
+    assert_same(rt, poll_queue(task, queue), Poll::Ready(Some(Ok(1))));
     assert_same(rt, poll_queue(task, queue), Poll::Ready(None));
 }
 
 #[test]
 fn a_queue_gives_outputs_in_the_order_of_the_futures(rt: HostRuntime) -> Result<(), Fail> {
     let task = MockTask::new(&rt)?;
-    let futures = two_futures(rt.alloc(), Ok(2))?;
-    let mut queue = futures.into_ordered_stream(rt.alloc())?;
-    try_queue(&rt, &task, &mut queue);
+    let Cells { senders, receivers } = new_cells(&rt, rt.alloc(), 3)?;
+    let mut queue = receivers.into_ordered_stream(rt.alloc())?;
+    try_queue(&rt, &task, &senders, &mut queue);
     Ok(())
 }
 
@@ -91,7 +120,7 @@ fn both(polled: Poll<Vec<Result<u64, u64>>>) -> Option<(Result<u64, u64>, Result
 #[test]
 fn a_join_gives_outputs_by_place(rt: HostRuntime) -> Result<(), Fail> {
     let task = MockTask::new(&rt)?;
-    let futures = two_futures(rt.alloc(), Ok(2))?;
+    let futures = two_futures(rt.alloc())?;
     let mut join: JoinAll<Attempt, SharedReady> = futures.join_all(rt.alloc())?;
     let outputs = both(poll_join(&task, &mut join));
     assert_same(&rt, outputs, Some((Ok(1), Ok(2))));
@@ -108,8 +137,10 @@ fn error_of(polled: Poll<Result<Vec<u64>, u64>>) -> Option<u64> {
 #[test]
 fn a_try_join_gives_the_first_error(rt: HostRuntime) -> Result<(), Fail> {
     let task = MockTask::new(&rt)?;
-    let futures = two_futures(rt.alloc(), Err(2))?;
-    let mut join: TryJoinAll<Attempt, SharedReady> = futures.try_join_all(rt.alloc())?;
+    let Cells { senders, receivers } = new_cells(&rt, rt.alloc(), 3)?;
+    let mut join: TryJoinAll<_, SharedReady> = receivers.try_join_all(rt.alloc())?;
+    assert_same(&rt, poll_try_join(&task, &mut join).is_pending(), true);
+    assert_same(&rt, finish(&senders, Err(2)), true);
     assert_same(&rt, error_of(poll_try_join(&task, &mut join)), Some(2));
     Ok(())
 }
