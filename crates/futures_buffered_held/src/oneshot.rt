@@ -137,8 +137,7 @@ impl<T: Drop> Sender<T> {
     pub fn send(self, value: T) -> Result<(), T>
         ensures back { IfErr result (λ back. back ≡ value) }
     {
-        let Sender { place, mut seat } = self;
-        wake(place.send(&mut seat, value)?);
+        let _receipt = self.send_with_receipt(value)?;
         Ok(())
     }
 

@@ -1,7 +1,8 @@
 // The source that has futures of the kit polled, where the files of `calls` cannot say it.
 //
 // - `receivers`: receivers that count their polls, and their senders.
-// - `turns`: outputs of a slot that holds another future by now.
+// - `scene`: sources, futures and senders, on which tests write steps beside what is seen.
+// - `turns`: outputs of a slot that holds another future by now, and sources that leave.
 // - `drops`: what a source that leaves lets go.
 // - `busy`: a source that is asked while another thread has the futures polled.
 // - `adaptors`: the adaptors over streams of futures that a thread completes.
@@ -13,6 +14,7 @@ mod busy;
 mod drops;
 mod nested;
 mod receivers;
+mod scene;
 mod short_names;
 mod threads;
 mod turns;

@@ -14,14 +14,28 @@ use test_support::keep::keep;
 
 const ROUNDS: u64 = 50_000;
 
-// Sends once in each round.
+// Asks so many times whether the receiver is gone, which lets a while pass.
+fn is_gone(sender: &Sender<u64>, times: u64) -> bool {
+    for _ in 0..times {
+        if sender.is_canceled() {
+            return true;
+        }
+    }
+    false
+}
+
+// Sends in its round, unless the receiver is said to be gone. It never is, also while it is polled.
+fn send_once(rounds: &Rounds, round: u64, sender: Sender<u64>) {
+    wait_for(&rounds.begun, round);
+    if !is_gone(&sender, round % 29) {
+        let _ = sender.send(round);
+    }
+    rounds.over.store(round, SeqCst);
+}
+
 fn send_often(rounds: &Rounds, senders: Vec<Sender<u64>>) {
     for (before, sender) in senders.into_iter().enumerate() {
-        let round = (before as u64).saturating_add(1);
-        wait_for(&rounds.begun, round);
-        pause(rounds, round % 29);
-        let _ = sender.send(round);
-        rounds.over.store(round, SeqCst);
+        send_once(rounds, (before as u64).saturating_add(1), sender);
     }
 }
 

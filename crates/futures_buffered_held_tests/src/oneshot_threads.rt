@@ -1,14 +1,13 @@
-//! One-shots that are sent from threads.
+//! One-shots that are sent from four threads.
 use crate::same::assert_same;
 use futures::executor::block_on;
 use futures::{StreamExt, stream};
-use futures_buffered::buffer_unordered::BufferUnordered;
 use futures_buffered::buffered_ordered::BufferedOrdered;
 use futures_buffered_core::ready_shared::SharedReady;
 use futures_buffered_held::oneshot::{Canceled, Receiver, Sender, channel};
-use std::alloc::{AllocError, Global};
+use std::alloc::{AllocError, AllocGlobal, Global};
 use std::test::Fail;
-use std::thread;
+use std::thread::{self, JoinHandle, Threads};
 use test_support::keep::keep;
 
 type Numbered = (u64, Sender<u64>);
@@ -39,7 +38,41 @@ fn fill(
 fn send_all(senders: Vec<Numbered>) {
     for (n, sender) in senders {
         let _ = sender.send(n);
-        thread::yield_now();
+    }
+}
+
+// Five hundred more receivers, and the thread that sends what they wait for.
+fn start_one<R: Threads + AllocGlobal>(
+    rt: &R,
+    receivers: &mut Vec<Receiver<u64>>,
+    from: u64,
+) -> Result<JoinHandle<()>, Fail> {
+    let mut senders = Vec::new(rt.alloc());
+    fill(
+        rt.alloc(),
+        receivers,
+        &mut senders,
+        from,
+        from.saturating_add(500),
+    )?;
+    Ok(thread::spawn(rt, move || send_all(senders))?)
+}
+
+fn start<R: Threads + AllocGlobal>(
+    rt: &R,
+    receivers: &mut Vec<Receiver<u64>>,
+    threads: &mut Vec<JoinHandle<()>>,
+) -> Result<(), Fail> {
+    for part in 0..4 {
+        let thread = start_one(rt, receivers, part * 500)?;
+        keep(threads, thread)?;
+    }
+    Ok(())
+}
+
+fn end<R: Threads>(rt: &R, threads: Vec<JoinHandle<()>>) {
+    for thread in threads {
+        thread.join(rt);
     }
 }
 
@@ -49,48 +82,15 @@ fn sum_of(all: &Vec<Answer>) -> u64 {
         .fold(0u64, |sum, one| sum.saturating_add(one.unwrap_or(1_000)))
 }
 
-#[test]
-fn a_hundred_from_four_threads(rt: HostRuntime) -> Result<(), Fail> {
-    let mut receivers = Vec::new(rt.alloc());
-    let mut threads = Vec::new(rt.alloc());
-    for part in 0..4 {
-        let mut senders = Vec::new(rt.alloc());
-        fill(
-            rt.alloc(),
-            &mut receivers,
-            &mut senders,
-            part * 25,
-            part * 25 + 25,
-        )?;
-        keep(&mut threads, thread::spawn(&rt, move || send_all(senders))?)?;
-    }
-    let held = stream::iter(receivers);
-    let outputs = BufferUnordered::<_, SharedReady>::over(&(), rt.alloc(), held, 8)?;
-    let all = block_on(&rt, outputs.collect(rt.alloc()))??;
-    for thread in threads {
-        thread.join(&rt);
-    }
-    assert_same(&rt, (all.len(), sum_of(&all)), (100, 4_950));
-    Ok(())
-}
-
-fn send_at_once(senders: Vec<Numbered>) {
-    for (n, sender) in senders {
-        let _ = sender.send(n);
-    }
-}
-
 // Sends and polls meet at a one-shot in every order.
 #[test]
 fn two_thousand_while_they_are_polled(rt: HostRuntime) -> Result<(), Fail> {
-    let mut receivers = Vec::new(rt.alloc());
-    let mut senders = Vec::new(rt.alloc());
-    fill(rt.alloc(), &mut receivers, &mut senders, 0, 2_000)?;
-    let thread = thread::spawn(&rt, move || send_at_once(senders))?;
+    let (mut receivers, mut threads) = (Vec::new(rt.alloc()), Vec::new(rt.alloc()));
+    start(&rt, &mut receivers, &mut threads)?;
     let held = stream::iter(receivers);
     let outputs = BufferedOrdered::<_, SharedReady>::over(&(), rt.alloc(), held, 8)?;
     let all = block_on(&rt, outputs.collect(rt.alloc()))??;
-    thread.join(&rt);
+    end(&rt, threads);
     assert_same(&rt, (all.len(), sum_of(&all)), (2_000, 99_000));
     Ok(())
 }

@@ -14,6 +14,7 @@ use std::test::Fail;
 use test_support::counter::new_counter;
 use test_support::dropped::Dropped;
 
+// The poll that gives the value leaves its slot as it is.
 #[test]
 fn the_waker_of_the_last_poll_is_woken(rt: HostRuntime) -> Result<(), Fail> {
     let mut source: SharedReady = SharedReady::new(rt.alloc(), 2)?;
@@ -24,6 +25,7 @@ fn the_waker_of_the_last_poll_is_woken(rt: HostRuntime) -> Result<(), Fail> {
     assert_same(&rt, name_of(&mut source), Some(1));
     assert_same(&rt, name_of(&mut source), None);
     assert_same(&rt, receiver.poll(source.waker(1)), Poll::Ready(Ok(7)));
+    assert_same(&rt, name_of(&mut source), None);
     let after = Poll::Ready(Err(Canceled));
     assert_same(&rt, receiver.poll(source.waker(1)), after);
     Ok(())
@@ -43,14 +45,16 @@ fn a_receiver_that_moved_to_another_source(rt: HostRuntime) -> Result<(), Fail> 
     Ok(())
 }
 
-// A value that does not come is dropped with the second end, and one that is handed back by whoever has it.
+// A value that does not come is dropped with the receiver, whoever keeps the receipt, and one that is handed back by whoever has it.
 #[test]
 fn a_value_that_does_not_come(rt: HostRuntime) -> Result<(), Fail> {
     let drops = new_counter(rt.alloc())?;
     let (sender, receiver) = channel(rt.alloc())?;
-    let _ = sender.send(Dropped::new(Arc::try_clone(&drops)?));
-    assert_same(&rt, drops.load(SeqCst), 0);
+    let receipt = sender.send_with_receipt(Dropped::new(Arc::try_clone(&drops)?));
+    assert_same(&rt, (receipt.is_ok(), drops.load(SeqCst)), (true, 0));
     drop(receiver);
+    assert_same(&rt, drops.load(SeqCst), 1);
+    drop(receipt);
     assert_same(&rt, drops.load(SeqCst), 1);
     let (sender, receiver) = channel(rt.alloc())?;
     assert_same(&rt, sender.is_canceled(), false);
@@ -82,23 +86,6 @@ fn passes(alloc: Global, waker: &SharedWaker, value: u64) -> Result<Option<u64>,
 fn a_receipt_shows_what_came(rt: HostRuntime) -> Result<(), Fail> {
     let source: SharedReady = SharedReady::new(rt.alloc(), 1)?;
     assert_same(&rt, passes(rt.alloc(), source.waker(0), 7)?, Some(7));
-    Ok(())
-}
-
-// A value that does not come is dropped with the receiver, whoever keeps the receipt.
-#[test]
-fn a_receipt_of_a_value_that_does_not_come(rt: HostRuntime) -> Result<(), Fail> {
-    let drops = new_counter(rt.alloc())?;
-    let (sender, receiver) = channel(rt.alloc())?;
-    let receipt = sender.send_with_receipt(Dropped::new(Arc::try_clone(&drops)?));
-    assert_same(&rt, (receipt.is_ok(), drops.load(SeqCst)), (true, 0));
-    drop(receiver);
-    assert_same(&rt, drops.load(SeqCst), 1);
-    drop(receipt);
-    assert_same(&rt, drops.load(SeqCst), 1);
-    let (sender, receiver) = channel::<u64>(rt.alloc())?;
-    drop(receiver);
-    assert_same(&rt, sender.send_with_receipt(7).err(), Some(7));
     Ok(())
 }
 

@@ -5,6 +5,7 @@ use futures::task::Poll;
 use futures::test::MockTask;
 use futures_buffered_core::ready_core::{MAX_CAPACITY, NewFault};
 use futures_buffered_core::ready_shared::{SharedReady, SharedWaker};
+use futures_buffered_core::ready_source::ReadySource;
 use futures_buffered_held::spsc::{Receiver, Sender, TryRecvError, TrySendError, channel};
 use futures_buffered_sets::merge_bounded::MergeBounded;
 use futures_buffered_sets::slot_stream::SlotStream;
@@ -37,20 +38,25 @@ fn run_comes(receiver: &mut Receiver<u64>, waker: &SharedWaker, from: u64, count
     comes
 }
 
+// Whether the numbers from 0 on come, with three of them in the channel all the time.
+fn turns_come(sender: &mut Sender<u64>, receiver: &mut Receiver<u64>, waker: &SharedWaker) -> bool {
+    let mut comes = send_run(sender, 0, 3) == 0;
+    for turn in 0..10u64 {
+        let at = turn.wrapping_mul(4);
+        comes = comes && send_run(sender, at.wrapping_add(3), 4) == 0;
+        comes = comes && run_comes(receiver, waker, at, 4);
+    }
+    comes && run_comes(receiver, waker, 40, 3)
+}
+
 // Five turns of a ring of seven places, with three values in it at each seam.
 #[test]
 fn values_come_in_order_over_many_turns(rt: HostRuntime) -> Result<(), Fail> {
     let source: SharedReady = SharedReady::new(rt.alloc(), 1)?;
     let (mut sender, mut receiver) = channel::<u64>(rt.alloc(), 7)?;
     assert_same(&rt, (sender.capacity(), receiver.capacity()), (7, 7));
-    let mut held = send_run(&mut sender, 0, 3) == 0;
-    for turn in 0..10u64 {
-        let at = turn.wrapping_mul(4);
-        held = held && send_run(&mut sender, at.wrapping_add(3), 4) == 0;
-        held = held && run_comes(&mut receiver, source.waker(0), at, 4);
-    }
-    held = held && run_comes(&mut receiver, source.waker(0), 40, 3);
-    assert_same(&rt, held, true);
+    let comes = turns_come(&mut sender, &mut receiver, source.waker(0));
+    assert_same(&rt, comes, true);
     assert_same(&rt, receiver.poll_next(source.waker(0)), Poll::Pending);
     Ok(())
 }
@@ -60,11 +66,21 @@ fn a_full_channel_gives_the_value_back(rt: HostRuntime) -> Result<(), Fail> {
     let (mut sender, mut receiver) = channel::<u64>(rt.alloc(), 20)?;
     assert_same(&rt, send_run(&mut sender, 0, 20), 0);
     assert_same(&rt, sender.try_send(20), Err(TrySendError::Full(20)));
+    assert_same(&rt, sender.is_closed(), false);
     assert_same(&rt, receiver.try_recv(), Ok(0));
     assert_same(&rt, sender.try_send(20), Ok(()));
     assert_same(&rt, sender.try_send(21), Err(TrySendError::Full(21)));
+    Ok(())
+}
+
+// The slot of a receiver that waits is not woken by a sending that finds no room.
+#[test]
+fn a_channel_without_places(rt: HostRuntime) -> Result<(), Fail> {
+    let mut source: SharedReady = SharedReady::new(rt.alloc(), 1)?;
     let (mut sender, mut receiver) = channel::<u64>(rt.alloc(), 0)?;
+    assert_same(&rt, receiver.poll_next(source.waker(0)), Poll::Pending);
     assert_same(&rt, sender.try_send(1), Err(TrySendError::Full(1)));
+    assert_same(&rt, name_of(&mut source), None);
     assert_same(&rt, receiver.try_recv(), Err(TryRecvError::Empty));
     Ok(())
 }
@@ -95,7 +111,7 @@ fn a_sender_that_is_gone(rt: HostRuntime) -> Result<(), Fail> {
     Ok(())
 }
 
-// One sending after a pending poll wakes, and those behind it do not. `try_recv` leaves no waker, and takes none away.
+// One sending after a pending poll wakes, and those behind it do not. `try_recv` and a poll that gives a value leave no waker, and neither `try_recv` nor `is_closed` takes one away.
 #[test]
 fn the_waker_of_the_last_poll_is_woken_once(rt: HostRuntime) -> Result<(), Fail> {
     let mut source: SharedReady = SharedReady::new(rt.alloc(), 2)?;
@@ -106,15 +122,19 @@ fn the_waker_of_the_last_poll_is_woken_once(rt: HostRuntime) -> Result<(), Fail>
     assert_same(&rt, receiver.poll_next(source.waker(0)), Poll::Pending);
     assert_same(&rt, receiver.poll_next(source.waker(1)), Poll::Pending);
     assert_same(&rt, receiver.try_recv(), Err(TryRecvError::Empty));
+    assert_same(&rt, sender.is_closed(), false);
     assert_same(&rt, name_of(&mut source), None);
     assert_same(&rt, sender.try_send(7), Ok(()));
     assert_same(&rt, name_of(&mut source), Some(1));
     assert_same(&rt, sender.try_send(8), Ok(()));
     assert_same(&rt, name_of(&mut source), None);
     assert_same(&rt, run_comes(&mut receiver, source.waker(1), 7, 2), true);
+    assert_same(&rt, sender.try_send(9), Ok(()));
+    assert_same(&rt, name_of(&mut source), None);
     Ok(())
 }
 
+// The end wakes nobody.
 #[test]
 fn a_sender_that_goes_wakes_the_slot(rt: HostRuntime) -> Result<(), Fail> {
     let mut source: SharedReady = SharedReady::new(rt.alloc(), 1)?;
@@ -123,6 +143,7 @@ fn a_sender_that_goes_wakes_the_slot(rt: HostRuntime) -> Result<(), Fail> {
     drop(sender);
     assert_same(&rt, name_of(&mut source), Some(0));
     assert_same(&rt, receiver.poll_next(source.waker(0)), Poll::Ready(None));
+    assert_same(&rt, name_of(&mut source), None);
     let (sender, mut receiver) = channel::<u64>(rt.alloc(), 1)?;
     assert_same(&rt, receiver.poll_next(source.waker(0)), Poll::Pending);
     assert_same(&rt, sender.finish().is_some(), true);
@@ -131,15 +152,19 @@ fn a_sender_that_goes_wakes_the_slot(rt: HostRuntime) -> Result<(), Fail> {
     Ok(())
 }
 
-// Nobody wakes for a receiver that is gone, and nothing keeps its waker.
+// Nobody wakes for a receiver that is gone, and nothing keeps its waker: the task's waker goes with the source, and wakes as it is dropped.
 #[test]
 fn a_receiver_that_goes_while_it_waits(rt: HostRuntime) -> Result<(), Fail> {
+    let task = MockTask::new(&rt)?;
     let mut source: SharedReady = SharedReady::new(rt.alloc(), 1)?;
     let (sender, mut receiver) = channel::<u64>(rt.alloc(), 1)?;
+    task.enter(|cx| source.register(cx));
     assert_same(&rt, receiver.poll_next(source.waker(0)), Poll::Pending);
     drop(receiver);
-    drop(sender);
     assert_same(&rt, name_of(&mut source), None);
+    drop(source);
+    assert_same(&rt, task.is_woken(), true);
+    drop(sender);
     Ok(())
 }
 
@@ -154,15 +179,19 @@ fn send_counted(
     Ok(())
 }
 
+fn receive(receiver: &mut Receiver<Dropped>, count: usize) {
+    for _ in 0..count {
+        drop(receiver.try_recv());
+    }
+}
+
 // The values in the ring stand over its seam. The second channel's outlive their sender.
 #[test]
 fn values_that_do_not_come_are_dropped_with_the_receiver(rt: HostRuntime) -> Result<(), Fail> {
     let drops = new_counter(rt.alloc())?;
     let (mut sender, mut receiver) = channel(rt.alloc(), 20)?;
     send_counted(&mut sender, &drops, 20)?;
-    for _ in 0..15 {
-        drop(receiver.try_recv());
-    }
+    receive(&mut receiver, 15);
     send_counted(&mut sender, &drops, 15)?;
     assert_same(&rt, drops.load(SeqCst), 15);
     drop(receiver);

@@ -26,24 +26,28 @@ fn goes(round: u64) -> bool {
     round % 3 != 1
 }
 
-// Acts once in each round. A sender that does not go in its round goes at the end.
+// Acts in its round. A sender that does not go in it is kept.
+fn act(rounds: &Rounds, round: u64, mut sender: Sender<u64>, stay: &mut Vec<Sender<u64>>) {
+    wait_for(&rounds.begun, round);
+    pause(rounds, round % 29);
+    if sends(round) {
+        let _ = sender.try_send(round);
+    }
+    if !goes(round) {
+        let _ = keep(stay, sender);
+    } else if round % 2 == 0 {
+        drop(sender);
+    } else {
+        let _ = sender.finish();
+    }
+    rounds.over.store(round, SeqCst);
+}
+
+// Acts once in each round. Those that did not go in their rounds go at the end.
 fn act_often(rounds: &Rounds, senders: Vec<Sender<u64>>, stay: Vec<Sender<u64>>) {
     let mut stay = stay;
-    for (before, mut sender) in senders.into_iter().enumerate() {
-        let round = (before as u64).saturating_add(1);
-        wait_for(&rounds.begun, round);
-        pause(rounds, round % 29);
-        if sends(round) {
-            let _ = sender.try_send(round);
-        }
-        if !goes(round) {
-            let _ = keep(&mut stay, sender);
-        } else if round % 2 == 0 {
-            drop(sender);
-        } else {
-            let _ = sender.finish();
-        }
-        rounds.over.store(round, SeqCst);
+    for (before, sender) in senders.into_iter().enumerate() {
+        act(rounds, (before as u64).saturating_add(1), sender, &mut stay);
     }
 }
 

@@ -3,15 +3,15 @@ use crate::same::assert_same;
 use futures::channel::oneshot::{Canceled, Receiver, Sender, channel};
 use futures::executor::block_on;
 use futures::future::ready;
-use futures::task::Poll;
 use futures::test::MockTask;
 use futures::{Stream, StreamExt, stream};
-use futures_buffered::{BufferedStreamExt, BufferedTryStreamExt, Foreign, Foreigns};
-use std::alloc::{AllocError, Global};
-use std::sync::Arc;
+use futures_buffered::{BufferedStreamExt, BufferedTryStreamExt, Foreign, Foreigns, TryForeigns};
+use std::alloc::{AllocError, AllocGlobal, Global};
+use std::random::RandomSource;
 use std::sync::atomic::Ordering::SeqCst;
+use std::sync::{Arc, Wait};
 use std::test::Fail;
-use std::thread;
+use std::thread::{self, Threads};
 use test_support::counter::new_counter;
 use test_support::keep::keep;
 
@@ -19,15 +19,23 @@ type Answer = Result<u64, Canceled>;
 
 // Twenty receivers, and their senders in the other order.
 fn twenty(alloc: Global) -> Result<(Vec<Sender<u64>>, Vec<Receiver<u64>>), AllocError> {
-    let mut senders = Vec::new(alloc);
-    let mut receivers = Vec::new(alloc);
-    for _ in 0..20 {
-        let (sender, receiver) = channel(alloc)?;
-        keep(&mut senders, sender)?;
-        keep(&mut receivers, receiver)?;
-    }
+    let (mut senders, mut receivers) = (Vec::new(alloc), Vec::new(alloc));
+    add_twenty(alloc, &mut senders, &mut receivers)?;
     senders.reverse();
     Ok((senders, receivers))
+}
+
+fn add_twenty(
+    alloc: Global,
+    senders: &mut Vec<Sender<u64>>,
+    receivers: &mut Vec<Receiver<u64>>,
+) -> Result<(), AllocError> {
+    for _ in 0..20 {
+        let (sender, receiver) = channel(alloc)?;
+        keep(senders, sender)?;
+        keep(receivers, receiver)?;
+    }
+    Ok(())
 }
 
 // The receiver at place n gives n.
@@ -47,13 +55,24 @@ fn sum_of(all: &Vec<Answer>) -> u64 {
         .fold(0u64, |sum, one| sum.saturating_add(one.unwrap_or(1_000)))
 }
 
+// All that the stream gives, while a thread completes what it waits for.
+fn all_of<R, St>(rt: &R, senders: Vec<Sender<u64>>, outputs: St) -> Result<Vec<Answer>, Fail>
+where
+    R: Threads + Wait + RandomSource + AllocGlobal,
+    St: Stream<Item = Answer>,
+    requires { St.can_poll outputs }
+{
+    let thread = thread::spawn(rt, move || send_all(senders))?;
+    let all = block_on(rt, outputs.collect(rt.alloc()))??;
+    thread.join(rt);
+    Ok(all)
+}
+
 #[test]
 fn in_the_order_of_the_stream(rt: HostRuntime) -> Result<(), Fail> {
     let (senders, receivers) = twenty(rt.alloc())?;
-    let thread = thread::spawn(&rt, move || send_all(senders))?;
     let outputs = stream::iter(receivers).foreign_buffered_ordered(rt.alloc(), 4)?;
-    let all = block_on(&rt, outputs.collect(rt.alloc()))??;
-    thread.join(&rt);
+    let all = all_of(&rt, senders, outputs)?;
     assert_same(&rt, (all.len(), are_in_order(&all)), (20, true));
     Ok(())
 }
@@ -61,10 +80,8 @@ fn in_the_order_of_the_stream(rt: HostRuntime) -> Result<(), Fail> {
 #[test]
 fn as_they_finish(rt: HostRuntime) -> Result<(), Fail> {
     let (senders, receivers) = twenty(rt.alloc())?;
-    let thread = thread::spawn(&rt, move || send_all(senders))?;
     let outputs = stream::iter(receivers).foreign_buffered_unordered(rt.alloc(), 4)?;
-    let all = block_on(&rt, outputs.collect(rt.alloc()))??;
-    thread.join(&rt);
+    let all = all_of(&rt, senders, outputs)?;
     assert_same(&rt, (all.len(), sum_of(&all)), (20, 190));
     Ok(())
 }
@@ -72,11 +89,9 @@ fn as_they_finish(rt: HostRuntime) -> Result<(), Fail> {
 #[test]
 fn in_the_order_of_a_stream_that_may_fail(rt: HostRuntime) -> Result<(), Fail> {
     let (senders, receivers) = twenty(rt.alloc())?;
-    let thread = thread::spawn(&rt, move || send_all(senders))?;
     let jobs = stream::iter(receivers).map(Ok::<_, Canceled>);
     let outputs = jobs.foreign_try_buffered_ordered(rt.alloc(), 4)?;
-    let all = block_on(&rt, outputs.collect(rt.alloc()))??;
-    thread.join(&rt);
+    let all = all_of(&rt, senders, outputs)?;
     assert_same(&rt, (all.len(), are_in_order(&all)), (20, true));
     Ok(())
 }
@@ -84,11 +99,9 @@ fn in_the_order_of_a_stream_that_may_fail(rt: HostRuntime) -> Result<(), Fail> {
 #[test]
 fn as_those_of_a_stream_that_may_fail_finish(rt: HostRuntime) -> Result<(), Fail> {
     let (senders, receivers) = twenty(rt.alloc())?;
-    let thread = thread::spawn(&rt, move || send_all(senders))?;
     let jobs = stream::iter(receivers).map(Ok::<_, Canceled>);
     let outputs = jobs.foreign_try_buffered_unordered(rt.alloc(), 4)?;
-    let all = block_on(&rt, outputs.collect(rt.alloc()))??;
-    thread.join(&rt);
+    let all = all_of(&rt, senders, outputs)?;
     assert_same(&rt, (all.len(), sum_of(&all)), (20, 190));
     Ok(())
 }
@@ -126,17 +139,38 @@ fn for_each_item_up_to_an_error(rt: HostRuntime) -> Result<(), Fail> {
     Ok(())
 }
 
-// What an adaptor draws: a stand-in for the stream's future.
+// What an adaptor draws: a stand-in for the stream's future, the end, and nothing where the stream waits.
 #[test]
 fn a_draw_wakes_nobody(rt: HostRuntime) -> Result<(), Fail> {
     let task = MockTask::new(&rt)?;
     let (_sender, receiver) = channel::<u64>(rt.alloc())?;
     let receivers = vec![in rt.alloc(); receiver]?;
     let mut stand_ins = Foreigns::new(stream::iter(receivers));
-    let has_come = match task.enter(|cx| stand_ins.poll_next(cx)) {
-        Poll::Ready(Some(_)) => true,
-        Poll::Ready(None) | Poll::Pending => false,
-    };
-    assert_same(&rt, (has_come, task.is_woken()), (true, false));
+    let drew = task.enter(|cx| stand_ins.poll_next(cx));
+    assert_same(&rt, (drew.is_ready(), task.is_woken()), (true, false));
+    let ended = task.enter(|cx| stand_ins.poll_next(cx));
+    assert_same(&rt, (ended.is_ready(), task.is_woken()), (true, false));
+    let mut waits = Foreigns::new(stream::pending::<Receiver<u64>>());
+    let answer = task.enter(|cx| waits.poll_next(cx));
+    assert_same(&rt, (answer.is_pending(), task.is_woken()), (true, false));
+    Ok(())
+}
+
+// The same where the stream may fail: a stand-in, an error, a stream that waits, and the end.
+#[test]
+fn a_draw_of_an_attempt_wakes_nobody(rt: HostRuntime) -> Result<(), Fail> {
+    let task = MockTask::new(&rt)?;
+    let (_sender, receiver) = channel::<u64>(rt.alloc())?;
+    let attempts = vec![in rt.alloc(); Ok(receiver), Err(7u64)]?;
+    let mut stand_ins = TryForeigns::new(stream::iter(attempts));
+    let drew = task.enter(|cx| stand_ins.poll_next(cx));
+    assert_same(&rt, (drew.is_ready(), task.is_woken()), (true, false));
+    let failed = task.enter(|cx| stand_ins.poll_next(cx));
+    assert_same(&rt, (failed.is_ready(), task.is_woken()), (true, false));
+    let ended = task.enter(|cx| stand_ins.poll_next(cx));
+    assert_same(&rt, (ended.is_ready(), task.is_woken()), (true, false));
+    let mut waits = TryForeigns::new(stream::pending::<Result<Receiver<u64>, u64>>());
+    let answer = task.enter(|cx| waits.poll_next(cx));
+    assert_same(&rt, (answer.is_pending(), task.is_woken()), (true, false));
     Ok(())
 }

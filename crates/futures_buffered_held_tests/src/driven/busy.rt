@@ -18,23 +18,17 @@ use std::thread::{self, JoinHandle, Threads, yield_now};
 
 const TURNS: u64 = 10_000_000;
 
-// Whether the poll has begun, and whether it may end; whether meanwhile a taking answered `Pause`, a registration woke its task, and memory was said to lack for a source more.
+// Whether the poll has begun, and whether it may end.
 #[derive(Drop)]
 struct Door {
     has_begun: AtomicU64,
     may_end: AtomicU64,
-    has_paused: AtomicU64,
-    has_woken: AtomicU64,
-    has_refused: AtomicU64,
 }
 
 fn new_door(alloc: Global) -> Result<Arc<Door>, AllocError> {
     let door = Door {
         has_begun: AtomicU64::new(0),
         may_end: AtomicU64::new(0),
-        has_paused: AtomicU64::new(0),
-        has_woken: AtomicU64::new(0),
-        has_refused: AtomicU64::new(0),
     };
     Ok(Arc::new(alloc, door)?)
 }
@@ -77,20 +71,19 @@ fn begin(source: &mut Source, held: &mut Foreign<Stays>) -> Taken
     source.take()
 }
 
-fn note(word: &AtomicU64, is_so: bool) {
-    word.store(u64::from(is_so), SeqCst);
-}
+// What the source beside says meanwhile: whether its registration wakes the task, what it names, and why it makes no source more.
+type Said = (bool, Taken, Option<NewFault>);
 
 // Asks the source beside, and then lets the poll end.
-fn ask(door: &Door, alloc: Global, task: &MockTask, source: &mut Source) {
+fn ask(door: &Door, alloc: Global, task: &MockTask, source: &mut Source) -> Option<Said> {
+    let mut said = None;
     if is_set(&door.has_begun) {
         task.enter(|cx| source.register(cx));
-        note(&door.has_woken, task.is_woken());
-        note(&door.has_paused, source.take() == Taken::Pause);
-        let refused = source.make_sibling(alloc, 1).err();
-        note(&door.has_refused, refused == Some(NewFault::Memory));
+        let is_woken = task.is_woken();
+        said = Some((is_woken, source.take(), source.make_sibling(alloc, 1).err()));
     }
-    note(&door.may_end, true);
+    door.may_end.store(1, SeqCst);
+    said
 }
 
 fn start<R: Threads + AllocGlobal>(
@@ -98,7 +91,7 @@ fn start<R: Threads + AllocGlobal>(
     door: &Arc<Door>,
     task: MockTask,
     mut source: Source,
-) -> Result<JoinHandle<()>, Fail> {
+) -> Result<JoinHandle<Option<Said>>, Fail> {
     let door = Arc::try_clone(door)?;
     let alloc = rt.alloc();
     Ok(thread::spawn(rt, move || ask(&door, alloc, &task, &mut source))?)
@@ -118,10 +111,9 @@ fn a_source_beside_is_asked_meanwhile(rt: HostRuntime) -> Result<(), Fail> {
     assert_same(&rt, begin(&mut source, &mut held), Taken::Pause);
     let thread = start(&rt, &door, other, beside)?;
     task.enter(|cx| source.register(cx));
-    thread.join(&rt);
-    assert_same(&rt, door.has_paused.load(SeqCst), 1);
-    assert_same(&rt, door.has_woken.load(SeqCst), 1);
-    assert_same(&rt, door.has_refused.load(SeqCst), 1);
+    let said = thread.join(&rt);
+    let wanted = (true, Taken::Pause, Some(NewFault::Memory));
+    assert_same(&rt, said, Some(wanted));
     assert_same(&rt, source.take(), Taken::Slot(0));
     Ok(())
 }

@@ -1,12 +1,12 @@
-//! What the short names of sets, queues, joins and merges of the kit's futures make.
+//! What the short names of queues, joins and merges of the kit's futures make. What those of sets make is in `drops` and `nested`, and the guide has the merge.
 use crate::same::assert_same;
 use futures::StreamExt;
 use futures::channel::mpsc::{UnboundedReceiver, unbounded};
 use futures::channel::oneshot::{Receiver, channel};
 use futures::executor::block_on;
 use futures_buffered::{
-    Foreign, ForeignStream, foreign_merge, foreign_queue, foreign_try_join_all,
-    growing_foreign_merge, growing_foreign_queue, growing_foreign_set,
+    Foreign, ForeignStream, foreign_queue, foreign_try_join_all, growing_foreign_merge,
+    growing_foreign_queue,
 };
 use std::alloc::{AllocError, Global};
 use std::test::Fail;
@@ -23,14 +23,6 @@ fn item(alloc: Global, value: u64) -> Result<ForeignStream<UnboundedReceiver<u64
     let (sender, receiver) = unbounded(alloc)?;
     sender.unbounded_send(value)?;
     Ok(ForeignStream::new(receiver))
-}
-
-#[test]
-fn a_growing_set(rt: HostRuntime) -> Result<(), Fail> {
-    let mut set = growing_foreign_set(rt.alloc(), 0)?;
-    set.add(sent(rt.alloc(), 3)?)?;
-    assert_same(&rt, block_on(&rt, set.next())?, Some(Ok(3)));
-    Ok(())
 }
 
 #[test]
@@ -55,14 +47,6 @@ fn a_join_that_may_fail(rt: HostRuntime) -> Result<(), Fail> {
     let all = block_on(&rt, foreign_try_join_all(rt.alloc(), jobs)?)?;
     let sum = all.map(|all| all.iter().fold(0u64, |sum, one| sum.wrapping_add(*one)));
     assert_same(&rt, sum, Ok(9));
-    Ok(())
-}
-
-#[test]
-fn a_merge(rt: HostRuntime) -> Result<(), Fail> {
-    let streams = vec![in rt.alloc(); item(rt.alloc(), 6)?]?;
-    let mut merge = foreign_merge(rt.alloc(), streams)?;
-    assert_same(&rt, block_on(&rt, merge.next())?, Some(6));
     Ok(())
 }
 

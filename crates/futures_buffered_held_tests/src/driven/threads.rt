@@ -1,10 +1,9 @@
 //! A hundred receivers, whose values are sent from four threads. Each thread sends the last of its values first.
 use crate::driven::receivers::{Counted, Receivers, Sender};
 use crate::same::assert_same;
+use futures::StreamExt;
 use futures::executor::block_on;
-use futures::task::{Context, Poll};
-use futures::{Future, Stream, StreamExt};
-use futures_buffered_held::{Foreign, ForeignQueue, ForeignSet, GrowingForeignSet, foreign_set};
+use futures_buffered_held::{Foreign, ForeignQueue, GrowingForeignSet};
 use std::alloc::{AllocError, AllocGlobal};
 use std::test::Fail;
 use std::thread::{self, JoinHandle, Threads};
@@ -73,54 +72,6 @@ fn all_came(all: &Vec<u64>) -> bool {
     all.len() == 100 && all.iter().enumerate().all(|(n, one)| *one == n as u64)
 }
 
-// A set of eight, into which the rest goes as there is room, and how many numbers came, with their sum.
-#[derive(Drop)]
-struct Eight {
-    set: ForeignSet<Counted>,
-    rest: Held,
-    came: (u64, u64),
-}
-
-impl Future for Eight {
-    type Output = (u64, u64);
-
-    fn poll(&mut self, cx: &mut Context<'_>) -> Poll<(u64, u64)> {
-        if !self.set.is_full() {
-            if let Some(foreign) = self.rest.pop() {
-                let _ = self.set.try_push(foreign);
-                return cx.yield_now();
-            }
-        }
-        match self.set.poll_next(cx) {
-            Poll::Ready(Some(n)) => {
-                let (count, sum) = self.came;
-                self.came = (count.wrapping_add(1), sum.wrapping_add(n));
-                cx.yield_now()
-            }
-            Poll::Ready(None) => Poll::Ready(self.came),
-            Poll::Pending => Poll::Pending,
-        }
-    }
-}
-
-#[test]
-fn a_hundred_from_four_threads(rt: HostRuntime) -> Result<(), Fail> {
-    let receivers = Receivers::new(rt.alloc())?;
-    let (mut rest, mut threads) = (Vec::new(rt.alloc()), Vec::new(rt.alloc()));
-    start(&rt, &receivers, &mut rest, &mut threads)?;
-    let set = foreign_set(rt.alloc(), 8)?;
-    let eight = Eight {
-        set,
-        rest,
-        came: (0, 0),
-    };
-    assert_same(&rt, block_on(&rt, eight)?, (100, 4_950));
-    end(&rt, threads);
-    // Each is polled once as it begins, and once as it ends.
-    assert!(rt; receivers.polls() <= 200);
-    Ok(())
-}
-
 fn push_all(set: &mut GrowingForeignSet<Counted>, held: Held) {
     for foreign in held {
         let _ = set.push(foreign);
@@ -138,6 +89,7 @@ fn a_hundred_from_four_threads_in_a_growing_set(rt: HostRuntime) -> Result<(), F
     end(&rt, threads);
     all.sort_unstable();
     assert_same(&rt, all_came(&all), true);
+    // Each is polled once as it begins, and once as it ends.
     assert!(rt; receivers.polls() <= 200);
     Ok(())
 }
