@@ -1,4 +1,4 @@
-//! A send and a poll meet in one round after another, each time at a new one-shot. Once both are over, either the value came, or the slot is marked and the value comes at the next poll: so no later wake stands in for one that was lost.
+//! A send and a poll meet in one round after another, each time at a new one-shot. Once both are over, either the value came, or the slot is marked and the value comes at the next poll: so no later wake stands in for one that was lost. And a sender looks for its receiver while that is polled.
 use crate::rounds::{Rounds, new_rounds, pause, takes, wait_for};
 use crate::same::assert_same;
 use futures::task::Poll;
@@ -9,30 +9,19 @@ use std::alloc::{AllocError, Global};
 use std::sync::Arc;
 use std::sync::atomic::Ordering::SeqCst;
 use std::test::Fail;
-use std::thread;
+use std::thread::{self, yield_now};
 use test_support::keep::keep;
 
 const ROUNDS: u64 = 50_000;
 
-// Asks so many times whether the receiver is gone, which lets a while pass.
-fn is_gone(sender: &Sender<u64>, times: u64) -> bool {
-    for _ in 0..times {
-        if sender.is_canceled() {
-            return true;
-        }
-    }
-    false
-}
-
-// Sends in its round, unless the receiver is said to be gone. It never is, also while it is polled.
 fn send_once(rounds: &Rounds, round: u64, sender: Sender<u64>) {
     wait_for(&rounds.begun, round);
-    if !is_gone(&sender, round % 29) {
-        let _ = sender.send(round);
-    }
+    pause(rounds, round % 29);
+    let _ = sender.send(round);
     rounds.over.store(round, SeqCst);
 }
 
+// Sends once in each round.
 fn send_often(rounds: &Rounds, senders: Vec<Sender<u64>>) {
     for (before, sender) in senders.into_iter().enumerate() {
         send_once(rounds, (before as u64).saturating_add(1), sender);
@@ -98,5 +87,46 @@ fn no_wake_of_fifty_thousand_is_lost(rt: HostRuntime) -> Result<(), Fail> {
     let lost = lost(&mut source, &rounds, receivers);
     thread.join(&rt);
     assert_same(&rt, lost, 0);
+    Ok(())
+}
+
+const LOOKS: u64 = 200_000;
+
+// How often the receiver is said to be gone, while it is polled all the time.
+fn look_often(rounds: &Rounds, sender: &Sender<u64>) -> u64 {
+    wait_for(&rounds.begun, 1);
+    let mut gone = 0u64;
+    for look in 0..LOOKS {
+        if sender.is_canceled() {
+            gone = gone.saturating_add(1);
+        }
+        if look % 10_000 == 0 {
+            yield_now();
+        }
+    }
+    rounds.over.store(1, SeqCst);
+    gone
+}
+
+// Polls until the other thread has looked.
+fn poll_meanwhile(rounds: &Rounds, source: &SharedReady, receiver: &mut Receiver<u64>) {
+    rounds.begun.store(1, SeqCst);
+    for _ in 0..u64::MAX {
+        if rounds.over.load(SeqCst) == 1 {
+            return;
+        }
+        let _came = polled(source, receiver, 0);
+    }
+}
+
+#[test]
+fn a_receiver_that_is_polled_is_not_gone(rt: HostRuntime) -> Result<(), Fail> {
+    let source: SharedReady = SharedReady::new(rt.alloc(), 1)?;
+    let (sender, mut receiver) = channel(rt.alloc())?;
+    let rounds = new_rounds(rt.alloc())?;
+    let shared = Arc::try_clone(&rounds)?;
+    let thread = thread::spawn(&rt, move || look_often(&shared, &sender))?;
+    poll_meanwhile(&rounds, &source, &mut receiver);
+    assert_same(&rt, thread.join(&rt), 0);
     Ok(())
 }
