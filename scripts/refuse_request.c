@@ -1,27 +1,47 @@
 /*
- * Refuses requests for memory of a program, by their numbers: the first that it makes has the number 1.
+ * Stands between a program and the memory of the C library: refuses requests by their numbers, and counts what is asked for and given back.
  *
  *     gcc -shared -fPIC -O2 -o refuse_request.so refuse_request.c
- *     REFUSE_FIRST=7 REFUSE_LAST=9 REFUSE_REPORT=FILE LD_PRELOAD=./refuse_request.so PROGRAM
+ *     REFUSE_FIRST=7 REFUSE_LAST=9 MEMORY_REPORT=FILE LD_PRELOAD=./refuse_request.so PROGRAM
  *
- * The requests from REFUSE_FIRST to REFUSE_LAST are refused; with no REFUSE_LAST, all from REFUSE_FIRST on. Once one is refused the file
- * REFUSE_REPORT is there: where a run leaves none, the program made fewer requests. Requests are those of `malloc` and `realloc`, by which
- * a built program asks for all its memory. For Linux with glibc, whose own functions serve what is not refused.
+ * The first request that the program makes has the number 1. Those from REFUSE_FIRST to REFUSE_LAST are refused; with no REFUSE_LAST, all
+ * from REFUSE_FIRST on, and with no REFUSE_FIRST none. As the program ends, it writes to MEMORY_REPORT how many were refused, and how many
+ * blocks it took and did not give back, as `3 0`. A program that a signal stopped leaves no report.
+ *
+ * Requests are those of `malloc` and `realloc`, by which a built program asks for all its memory. One of QUESTION bytes, more than there
+ * are, asks for none: it begins a count of the bytes that are asked for. One of N bytes more, below MOST_ASKED, is refused unless fewer
+ * than N were.
+ *
+ * What `calloc` gives is neither counted nor refused: a program does not call it. The C library does, for a block of each thread, which it
+ * keeps for a later thread. That stands in a room of its own. For Linux with glibc, whose own functions serve what is not refused.
  */
 #include <errno.h>
 #include <fcntl.h>
 #include <limits.h>
 #include <stdatomic.h>
 #include <stddef.h>
+#include <stdint.h>
+#include <stdio.h>
 #include <stdlib.h>
+#include <sys/syscall.h>
 #include <unistd.h>
+
+#define QUESTION ((size_t)1 << 46)
+#define MOST_ASKED ((size_t)1 << 30)
+#define ROOM ((size_t)1 << 20)
 
 extern void *__libc_malloc(size_t size);
 extern void *__libc_realloc(void *block, size_t size);
+extern void __libc_free(void *block);
 
 static long first_refused = LONG_MAX;
 static long last_refused = LONG_MAX;
 static atomic_long requests;
+static atomic_long refused;
+static atomic_long blocks;
+static atomic_size_t bytes;
+static _Alignas(64) char room[ROOM];
+static atomic_size_t taken;
 
 static long number_in(const char *variable) {
     const char *text = getenv(variable);
@@ -33,15 +53,24 @@ __attribute__((constructor)) static void begin(void) {
     first_refused = number_in("REFUSE_FIRST");
     last_refused = number_in("REFUSE_LAST");
     atomic_store(&requests, 0);
+    atomic_store(&blocks, 0);
 }
 
-/* At each refusal, so that the file is there before any of them is answered, whichever thread it came to. */
-static void report(void) {
-    const char *file = getenv("REFUSE_REPORT");
-    int descriptor = file ? open(file, O_WRONLY | O_CREAT, 0644) : -1;
-    if (descriptor >= 0) {
+__attribute__((destructor)) static void report(void) {
+    const char *file = getenv("MEMORY_REPORT");
+    int descriptor = file ? open(file, O_WRONLY | O_CREAT | O_TRUNC, 0644) : -1;
+    char line[64];
+    int length = snprintf(line, sizeof line, "%ld %ld\n", atomic_load(&refused), atomic_load(&blocks));
+    if (descriptor >= 0 && write(descriptor, line, length) == length) {
         close(descriptor);
     }
+}
+
+/* Ends the program with no call of what is registered for its end. */
+void _exit(int status) {
+    report();
+    syscall(SYS_exit_group, status);
+    __builtin_unreachable();
 }
 
 static int is_refused(void) {
@@ -49,15 +78,69 @@ static int is_refused(void) {
     if (number < first_refused || number > last_refused) {
         return 0;
     }
-    report();
-    errno = ENOMEM;
+    atomic_fetch_add(&refused, 1);
     return 1;
 }
 
+static void *taken_block(size_t size) {
+    void *block = __libc_malloc(size);
+    if (block) {
+        atomic_fetch_add(&blocks, 1);
+    }
+    return block;
+}
+
+/* Begins a count, or says whether it is below that many bytes: then it gives a block. */
+static void *answer(size_t most) {
+    if (most == 0) {
+        atomic_store(&bytes, 0);
+    }
+    return most == 0 || atomic_load(&bytes) < most ? taken_block(1) : NULL;
+}
+
 void *malloc(size_t size) {
-    return is_refused() ? NULL : __libc_malloc(size);
+    if (size >= QUESTION && size - QUESTION < MOST_ASKED) {
+        return answer(size - QUESTION);
+    }
+    atomic_fetch_add(&bytes, size);
+    if (is_refused()) {
+        errno = ENOMEM;
+        return NULL;
+    }
+    return taken_block(size);
 }
 
 void *realloc(void *block, size_t size) {
-    return is_refused() ? NULL : __libc_realloc(block, size);
+    if (!block) {
+        return malloc(size);
+    }
+    atomic_fetch_add(&bytes, size);
+    if (is_refused()) {
+        errno = ENOMEM;
+        return NULL;
+    }
+    return __libc_realloc(block, size);
+}
+
+/* Nothing of the room is given twice. It is all zeros. */
+void *calloc(size_t count, size_t size) {
+    size_t wanted = (count * size + 63) / 64 * 64;
+    size_t at = atomic_fetch_add(&taken, wanted);
+    if (at + wanted > ROOM) {
+        errno = ENOMEM;
+        return NULL;
+    }
+    return room + at;
+}
+
+static int is_in_room(const void *block) {
+    return (uintptr_t)block - (uintptr_t)room < ROOM;
+}
+
+void free(void *block) {
+    if (!block || is_in_room(block)) {
+        return;
+    }
+    atomic_fetch_sub(&blocks, 1);
+    __libc_free(block);
 }

@@ -80,20 +80,31 @@ def run_of_crate(name):
     return StoredRun(name, name, words, given, data, (), wanted)
 
 
+def has_many_items(run):
+    """Whether this is a file of calls of many items."""
+    return run.name.endswith("_sizes.calls")
+
+
 def runs_of_calls():
-    """Each file that `calls` reads, alone, but for those of many items. Its replies are the line that begins with its name."""
+    """Each file that `calls` reads, alone. Its replies are the line that begins with its name."""
     whole = run_of_crate("calls")
     for file in whole.words:
-        if file.endswith("_sizes.calls"):
-            continue
         lines = [line for line in whole.wanted.output.splitlines(True) if line.startswith(f"{file}:".encode())]
         wanted = dataclasses.replace(whole.wanted, output=b"".join(lines))
         yield dataclasses.replace(whole, name=file, words=(file,), wanted=wanted)
 
 
-def built(name):
-    """The programs that the gate, or `rt run`, left of a crate: as LLVM builds it, and as Rattle's own compiler does."""
-    made = CRATES / name / "out" / name
+def runs_of_tests(program):
+    """Each test of a built crate of tests, alone."""
+    listed = subprocess.run([os.path.abspath(program), "--list"], capture_output=True, check=True, text=True).stdout
+    for test in [line.removesuffix(": test") for line in listed.splitlines() if line.endswith(": test")]:
+        yield StoredRun(test, program.name, (test,), pathlib.Path(os.devnull), ROOT, (), Ended(0, b"", b""))
+
+
+def built(name, ending=""):
+    """The programs that the gate, or `rt run`, left of a crate: as LLVM builds it, and as Rattle's own compiler does. With an ending, its
+    tests."""
+    made = CRATES / name / "out" / f"{name}{ending}"
     found = [path for path in (made, made.with_name(f"{name}.by-rattle")) if path.is_file()]
     if not found:
         sys.exit(f"there is no {made.relative_to(ROOT)}: `rt ci` leaves it, and so does `rt run` in crates/{name}")

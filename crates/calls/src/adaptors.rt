@@ -14,13 +14,13 @@ use crate::values::{NumberFuture, TryFuture, TryUnitFuture, UnitFuture};
 use futures::stream::TryStreamExt;
 use futures::task::Context;
 use futures::{Future, Stream};
-use futures_buffered::BufferedTryStreamExt;
 use futures_buffered::buffer_unordered::BufferUnordered;
 use futures_buffered::buffered_ordered::BufferedOrdered;
 use futures_buffered::for_each_concurrent::ForEachConcurrent;
 use futures_buffered::try_buffer_unordered::TryBufferUnordered;
 use futures_buffered::try_buffered_ordered::TryBufferedOrdered;
 use futures_buffered::try_for_each_concurrent::TryForEachConcurrent;
+use futures_buffered::{Buffer, BufferedTryStreamExt, FutureQueue, NewQueue};
 use futures_buffered_core::ready_core::NewFault;
 use futures_buffered_core::ready_shared::SharedReady;
 use futures_buffered_sets::futures_unordered_bounded::POLL_LIMIT;
@@ -43,38 +43,47 @@ fn size_of(numbers: &[usize]) -> usize {
     }
 }
 
+// What a buffer replies, over whatever queue it is.
+fn ask_buffer<St: Stream + SizeHint, Q: FutureQueue<St::Item>>(
+    buffer: &Buffer<St, Q>,
+    call: Call<'_>,
+    text: &mut String,
+) -> Reply {
+    match call {
+        Call::Ask(Query::SizeHint) => of_hint(buffer.size_hint()),
+        Call::Ask(Query::Len) => Reply::Number(buffer.len()),
+        Call::Ask(Query::IsEmpty) => Reply::Is(buffer.is_empty()),
+        Call::Ask(Query::Capacity) => Reply::Number(buffer.capacity()),
+        Call::Ask(Query::HasStream) => Reply::Is(buffer.stream().is_some()),
+        Call::Ask(Query::IsTerminated) => Reply::Is(buffer.is_terminated()),
+        Call::Ask(Query::Debug) => of_debug(write!(text, "{buffer:?}")),
+        _ => Reply::Nothing,
+    }
+}
+
+fn new_buffer<St: Drop, Q: NewQueue<Env = (), Source = SharedReady>>(
+    options: &Options,
+    source: St,
+    n: usize,
+) -> Result<Buffer<St, Q>, NewFault>
+    requires { 0 < n }
+{
+    match options.limit {
+        Some(limit) if limit > 0 && options.takes_source => {
+            Buffer::over_limit(&(), options.alloc, source, n, limit)
+        }
+        _ if options.takes_source => Buffer::over(&(), options.alloc, source, n),
+        _ => Buffer::with_limit(options.alloc, source, n, limit_of(options)),
+    }
+}
+
 impl Subject for BufferUnordered<FutureSource<NumberFuture>, SharedReady> {
     fn poll(&mut self, cx: &mut Context<'_>, _outputs: &mut Vec<u64>) -> Answer {
         of_output(self.poll_next(cx))
     }
 
     fn call(&mut self, call: Call<'_>, _world: &SharedWorld, text: &mut String) -> Reply {
-        match call {
-            Call::Ask(Query::SizeHint) => of_hint(self.size_hint()),
-            Call::Ask(Query::Len) => Reply::Number(self.len()),
-            Call::Ask(Query::IsEmpty) => Reply::Is(self.is_empty()),
-            Call::Ask(Query::Capacity) => Reply::Number(self.capacity()),
-            Call::Ask(Query::HasStream) => Reply::Is(self.stream().is_some()),
-            Call::Ask(Query::IsTerminated) => Reply::Is(self.is_terminated()),
-            Call::Ask(Query::Debug) => of_debug(write!(text, "{self:?}")),
-            _ => Reply::Nothing,
-        }
-    }
-}
-
-fn new_buffer(
-    options: &Options,
-    source: FutureSource<NumberFuture>,
-    n: usize,
-) -> Result<BufferUnordered<FutureSource<NumberFuture>, SharedReady>, NewFault>
-    requires { 0 < n }
-{
-    match options.limit {
-        Some(limit) if limit > 0 && options.takes_source => {
-            BufferUnordered::over_limit(&(), options.alloc, source, n, limit)
-        }
-        _ if options.takes_source => BufferUnordered::over(&(), options.alloc, source, n),
-        _ => BufferUnordered::with_limit(options.alloc, source, n, limit_of(options)),
+        ask_buffer(self, call, text)
     }
 }
 
@@ -91,7 +100,8 @@ pub fn run_buffer(
         &session.world,
         session.options.hint,
     )?;
-    let made = new_buffer(&session.options, source, n);
+    let made: Result<BufferUnordered<FutureSource<NumberFuture>, SharedReady>, NewFault> =
+        new_buffer(&session.options, source, n);
     run_made(session, made, lines)
 }
 
@@ -101,32 +111,7 @@ impl Subject for BufferedOrdered<FutureSource<NumberFuture>, SharedReady> {
     }
 
     fn call(&mut self, call: Call<'_>, _world: &SharedWorld, text: &mut String) -> Reply {
-        match call {
-            Call::Ask(Query::SizeHint) => of_hint(self.size_hint()),
-            Call::Ask(Query::Len) => Reply::Number(self.len()),
-            Call::Ask(Query::IsEmpty) => Reply::Is(self.is_empty()),
-            Call::Ask(Query::Capacity) => Reply::Number(self.capacity()),
-            Call::Ask(Query::HasStream) => Reply::Is(self.stream().is_some()),
-            Call::Ask(Query::IsTerminated) => Reply::Is(self.is_terminated()),
-            Call::Ask(Query::Debug) => of_debug(write!(text, "{self:?}")),
-            _ => Reply::Nothing,
-        }
-    }
-}
-
-fn new_ordered_buffer(
-    options: &Options,
-    source: FutureSource<NumberFuture>,
-    n: usize,
-) -> Result<BufferedOrdered<FutureSource<NumberFuture>, SharedReady>, NewFault>
-    requires { 0 < n }
-{
-    match options.limit {
-        Some(limit) if limit > 0 && options.takes_source => {
-            BufferedOrdered::over_limit(&(), options.alloc, source, n, limit)
-        }
-        _ if options.takes_source => BufferedOrdered::over(&(), options.alloc, source, n),
-        _ => BufferedOrdered::with_limit(options.alloc, source, n, limit_of(options)),
+        ask_buffer(self, call, text)
     }
 }
 
@@ -143,7 +128,8 @@ pub fn run_ordered_buffer(
         &session.world,
         session.options.hint,
     )?;
-    let made = new_ordered_buffer(&session.options, source, n);
+    let made: Result<BufferedOrdered<FutureSource<NumberFuture>, SharedReady>, NewFault> =
+        new_buffer(&session.options, source, n);
     run_made(session, made, lines)
 }
 
@@ -153,32 +139,7 @@ impl Subject for TryBufferUnordered<TryFutureSource<TryFuture>, TryFuture, Share
     }
 
     fn call(&mut self, call: Call<'_>, _world: &SharedWorld, text: &mut String) -> Reply {
-        match call {
-            Call::Ask(Query::SizeHint) => of_hint(self.size_hint()),
-            Call::Ask(Query::Len) => Reply::Number(self.len()),
-            Call::Ask(Query::IsEmpty) => Reply::Is(self.is_empty()),
-            Call::Ask(Query::Capacity) => Reply::Number(self.capacity()),
-            Call::Ask(Query::HasStream) => Reply::Is(self.stream().is_some()),
-            Call::Ask(Query::IsTerminated) => Reply::Is(self.is_terminated()),
-            Call::Ask(Query::Debug) => of_debug(write!(text, "{self:?}")),
-            _ => Reply::Nothing,
-        }
-    }
-}
-
-fn new_try_buffer(
-    options: &Options,
-    source: TryFutureSource<TryFuture>,
-    n: usize,
-) -> Result<TryBufferUnordered<TryFutureSource<TryFuture>, TryFuture, SharedReady>, NewFault>
-    requires { 0 < n }
-{
-    match options.limit {
-        Some(limit) if limit > 0 && options.takes_source => {
-            TryBufferUnordered::over_limit(&(), options.alloc, source, n, limit)
-        }
-        _ if options.takes_source => TryBufferUnordered::over(&(), options.alloc, source, n),
-        _ => TryBufferUnordered::with_limit(options.alloc, source, n, limit_of(options)),
+        ask_buffer(self, call, text)
     }
 }
 
@@ -195,7 +156,10 @@ pub fn run_try_buffer(
         &session.world,
         session.options.hint,
     )?;
-    let made = new_try_buffer(&session.options, source, n);
+    let made: Result<
+        TryBufferUnordered<TryFutureSource<TryFuture>, TryFuture, SharedReady>,
+        NewFault,
+    > = new_buffer(&session.options, source, n);
     run_made(session, made, lines)
 }
 
@@ -205,32 +169,7 @@ impl Subject for TryBufferedOrdered<TryFutureSource<TryFuture>, TryFuture, Share
     }
 
     fn call(&mut self, call: Call<'_>, _world: &SharedWorld, text: &mut String) -> Reply {
-        match call {
-            Call::Ask(Query::SizeHint) => of_hint(self.size_hint()),
-            Call::Ask(Query::Len) => Reply::Number(self.len()),
-            Call::Ask(Query::IsEmpty) => Reply::Is(self.is_empty()),
-            Call::Ask(Query::Capacity) => Reply::Number(self.capacity()),
-            Call::Ask(Query::HasStream) => Reply::Is(self.stream().is_some()),
-            Call::Ask(Query::IsTerminated) => Reply::Is(self.is_terminated()),
-            Call::Ask(Query::Debug) => of_debug(write!(text, "{self:?}")),
-            _ => Reply::Nothing,
-        }
-    }
-}
-
-fn new_try_ordered_buffer(
-    options: &Options,
-    source: TryFutureSource<TryFuture>,
-    n: usize,
-) -> Result<TryBufferedOrdered<TryFutureSource<TryFuture>, TryFuture, SharedReady>, NewFault>
-    requires { 0 < n }
-{
-    match options.limit {
-        Some(limit) if limit > 0 && options.takes_source => {
-            TryBufferedOrdered::over_limit(&(), options.alloc, source, n, limit)
-        }
-        _ if options.takes_source => TryBufferedOrdered::over(&(), options.alloc, source, n),
-        _ => TryBufferedOrdered::with_limit(options.alloc, source, n, limit_of(options)),
+        ask_buffer(self, call, text)
     }
 }
 
@@ -247,7 +186,10 @@ pub fn run_try_ordered_buffer(
         &session.world,
         session.options.hint,
     )?;
-    let made = new_try_ordered_buffer(&session.options, source, n);
+    let made: Result<
+        TryBufferedOrdered<TryFutureSource<TryFuture>, TryFuture, SharedReady>,
+        NewFault,
+    > = new_buffer(&session.options, source, n);
     run_made(session, made, lines)
 }
 
@@ -299,7 +241,8 @@ pub fn run_for_each(
         return Ok(0);
     }
     let source: FutureSource<UnitFuture> = FutureSource::new(&session.world, session.options.hint)?;
-    let call = |item: UnitFuture| item.called();
+    let world = session.world.share()?;
+    let call = move |item: UnitFuture| item.called(&world);
     let made = new_for_each(&session.options, source, n, call);
     run_made(session, made, lines)
 }
@@ -364,7 +307,8 @@ pub fn run_try_for_each(
         &session.world,
         session.options.hint,
     )?;
-    let call = |item: TryUnitFuture| item.called();
+    let world = session.world.share()?;
+    let call = move |item: TryUnitFuture| item.called(&world);
     let made = new_try_for_each(&session.options, source, n, call);
     run_made(session, made, lines)
 }

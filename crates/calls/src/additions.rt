@@ -17,6 +17,14 @@ const QUERIES: [Query; 6] = [
     Query::IsTerminated,
 ];
 
+// How many bytes the object may ask for as it is asked. A text takes memory.
+fn most_of_query(query: Query) -> Option<usize> {
+    match query {
+        Query::Debug => None,
+        _ => Some(0),
+    }
+}
+
 // What the object says of itself, and what `Debug` prints of it. Whether there was memory for that.
 fn describe_once<O: Subject>(
     object: &mut O,
@@ -49,7 +57,10 @@ impl Session {
     }
 
     fn ask<O: Subject>(&mut self, object: &mut O, query: Query) -> Reply {
-        object.call(Call::Ask(query), &self.world, &mut self.reply.string)
+        self.counter.begin(most_of_query(query));
+        let reply = object.call(Call::Ask(query), &self.world, &mut self.reply.string);
+        self.counter.end();
+        reply
     }
 
     // How many entries the object says that it has.
@@ -76,7 +87,10 @@ impl Session {
     }
 
     fn push_once<O: Subject>(&mut self, object: &mut O, end: End, id: usize) -> Reply {
-        object.call(Call::Push(end, id), &self.world, &mut self.reply.string)
+        self.counter.begin(None);
+        let reply = object.call(Call::Push(end, id), &self.world, &mut self.reply.string);
+        self.counter.end();
+        reply
     }
 
     // A call that was refused was made once more, with this reply.
@@ -162,10 +176,13 @@ impl Session {
 
     // Adds those from this place on.
     fn extend_once<O: Subject>(&mut self, object: &mut O, from: usize) -> Reply {
-        match self.ids.get(from..) {
+        self.counter.begin(None);
+        let reply = match self.ids.get(from..) {
             Some(ids) => object.call(Call::Extend(ids), &self.world, &mut self.reply.string),
             None => Reply::Nothing,
-        }
+        };
+        self.counter.end();
+        reply
     }
 
     fn has_dropped_from(&self, from: usize) -> bool {
@@ -208,7 +225,10 @@ impl Session {
     /// Has the object drop what it holds, and writes what was dropped.
     pub fn clear<O: Subject>(&mut self, object: &mut O) {
         self.world.forget_effects();
-        match object.call(Call::Clear, &self.world, &mut self.reply.string) {
+        self.counter.begin(Some(0));
+        let reply = object.call(Call::Clear, &self.world, &mut self.reply.string);
+        self.counter.end();
+        match reply {
             Reply::Ok => self.world.append_dropped(&mut self.reply),
             reply => append_reply(&mut self.reply, reply),
         }

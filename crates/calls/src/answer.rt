@@ -3,6 +3,7 @@ use crate::memory;
 use crate::text::Text;
 use crate::values::Output;
 use futures::task::Poll;
+use futures_buffered_core::ready_core::NewFault;
 use std::alloc::AllocError;
 
 /// What a poll answers. The outputs of a join stand beside it.
@@ -184,6 +185,14 @@ fn append_most(text: &mut Text, most: Option<usize>) {
     match most {
         Some(most) => text.append_number(most as u64),
         None => text.append("-"),
+    }
+}
+
+/// Why nothing was made.
+pub fn fault_word(fault: NewFault) -> &'static str {
+    match fault {
+        NewFault::Memory => "memory",
+        NewFault::TooLarge => "too large",
     }
 }
 

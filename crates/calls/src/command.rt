@@ -11,6 +11,9 @@ pub enum Command {
     WithLimit,
     Filtered,
     Over,
+    Core,
+    Run,
+    Steps,
     Begin(Kind),
     Poll,
     Drain,
@@ -107,6 +110,20 @@ fn kind_of(word: &str) -> Option<Kind> {
     })
 }
 
+/// Whether it holds what is of the kit.
+pub fn is_foreign(kind: Kind) -> bool {
+    matches!(
+        kind,
+        Kind::ForeignSet
+            | Kind::ForeignQueue
+            | Kind::ForeignJoin
+            | Kind::ForeignTryJoin
+            | Kind::ForeignMerge
+            | Kind::ForeignBufferedOrdered
+            | Kind::ForeignSource,
+    )
+}
+
 /// The kind that `of` behind its word makes.
 pub fn kind_of_values(kind: Kind) -> Kind {
     match kind {
@@ -142,6 +159,9 @@ pub fn command_of(word: &str) -> Option<Command> {
         "with_limit" => Command::WithLimit,
         "filtered" => Command::Filtered,
         "over" => Command::Over,
+        "core" => Command::Core,
+        "run" => Command::Run,
+        "steps" => Command::Steps,
         "poll" => Command::Poll,
         "drain" => Command::Drain,
         "enter" => Command::Enter,

@@ -1,5 +1,6 @@
 //! A line of a file of tests, as its parts.
 use crate::command::{Command, Kind, command_of, kind_of_values};
+use crate::numbers::number;
 
 /// What a line is.
 #[derive(Clone, Copy)]
@@ -17,6 +18,29 @@ pub enum Line<'a> {
 pub struct Wanted<'a> {
     pub reply: &'a str,
     pub must_differ: bool,
+    /// How many bytes the call may ask for at most, where the line says so.
+    pub within: Option<usize>,
+}
+
+// `within N CALL`.
+fn split_within(call: &str) -> Option<(usize, &str)> {
+    let (most, call) = call.strip_prefix("within ")?.split_once(' ')?;
+    Some((number(most)?, call))
+}
+
+fn with_most<'a>(call: &'a str, reply: &'a str, must_differ: bool) -> Line<'a> {
+    let (within, call) = match split_within(call) {
+        Some((most, call)) => (Some(most), call),
+        None => (None, call),
+    };
+    Line::Call(
+        call,
+        Wanted {
+            reply,
+            must_differ,
+            within,
+        },
+    )
 }
 
 // A line without a reply wants `ok`.
@@ -26,20 +50,8 @@ fn call_of<'a>(line: &'a str) -> Line<'a> {
         None => (line, "ok"),
     };
     match call.strip_prefix("differs ") {
-        Some(call) => Line::Call(
-            call,
-            Wanted {
-                reply,
-                must_differ: true,
-            },
-        ),
-        None => Line::Call(
-            call,
-            Wanted {
-                reply,
-                must_differ: false,
-            },
-        ),
+        Some(call) => with_most(call, reply, true),
+        None => with_most(call, reply, false),
     }
 }
 
@@ -75,6 +87,14 @@ pub fn begun_by<'a>(line: &'a str) -> Option<(Kind, &'a str)> {
                 _ => None,
             }
         }
+        _ => None,
+    }
+}
+
+/// How many bytes the line says that its call may ask for.
+pub fn most_of(line: &str) -> Option<usize> {
+    match parse(line) {
+        Line::Call(_, wanted) => wanted.within,
         _ => None,
     }
 }

@@ -1,4 +1,5 @@
 //! Goes through the lines of a file: those of an object, from its begin to its end, and those between.
+use crate::answer::fault_word;
 use crate::command::{Command, Kind, command_of};
 use crate::kinds::run_kind;
 use crate::line::{Line, begun_by, ends_object, parse, split_call};
@@ -6,8 +7,14 @@ use crate::numbers::push_numbers;
 use crate::session::Session;
 use crate::subject::{Nothing, Subject};
 use futures_buffered_core::ready_core::NewFault;
-use std::alloc::AllocGlobal;
-use std::random::RandomSource;
+
+// How many bytes it may ask for that a line says, besides those of the next object.
+fn most_of_setting(command: Command) -> Option<usize> {
+    match command {
+        Command::Future | Command::Source => None,
+        _ => Some(0),
+    }
+}
 
 impl Session {
     // The reply to `drop`, once the object is gone.
@@ -18,6 +25,14 @@ impl Session {
         } else {
             self.reply.append("bad");
         }
+    }
+
+    // None of these but those that say how a value acts asks for memory.
+    fn set_or_wake(&mut self, command: Command, rest: &str) {
+        self.counter.begin(most_of_setting(command));
+        let word = self.set(command, rest);
+        self.counter.end();
+        self.reply.append(word);
     }
 
     fn obey<O: Subject>(&mut self, object: &mut O, command: Command, rest: &str)
@@ -32,10 +47,10 @@ impl Session {
             Command::Clear => self.clear(object),
             Command::Ask(query) => self.query(object, query),
             Command::Drop => self.append_drop(),
-            other => {
-                let word = self.set(other, rest);
-                self.reply.append(word);
-            }
+            Command::Core => self.begin_core(rest),
+            Command::Run => self.run(rest),
+            Command::Steps => self.steps(rest),
+            other => self.set_or_wake(other, rest),
         }
     }
 
@@ -56,6 +71,7 @@ impl Session {
         match parse(line) {
             Line::Call(call, wanted) if !self.report.test_is_over => {
                 self.reply.clear();
+                self.counter.begin_line(wanted.within);
                 self.call(object, call);
                 self.compare(call, &wanted);
             }
@@ -103,13 +119,6 @@ pub fn run_made<O: Subject>(
     Ok(session.run_object(&mut object, lines))
 }
 
-fn fault_word(fault: NewFault) -> &'static str {
-    match fault {
-        NewFault::Memory => "memory",
-        NewFault::TooLarge => "too large",
-    }
-}
-
 // How many lines were done with the object, 0 where a word is no number.
 fn run_words(
     session: &mut Session,
@@ -119,6 +128,7 @@ fn run_words(
 ) -> Result<usize, NewFault> {
     let mut numbers = Vec::new(session.options.alloc);
     if push_numbers(&mut numbers, words) {
+        session.counter.begin(None);
         run_kind(session, kind, numbers.as_slice(), lines)
     } else {
         Ok(0)
@@ -152,6 +162,7 @@ fn begin(session: &mut Session, kind: Kind, words: &str, line: &str, lines: &[&s
         session.reply_word(line, "bad");
         return 1;
     }
+    session.count_of(kind, line);
     let word = match run_twice(session, kind, words, lines) {
         Ok(0) => "bad",
         Ok(done) => return done,
@@ -161,48 +172,43 @@ fn begin(session: &mut Session, kind: Kind, words: &str, line: &str, lines: &[&s
     1
 }
 
-fn bare_line<R: RandomSource + AllocGlobal>(rt: &R, session: &mut Session, line: &str) {
+fn bare_line(session: &mut Session, line: &str) {
     match parse(line) {
         Line::Test(name) => {
             session.report.begin_line();
-            session.begin_test(rt, name);
+            session.begin_test(name);
         }
         _ => session.line(&mut Nothing, line),
     }
 }
 
 // The lines up to the next that begins an object. How many there are.
-fn run_bare<R: RandomSource + AllocGlobal>(rt: &R, session: &mut Session, lines: &[&str]) -> usize {
+fn run_bare(session: &mut Session, lines: &[&str]) -> usize {
     let mut done = 0usize;
     for line in lines {
         if begun_by(line).is_some() {
             return done;
         }
         done = done.saturating_add(1);
-        bare_line(rt, session, line);
+        bare_line(session, line);
     }
     done
 }
 
-fn run_some<R: RandomSource + AllocGlobal>(
-    rt: &R,
-    session: &mut Session,
-    line: &str,
-    lines: &[&str],
-) -> usize {
+fn run_some(session: &mut Session, line: &str, lines: &[&str]) -> usize {
     match begun_by(line) {
         Some((kind, words)) => begin(session, kind, words, line, lines),
-        None => run_bare(rt, session, lines),
+        None => run_bare(session, lines),
     }
 }
 
 /// Makes the calls of all lines.
-pub fn run_lines<R: RandomSource + AllocGlobal>(rt: &R, session: &mut Session, lines: &[&str]) {
+pub fn run_lines(session: &mut Session, lines: &[&str]) {
     let mut at = 0usize;
     for _ in 0..lines.len() {
         if let Some(rest) = lines.get(at..) {
             if let Some(line) = rest.first() {
-                at = at.saturating_add(run_some(rt, session, line, rest));
+                at = at.saturating_add(run_some(session, line, rest));
             }
         }
     }

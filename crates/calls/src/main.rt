@@ -7,6 +7,8 @@ mod adaptors;
 mod additions;
 mod answer;
 mod command;
+mod cores;
+mod counter;
 mod effects;
 mod foreigns;
 mod joins;
@@ -69,12 +71,12 @@ fn read<R: Files + AllocGlobal>(rt: &R, file: &str) -> io::Result<String> {
 
 fn run_file<R>(rt: &R, session: &mut Session, file: &str) -> io::Result<u8>
 where
-    R: Files + Print + Eprint + RandomSource + AllocGlobal,
+    R: Files + Print + Eprint + AllocGlobal,
 {
     session.report.begin_file(file);
     let text = read(rt, file)?;
     let lines = lines_of(rt.alloc(), text.as_str())?;
-    run_lines(rt, session, lines.as_slice());
+    run_lines(session, lines.as_slice());
     print_report(rt, &mut session.report)
 }
 
@@ -87,15 +89,20 @@ fn worse(status: u8, next: u8) -> u8 {
     }
 }
 
-// Goes through each file in a session of its own.
+// Goes through each file in a session of its own. Behind the word `counted` what calls ask for is counted.
 fn run_files<R>(rt: &R, words: Args<Global>) -> io::Result<u8>
 where
     R: Files + Print + Eprint + RandomSource + AllocGlobal,
 {
     let mut status = 0u8;
-    for file in words.skip(1) {
-        let mut session = new_session(rt.alloc())?;
-        status = worse(status, run_file(rt, &mut session, file.as_str())?);
+    let mut is_counted = false;
+    for word in words.skip(1) {
+        if word.as_str() == "counted" {
+            is_counted = true;
+        } else {
+            let mut session = new_session(rt, is_counted)?;
+            status = worse(status, run_file(rt, &mut session, word.as_str())?);
+        }
     }
     Ok(status)
 }

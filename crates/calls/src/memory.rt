@@ -2,6 +2,17 @@
 use std::alloc::{AllocError, Global};
 use std::rc::Rc;
 
+// So many of what one call does have room from the start.
+const ROOM: usize = 1024;
+
+/// An empty list of what a call does, which asks for no more memory where that is no more than usual.
+pub fn list<T: Drop>(alloc: Global) -> Result<Vec<T>, AllocError> {
+    match Vec::with_capacity(alloc, ROOM) {
+        Ok(list) => Ok(list),
+        Err(_) => Vec::with_capacity(alloc, ROOM),
+    }
+}
+
 /// Adds the value at the end. Whether there was memory for it.
 pub fn push<T: Drop>(list: &mut Vec<T>, value: T) -> bool {
     match list.push(value) {

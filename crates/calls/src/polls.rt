@@ -57,13 +57,23 @@ impl Session {
         self.world.append_dropped(&mut self.reply);
     }
 
+    // The call has ended. One that had a value made which asks a receiver asked for that memory too.
+    fn end_poll(&mut self) {
+        if !self.world.has_made_ends() {
+            self.counter.end();
+        }
+    }
+
     fn poll_once<O: Subject>(&mut self, object: &mut O) -> Answer
         requires { O.can_poll }
     {
-        match self.tasks.get(self.task) {
+        self.counter.begin(self.counter.of_polls);
+        let answer = match self.tasks.get(self.task) {
             Some(task) => poll_once(task, object, &mut self.outputs),
             None => Answer::Nothing,
-        }
+        };
+        self.end_poll();
+        answer
     }
 
     /// One poll: the reply is the answer, and what the poll did besides.
@@ -89,10 +99,13 @@ impl Session {
     fn drain_once<O: Subject>(&mut self, object: &mut O) -> Answer
         requires { O.can_poll }
     {
-        match self.tasks.get(self.task) {
+        self.counter.begin(self.counter.of_polls);
+        let answer = match self.tasks.get(self.task) {
             Some(task) => drain(task, object, &mut self.drained, &mut self.outputs),
             None => Answer::Nothing,
-        }
+        };
+        self.end_poll();
+        answer
     }
 
     /// Polls to the first answer that is no output and leaves the task unwoken.

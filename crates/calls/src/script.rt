@@ -89,9 +89,9 @@ impl Script {
         self.world.see(event);
     }
 
-    /// The closure of a for-each was called with the value.
-    pub fn see_call(&self) {
-        self.see(Event::Called(self.id));
+    /// The closure of a for-each was called with the value. The handle is the closure's own.
+    pub fn see_call(&self, world: &SharedWorld) {
+        world.see(Event::Called(self.id));
     }
 
     /// How many items and errors are left.

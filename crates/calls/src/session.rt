@@ -1,5 +1,7 @@
 //! A session: what holds while the lines of a file are gone through.
-use crate::line::{Line, Wanted, parse};
+use crate::command::{Kind, is_foreign};
+use crate::counter::Counter;
+use crate::line::{Line, Wanted, most_of, parse};
 use crate::memory;
 use crate::numbers::number;
 use crate::report::Report;
@@ -7,6 +9,7 @@ use crate::shared_world::SharedWorld;
 use crate::source::FixedHint;
 use crate::text::Text;
 use futures::test::MockTask;
+use futures_buffered_core::ready_core::ReadyCore;
 use std::alloc::{AllocError, AllocGlobal, Global};
 use std::io;
 use std::random::RandomSource;
@@ -45,6 +48,9 @@ pub struct Session {
     pub task: usize,
     pub world: SharedWorld,
     pub options: Options,
+    /// What `run` runs on.
+    pub core: Option<ReadyCore>,
+    pub counter: Counter,
     pub report: Report,
     /// Whether there was an object up to here.
     pub had_object: bool,
@@ -59,24 +65,6 @@ pub struct Session {
     /// What the object said of itself before a call, and what it says behind it.
     pub before: Text,
     pub after: Text,
-}
-
-/// A session in which nothing was said yet.
-pub fn new_session(alloc: Global) -> Result<Session, AllocError> {
-    Ok(Session {
-        tasks: Vec::new(alloc),
-        task: 0,
-        world: SharedWorld::new(alloc)?,
-        options: no_options(alloc),
-        report: Report::new(alloc),
-        had_object: false,
-        reply: Text::new(alloc),
-        ids: Vec::new(alloc),
-        outputs: Vec::new(alloc),
-        drained: Vec::new(alloc),
-        before: Text::new(alloc),
-        after: Text::new(alloc),
-    })
 }
 
 // A task, asked for once more where memory is refused.
@@ -97,6 +85,34 @@ fn new_tasks<R: RandomSource + AllocGlobal>(rt: &R) -> io::Result<Vec<MockTask>>
     Ok(tasks)
 }
 
+/// A session in which nothing was said yet. Where `is_counted`, what calls ask for is counted.
+pub fn new_session<R: RandomSource + AllocGlobal>(rt: &R, is_counted: bool) -> io::Result<Session> {
+    let alloc = rt.alloc();
+    Ok(Session {
+        tasks: new_tasks(rt)?,
+        task: 0,
+        world: SharedWorld::new(alloc)?,
+        options: no_options(alloc),
+        core: None,
+        counter: Counter::new(alloc, is_counted),
+        report: Report::new(alloc),
+        had_object: false,
+        reply: Text::new(alloc),
+        ids: Vec::new(alloc),
+        outputs: memory::list(alloc)?,
+        drained: memory::list(alloc)?,
+        before: Text::new(alloc),
+        after: Text::new(alloc),
+    })
+}
+
+// No task was woken up to here.
+fn calm(tasks: &[MockTask]) {
+    for task in tasks {
+        task.enter(|_cx| ());
+    }
+}
+
 /// The number of a task that a line names, or the usual one.
 pub fn task_of(rest: &str, usual: usize) -> usize {
     if rest.is_empty() {
@@ -106,21 +122,15 @@ pub fn task_of(rest: &str, usual: usize) -> usize {
 }
 
 impl Session {
-    fn renew<R: RandomSource + AllocGlobal>(&mut self, rt: &R) -> io::Result<()> {
-        self.tasks = new_tasks(rt)?;
-        self.world = SharedWorld::new(rt.alloc())?;
+    /// Begins a test: all is as at the start.
+    pub fn begin_test(&mut self, name: &str) {
+        self.report.begin_test(name);
+        self.world.reset();
+        calm(self.tasks.as_slice());
+        self.core = None;
         self.task = 0;
         self.had_object = false;
-        self.options = no_options(rt.alloc());
-        Ok(())
-    }
-
-    /// Begins a test in a new world, with new tasks.
-    pub fn begin_test<R: RandomSource + AllocGlobal>(&mut self, rt: &R, name: &str) {
-        self.report.begin_test(name);
-        if self.renew(rt).is_err() {
-            self.world.run_out_of_memory();
-        }
+        self.options = no_options(self.options.alloc);
     }
 
     /// Whether that task was woken since it was entered last.
@@ -138,6 +148,9 @@ impl Session {
         }
         if self.reply.has_failed || self.world.is_out_of_memory() {
             self.reply.append(" (out of memory)");
+        }
+        if self.counter.is_exceeded {
+            self.reply.append(" (asked for memory)");
         }
         self.report
             .compare(call, wanted, self.reply.string.as_str());
@@ -162,8 +175,15 @@ impl Session {
         self.world.forget_effects();
     }
 
+    /// An object of this kind is begun. A future of the kit waits for memory, and asks for it in a poll.
+    pub fn count_of(&mut self, kind: Kind, line: &str) {
+        self.counter.begin_line(most_of(line));
+        self.counter.of_polls = if is_foreign(kind) { None } else { Some(0) };
+    }
+
     /// The line has begun an object.
     pub fn begin_object(&mut self, line: &str) {
+        self.counter.end();
         self.options = no_options(self.options.alloc);
         self.had_object = true;
         self.reply_word(line, "ok");

@@ -19,7 +19,7 @@ pub struct SharedWorld {
 
 impl SharedWorld {
     pub fn new(alloc: Global) -> Result<SharedWorld, AllocError> {
-        let world = memory::share(alloc, RefCell::new(World::new(alloc)))?;
+        let world = memory::share(alloc, RefCell::new(World::new(alloc)?))?;
         Ok(SharedWorld { alloc, world })
     }
 
@@ -29,6 +29,20 @@ impl SharedWorld {
             alloc: self.alloc,
             world: self.world.clone()?,
         })
+    }
+
+    /// All is as at the start. No value is left.
+    pub fn reset(&self) {
+        if let Ok(mut world) = self.world.try_borrow_mut() {
+            world.reset();
+        }
+    }
+
+    pub fn has_made_ends(&self) -> bool {
+        match self.world.try_borrow() {
+            Ok(world) => world.has_made_ends,
+            Err(_) => false,
+        }
     }
 
     /// Something was wrong, which the next reply says.

@@ -135,8 +135,8 @@ pub struct UnitFuture(Script);
 
 impl UnitFuture {
     /// What the closure does with its item: the call is seen.
-    pub fn called(self) -> UnitFuture {
-        self.0.see_call();
+    pub fn called(self, world: &SharedWorld) -> UnitFuture {
+        self.0.see_call(world);
         self
     }
 }
@@ -167,8 +167,8 @@ pub struct TryUnitFuture(Script);
 
 impl TryUnitFuture {
     /// What the closure does with its item: the call is seen.
-    pub fn called(self) -> TryUnitFuture {
-        self.0.see_call();
+    pub fn called(self, world: &SharedWorld) -> TryUnitFuture {
+        self.0.see_call(world);
         self
     }
 }

@@ -33,18 +33,28 @@ pub struct World {
     dropped_outputs: Vec<u64>,
     // How many values there are.
     living: usize,
+    /// Both ends of a one-shot were made, which takes memory, since effects were forgotten last.
+    pub has_made_ends: bool,
     /// A value was named that there is not, or gave what its kind does not.
     pub is_misused: bool,
     /// A request for memory was refused twice.
     pub is_out_of_memory: bool,
 }
 
-// Puts the value at that place of the table, which grows. Whether there was memory for it.
-fn put<T: Drop>(table: &mut Vec<Option<T>>, place: usize, value: T) -> bool {
+// Has the table grow up to that place. Whether there was memory for it.
+fn make_place<T: Drop>(table: &mut Vec<Option<T>>, place: usize) -> bool {
     for _ in table.len()..place.saturating_add(1) {
         if !memory::push(table, None) {
             return false;
         }
+    }
+    true
+}
+
+// Puts the value at that place of the table, which grows. Whether there was memory for it.
+fn put<T: Drop>(table: &mut Vec<Option<T>>, place: usize, value: T) -> bool {
+    if !make_place(table, place) {
+        return false;
     }
     if let Some(old) = table.get_mut(place) {
         *old = Some(value);
@@ -53,20 +63,33 @@ fn put<T: Drop>(table: &mut Vec<Option<T>>, place: usize, value: T) -> bool {
 }
 
 impl World {
-    pub fn new(alloc: Global) -> World {
-        World {
+    pub fn new(alloc: Global) -> Result<World, AllocError> {
+        Ok(World {
             alloc,
             steps: Vec::new(alloc),
             wakers: Vec::new(alloc),
             senders: Vec::new(alloc),
             task_wakers: Vec::new(alloc),
-            events: Vec::new(alloc),
-            dropped: Vec::new(alloc),
-            dropped_outputs: Vec::new(alloc),
+            events: memory::list(alloc)?,
+            dropped: memory::list(alloc)?,
+            dropped_outputs: memory::list(alloc)?,
             living: 0,
+            has_made_ends: false,
             is_misused: false,
             is_out_of_memory: false,
-        }
+        })
+    }
+
+    /// All is as at the start. No value is left.
+    pub fn reset(&mut self) {
+        self.steps.clear();
+        self.wakers.clear();
+        self.senders.clear();
+        self.task_wakers.clear();
+        self.forget_effects();
+        self.living = 0;
+        self.is_misused = false;
+        self.is_out_of_memory = false;
     }
 
     fn need(&mut self, had_memory: bool) {
@@ -75,12 +98,20 @@ impl World {
         }
     }
 
+    // Makes the places of what the value keeps, so that no call that it makes takes memory for them.
+    fn make_places(&mut self, id: usize) -> bool {
+        make_place(&mut self.wakers, id)
+            && make_place(&mut self.task_wakers, id)
+            && make_place(&mut self.senders, id)
+    }
+
     /// The value with this number acts by these steps, each time that it is made.
     pub fn define(&mut self, id: usize, steps: Vec<Step>) {
         let is_well = match memory::share(self.alloc, steps) {
             Ok(steps) => put(&mut self.steps, id, steps),
             Err(AllocError) => false,
         };
+        let is_well = self.make_places(id) && is_well;
         self.need(is_well);
     }
 
@@ -124,6 +155,7 @@ impl World {
 
     /// A receiver for this value, whose sender stays here.
     pub fn new_receiver(&mut self, id: usize) -> Option<Receiver<u64>> {
+        self.has_made_ends = true;
         let made = match channel(self.alloc) {
             Ok(ends) => Some(ends),
             Err(_) => channel(self.alloc).ok(),
@@ -195,6 +227,7 @@ impl World {
         self.events.clear();
         self.dropped.clear();
         self.dropped_outputs.clear();
+        self.has_made_ends = false;
     }
 
     /// Whether the values with these numbers were dropped since effects were forgotten last, and no other.
