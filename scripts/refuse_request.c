@@ -5,8 +5,9 @@
  *     REFUSE_FIRST=7 REFUSE_LAST=9 MEMORY_REPORT=FILE LD_PRELOAD=./refuse_request.so PROGRAM
  *
  * The first request that the program makes has the number 1. Those from REFUSE_FIRST to REFUSE_LAST are refused; with no REFUSE_LAST, all
- * from REFUSE_FIRST on, and with no REFUSE_FIRST none. As the program ends, it writes to MEMORY_REPORT how many were refused, and how many
- * blocks it took and did not give back, as `3 0`. A program that a signal stopped leaves no report.
+ * from REFUSE_FIRST on, and with no REFUSE_FIRST none. As the program ends, it writes to MEMORY_REPORT how many were refused, how many
+ * threads run besides the one that ends it, and how many blocks it took and did not give back, as `3 0 0`. A program that a signal stopped
+ * leaves no report.
  *
  * Requests are those of `malloc` and `realloc`, by which a built program asks for all its memory. One of QUESTION bytes, more than there
  * are, asks for none: it begins a count of the bytes that are asked for. One of N bytes more, below MOST_ASKED, is refused unless fewer
@@ -23,6 +24,7 @@
 #include <stdint.h>
 #include <stdio.h>
 #include <stdlib.h>
+#include <sys/stat.h>
 #include <sys/syscall.h>
 #include <unistd.h>
 
@@ -56,11 +58,19 @@ __attribute__((constructor)) static void begin(void) {
     atomic_store(&blocks, 0);
 }
 
+/* The folder of a process's threads has a link for each, beside two of its own. */
+static long other_threads(void) {
+    struct stat threads;
+    return stat("/proc/self/task", &threads) == 0 ? (long)threads.st_nlink - 3 : 0;
+}
+
+/* A thread that has ended gave back its blocks before, so threads are counted first. */
 __attribute__((destructor)) static void report(void) {
     const char *file = getenv("MEMORY_REPORT");
     int descriptor = file ? open(file, O_WRONLY | O_CREAT | O_TRUNC, 0644) : -1;
     char line[64];
-    int length = snprintf(line, sizeof line, "%ld %ld\n", atomic_load(&refused), atomic_load(&blocks));
+    long threads = other_threads();
+    int length = snprintf(line, sizeof line, "%ld %ld %ld\n", atomic_load(&refused), threads, atomic_load(&blocks));
     if (descriptor >= 0 && write(descriptor, line, length) == length) {
         close(descriptor);
     }
