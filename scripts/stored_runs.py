@@ -11,8 +11,9 @@ import sys
 ROOT = pathlib.Path(__file__).resolve().parent.parent
 CRATES = ROOT / "crates"
 SCRIPTS = CRATES / "fbuf" / "scripts"
-# A run that takes longer has not ended. The longest takes a tenth of a second.
+# A run that takes longer has not ended. The longest takes a tenth of a second, but for tests, which have as long as `rt` gives them.
 SECONDS = 10
+SECONDS_OF_TEST = 60
 
 
 @dataclasses.dataclass(frozen=True)
@@ -37,6 +38,7 @@ class StoredRun:
     to: tuple[str, ...]
     wanted: Ended
     limits: tuple[tuple[int, int], ...] = ()
+    seconds: int = SECONDS
 
 
 def bytes_of(path):
@@ -98,7 +100,8 @@ def runs_of_tests(program):
     """Each test of a built crate of tests, alone."""
     listed = subprocess.run([os.path.abspath(program), "--list"], capture_output=True, check=True, text=True).stdout
     for test in [line.removesuffix(": test") for line in listed.splitlines() if line.endswith(": test")]:
-        yield StoredRun(test, program.name, (test,), pathlib.Path(os.devnull), ROOT, (), Ended(0, b"", b""))
+        wanted = Ended(0, b"", b"")
+        yield StoredRun(test, program.name, (test,), pathlib.Path(os.devnull), ROOT, (), wanted, seconds=SECONDS_OF_TEST)
 
 
 def built(name, ending=""):
@@ -135,7 +138,7 @@ def end_of(run, program, environment=None):
     if run.limits:
         how["preexec_fn"] = lambda: set_limits(run.limits)
     try:
-        ended = subprocess.run(words, timeout=SECONDS, **how)
+        ended = subprocess.run(words, timeout=run.seconds, **how)
         return Ended(ended.returncode, ended.stdout or b"", ended.stderr or b"")
     except subprocess.TimeoutExpired as late:
         return Ended(None, late.stdout or b"", late.stderr or b"")
@@ -155,7 +158,7 @@ def first_difference(wanted, found):
 def faults_of(wanted, found):
     """What differs from what is wanted."""
     if found.status is None:
-        yield f"it had not ended after {SECONDS} seconds"
+        yield "it had not ended in time"
     elif found.status != wanted.status:
         yield f"status {found.status}, and not {wanted.status}"
     for what in ("output", "errors"):
