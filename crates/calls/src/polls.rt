@@ -67,7 +67,8 @@ impl Session {
     fn poll_once<O: Subject>(&mut self, object: &mut O) -> Answer
         requires { O.can_poll }
     {
-        self.counter.begin(self.counter.of_polls);
+        let usual = self.counter.of_polls;
+        self.counter.begin(usual);
         let answer = match self.tasks.get(self.task) {
             Some(task) => poll_once(task, object, &mut self.outputs),
             None => Answer::Nothing,
@@ -99,7 +100,8 @@ impl Session {
     fn drain_once<O: Subject>(&mut self, object: &mut O) -> Answer
         requires { O.can_poll }
     {
-        self.counter.begin(self.counter.of_polls);
+        let usual = self.counter.of_polls;
+        self.counter.begin(usual);
         let answer = match self.tasks.get(self.task) {
             Some(task) => drain(task, object, &mut self.drained, &mut self.outputs),
             None => Answer::Nothing,
