@@ -2,7 +2,7 @@
 use Rattle.std.proofs.Common.{◌≡◌, ℕ, zero, suc, ◌+◌, ◌<◌, ◌≤◌, Bool, true, false, cond, eqb}
 use Rattle.std.proofs.Common.{List, [], ◌∷◌, ◌++◌, length, take, get_or, set, append-nil}
 use Rattle.std.proofs.Common.{Option, Some, None, is_some, IfSome, MatchOption}
-use Rattle.std.proofs.Common.{Result, Ok, Err, IfOk, subst, sym, ap, refl, ◌∙◌, arith, inl, inr}
+use Rattle.std.proofs.Common.{subst, sym, ap, refl, ◌∙◌, arith, inl, inr}
 use Rattle.std.proofs.KnownBytes.{Appends-trans}
 use Rattle.std.proofs.lemmas.Bool.{cases_lt, ne_eqb, eq-eqb}
 use Rattle.std.proofs.lemmas.List.{take_all, take_more, flat_map_more, map-id}
@@ -214,17 +214,13 @@ module _ {R : Type 0} where
       omega (arith, times_in-range n k, held k, more, made, alike future.number n k is)
 
   -- the numbers that came are those that were held, in rising order
-  pub all_numbers : {A E : Type 0} (numbers_of : A → List ℕ) (all : Result A E) (n : ℕ)
-      (first : Option ℕ) (outputs : List ℕ) (held left : Slots (AllWakes R))
-      → HoldsNumbers held (range_with_len 0 n) → GaveNumber held first left
-      → HoldsNumbers left outputs
-      → IfOk all (λ a. (k : ℕ)
-      → times_in (numbers_of a) k ≡ times_in outputs k + times_in (option_to_list first) k)
-      → IfOk all (λ a. IsNonDecreasing (numbers_of a))
-      → IfOk all (λ a. numbers_of a ≡ range_with_len 0 n)
-  all_numbers numbers_of (Ok all) n first outputs held left whole gave rest every rising =
-      rising_range 0 n (numbers_of all) rising (λ k. omega (arith, whole k, gave k, rest k, every k))
-  all_numbers numbers_of (Err fault) n first outputs held left whole gave rest every rising = tt
+  pub all_numbers : (all : List ℕ) (n : ℕ) (first : Option ℕ) (outputs : List ℕ)
+      (held left : Slots (AllWakes R)) → HoldsNumbers held (range_with_len 0 n)
+      → GaveNumber held first left → HoldsNumbers left outputs
+      → ((k : ℕ) → times_in all k ≡ times_in outputs k + times_in (option_to_list first) k)
+      → IsNonDecreasing all → all ≡ range_with_len 0 n
+  all_numbers all n first outputs held left whole gave rest every rising =
+      rising_range 0 n all rising (λ k. omega (arith, whole k, gave k, rest k, every k))
 
   module _ {S : Type 0} (steps : SourceSteps S) where
     passed : (names : List ℕ) (old new : Slots (AllWakes R)) (k : ℕ)

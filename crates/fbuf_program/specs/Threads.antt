@@ -14,17 +14,17 @@ use Rattle.fbuf_program.specs.declared.threads.AllWakes.{AllWakes}
 
 -- how many threads ran, and how many wakes they made together
 abbrev pub threads_text : ℕ → ℕ → List ℕ
-threads_text n m =
+threads_text n wakes =
     codes "threads "
-    ++ (decimal n ++ (codes " wakes " ++ (decimal (n * m) ++ codes " outputs")))
+    ++ (decimal n ++ (codes " wakes " ++ (decimal wakes ++ codes " outputs")))
 
 -- the same, what the futures answered, and the end of the line
 abbrev pub threads_line : ℕ → ℕ → List ℕ → List ℕ
-threads_line n m outputs = threads_text n m ++ flat_map spaced_number outputs ++ line_feed
+threads_line n wakes outputs = threads_text n wakes ++ flat_map spaced_number outputs ++ line_feed
 
--- the line of a run was appended: its outputs are 0 to n - 1, in order
+-- the line of a run was appended: n threads made m wakes each, and its outputs are 0 to n - 1, in order
 abbrev pub AppendsThreadsLine : ℕ → ℕ → Option (List ℕ) → Option (List ℕ) → Type 0
-AppendsThreadsLine n m old new = Appends old new (threads_line n m (range_with_len 0 n))
+AppendsThreadsLine n m old new = Appends old new (threads_line n (n * m) (range_with_len 0 n))
 
 -- how often a number is among these
 abbrev pub times_in : List ℕ → ℕ → ℕ

@@ -1,5 +1,5 @@
 //! A run in which threads wake the slots of one set.
-ghost use Rattle.std.specs.Prelude.{◌≡◌, ◌≢◌, ℕ, ◌+◌, ◌<◌, ◌≤◌, ⊤};
+ghost use Rattle.std.specs.Prelude.{◌≡◌, ◌≢◌, ℕ, ◌+◌, ◌*◌, ◌<◌, ◌≤◌, ⊤, sum};
 ghost use Rattle.std.specs.Prelude.{IfOk, IfErr, OnOk, length, vec_len, vec_capacity};
 ghost use Rattle.std.specs.Arc.{arc_value};
 ghost use Rattle.std.specs.IoError.{error_kind};
@@ -13,22 +13,21 @@ ghost use Rattle.std.specs.Option.{option_to_list};
 ghost use Rattle.fbuf_program.specs.Threads.{AppendsThreadsLine, threads_line, times_in};
 ghost use Rattle.fbuf_program.specs.Threads.{HoldsNumbers, GaveNumber};
 
+use crate::counting_waker::{CountingWaker, MadeWakes, WakeCount};
+use crate::waking_thread::{WakingThread, join_each};
 use futures::executor::block_on;
 use futures::task::{Context, Doorbell, Poll, Solo};
 use futures::{Stream, StreamExt};
 use futures_buffered_core::ready_core::NewFault;
 use futures_buffered_core::ready_shared::{SharedReady, SharedWaker};
-use futures_buffered_core::ready_source::SlotWaker;
 use futures_buffered_sets::futures_unordered_bounded::FuturesUnorderedBounded;
 use futures_buffered_sets::poll_one::PollFuture;
 use futures_buffered_sets::slot_future::SlotFuture;
 use std::alloc::{AllocError, AllocFailed, AllocGlobal, Global};
+use std::io;
 use std::random::RandomSource;
-use std::sync::atomic::AtomicU64;
-use std::sync::atomic::Ordering::SeqCst;
 use std::sync::{Arc, Mutex, Wait};
-use std::thread::{JoinHandle, Threads};
-use std::{io, thread};
+use std::thread::Threads;
 use thiserror::Error;
 
 /// How many threads a run has at most.
@@ -101,7 +100,7 @@ impl Gate for OpenGate {
 // What a future and the thread that wakes it share.
 #[derive(Drop)]
 struct Seat {
-    wakes: AtomicU64,
+    count: WakeCount,
     waker: Mutex<Option<SharedWaker>>,
 }
 
@@ -122,7 +121,7 @@ impl<R: Wait + Drop> SlotFuture<SharedWaker> for AllWakes<R> {
     ghost polled = { AnswersNumber };
 
     fn poll(&mut self, waker: &SharedWaker) -> Poll<usize> {
-        if self.seat.wakes.load(SeqCst) >= self.goal {
+        if self.seat.count.wakes() >= self.goal {
             return Poll::Ready(self.number);
         }
         let mut kept = self.seat.waker.lock(&self.rt);
@@ -154,15 +153,23 @@ impl<R: Wait + Drop> Stream for Numbers<R> {
 }
 
 // One thread's wakes.
-fn wake_slot<G: Gate>(gate: &G, thread: usize, m: usize, seat: &Seat, waker: &SharedWaker)
-    requires { (wake : ℕ) → wake < m → G.opens gate.now thread wake }
+fn wake_slot<G: Gate>(
+    gate: &G,
+    thread: usize,
+    m: usize,
+    waker: CountingWaker<'_, SharedWaker>,
+) -> MadeWakes
+    requires opens { (wake : ℕ) → wake < m → G.opens gate.now thread wake }
+    requires first { waker ≡ 0 }
+    ensures { result ≡ m }
 {
+    let mut waker = waker;
     for wake in 0..m {
         gate.before(thread, wake);
-        seat.wakes.fetch_add(1, SeqCst);
         waker.wake();
         gate.after(thread, wake);
     }
+    waker.made()
 }
 
 // A seat for each future, in order. The set then holds a future of each number below n.
@@ -182,7 +189,7 @@ fn seated<R: Wait + Clone + Drop>(
     let mut seats = Vec::with_capacity(alloc, n)?;
     for number in 0..n {
         let seat = Seat {
-            wakes: AtomicU64::new(0),
+            count: WakeCount::new(),
             waker: Mutex::new(None),
         };
         let seat = Arc::new(alloc, seat)?;
@@ -207,7 +214,7 @@ fn start<R, G>(
     m: usize,
     gate: &Arc<G>,
     seats: &[Arc<Seat>],
-    started: &mut Vec<JoinHandle<()>>,
+    started: &mut Vec<WakingThread>,
 ) -> Result<(), ThreadsFault>
 where
     R: Threads + Wait + Copy + Send + Sync + 'static,
@@ -215,6 +222,7 @@ where
     requires room { vec_len started.old + length seats.now ≤ vec_capacity started.old }
     requires opens { (thread wake : ℕ) → thread < length seats.now → wake < m →
         G.opens (arc_value gate.now) thread wake }
+    ensures wakes { OnOk result (sum started.new.items ≡ sum started.old.items + length seats.now * m) }
     ensures fault { IfErr result (λ fault. fault ≢ ThreadsFault.Write) }
 {
     for (thread, seat) in seats.iter().enumerate() {
@@ -225,11 +233,12 @@ where
         let seat = Arc::try_clone(seat)?;
         let wakes = move ||
             requires { (wake : ℕ) → wake < m → G.opens (arc_value gate) thread wake }
-        { wake_slot(&*gate, thread, m, &*seat, &waker) };
-        let Ok(handle) = thread::spawn(&rt, wakes) else {
+            ensures { result ≡ m }
+        { wake_slot(&*gate, thread, m, CountingWaker::new(waker, &seat.count)) };
+        let Some(one) = WakingThread::start(&rt, m, wakes) else {
             return Err(ThreadsFault::Thread);
         };
-        started.push_reserved(handle);
+        started.push_reserved(one);
     }
     Ok(())
 }
@@ -303,7 +312,7 @@ fn run_started<R, G>(
     gate: &Arc<G>,
     seats: &[Arc<Seat>],
     set: Set<R>,
-    started: &mut Vec<JoinHandle<()>>,
+    started: &mut Vec<WakingThread>,
 ) -> Result<Vec<usize>, ThreadsFault>
 where
     R: Threads + Wait + RandomSource + AllocGlobal + Copy + Send + Sync + 'static,
@@ -312,6 +321,7 @@ where
     requires opens { (thread wake : ℕ) → thread < length seats.now → wake < m →
         G.opens (arc_value gate.now) thread wake }
     ensures numbers { IfOk result (λ outputs. HoldsNumbers set.slots outputs.items) }
+    ensures wakes { OnOk result (sum started.new.items ≡ sum started.old.items + length seats.now * m) }
     ensures fault { IfErr result (λ fault. fault ≢ ThreadsFault.Write) }
 {
     start(rt, m, gate, seats, started)?;
@@ -333,46 +343,44 @@ fn in_rising_order(outputs: Vec<usize>, first: Option<usize>) -> Result<Vec<usiz
     Ok(all)
 }
 
-// Waits until each thread has ended.
-fn join_each<R: Threads + Wait>(rt: &R, started: Vec<JoinHandle<()>>) {
-    for handle in started {
-        handle.join(rt);
-    }
-}
-
-// Runs the threads to their end, and answers what the futures gave.
+// Runs the threads to their end, and answers what the futures gave and which wakes the threads made.
 fn outputs_after_all<R, G>(
     rt: R,
     alloc: Global,
     n: usize,
     m: usize,
     gate: G,
-) -> Result<Vec<usize>, ThreadsFault>
+) -> Result<(Vec<usize>, MadeWakes), ThreadsFault>
 where
     R: Threads + Wait + RandomSource + AllocGlobal + Copy + Send + Sync + 'static,
     G: Gate + Drop + Send + Sync + 'static,
     requires threads { n ≤ MAX_THREADS }
+    requires wakes { m ≤ MAX_WAKES }
     requires opens { (thread wake : ℕ) → thread < n → wake < m → G.opens gate thread wake }
-    ensures outputs { IfOk result (λ outputs. outputs.items ≡ range_with_len 0 n) }
+    ensures outputs { IfOk result (λ ended. ended.0.items ≡ range_with_len 0 n) }
+    ensures wakes { IfOk result (λ ended. ended.1 ≡ n * m) }
     ensures fault { IfErr result (λ fault. fault ≢ ThreadsFault.Write) }
 {
     let mut set = new_set(alloc, n)?;
     let seats = seated(&rt, alloc, n, m, &mut set)?;
     let gate = Arc::new(alloc, gate)?;
-    let mut started = Vec::with_capacity(alloc, n)?;
     let first = poll_once(&rt, &mut set)?;
+    let mut started = Vec::with_capacity(alloc, n)?;
     let outputs = run_started(rt, alloc, m, &gate, &seats, set, &mut started);
-    join_each(&rt, started);
-    in_rising_order(outputs?, first)
+    let made = join_each(&rt, started);
+    Ok((in_rising_order(outputs?, first)?, made))
 }
 
-fn write_line<W: io::Write>(output: &mut W, n: usize, m: usize, outputs: &[usize]) -> io::Result<()>
-    requires threads { n ≤ MAX_THREADS }
-    requires wakes { m ≤ MAX_WAKES }
+fn write_line<W: io::Write>(
+    output: &mut W,
+    n: usize,
+    made: &MadeWakes,
+    outputs: &[usize],
+) -> io::Result<()>
     ensures { OnOk result (Appends (W.contents output.old) (W.contents output.new)
-        (threads_line n m outputs.now)) }
+        (threads_line n made.now outputs.now)) }
 {
-    write!(output, "threads {n} wakes {} outputs", n * m)?;
+    write!(output, "threads {n} wakes {} outputs", made.count())?;
     for number in outputs {
         write!(output, " {number}")?;
     }
@@ -409,8 +417,8 @@ where
     ensures unwritten { IfErr result (λ fault.
         fault ≢ ThreadsFault.Write → output.new ≡ output.old) }
 {
-    let outputs = outputs_after_all(rt, alloc, n, m, gate)?;
-    match write_line(output, n, m, &outputs) {
+    let (outputs, made) = outputs_after_all(rt, alloc, n, m, gate)?;
+    match write_line(output, n, &made, &outputs) {
         Ok(()) => Ok(()),
         Err(_) => Err(ThreadsFault::Write),
     }

@@ -58,6 +58,24 @@ fn new_long(alloc: Global) -> io::Result<Long> {
     Ok(long)
 }
 
+// How many bytes a line of a script has that is far too long.
+const LONG_LINE: usize = 1_000_000;
+
+// It is one line that does not stand, and those around it are answered as ever.
+#[test]
+fn a_line_of_a_million_bytes_is_one_bad(rt: HostRuntime) -> Result<(), Fail> {
+    let line = vec![in rt.alloc(); b'7'; LONG_LINE]?;
+    let mut text = Vec::new(rt.alloc());
+    text.extend_from_slice(b"unordered 1\n")?;
+    text.extend_from_slice(line.as_slice())?;
+    text.extend_from_slice(b"\nlen\n")?;
+    let source = Source::whole(text.as_slice());
+    let outcome = run_over(&rt, source, Sink::roomy(rt.alloc()))?;
+    assert_same(&rt, &outcome.answer, &Ok(()));
+    assert_same(&rt, outcome.written.as_slice(), b"ok\nbad\n0\n".as_slice());
+    Ok(())
+}
+
 // Three parts, and then the rest.
 #[test]
 fn writes_long_replies_in_parts(rt: HostRuntime) -> Result<(), Fail> {

@@ -2,7 +2,9 @@
 ghost use Rattle.std.specs.Prelude.{◌<◌};
 
 use crate::same::assert_same;
-use fbuf_program::threads::{Gate, threads_run};
+use fbuf_program::counting_waker::{CountingWaker, MadeWakes, WakeCount};
+use fbuf_program::threads::{Gate, MAX_WAKES, OpenGate, ThreadsFault, threads_run};
+use futures_buffered_core::ready_source::{SlotHandle, SlotWaker};
 use std::alloc::{AllocError, Global};
 use std::sync::Arc;
 use std::sync::atomic::AtomicU64;
@@ -105,25 +107,41 @@ fn two_wakers_at_once(rt: HostRuntime) -> Result<(), Fail> {
     Ok(())
 }
 
-// Holds the first thread behind its last wake for some turns, and notes that it has passed.
+// Holds each thread behind its last wake until those before it have passed, and for some turns more,
+// and counts those that have passed.
 #[derive(Drop)]
 struct LateEnd {
     passed: Arc<AtomicU64>,
+}
+
+impl LateEnd {
+    // Waits until so many have passed.
+    fn wait_for(&self, others: u64) {
+        for _ in 0..TURNS {
+            if self.passed.load(SeqCst) >= others {
+                return;
+            }
+            yield_now();
+        }
+    }
 }
 
 impl Gate for LateEnd {
     fn before(&self, _thread: usize, _wake: usize) {}
 
     fn after(&self, thread: usize, wake: usize) {
-        if thread == 0 && wake == 2 {
-            for _ in 0..LATE_TURNS {
-                yield_now();
-            }
-            self.passed.store(1, SeqCst);
+        if wake != 2 {
+            return;
         }
+        self.wait_for(thread as u64);
+        for _ in 0..LATE_TURNS {
+            yield_now();
+        }
+        self.passed.fetch_add(1, SeqCst);
     }
 }
 
+// The last that was started ends last.
 #[test]
 fn joins_each_thread(rt: HostRuntime) -> Result<(), Fail> {
     let passed = Arc::new(rt.alloc(), AtomicU64::new(0))?;
@@ -136,6 +154,63 @@ fn joins_each_thread(rt: HostRuntime) -> Result<(), Fail> {
         threads_run(rt, rt.alloc(), 2, 3, gate, &mut output),
         Ok(()),
     );
-    assert_same(&rt, passed.load(SeqCst), 1);
+    assert_same(&rt, passed.load(SeqCst), 2);
+    Ok(())
+}
+
+// Futures that are to count no wake are done before they leave a waker.
+#[test]
+fn a_run_of_no_wakes_fails(rt: HostRuntime) -> Result<(), Fail> {
+    let mut output = Vec::new(rt.alloc());
+    let ended = threads_run(rt, rt.alloc(), 2, 0, OpenGate, &mut output);
+    assert_same(&rt, ended, Err(ThreadsFault::Memory));
+    assert!(rt; output.is_empty());
+    Ok(())
+}
+
+// Notes how many wakes came, and how many of them were counted when they came.
+#[derive(Drop)]
+struct Noting<'a> {
+    count: &'a WakeCount,
+    came: &'a AtomicU64,
+    were_counted: &'a AtomicU64,
+}
+
+impl<'a> SlotHandle for Noting<'a> {
+    ghost use Rattle.std.specs.Prelude.{⊤};
+
+    ghost wakes = { λ _ _. ⊤ };
+}
+
+impl<'a> SlotWaker for Noting<'a> {
+    fn wake(&self) {
+        let before = self.came.fetch_add(1, SeqCst);
+        if self.count.wakes() > before {
+            self.were_counted.fetch_add(1, SeqCst);
+        }
+    }
+}
+
+fn wake_often(waker: CountingWaker<'_, Noting<'_>>) -> MadeWakes {
+    let mut waker = waker;
+    for _ in 0..MAX_WAKES {
+        waker.wake();
+    }
+    waker.made()
+}
+
+// As many wakes as a thread of a run makes at most.
+#[test]
+fn each_wake_is_counted_and_then_made(rt: HostRuntime) -> Result<(), Fail> {
+    let (count, came, were_counted) = (WakeCount::new(), AtomicU64::new(0), AtomicU64::new(0));
+    let noting = Noting {
+        count: &count,
+        came: &came,
+        were_counted: &were_counted,
+    };
+    let made = wake_often(CountingWaker::new(noting, &count));
+    assert_same(&rt, made.count(), MAX_WAKES as u64);
+    assert_same(&rt, came.load(SeqCst), MAX_WAKES as u64);
+    assert_same(&rt, were_counted.load(SeqCst), MAX_WAKES as u64);
     Ok(())
 }

@@ -8,4 +8,4 @@ use Rattle.fbuf_program.proofs.threads.write_line.Given as goal
 abbrev pub invariant-loop-number : goal.invariant-loop-number
 invariant-loop-number g l =
     Appends (g.W.Write.contents l.fn.output) (g.W.Write.contents l.output)
-    (threads_text l.fn.n l.fn.m ++ flat_map spaced_number (take l.number-index l.outputs))
+    (threads_text l.fn.n l.fn.made ++ flat_map spaced_number (take l.number-index l.outputs))

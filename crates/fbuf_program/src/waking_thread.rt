@@ -1,0 +1,70 @@
+//! A thread that makes wakes, and that has to be joined.
+ghost use Rattle.std.specs.Prelude.{◌≡◌, ℕ, ◌<◌, ◌^◌, IfSome, sum};
+
+use crate::counting_waker::MadeWakes;
+use std::marker::Model;
+use std::thread::{self, Promise, PromisedHandle, Threads};
+
+// So many wakes are what a thread promises.
+#[derive(Clone, Copy)]
+struct Makes(usize);
+
+impl Promise<MadeWakes> for Makes {
+    ghost use Rattle.std.specs.Prelude.{◌≡◌};
+
+    ghost kept_by = { λ promise made. made ≡ promise.0 };
+}
+
+/// A thread that makes as many wakes as its value says. It is not `Drop`: whoever has one has to join it.
+pub struct WakingThread {
+    handle: PromisedHandle<MadeWakes, Makes>,
+}
+
+impl Model for WakingThread {
+    ghost use Rattle.std.specs.Prelude.{ℕ};
+
+    ghost Value = { ℕ };
+
+    ghost view = { λ thread. thread.handle.promise.0 };
+}
+
+impl WakingThread {
+    /// A thread that calls the closure, which makes so many wakes. `None` where no thread can be made: the closure is dropped.
+    pub fn start<R, F>(rt: &R, wakes: usize, run: F) -> Option<WakingThread>
+    where
+        R: Threads,
+        F: FnOnce() -> MadeWakes + Send + Drop + 'static,
+        requires runs { F.pre run }
+        requires makes { (made : ℕ) → F.post run made → made ≡ wakes }
+        ensures { IfSome result (λ thread. thread ≡ wakes) }
+    {
+        match thread::spawn_with(rt, Makes(wakes), run) {
+            Ok(handle) => Some(WakingThread { handle }),
+            Err(_) => None,
+        }
+    }
+
+    /// Waits until the thread has ended, and gives the wakes that it made.
+    pub fn join<R: Threads>(self, rt: &R) -> MadeWakes
+        ensures { result ≡ self }
+    {
+        let WakingThread { handle } = self;
+        handle.join(rt)
+    }
+}
+
+/// Waits until each thread has ended, and adds up the wakes that they made.
+pub fn join_each<R: Threads>(rt: &R, threads: Vec<WakingThread>) -> MadeWakes
+    ensures { sum threads.items < 2 ^ 64 → result ≡ sum threads.items }
+{
+    let mut threads = threads;
+    let mut all = MadeWakes::none();
+    for _count in 0..threads.len() {
+        let Some(thread) = threads.pop() else {
+            unreachable!()
+        };
+        all = all.and(thread.join(rt));
+    }
+    threads.destroy_empty();
+    all
+}
