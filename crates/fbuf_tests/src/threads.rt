@@ -1,5 +1,5 @@
 //! Runs of threads over one set, past gates that see each wake.
-ghost use Rattle.std.specs.Prelude.{◌<◌};
+ghost use Rattle.std.specs.Prelude.{◌≡◌, ◌<◌};
 
 use crate::same::assert_same;
 use fbuf_program::counting_waker::{CountingWaker, MadeWakes, WakeCount};
@@ -191,9 +191,11 @@ impl<'a> SlotWaker for Noting<'a> {
     }
 }
 
-fn wake_often(waker: CountingWaker<'_, Noting<'_>>) -> MadeWakes {
+fn wake_often(waker: CountingWaker<'_, Noting<'_>>) -> MadeWakes
+    requires { waker ≡ 0 }
+{
     let mut waker = waker;
-    for _ in 0..MAX_WAKES {
+    for _count in 0..MAX_WAKES {
         waker.wake();
     }
     waker.made()
