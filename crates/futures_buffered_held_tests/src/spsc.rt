@@ -158,8 +158,10 @@ fn a_receiver_that_goes_while_it_waits(rt: HostRuntime) -> Result<(), Fail> {
     let task = MockTask::new(&rt)?;
     let mut source: SharedReady = SharedReady::new(rt.alloc(), 1)?;
     let (sender, mut receiver) = channel::<u64>(rt.alloc(), 1)?;
+    let waker = source.waker(0).try_clone()?;
     task.enter(|cx| source.register(cx));
-    assert_same(&rt, receiver.poll_next(source.waker(0)), Poll::Pending);
+    assert_same(&rt, receiver.poll_next(&waker), Poll::Pending);
+    drop(waker);
     drop(receiver);
     assert_same(&rt, name_of(&mut source), None);
     drop(source);
