@@ -74,6 +74,13 @@ pub trait ReadySource: Drop {
         ensures covered { Covers cx.new (needs self.old) }
         ensures kept { Keeps cx.old cx.new };
 
+    /// Is told that the set has let go what all its slots held, and drops what it keeps for that. A source that keeps nothing of it does nothing. Takes no memory.
+    ///
+    /// A slot that was marked stays marked.
+    fn let_all_go(&mut self)
+        ensures { self.new ≡ self.old }
+    {}
+
     // Names are below the capacity, the capacity stays, and no taking or registration waits at a new place.
     ghost laws: { SourceLaws marks steps needs slots };
 }

@@ -1,9 +1,13 @@
-//! Where outputs wait for their source.
+//! The futures of one source, and where their outputs wait for it.
+ghost use Rattle.std.specs.Prelude.{◌≡◌, true};
+ghost use Rattle.futures.specs.Task.{Covers, Keeps};
 ghost use Rattle.futures_buffered_table.specs.Answer.{RefusesTooLarge};
 
-use crate::held::Given;
+use crate::held::{Given, Held};
 use crate::mailbox::Ticket;
+use crate::running::Running;
 use futures::Future;
+use futures::task::{Context, Poll};
 use futures_buffered_core::ready_core::{NewFault, ReadyCore, Taken};
 use std::alloc::{AllocError, Global};
 
@@ -21,10 +25,11 @@ struct Place<F: Future<Output: Drop>> {
     output: Option<Given<F>>,
 }
 
-/// The outputs of one source that it did not ask for yet, one at most for each slot. After it is made it takes no memory.
+/// The futures that one source handed over, and the outputs that it did not ask for yet, one at most for each slot. After it is made only `start` takes memory.
 #[derive(Drop)]
 pub(crate) struct Desk<F: Future<Output: Drop>> {
     source: u64,
+    running: Running<F>,
     // The slots whose outputs came.
     names: ReadyCore,
     places: Vec<Place<F>>,
@@ -58,6 +63,7 @@ impl<F: Future<Output: Drop>> Desk<F> {
         add_places(&mut places, cap)?;
         Ok(Desk {
             source,
+            running: Running::new(alloc),
             names,
             places,
         })
@@ -67,16 +73,26 @@ impl<F: Future<Output: Drop>> Desk<F> {
         self.source == source
     }
 
-    /// From now on the output of this future is waited for, and of no other of its slot.
-    pub(crate) fn expect(&mut self, ticket: Ticket) {
+    /// Takes a future over, or hands it back where memory lacks. From then on its output is waited for, and of no other of its slot. The next drive polls it, behind those that were woken before.
+    pub(crate) fn start(&mut self, ticket: Ticket, future: Held<F>) -> Result<(), Held<F>> {
+        self.running.push(ticket, future)?;
         if let Some(place) = self.places.get_mut(ticket.slot) {
             place.turn = ticket.turn;
             place.output = None;
         }
+        Ok(())
     }
 
-    /// Keeps an output that is waited for, and lets any other go.
-    pub(crate) fn leave(&mut self, finished: Finished<F>) {
+    /// Drops each future that was taken over, and each output that waits. A slot whose output waited may still be named, and finds none.
+    pub(crate) fn let_go(&mut self) {
+        self.running.let_go();
+        for place in &mut self.places {
+            place.output = None;
+        }
+    }
+
+    // Keeps an output that is waited for, and lets any other go.
+    fn leave(&mut self, finished: Finished<F>) {
         let Finished { ticket, output } = finished;
         let Some(place) = self.places.get_mut(ticket.slot) else {
             return;
@@ -88,6 +104,25 @@ impl<F: Future<Output: Drop>> Desk<F> {
         if ticket.slot < self.names.capacity() {
             let _woke = self.names.mark(ticket.slot);
         }
+    }
+
+    /// Polls futures that were woken, until the kit's set is pending or as many gave an output as ran at first, and keeps the outputs. One that wakes itself may be polled again. After 128 polls without an output the kit's set is pending, and has the task woken where more are left. Whether any runs still.
+    pub(crate) fn drive(&mut self, cx: &mut Context<'_>) -> bool
+        ensures covered { result ≡ true → Covers cx.new (λ _. ⊥) }
+        ensures kept { Keeps cx.old cx.new }
+    {
+        for _count in 0..self.running.len() {
+            match self.running.poll_next(cx) {
+                Poll::Ready(Some(finished)) => self.leave(finished),
+                Poll::Ready(None) => return false,
+                Poll::Pending => return true,
+            }
+        }
+        if self.running.len() == 0 {
+            return false;
+        }
+        let _: Poll<()> = cx.yield_now();
+        true
     }
 
     /// A slot whose output came, and was not asked for since.

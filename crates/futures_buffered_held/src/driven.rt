@@ -21,9 +21,11 @@ use std::sync::{Arc, Mutex};
 
 /// A source that has the futures polled for which `Foreign`s stand, and names the slots whose outputs have come.
 ///
-/// A contract sees the capacity and the marked slots, oldest mark first, as of a ready core. A taking that finds no slot marked looks for outputs: it marks the slots of those that came, and takes over what was handed to its mailboxes. It names the oldest slot that it marked. Where it marked none it answers `Pause` if a future lay in a mailbox, since that was not polled yet, and else `Empty`. Taking one over asks for the memory of a push into the kit's set; where that is refused the future waits in its mailbox, and is asked for again, at the latest by the next taking.
+/// A contract sees the capacity and the marked slots, oldest mark first, as of a ready core. A taking that finds no slot marked looks for outputs: it marks the slots of those that came, and takes over what was handed to its mailboxes. It names the oldest slot that it marked. Where it marked none it answers `Pause` if a future lay in a mailbox, since that was not polled yet, and else `Empty`. Taking one over asks for the memory of a push into the kit's set, and where there is none yet for that of the set; where that is refused the future waits in its mailbox, and is asked for again, at the latest by the next taking.
 ///
-/// The futures of a source and of those beside it stand in one `FuturesUnordered` of the kit, which a registration with any of them polls with the task's context: those futures that were woken. It lies under a lock that is only tried: a call that finds another thread there answers as where nothing came, and has the task polled again.
+/// The futures of a source stand in a `FuturesUnordered` of the kit of its own, made as the first is taken over. A registration with any of the sources beside one another polls the sets of all with the task's context: those futures that were woken. They lie under a lock that is only tried: a call that finds another thread there answers as where nothing came, and has the task polled again.
+///
+/// Once all is let go, by `clear` of what holds the slots, no future that was handed over runs; nor does one of a source that is dropped, unless another thread is at the lock at that moment: then they go as the last source of those beside it is dropped.
 pub struct Driven<F: Future<Output: Drop>> {
     // The slots to name.
     names: ReadyCore,
@@ -32,6 +34,8 @@ pub struct Driven<F: Future<Output: Drop>> {
     mailboxes: Vec<Mailbox<F>>,
     source: u64,
     driver: Arc<Mutex<Driver<F>>>,
+    // All was let go while another thread was at the driver, where it is still to be dropped.
+    let_go_is_due: bool,
 }
 
 impl<F: Future<Output: Drop>> Model for Driven<F> {
@@ -69,7 +73,7 @@ fn new_mailboxes<F: Future<Output: Drop>>(
 }
 
 // Leaves the outputs that wait at the desk in their mailboxes, and marks their slots.
-fn collect_at<F: Future<Output: Drop>>(
+fn collect<F: Future<Output: Drop>>(
     desk: &mut Desk<F>,
     mailboxes: &Vec<Mailbox<F>>,
     names: &mut ReadyCore,
@@ -91,24 +95,9 @@ fn collect_at<F: Future<Output: Drop>>(
     }
 }
 
-// Leaves the outputs that wait for this source in their mailboxes, and marks their slots.
-fn collect<F: Future<Output: Drop>>(
-    driver: &mut Driver<F>,
-    source: u64,
-    mailboxes: &Vec<Mailbox<F>>,
-    names: &mut ReadyCore,
-)
-    requires { names.old.capacity ≡ vec_len mailboxes.now }
-    ensures { names.new.capacity ≡ names.old.capacity }
-{
-    if let Some(desk) = driver.desk(source) {
-        collect_at(desk, mailboxes, names);
-    }
-}
-
 // Has what was handed to this mailbox taken over. Whether there was anything.
 fn take_over<F: Future<Output: Drop>>(
-    driver: &mut Driver<F>,
+    desk: &mut Desk<F>,
     mailbox: &Mailbox<F>,
     visited: &mut ReadyCore,
     slot: usize,
@@ -119,7 +108,7 @@ fn take_over<F: Future<Output: Drop>>(
     let Some(future) = mailbox.take_handed() else {
         return false;
     };
-    if let Err(back) = driver.start(mailbox.ticket(), future) {
+    if let Err(back) = desk.start(mailbox.ticket(), future) {
         mailbox.put_back(back);
         let _woke = visited.mark(slot);
     }
@@ -128,7 +117,7 @@ fn take_over<F: Future<Output: Drop>>(
 
 // Has what was handed to the mailboxes of the slots that were named taken over. Whether there was anything.
 fn take_all_over<F: Future<Output: Drop>>(
-    driver: &mut Driver<F>,
+    desk: &mut Desk<F>,
     mailboxes: &Vec<Mailbox<F>>,
     visited: &mut ReadyCore,
 ) -> bool
@@ -140,16 +129,26 @@ fn take_all_over<F: Future<Output: Drop>>(
         let Taken::Slot(slot) = visited.take() else {
             return any;
         };
-        if take_over(driver, &mailboxes[slot], visited, slot) {
+        if take_over(desk, &mailboxes[slot], visited, slot) {
             any = true;
         }
     }
     any
 }
 
+// Drops the futures of a source and their outputs, where that is due. Then it is not.
+fn let_go_at<F: Future<Output: Drop>>(driver: &mut Driver<F>, source: u64, is_due: &mut bool) {
+    if !*is_due {
+        return;
+    }
+    *is_due = false;
+    if let Some(desk) = driver.desk(source) {
+        desk.let_go();
+    }
+}
+
 fn new_driver<F: Future<Output: Drop>>(alloc: Global) -> Result<Arc<Mutex<Driver<F>>>, AllocError> {
-    let driver = Driver::new(alloc)?;
-    Ok(Arc::new(alloc, Mutex::new(driver))?)
+    Ok(Arc::new(alloc, Mutex::new(Driver::new(alloc)))?)
 }
 
 // A number of this driver for one source more, where no other thread is at it.
@@ -191,6 +190,7 @@ impl<F: Future<Output: Drop>> Driven<F> {
             mailboxes,
             source,
             driver,
+            let_go_is_due: false,
         })
     }
 
@@ -221,8 +221,12 @@ impl<F: Future<Output: Drop>> Driven<F> {
         let Some(mut driver) = self.driver.try_lock() else {
             return true;
         };
-        collect(&mut driver, self.source, &self.mailboxes, &mut self.names);
-        take_all_over(&mut driver, &self.mailboxes, &mut self.visited)
+        let_go_at(&mut driver, self.source, &mut self.let_go_is_due);
+        let Some(desk) = driver.desk(self.source) else {
+            return false;
+        };
+        collect(desk, &self.mailboxes, &mut self.names);
+        take_all_over(desk, &self.mailboxes, &mut self.visited)
     }
 
     // A taking from the names, where those that are named are visited.
@@ -251,6 +255,7 @@ impl<F: Future<Output: Drop>> Drop for Driven<F> {
             mailboxes: _mailboxes,
             source,
             driver,
+            let_go_is_due: _due,
         } = self;
         let desk = match driver.try_lock() {
             Some(mut driver) => driver.remove_source(source),
@@ -312,13 +317,27 @@ impl<F: Future<Output: Drop>> ReadySource for Driven<F> {
         &self.mailboxes[i]
     }
 
-    /// Polls futures of this source and of those beside it that were woken, at most 128 one after another without an output; where more are left, the task is woken. Where another thread polls them, the task yields.
+    /// Polls futures of this source and of those beside it that were woken, at most 128 of each one after another without an output; where more are left, the task is woken. Where another thread polls them, the task yields.
     fn register(&mut self, cx: &mut Context<'_>) {
         match self.driver.try_lock() {
-            Some(mut driver) => driver.drive(cx),
+            Some(mut driver) => {
+                let_go_at(&mut driver, self.source, &mut self.let_go_is_due);
+                driver.drive(cx);
+            }
             None => {
                 let _: Poll<()> = cx.yield_now();
             }
+        }
+    }
+
+    /// Drops the futures that were handed over, and their outputs. A `Foreign` that is left gives nothing any more. Where another thread is with the futures of this source, they go at the next registration or taking that finds nobody there.
+    fn let_all_go(&mut self) {
+        for mailbox in &self.mailboxes {
+            mailbox.let_go();
+        }
+        self.let_go_is_due = true;
+        if let Some(mut driver) = self.driver.try_lock() {
+            let_go_at(&mut driver, self.source, &mut self.let_go_is_due);
         }
     }
 }

@@ -2,31 +2,30 @@
 ghost use Rattle.std.specs.Prelude.{◌<◌, IfSome, vec_len};
 ghost use Rattle.futures.specs.Task.{Covers, Keeps};
 
-use crate::desk::{Desk, Finished};
-use crate::held::Held;
-use crate::mailbox::Ticket;
-use crate::running::Running;
+use crate::desk::Desk;
 use futures::Future;
-use futures::task::Context;
+use futures::task::{Context, Poll, Source, Waker};
 use std::alloc::{AllocError, Global};
 
-/// The futures of all sources beside one another, and a desk of each source for what they gave. So one registration polls the futures of all.
+/// The desks of all sources beside one another. So one registration polls the futures of all.
 #[derive(Drop)]
 pub(crate) struct Driver<F: Future<Output: Drop>> {
-    running: Running<F>,
     desks: Vec<Desk<F>>,
     // How many numbers were given. No two sources have one number.
     sources: u64,
+    // Where a task waits while no future runs.
+    idle: Source,
+    task: Option<Waker>,
 }
 
 impl<F: Future<Output: Drop>> Driver<F> {
-    pub(crate) fn new(alloc: Global) -> Result<Driver<F>, AllocError> {
-        let running = Running::new(alloc)?;
-        Ok(Driver {
-            running,
+    pub(crate) fn new(alloc: Global) -> Driver<F> {
+        Driver {
             desks: Vec::new(alloc),
             sources: 0,
-        })
+            idle: Source::new(),
+            task: None,
+        }
     }
 
     /// A number for one source more.
@@ -59,38 +58,25 @@ impl<F: Future<Output: Drop>> Driver<F> {
         self.desks.get_mut(place)
     }
 
-    /// Takes the desk of a source that is dropped. What its futures give from now on is let go.
+    /// Takes the desk of a source that is dropped, and with it the futures of that source.
     pub(crate) fn remove_source(&mut self, source: u64) -> Option<Desk<F>> {
         let place = self.place_of(source)?;
         Some(self.desks.swap_remove(place))
     }
 
-    /// Takes a future over, or hands it back where memory lacks. The next drive polls it, behind those that were woken before.
-    pub(crate) fn start(&mut self, ticket: Ticket, future: Held<F>) -> Result<(), Held<F>> {
-        self.running.push(ticket, future)?;
-        if let Some(desk) = self.desk(ticket.source) {
-            desk.expect(ticket);
-        }
-        Ok(())
-    }
-
-    fn leave(&mut self, finished: Finished<F>) {
-        if let Some(desk) = self.desk(finished.ticket.source) {
-            desk.leave(finished);
-        }
-    }
-
-    /// Polls futures that were woken, until the kit's set is pending or as many gave an output as ran at first, and leaves the outputs on the desks. One that wakes itself may be polled again. After 128 polls without an output the kit's set is pending, and has the task woken where more are left.
+    /// Polls futures of each source that were woken, and leaves the outputs on the desks.
     pub(crate) fn drive(&mut self, cx: &mut Context<'_>)
         ensures covered { Covers cx.new (λ _. ⊥) }
         ensures kept { Keeps cx.old cx.new }
     {
-        for _count in 0..self.running.len() {
-            let Some(finished) = self.running.poll_one(cx) else {
-                return;
-            };
-            self.leave(finished);
+        let mut any_runs = false;
+        for desk in &mut self.desks {
+            if desk.drive(cx) {
+                any_runs = true;
+            }
         }
-        self.running.rest(cx);
+        if !any_runs {
+            let _: Poll<()> = cx.register(&self.idle, &mut self.task);
+        }
     }
 }

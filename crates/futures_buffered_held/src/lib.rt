@@ -19,8 +19,8 @@
 //! - `foreign`: `Foreign`, what a set holds in place of a future.
 //! - `foreigns` and `try_foreigns`: `Foreigns`, the stand-ins of a stream's futures, as a stream, and `TryForeigns`, where the stream gives errors as well.
 //! - `foreign_stream`: `ForeignStream`, what a merge holds in place of a stream.
-//! - `desk`: where the outputs of one source wait until it asks for them.
-//! - `running`: the futures that were handed over, in a set of the kit.
+//! - `running`: the futures that one source handed over, in a set of the kit.
+//! - `desk`: these, and their outputs, which wait there until the source asks for them.
 //! - `driver`: what polls the futures of all sources beside one another.
 //! - `driven`: `Driven`, a source that names the slots whose outputs have come.
 //! - `foreign_sets`: sets, queues, joins and merges over it, by short names.

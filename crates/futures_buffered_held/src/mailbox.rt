@@ -94,6 +94,12 @@ impl<F: Future<Output: Drop>> Mailbox<F> {
         self.handed.set(Some(future));
     }
 
+    /// Drops what lies here: a future that nobody has taken over, or an output.
+    pub(crate) fn let_go(&self) {
+        self.handed.set(None);
+        self.left.set(None);
+    }
+
     /// Leaves an output, where it is that of the last future. Whether it is.
     pub(crate) fn leave(&self, ticket: Ticket, output: Given<F>) -> bool {
         if ticket != self.ticket() {

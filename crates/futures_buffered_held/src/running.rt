@@ -1,13 +1,14 @@
-//! The futures that were handed over.
-ghost use Rattle.std.specs.Prelude.{◌<◌, IfOk, IfNone};
+//! The futures that one source handed over.
+ghost use Rattle.std.specs.Prelude.{◌<◌, IfOk};
+ghost use Rattle.futures.specs.Poll.{OnPending};
 ghost use Rattle.futures.specs.Task.{Covers, Keeps};
-ghost use Rattle.futures.specs.Queued.{AllPollable, set_places, set_len};
+ghost use Rattle.futures.specs.Queued.{AllPollable, set_len, set_places};
 
 use crate::desk::Finished;
 use crate::held::{Given, Held};
 use crate::mailbox::Ticket;
 use futures::stream::FuturesUnordered;
-use futures::task::{Context, Poll, Source, Waker};
+use futures::task::{Context, Poll};
 use futures::{Future, Stream};
 use std::alloc::{AllocError, Global};
 use std::marker::Model;
@@ -40,20 +41,21 @@ impl<F: Future<Output: Drop>> Future for Run<F> {
 /// Futures of the kit in a set of the kit, each of which may be polled.
 #[derive(Drop)]
 pub(crate) struct Running<F: Future<Output: Drop>> {
-    set: FuturesUnordered<Run<F>>,
-    // Where a task waits while no future runs.
-    idle: Source,
-    task: Option<Waker>,
+    // Made by the first push, and by the first one after all were let go.
+    set: Option<FuturesUnordered<Run<F>>>,
+    alloc: Global,
 }
 
 impl<F: Future<Output: Drop>> Model for Running<F> {
+    ghost use Rattle.std.specs.Prelude.{IfSome};
     ghost use Rattle.futures.specs.Queued.{AllPollable, set_places};
 
     ghost Value = { Unit {0} };
 
     ghost view = { λ _. tt };
 
-    ghost invariant = { λ r. AllPollable (λ run. F.can_poll run.future) (set_places r.set) };
+    ghost invariant = { λ r. IfSome r.set
+        (λ set. AllPollable (λ run. F.can_poll run.future) (set_places set)) };
 }
 
 // A set of futures that holds none.
@@ -67,42 +69,47 @@ fn new_set<F: Future<Output: Drop>>(alloc: Global) -> Result<FuturesUnordered<Ru
 fn poll_set<F: Future<Output: Drop>>(
     set: &mut FuturesUnordered<Run<F>>,
     cx: &mut Context<'_>,
-) -> Option<Finished<F>>
+) -> Poll<Finished<F>>
     requires pollable { AllPollable (λ run. F.can_poll run.future) (set_places set.old) }
     requires some { 0 < set_len set.old }
     ensures pollable { AllPollable (λ run. F.can_poll run.future) (set_places set.new) }
-    ensures covered { IfNone result (Covers cx.new (λ _. ⊥)) }
+    ensures covered { OnPending result (Covers cx.new (λ _. ⊥)) }
     ensures kept { Keeps cx.old cx.new }
 {
     match set.poll_next(cx) {
-        Poll::Ready(Some(finished)) => Some(finished),
+        Poll::Ready(Some(finished)) => Poll::Ready(finished),
         // Only a set that holds none ends.
         Poll::Ready(None) => unreachable!(),
-        Poll::Pending => None,
+        Poll::Pending => Poll::Pending,
     }
 }
 
 impl<F: Future<Output: Drop>> Running<F> {
-    pub(crate) fn new(alloc: Global) -> Result<Running<F>, AllocError> {
-        let set = new_set(alloc)?;
-        Ok(Running {
-            set,
-            idle: Source::new(),
-            task: None,
-        })
+    /// None. Takes no memory.
+    pub(crate) fn new(alloc: Global) -> Running<F> {
+        Running { set: None, alloc }
     }
 
     pub(crate) fn len(&self) -> usize {
-        self.set.len()
+        match &self.set {
+            Some(set) => set.len(),
+            None => 0,
+        }
     }
 
     /// Adds this future, or hands it back where memory lacks.
     pub(crate) fn push(&mut self, ticket: Ticket, future: Held<F>) -> Result<(), Held<F>> {
-        let run = Run {
-            ticket,
-            future: future.into_inner(),
+        let mut set = match self.set.take() {
+            Some(set) => set,
+            None => match new_set(self.alloc) {
+                Ok(set) => set,
+                Err(AllocError) => return Err(future),
+            },
         };
-        match self.set.push(run) {
+        let future = future.into_inner();
+        let pushed = set.push(Run { ticket, future });
+        self.set = Some(set);
+        match pushed {
             Ok(()) => Ok(()),
             Err(failed) => {
                 let back = failed.value;
@@ -111,27 +118,25 @@ impl<F: Future<Output: Drop>> Running<F> {
         }
     }
 
-    /// What a future that was woken gave. `None` where the kit's set is pending, or none runs.
-    pub(crate) fn poll_one(&mut self, cx: &mut Context<'_>) -> Option<Finished<F>>
-        ensures covered { IfNone result (Covers cx.new (λ _. ⊥)) }
-        ensures kept { Keeps cx.old cx.new }
-    {
-        if self.set.is_empty() {
-            let _: Poll<()> = cx.register(&self.idle, &mut self.task);
-            return None;
-        }
-        poll_set(&mut self.set, cx)
+    /// Drops all of them, done or not. Takes no memory.
+    pub(crate) fn let_go(&mut self) {
+        self.set = None;
     }
 
-    /// Ends a poll at which as many futures were done as ran.
-    pub(crate) fn rest(&mut self, cx: &mut Context<'_>)
-        ensures covered { Covers cx.new (λ _. ⊥) }
+    /// What a future that was woken gave. The end where none runs.
+    pub(crate) fn poll_next(&mut self, cx: &mut Context<'_>) -> Poll<Option<Finished<F>>>
+        ensures covered { OnPending result (Covers cx.new (λ _. ⊥)) }
         ensures kept { Keeps cx.old cx.new }
     {
-        let _: Poll<()> = if self.set.is_empty() {
-            cx.register(&self.idle, &mut self.task)
-        } else {
-            cx.yield_now()
+        let Some(set) = &mut self.set else {
+            return Poll::Ready(None);
         };
+        if set.is_empty() {
+            return Poll::Ready(None);
+        }
+        match poll_set(set, cx) {
+            Poll::Ready(finished) => Poll::Ready(Some(finished)),
+            Poll::Pending => Poll::Pending,
+        }
     }
 }

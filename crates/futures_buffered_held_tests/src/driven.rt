@@ -2,8 +2,8 @@
 //
 // - `receivers`: receivers that count their polls, and their senders.
 // - `scene`: sources, futures and senders, on which tests write steps beside what is seen.
-// - `turns`: outputs of a slot that holds another future by now, and sources that leave.
-// - `drops`: what a source that leaves lets go.
+// - `turns`: outputs of a slot that holds another future by now, and sources that leave or let all go.
+// - `drops`: what ends with a source that leaves, and with a clear.
 // - `busy`: a source that is asked while another thread has the futures polled.
 // - `adaptors`: the adaptors over streams of futures that a thread completes.
 // - `short_names`: what the short names of sets, queues, joins and merges make.

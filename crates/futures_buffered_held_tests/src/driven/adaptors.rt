@@ -139,38 +139,45 @@ fn for_each_item_up_to_an_error(rt: HostRuntime) -> Result<(), Fail> {
     Ok(())
 }
 
+// One draw from the stream: whether it answers, and whether it wakes the task.
+fn draw<St>(task: &MockTask, stream: &mut St) -> (bool, bool)
+where
+    St: Stream,
+    St::Item: Drop,
+    requires { St.can_poll stream.old }
+{
+    let drew = task.enter(|cx| stream.poll_next(cx));
+    (drew.is_ready(), task.is_woken())
+}
+
+const ANSWERS: (bool, bool) = (true, false);
+
+const WAITS: (bool, bool) = (false, false);
+
 // What an adaptor draws: a stand-in for the stream's future, the end, and nothing where the stream waits.
 #[test]
 fn a_draw_wakes_nobody(rt: HostRuntime) -> Result<(), Fail> {
     let task = MockTask::new(&rt)?;
     let (_sender, receiver) = channel::<u64>(rt.alloc())?;
-    let receivers = vec![in rt.alloc(); receiver]?;
-    let mut stand_ins = Foreigns::new(stream::iter(receivers));
-    let drew = task.enter(|cx| stand_ins.poll_next(cx));
-    assert_same(&rt, (drew.is_ready(), task.is_woken()), (true, false));
-    let ended = task.enter(|cx| stand_ins.poll_next(cx));
-    assert_same(&rt, (ended.is_ready(), task.is_woken()), (true, false));
+    let mut stand_ins = Foreigns::new(stream::iter(Some(receiver)));
+    assert_same(&rt, draw(&task, &mut stand_ins), ANSWERS);
+    assert_same(&rt, draw(&task, &mut stand_ins), ANSWERS);
     let mut waits = Foreigns::new(stream::pending::<Receiver<u64>>());
-    let answer = task.enter(|cx| waits.poll_next(cx));
-    assert_same(&rt, (answer.is_pending(), task.is_woken()), (true, false));
+    assert_same(&rt, draw(&task, &mut waits), WAITS);
     Ok(())
 }
 
-// The same where the stream may fail: a stand-in, an error, a stream that waits, and the end.
+// The same where the stream may fail: a stand-in, an error, the end, and a stream that waits.
 #[test]
 fn a_draw_of_an_attempt_wakes_nobody(rt: HostRuntime) -> Result<(), Fail> {
     let task = MockTask::new(&rt)?;
     let (_sender, receiver) = channel::<u64>(rt.alloc())?;
     let attempts = vec![in rt.alloc(); Ok(receiver), Err(7u64)]?;
     let mut stand_ins = TryForeigns::new(stream::iter(attempts));
-    let drew = task.enter(|cx| stand_ins.poll_next(cx));
-    assert_same(&rt, (drew.is_ready(), task.is_woken()), (true, false));
-    let failed = task.enter(|cx| stand_ins.poll_next(cx));
-    assert_same(&rt, (failed.is_ready(), task.is_woken()), (true, false));
-    let ended = task.enter(|cx| stand_ins.poll_next(cx));
-    assert_same(&rt, (ended.is_ready(), task.is_woken()), (true, false));
+    assert_same(&rt, draw(&task, &mut stand_ins), ANSWERS);
+    assert_same(&rt, draw(&task, &mut stand_ins), ANSWERS);
+    assert_same(&rt, draw(&task, &mut stand_ins), ANSWERS);
     let mut waits = TryForeigns::new(stream::pending::<Result<Receiver<u64>, u64>>());
-    let answer = task.enter(|cx| waits.poll_next(cx));
-    assert_same(&rt, (answer.is_pending(), task.is_woken()), (true, false));
+    assert_same(&rt, draw(&task, &mut waits), WAITS);
     Ok(())
 }

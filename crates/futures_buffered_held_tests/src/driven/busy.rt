@@ -10,6 +10,7 @@ use futures_buffered_core::ready_source::{NewSource, ReadySource};
 use futures_buffered_held::{Driven, Foreign};
 use futures_buffered_sets::slot_future::SlotFuture;
 use std::alloc::{AllocError, AllocGlobal, Global};
+use std::random::RandomSource;
 use std::sync::Arc;
 use std::sync::atomic::AtomicU64;
 use std::sync::atomic::Ordering::SeqCst;
@@ -61,14 +62,16 @@ impl Future for Stays {
 
 type Source = Driven<Stays>;
 
-// Hands the future over by slot 0.
-fn begin(source: &mut Source, held: &mut Foreign<Stays>) -> Taken
+// Hands a future over by slot 0, which runs on though nobody holds what stands for it.
+fn begin(source: &mut Source, door: &Arc<Door>) -> Result<Taken, AllocError>
     requires { 0 < source.old.capacity }
 {
+    let door = Arc::try_clone(door)?;
+    let mut held = Foreign::new(Stays { door });
     let _woke = source.mark(0);
     let _taken = source.take();
     let _pending: Poll<bool> = held.poll(source.waker(0));
-    source.take()
+    Ok(source.take())
 }
 
 // What the source beside says meanwhile: whether its registration wakes the task, what it names, and why it makes no source more.
@@ -97,23 +100,62 @@ fn start<R: Threads + AllocGlobal>(
     Ok(thread::spawn(rt, move || ask(&door, alloc, &task, &mut source))?)
 }
 
+// Has the future polled by this task, while another thread asks the source beside: what that says.
+fn ask_meanwhile<R>(
+    rt: &R,
+    task: &MockTask,
+    door: &Arc<Door>,
+    source: &mut Source,
+    beside: Source,
+) -> Result<Option<Said>, Fail>
+where
+    R: Threads + RandomSource + AllocGlobal,
+{
+    let thread = start(rt, door, MockTask::new(rt)?, beside)?;
+    task.enter(|cx| source.register(cx));
+    Ok(thread.join(rt))
+}
+
 // Nothing is said to be empty then: the task polls again.
 #[test]
 fn a_source_beside_is_asked_meanwhile(rt: HostRuntime) -> Result<(), Fail> {
     let task = MockTask::new(&rt)?;
-    let other = MockTask::new(&rt)?;
     let door = new_door(rt.alloc())?;
     let mut source: Source = Driven::make(&(), rt.alloc(), 1)?;
     let beside = source.make_sibling(rt.alloc(), 1)?;
-    let mut held = Foreign::new(Stays {
-        door: Arc::try_clone(&door)?,
-    });
-    assert_same(&rt, begin(&mut source, &mut held), Taken::Pause);
-    let thread = start(&rt, &door, other, beside)?;
-    task.enter(|cx| source.register(cx));
-    let said = thread.join(&rt);
+    assert_same(&rt, begin(&mut source, &door)?, Taken::Pause);
+    let said = ask_meanwhile(&rt, &task, &door, &mut source, beside)?;
     let wanted = (true, Taken::Pause, Some(NewFault::Memory));
     assert_same(&rt, said, Some(wanted));
+    assert_same(&rt, source.take(), Taken::Slot(0));
+    Ok(())
+}
+
+// Has the source beside let all go, and then lets the poll end.
+fn let_go(door: &Door, source: &mut Source) {
+    if is_set(&door.has_begun) {
+        source.let_all_go();
+    }
+    door.may_end.store(1, SeqCst);
+}
+
+// Its future, which is done by then, goes at its next taking.
+#[test]
+fn a_source_beside_lets_all_go_meanwhile(rt: HostRuntime) -> Result<(), Fail> {
+    let task = MockTask::new(&rt)?;
+    let door = new_door(rt.alloc())?;
+    let thread_door = Arc::try_clone(&door)?;
+    let mut source: Source = Driven::make(&(), rt.alloc(), 1)?;
+    let mut beside = source.make_sibling(rt.alloc(), 1)?;
+    assert_same(&rt, begin(&mut source, &door)?, Taken::Pause);
+    assert_same(&rt, begin(&mut beside, &door)?, Taken::Pause);
+    let thread = thread::spawn(&rt, move || {
+        let_go(&thread_door, &mut beside);
+        beside
+    })?;
+    task.enter(|cx| source.register(cx));
+    let mut beside = thread.join(&rt);
+    assert_same(&rt, beside.take(), Taken::Empty);
     assert_same(&rt, source.take(), Taken::Slot(0));
     Ok(())
 }

@@ -3,20 +3,25 @@ ghost use Rattle.std.specs.Prelude.{◌<◌};
 
 use crate::same::assert_same;
 use futures::Stream;
-use futures::channel::oneshot::channel;
+use futures::channel::mpsc::unbounded;
+use futures::channel::oneshot::{Receiver, Sender, channel};
 use futures::future::{Ready, ready};
 use futures::task::Poll;
 use futures::test::MockTask;
-use futures_buffered::{foreign_set, growing_foreign_set};
+use futures_buffered::{
+    ForeignSet, ForeignStream, foreign_merge, foreign_queue, foreign_set, growing_foreign_set,
+};
 use futures_buffered_core::ready_core::Taken;
 use futures_buffered_core::ready_source::{NewSource, ReadySource};
 use futures_buffered_held::{Driven, Foreign};
 use futures_buffered_sets::slot_future::SlotFuture;
+use std::alloc::{AllocError, Global};
 use std::sync::Arc;
 use std::sync::atomic::Ordering::SeqCst;
 use std::test::Fail;
 use test_support::counter::new_counter;
 use test_support::dropped::Dropped;
+use test_support::keep::keep;
 
 type Source = Driven<Ready<Dropped>>;
 
@@ -46,19 +51,68 @@ fn an_output_of_a_source_that_left(rt: HostRuntime) -> Result<(), Fail> {
     Ok(())
 }
 
-// A bounded set that is cleared keeps its source, and that the futures which were polled.
+fn fill(
+    set: &mut ForeignSet<Receiver<u64>>,
+    alloc: Global,
+) -> Result<Vec<Sender<u64>>, AllocError> {
+    let mut senders = Vec::new(alloc);
+    for _ in 0..4 {
+        let (sender, receiver) = channel(alloc)?;
+        let _pushed = set.try_push(Foreign::new(receiver)).is_ok();
+        keep(&mut senders, sender)?;
+    }
+    Ok(senders)
+}
+
+// The futures are handed over, and then polled.
+fn poll_twice(task: &MockTask, set: &mut ForeignSet<Receiver<u64>>) {
+    let _handed_over = task.enter(|cx| set.poll_next(cx));
+    let _polled = task.enter(|cx| set.poll_next(cx));
+}
+
+fn in_flight(senders: &[Sender<u64>]) -> usize {
+    senders
+        .iter()
+        .filter(|sender| !sender.is_canceled())
+        .count()
+}
+
+// A bounded set that is cleared keeps its source, which ends what was polled. So there are never more in flight than it holds.
 #[test]
 fn what_was_polled_before_a_clear(rt: HostRuntime) -> Result<(), Fail> {
     let task = MockTask::new(&rt)?;
+    let mut set = foreign_set(rt.alloc(), 4)?;
+    for _ in 0..4 {
+        let senders = fill(&mut set, rt.alloc())?;
+        poll_twice(&task, &mut set);
+        assert_same(&rt, (set.len(), in_flight(&senders)), (4, 4));
+        set.clear();
+        assert_same(&rt, (set.len(), in_flight(&senders)), (0, 0));
+    }
+    Ok(())
+}
+
+#[test]
+fn what_was_polled_before_a_queue_or_a_merge_is_cleared(rt: HostRuntime) -> Result<(), Fail> {
+    let task = MockTask::new(&rt)?;
     let (sender, receiver) = channel::<u64>(rt.alloc())?;
-    let mut set = foreign_set(rt.alloc(), 1)?;
-    let _pushed = set.try_push(Foreign::new(receiver)).is_ok();
-    let _handed_over = task.enter(|cx| set.poll_next(cx));
-    let _polled = task.enter(|cx| set.poll_next(cx));
-    set.clear();
-    assert_same(&rt, (set.len(), sender.is_canceled()), (0, false));
-    drop(set);
-    assert_same(&rt, sender.is_canceled(), true);
+    let mut queue = foreign_queue(rt.alloc(), 1)?;
+    let _pushed = queue.try_push_back(Foreign::new(receiver)).is_ok();
+    let (items, stream) = unbounded::<u64>(rt.alloc())?;
+    let streams = vec![in rt.alloc(); ForeignStream::new(stream)]?;
+    let mut merge = foreign_merge(rt.alloc(), streams)?;
+    for _ in 0..2 {
+        let _pending = task.enter(|cx| queue.poll_next(cx));
+        let _pending = task.enter(|cx| merge.poll_next(cx));
+    }
+    assert_same(
+        &rt,
+        (sender.is_canceled(), items.is_closed()),
+        (false, false),
+    );
+    queue.clear();
+    merge.clear();
+    assert_same(&rt, (sender.is_canceled(), items.is_closed()), (true, true));
     Ok(())
 }
 

@@ -37,6 +37,8 @@ pub enum Step {
     ComeAndGo(usize),
     /// Drops the last source.
     Leave,
+    /// Has a source let all go.
+    LetAllGo(usize),
     /// Asks source 0 whether there are so many desks, where it has one slot.
     Desks(usize),
 }
@@ -44,6 +46,8 @@ pub enum Step {
 #[derive(Clone, Copy, Debug, PartialEq)]
 pub enum Seen {
     Done,
+    /// The future to be completed is gone.
+    Gone,
     Pending,
     Ready(u64),
     Slot(usize),
@@ -188,8 +192,10 @@ impl Scene {
 
     fn send(&mut self, future: usize, value: u64) -> Option<Seen> {
         let sender = self.senders.get_mut(future)?.take()?;
-        sender.send(value).ok()?;
-        Some(Seen::Done)
+        Some(match sender.send(value) {
+            Ok(()) => Seen::Done,
+            Err(_) => Seen::Gone,
+        })
     }
 
     fn add_source(&mut self, slots: usize) -> Option<Seen> {
@@ -223,12 +229,17 @@ impl Scene {
             Step::Drive(source) => self.drive(source),
             Step::Send(future, value) => self.send(future, value),
             Step::Finish(future, value) => {
-                self.send(future, value)?;
-                self.drive(0)
+                let seen = self.send(future, value)?;
+                self.drive(0)?;
+                Some(seen)
             }
             Step::Beside(slots) => self.add_source(slots),
             Step::LetGo => self.held.pop().map(|_| Seen::Done),
             Step::Leave => self.sources.pop().map(|_| Seen::Done),
+            Step::LetAllGo(source) => {
+                self.sources.get_mut(source)?.let_all_go();
+                Some(Seen::Done)
+            }
             Step::HandOver(_) | Step::ComeAndGo(_) | Step::Desks(_) => self.act_at_first(step),
         }
     }

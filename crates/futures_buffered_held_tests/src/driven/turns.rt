@@ -1,8 +1,9 @@
 //! A slot that holds another future than the one which was handed over last, and sources that leave.
 use crate::driven::scene::Scene;
-use crate::driven::scene::Seen::{Done, Empty, Pause, Pending, Ready, Slot};
+use crate::driven::scene::Seen::{Done, Empty, Gone, Pause, Pending, Ready, Slot};
 use crate::driven::scene::Step::{
-    Begin, Beside, ComeAndGo, Desks, Drive, Finish, HandOver, Leave, LetGo, Poll, Send, Take,
+    Begin, Beside, ComeAndGo, Desks, Drive, Finish, HandOver, Leave, LetAllGo, LetGo, Poll, Send,
+    Take,
 };
 use crate::same::assert_same;
 use futures::test::MockTask;
@@ -127,7 +128,7 @@ fn a_future_that_was_moved(rt: HostRuntime) -> Result<(), Fail> {
     Ok(())
 }
 
-// The source beside goes while future 1 of it runs. What that gives is let go, and does not come to a source that is made then.
+// The source beside goes, and future 1 of it with it. What its slot had comes to no source that is made then.
 #[test]
 fn a_source_that_left(rt: HostRuntime) -> Result<(), Fail> {
     let mut scene = Scene::new(MockTask::new(&rt)?, rt.alloc(), 1, 2)?;
@@ -137,7 +138,7 @@ fn a_source_that_left(rt: HostRuntime) -> Result<(), Fail> {
         (Begin(1, 1, 0), Pause),
         (Leave, Done),
         (Beside(1), Done),
-        (Finish(1, 2), Done),
+        (Finish(1, 2), Gone),
         (Take(0), Empty),
         (Take(1), Empty),
         (Send(0, 1), Done),
@@ -169,6 +170,37 @@ fn a_source_that_comes_after_255_others(rt: HostRuntime) -> Result<(), Fail> {
         (Drive(1), Done),
         (Take(0), Slot(0)),
         (Poll(0, 0, 0), Ready(1)),
+    ];
+    assert_same(&rt, scene.first_difference(&steps), None);
+    Ok(())
+}
+
+// Of the four futures of the source beside one runs, one was not taken over, one has its output at the desk, and one has it in its mailbox. All end with the source's content, and that of source 0 stays.
+#[test]
+fn a_source_that_lets_all_go(rt: HostRuntime) -> Result<(), Fail> {
+    let mut scene = Scene::new(MockTask::new(&rt)?, rt.alloc(), 1, 6)?;
+    let steps = [
+        (Beside(4), Done),
+        (Begin(0, 0, 0), Pause),
+        (Begin(1, 1, 0), Pause),
+        (Begin(2, 1, 1), Pause),
+        (Begin(3, 1, 2), Pause),
+        (Finish(3, 3), Done),
+        (Take(1), Slot(2)),
+        (Finish(2, 2), Done),
+        (Poll(4, 1, 3), Pending),
+        (LetAllGo(1), Done),
+        (Send(1, 1), Gone),
+        (Send(4, 4), Gone),
+        (Take(1), Empty),
+        (Poll(3, 1, 2), Pending),
+        (Finish(0, 5), Done),
+        (Take(0), Slot(0)),
+        (Poll(0, 0, 0), Ready(5)),
+        (Begin(5, 1, 0), Pause),
+        (Finish(5, 6), Done),
+        (Take(1), Slot(0)),
+        (Poll(5, 1, 0), Ready(6)),
     ];
     assert_same(&rt, scene.first_difference(&steps), None);
     Ok(())
