@@ -1,0 +1,3 @@
+pub mod InFlightLemmas
+pub mod InFlightQueueLemmas
+pub mod WaitingLemmas

@@ -1,0 +1,36 @@
+-- What comes of a set that a task waits for.
+use Rattle.std.proofs.Common.{◌≡◌, ◌<◌, ◌≤◌, ◌⊎◌, inl, inr, Option, Some, None, sym, ap, ◌∙◌, arith}
+use Rattle.futures.specs.declared.task.Poll.TheVariants.{Ready, Pending}
+use Rattle.futures.specs.declared.task.context.Context.{Context}
+use Rattle.futures_buffered_core.specs.SlotMap.{Slots, value_in, held_count, with_slot_freed}
+use Rattle.futures_buffered_in_flight.specs.InFlight.{FutureOf, Flights, CameOf, GivesByKey, PollsInFlight, RunsGiveNoMore, LeavesCancelled, EndsOneAtMost}
+use Rattle.futures_buffered_in_flight.specs.declared.in_flight.Came.{Came}
+
+module _ {F A : Type 0} (future : FutureOf F A) where
+  none_more : (old new : Flights F) (came : Option (Came A)) → LeavesCancelled old (Ready came) new → new.cancelled ≤ old.cancelled
+  none_more old new None room = omega (arith, room)
+  none_more old new (Some came) room = omega (arith, room)
+
+  one_at_most : (old new : Flights F) → EndsOneAtMost old new → new.cancelled ≤ old.cancelled
+  one_at_most old new (inl same) = omega (arith, same)
+  one_at_most old new (inr one) = omega (arith, one)
+
+  pub came_at_once : (old new : Flights F) (came : Option (Came A)) (cx left : Context) → PollsInFlight future old (Ready came) new cx left → CameOf future old came new
+  came_at_once old new came cx left p = record { gave = p.gave; narrows = p.narrows; keys = p.keys; room = none_more old new came p.room; again = p.again }
+
+  later : (old mid new : Flights F) (came : Option (Came A)) → 0 < held_count old.slots → mid.slots ≡ old.slots → RunsGiveNoMore future old mid → GivesByKey future mid (Ready came) new → GivesByKey future old (Ready came) new
+  later old mid new None some same narrows gave = absurd (let k = gave.0 in let e = ap (λ (s : Slots _). held_count s) same in omega (arith, k, e, some))
+  later old mid new (Some came) some same narrows gave =
+      record {
+        was_held = sym (ap (λ (s : Slots _). value_in s came.key.slot) same) ∙ gave.was_held;
+        gave = narrows (came.key, Some came.output) gave.gave;
+        freed = gave.freed ∙ ap (λ (s : Slots _). with_slot_freed s came.key.slot) same;
+        fewer = gave.fewer ∙ ap (λ (s : Slots _). held_count s) same;
+      }
+
+  -- what may come after a pending poll might come before
+  pub came_later : (old mid new : Flights F) (came : Option (Came A)) (cx left : Context) → PollsInFlight future old Pending mid cx left → CameOf future mid came new → CameOf future old came new
+  came_later old mid new came cx left p c =
+      let before = one_at_most old mid p.room in
+      let after = c.room in
+      record { gave = later old mid new came p.gave.0 p.gave.1 p.narrows c.gave; narrows = λ x h. p.narrows x (c.narrows x h); keys = c.keys ∙ p.keys; room = omega (arith, before, after); again = c.again }

@@ -1,0 +1,165 @@
+//! Futures of the kit in flight, in a queue that never hands one back.
+ghost use Rattle.std.specs.Prelude.{◌≡◌, ◌<◌, ◌≤◌, ◌+◌, ◌↔◌, IfOk, IsTrue};
+ghost use Rattle.futures.specs.Poll.{OnPending};
+ghost use Rattle.futures.specs.Task.{Covers, Keeps};
+ghost use Rattle.futures_buffered_core.specs.Made.{MakesSlots};
+ghost use Rattle.futures_buffered_in_flight.specs.InFlightQueue.{CanPollQueue, HoldsWithinRoom, IsNewQueued, PollsQueued, PollsQueuedTask, PushesQueued, Starts, queued_count, queued_room};
+
+use crate::in_flight::InFlight;
+use futures::Future;
+use futures::task::{Context, Poll};
+use futures_buffered_core::ready_core::NewFault;
+use std::alloc::Global;
+use std::collections::VecDeque;
+use std::marker::Model;
+
+/// Futures in flight, as many as there is room for, one at least.
+///
+/// A push takes each future where there is room. One for which memory is refused waits in a place that was made with the queue, is held like the others, and goes into flight at the next poll for which there is memory. These places are written to at no other time.
+#[derive(Drop)]
+pub struct InFlightQueue<F> {
+    set: InFlight<F>,
+    waiting: VecDeque<F>,
+}
+
+impl<F> Model for InFlightQueue<F> {
+    ghost use Rattle.std.specs.Prelude.{◌+◌, ◌<◌, ◌≤◌, length};
+    ghost use Rattle.std.specs.VecDeque.{deque_capacity};
+    ghost use Rattle.futures_buffered_core.specs.SlotMap.{held_count, slot_count};
+    ghost use Rattle.futures_buffered_in_flight.specs.InFlightQueue.{Queued};
+
+    ghost Value = { Queued F };
+
+    ghost view = { λ q. record { set = q.set; waiting = q.waiting.items } };
+
+    ghost invariant = { λ q. (0 < slot_count q.set.slots)
+        × (slot_count q.set.slots ≤ deque_capacity q.waiting)
+        × (length q.waiting.items + held_count q.set.slots ≤ slot_count q.set.slots) };
+}
+
+impl<F: Drop> InFlightQueue<F> {
+    /// How many futures are held. Takes the same time at any number.
+    pub fn len(&self) -> usize
+        ensures value { result ≡ queued_count self.now }
+        ensures bound { HoldsWithinRoom self.now }
+    {
+        self.waiting.len() + self.set.len()
+    }
+
+    /// Whether no future is held. Takes the same time at any number.
+    pub fn is_empty(&self) -> bool
+        ensures { IsTrue result ↔ (queued_count self.now ≡ 0) }
+    {
+        self.len() == 0
+    }
+
+    /// How many futures can be held, which never changes. Takes the same time at any number.
+    pub fn capacity(&self) -> usize
+        ensures { result ≡ queued_room self.now }
+    {
+        self.set.capacity()
+    }
+}
+
+impl<F: Future<Output: Drop>> InFlightQueue<F> {
+    /// A queue with room for `n` futures, and none.
+    ///
+    /// Takes time and memory in proportion to `n`. `TooLarge` where `n` is above `MAX_CAPACITY`, and `Memory` where a request for memory was refused.
+    pub fn new(alloc: Global, n: usize) -> Result<Self, NewFault>
+        requires { 0 < n }
+        ensures made { MakesSlots n (IsNewQueued n) result }
+        ensures can_poll { IfOk result (CanPollQueue F.Future) }
+    {
+        let set = InFlight::new(alloc, n)?;
+        let waiting = VecDeque::with_capacity(alloc, n)?;
+        Ok(InFlightQueue { set, waiting })
+    }
+
+    /// Adds the future, so that a later poll polls it. Takes the memory that the kit's set takes for a future, and does without where that is refused.
+    #[tactic(auto, using(crate::proofs::InFlightQueueLemmas::flies, crate::proofs::InFlightQueueLemmas::left_waiting))]
+    pub fn push(&mut self, future: F)
+        requires room { queued_count self.old < queued_room self.old }
+        requires held { CanPollQueue F.Future self.old }
+        requires fit { F.can_poll future }
+        ensures { PushesQueued F.Future self.old future self.new }
+    {
+        if let Err(future) = self.set.try_push(future) {
+            self.waiting.push_back_reserved(future);
+        }
+    }
+
+    // Has the set take the future that waits longest. Whether it did.
+    #[tactic(auto, using(crate::proofs::InFlightQueueLemmas::started, crate::proofs::InFlightQueueLemmas::put_back))]
+    fn start_one(&mut self) -> bool
+        requires { CanPollQueue F.Future self.old }
+        ensures { Starts F.Future self.old self.new }
+    {
+        let Some(future) = self.waiting.pop_front() else {
+            return false;
+        };
+        match self.set.try_push(future) {
+            Ok(_) => true,
+            Err(future) => {
+                self.waiting.push_front_reserved(future);
+                false
+            }
+        }
+    }
+
+    // Has the set take those that wait, as long as there is memory.
+    #[tactic(auto, using(crate::proofs::InFlightQueueLemmas::starts_none, crate::proofs::InFlightQueueLemmas::starts_on))]
+    fn start_all(&mut self)
+        requires { CanPollQueue F.Future self.old }
+        ensures { Starts F.Future self.old self.new }
+    {
+        'starts: for _start in 0..self.waiting.len() {
+            if !self.start_one() {
+                return;
+            }
+        }
+    }
+
+    // Has the task poll again where some are waiting still.
+    fn ask_again(&self, cx: &mut Context<'_>)
+        ensures { Keeps cx.old cx.new }
+    {
+        if !self.waiting.is_empty() {
+            let _: Poll<()> = cx.yield_now();
+        }
+    }
+
+    // One poll of the set, of a queue that holds some.
+    #[tactic(auto, using(crate::proofs::InFlightQueueLemmas::polled_output, crate::proofs::InFlightQueueLemmas::polled_none))]
+    fn poll_flying(&mut self, cx: &mut Context<'_>) -> Poll<Option<F::Output>>
+        requires held { CanPollQueue F.Future self.old }
+        requires some { 0 < queued_count self.old }
+        ensures polled { PollsQueued F.Future self.old result self.new }
+        ensures task { PollsQueuedTask result self.new cx.old cx.new }
+    {
+        match self.set.poll_next_keyed(cx) {
+            Poll::Pending => return Poll::Pending,
+            Poll::Ready(Some(came)) => return Poll::Ready(Some(came.output)),
+            // All of them are waiting for memory.
+            Poll::Ready(None) => {}
+        }
+        cx.yield_now()
+    }
+
+    /// One poll: an output of one of the futures, or the end, exactly where nothing is held.
+    ///
+    /// Futures that wait for memory go into flight first. Where memory is still refused the task is woken at once.
+    #[tactic(auto, using(crate::proofs::InFlightQueueLemmas::starts_then, crate::proofs::InFlightQueueLemmas::within_room))]
+    pub fn poll_output(&mut self, cx: &mut Context<'_>) -> Poll<Option<F::Output>>
+        requires { CanPollQueue F.Future self.old }
+        ensures polled { PollsQueued F.Future self.old result self.new }
+        ensures task { PollsQueuedTask result self.new cx.old cx.new }
+        ensures bound { HoldsWithinRoom self.new }
+    {
+        if self.len() == 0 {
+            return Poll::Ready(None);
+        }
+        self.start_all();
+        self.ask_again(cx);
+        self.poll_flying(cx)
+    }
+}

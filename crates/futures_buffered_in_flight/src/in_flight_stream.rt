@@ -1,0 +1,58 @@
+//! The set as a stream, which says how much is left and whether it has ended.
+ghost use Rattle.futures_buffered_core.specs.SlotMap.{held_count};
+ghost use Rattle.futures_buffered_in_flight.specs.InFlight.{CanPollAll, ComesFromSlots, WaitsAt};
+
+use crate::in_flight::InFlight;
+use futures::task::{Context, Poll};
+use futures::{Future, Stream};
+use futures_buffered_unordered::fused::{FusedStream, SizeHint};
+use std::fmt;
+
+impl<F: Future<Output: Drop>> Stream for InFlight<F> {
+    type Item = F::Output;
+
+    ghost can_poll = { CanPollAll F.Future };
+
+    ghost needs = { WaitsAt };
+
+    ghost yields = { ComesFromSlots F.Future };
+
+    #[tactic(auto, using(crate::proofs::InFlightLemmas::comes_first, crate::proofs::InFlightLemmas::comes_after, crate::proofs::InFlightLemmas::comes_within))]
+    fn poll_next(&mut self, cx: &mut Context<'_>) -> Poll<Option<F::Output>> {
+        match self.poll_next_keyed(cx) {
+            Poll::Pending => Poll::Pending,
+            Poll::Ready(None) => Poll::Ready(None),
+            Poll::Ready(Some(came)) => Poll::Ready(Some(came.output)),
+        }
+    }
+}
+
+/// Whether nothing is held, so that the next poll gives the end. A push after that starts it again.
+impl<F: Future<Output: Drop>> FusedStream for InFlight<F> {
+    ghost use Rattle.std.specs.Prelude.{◌≡◌};
+
+    ghost is_over = { λ set. held_count set.slots ≡ 0 };
+
+    fn is_terminated(&self) -> bool {
+        self.is_empty()
+    }
+}
+
+impl<F: Drop> SizeHint for InFlight<F> {
+    ghost use Rattle.std.specs.Prelude.{Some};
+
+    ghost items_left = { λ set. (held_count set.slots, Some (held_count set.slots)) };
+
+    fn size_hint(&self) -> (usize, Option<usize>) {
+        (self.len(), Some(self.len()))
+    }
+}
+
+/// Prints the number of futures held.
+impl<F: Drop> fmt::Debug for InFlight<F> {
+    fn fmt<W: fmt::Write>(&self, f: &mut fmt::Formatter<W>) -> fmt::Result {
+        f.debug_struct("InFlight")
+            .field("len", &self.len())
+            .finish_non_exhaustive()
+    }
+}

@@ -1,0 +1,20 @@
+//! Sets that hold futures of the kit's `futures` as they are, in plain sight.
+//!
+//! No lock and no cell stands between a set and its futures, and no type has a bound, so that a future may contain closures. What a poll asks of the futures stands in `requires`, as in the kit's own sets.
+//!
+//! - `run`: `Key`, which names one push, and `Run`, a future whose output comes with its key.
+//! - `in_flight`: `InFlight`, at most n futures, told apart by their keys, each of which can be cancelled; `in_flight_stream` is the same set as a stream.
+//! - `waiting`: `Waiting`, which holds a set while a task waits for its next output, and gives it back.
+//! - `in_flight_queue`: `InFlightQueue`, the set as what an adaptor holds: a push never hands a future back.
+#![tactic(auto)]
+
+pub mod in_flight;
+pub mod in_flight_queue;
+mod in_flight_stream;
+pub mod run;
+pub mod waiting;
+
+pub use in_flight::{Came, InFlight};
+pub use in_flight_queue::InFlightQueue;
+pub use run::Key;
+pub use waiting::Waiting;
