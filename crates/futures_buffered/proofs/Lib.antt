@@ -8,3 +8,4 @@ pub mod BufferUnorderedAccountLemmas
 pub mod BufferedOrderedAccountLemmas
 pub mod ForEachConcurrentLemmas
 pub mod TryForEachConcurrentLemmas
+pub mod InFlightLemmas

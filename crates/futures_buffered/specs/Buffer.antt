@@ -280,7 +280,7 @@ pub record IsNewBuffer {St Q : Type 0} (is_new : Q → Type 0) (stream : St)
 pub record CanDraw {St X Q : Type 0} (can_next : St → Type 0) (yields : St → Runs X)
     (is_fit : X → Type 0) (can_poll : Q → Type 0) (b : Buffering St Q) : Type 0 where
   pub stream : IfSome b.stream can_next
-  pub to_come : AllItems (Ahead yields b.stream) is_fit
+  pub to_come : IfSome b.stream (λ stream. AllItems (yields stream) is_fit)
   pub held : can_poll b.queue
 
 -- where a pending call waits: with the queue, if anything is held; with the stream, if it has not

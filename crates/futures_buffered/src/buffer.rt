@@ -36,6 +36,18 @@ impl<St: Drop, Q: Drop> Model for Buffer<St, Q> {
     ghost view = { λ s. record { stream = s.stream; queue = s.queue } };
 }
 
+impl<St: Drop, Q: Drop> Buffer<St, Q> {
+    /// Over this stream and a queue that was made before. Nothing is polled.
+    pub fn with_queue(stream: St, queue: Q) -> Self
+        ensures { IsNewBuffer (λ held. held ≡ queue) stream result }
+    {
+        Buffer {
+            stream: Some(stream),
+            queue,
+        }
+    }
+}
+
 impl<St: Drop, Q: NewQueue> Buffer<St, Q> {
     /// Over this stream, with at most `n` held at a time and a queue made for them. Nothing is polled.
     ///

@@ -1,22 +1,27 @@
 //! Adaptors of a stream of futures, as methods of the stream.
 //!
-//! Each is its type's `over`: with a shared source, so that what it holds is woken from any thread, or, where its name begins with `foreign`, with `Driven`.
-ghost use Rattle.std.specs.Prelude.{◌<◌};
+//! Each is its type's `over`: with a shared source, so that what it holds is woken from any thread, or, where its name begins with `foreign`, with `Driven`; the unordered forms of these hold the kit's futures in plain sight, in an `InFlightQueue`.
+ghost use Rattle.std.specs.Prelude.{◌<◌, IfOk};
 ghost use Rattle.futures_buffered_core.specs.Made.{MakesSlots};
 ghost use Rattle.futures_buffered_core.specs.ReadyShared.{IsNewShared};
 ghost use Rattle.futures_buffered_held.specs.Driven.{IsNewDriven};
+ghost use Rattle.futures_buffered_in_flight.specs.InFlightQueue.{CanPollQueue, IsNewQueued};
+ghost use Rattle.futures_buffered.specs.Buffer.{IsNewBuffer};
 ghost use Rattle.futures_buffered.specs.BufferUnordered.{IsNewUnordered};
 ghost use Rattle.futures_buffered.specs.BufferedOrdered.{IsNewOrdered};
 ghost use Rattle.futures_buffered.specs.ForEachConcurrent.{IsNewForEach};
 
+use crate::buffer::Buffer;
 pub use crate::buffer_unordered::BufferUnordered;
 pub use crate::buffered_ordered::BufferedOrdered;
 pub use crate::for_each_concurrent::ForEachConcurrent;
+pub use crate::in_flight::ForeignBufferUnordered;
 use futures::{Future, Stream};
 use futures_buffered_core::ready_core::NewFault;
 use futures_buffered_core::ready_shared::{SharedReady, SharedWaker};
 use futures_buffered_held::mailbox::Mailbox;
 use futures_buffered_held::{Driven, Foreigns};
+use futures_buffered_in_flight::InFlightQueue;
 use futures_buffered_unordered::SlotFuture;
 use futures_buffered_unordered::futures_unordered_bounded::POLL_LIMIT;
 use std::alloc::Global;
@@ -71,20 +76,22 @@ pub trait BufferedStreamExt: Stream + Sized {
         BufferedOrdered::over(&(), alloc, Foreigns::new(self), n)
     }
 
-    /// As `buffered_unordered`, of a stream of futures of the kit. These are polled with the task's own context.
+    /// As `buffered_unordered`, of a stream of futures of the kit, which stand in a set of their own. A future may contain closures.
     ///
-    /// Takes time and memory in proportion to `n`. It refuses as `buffered_unordered` does.
+    /// Takes time and memory in proportion to `n`. It refuses as `buffered_unordered` does. A poll takes the memory that the kit's set takes for each future, and does without where that is refused: the future waits, and the task is woken.
     final fn foreign_buffered_unordered(
         self,
         alloc: Global,
         n: usize,
-    ) -> Result<BufferUnordered<Foreigns<Self>, Driven<Self::Item>>, NewFault>
+    ) -> Result<ForeignBufferUnordered<Self>, NewFault>
     where
         Self::Item: Future<Output: Drop>,
         requires { 0 < n }
-        ensures { MakesSlots n (IsNewUnordered IsNewDriven POLL_LIMIT self n) result }
+        ensures made { MakesSlots n (IsNewBuffer (IsNewQueued n) self) result }
+        ensures held { IfOk result (λ b. CanPollQueue Self.Item.Future b.queue) }
     {
-        BufferUnordered::over(&(), alloc, Foreigns::new(self), n)
+        let queue = InFlightQueue::new(alloc, n)?;
+        Ok(Buffer::with_queue(self, queue))
     }
 
     /// Calls `f` with each item of this stream, once and in order, and runs the futures that it makes, at most `limit` at a time. Nothing is polled.

@@ -1,6 +1,6 @@
 //! What a buffer holds: futures, of each of which one output comes.
 //!
-//! A buffer is written once, for any such queue. `CompletionQueue` is one whose outputs come as the futures finish, `OrderedQueue` one that keeps the order of the pushes, and `TryQueue` makes of either one to which errors can be given as well.
+//! A buffer is written once, for any such queue. `CompletionQueue` and `InFlightQueue` are such, whose outputs come as the futures finish, `OrderedQueue` is one that keeps the order of the pushes, and `TryQueue` makes of either one to which errors can be given as well.
 ghost use Rattle.std.specs.Prelude.{◌≡◌, ◌<◌, ◌≤◌, ℕ, Bool, List, Option};
 ghost use Rattle.futures_buffered_core.specs.Made.{MakesSlots};
 ghost use Rattle.futures_buffered_unordered.specs.StreamAnswers.{StreamAnswers};
@@ -63,9 +63,11 @@ pub trait FutureQueue<I>: Drop {
     fn capacity(&self) -> usize
         ensures { result ≡ room self.now };
 
-    /// Adds the item's future, so that a later poll polls it; or hands back an answer at once, and changes nothing. Takes no memory, polls nothing, and wakes nobody.
+    /// Adds the item's future, so that a later poll polls it; or hands back an answer at once, and changes nothing. Polls nothing, and wakes nobody. No item is refused: a queue whose push takes memory does without where that is refused.
     fn push(&mut self, item: I) -> Option<Self::Output>
-        requires { count self.old < room self.old }
+        requires room { count self.old < room self.old }
+        requires held { can_poll self.old }
+        requires fit { is_fit item }
         ensures pushed { pushes self.old item result self.new }
         ensures queue { PushLeavesQueue count room in_order yields gives is_fit can_poll
             self.old item result self.new };

@@ -7,6 +7,7 @@
 //! - `future_queue`: `FutureQueue`, what an adaptor holds, and `NewQueue`.
 //! - `buffer`: `Buffer`, the adaptor over any such queue.
 //! - `buffer_unordered`: `BufferUnordered`, whose outputs come as the futures finish.
+//! - `in_flight`: `InFlightQueue` of the crate below, futures of the kit in plain sight, as such a queue.
 //! - `buffered_ordered`: `BufferedOrdered`, whose outputs come in the order of the futures.
 //! - `for_each_concurrent`: `ForEachConcurrent`, which makes its futures of the items by a closure.
 //! - `buffered`: `BufferedStreamExt`, these adaptors as methods of a stream.
@@ -23,6 +24,7 @@ pub mod buffered;
 pub mod buffered_ordered;
 pub mod for_each_concurrent;
 pub mod future_queue;
+mod in_flight;
 pub mod iter_ext;
 pub mod try_buffer;
 pub mod try_buffer_unordered;
@@ -54,6 +56,8 @@ pub use futures_buffered_held::{
     foreign_try_join_all, foreigns, future, growing_foreign_merge, growing_foreign_queue,
     growing_foreign_set, mailbox, oneshot, spsc, stream, try_foreigns,
 };
+pub use futures_buffered_in_flight::{Came, InFlight, InFlightQueue, Key, Waiting};
+pub use in_flight::{ForeignBufferUnordered, ForeignTryBufferUnordered};
 // Sets, queues, joins and merges.
 pub use futures_buffered_sets::{
     FusedFuture, FusedStream, FuturesOrdered, FuturesOrderedBounded, FuturesUnordered,

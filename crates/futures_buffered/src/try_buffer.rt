@@ -1,5 +1,5 @@
 //! Some futures of a stream at a time, in any queue of futures, where the stream gives errors as well.
-ghost use Rattle.std.specs.Prelude.{IfOk, false};
+ghost use Rattle.std.specs.Prelude.{◌≡◌, IfOk, false};
 ghost use Rattle.futures_buffered.specs.TryBuffer.{PushesOk, TryItemGives};
 
 use crate::buffer::Buffer;
@@ -21,6 +21,15 @@ impl<Q: Drop> Model for TryQueue<Q> {
     ghost coded = { Q.code };
 
     ghost view = { λ s. s.queue };
+}
+
+impl<Q: Drop> TryQueue<Q> {
+    /// Over this queue of the futures. Changes nothing of it.
+    pub fn over(queue: Q) -> Self
+        ensures { result ≡ queue }
+    {
+        TryQueue { queue }
+    }
 }
 
 impl<Q: NewQueue> NewQueue for TryQueue<Q> {

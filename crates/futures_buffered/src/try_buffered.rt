@@ -1,15 +1,20 @@
 //! Adaptors of a stream of futures and errors, as methods of the stream.
 //!
-//! Each is its type's `over`: with a shared source, so that what it holds is woken from any thread, or, where its name begins with `foreign`, with `Driven`.
+//! Each is its type's `over`: with a shared source, so that what it holds is woken from any thread, or, where its name begins with `foreign`, with `Driven`; the unordered forms of these hold the kit's futures in plain sight, in an `InFlightQueue`.
 ghost use Rattle.futures_buffered_unordered.specs.FuturesUnorderedBounded.{IsNewSet};
-ghost use Rattle.std.specs.Prelude.{◌<◌};
+ghost use Rattle.std.specs.Prelude.{◌<◌, IfOk};
 ghost use Rattle.futures_buffered_core.specs.Made.{MakesSlots};
 ghost use Rattle.futures_buffered_core.specs.ReadyShared.{IsNewShared};
 ghost use Rattle.futures_buffered_held.specs.Driven.{IsNewDriven};
+ghost use Rattle.futures_buffered_in_flight.specs.InFlightQueue.{CanPollQueue, IsNewQueued};
+ghost use Rattle.futures_buffered.specs.Buffer.{IsNewBuffer};
 ghost use Rattle.futures_buffered.specs.BufferUnordered.{IsNewUnordered};
 ghost use Rattle.futures_buffered.specs.BufferedOrdered.{IsNewOrdered};
 ghost use Rattle.futures_buffered.specs.TryForEachConcurrent.{IsNewDrain};
 
+use crate::buffer::Buffer;
+pub use crate::in_flight::ForeignTryBufferUnordered;
+use crate::try_buffer::TryQueue;
 pub use crate::try_buffer_unordered::TryBufferUnordered;
 pub use crate::try_buffered_ordered::TryBufferedOrdered;
 pub use crate::try_for_each_concurrent::TryForEachConcurrent;
@@ -19,6 +24,7 @@ use futures_buffered_core::ready_core::NewFault;
 use futures_buffered_core::ready_shared::{SharedReady, SharedWaker};
 use futures_buffered_held::mailbox::Mailbox;
 use futures_buffered_held::{Driven, Foreign, TryForeigns};
+use futures_buffered_in_flight::InFlightQueue;
 use futures_buffered_unordered::SlotFuture;
 use futures_buffered_unordered::futures_unordered_bounded::POLL_LIMIT;
 use std::alloc::Global;
@@ -80,23 +86,25 @@ pub trait BufferedTryStreamExt: Stream + Sized {
         TryBufferedOrdered::over(&(), alloc, TryForeigns::new(self), n)
     }
 
-    /// As `try_buffered_unordered`, of a stream of futures of the kit and errors. The futures are polled with the task's own context.
+    /// As `try_buffered_unordered`, of a stream of futures of the kit and errors. The futures stand in a set of their own, and may contain closures.
     ///
-    /// Takes time and memory in proportion to `n`. It refuses as `try_buffered_unordered` does.
+    /// Takes time and memory in proportion to `n`. It refuses as `try_buffered_unordered` does. A poll takes the memory that the kit's set takes for each future, and does without where that is refused: the future waits, and the task is woken.
     final fn foreign_try_buffered_unordered<F, T, E>(
         self,
         alloc: Global,
         n: usize,
-    ) -> Result<TryBufferUnordered<TryForeigns<Self>, Foreign<F>, Driven<F>>, NewFault>
+    ) -> Result<ForeignTryBufferUnordered<Self, F>, NewFault>
     where
         Self: Stream<Item = Result<F, E>>,
         F: Future<Output = Result<T, E>>,
         T: Drop,
         E: Drop,
         requires { 0 < n }
-        ensures { MakesSlots n (IsNewUnordered IsNewDriven POLL_LIMIT self n) result }
+        ensures made { MakesSlots n (IsNewBuffer (IsNewQueued n) self) result }
+        ensures held { IfOk result (λ b. CanPollQueue F.Future b.queue) }
     {
-        TryBufferUnordered::over(&(), alloc, TryForeigns::new(self), n)
+        let queue = InFlightQueue::new(alloc, n)?;
+        Ok(Buffer::with_queue(self, TryQueue::over(queue)))
     }
 
     /// Calls `f` with each `Ok` item of this stream, once and in order, and runs the futures that it makes, at most `limit` at a time, up to the first error, of the stream or of a future. Nothing is polled.

@@ -1,7 +1,15 @@
-use Rattle.std.proofs.Common.{rules, ◌≡◌, Some, None, sym, subst}
+use Rattle.std.proofs.Common.{rules, ◌≡◌, [], Some, None, sym, subst}
 use Rattle.futures_buffered.specs.Buffer.{PollsStream, CanDraw, BufferGives}
 use Rattle.futures_buffered.proofs.BufferLemmas.{as_before, item_leaves, pending_within, end_within, pending_can, polled_task}
 use Rattle.futures_buffered.proofs.buffer.Buffer.draw_one.Goals as goal
+
+pub push-requires-clause-fit : goal.push-requires-clause-fit
+push-requires-clause-fit g c =
+    let stream = g.St.Stream in
+    let queue = g.Q.FutureQueue in
+    let was : c.args.self.now ≡ record { stream = Some c.in-Some.stream; queue = c.self.inside.queue } = let e = c.self.view_is in let k = c.in-Some.stream-is in cc in
+    let can = subst (CanDraw stream.can_poll stream.yields queue.is_fit queue.can_poll) was c.requires in
+    can.to_come [] c.in-Ready-Some.item (rw c.in-Ready-Some.field-0-is at c.in-Ready-Some.ensures.value)
 
 pub returns-in_default-push-clause-buffer : goal.returns-in_default-push-clause-buffer
 returns-in_default-push-clause-buffer g c =

@@ -1,0 +1,86 @@
+-- What a push and a poll of a queue of futures in flight are to a buffer.
+use Rattle.std.proofs.Common.{◌≡◌, ◌+◌, ◌<◌, ℕ, List, [], ◌∷◌, ◌⊎◌, inl, inr, length, Option, Some, None, count_by, is_some, cond, false, refl, arith}
+use Rattle.std.proofs.lemmas.List.{get_or_past}
+use Rattle.std.proofs.lemmas.List.Sums.{get_or-le-sum_by}
+use Rattle.std.proofs.lemmas.Bool.{cases_lt}
+use Rattle.futures.specs.Runs.{After, Within}
+use Rattle.futures.specs.declared.task.Poll.{Poll}
+use Rattle.futures.specs.declared.task.Poll.TheVariants.{Ready, Pending}
+use Rattle.futures.specs.declared.task.context.Context.{Context}
+use Rattle.futures_buffered_core.specs.SlotMap.{Slots, value_in, held_count}
+use Rattle.futures_buffered_unordered.specs.StreamAnswers.{StreamAnswers}
+use Rattle.futures_buffered_unordered.proofs.HeldGivesLemmas.{Gathers-Within, Gathers-After}
+use Rattle.futures_buffered_in_flight.specs.InFlight.{FutureOf}
+use Rattle.futures_buffered_in_flight.specs.InFlightQueue.{Queued, AnyOf, AnyQueuedGives, CanPollQueue, ComesFromQueue, HoldsWithinRoom, PollsQueued, PollsQueuedTask, PushesQueued, QueueWaitsAt, queued_count, queued_room}
+use Rattle.futures_buffered.specs.FutureQueue.{AddsOutput, MayCome, PollLeavesQueue, PushLeavesQueue}
+
+some_held : {P : Type 0} (m : Slots P) (i : ℕ) (p : P) → value_in m i ≡ Some p → 0 < held_count m
+some_held {P} m i p found =
+    let within : i < length m.places = elim (cases_lt i (length m.places)) [
+      | inl below ↦ below
+      | inr past ↦ let none : value_in m i ≡ None = get_or_past m.places i None past in cc
+    ] in
+    omega (arith, rw found at (get_or-le-sum_by (λ (o : Option P). cond (is_some o) 1 0) m.places i None within))
+
+module _ {F A : Type 0} (future : FutureOf F A) where
+  waiting_counts : (fs : List F) (x : A) → AnyOf future fs x → 0 < length fs
+  waiting_counts [] x h = absurd h
+  waiting_counts (f ∷ fs) x h = omega arith
+
+  -- where a future may give an output, one is held
+  counts : (q : Queued F) (x : A) → AnyQueuedGives future q x → 0 < queued_count q
+  counts q x (inl h) = omega (arith, waiting_counts q.waiting x h)
+  counts q x (inr h) = omega (arith, some_held q.set.slots h.0 h.1.0 h.1.1)
+
+  comes_first : (q : Queued F) (x : A) → AnyQueuedGives future q x → ComesFromQueue future q [] (Some x)
+  comes_first q x h = record { each = tt; ends = (h, counts q x h) }
+
+  adds : (old new : Queued F) (f : F) → PushesQueued future old f new → AddsOutput false (ComesFromQueue future old) (future.gives f) (ComesFromQueue future new)
+  adds old new f p x came =
+      elim (p.gives x came.1.ends.0) [
+        | inl was ↦ inl ([], comes_first old x was)
+        | inr own ↦ inr own
+      ]
+
+  pub push_leaves : (old new : Queued F) (f : F) → PushesQueued future old f new
+      → PushLeavesQueue queued_count queued_room false (ComesFromQueue future) future.gives future.can_poll (CanPollQueue future) old f None new
+  push_leaves old new f p =
+      record {
+        one_more = p.one_more;
+        adds = adds old new f p;
+        value = tt;
+        stays = tt;
+        overtakes = tt;
+        same_room = p.same_room;
+        again = λ can fit. p.again;
+      }
+
+  pub poll_leaves : (old new : Queued F) (answer : Poll (Option A)) → PollsQueued future old answer new → HoldsWithinRoom new → PollLeavesQueue queued_count queued_room old answer new
+  poll_leaves old new (Ready None) p within = record { empty = p.gave; fewer = tt; same_count = tt; same_room = p.same_room; some = within.0; bound = within.1 }
+  poll_leaves old new (Ready (Some x)) p within = record { empty = tt; fewer = p.gave.1; same_count = tt; same_room = p.same_room; some = within.0; bound = within.1 }
+  poll_leaves old new Pending p within = record { empty = tt; fewer = tt; same_count = p.gave.1; same_room = p.same_room; some = within.0; bound = within.1 }
+
+  pub answers : (old new : Queued F) (answer : Poll (Option A)) (cx left : Context) → PollsQueued future old answer new → PollsQueuedTask answer new cx left
+      → StreamAnswers (CanPollQueue future) QueueWaitsAt (ComesFromQueue future) old answer new cx left
+  answers old new (Ready None) cx left p task =
+      record { value = record { each = tt; ends = let k = p.gave.0 in omega (arith, k) }; rest = tt; same = tt; goes = tt; again = tt; registered = tt; kept = task.kept }
+  answers old new (Ready (Some x)) cx left p task =
+      record {
+        value = comes_first old x p.gave.0;
+        rest = Gathers-After p.narrows (queued_count old) (queued_count new) x p.gave.1 p.gave.0;
+        same = tt;
+        goes = p.again;
+        again = tt;
+        registered = tt;
+        kept = task.kept;
+      }
+  answers old new Pending cx left p task =
+      record {
+        value = tt;
+        rest = tt;
+        same = Gathers-Within p.narrows (queued_count old) (queued_count new) p.gave.1;
+        goes = tt;
+        again = p.again;
+        registered = task.registered;
+        kept = task.kept;
+      }

@@ -1,0 +1,6 @@
+use Rattle.futures_buffered.proofs.InFlightLemmas.{answers}
+use Rattle.futures_buffered.proofs.in_flight.InFlightQueueFutureQueue.poll_output.Goals as goal
+
+pub returns-clause-stream : goal.returns-clause-stream
+returns-clause-stream g c =
+    answers g.F.Future c.args.self.now c.poll_output.new.self c.poll_output.result c.args.cx.now c.poll_output.new.cx c.poll_output.ensures.polled c.poll_output.ensures.task

@@ -1,0 +1,63 @@
+//! Futures of the kit in plain sight, as what a buffer holds.
+ghost use Rattle.futures_buffered_in_flight.specs.InFlightQueue.{CanPollQueue, ComesFromQueue, PollsQueued, PollsQueuedTask, PushesQueued, QueueWaitsAt, queued_count, queued_room};
+ghost use Rattle.futures_buffered.specs.FutureQueue.{OnlyPushes};
+
+use crate::buffer::Buffer;
+use crate::future_queue::FutureQueue;
+use crate::try_buffer::TryBuffer;
+use futures::task::{Context, Poll};
+use futures::{Future, Stream};
+use futures_buffered_in_flight::InFlightQueue;
+
+impl<F: Future<Output: Drop>> FutureQueue<F> for InFlightQueue<F> {
+    ghost use Rattle.std.specs.Prelude.{false};
+
+    type Output = F::Output;
+
+    ghost count = { queued_count };
+
+    ghost room = { queued_room };
+
+    ghost pushes = { OnlyPushes (PushesQueued F.Future) };
+
+    ghost polls = { PollsQueued F.Future };
+
+    ghost leaves = { λ _ answer new cx left. PollsQueuedTask answer new cx left };
+
+    ghost is_fit = { F.can_poll };
+
+    ghost can_poll = { CanPollQueue F.Future };
+
+    ghost gives = { F.gives };
+
+    ghost yields = { ComesFromQueue F.Future };
+
+    ghost in_order = { false };
+
+    ghost needs = { QueueWaitsAt };
+
+    fn len(&self) -> usize {
+        InFlightQueue::len(self)
+    }
+
+    fn capacity(&self) -> usize {
+        InFlightQueue::capacity(self)
+    }
+
+    #[tactic(auto, using(crate::proofs::InFlightLemmas::push_leaves))]
+    fn push(&mut self, future: F) -> Option<F::Output> {
+        InFlightQueue::push(self, future);
+        None
+    }
+
+    #[tactic(auto, using(crate::proofs::InFlightLemmas::poll_leaves, crate::proofs::InFlightLemmas::answers))]
+    fn poll_output(&mut self, cx: &mut Context<'_>) -> Poll<Option<F::Output>> {
+        InFlightQueue::poll_output(self, cx)
+    }
+}
+
+/// Futures of the kit of a stream, at most as many at a time as its queue has room for, whose outputs come as they finish.
+pub type ForeignBufferUnordered<St> = Buffer<St, InFlightQueue<<St as Stream>::Item>>;
+
+/// The same of a stream that gives errors as well.
+pub type ForeignTryBufferUnordered<St, F> = TryBuffer<St, InFlightQueue<F>>;
