@@ -4,7 +4,7 @@
     scripts/draw_figures.py
 
 A line of these texts is a time, a name and a number, as '  43.0 ns  set: a ready future, replaced, held, 256'. The first text has what
-`futures_buffered_bench` prints; the second says in its head what was measured. Lines that begin with '#' are passed over.
+`scripts/measure` prints; the second says in its head what was measured. Lines that begin with '#' are passed over.
 It writes docs/figures/workloads.svg and docs/figures/growth.svg.
 """
 import math

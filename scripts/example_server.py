@@ -1,4 +1,10 @@
-"""A server of numbered documents on this machine, for the programs of `examples/`. It tells how many requests it had in hand at once."""
+"""A server of numbered documents and of linked pages on this machine, for the programs of `examples/`. It tells how many requests it had in hand at once.
+
+    GET /N          document N
+    GET /SITE/N     page N of a site, with links to further pages
+    GET /late       no answer
+    GET /in-hand    how many other requests it has in hand, once those that were closed a moment before are gone
+"""
 import asyncio
 import contextlib
 import random
@@ -8,14 +14,40 @@ import threading
 LEAST, MOST = 0.01, 0.04
 # A request that is not whole by then is given up.
 PATIENCE = 20
+# How long the other end's closing of a connection may take to come here, in seconds.
+SETTLING = 0.1
+# How many pages a site has. Each links to three more, as long as there are any, and to the first.
+PAGES = 100
+# By site: pages that are refused, and pages that never come.
+REFUSED = {"rotten": {17}}
+LATE = {"rotten": {16, 18}, "stuck": {16, 17, 18}}
 
 
 def document(number):
     return b"%d\n" % number * (1 + number % 50)
 
 
+def page(site, number):
+    links = [0, *range(3 * number + 1, min(3 * number + 4, PAGES))]
+    return "".join(f'<a href="/{site}/{link}">page {link}</a>\n' for link in links).encode()
+
+
+def answer_to(path):
+    """Status and body of the answer, or nothing where none comes."""
+    site, _, number = path.strip("/").rpartition("/")
+    if number == "late" or int(number) in LATE.get(site, ()):
+        return None
+    if int(number) in REFUSED.get(site, ()):
+        return "500 Internal Server Error", b""
+    return "200 OK", page(site, int(number)) if site else document(int(number))
+
+
+def send(writer, status, body):
+    writer.write(b"HTTP/1.1 %s\r\ncontent-length: %d\r\nconnection: close\r\n\r\n%s" % (status.encode(), len(body), body))
+
+
 class Server:
-    """Answers each `GET /N` with a document, behind a delay, and closes the connection. Stands on a free port while its `with` block runs."""
+    """Answers each request behind a delay, and closes the connection. Stands on a free port while its `with` block runs."""
 
     def __init__(self):
         self.in_hand = self.most_in_hand = self.answered = self.given_up = 0
@@ -47,22 +79,32 @@ class Server:
     async def serve(self, reader, writer):
         with contextlib.suppress(ConnectionError, asyncio.IncompleteReadError, asyncio.TimeoutError):
             head = await asyncio.wait_for(reader.readuntil(b"\r\n\r\n"), PATIENCE)
-            await self.answer(int(head.split()[1].strip(b"/")), reader, writer)
+            path = head.split()[1].decode()
+            if path == "/in-hand":
+                await asyncio.sleep(SETTLING)
+                send(writer, "200 OK", b"%d" % self.in_hand)
+            else:
+                self.answer(path, writer, await self.hold(path, reader))
+            await writer.drain()
         writer.close()
 
-    async def answer(self, number, reader, writer):
+    async def hold(self, path, reader):
+        """Has a request in hand as long as it takes, and says whether the other end is still there."""
         self.in_hand += 1
         self.most_in_hand = max(self.most_in_hand, self.in_hand)
         try:
-            if await self.is_gone(reader, random.Random(number).uniform(LEAST, MOST)):
-                self.given_up += 1
-                return
-            body = document(number)
-            writer.write(b"HTTP/1.1 200 OK\r\ncontent-length: %d\r\nconnection: close\r\n\r\n%s" % (len(body), body))
-            self.answered += 1
+            seconds = random.Random(path).uniform(LEAST, MOST) if answer_to(path) else PATIENCE
+            return not await self.is_gone(reader, seconds)
         finally:
             self.in_hand -= 1
-        await writer.drain()
+
+    def answer(self, path, writer, is_there):
+        found = answer_to(path)
+        if found and is_there:
+            send(writer, *found)
+            self.answered += 1
+        else:
+            self.given_up += not is_there
 
     async def is_gone(self, reader, seconds):
         """Waits so long, or until the other end closes the connection, and says whether it did."""

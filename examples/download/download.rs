@@ -1,4 +1,7 @@
 //! One document of a server, over a connection of its own.
+ghost use Rattle.futures.specs.Poll.{OnPending};
+ghost use Rattle.futures.specs.Task.{Covers, Keeps};
+
 use bytes::{Bytes, BytesMut};
 use futures::task::{Context, Poll};
 use futures::{Future, ready};
@@ -33,7 +36,10 @@ impl Download {
     }
 
     // Goes on from one stage to the next, up to one that waits.
-    fn advance(&mut self, cx: &mut Context<'_>) -> Poll<io::Result<BytesMut>> {
+    fn advance(&mut self, cx: &mut Context<'_>) -> Poll<io::Result<BytesMut>>
+        ensures covered { OnPending result (Covers cx.new (λ _. ⊥)) }
+        ensures kept { Keeps cx.old cx.new }
+    {
         if let Stage::Connecting(connect, request) = &mut self.stage {
             let socket = match ready!(connect.poll(cx)) {
                 Ok(socket) => socket,

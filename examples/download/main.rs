@@ -23,7 +23,7 @@ struct Settings {
     limit: usize,
 }
 
-fn settings<R: Env + AllocGlobal>(rt: &R) -> Result<Settings, anyhow::Error> {
+fn read_settings<R: Env + AllocGlobal>(rt: &R) -> Result<Settings, anyhow::Error> {
     let mut words = env::args(rt)?;
     let _program = words.next();
     let (Some(port), Some(documents), Some(limit)) = (words.next(), words.next(), words.next())
@@ -42,19 +42,27 @@ fn settings<R: Env + AllocGlobal>(rt: &R) -> Result<Settings, anyhow::Error> {
 }
 
 fn request_for(alloc: Global, document: u32) -> io::Result<Bytes> {
-    let text = format!(in alloc; "GET /{document} HTTP/1.1\r\nhost: localhost\r\nconnection: close\r\n\r\n")?;
+    let text = format!(in alloc;
+        "GET /{document} HTTP/1.1\r\nhost: localhost\r\nconnection: close\r\n\r\n"
+    )?;
     Ok(Bytes::copy_from_slice(alloc, text.as_bytes())?)
 }
 
 // The part of an answer behind the empty line that ends its head.
 fn document_in(answer: &[u8]) -> Option<&[u8]> {
-    let end = answer.windows(4).position(|bytes| bytes == b"\r\n\r\n".as_slice())?;
+    let end = answer
+        .windows(4)
+        .position(|bytes| bytes == b"\r\n\r\n".as_slice())?;
     answer.get(end.checked_add(4)?..)
 }
 
 fn main(rt: HostRuntime) -> Result<(), anyhow::Error> {
     let alloc = rt.alloc();
-    let Settings { port, documents, limit } = settings(&rt)?;
+    let Settings {
+        port,
+        documents,
+        limit,
+    } = read_settings(&rt)?;
     let mut runtime = LocalRuntime::new(&rt)?;
     let reactor = runtime.handle().reactor().clone()?;
     let server = SocketAddr::from((Ipv4Addr::LOCALHOST, port));
