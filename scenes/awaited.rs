@@ -1,0 +1,125 @@
+//! What a set holds in these scenes: a future, and a stream of one item, that threads wake.
+use anyhow::bail;
+use futures::task::Poll;
+use futures_buffered::SlotFuture;
+use futures_buffered_core::ready_shared::SharedWaker;
+use futures_buffered_core::ready_source::SlotWaker;
+use futures_buffered_merges::slot_stream::SlotStream;
+use std::alloc::{AllocError, Global};
+use std::sync::atomic::AtomicU64;
+use std::sync::atomic::Ordering::SeqCst;
+use std::sync::{Arc, Mutex};
+use std::thread::{self, JoinHandle, Threads};
+
+/// Where a future leaves its waker, and a thread counts its wakes.
+#[derive(Drop)]
+pub struct Post {
+    woken: AtomicU64,
+    waker: Mutex<Option<SharedWaker>>,
+}
+
+/// Gives its number once its post was woken so often. Its first poll that is pending leaves its waker there.
+#[derive(Drop)]
+pub struct Awaited {
+    number: usize,
+    wakes: u64,
+    has_left: bool,
+    is_over: bool,
+    post: Arc<Post>,
+}
+
+/// A future of this number that waits for so many wakes, and its post.
+pub fn new_awaited(
+    alloc: Global,
+    number: usize,
+    wakes: usize,
+) -> Result<(Awaited, Arc<Post>), AllocError> {
+    let post = Arc::new(
+        alloc,
+        Post {
+            woken: AtomicU64::new(0),
+            waker: Mutex::new(None),
+        },
+    )?;
+    let held = Awaited {
+        number,
+        wakes: wakes as u64,
+        has_left: false,
+        is_over: false,
+        post: Arc::try_clone(&post)?,
+    };
+    Ok((held, post))
+}
+
+impl SlotFuture<SharedWaker> for Awaited {
+    type Output = usize;
+
+    fn poll(&mut self, waker: &SharedWaker) -> Poll<usize> {
+        if self.post.woken.load(SeqCst) >= self.wakes {
+            return Poll::Ready(self.number);
+        }
+        if !self.has_left {
+            self.has_left = true;
+            if let Some(mut place) = self.post.waker.try_lock() {
+                *place = waker.try_clone().ok();
+            }
+        }
+        Poll::Pending
+    }
+}
+
+impl SlotStream<SharedWaker> for Awaited {
+    type Item = usize;
+
+    fn poll_next(&mut self, waker: &SharedWaker) -> Poll<Option<usize>> {
+        if self.is_over {
+            return Poll::Ready(None);
+        }
+        match self.poll(waker) {
+            Poll::Ready(number) => {
+                self.is_over = true;
+                Poll::Ready(Some(number))
+            }
+            Poll::Pending => Poll::Pending,
+        }
+    }
+}
+
+/// Counts a wake and makes it, so often.
+pub fn wake_often(post: &Post, waker: &SharedWaker, wakes: usize) {
+    for _ in 0..wakes {
+        post.woken.fetch_add(1, SeqCst);
+        waker.wake();
+    }
+}
+
+/// The waker that was left at the post, if one was.
+pub fn take_waker(post: &Post) -> Option<SharedWaker> {
+    match post.waker.try_lock() {
+        Some(mut place) => place.take(),
+        None => None,
+    }
+}
+
+/// Starts a thread that wakes by this waker so often.
+pub fn wake_by<R: Threads>(
+    rt: &R,
+    post: &Arc<Post>,
+    waker: SharedWaker,
+    wakes: usize,
+) -> Result<JoinHandle<()>, anyhow::Error> {
+    let post = Arc::try_clone(post)?;
+    Ok(thread::spawn(rt, move || wake_often(&post, &waker, wakes))?)
+}
+
+/// The same by the waker that the future has left.
+pub fn wake_from_thread<R: Threads>(
+    rt: &R,
+    post: &Arc<Post>,
+    wakes: usize,
+) -> Result<JoinHandle<()>, anyhow::Error> {
+    match take_waker(post) {
+        Some(waker) => wake_by(rt, post, waker, wakes),
+        None => bail!("the future has left no waker"),
+    }
+}

@@ -1,0 +1,93 @@
+//! Futures of the kit in flight, in plain sight, that threads complete.
+use crate::foreigns::{Number, join_all, number_to_come, send_from_thread, wanted};
+use crate::tasks::drain;
+use futures::Stream;
+use futures::task::Poll;
+use futures::test::MockTask;
+use futures_buffered::InFlight;
+use std::alloc::AllocGlobal;
+use std::random::RandomSource;
+use std::sync::Wait;
+use std::thread::{JoinHandle, Threads};
+
+// A set of so many, none of which was polled, and the threads that send their numbers.
+fn begin<R>(
+    rt: &R,
+    count: usize,
+) -> Result<(InFlight<Number>, Vec<JoinHandle<()>>), anyhow::Error>
+where
+    R: Threads + AllocGlobal,
+{
+    let mut set = InFlight::new(rt.alloc(), count)?;
+    let mut threads: Vec<JoinHandle<()>> = Vec::new(rt.alloc());
+    for place in 0..count {
+        let (sender, number) = number_to_come(rt.alloc())?;
+        let _key = set.try_push(number).ok();
+        let _ = threads.push(send_from_thread(rt, sender, place)?);
+    }
+    Ok((set, threads))
+}
+
+/// A thread for each future sends its number, while a task polls the set until it ends: each comes once.
+pub fn polled<R>(rt: &R, count: usize) -> Result<(), anyhow::Error>
+where
+    R: Threads + Wait + RandomSource + AllocGlobal,
+{
+    let task = MockTask::new(rt)?;
+    let (mut set, threads) = begin(rt, count)?;
+    let came = drain(rt, &task, &mut set);
+    join_all(rt, threads);
+    if count == 1 {
+        wanted(came, 1, 1)
+    } else {
+        wanted(came, 12, 21)
+    }
+}
+
+/// The set is cleared after so many polls, while the sendings are under way, and a future more is put in: of that alone an output comes.
+pub fn cleared<R>(rt: &R, count: usize, polls: usize) -> Result<(), anyhow::Error>
+where
+    R: Threads + Wait + RandomSource + AllocGlobal,
+{
+    let task = MockTask::new(rt)?;
+    let (mut set, threads) = begin(rt, count)?;
+    for _ in 0..polls {
+        let _came = task.enter(|cx| set.poll_next(cx)).is_ready();
+    }
+    set.clear();
+    let (sender, number) = number_to_come(rt.alloc())?;
+    let _key = set.try_push(number).ok();
+    let last = send_from_thread(rt, sender, 4)?;
+    let came = drain(rt, &task, &mut set);
+    join_all(rt, threads);
+    last.join(rt);
+    wanted(came, 5, 5)
+}
+
+/// One of two is cancelled after so many polls, while both sendings are under way: it comes before that or not at all, and the other comes once.
+pub fn cancelled<R>(rt: &R, polls: usize) -> Result<(), anyhow::Error>
+where
+    R: Threads + Wait + RandomSource + AllocGlobal,
+{
+    let task = MockTask::new(rt)?;
+    let mut set = InFlight::new(rt.alloc(), 2)?;
+    let (first, number) = number_to_come(rt.alloc())?;
+    let key = set.try_push_abortable(number).ok();
+    let (second, number) = number_to_come(rt.alloc())?;
+    let _key = set.try_push(number).ok();
+    let first = send_from_thread(rt, first, 0)?;
+    let second = send_from_thread(rt, second, 4)?;
+    let mut before = 0usize;
+    for _ in 0..polls {
+        if let Poll::Ready(Some(number)) = task.enter(|cx| set.poll_next(cx)) {
+            before = before + number + 1;
+        }
+    }
+    if let Some(key) = key {
+        let _tag = set.cancel(key);
+    }
+    let after = drain(rt, &task, &mut set);
+    first.join(rt);
+    second.join(rt);
+    wanted(before + after, 5, 6)
+}

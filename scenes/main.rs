@@ -1,0 +1,134 @@
+//! `scenes SCENE WORD..`: one small program of few threads, which `scripts/interleavings` runs in every order of its atomic steps.
+//!
+//! A scene ends with status 0 where what must hold at its end holds, and does not end where a wake is lost. `scenes.txt` lists them, each with the promise that it shows and its bounds.
+#![tactic(auto)]
+
+mod awaited;
+mod channels;
+mod foreigns;
+mod held;
+mod holders;
+mod in_flight;
+mod joins;
+mod one_shots;
+mod outer;
+mod ready_list;
+mod tally;
+mod tasks;
+
+use crate::holders::{GrowingMerge, GrowingQueue, GrowingSet, Holder, Merge, Queue, Set};
+use anyhow::bail;
+use std::alloc::AllocGlobal;
+use std::env;
+use std::env::Env;
+use std::random::RandomSource;
+use std::sync::Wait;
+use std::thread::Threads;
+
+// The scene, its kind where it is one of sets and their like, and its numbers.
+#[derive(Drop)]
+struct Asked {
+    scene: String,
+    kind: String,
+    numbers: [usize; 3],
+}
+
+fn read_words<R: Env + AllocGlobal>(rt: &R) -> Result<Asked, anyhow::Error> {
+    let mut words = env::args(rt)?;
+    words.next();
+    let Some(scene) = words.next() else {
+        bail!("usage: scenes SCENE WORD..");
+    };
+    let mut kind = String::new(rt.alloc());
+    let (mut numbers, mut count) = ([0usize; 3], 0usize);
+    for word in words {
+        match word.parse::<usize>() {
+            Ok(number) if count < 3 => {
+                numbers[count] = number;
+                count = count + 1;
+            }
+            _ => kind = word,
+        }
+    }
+    Ok(Asked {
+        scene,
+        kind,
+        numbers,
+    })
+}
+
+fn held_scene<H: Holder, R>(
+    rt: &R,
+    scene: &str,
+    a: usize,
+    b: usize,
+    c: usize,
+) -> Result<(), anyhow::Error>
+where
+    R: Threads + Wait + RandomSource + AllocGlobal,
+{
+    match scene {
+        "polled" => held::polled::<H, R>(rt, a, b, c),
+        "blocked" => held::blocked::<H, R>(rt, a, b),
+        "moved" => held::moved::<H, R>(rt, a, b),
+        "dropped" => held::dropped::<H, R>(rt, a, b),
+        "cleared" => held::cleared::<H, R>(rt, a, b),
+        "replaced" => held::replaced::<H, R>(rt, a),
+        "one_by_one" => held::one_by_one::<H, R>(rt, a),
+        "grown" => held::grown::<H, R>(rt),
+        _ => bail!("there is no such scene"),
+    }
+}
+
+fn scene_of_kind<R>(rt: &R, asked: &Asked) -> Result<(), anyhow::Error>
+where
+    R: Threads + Wait + RandomSource + AllocGlobal,
+{
+    let (scene, [a, b, c]) = (asked.scene.as_str(), asked.numbers);
+    match asked.kind.as_str() {
+        "set" => held_scene::<Set, R>(rt, scene, a, b, c),
+        "growing_set" => held_scene::<GrowingSet, R>(rt, scene, a, b, c),
+        "queue" => held_scene::<Queue, R>(rt, scene, a, b, c),
+        "growing_queue" => held_scene::<GrowingQueue, R>(rt, scene, a, b, c),
+        "merge" => held_scene::<Merge, R>(rt, scene, a, b, c),
+        "growing_merge" => held_scene::<GrowingMerge, R>(rt, scene, a, b, c),
+        _ => bail!("there is no such scene"),
+    }
+}
+
+fn main(rt: HostRuntime) -> Result<(), anyhow::Error> {
+    let asked = read_words(&rt)?;
+    let [a, b, c] = asked.numbers;
+    match asked.scene.as_str() {
+        "list_wakes" => ready_list::wakes(&rt, a, b, c),
+        "list_outer_wakers" => ready_list::outer_wakers(&rt, a),
+        "list_seats" => ready_list::seats(&rt, a),
+        "source_task" => tasks::task(&rt, a, b, c),
+        "source_other_task" => tasks::other_task(&rt, a),
+        "source_dropped" => tasks::dropped_source(&rt, a),
+        "source_sibling" => tasks::sibling(&rt, a),
+        "join" => joins::join(&rt, a, b),
+        "try_join" => joins::try_join(&rt, a, b),
+        "one_shot_sent" => one_shots::sent(&rt, a, b),
+        "one_shot_receipt" => one_shots::sent_with_receipt(&rt, a),
+        "one_shot_sender_goes" => one_shots::sender_goes(&rt, a, b),
+        "one_shot_receiver_goes" => one_shots::receiver_goes(&rt, a),
+        "one_shot_sender_looks" => one_shots::sender_looks(&rt, a),
+        "channel_sender_goes" => channels::sender_goes(&rt, a, b),
+        "channel_sender_finishes" => channels::sender_finishes(&rt, a, b),
+        "channel_sender_stays" => channels::sender_stays(&rt, a, b, false),
+        "channel_receiver_moves" => channels::sender_stays(&rt, a, b, true),
+        "channel_receiver_goes" => channels::receiver_goes(&rt, a, b, c),
+        "channel_sender_looks" => channels::sender_looks(&rt, a),
+        "channel_merged" => channels::merged_alone(&rt, a, b),
+        "channels_merged" => channels::merged(&rt, a, b),
+        "in_flight_polled" => in_flight::polled(&rt, a),
+        "in_flight_cleared" => in_flight::cleared(&rt, a, b),
+        "in_flight_cancelled" => in_flight::cancelled(&rt, a),
+        "foreign_polled" => foreigns::polled(&rt, a),
+        "foreign_cleared" => foreigns::cleared(&rt, a, b),
+        "foreign_cleared_groups" => foreigns::cleared_groups(&rt, a),
+        "foreign_beside" => foreigns::beside(&rt, a),
+        _ => scene_of_kind(&rt, &asked),
+    }
+}

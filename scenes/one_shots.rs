@@ -1,0 +1,163 @@
+//! A one-shot whose sender is on a thread, and whose receiver is polled meanwhile.
+use anyhow::bail;
+use futures::task::Poll;
+use futures_buffered::SlotFuture;
+use futures_buffered_core::ready_core::Taken;
+use futures_buffered_core::ready_shared::SharedReady;
+use futures_buffered_held::oneshot::{Canceled, Receiver, channel};
+use std::alloc::AllocGlobal;
+use std::sync::Wait;
+use std::thread::{self, JoinHandle, Threads};
+
+const VALUE: u64 = 7;
+
+type Answer = Result<Box<u64>, Canceled>;
+
+// So many polls, the last of them with the waker of slot `last`, and those before with that of slot 0. Returns the answer, if one came.
+fn poll_often(
+    source: &SharedReady,
+    receiver: &mut Receiver<Box<u64>>,
+    polls: usize,
+    last: usize,
+) -> Option<Answer> {
+    for poll in 0..polls {
+        let slot = if poll + 1 == polls { last } else { 0 };
+        if let Poll::Ready(answer) = receiver.poll(source.waker(slot)) {
+            return Some(answer);
+        }
+    }
+    None
+}
+
+// Once the sender is done: the slot of the last poll was woken if there was one, and the answer is there.
+fn answer_after(
+    source: &mut SharedReady,
+    receiver: &mut Receiver<Box<u64>>,
+    polls: usize,
+    last: usize,
+) -> Result<Answer, anyhow::Error> {
+    let (first, second) = (source.take(), source.take());
+    if polls > 0 && first != Taken::Slot(last) && second != Taken::Slot(last) {
+        bail!("no wake of the slot of the last poll");
+    }
+    match receiver.poll(source.waker(last)) {
+        Poll::Ready(answer) => Ok(answer),
+        Poll::Pending => bail!("the sender is done, and no answer came"),
+    }
+}
+
+// Polls while the sender acts on its thread, and afterwards. Returns the answer, and what the thread gives.
+fn receive<R: Threads, T: Drop>(
+    rt: &R,
+    source: &mut SharedReady,
+    receiver: &mut Receiver<Box<u64>>,
+    thread: JoinHandle<T>,
+    polls: usize,
+    last: usize,
+) -> Result<(Answer, T), anyhow::Error> {
+    let answer = poll_often(source, receiver, polls, last);
+    let given = thread.join(rt);
+    match answer {
+        Some(answer) => Ok((answer, given)),
+        None => Ok((answer_after(source, receiver, polls, last)?, given)),
+    }
+}
+
+fn is_value(answer: &Answer) -> bool {
+    match answer {
+        Ok(value) => **value == VALUE,
+        Err(_) => false,
+    }
+}
+
+/// The sender sends while the receiver is polled, the last time with the waker of slot `last`: the value comes, and that slot is woken.
+pub fn sent<R: Threads + Wait + AllocGlobal>(
+    rt: &R,
+    polls: usize,
+    last: usize,
+) -> Result<(), anyhow::Error> {
+    let mut source: SharedReady = SharedReady::new(rt.alloc(), 2)?;
+    let (sender, mut receiver) = channel::<Box<u64>>(rt.alloc())?;
+    let value = Box::new(rt.alloc(), VALUE)?;
+    let thread = thread::spawn(rt, move || sender.send(value).is_ok())?;
+    let (answer, is_sent) = receive(rt, &mut source, &mut receiver, thread, polls, last)?;
+    if !is_value(&answer) || !is_sent {
+        bail!("another answer");
+    }
+    Ok(())
+}
+
+/// The same with a receipt, which shows afterwards that what came is what was sent.
+pub fn sent_with_receipt<R: Threads + Wait + AllocGlobal>(
+    rt: &R,
+    polls: usize,
+) -> Result<(), anyhow::Error> {
+    let mut source: SharedReady = SharedReady::new(rt.alloc(), 2)?;
+    let (sender, mut receiver) = channel::<Box<u64>>(rt.alloc())?;
+    let value = Box::new(rt.alloc(), VALUE)?;
+    let thread = thread::spawn(rt, move || sender.send_with_receipt(value).ok())?;
+    let (answer, receipt) = receive(rt, &mut source, &mut receiver, thread, polls, 0)?;
+    let Some(receipt) = receipt else {
+        bail!("the value came back");
+    };
+    receipt.compare(&mut receiver);
+    if !is_value(&answer) {
+        bail!("another answer");
+    }
+    Ok(())
+}
+
+/// The sender goes, and has sent nothing: the receiver is told, and its slot is woken.
+pub fn sender_goes<R: Threads + Wait + AllocGlobal>(
+    rt: &R,
+    polls: usize,
+    last: usize,
+) -> Result<(), anyhow::Error> {
+    let mut source: SharedReady = SharedReady::new(rt.alloc(), 2)?;
+    let (sender, mut receiver) = channel::<Box<u64>>(rt.alloc())?;
+    let thread = thread::spawn(rt, move || drop(sender))?;
+    let (answer, ()) = receive(rt, &mut source, &mut receiver, thread, polls, last)?;
+    if answer.is_ok() {
+        bail!("a value came, and none was sent");
+    }
+    Ok(())
+}
+
+/// The receiver goes while the sender sends: the value came, or comes back, or is dropped with what both share. Nothing is left.
+pub fn receiver_goes<R: Threads + Wait + AllocGlobal>(
+    rt: &R,
+    polls: usize,
+) -> Result<(), anyhow::Error> {
+    let source: SharedReady = SharedReady::new(rt.alloc(), 2)?;
+    let (sender, mut receiver) = channel::<Box<u64>>(rt.alloc())?;
+    let value = Box::new(rt.alloc(), VALUE)?;
+    let thread = thread::spawn(rt, move || sender.send(value).err())?;
+    let came = poll_often(&source, &mut receiver, polls, 0).is_some();
+    drop(receiver);
+    match thread.join(rt) {
+        Some(_) if came => bail!("the value came, and came back"),
+        Some(back) if *back != VALUE => bail!("another value came back"),
+        _ => Ok(()),
+    }
+}
+
+/// The sender looks whether the receiver is gone, and sends then. It is not, though it is polled meanwhile.
+pub fn sender_looks<R: Threads + Wait + AllocGlobal>(
+    rt: &R,
+    polls: usize,
+) -> Result<(), anyhow::Error> {
+    let mut source: SharedReady = SharedReady::new(rt.alloc(), 2)?;
+    let (sender, mut receiver) = channel::<Box<u64>>(rt.alloc())?;
+    let value = Box::new(rt.alloc(), VALUE)?;
+    let look_and_send = move || {
+        let is_gone = sender.is_canceled();
+        let _ = sender.send(value);
+        is_gone
+    };
+    let thread = thread::spawn(rt, look_and_send)?;
+    let (answer, is_gone) = receive(rt, &mut source, &mut receiver, thread, polls, 0)?;
+    if !is_value(&answer) || is_gone {
+        bail!("another answer, or the receiver is taken for gone");
+    }
+    Ok(())
+}

@@ -1,0 +1,48 @@
+//! What stands for the waker of a task, in the fewest steps.
+use futures_buffered_core::ready_shared::OuterWaker;
+use std::alloc::{AllocError, Global};
+use std::sync::atomic::AtomicU64;
+use std::sync::atomic::Ordering::SeqCst;
+use std::sync::{Arc, Wait};
+
+/// Where somebody sleeps until a call of it.
+#[derive(Drop)]
+pub struct Bed {
+    called: Arc<AtomicU64>,
+}
+
+/// Calls a sleeper, once.
+#[derive(Drop)]
+pub struct Caller {
+    called: Arc<AtomicU64>,
+}
+
+impl OuterWaker for Caller {
+    fn wake_outer(self) {
+        self.called.store(1, SeqCst);
+        self.called.wake_all();
+    }
+}
+
+impl Bed {
+    pub fn new(alloc: Global) -> Result<Bed, AllocError> {
+        let called = Arc::new(alloc, AtomicU64::new(0))?;
+        Ok(Bed { called })
+    }
+
+    pub fn caller(&self) -> Result<Caller, AllocError> {
+        let called = Arc::try_clone(&self.called)?;
+        Ok(Caller { called })
+    }
+
+    /// Sleeps until there was a call since the last sleep.
+    pub fn sleep<R: Wait>(&self, rt: &R) {
+        for _ in rt.forever() {
+            if self.called.load(SeqCst) != 0 {
+                self.called.store(0, SeqCst);
+                return;
+            }
+            self.called.park(rt, 0);
+        }
+    }
+}

@@ -1,0 +1,125 @@
+//! The ready list, and the place of the task's waker, without a task.
+use crate::outer::{Bed, Caller};
+use crate::tally::{Tally, wake_often};
+use anyhow::bail;
+use futures_buffered_core::ready_core::{Taken, Woke};
+use futures_buffered_core::ready_shared::SharedReady;
+use futures_buffered_table::ready_table::{ReadyList, WakeSeat};
+use std::alloc::{AllocGlobal, Global};
+use std::sync::{Arc, Wait};
+use std::thread::{self, JoinHandle, Threads, yield_now};
+
+/// Threads wake the slots of a source, in turn, each so often. Whoever takes sleeps where nothing is marked, and gets to know of the last wake of each slot.
+pub fn wakes<R>(rt: &R, slots: usize, threads: usize, wakes: usize) -> Result<(), anyhow::Error>
+where
+    R: Threads + Wait + AllocGlobal,
+{
+    let alloc = rt.alloc();
+    let mut source: SharedReady<Caller> = SharedReady::new(alloc, slots)?;
+    let bed = Bed::new(alloc)?;
+    let mut tally = Tally::new(alloc, slots)?;
+    let mut started: Vec<JoinHandle<()>> = Vec::new(alloc);
+    for thread in 0..threads {
+        let woken = tally.expect(thread % slots, wakes)?;
+        let waker = source.waker(thread % slots).try_clone()?;
+        let wake = move || wake_often(&woken, &waker, wakes);
+        let _ = started.push(thread::spawn(rt, wake)?);
+    }
+    take_until_known(rt, &mut source, &bed, &mut tally)?;
+    for thread in started {
+        thread.join(rt);
+    }
+    Ok(())
+}
+
+fn take_until_known<R: Wait>(
+    rt: &R,
+    source: &mut SharedReady<Caller>,
+    bed: &Bed,
+    tally: &mut Tally,
+) -> Result<(), anyhow::Error> {
+    for _ in rt.forever() {
+        source.set_outer(bed.caller()?);
+        let paused = tally.take_all(source, 0);
+        if tally.knows_all() {
+            break;
+        }
+        if !paused {
+            bed.sleep(rt);
+        }
+        yield_now();
+    }
+    Ok(())
+}
+
+/// One outer waker is kept, and another is put in its place while wakes are under way: the other is woken.
+pub fn outer_wakers<R>(rt: &R, wakes: usize) -> Result<(), anyhow::Error>
+where
+    R: Threads + Wait + AllocGlobal,
+{
+    let alloc = rt.alloc();
+    let mut source: SharedReady<Caller> = SharedReady::new(alloc, 1)?;
+    let (before, bed) = (Bed::new(alloc)?, Bed::new(alloc)?);
+    let mut tally = Tally::new(alloc, 1)?;
+    source.set_outer(before.caller()?);
+    tally.take_all(&mut source, 0);
+    let woken = tally.expect(0, wakes)?;
+    let waker = source.waker(0).try_clone()?;
+    let thread = thread::spawn(rt, move || wake_often(&woken, &waker, wakes))?;
+    take_until_known(rt, &mut source, &bed, &mut tally)?;
+    thread.join(rt);
+    Ok(())
+}
+
+// Wakes both slots, from this one on, and returns the seat with how many of the wakes were fresh.
+fn wake_both(list: &ReadyList, mut seat: WakeSeat, first: usize) -> (WakeSeat, usize) {
+    let mut fresh = 0usize;
+    for slot in [first, 1 - first] {
+        if list.wake(&mut seat, slot) == Woke::Fresh {
+            fresh = fresh + 1;
+        }
+    }
+    (seat, fresh)
+}
+
+// Makes so many takings, of which none may say Empty while a mark is there for sure, and returns how many slots they named.
+fn take_often(
+    list: &ReadyList,
+    poll: &mut futures_buffered_table::ready_table::PollSeat,
+    takings: usize,
+) -> usize {
+    let mut named = 0usize;
+    for _ in 0..takings {
+        if let Taken::Slot(_) = list.take(poll) {
+            named = named + 1;
+        }
+    }
+    named
+}
+
+/// Three seats over two slots: two threads wake both slots, in opposite orders, and the poller takes so often meanwhile. Afterwards as many slots are named as there were fresh wakes, and then none: no mark is lost, and none is there twice.
+pub fn seats<R>(rt: &R, takings: usize) -> Result<(), anyhow::Error>
+where
+    R: Threads + Wait + AllocGlobal,
+{
+    let alloc: Global = rt.alloc();
+    let (list, mut poll, seat) = ReadyList::new(alloc, 2)?;
+    let (one, other) = seat.split(&list);
+    let list = Arc::new(alloc, list)?;
+    let (first, second) = (Arc::try_clone(&list)?, Arc::try_clone(&list)?);
+    let one = thread::spawn(rt, move || wake_both(&first, one, 0))?;
+    let other = thread::spawn(rt, move || wake_both(&second, other, 1))?;
+    let meanwhile = take_often(&list, &mut poll, takings);
+    let (_one, fresh) = one.join(rt);
+    let (_other, fresh_too) = other.join(rt);
+    let afterwards = take_often(&list, &mut poll, 3);
+    if meanwhile + afterwards != fresh + fresh_too {
+        bail!(
+            "{fresh} and {fresh_too} wakes were fresh, and {meanwhile} and {afterwards} slots were named"
+        );
+    }
+    if list.take(&mut poll) != Taken::Empty {
+        bail!("a slot is named twice");
+    }
+    Ok(())
+}

@@ -1,0 +1,78 @@
+//! How often each slot was woken, and of how many of these wakes its poller knows.
+use futures_buffered_core::ready_core::Taken;
+use futures_buffered_core::ready_shared::{OuterWaker, SharedReady};
+use futures_buffered_core::ready_source::SlotWaker;
+use std::alloc::{AllocError, Global};
+use std::sync::Arc;
+use std::sync::atomic::AtomicU64;
+use std::sync::atomic::Ordering::SeqCst;
+
+/// Of one slot: the wakes so far, those at its last naming, and those that there will be.
+#[derive(Drop)]
+struct Slot {
+    woken: Arc<AtomicU64>,
+    known: u64,
+    wanted: u64,
+}
+
+#[derive(Drop)]
+pub struct Tally {
+    slots: Vec<Slot>,
+}
+
+/// Counts a wake and makes it, so often.
+pub fn wake_often<W: SlotWaker>(woken: &AtomicU64, waker: &W, wakes: usize) {
+    for _ in 0..wakes {
+        woken.fetch_add(1, SeqCst);
+        waker.wake();
+    }
+}
+
+impl Tally {
+    pub fn new(alloc: Global, count: usize) -> Result<Tally, AllocError> {
+        let mut slots = Vec::new(alloc);
+        for _ in 0..count {
+            let woken = Arc::new(alloc, AtomicU64::new(0))?;
+            let slot = Slot {
+                woken,
+                known: 0,
+                wanted: 0,
+            };
+            let _ = slots.push(slot);
+        }
+        Ok(Tally { slots })
+    }
+
+    /// So many more wakes of this slot will come. Returns what counts them.
+    pub fn expect(&mut self, slot: usize, wakes: usize) -> Result<Arc<AtomicU64>, AllocError> {
+        self.slots[slot].wanted = self.slots[slot].wanted.wrapping_add(wakes as u64);
+        Arc::try_clone(&self.slots[slot].woken)
+    }
+
+    /// The slot is named.
+    pub fn note(&mut self, slot: usize) {
+        self.slots[slot].known = self.slots[slot].woken.load(SeqCst);
+    }
+
+    /// Whether each slot was named since its last wake.
+    pub fn knows_all(&self) -> bool {
+        for slot in self.slots.iter() {
+            if slot.known != slot.wanted {
+                return false;
+            }
+        }
+        true
+    }
+
+    /// Takes until nothing is named, where the source's first slot is the one after `before`. Returns whether it paused.
+    pub fn take_all<O: OuterWaker>(&mut self, source: &mut SharedReady<O>, before: usize) -> bool {
+        for _ in 0..u64::MAX {
+            match source.take() {
+                Taken::Slot(slot) => self.note(before + slot),
+                Taken::Empty => return false,
+                Taken::Pause => return true,
+            }
+        }
+        false
+    }
+}

@@ -1,0 +1,163 @@
+//! A source that a task polls by hand.
+use crate::tally::{Tally, wake_often};
+use anyhow::bail;
+use futures::Stream;
+use futures::task::Poll;
+use futures::test::MockTask;
+use futures_buffered_core::ready_shared::SharedReady;
+use futures_buffered_core::ready_source::{NewSource, ReadySource};
+use std::alloc::AllocGlobal;
+use std::random::RandomSource;
+use std::sync::Wait;
+use std::thread::{self, JoinHandle, Threads, yield_now};
+
+/// Waits until the task was woken since its last poll began.
+pub fn wait_for<R: Wait>(rt: &R, task: &MockTask) {
+    for _ in rt.forever() {
+        let is_woken = task.is_woken();
+        yield_now();
+        if is_woken {
+            return;
+        }
+    }
+}
+
+/// Polls until the stream ends, and sleeps behind each pending poll. Returns what came, a digit for each number: one more than the number.
+pub fn drain<R: Wait, St: Stream<Item = usize>>(rt: &R, task: &MockTask, stream: &mut St) -> usize {
+    let mut came = 0usize;
+    for _ in rt.forever() {
+        match task.enter(|cx| stream.poll_next(cx)) {
+            Poll::Ready(Some(number)) => came = came * 10 + number + 1,
+            Poll::Ready(None) => return came,
+            Poll::Pending => wait_for(rt, task),
+        }
+    }
+    came
+}
+
+fn start<R: Threads>(
+    rt: &R,
+    source: &SharedReady,
+    slot: usize,
+    tally: &mut Tally,
+    place: usize,
+    wakes: usize,
+) -> Result<JoinHandle<()>, anyhow::Error> {
+    let waker = source.waker(slot).try_clone()?;
+    let woken = tally.expect(place, wakes)?;
+    Ok(thread::spawn(rt, move || wake_often(&woken, &waker, wakes))?)
+}
+
+// One poll: it registers and takes until nothing is named. Returns whether it paused.
+fn poll_once(task: &MockTask, source: &mut SharedReady, tally: &mut Tally) -> bool {
+    task.enter(|cx| {
+        source.register(cx);
+        tally.take_all(source, 0)
+    })
+}
+
+fn poll_until_known<R: Wait>(rt: &R, task: &MockTask, source: &mut SharedReady, tally: &mut Tally) {
+    for _ in rt.forever() {
+        let paused = poll_once(task, source, tally);
+        if tally.knows_all() {
+            return;
+        }
+        if paused {
+            yield_now();
+        } else {
+            wait_for(rt, task);
+        }
+    }
+}
+
+/// Threads wake the slots of a source, in turn, each so often. The task that polls it gets to know of the last wake of each slot.
+pub fn task<R>(rt: &R, slots: usize, threads: usize, wakes: usize) -> Result<(), anyhow::Error>
+where
+    R: Threads + Wait + RandomSource + AllocGlobal,
+{
+    let alloc = rt.alloc();
+    let mut source: SharedReady = SharedReady::new(alloc, slots)?;
+    let task = MockTask::new(rt)?;
+    let mut tally = Tally::new(alloc, slots)?;
+    let mut started: Vec<JoinHandle<()>> = Vec::new(alloc);
+    for thread in 0..threads {
+        let slot = thread % slots;
+        let _ = started.push(start(rt, &source, slot, &mut tally, slot, wakes)?);
+    }
+    poll_until_known(rt, &task, &mut source, &mut tally);
+    for thread in started {
+        thread.join(rt);
+    }
+    Ok(())
+}
+
+/// One task has polled the source, and another polls it while wakes are under way. The other is woken, and the first too, since nobody keeps its waker then.
+pub fn other_task<R>(rt: &R, wakes: usize) -> Result<(), anyhow::Error>
+where
+    R: Threads + Wait + RandomSource + AllocGlobal,
+{
+    let alloc = rt.alloc();
+    let mut source: SharedReady = SharedReady::new(alloc, 1)?;
+    let (first, other) = (MockTask::new(rt)?, MockTask::new(rt)?);
+    let mut tally = Tally::new(alloc, 1)?;
+    let _paused = poll_once(&first, &mut source, &mut tally);
+    let thread = start(rt, &source, 0, &mut tally, 0, wakes)?;
+    poll_until_known(rt, &other, &mut source, &mut tally);
+    thread.join(rt);
+    if !first.is_woken() {
+        bail!("the first task sleeps, and nobody keeps its waker");
+    }
+    Ok(())
+}
+
+/// The source goes while wakes are under way: they or its going wake the task.
+pub fn dropped_source<R>(rt: &R, wakes: usize) -> Result<(), anyhow::Error>
+where
+    R: Threads + Wait + RandomSource + AllocGlobal,
+{
+    let alloc = rt.alloc();
+    let mut source: SharedReady = SharedReady::new(alloc, 1)?;
+    let task = MockTask::new(rt)?;
+    let mut tally = Tally::new(alloc, 1)?;
+    let _paused = poll_once(&task, &mut source, &mut tally);
+    let thread = start(rt, &source, 0, &mut tally, 0, wakes)?;
+    drop(source);
+    thread.join(rt);
+    if !task.is_woken() {
+        bail!("the task sleeps");
+    }
+    Ok(())
+}
+
+/// A source is made beside another while wakes of that are under way. Then one task polls both, and registers with the first alone: it gets to know of the last wake of each.
+pub fn sibling<R>(rt: &R, wakes: usize) -> Result<(), anyhow::Error>
+where
+    R: Threads + Wait + RandomSource + AllocGlobal,
+{
+    let alloc = rt.alloc();
+    let mut first: SharedReady = SharedReady::new(alloc, 1)?;
+    let task = MockTask::new(rt)?;
+    let mut tally = Tally::new(alloc, 2)?;
+    task.enter(|cx| first.register(cx));
+    let one = start(rt, &first, 0, &mut tally, 0, wakes)?;
+    let mut second = first.make_sibling(alloc, 1)?;
+    let two = start(rt, &second, 0, &mut tally, 1, wakes)?;
+    for _ in rt.forever() {
+        let paused = task.enter(|cx| {
+            first.register(cx);
+            let paused = tally.take_all(&mut first, 0);
+            tally.take_all(&mut second, 1) || paused
+        });
+        if tally.knows_all() {
+            break;
+        }
+        if paused {
+            yield_now();
+        } else {
+            wait_for(rt, &task);
+        }
+    }
+    one.join(rt);
+    two.join(rt);
+    Ok(())
+}

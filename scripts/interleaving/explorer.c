@@ -1,0 +1,296 @@
+// Runs the executions, and says what was found. `explorer.h` says what all this is.
+#include "explorer.h"
+#include <signal.h>
+#include <stdarg.h>
+#include <stdio.h>
+#include <stdlib.h>
+#include <string.h>
+#include <time.h>
+#include <unistd.h>
+
+enum { NOBODY = MOST_THREADS, SPARE_TURNS = 3, ENDS_KEPT = 1 << 22 };
+
+extern char __start_explored_words[] __attribute__((weak)), __stop_explored_words[] __attribute__((weak));
+
+struct event events[MOST_STEPS];
+uint32_t depth;
+enum outcome outcome;
+char reason[300];
+struct request request = {.yields = 2, .alone = 400, .most = ~0ull, .seconds = 1e9, .preemptions = ~0u};
+
+static uint64_t executions, cut, unfair, longest, most_threads, blocks_at_first = ~0ull;
+static char *words_at_first;
+static struct timespec begun;
+static uint32_t spare_turns[MOST_THREADS];
+static const char *const kinds[] = {"-", "load", "store", "swap", "add", "sub", "and", "or", "xor", "cas", "park", "wake", "yield", "join"};
+
+uint64_t next_random(void) { return mix(request.seed += 0x9e3779b97f4a7c15ull); }
+
+// The first fault of an execution is the one that is told.
+void note_fault(const char *form, ...) {
+    if (outcome == FAILED) return;
+    va_list rest;
+    va_start(rest, form);
+    vsnprintf(reason, sizeof reason, form, rest);
+    va_end(rest);
+    outcome = FAILED;
+}
+
+static double seconds(void) {
+    struct timespec now;
+    clock_gettime(CLOCK_MONOTONIC, &now);
+    return (double)(now.tv_sec - begun.tv_sec) + (double)(now.tv_nsec - begun.tv_nsec) / 1e9;
+}
+
+// What the threads saw in the executions that end, as one number: two ways have to find the same.
+static uint64_t ends[ENDS_KEPT], end_count, end_sum;
+
+static void note_end(void) {
+    uint64_t saw[MOST_THREADS] = {0}, all = 0;
+    for (uint32_t k = 0; k < depth; k++) {
+        const struct event *it = &events[k];
+        enum kind kind = it->step.kind;
+        if (kind <= EXCHANGE && explored_sites[it->step.site].count != NO_COUNT) continue;
+        int shows = kind <= EXCHANGE || kind == PARK;
+        saw[it->thread] = mix(saw[it->thread] + kind * 31 + (shows && kind != STORE ? it->found * 977 : 0));
+    }
+    for (uint32_t t = 0; t < thread_count; t++) all = mix(all + saw[t]);
+    all |= 1;
+    if (end_count * 2 >= ENDS_KEPT) return;
+    uint64_t k = all % ENDS_KEPT;
+    for (; ends[k]; k = (k + 1) % ENDS_KEPT)
+        if (ends[k] == all) return;
+    ends[k] = all;
+    end_count++;
+    end_sum += mix(all);
+}
+
+static void begin_execution(void) {
+    uint64_t bytes = (uint64_t)(__stop_explored_words - __start_explored_words);
+    if (!words_at_first && bytes) {
+        words_at_first = malloc(bytes);
+        memcpy(words_at_first, __start_explored_words, bytes);
+    }
+    if (bytes) memcpy(__start_explored_words, words_at_first, bytes);
+    memset(spare_turns, 0, sizeof spare_turns);
+    outcome = GOES_ON;
+    depth = 0;
+    forget_memory();
+    forget_words();
+    forget_fillings();
+    forget_threads();
+    settle();
+}
+
+// Lets those go on behind their yields who saw other than in their round before, and else, a few times, those who did not.
+static int passes_yields(int spares) {
+    int any = 0;
+    for (uint32_t t = 0; t < thread_count; t++) {
+        struct thread *it = &threads[t];
+        if (it->state != READY || it->next.kind != YIELD) continue;
+        if (spares ? spare_turns[t] >= SPARE_TURNS : it->round == it->round_before) continue;
+        spare_turns[t] += spares;
+        it->is_touched = any = 1;
+    }
+    return any;
+}
+
+// Ends one sleep that has an end.
+static int ends_sleep(void) {
+    for (uint32_t t = 0; t < thread_count; t++) {
+        if (threads[t].state != SLEEPS || !threads[t].next.has_end || spare_turns[t] >= SPARE_TURNS) continue;
+        spare_turns[t]++;
+        threads[t].overslept = 1;
+        threads[t].state = RUNS;
+        settle();
+        return 1;
+    }
+    return 0;
+}
+
+static void note_standstill(void) {
+    char text[200] = "";
+    for (uint32_t t = 0; t < thread_count; t++) {
+        if (threads[t].state == ENDED) continue;
+        const char *does = threads[t].state == SLEEPS ? "sleeps" : threads[t].next.kind == YIELD ? "spins" : "joins";
+        snprintf(text + strlen(text), sizeof text - strlen(text), ", thread %u %s", t, does);
+    }
+    note_fault("nobody can go on%s", text);
+}
+
+static void note_finish(void) {
+    outcome = FINISHED;
+    if (ended_with()) note_fault("the program ends with status %d", ended_with());
+    if (blocks_at_first == ~0ull) blocks_at_first = live_blocks();
+    if (live_blocks() != blocks_at_first)
+        note_fault("%lu blocks of memory are left, and %lu at the first end", live_blocks(), blocks_at_first);
+}
+
+// Who can make a step. None where the execution is over.
+static uint32_t who_can_go_on(void) {
+    uint32_t enabled = 0, left = 0;
+    while (outcome == GOES_ON) {
+        enabled = left = 0;
+        for (uint32_t t = 0; t < thread_count; t++) {
+            enabled |= (uint32_t)can_go_on(t) << t;
+            left += threads[t].state != ENDED;
+        }
+        if (enabled) return enabled;
+        if (!left) note_finish();
+        else if (!passes_yields(0) && !passes_yields(1) && !ends_sleep()) note_standstill();
+    }
+    return 0;
+}
+
+static void execute(void) {
+    uint32_t last = NOBODY, alone = 0, enabled;
+    begin_execution();
+    while (outcome == GOES_ON && (enabled = who_can_go_on())) {
+        if (depth >= MOST_STEPS - 1) {
+            note_fault("an execution has more than %d steps", MOST_STEPS - 1);
+            break;
+        }
+        if (request.way == RACES) find_races();
+        int is_unfair = alone > request.alone && (enabled & ~(1u << last)) && request.way != REPLAY;
+        uint32_t thread = is_unfair ? NOBODY : choose(enabled, last);
+        unfair += is_unfair;
+        if (thread == NOBODY) {
+            outcome = CUT;
+            break;
+        }
+        note_step(thread);
+        depth++;
+        run_thread(thread);
+        alone = thread == last ? alone + 1 : 0;
+        last = thread;
+        settle();
+        if (thread_count > most_threads) most_threads = thread_count;
+    }
+    if (depth > longest) longest = depth;
+}
+
+static void print_summary(const char *how) {
+    printf("%s orders=%lu cut=%lu steps=%lu threads=%lu ends=%lu/%08lx unfair=%lu states=%lu seconds=%.1f\n", how, executions, cut, longest,
+           most_threads, end_count, end_sum >> 32, unfair, known_states(), seconds());
+}
+
+// 12x0 are twelve steps of thread 0.
+static void print_schedule(void) {
+    printf("schedule=");
+    for (uint32_t k = 0, count; k < depth; k += count) {
+        for (count = 1; k + count < depth && events[k + count].thread == events[k].thread; count++) {}
+        printf("%s%ux%u", k ? "," : "", count, events[k].thread);
+    }
+    printf("\n");
+}
+
+static void print_steps(void) {
+    for (uint32_t k = 0; k < depth; k++) {
+        const struct event *it = &events[k];
+        const struct step *step = &it->step;
+        printf("step %u thread %u %s", k, it->thread, kinds[step->kind]);
+        if (step->kind <= WAKE) printf(" @%lx", place_in_arena(step->address));
+        if (step->kind == EXCHANGE) printf(" %lx for %lx", step->second, step->first);
+        else if (step->kind > LOAD && step->kind < EXCHANGE) printf(" %lx", step->first);
+        if (step->kind <= PARK) printf(" found %lx", it->found);
+        printf(" |");
+        for (int f = 1; f < MOST_FRAMES && it->frames[f]; f++) printf(" %lx", it->frames[f]);
+        printf("\n");
+    }
+}
+
+static int tell_fault(void) {
+    printf("FAILED: %s\n", reason);
+    print_schedule();
+    if (request.way == REPLAY) print_steps();
+    print_summary("stopped");
+    return 1;
+}
+
+static void on_signal(int number) {
+    note_fault("signal %d (%s)", number, strsignal(number));
+    executions++;
+    tell_fault();
+    fflush(stdout);
+    _exit(1);
+}
+
+static void catch_signals(void) {
+    static char stack[1 << 16];
+    static const int numbers[] = {SIGSEGV, SIGILL, SIGBUS, SIGFPE, SIGABRT, SIGTERM, SIGINT, SIGTRAP};
+    sigaltstack(&(stack_t){.ss_sp = stack, .ss_size = sizeof stack}, NULL);
+    struct sigaction action = {.sa_handler = on_signal, .sa_flags = SA_ONSTACK};
+    for (unsigned k = 0; k < sizeof numbers / sizeof *numbers; k++) sigaction(numbers[k], &action, NULL);
+}
+
+static int stops_early(void) {
+    if (executions >= request.most) return 1;
+    return executions % 256 == 0 && (seconds() > request.seconds || !has_room_for_states());
+}
+
+// One execution after another, until a fault, the last order, or what was asked for at most.
+static int explore(void) {
+    for (;;) {
+        if (request.way == RANDOM) begin_random_order(executions, longest);
+        execute();
+        executions++;
+        cut += outcome == CUT;
+        if (outcome == FINISHED) note_end();
+        if (outcome == FAILED) return tell_fault();
+        if (request.way == REPLAY) {
+            print_steps();
+            return print_summary("ended"), 0;
+        }
+        if (request.way != RANDOM && !go_to_next_order()) return print_summary("exhausted"), 0;
+        if (stops_early()) return print_summary("stopped"), request.way == RANDOM ? 0 : 3;
+    }
+}
+
+static int refuse_words(void) {
+    printf("usage: [--yields N] [--most N] [--seconds N] [--wrong N] [--counts 1] races|states|plain|preemptions P|random N SEED|replay SCHEDULE WORD..\n");
+    return 2;
+}
+
+static int read_option(char **at) {
+    if (!at[1]) return 0;
+    if (!strcmp(at[0], "--yields")) request.yields = (uint32_t)atoi(at[1]);
+    else if (!strcmp(at[0], "--most")) request.most = strtoull(at[1], NULL, 10);
+    else if (!strcmp(at[0], "--seconds")) request.seconds = atof(at[1]);
+    else if (!strcmp(at[0], "--wrong")) request.wrong = atoi(at[1]);
+    else if (!strcmp(at[0], "--counts")) request.counts = atoi(at[1]);
+    else return 0;
+    return 1;
+}
+
+// How many words say the way, or 0 where they say none.
+static int read_way(char **at, int left) {
+    static const struct { const char *name; enum way way; int words; } ways[] = {
+        {"races", RACES, 1}, {"states", STATES, 1}, {"plain", PLAIN, 1}, {"preemptions", PREEMPTIONS, 2}, {"random", RANDOM, 3}, {"replay", REPLAY, 2}};
+    for (unsigned k = 0; k < sizeof ways / sizeof *ways; k++) {
+        if (strcmp(at[0], ways[k].name) || left < ways[k].words) continue;
+        request.way = ways[k].way;
+        if (request.way == PREEMPTIONS) request.preemptions = (uint32_t)atoi(at[1]);
+        if (request.way == RANDOM) request.most = strtoull(at[1], NULL, 10), request.seed = strtoull(at[2], NULL, 10);
+        if (request.way == REPLAY) request.schedule = at[1], read_schedule();
+        return ways[k].words;
+    }
+    return 0;
+}
+
+int main(int count, char **given) {
+    static char name[] = "scene";
+    setvbuf(stdout, NULL, _IOLBF, 0);
+    int at = 1;
+    for (; at < count && given[at][0] == '-'; at += 2)
+        if (!read_option(given + at)) return refuse_words();
+    int taken = at < count ? read_way(given + at, count - at) : 0;
+    if (!taken) return refuse_words();
+    at += taken;
+    request.words = given + at - 1;
+    request.words[0] = name;
+    request.word_count = count - at + 1;
+    make_stacks();
+    catch_signals();
+    clock_gettime(CLOCK_MONOTONIC, &begun);
+    return explore();
+}

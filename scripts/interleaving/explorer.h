@@ -1,0 +1,166 @@
+// Runs a small program of few threads again and again, each time in another order of its atomic steps.
+//
+// How an execution runs. `instrument.py` has made calls of these files out of each atomic instruction of the program, and out
+// of each call by which it starts, joins, parks or wakes a thread, takes memory, or asks the system for something. The threads
+// are coroutines of one kernel thread. One of them runs, up to its next step, and then the explorer says who goes on. The heap
+// is an arena. It and the words that the program may write outside of it are set back before each execution, so that one
+// differs from another in nothing but the order of the steps.
+//
+// What is a step: an atomic instruction; a park, a wake of parked threads; a yield; a join. Between two steps of its own a
+// thread does what nobody else sees, so the order of that does not matter. That a count of an `Arc` goes up is a step with
+// `--counts 1` alone: whoever counts up holds one already, so no other thread can tell when it does.
+//
+// What is a fault: nobody can go on though a thread is left, asleep or in a loop in which nothing changes, which is how a lost
+// wake shows; the program ends with a status other than 0; a trap, an abort, a bad address; a step at a word that was freed; a
+// block that is freed twice; blocks left at the end, where there were fewer or more at the end of the first execution.
+//
+// The ways to explore:
+//
+//   races               every order, where two orders count as one if they differ only in neighbours that do not touch one
+//                       another: each race that is seen is turned around, and what was tried is not tried again before
+//                       a step touches it
+//   states              every order, where an execution ends once it comes to a state with a past that was come to before.
+//                       Each step that could write counts as a write, so that this shares no reduction with `races`, but that
+//                       steps at two words can change places
+//   plain               every order, one after another, without any reduction: for programs of few steps
+//   preemptions P       as `states`, of the orders in which at most P times another goes on though the thread that ran could
+//   random N SEED       N orders by chance: half choose anew at each step, half go by priorities that change a few times
+//   replay 3x0,2x1..    one order: three steps of thread 0, two of thread 1. It prints each step
+//
+// What is not explored: weaker memory orders, since all steps stand in one order here; races of plain loads and stores, which
+// the language excludes; more threads, steps or words than the limits below; a read of freed memory that is no step, but that
+// freed bytes are overwritten. A thread that yields goes on once a word that it looked at since its last yield was changed.
+// Else it goes on only where it saw other than in its round before, `--yields` times at most. Where nobody else can go on, that
+// has no bound, and a round like the one before is followed three times. An order in which one thread makes more than 400 steps
+// while another could go on is given up, and counted. States are told apart by 64 bits of what led there.
+#ifndef EXPLORER_H
+#define EXPLORER_H
+#define _GNU_SOURCE
+#include <stdint.h>
+
+enum { MOST_THREADS = 8, MOST_STEPS = 6000, MOST_FRAMES = 12, MOST_SEEN = 256, STACK_BYTES = 1 << 20 };
+
+enum kind { NOTHING, LOAD, STORE, SWAP, ADD, SUB, AND, OR, XOR, EXCHANGE, PARK, WAKE, YIELD, JOIN };
+
+// What a thread does next: an atomic instruction at an address, or a call.
+struct step {
+    enum kind kind;
+    uint32_t bytes, site;
+    int has_end; // a park that ends by itself
+    uint64_t address, first, second;
+};
+
+// The function in which an atomic instruction stands, and whether it counts the holders of an `Arc`.
+enum count { NO_COUNT, COUNTS_UP, COUNTS_DOWN };
+struct site {
+    const char *function;
+    enum count count;
+};
+extern const struct site explored_sites[];
+
+enum state { ABSENT, READY, RUNS, SLEEPS, ENDED };
+
+struct thread {
+    uint64_t stack_pointer;
+    enum state state;
+    struct step next;
+    void *(*start)(void *);
+    void *given;
+    uint64_t slept_at, slept_since;
+    int overslept;
+    // Which steps of each thread came before its next one for sure, and a number for all that it has seen.
+    uint64_t clock[MOST_THREADS], past;
+    // The words that it looked at since its last yield, whether another thread changed one, and what it saw in this round and
+    // in the one before.
+    uint64_t seen[MOST_SEEN], round, round_before;
+    uint32_t seen_count, free_rounds, last_rounds;
+    int is_touched, last_event;
+    long priority;
+};
+
+// A word that a step touches, and whether it may change it.
+struct touch {
+    uint64_t word;
+    int writes;
+};
+
+// A step that was made, and the return addresses of the calls around it.
+struct event {
+    uint32_t thread;
+    uint64_t number, found, frames[MOST_FRAMES];
+    struct step step;
+};
+
+enum outcome { GOES_ON, FINISHED, CUT, FAILED };
+enum way { RACES, STATES, PLAIN, PREEMPTIONS, RANDOM, REPLAY };
+
+extern struct thread threads[MOST_THREADS];
+extern uint32_t thread_count, running;
+extern struct event events[MOST_STEPS];
+extern uint32_t depth;
+extern enum outcome outcome;
+extern char reason[300];
+
+// What was asked for.
+struct request {
+    enum way way;
+    uint32_t preemptions, yields, alone;
+    uint64_t most, seed;
+    double seconds;
+    int wrong, counts;
+    char **words;
+    int word_count;
+    const char *schedule;
+};
+extern struct request request;
+
+static inline uint64_t mix(uint64_t x) {
+    x = (x ^ x >> 30) * 0xbf58476d1ce4e5b9ull;
+    x = (x ^ x >> 27) * 0x94d049bb133111ebull;
+    return x ^ x >> 31;
+}
+
+// explorer.c
+void note_fault(const char *form, ...) __attribute__((format(printf, 1, 2)));
+uint64_t next_random(void);
+
+// memory.c
+void forget_memory(void);
+int is_live(const void *at);
+uint64_t live_blocks(void);
+uint64_t place_in_arena(uint64_t address);
+
+// program.c
+void forget_fillings(void);
+
+// threads.c
+void make_stacks(void);
+void forget_threads(void);
+void make_thread(void *(*start)(void *), void *given);
+void run_thread(uint32_t thread);
+void settle(void);
+void end_program(int status);
+int ended_with(void);
+void stop_here(const char *form, ...) __attribute__((noreturn, format(printf, 1, 2)));
+int goes_on_by_itself(const struct thread *thread);
+int can_go_on(uint32_t thread);
+
+// past.c
+void forget_words(void);
+int changes_word(const struct step *step);
+int touches_of(const struct step *step, struct touch *to);
+uint64_t writes_of(uint64_t word, int *writer, int readers[MOST_THREADS]);
+void note_step(uint32_t thread);
+int is_known_state(uint64_t key);
+uint64_t state_key(uint32_t last, uint32_t preempted);
+uint64_t known_states(void);
+int has_room_for_states(void);
+
+// choices.c
+void read_schedule(void);
+void begin_random_order(uint64_t number, uint64_t longest);
+void find_races(void);
+uint32_t choose(uint32_t enabled, uint32_t last);
+int go_to_next_order(void);
+
+#endif

@@ -1,0 +1,144 @@
+// What came before what: which steps touch one another, and what a thread can have seen.
+#include "explorer.h"
+#include <string.h>
+#include <sys/mman.h>
+
+enum { WORDS = 1 << 12 };
+
+// A word: its last write, the reads since, which steps came before these, and numbers for what led there.
+struct word {
+    uint64_t address, execution, write_past, read_past;
+    int writer, readers[MOST_THREADS];
+    uint64_t written[MOST_THREADS], read[MOST_THREADS];
+};
+
+static struct word words[WORDS];
+static uint64_t execution, word_count;
+
+void forget_words(void) {
+    execution++;
+    word_count = 0;
+}
+
+static struct word *word_at(uint64_t address) {
+    uint64_t k = mix(address) % WORDS;
+    for (; words[k].execution == execution; k = (k + 1) % WORDS)
+        if (words[k].address == address) return &words[k];
+    if (++word_count > WORDS / 2) note_fault("the program touches more than %d words", WORDS / 2);
+    struct word *made = &words[k];
+    memset(made, 0, sizeof *made);
+    made->address = address;
+    made->execution = execution;
+    made->writer = -1;
+    for (int t = 0; t < MOST_THREADS; t++) made->readers[t] = -1;
+    return made;
+}
+
+// Whether the step, made now, changes the word. Two counts of an `Arc` that go down commute, unless one of them is the last.
+int changes_word(const struct step *step) {
+    uint64_t now = 0;
+    if (!is_live((void *)step->address)) return 1;
+    memcpy(&now, (void *)step->address, step->bytes);
+    switch (step->kind) {
+    case STORE:
+    case SWAP: return now != step->first;
+    case EXCHANGE: return now == step->first && step->first != step->second;
+    case SUB: return !(explored_sites[step->site].count == COUNTS_DOWN && step->first == 1 && now >= 3);
+    default: return 1;
+    }
+}
+
+// The words that a step touches. A park reads its word, and both it and a wake change who sleeps there.
+int touches_of(const struct step *step, struct touch *to) {
+    uint64_t word = step->address & ~7ull, sleepers = step->address | 1;
+    int takes_all = request.way == STATES || request.way == PLAIN || request.way == PREEMPTIONS;
+    switch (step->kind) {
+    case NOTHING:
+    case YIELD:
+    case JOIN: return 0;
+    case LOAD: to[0] = (struct touch){word, 0}; return 1;
+    case PARK: to[0] = (struct touch){word, 0}, to[1] = (struct touch){sleepers, 1}; return 2;
+    case WAKE: to[0] = (struct touch){sleepers, 1}; return 1;
+    default: to[0] = (struct touch){word, takes_all || changes_word(step)}; return 1;
+    }
+}
+
+// Who wrote the word last, and who has read it since, as events of this execution, or -1.
+uint64_t writes_of(uint64_t address, int *writer, int readers[MOST_THREADS]) {
+    const struct word *word = word_at(address);
+    *writer = word->writer;
+    memcpy(readers, word->readers, sizeof word->readers);
+    return word->write_past;
+}
+
+static void raise_clock(uint64_t to[MOST_THREADS], const uint64_t from[MOST_THREADS]) {
+    for (int t = 0; t < MOST_THREADS; t++)
+        if (to[t] < from[t]) to[t] = from[t];
+}
+
+static void note_write(struct word *word, const struct thread *by) {
+    word->writer = (int)depth;
+    word->write_past = by->past;
+    word->read_past = 0;
+    memcpy(word->written, by->clock, sizeof word->written);
+    memset(word->read, 0, sizeof word->read);
+    for (int t = 0; t < MOST_THREADS; t++) word->readers[t] = -1;
+}
+
+static void note_read(struct word *word, const struct thread *by, uint32_t thread) {
+    word->readers[thread] = (int)depth;
+    word->read_past += mix(by->past);
+    raise_clock(word->read, by->clock);
+}
+
+// Writes down the step that this thread makes now: what came before it, and what comes behind it.
+void note_step(uint32_t thread) {
+    struct thread *me = &threads[thread];
+    struct touch touches[2];
+    int count = touches_of(&me->next, touches);
+    me->clock[thread]++;
+    events[depth].thread = thread;
+    events[depth].number = me->clock[thread];
+    events[depth].step = me->next;
+    events[depth].found = 0;
+    uint64_t past = mix(me->past + me->next.kind);
+    for (int k = 0; k < count; k++) {
+        const struct word *word = word_at(touches[k].word);
+        past = mix(past + word->write_past + (touches[k].writes ? word->read_past * 3 : 0));
+        raise_clock(me->clock, word->written);
+        if (touches[k].writes) raise_clock(me->clock, word->read);
+    }
+    me->past = past;
+    for (int k = 0; k < count; k++) {
+        struct word *word = word_at(touches[k].word);
+        if (touches[k].writes) note_write(word, me);
+        else note_read(word, me, thread);
+    }
+}
+
+// The states that were come to, by what led there.
+enum { STATES_KEPT = 1 << 25 };
+static uint64_t *states, state_count;
+
+uint64_t known_states(void) { return state_count; }
+
+int has_room_for_states(void) { return state_count * 2 < STATES_KEPT; }
+
+// Whether there was such a state before. Once half of the table is taken, none is known, and the exploration stops soon.
+int is_known_state(uint64_t key) {
+    if (!states) states = mmap(NULL, STATES_KEPT * sizeof *states, PROT_READ | PROT_WRITE, MAP_PRIVATE | MAP_ANONYMOUS | MAP_NORESERVE, -1, 0);
+    uint64_t k = mix(key) % STATES_KEPT;
+    for (; states[k]; k = (k + 1) % STATES_KEPT)
+        if (states[k] == key) return 1;
+    if (has_room_for_states()) {
+        states[k] = key;
+        state_count++;
+    }
+    return 0;
+}
+
+uint64_t state_key(uint32_t last, uint32_t preempted) {
+    uint64_t key = mix(last + 991) + mix(preempted + 12345);
+    for (uint32_t t = 0; t < thread_count; t++) key += mix(threads[t].past + t * 7919 + threads[t].state * 104729ull);
+    return key | 1;
+}
