@@ -1,6 +1,7 @@
 //! Adaptors of a stream.
 use crate::checked::{Check, Half, Odd};
 use crate::ready_after::{Pause, after};
+use crate::show::print_all;
 use futures::executor::block_on;
 use futures::{StreamExt, stream};
 use futures_buffered::{BufferedStreamExt, BufferedTryStreamExt, IterExt};
@@ -15,9 +16,7 @@ where
 {
     let jobs = vec![in rt.alloc(); after(3, 1), after(0, 2), after(0, 3)]?;
     let outputs = stream::iter(jobs).buffered_unordered(rt.alloc(), 2)?;
-    let outputs = block_on(rt, outputs.collect(rt.alloc()))??;
-    println!(rt; "{outputs:?}")?;
-    Ok(())
+    print_all(rt, outputs)
 }
 
 pub fn in_order<R>(rt: &R) -> Result<(), anyhow::Error>
@@ -28,9 +27,7 @@ where
     let outputs = stream::iter(numbers)
         .map(|n| after(n, n))
         .buffered_ordered(rt.alloc(), 2)?;
-    let outputs = block_on(rt, outputs.collect(rt.alloc()))??;
-    println!(rt; "{outputs:?}")?;
-    Ok(())
+    print_all(rt, outputs)
 }
 
 pub fn up_to_an_error<R>(rt: &R) -> Result<(), anyhow::Error>
@@ -39,9 +36,7 @@ where
 {
     let jobs = vec![in rt.alloc(); Ok(Half(2)), Err(Odd(9)), Ok(Half(4))]?;
     let outputs = stream::iter(jobs).try_buffered_ordered(rt.alloc(), 2)?;
-    let outputs = block_on(rt, outputs.collect(rt.alloc()))??;
-    println!(rt; "{outputs:?}")?;
-    Ok(())
+    print_all(rt, outputs)
 }
 
 pub fn of_an_iterator<R>(rt: &R) -> Result<(), anyhow::Error>
@@ -50,9 +45,7 @@ where
 {
     let jobs = vec![in rt.alloc(); after(2, 1), after(0, 2)]?;
     let set = jobs.into_unordered_stream(rt.alloc())?;
-    let outputs = block_on(rt, set.collect(rt.alloc()))??;
-    println!(rt; "{outputs:?}")?;
-    Ok(())
+    print_all(rt, set)
 }
 
 pub fn for_each<R>(rt: &R) -> Result<(), anyhow::Error>

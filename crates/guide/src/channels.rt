@@ -1,6 +1,5 @@
 //! Channels in a merge.
-use futures::StreamExt;
-use futures::executor::block_on;
+use crate::show::print_all;
 use futures_buffered::MergeBounded;
 use futures_buffered::spsc::channel;
 use std::alloc::AllocGlobal;
@@ -21,6 +20,5 @@ where
     let _ = second.try_send(10);
     let _ = third.try_send(20);
     drop((first, second, third));
-    println!(rt; "{:?}", block_on(rt, merge.collect(rt.alloc()))??)?;
-    Ok(())
+    print_all(rt, merge)
 }

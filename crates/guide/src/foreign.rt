@@ -1,8 +1,9 @@
 //! Futures and streams of the kit.
+use crate::show::{print_all, print_next};
 use futures::channel::mpsc::{TrySendError, UnboundedReceiver, UnboundedSender, unbounded};
 use futures::channel::oneshot::{Canceled, Receiver, channel};
 use futures::executor::block_on;
-use futures::{Future, FutureExt, StreamExt, future, stream};
+use futures::{StreamExt, future, stream};
 use futures_buffered::future::{map, then};
 use futures_buffered::{
     BufferedStreamExt, Foreign, ForeignStream, foreign_join_all, foreign_merge, foreign_set,
@@ -23,30 +24,25 @@ where
         |sent: Result<u64, Canceled>| sent.unwrap_or(0),
     ));
     let _ = sender.send(7);
-    println!(rt; "{:?}", block_on(rt, set.next())?)?;
-    Ok(())
+    print_next(rt, &mut set)
 }
 
 pub fn one_after_another<R>(rt: &R) -> Result<(), anyhow::Error>
 where
     R: Wait + RandomSource + AllocGlobal + Print,
 {
-    let (first_sender, first) = channel::<u64>(rt.alloc())?;
-    let (second_sender, second) = channel::<u64>(rt.alloc())?;
     let mut set = foreign_set(rt.alloc(), 8)?;
+    let (first, second) = (sent(rt.alloc(), 40)?, sent(rt.alloc(), 2)?);
     set.push(then(Foreign::new(first), move |one: Result<u64, Canceled>| {
         map(Foreign::new(second), move |other: Result<u64, Canceled>| {
             other.unwrap_or(0).wrapping_add(one.unwrap_or(0))
         })
     }));
-    let _ = first_sender.send(40);
-    let _ = second_sender.send(2);
-    println!(rt; "{:?}", block_on(rt, set.next())?)?;
-    Ok(())
+    print_next(rt, &mut set)
 }
 
-// A receiver whose value has been sent.
-fn sent(alloc: Global, value: u64) -> Result<Receiver<u64>, AllocError> {
+/// A receiver whose value has been sent.
+pub fn sent(alloc: Global, value: u64) -> Result<Receiver<u64>, AllocError> {
     let (sender, receiver) = channel(alloc)?;
     let _ = sender.send(value);
     Ok(receiver)
@@ -61,42 +57,7 @@ where
     let outputs = stream::iter(receivers)
         .foreign_buffered_ordered(alloc, 2)?
         .map(|sent| sent.unwrap_or(0));
-    println!(rt; "{:?}", block_on(rt, outputs.collect(alloc))??)?;
-    Ok(())
-}
-
-/// What the futures give that a closure makes of receivers, as they finish. The futures may have closures inside.
-fn outputs_of<R, F, M>(
-    rt: &R,
-    receivers: Vec<Receiver<u64>>,
-    make: M,
-) -> Result<Vec<u64>, anyhow::Error>
-where
-    R: Wait + RandomSource + AllocGlobal,
-    F: Future<Output = u64>,
-    M: Fn(Receiver<u64>) -> F + Drop,
-    requires callable { (receiver : _) → M.pre make receiver }
-    requires pollable { (receiver : _) (future : F) → M.post make receiver future
-        → F.can_poll future }
-{
-    let mut set = foreign_set(rt.alloc(), receivers.len())?;
-    for receiver in receivers {
-        let _ = set.try_push(Foreign::new(make(receiver)));
-    }
-    Ok(block_on(rt, set.collect(rt.alloc()))??)
-}
-
-pub fn with_closures_inside<R>(rt: &R) -> Result<(), anyhow::Error>
-where
-    R: Wait + RandomSource + AllocGlobal + Print,
-{
-    let alloc = rt.alloc();
-    let receivers = vec![in alloc; sent(alloc, 1)?]?;
-    let outputs = outputs_of(rt, receivers, |receiver| {
-        receiver.map(|sent| sent.unwrap_or(0).wrapping_add(1))
-    })?;
-    println!(rt; "{outputs:?}")?;
-    Ok(())
+    print_all(rt, outputs)
 }
 
 pub fn joined<R>(rt: &R) -> Result<(), anyhow::Error>
@@ -116,13 +77,14 @@ pub fn ended_early<R>(rt: &R) -> Result<(), anyhow::Error>
 where
     R: Wait + RandomSource + AllocGlobal + Print,
 {
+    let mut set = foreign_set(rt.alloc(), 8)?;
     let (sender, receiver) = channel::<u64>(rt.alloc())?;
     let (job, handle) = future::abortable(rt.alloc(), receiver)?;
-    let mut set = foreign_set(rt.alloc(), 8)?;
     set.push(Foreign::new(job));
     handle.abort();
-    let output = block_on(rt, set.next())?;
-    println!(rt; "{output:?}, nobody receives: {}", sender.is_canceled())?;
+    drop(handle);
+    print_next(rt, &mut set)?;
+    println!(rt; "nobody receives: {}", sender.is_canceled())?;
     Ok(())
 }
 

@@ -5,6 +5,7 @@ mod adaptors;
 mod channels;
 mod checked;
 mod foreign;
+mod in_flight;
 mod joins;
 mod loops;
 mod merges;
@@ -15,6 +16,7 @@ mod ready_after;
 mod ready_made;
 mod senders;
 mod sets;
+mod show;
 mod sources;
 
 fn main(rt: HostRuntime) -> Result<(), anyhow::Error> {
@@ -43,7 +45,9 @@ fn main(rt: HostRuntime) -> Result<(), anyhow::Error> {
     foreign::one_after_another(&rt)?;
     foreign::joined(&rt)?;
     foreign::two_at_a_time(&rt)?;
-    foreign::with_closures_inside(&rt)?;
+    in_flight::with_closures_inside(&rt)?;
+    in_flight::told_by_keys(&rt)?;
+    in_flight::summed(&rt)?;
     foreign::ended_early(&rt)?;
     foreign::three_channels(&rt)?;
     sources::one_caller(&rt)?;

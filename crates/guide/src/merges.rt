@@ -1,7 +1,6 @@
 //! Merges.
 use crate::numbers::Numbers;
-use futures::StreamExt;
-use futures::executor::block_on;
+use crate::show::print_all;
 use futures_buffered::MergeBounded;
 use std::alloc::AllocGlobal;
 use std::io::Print;
@@ -18,7 +17,5 @@ where
         Numbers { next: 20, end: 21 },
     ]?;
     let merge = MergeBounded::from_iter(rt.alloc(), streams)?;
-    let items = block_on(rt, merge.collect(rt.alloc()))??;
-    println!(rt; "{items:?}")?;
-    Ok(())
+    print_all(rt, merge)
 }

@@ -1,5 +1,6 @@
 //! Ordered queues.
 use crate::ready_after::after;
+use crate::show::print_all;
 use futures::StreamExt;
 use futures::executor::block_on;
 use futures_buffered::{FuturesOrdered, FuturesOrderedBounded};
@@ -18,9 +19,7 @@ where
     let was_full = queue.is_full();
     let first = block_on(rt, queue.next())?;
     println!(rt; "full: {was_full}, {first:?}, full: {}", queue.is_full())?;
-    let rest = block_on(rt, queue.collect(rt.alloc()))??;
-    println!(rt; "{rest:?}")?;
-    Ok(())
+    print_all(rt, queue)
 }
 
 pub fn growing_queue<R>(rt: &R) -> Result<(), anyhow::Error>
@@ -31,7 +30,5 @@ where
     queue.add_back(after(2, 1))?;
     queue.add_back(after(0, 2))?;
     queue.add_front(after(1, 0))?;
-    let outputs = block_on(rt, queue.collect(rt.alloc()))??;
-    println!(rt; "{outputs:?}")?;
-    Ok(())
+    print_all(rt, queue)
 }

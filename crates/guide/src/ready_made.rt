@@ -1,6 +1,5 @@
 //! Futures and streams that come with the library.
-use futures::StreamExt;
-use futures::executor::block_on;
+use crate::show::print_all;
 use futures_buffered::future::{map, ready};
 use futures_buffered::oneshot::Canceled;
 use futures_buffered::stream::iter;
@@ -19,9 +18,7 @@ where
     set.push(Either::Left(map(receiver, |sent: Result<u64, Canceled>| sent.unwrap_or(0))));
     set.push(Either::Right(ready(1)));
     let _ = sender.send(7);
-    let outputs = block_on(rt, set.collect(rt.alloc()))??;
-    println!(rt; "{outputs:?}")?;
-    Ok(())
+    print_all(rt, set)
 }
 
 pub fn two_iterators<R>(rt: &R) -> Result<(), anyhow::Error>
@@ -30,6 +27,5 @@ where
 {
     let numbers = vec![in rt.alloc(); iter(1..4u64), iter(10..12)]?;
     let merge = MergeUnbounded::from_iter(rt.alloc(), numbers)?;
-    println!(rt; "{:?}", block_on(rt, merge.collect(rt.alloc()))??)?;
-    Ok(())
+    print_all(rt, merge)
 }

@@ -1,5 +1,6 @@
 //! Sets.
 use crate::ready_after::{ReadyAfter, after};
+use crate::show::{print_all, print_next};
 use futures::executor::block_on;
 use futures::{StreamExt, future};
 use futures_buffered::{FuturesUnordered, FuturesUnorderedBounded, NewFault, SharedReady};
@@ -19,9 +20,7 @@ where
     if let Err(back) = set.try_push(after(0, 3)) {
         println!(rt; "full: {} is back", back.value)?;
     }
-    let outputs = block_on(rt, set.collect(rt.alloc()))??;
-    println!(rt; "{outputs:?}")?;
-    Ok(())
+    print_all(rt, set)
 }
 
 fn add_each(
@@ -52,7 +51,5 @@ where
 {
     let mut set = FuturesUnorderedBounded::with_limit(rt.alloc(), 8, 1)?;
     set.push(after(3, 7));
-    let output = block_on(rt, set.next())?;
-    println!(rt; "{output:?}")?;
-    Ok(())
+    print_next(rt, &mut set)
 }

@@ -1,5 +1,6 @@
 //! Sources, and the parts that sets stand on.
 use crate::checked::Half;
+use crate::show::print_all;
 use futures::StreamExt;
 use futures::executor::block_on;
 use futures_buffered::{
@@ -16,9 +17,7 @@ where
 {
     let jobs = vec![in rt.alloc(); Half(2), Half(3)]?;
     let set = FuturesUnorderedBounded::<Half, CoreSource>::over(&(), rt.alloc(), jobs)?;
-    let outputs = block_on(rt, set.collect(rt.alloc()))??;
-    println!(rt; "{outputs:?}")?;
-    Ok(())
+    print_all(rt, set)
 }
 
 pub fn listed_names<R>(rt: &R) -> Result<(), anyhow::Error>
