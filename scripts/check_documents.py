@@ -3,8 +3,8 @@
 
     scripts/check_documents.py
 
-Each block of Rust code in a document, and each of definitions or proofs (`antt`), stands in a file that the gate proves, line by line
-but for its indent and empty lines.
+Each block of Rust code in a document, and each of definitions or proofs (`antt`), stands in a file that the gate proves, or in an
+example, line by line but for its indent and empty lines.
 A path with a folder in capitals, as `crates/CRATE/src`, stands for any, and is passed over. A name is a word in backquotes with an
 underscore or an inner capital. It has to stand in a source, a proof, a refused body or a script,
 as a word of its text or as a file's name. Names of the Rust crate, of the kit and of the system alone are listed below.
@@ -29,6 +29,7 @@ ELSEWHERE = {
     "FromIterator", "Extend", "TryFuture", "TryStream",  # of Rust's library and of the Rust crate
     "must_use", "track_caller",  # marks of Rust
     "WakerList",  # of the Rust crate
+    "select_all",  # of the kit
     "VmHWM",  # of the system
 }
 
@@ -159,7 +160,7 @@ def faults_of_version(readme, changes):
 
 def all_faults(count):
     words = words_of_sources()
-    sources = [lines_of(path.read_text(encoding="utf-8")) for path in tracked() if path.suffix in {".rt", ".antt"}]
+    sources = [lines_of(path.read_text(encoding="utf-8")) for path in tracked() if path.suffix in {".rt", ".rs", ".antt"}]
     for document in DOCUMENTS:
         for fault in faults_of(document, words, sources, count):
             yield document.relative_to(ROOT), fault

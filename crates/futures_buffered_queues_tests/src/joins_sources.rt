@@ -4,7 +4,8 @@ use futures::task::Poll;
 use futures::test::MockTask;
 use futures_buffered_core::ready_source::{CoreSource, ReadySource};
 use futures_buffered_sets::{JoinAll, TryJoinAll};
-use std::alloc::{AllocError, Global};
+use std::alloc::{AllocError, AllocGlobal, Global};
+use std::random::RandomSource;
 use std::sync::atomic::Ordering::SeqCst;
 use std::test::Fail;
 use test_support::attempt::{Attempt, at_once};
@@ -91,31 +92,50 @@ fn a_join_over_a_core_source(rt: HostRuntime) -> Result<(), Fail> {
     Ok(())
 }
 
+// Two polls of a join of these futures, over a source of its own.
+fn polled_twice<R>(rt: &R, futures: Vec<Timed>) -> Result<(Seen, Seen), Fail>
+where
+    R: RandomSource + AllocGlobal,
+{
+    let task = MockTask::new(rt)?;
+    let log = SourceLog::new(rt.alloc())?;
+    let mut join = JoinAll::over(&log, rt.alloc(), futures)?;
+    let first = polled(&task, &log, &mut join);
+    Ok((first, polled(&task, &log, &mut join)))
+}
+
+fn try_polled_twice<R>(rt: &R, futures: Vec<Attempt>) -> Result<(Seen, Seen), Fail>
+where
+    R: RandomSource + AllocGlobal,
+{
+    let task = MockTask::new(rt)?;
+    let log = SourceLog::new(rt.alloc())?;
+    let mut join = TryJoinAll::over(&log, rt.alloc(), futures)?;
+    let first = try_polled(&task, &log, &mut join);
+    Ok((first, try_polled(&task, &log, &mut join)))
+}
+
+// What two polls see of a join that the first of them ends.
+fn ends(given: Given) -> (Seen, Seen) {
+    (quiet(given, 1), quiet(Given::None, 1))
+}
+
 #[test]
 fn the_call_that_ends_a_join_drops_its_source_and_wakes_nobody(
     rt: HostRuntime,
 ) -> Result<(), Fail> {
-    let task = MockTask::new(&rt)?;
-    let log = SourceLog::new(rt.alloc())?;
     let futures = vec![in rt.alloc(); ready(1), ready(2), ready(3)]?;
-    let mut join = JoinAll::over(&log, rt.alloc(), futures)?;
-    let first = polled(&task, &log, &mut join);
-    assert_same(&rt, first, quiet(Given::Three(1, 2, 3), 1));
-    let second = polled(&task, &log, &mut join);
-    assert_same(&rt, second, quiet(Given::None, 1));
+    let seen = polled_twice(&rt, futures)?;
+    assert_same(&rt, seen, ends(Given::Three(1, 2, 3)));
     Ok(())
 }
 
 #[test]
 fn a_pending_join_keeps_its_source_and_wakes_nobody(rt: HostRuntime) -> Result<(), Fail> {
-    let task = MockTask::new(&rt)?;
-    let log = SourceLog::new(rt.alloc())?;
     let futures = vec![in rt.alloc(); ready(1), late(2), ready(3)]?;
-    let mut join = JoinAll::over(&log, rt.alloc(), futures)?;
-    let first = polled(&task, &log, &mut join);
-    assert_same(&rt, first, quiet(Given::Pending, 0));
-    let second = polled(&task, &log, &mut join);
-    assert_same(&rt, second, quiet(Given::Pending, 0));
+    let seen = polled_twice(&rt, futures)?;
+    let pending = quiet(Given::Pending, 0);
+    assert_same(&rt, seen, (pending, pending));
     Ok(())
 }
 
@@ -123,14 +143,9 @@ fn a_pending_join_keeps_its_source_and_wakes_nobody(rt: HostRuntime) -> Result<(
 fn the_call_that_ends_a_try_join_drops_its_source_and_wakes_nobody(
     rt: HostRuntime,
 ) -> Result<(), Fail> {
-    let task = MockTask::new(&rt)?;
-    let log = SourceLog::new(rt.alloc())?;
     let futures = vec![in rt.alloc(); at_once(Ok(1)), at_once(Ok(2)), at_once(Ok(3))]?;
-    let mut join = TryJoinAll::over(&log, rt.alloc(), futures)?;
-    let first = try_polled(&task, &log, &mut join);
-    assert_same(&rt, first, quiet(Given::Three(1, 2, 3), 1));
-    let second = try_polled(&task, &log, &mut join);
-    assert_same(&rt, second, quiet(Given::None, 1));
+    let seen = try_polled_twice(&rt, futures)?;
+    assert_same(&rt, seen, ends(Given::Three(1, 2, 3)));
     Ok(())
 }
 
@@ -138,14 +153,9 @@ fn the_call_that_ends_a_try_join_drops_its_source_and_wakes_nobody(
 fn the_call_that_answers_an_error_drops_the_source_and_wakes_nobody(
     rt: HostRuntime,
 ) -> Result<(), Fail> {
-    let task = MockTask::new(&rt)?;
-    let log = SourceLog::new(rt.alloc())?;
     let futures = vec![in rt.alloc(); at_once(Ok(1)), at_once(Err(7)), at_once(Ok(3))]?;
-    let mut join = TryJoinAll::over(&log, rt.alloc(), futures)?;
-    let first = try_polled(&task, &log, &mut join);
-    assert_same(&rt, first, quiet(Given::Error(7), 1));
-    let second = try_polled(&task, &log, &mut join);
-    assert_same(&rt, second, quiet(Given::None, 1));
+    let seen = try_polled_twice(&rt, futures)?;
+    assert_same(&rt, seen, ends(Given::Error(7)));
     Ok(())
 }
 
@@ -154,12 +164,8 @@ const MANY: u64 = 2_000;
 
 #[test]
 fn the_end_of_a_long_join_drops_its_source(rt: HostRuntime) -> Result<(), Fail> {
-    let task = MockTask::new(&rt)?;
-    let log = SourceLog::new(rt.alloc())?;
-    let futures = ready_up_to(rt.alloc(), MANY)?;
-    let mut join = JoinAll::over(&log, rt.alloc(), futures)?;
-    let first = polled(&task, &log, &mut join);
-    assert_same(&rt, first, quiet(Given::Many(MANY as usize), 1));
+    let seen = polled_twice(&rt, ready_up_to(rt.alloc(), MANY)?)?;
+    assert_same(&rt, seen, ends(Given::Many(MANY as usize)));
     Ok(())
 }
 
@@ -177,24 +183,11 @@ fn attempts(alloc: Global, fails: u64) -> Result<Vec<Attempt>, AllocError> {
     Ok(attempts)
 }
 
-// The first poll of a try join of these.
-fn first_of_many(
-    alloc: Global,
-    task: &MockTask,
-    log: &SourceLog,
-    fails: u64,
-) -> Result<Seen, Fail> {
-    let mut join = TryJoinAll::over(log, alloc, attempts(alloc, fails)?)?;
-    Ok(try_polled(task, log, &mut join))
-}
-
 #[test]
 fn the_end_of_a_long_try_join_drops_its_source(rt: HostRuntime) -> Result<(), Fail> {
-    let task = MockTask::new(&rt)?;
-    let log = SourceLog::new(rt.alloc())?;
-    let first = first_of_many(rt.alloc(), &task, &log, MANY)?;
-    assert_same(&rt, first, quiet(Given::Many(MANY as usize), 1));
-    let second = first_of_many(rt.alloc(), &task, &log, MANY - 1)?;
-    assert_same(&rt, second, quiet(Given::Error(MANY - 1), 2));
+    let seen = try_polled_twice(&rt, attempts(rt.alloc(), MANY)?)?;
+    assert_same(&rt, seen, ends(Given::Many(MANY as usize)));
+    let seen = try_polled_twice(&rt, attempts(rt.alloc(), MANY - 1)?)?;
+    assert_same(&rt, seen, ends(Given::Error(MANY - 1)));
     Ok(())
 }
