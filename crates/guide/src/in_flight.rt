@@ -3,6 +3,7 @@ ghost use Rattle.futures_buffered.specs.InFlight.{CanPollAll};
 
 use crate::foreign::sent;
 use crate::show::print_all;
+use anyhow::bail;
 use futures::channel::oneshot::channel;
 use futures::{Future, FutureExt, StreamExt, stream};
 use futures_buffered::{BufferedStreamExt, InFlight};
@@ -68,7 +69,11 @@ where
 {
     let receiver = sent(rt.alloc(), 40)?;
     let mut set = InFlight::new(rt.alloc(), 8)?;
-    let _key = set.try_push(receiver.map(|sent| sent.unwrap_or(0))).ok();
-    println!(rt; "{}", sum_of(rt, set)?)?;
+    let key = set.try_push(receiver.map(|sent| sent.unwrap_or(0))).ok();
+    let sum = sum_of(rt, set)?;
+    if key.is_none() {
+        bail!("there is no memory for the future");
+    }
+    println!(rt; "{sum}")?;
     Ok(())
 }
