@@ -106,7 +106,7 @@ fn main(rt: HostRuntime) -> Result<(), anyhow::Error> {
         "source_task" => tasks::task(&rt, a, b, c),
         "source_other_task" => tasks::other_task(&rt, a),
         "source_dropped" => tasks::dropped_source(&rt, a),
-        "source_sibling" => tasks::sibling(&rt, a),
+        "source_sibling" => tasks::sibling(&rt, a, b),
         "join" => joins::join(&rt, a, b),
         "try_join" => joins::try_join(&rt, a, b),
         "one_shot_sent" => one_shots::sent(&rt, a, b),

@@ -129,8 +129,17 @@ where
     Ok(())
 }
 
-/// A source is made beside another while wakes of that are under way. Then one task polls both, and registers with the first alone: it gets to know of the last wake of each.
-pub fn sibling<R>(rt: &R, wakes: usize) -> Result<(), anyhow::Error>
+// A poll that ends with a name leaves the task's waker with the poller of the source.
+fn poll_to_a_name(task: &MockTask, source: &mut SharedReady) {
+    let _ = source.mark(0);
+    task.enter(|cx| {
+        source.register(cx);
+        let _ = source.take();
+    });
+}
+
+/// A source is made beside another while wakes of that are under way. Then one task polls both, and registers with the first alone: it gets to know of the last wake of each. With `earlier` the second keeps the waker of an earlier poll.
+pub fn sibling<R>(rt: &R, wakes: usize, earlier: usize) -> Result<(), anyhow::Error>
 where
     R: Threads + Wait + RandomSource + AllocGlobal,
 {
@@ -141,6 +150,9 @@ where
     task.enter(|cx| first.register(cx));
     let one = start(rt, &first, 0, &mut tally, 0, wakes)?;
     let mut second = first.make_sibling(alloc, 1)?;
+    if earlier > 0 {
+        poll_to_a_name(&task, &mut second);
+    }
     let two = start(rt, &second, 0, &mut tally, 1, wakes)?;
     for _ in rt.forever() {
         let paused = task.enter(|cx| {

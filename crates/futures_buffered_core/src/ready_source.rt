@@ -97,7 +97,7 @@ pub trait NewSource: ReadySource {
     fn make(env: &Self::Env, alloc: Global, cap: usize) -> Result<Self, NewFault>
         ensures { MakesSlots cap (made cap) result };
 
-    /// A source of `cap` slots beside this one, which waits at the same places of a task's wakes. So in one poll that asks both, one registration covers both.
+    /// A source of `cap` slots beside this one, which waits at the same places of a task's wakes. So in one poll that asks both, one registration covers both, where the source that registers is asked first.
     ///
     /// Takes time and memory as `make` does. Where it is refused this source's content stays as it was; the task's waker may be kept at another place from then on.
     fn make_sibling(&mut self, alloc: Global, cap: usize) -> Result<Self, NewFault>

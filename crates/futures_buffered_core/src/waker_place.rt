@@ -14,9 +14,6 @@ ghost use Rattle.futures.specs.Task.{Hears, IsArmed, Keeps};
 ghost use Rattle.futures_buffered_table.specs.Waking.{IsWake};
 ghost use Rattle.futures_buffered_table.specs.declared.answer.Woke.TheVariants.{Fresh};
 
-#[cfg(test)]
-mod tests;
-
 use counted_slot::{Claim, Counted, FREE, Fits, PRESENT, TAKEN};
 use futures::task::{Context, Poll, Source, Waker};
 use futures_buffered_table::ready_table::{BeforeEmpty, StepsMade, WakeSeat};
@@ -131,12 +128,13 @@ impl<O: OuterWaker> WakerPlace<O> {
 
 /// The poller's side.
 ///
-/// Where no source stands beside this one and the shared place keeps no waker, the task's waker is kept here, and is put in there only before the poller can answer `Empty`. So a poll that ends with an output changes nothing at the place, and nobody wakes a task that polls again by itself. Else a registration takes back the waker that the place keeps, and puts its own in.
+/// The task's waker is kept here from its registration on, and is put into the shared place only before the poller can answer `Empty`. So a poll that ends with an output puts nothing there, and nobody wakes a task that polls again by itself. Where the poller has none, a registration takes back the waker that the place keeps.
+///
+/// A poll that asks sources beside one another asks the one that registered first. One of them that still has the waker of an earlier poll puts it in as well, and the waker that it replaces wakes the task.
 #[derive(Drop)]
 pub struct PollerWaker<O> {
     shared: Arc<WakerPlace<O>>,
     own: Option<O>,
-    stands_alone: bool,
 }
 
 impl<O> Model for PollerWaker<O> {
@@ -149,12 +147,11 @@ impl<O> Model for PollerWaker<O> {
 }
 
 impl<O: OuterWaker> PollerWaker<O> {
-    /// Makes the side of a source that stands alone. It takes memory for the place.
+    /// Makes the side of a source with a place of its own. It takes memory for the place.
     pub fn alone(alloc: Global) -> Result<PollerWaker<O>, AllocError> {
         Ok(PollerWaker {
             shared: Arc::new(alloc, WakerPlace::new())?,
             own: None,
-            stands_alone: true,
         })
     }
 
@@ -164,13 +161,8 @@ impl<O: OuterWaker> PollerWaker<O> {
         ensures same { self.new ≡ self.old }
     {
         let shared = self.shared()?;
-        self.stands_alone = false;
         self.give_up_own();
-        Ok(PollerWaker {
-            shared,
-            own: None,
-            stands_alone: false,
-        })
+        Ok(PollerWaker { shared, own: None })
     }
 
     /// Returns the place in which wakes look.
@@ -187,22 +179,17 @@ impl<O: OuterWaker> PollerWaker<O> {
 }
 
 impl PollerWaker<Waker> {
-    /// Keeps the task's waker: here where the source stands alone and the place keeps none, else at the place, as by `put_in`.
+    /// Keeps the task's waker here, and takes back the one that the place keeps, where none is here. One of another task is let go, which wakes that task.
     pub fn register(&mut self, cx: &mut Context<'_>)
         ensures same { self.new ≡ self.old }
         ensures armed { IsArmed cx.new }
         ensures heard { Hears cx.new self.old }
         ensures kept { Keeps cx.old cx.new }
     {
-        let mut is_shared = !self.stands_alone;
         if self.own.is_none() {
             self.own = self.shared.take_out();
-            is_shared = is_shared || self.own.is_some();
         }
         let _: Poll<()> = cx.register(&self.shared.source, &mut self.own);
-        if is_shared {
-            self.give_up_own();
-        }
     }
 }
 
@@ -220,9 +207,9 @@ impl<O: OuterWaker> BeforeEmpty for PollerWaker<O> {
 }
 
 impl<O: OuterWaker> PollerWaker<O> {
-    // Puts the waker where wakes find it, as by `put_in`.
+    // Puts the waker, if one is kept here, where wakes find it, as by `put_in`.
     #[inline(never)]
-    fn give_up_own(&mut self)
+    pub(crate) fn give_up_own(&mut self)
         ensures { self.new ≡ self.old }
     {
         if let Some(outer) = self.own.take() {

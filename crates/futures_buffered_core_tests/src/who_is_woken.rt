@@ -59,7 +59,7 @@ fn poll_nothing(task: &MockTask) {
     task.enter(|_cx| ());
 }
 
-// A second task that is given a name takes the place of the first, which is woken by that, and then the next wake finds the second.
+// A second task that is given a name takes the place of the first, which is woken by that. Wakes find the second once its poll finds nothing.
 #[test]
 fn a_second_task_that_is_given_a_name_takes_the_place(rt: HostRuntime) -> Result<(), Fail> {
     let one = MockTask::new(&rt)?;
@@ -73,6 +73,10 @@ fn a_second_task_that_is_given_a_name_takes_the_place(rt: HostRuntime) -> Result
     assert_same(&rt, are_woken(&one, &two), (true, false));
     poll_nothing(&one);
     wake(&source, 1);
+    assert_same(&rt, are_woken(&one, &two), (false, false));
+    assert_same(&rt, poll(&two, &mut source), (Taken::Slot(1), false));
+    assert_same(&rt, poll(&two, &mut source), (Taken::Empty, false));
+    wake(&source, 0);
     assert_same(&rt, are_woken(&one, &two), (false, true));
     Ok(())
 }
@@ -126,14 +130,14 @@ fn a_source_made_beside_finds_the_task_that_waits(rt: HostRuntime) -> Result<(),
     Ok(())
 }
 
-// Registers at one source and asks the other alone, which has nothing. A wake of either then finds the task, and the next one does not.
+// Registers at one source and asks it, and then the other, which have nothing. A wake of either then finds the task, and the next one does not.
 fn try_pair(
     rt: &impl Abort,
     task: &MockTask,
     registered: &mut SharedReady,
     asked: &mut SharedReady,
 ) {
-    register(task, registered);
+    assert_same(rt, poll(task, registered), (Taken::Empty, false));
     assert_same(rt, (asked.take(), task.is_woken()), (Taken::Empty, false));
     assert_same(rt, is_woken_by(task, asked, 0), true);
     poll_nothing(task);
@@ -143,7 +147,7 @@ fn try_pair(
         (asked.take(), registered.take()),
         (Taken::Slot(0), Taken::Slot(0)),
     );
-    register(task, registered);
+    assert_same(rt, poll(task, registered), (Taken::Empty, false));
     assert_same(rt, (asked.take(), task.is_woken()), (Taken::Empty, false));
     assert_same(rt, is_woken_by(task, registered, 0), true);
     assert_same(
@@ -167,17 +171,35 @@ fn sources_beside_one_another_wake_one_task(rt: HostRuntime) -> Result<(), Fail>
     Ok(())
 }
 
-// Where sources stand beside one another, wakes find the task from its registration on, also after a name.
+// Of sources beside one another too, wakes find the task only once its poll found nothing.
 #[test]
-fn a_wake_beside_finds_the_task_after_a_name(rt: HostRuntime) -> Result<(), Fail> {
+fn a_wake_beside_finds_the_task_once_its_poll_found_nothing(rt: HostRuntime) -> Result<(), Fail> {
     let task = MockTask::new(&rt)?;
     let mut first: SharedReady = SharedReady::new(rt.alloc(), 1)?;
     let mut second = first.make_sibling(rt.alloc(), 1)?;
     assert_same(&rt, mark(&mut first, 0), Some(Woke::Fresh));
     assert_same(&rt, poll(&task, &mut first), (Taken::Slot(0), false));
+    assert_same(&rt, is_woken_by(&task, &second, 0), false);
+    assert_same(&rt, poll(&task, &mut first), (Taken::Empty, false));
+    assert_same(&rt, second.take(), Taken::Slot(0));
     assert_same(&rt, is_woken_by(&task, &second, 0), true);
     assert_same(&rt, poll(&task, &mut second), (Taken::Slot(0), false));
-    assert_same(&rt, is_woken_by(&task, &first, 0), true);
+    assert_same(&rt, is_woken_by(&task, &first, 0), false);
+    Ok(())
+}
+
+// The waker of an earlier poll lies with one source as the other's is put in. Where it is put in too, the one that it replaces wakes the task, once.
+#[test]
+fn an_earlier_waker_that_comes_later_wakes_the_task(rt: HostRuntime) -> Result<(), Fail> {
+    let task = MockTask::new(&rt)?;
+    let mut first: SharedReady = SharedReady::new(rt.alloc(), 1)?;
+    let mut second = first.make_sibling(rt.alloc(), 1)?;
+    assert_same(&rt, mark(&mut second, 0), Some(Woke::Fresh));
+    assert_same(&rt, poll(&task, &mut second), (Taken::Slot(0), false));
+    assert_same(&rt, poll(&task, &mut first), (Taken::Empty, false));
+    assert_same(&rt, (second.take(), task.is_woken()), (Taken::Empty, true));
+    assert_same(&rt, poll(&task, &mut first), (Taken::Empty, false));
+    assert_same(&rt, (second.take(), task.is_woken()), (Taken::Empty, false));
     Ok(())
 }
 

@@ -28,12 +28,13 @@ use Rattle.futures_buffered_table.proofs.RowLemmas.{answered_by, put_by, row_slo
 use Rattle.futures_buffered_table.proofs.ScheduleLemmas.{IsReachable, pending, reachable_start, step_reaches}
 use Rattle.futures_buffered_lost_wakeup.specs.Scene.{Scene, at_first, with_errand}
 use Rattle.futures_buffered_lost_wakeup.specs.Scene.{Rests, Looks, Inside, Wakes}
+use Rattle.futures_buffered_lost_wakeup.specs.Scene.{Place, Bare, Keeps, WakeHas, PollerHas, BesideHas}
 use Rattle.futures_buffered_lost_wakeup.specs.Scene.{Turn, Parked, Asks}
-use Rattle.futures_buffered_lost_wakeup.specs.LostWake.{Event, InList, OnErrand, AtPlace, FromBeside, Begin, GoBack, KeepOwn, Lacks, LayOut, Misses, Stop}
-use Rattle.futures_buffered_lost_wakeup.specs.LostWake.{AllRest, CanDo, IsAtStart, IsAtStub, IsBetween, Legal, NoWakeIsLost, after, after_reply, owner_seat, poller_role, run}
+use Rattle.futures_buffered_lost_wakeup.specs.LostWake.{Event, InList, OnErrand, AtPlace, FromBeside, Begin, GoBack, KeepOwn, Lacks, LayOut, Misses, BesideGoes, BesidePuts, BesideMisses, Stop}
+use Rattle.futures_buffered_lost_wakeup.specs.LostWake.{AllRest, CanDo, IsAtStart, IsAtStub, IsBetween, Legal, NoWakeIsLost, NoneBeside, after, after_reply, owner_seat, poller_role, run}
 use Rattle.futures_buffered_lost_wakeup.proofs.SceneLemmas.{IsEmpty, IsPolls, IsTaken, IsWoke, empty_at_stub, hand_at_start, none_at_stub, polls_of, polls_wake_none, stub_polls, taken_starts, times_none}
-use Rattle.futures_buffered_lost_wakeup.proofs.SceneInvariantLemmas.{Armed, ArmedIn, Busy, IsKept, IsSwapped, IsThere, IsWaiting, OnItsWay, PollerHolds, Seen, SwapsIn, Waits, armed_woken, errand_kept, holds_else, wakes_else, way_here}
-use Rattle.futures_buffered_lost_wakeup.proofs.PlaceLemmas.{armed_by_place, at_place_kept, begin_kept, go_back_kept, keep_own_kept, lacks_kept, lay_out_kept, misses_kept, on_errand_kept, poller_view, stop_kept}
+use Rattle.futures_buffered_lost_wakeup.proofs.SceneInvariantLemmas.{Armed, ArmedIn, Busy, IsKept, IsSwapped, IsThere, IsWaiting, LetsGo, OnItsWay, PollerHolds, Seen, SwapsIn, Waits, armed_woken, errand_kept, holds_else, wakes_else, way_here}
+use Rattle.futures_buffered_lost_wakeup.proofs.PlaceLemmas.{armed_by_place, at_place_kept, begin_kept, beside_goes_kept, beside_puts_kept, go_back_kept, keep_own_kept, lacks_kept, lay_out_kept, misses_kept, on_errand_kept, poller_view, stop_kept, woken_kept}
 
 -- a step of the list, by a wake: how the row goes on
 module _ (n : ℕ) (s : Scene) (kept : IsKept n s) (step : Step) (low : seat_of step < WAKE_SEATS) (can : CanStep n (map role_of s.list.views) step) (between : IsBetween s (seat_of step)) where
@@ -69,7 +70,7 @@ module _ (n : ℕ) (s : Scene) (kept : IsKept n s) (step : Step) (low : seat_of 
       let same : pending n s.list kept.reach ≡ pending n (after_step n s.list step) on =
       sym (append-nil (pending n s.list kept.reach)) ∙ ((λ k. pending n s.list kept.reach ++ sym no_put k) ∙ (flow ∙ (λ k. no_answer k ++ pending n (after_step n s.list step) on))) in
       ⊎_elim (λ (t : pending n s.list kept.reach ≡ []). inl (sym same ∙ t))
-      (λ (t : Busy s). inr (⊎_elim (λ (w : OnItsWay s.errands). inl w) (λ (w : SwapsIn s.list.views). inr (still_swaps not_swapped w)) t)) (kept.seen parked asleep)
+      (λ (t : Busy s). inr (⊎_elim (λ (w : OnItsWay s.errands). inl w) (⊎_elim (λ (w : SwapsIn s.list.views). inr (inl (still_swaps not_swapped w))) (λ (w : LetsGo s.place). inr (inr w))) t)) (kept.seen parked asleep)
 
   listed_kept : (on : IsReachable n (after_step n s.list step)) → Seen n (record s { list = after_step n s.list step }) on → IsKept n (record s { list = after_step n s.list step })
   listed_kept on seen = record {
@@ -86,7 +87,7 @@ module _ (n : ℕ) (s : Scene) (kept : IsKept n s) (step : Step) (low : seat_of 
 
   -- the slot is in the row from here on, and this wake is on its way to the place
   puts_in : (slot : ℕ) → (view_at s.list step).role ≡ Cleared slot → (on : IsReachable n (after_step n s.list step)) → Goes More
-  puts_in slot is on = listed_kept on (λ parked asleep. inr (inr (
+  puts_in slot is on = listed_kept on (λ parked asleep. inr (inr (inl (
     seat_of step,
     low,
     (
@@ -94,7 +95,7 @@ module _ (n : ℕ) (s : Scene) (kept : IsKept n s) (step : Step) (low : seat_of 
       set_here s.list.views (seat_of step) new_view (place_low s.list.views (seat_of step) (view_at s.list step) there),
       subst (λ (role : Role). IsSwapped (next_role (view_at s.list step).stub (slot_of step) role (found_at n s.list step))) (sym is) tt,
     ),
-  )))
+  ))))
 
   -- its link is written: it goes to the place
   arrives : (on : IsReachable n (after_step n s.list step)) → Goes (Woke Fresh)
@@ -237,6 +238,9 @@ step_kept n s kept KeepOwn can = keep_own_kept n s kept can
 step_kept n s kept Lacks can = lacks_kept n s kept can
 step_kept n s kept LayOut can = lay_out_kept n s kept can.0 s.place refl
 step_kept n s kept Misses can = misses_kept n s kept can.0
+step_kept n s kept BesideGoes can = beside_goes_kept n s kept s.place refl
+step_kept n s kept BesidePuts can = beside_puts_kept n s kept s.place refl
+step_kept n s kept BesideMisses can = woken_kept n s kept
 step_kept n s kept Stop can = stop_kept n s kept can.0 can.1
 
 run_kept : (n : ℕ) (s : Scene) → IsKept n s → (events : List Event) → Legal n s events → IsKept n (run n s events)
@@ -254,7 +258,7 @@ first_kept n = record {
 }
 
 -- where each wake has ended, a slot that is not in the row is not marked
-module _ (n : ℕ) (s : Scene) (kept : IsKept n s) (rest : AllRest s) (parked : s.turn ≡ Parked) where
+module _ (n : ℕ) (s : Scene) (kept : IsKept n s) (rest : AllRest s) (alone : NoneBeside s.place) (parked : s.turn ≡ Parked) where
   idle : (seat : ℕ) (v : View) → seat < WAKE_SEATS → get_elem? s.list.views seat ≡ some v → v.role ≡ Idle
   idle seat v low at =
       let here : get_elem? s.list.views seat ≡ some (get_or s.list.views seat spent_view) = elem_at s.list.views seat spent_view (let a = kept.reach.1 in omega arith) in
@@ -287,7 +291,15 @@ module _ (n : ℕ) (s : Scene) (kept : IsKept n s) (rest : AllRest s) (parked : 
 
   not_busy : Busy s → ⊥
   not_busy (inl way) = way.1 (rest.0 way.0)
-  not_busy (inr swaps) = subst IsSwapped (idle swaps.0 swaps.2.0 swaps.1 swaps.2.1) swaps.2.2
+  not_busy (inr (inr lets_go)) = by_place s.place alone lets_go
+    where
+      by_place : (place : Place) → NoneBeside place → LetsGo place → ⊥
+      by_place Bare none lets = lets
+      by_place Keeps none lets = lets
+      by_place (WakeHas seat) none lets = lets
+      by_place PollerHas none lets = lets
+      by_place (BesideHas before) none lets = none
+  not_busy (inr (inl swaps)) = subst IsSwapped (idle swaps.0 swaps.2.0 swaps.1 swaps.2.1) swaps.2.2
 
   unmarked : pending n s.list kept.reach ≡ [] → (slot : ℕ) → slot < n → mark s.list.words slot ≡ 0
   unmarked none slot lt =
@@ -300,7 +312,7 @@ module _ (n : ℕ) (s : Scene) (kept : IsKept n s) (rest : AllRest s) (parked : 
       omega arith
 
 pub no_wake_is_lost : NoWakeIsLost
-no_wake_is_lost = λ n events legal rest parked asleep slot lt.
+no_wake_is_lost = λ n events legal rest alone parked asleep slot lt.
     let kept = run_kept n (at_first n) (first_kept n) events legal in
-    ⊎_elim (λ none. unmarked n (run n (at_first n) events) kept rest parked none slot lt)
-    (λ busy. absurd (not_busy n (run n (at_first n) events) kept rest parked busy)) (kept.seen parked asleep)
+    ⊎_elim (λ none. unmarked n (run n (at_first n) events) kept rest alone parked none slot lt)
+    (λ busy. absurd (not_busy n (run n (at_first n) events) kept rest alone parked busy)) (kept.seen parked asleep)

@@ -1,5 +1,5 @@
 -- The steps at the place, of wakes and of the poller, keep a scene.
-use Rattle.std.proofs.Common.{◌≡◌, ◌≢◌, ℕ, Bool, true, false, refl, sym, ap, ◌∙◌, subst, inl, inr, arith}
+use Rattle.std.proofs.Common.{◌≡◌, ◌≢◌, ℕ, Bool, true, false, refl, sym, ap, ◌∙◌, subst, inl, inr, ⊎_elim, arith}
 use Rattle.std.specs.Prelude.{if◌then◌else◌}
 use mathlib.Core.Option.{some, some-injective}
 use lib.ListN.{get_elem?}
@@ -12,11 +12,11 @@ use Rattle.futures_buffered_table.proofs.ListLemmas.{elem_at}
 use Rattle.futures_buffered_table.proofs.ScheduleLemmas.{IsReachable}
 use Rattle.futures_buffered_lost_wakeup.specs.Scene.{Scene, set_errand, with_errand}
 use Rattle.futures_buffered_lost_wakeup.specs.Scene.{Errand, Rests, Looks, Tries, Inside, Wakes}
-use Rattle.futures_buffered_lost_wakeup.specs.Scene.{Place, Bare, Keeps, WakeHas, PollerHas}
+use Rattle.futures_buffered_lost_wakeup.specs.Scene.{Place, Bare, Keeps, WakeHas, PollerHas, BesideHas}
 use Rattle.futures_buffered_lost_wakeup.specs.Scene.{Turn, Parked, Registers, TakesBack, Asks, LaysOut}
-use Rattle.futures_buffered_lost_wakeup.specs.LostWake.{IsAtStart, after_errand, after_place, after_try, go_back, is_kept, lay_out, poller_role}
+use Rattle.futures_buffered_lost_wakeup.specs.LostWake.{IsAtStart, after_errand, after_place, after_try, beside_goes, beside_puts, go_back, is_kept, lay_out, poller_role}
 use Rattle.futures_buffered_lost_wakeup.proofs.SceneLemmas.{errand_here}
-use Rattle.futures_buffered_lost_wakeup.proofs.SceneInvariantLemmas.{Armed, ArmedIn, IsKept, IsThere, IsWaiting, PollerHolds, armed_parked, armed_woken, errand_kept, holds_else, wakes_else, way_by_another, way_here}
+use Rattle.futures_buffered_lost_wakeup.proofs.SceneInvariantLemmas.{Armed, ArmedIn, Busy, HasWaker, IsKept, IsThere, IsWaiting, LetsGo, PollerHolds, armed_parked, armed_woken, errand_kept, holds_else, wakes_else, way_by_another, way_here}
 
 -- what is armed stays so, where the place changes under the hand of a wake
 pub armed_by_place : (turn : Turn) (s now : Scene) → (Armed s → Armed now) → (s.own ≡ true → now.own ≡ true) → ArmedIn turn s → ArmedIn turn now
@@ -37,11 +37,12 @@ seat_with Bare = 0
 seat_with Keeps = 0
 seat_with (WakeHas seat) = seat
 seat_with PollerHas = 0
+seat_with (BesideHas before) = 0
 
 -- a wake that finds no waker leaves the task to whoever has the place
 rests_kept : (n : ℕ) (s : Scene) (kept : IsKept n s) (seat : ℕ) → s.errands seat ≢ Inside → s.errands seat ≢ Wakes → s.place ≢ Keeps → IsKept n (with_errand s seat Rests)
 rests_kept n s kept seat not_inside not_wakes bare =
-    errand_kept n s kept seat Rests not_inside not_wakes (λ parked asleep. inr (inl (way_by_another s seat kept.holder not_inside not_wakes bare asleep (armed_parked n s kept parked))))
+    errand_kept n s kept seat Rests not_inside not_wakes (λ parked asleep. inr (way_by_another s seat kept.holder not_inside not_wakes bare asleep (armed_parked n s kept parked)))
 
 -- a wake reads whether a waker is kept
 looks_kept : (n : ℕ) (s : Scene) (kept : IsKept n s) (seat : ℕ) → s.errands seat ≡ Looks → (found : Bool) → is_kept s.place ≡ found → IsKept n (with_errand s seat (if found then Tries else Rests))
@@ -71,6 +72,8 @@ tries_kept n s kept seat is (WakeHas other) at =
     rests_kept n s kept seat (λ z. let c : Tries ≡ Inside = sym is ∙ z in cc) (λ z. let c : Tries ≡ Wakes = sym is ∙ z in cc) (λ keeps. let c : WakeHas other ≡ Keeps = sym at ∙ keeps in cc)
 tries_kept n s kept seat is PollerHas at =
     rests_kept n s kept seat (λ z. let c : Tries ≡ Inside = sym is ∙ z in cc) (λ z. let c : Tries ≡ Wakes = sym is ∙ z in cc) (λ keeps. let c : PollerHas ≡ Keeps = sym at ∙ keeps in cc)
+tries_kept n s kept seat is (BesideHas before) at =
+    rests_kept n s kept seat (λ z. let c : Tries ≡ Inside = sym is ∙ z in cc) (λ z. let c : Tries ≡ Wakes = sym is ∙ z in cc) (λ keeps. let c : BesideHas before ≡ Keeps = sym at ∙ keeps in cc)
 
 -- a wake with the waker leaves the place
 inside_kept : (n : ℕ) (s : Scene) (kept : IsKept n s) (seat : ℕ) → s.errands seat ≡ Inside → IsKept n (record (with_errand s seat Wakes) { place = Bare })
@@ -139,6 +142,7 @@ go_back_kept n s kept registers Keeps at = record {
 }
 go_back_kept n s kept registers (WakeHas seat) at = kept
 go_back_kept n s kept registers PollerHas at = kept
+go_back_kept n s kept registers (BesideHas before) at = kept
 
 -- the poller has its task woken in place of a waker laid out
 pub misses_kept : (n : ℕ) (s : Scene) (kept : IsKept n s) → s.turn ≡ Asks → IsKept n (record s { own = false; woken = true })
@@ -167,6 +171,73 @@ lay_out_kept n s kept asks Bare at = there n s kept
 lay_out_kept n s kept asks Keeps at = there n s kept
 lay_out_kept n s kept asks (WakeHas seat) at = misses_kept n s kept asks
 lay_out_kept n s kept asks PollerHas at = misses_kept n s kept asks
+lay_out_kept n s kept asks (BesideHas before) at = misses_kept n s kept asks
+
+-- the task is woken
+pub woken_kept : (n : ℕ) (s : Scene) (kept : IsKept n s) → IsKept n (record s { woken = true })
+woken_kept n s kept = record {
+  reach = kept.reach;
+  waits = kept.waits;
+  holder = kept.holder;
+  poller = kept.poller;
+  armed = armed_woken s.turn (record s { woken = true }) refl;
+  seen = λ parked asleep. absurd cc;
+}
+
+-- only the place changes, and nobody has it whom another waits for
+place_kept : (n : ℕ) (s : Scene) (kept : IsKept n s) (place : Place) → ((seat : ℕ) → place ≢ WakeHas seat) → place ≢ PollerHas
+    → (Armed s → Armed (record s { place = place })) → (Busy s → Busy (record s { place = place })) → IsKept n (record s { place = place })
+place_kept n s kept place no_wake no_poller once busy = record {
+  reach = kept.reach;
+  waits = kept.waits;
+  holder = λ other same. absurd (no_wake other same);
+  poller = λ same. absurd (no_poller same);
+  armed = armed_by_place s.turn s (record s { place = place }) once (λ own. own) kept.armed;
+  seen = λ parked asleep. ⊎_elim (λ none. inl none) (λ some_busy. inr (busy some_busy)) (kept.seen parked asleep);
+}
+
+-- where no waker was kept, what is armed and what is busy do not come from the place
+armed_from_bare : (s : Scene) (place : Place) → (HasWaker s.place → ⊥) → Armed s → Armed (record s { place = place })
+armed_from_bare s place none (inl woken) = inl woken
+armed_from_bare s place none (inr (inl has)) = absurd (none has)
+armed_from_bare s place none (inr (inr wakes)) = inr (inr wakes)
+
+busy_from_bare : (s : Scene) (place : Place) → (LetsGo s.place → ⊥) → Busy s → Busy (record s { place = place })
+busy_from_bare s place none (inl way) = inl way
+busy_from_bare s place none (inr (inl swaps)) = inr (inl swaps)
+busy_from_bare s place none (inr (inr lets_go)) = absurd (none lets_go)
+
+-- a source beside this one goes to the place
+pub beside_goes_kept : (n : ℕ) (s : Scene) (kept : IsKept n s) → (place : Place) → s.place ≡ place → IsKept n (beside_goes place s)
+beside_goes_kept n s kept Bare at = place_kept n s kept (BesideHas false) (λ seat z. cc) (λ z. cc)
+    (armed_from_bare s (BesideHas false) (λ has. subst HasWaker at has)) (busy_from_bare s (BesideHas false) (λ lets_go. subst LetsGo at lets_go))
+beside_goes_kept n s kept Keeps at = place_kept n s kept (BesideHas true) (λ seat z. cc) (λ z. cc)
+    once (λ _. inr (inr tt))
+  where
+    once : Armed s → Armed (record s { place = BesideHas true })
+    once (inl woken) = inl woken
+    once (inr (inl has)) = inr (inl tt)
+    once (inr (inr wakes)) = inr (inr wakes)
+beside_goes_kept n s kept (WakeHas seat) at = woken_kept n s kept
+beside_goes_kept n s kept PollerHas at = woken_kept n s kept
+beside_goes_kept n s kept (BesideHas before) at = woken_kept n s kept
+
+-- and leaves it
+pub beside_puts_kept : (n : ℕ) (s : Scene) (kept : IsKept n s) → (place : Place) → s.place ≡ place → IsKept n (beside_puts place s)
+beside_puts_kept n s kept Bare at = kept
+beside_puts_kept n s kept Keeps at = kept
+beside_puts_kept n s kept (WakeHas seat) at = kept
+beside_puts_kept n s kept PollerHas at = kept
+beside_puts_kept n s kept (BesideHas false) at = place_kept n s kept Keeps (λ seat z. cc) (λ z. cc)
+    (λ _. inr (inl tt)) (busy_from_bare s Keeps (λ lets_go. subst LetsGo at lets_go))
+beside_puts_kept n s kept (BesideHas true) at = record {
+  reach = kept.reach;
+  waits = kept.waits;
+  holder = λ other same. absurd cc;
+  poller = λ same. absurd cc;
+  armed = armed_woken s.turn (record s { place = Keeps; woken = true }) refl;
+  seen = λ parked asleep. absurd cc;
+}
 
 -- the poller's own steps
 pub begin_kept : (n : ℕ) (s : Scene) (kept : IsKept n s) → s.turn ≡ Parked → IsKept n (record s { turn = Registers; woken = false })

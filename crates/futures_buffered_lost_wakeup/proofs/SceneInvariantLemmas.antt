@@ -9,7 +9,7 @@ use Rattle.futures_buffered_table.specs.declared.view.View.{View}
 use Rattle.futures_buffered_table.proofs.ScheduleLemmas.{IsReachable, pending}
 use Rattle.futures_buffered_lost_wakeup.specs.Scene.{Scene, set_errand, with_errand}
 use Rattle.futures_buffered_lost_wakeup.specs.Scene.{Errand, Rests, Inside, Wakes}
-use Rattle.futures_buffered_lost_wakeup.specs.Scene.{Place, Bare, Keeps, WakeHas, PollerHas}
+use Rattle.futures_buffered_lost_wakeup.specs.Scene.{Place, Bare, Keeps, WakeHas, PollerHas, BesideHas}
 use Rattle.futures_buffered_lost_wakeup.specs.Scene.{Turn, Parked, Registers, TakesBack, Asks, LaysOut}
 use Rattle.futures_buffered_lost_wakeup.specs.LostWake.{IsAtStart}
 use Rattle.futures_buffered_lost_wakeup.proofs.SceneLemmas.{errand_here, errand_stays}
@@ -30,12 +30,24 @@ IsThere TakesBack = Unit {0}
 IsThere Asks = ⊥
 IsThere LaysOut = Unit {0}
 
--- the place has the task's waker for a wake to come, or a wake has it
+-- the place has the task's waker for a wake to come, or a wake has it, or a source beside that lets
+-- it go
 abbrev pub HasWaker : Place → Type 0
 HasWaker Bare = ⊥
 HasWaker Keeps = Unit {0}
 HasWaker (WakeHas seat) = Unit {0}
 HasWaker PollerHas = ⊥
+HasWaker (BesideHas false) = ⊥
+HasWaker (BesideHas true) = Unit {0}
+
+-- a source beside is about to let the task's waker go
+abbrev pub LetsGo : Place → Type 0
+LetsGo Bare = ⊥
+LetsGo Keeps = ⊥
+LetsGo (WakeHas seat) = ⊥
+LetsGo PollerHas = ⊥
+LetsGo (BesideHas false) = ⊥
+LetsGo (BesideHas true) = Unit {0}
 
 abbrev pub SomeWakes : (ℕ → Errand) → Type 0
 SomeWakes errands = (seat : ℕ) × (errands seat ≡ Wakes)
@@ -63,7 +75,7 @@ abbrev pub OnItsWay : (ℕ → Errand) → Type 0
 OnItsWay errands = (seat : ℕ) × (errands seat ≢ Rests)
 
 abbrev pub Busy : Scene → Type 0
-Busy s = OnItsWay s.errands ⊎ SwapsIn s.list.views
+Busy s = OnItsWay s.errands ⊎ (SwapsIn s.list.views ⊎ LetsGo s.place)
 
 -- the row holds no slot, or some wake will come to the place
 abbrev pub Seen : (n : ℕ) (s : Scene) → IsReachable n s.list → Type 0
@@ -115,20 +127,22 @@ armed_else n s seat errand ne = by_turn s.turn
     by_turn Asks (inr a) = inr (once a)
     by_turn LaysOut a = tt
 
--- a task that sleeps though it is armed, with no waker at the place: some wake is on its way, and it is not this one
-pub way_by_another : (s : Scene) (seat : ℕ) → Holds s.place s.errands → s.errands seat ≢ Inside → s.errands seat ≢ Wakes → s.place ≢ Keeps → s.woken ≡ false → Armed s → OnItsWay (set_errand s.errands seat Rests)
+-- a task that sleeps though it is armed, with no waker at the place: some wake is on its way, and it is not this one; or a source beside lets the waker go
+pub way_by_another : (s : Scene) (seat : ℕ) → Holds s.place s.errands → s.errands seat ≢ Inside → s.errands seat ≢ Wakes → s.place ≢ Keeps → s.woken ≡ false → Armed s → Busy (with_errand s seat Rests)
 way_by_another s seat holder not_inside not_wakes bare asleep (inl woken) = let c : true ≡ false = sym woken ∙ asleep in absurd cc
 way_by_another s seat holder not_inside not_wakes bare asleep (inr (inl has)) = by_place s.place refl has
   where
-    by_place : (place : Place) → s.place ≡ place → HasWaker place → OnItsWay (set_errand s.errands seat Rests)
+    by_place : (place : Place) → s.place ≡ place → HasWaker place → Busy (with_errand s seat Rests)
     by_place Bare is has = absurd has
     by_place Keeps is has = absurd (bare is)
     by_place (WakeHas other) is has =
         let inside = errand_stays s.errands seat Rests other Inside not_inside (holder other is) in
-        (other, λ z. let c : Inside ≡ Rests = sym inside ∙ z in cc)
+        inl (other, λ z. let c : Inside ≡ Rests = sym inside ∙ z in cc)
     by_place PollerHas is has = absurd has
+    by_place (BesideHas false) is has = absurd has
+    by_place (BesideHas true) is has = inr (inr (subst LetsGo (sym is) tt))
 way_by_another s seat holder not_inside not_wakes bare asleep (inr (inr wakes)) =
-    way_of_wakes (set_errand s.errands seat Rests) (wakes_else s.errands seat Rests not_wakes wakes)
+    inl (way_of_wakes (set_errand s.errands seat Rests) (wakes_else s.errands seat Rests not_wakes wakes))
 
 -- one seat's errand changes, and nothing else
 pub errand_kept : (n : ℕ) (s : Scene) (kept : IsKept n s) (seat : ℕ) (errand : Errand) → s.errands seat ≢ Inside → s.errands seat ≢ Wakes

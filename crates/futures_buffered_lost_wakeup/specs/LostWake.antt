@@ -18,7 +18,7 @@ use Rattle.futures_buffered_table.specs.View.{role_of}
 use Rattle.futures_buffered_table.specs.Words.{mark}
 use Rattle.futures_buffered_lost_wakeup.specs.Scene.{Scene, at_first, with_errand}
 use Rattle.futures_buffered_lost_wakeup.specs.Scene.{Errand, Rests, Looks, Tries, Inside, Wakes}
-use Rattle.futures_buffered_lost_wakeup.specs.Scene.{Place, Bare, Keeps, WakeHas, PollerHas}
+use Rattle.futures_buffered_lost_wakeup.specs.Scene.{Place, Bare, Keeps, WakeHas, PollerHas, BesideHas}
 use Rattle.futures_buffered_lost_wakeup.specs.Scene.{Turn, Parked, Registers, TakesBack, Asks, LaysOut}
 
 -- the seat by which whoever holds the source marks slots itself, between polls
@@ -46,6 +46,12 @@ pub data Event : Type 0 where
   LayOut : Event
   -- or it loses the place to a wake that has come and gone: it wakes the task itself
   Misses : Event
+  -- a source beside this one goes to the place with a waker that it kept from an earlier poll
+  BesideGoes : Event
+  -- it leaves the place, and lets go the waker that it replaced, which wakes the task
+  BesidePuts : Event
+  -- or it loses the place, and wakes the task
+  BesideMisses : Event
   -- the poll ends with its task woken
   Stop : Event
 
@@ -64,6 +70,14 @@ IsAtStub _ = ⊥
 -- the seat is between two errands, and who holds the source does not poll meanwhile
 abbrev pub IsBetween : Scene → ℕ → Type 0
 IsBetween s seat = (s.errands seat ≡ Rests) × (seat ≡ owner_seat → s.turn ≡ Parked)
+
+-- this list's poller is not at the place, and does not register
+abbrev pub IsAway : Turn → Type 0
+IsAway Parked = Unit {0}
+IsAway Registers = ⊥
+IsAway TakesBack = ⊥
+IsAway Asks = Unit {0}
+IsAway LaysOut = ⊥
 
 -- who may step at the list: a wake that is not at the place, and the poller, which before it reads
 -- the tail at the stub has laid its waker out
@@ -84,6 +98,9 @@ CanDo n s KeepOwn = s.turn ≡ Registers
 CanDo n s Lacks = s.turn ≡ Registers
 CanDo n s LayOut = (s.turn ≡ Asks) × (s.own ≡ true)
 CanDo n s Misses = (s.turn ≡ Asks) × (s.own ≡ true)
+CanDo n s BesideGoes = IsAway s.turn
+CanDo n s BesidePuts = (before : Bool) × (s.place ≡ BesideHas before)
+CanDo n s BesideMisses = IsAway s.turn
 CanDo n s Stop = (s.turn ≡ Asks) × IsAtStart (poller_role s)
 
 -- a fresh wake goes to the place; one of whoever holds the source does not, since that task polls
@@ -106,6 +123,7 @@ is_kept Bare = false
 is_kept Keeps = true
 is_kept (WakeHas seat) = false
 is_kept PollerHas = false
+is_kept (BesideHas before) = false
 
 -- a wake takes the waker, or leaves the task to whoever has the place
 abbrev pub after_try : ℕ → Place → Scene → Scene
@@ -113,6 +131,7 @@ after_try seat Bare s = with_errand s seat Rests
 after_try seat Keeps s = record (with_errand s seat Inside) { place = WakeHas seat }
 after_try seat (WakeHas other) s = with_errand s seat Rests
 after_try seat PollerHas s = with_errand s seat Rests
+after_try seat (BesideHas before) s = with_errand s seat Rests
 
 abbrev pub after_errand : ℕ → Errand → Scene → Scene
 after_errand seat Rests s = s
@@ -135,6 +154,7 @@ go_back Bare s = s
 go_back Keeps s = record s { place = PollerHas; turn = TakesBack }
 go_back (WakeHas seat) s = s
 go_back PollerHas s = s
+go_back (BesideHas before) s = s
 
 -- the poller has the place for its waker, or has the task woken where a wake has it
 abbrev pub lay_out : Place → Scene → Scene
@@ -142,6 +162,24 @@ lay_out Bare s = record s { place = PollerHas; turn = LaysOut }
 lay_out Keeps s = record s { place = PollerHas; turn = LaysOut }
 lay_out (WakeHas seat) s = record s { own = false; woken = true }
 lay_out PollerHas s = record s { own = false; woken = true }
+lay_out (BesideHas before) s = record s { own = false; woken = true }
+
+-- a source beside this one has the place, or has the task woken where somebody else has it
+abbrev pub beside_goes : Place → Scene → Scene
+beside_goes Bare s = record s { place = BesideHas false }
+beside_goes Keeps s = record s { place = BesideHas true }
+beside_goes (WakeHas seat) s = record s { woken = true }
+beside_goes PollerHas s = record s { woken = true }
+beside_goes (BesideHas before) s = record s { woken = true }
+
+-- it leaves its waker there
+abbrev pub beside_puts : Place → Scene → Scene
+beside_puts Bare s = s
+beside_puts Keeps s = s
+beside_puts (WakeHas seat) s = s
+beside_puts PollerHas s = s
+beside_puts (BesideHas false) s = record s { place = Keeps }
+beside_puts (BesideHas true) s = record s { place = Keeps; woken = true }
 
 abbrev pub after : ℕ → Scene → Event → Scene
 after n s (InList step) =
@@ -156,6 +194,9 @@ after n s KeepOwn = record s { own = true; turn = Asks }
 after n s Lacks = record s { turn = Asks; woken = true }
 after n s LayOut = lay_out s.place s
 after n s Misses = record s { own = false; woken = true }
+after n s BesideGoes = beside_goes s.place s
+after n s BesidePuts = beside_puts s.place s
+after n s BesideMisses = record s { woken = true }
 after n s Stop = record s { turn = Parked; woken = true }
 
 -- each step can be made when its turn comes
@@ -173,8 +214,16 @@ abbrev pub AllRest : Scene → Type 0
 AllRest s = ((seat : ℕ) → s.errands seat ≡ Rests)
     × ((seat : ℕ) → seat < WAKE_SEATS → role_at (map role_of s.list.views) seat ≡ Idle)
 
+-- no source beside this one has the place
+abbrev pub NoneBeside : Place → Type 0
+NoneBeside Bare = Unit {0}
+NoneBeside Keeps = Unit {0}
+NoneBeside (WakeHas seat) = Unit {0}
+NoneBeside PollerHas = Unit {0}
+NoneBeside (BesideHas before) = ⊥
+
 -- where each wake has ended, no poll is under way and the task is not woken, no slot is marked
 abbrev pub NoWakeIsLost : Type 0
 NoWakeIsLost = (n : ℕ) (events : List Event) → Legal n (at_first n) events →
     let s = run n (at_first n) events in
-    AllRest s → s.turn ≡ Parked → s.woken ≡ false → (slot : ℕ) → slot < n → mark s.list.words slot ≡ 0
+    AllRest s → NoneBeside s.place → s.turn ≡ Parked → s.woken ≡ false → (slot : ℕ) → slot < n → mark s.list.words slot ≡ 0

@@ -26,6 +26,9 @@ pub data Place : Type 0 where
   WakeHas : ℕ → Place
   -- the poller has the place
   PollerHas : Place
+  -- a source beside this one has the place, for a waker of an earlier poll; and whether the task's
+  -- waker is kept there, which that one replaces
+  BesideHas : Bool → Place
 
 -- where the poller is
 pub data Turn : Type 0 where

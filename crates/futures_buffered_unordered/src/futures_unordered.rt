@@ -23,7 +23,7 @@ use crate::poll_one::PollOne;
 use futures::task::{Context, Poll};
 use futures_buffered_core::ready_core::{MAX_CAPACITY, NewFault};
 use futures_buffered_core::ready_shared::SharedReady;
-use futures_buffered_core::ready_source::NewSource;
+use futures_buffered_core::ready_source::{NewSource, ReadySource};
 use std::alloc::Global;
 use std::marker::Model;
 
@@ -66,14 +66,18 @@ impl<F: Drop, S: NewSource> Model for FuturesUnordered<F, S> {
         (record { listed = s.groups.items; place = s.place }) s.limit s.held };
 }
 
-// Drops the group at this place. A group ends once, so this is kept out of the way of a poll.
+// Drops the group at this place, which holds nothing. A group ends once, so this is kept out of the way of a poll.
 #[cold]
 #[inline(never)]
-fn drop_group<G: Drop>(groups: &mut Vec<G>, place: usize)
+fn drop_group<F: Drop, S: ReadySource>(
+    groups: &mut Vec<FuturesUnorderedBounded<F, S>>,
+    place: usize,
+)
     requires { place < length groups.old.items }
     ensures { groups.new.items ≡ take place groups.old.items ++ drop (place + 1) groups.old.items }
 {
-    let _ended = groups.remove(place);
+    let mut ended = groups.remove(place);
+    ended.let_source_go();
 }
 
 impl<F: Drop, S: NewSource> FuturesUnordered<F, S> {

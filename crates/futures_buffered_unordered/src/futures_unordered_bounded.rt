@@ -306,6 +306,13 @@ impl<F: Drop, S: ReadySource> FuturesUnorderedBounded<F, S> {
         self.slots.remove(i);
     }
 
+    // Tells the source that no slot holds anything.
+    pub(crate) fn let_source_go(&mut self)
+        ensures { self.new ≡ self.old }
+    {
+        self.source.let_all_go();
+    }
+
     /// Drops each future that is held, and what the source keeps for them. Each slot is free then, and slot 0 is the first to be used again.
     ///
     /// A slot that was marked stays marked, so a later poll may be given its name, and polls what it holds by then. Takes no memory, and time in proportion to the capacity, besides the drops. Wakes nobody itself; what is dropped may.
@@ -313,7 +320,7 @@ impl<F: Drop, S: ReadySource> FuturesUnorderedBounded<F, S> {
         ensures { self.new ≡ emptied self.old }
     {
         self.slots.clear();
-        self.source.let_all_go();
+        self.let_source_go();
     }
 
     /// One poll of the set, where `rule` says how one held value is polled.
