@@ -1,95 +1,166 @@
 -- What a push, a start and a poll leave of a queue of futures in flight.
-use Rattle.std.proofs.Common.{get_or, length-set, ◌≡◌, ◌+◌, ◌<◌, ℕ, List, [], ◌∷◌, ◌++◌, length, Option, Some, None, refl, sym, subst, ap, ap₂, ◌∙◌, ◌⊎◌, inl, inr, arith}
-use Rattle.std.specs.List.{AllByRecursion}
-use Rattle.std.proofs.lemmas.List.{get_or-set_same, get_or-set_other}
-use Rattle.std.proofs.lemmas.Bool.{cases_eq}
+use Rattle.std.proofs.Common.{get_or, length-set, set, ◌≡◌, ◌+◌, ◌<◌, ◌==◌, ℕ, Bool, cond, List, [], ◌∷◌, ◌++◌, length, count_by, IsSome, Option, Some, None, refl, sym, subst, ap, ap₂, ◌∙◌, ◌⊎◌, inl, inr, arith}
+use Rattle.std.specs.List.{AllByRecursion, sum_by}
+use Rattle.std.proofs.lemmas.List.{get_or-set_same, get_or-set_other, length_push}
+use Rattle.std.proofs.lemmas.List.Sums.{get_or-le-sum_by, sum_by-cons, sum_by-set, sum_by_push}
+use Rattle.std.proofs.lemmas.Bool.{cases_eq, eq-eqb}
 use Rattle.futures.specs.declared.task.Poll.{Poll}
 use Rattle.futures.specs.declared.task.Poll.TheVariants.{Ready, Pending}
-use Rattle.futures_buffered_core.specs.SlotMap.{Slots, value_in, held_count, slot_count}
-use Rattle.futures_buffered_in_flight.specs.InFlight.{FutureOf, Flights, AnySlotGives, KeyGives, CanPollAll, PushesAt, StaysAsItWas, Yields, RunsGiveNoMore}
-use Rattle.futures_buffered_in_flight.specs.InFlightQueue.{Queued, AnyOf, CanPollQueue, PollsQueued, PushesQueued, Starts, HoldsWithinRoom, queued_count}
+use Rattle.futures_buffered_core.specs.SlotMap.{Slots, value_in, held_count, slot_count, with_slot_freed, Inserts}
+use Rattle.futures_buffered_core.proofs.SlotMapLemmas.{value_within}
+use Rattle.futures_buffered_unordered.proofs.HeldGivesLemmas.{value_in-with_slot_freed, value_in-with_slot_freed_other, None-Some}
+use Rattle.futures_buffered_ordered.specs.Numbered.{CanPollFuture, one_at}
+use Rattle.futures_buffered_ordered.specs.declared.numbered.Numbered.{Numbered}
+use Rattle.futures_buffered_in_flight.specs.InFlight.{FutureOf, Flights, KeyGives, CanPollAll, PushesAt, StaysAsItWas, Yields, RunsGiveNoMore}
+use Rattle.futures_buffered_in_flight.specs.InFlightQueue.{Queued, AnyOf, AnyTaggedGives, NumberGives, CanPollQueue, PollsNumber, PollsQueued, PushesNumber, PushesQueued, Starts, HoldsWithinRoom, GivesHeld, QueueGivesNoMore, has_tag, numbered_with, queued_count, queued_with, tagged_with}
 use Rattle.futures_buffered_in_flight.specs.declared.in_flight.Came.{Came}
 use Rattle.futures_buffered_in_flight.specs.declared.in_flight.Place.{Place}
 use Rattle.futures_buffered_in_flight.specs.declared.run.Key.{Key}
-use Rattle.futures_buffered_in_flight.proofs.InFlightLemmas.{slots_within, slots_after}
+
+one_self : (i : ℕ) → one_at i i ≡ 1
+one_self i = ap (λ (b : Bool). cond b 1 0) (eq-eqb i i refl)
+
+-- how many slots have a tag, before and after a call
+module _ (i : ℕ) where
+  abbrev in_slot : Option Place → ℕ
+  in_slot o = cond (has_tag i o) 1 0
+
+  there : (m : Slots Place) (s : ℕ) (p : Place) → value_in m s ≡ Some p → s < length m.places
+  there m s p holds = value_within m.places s (subst IsSome (sym holds) refl)
+
+  pub tags_freed : (m : Slots Place) (s : ℕ) (p : Place) → value_in m s ≡ Some p → tagged_with i (with_slot_freed m s) + one_at i p.tag ≡ tagged_with i m
+  tags_freed m s p holds =
+      let step : sum_by in_slot (set m.places s None) + one_at i p.tag ≡ sum_by in_slot m.places + 0 = subst (λ (o : Option Place). sum_by in_slot (set m.places s None) + in_slot o ≡ sum_by in_slot m.places + 0) holds (sum_by-set in_slot m.places s None None (there m s p holds)) in
+      omega (arith, step)
+
+  pub tags_inserted : (old new : Slots Place) (s : ℕ) (p : Place) → Inserts old s p new → tagged_with i new ≡ tagged_with i old + one_at i p.tag
+  tags_inserted old new s p h =
+      let step : sum_by in_slot (set old.places s (Some p)) + 0 ≡ sum_by in_slot old.places + one_at i p.tag = subst (λ (o : Option Place). sum_by in_slot (set old.places s (Some p)) + in_slot o ≡ sum_by in_slot old.places + in_slot (Some p)) h.was_empty (sum_by-set in_slot old.places s (Some p) None h.within) in
+      ap (λ (ps : List (Option Place)). sum_by in_slot ps) h.now_held ∙ omega (arith, step)
+
+  tag_counts : (m : Slots Place) (s push : ℕ) → value_in m s ≡ Some (record { tag = i; push = push }) → 0 < tagged_with i m
+  tag_counts m s push holds =
+      let own : in_slot (get_or m.places s None) ≡ 1 = ap in_slot holds ∙ one_self i in
+      omega (arith, own, get_or-le-sum_by in_slot m.places s None (there m s _ holds))
+
+Some-same : {P : Type 0} {a b : P} → Some a ≡ Some b → a ≡ b
+Some-same e = cc
+
+module _ {F : Type 0} where
+  numbers_more : (i : ℕ) (fs : List (Numbered F)) (f : Numbered F) → numbered_with i (fs ++ f ∷ []) ≡ numbered_with i fs + one_at i f.number
+  numbers_more i fs f = sum_by_push (λ (f : Numbered F). cond (f.number == i) 1 0) fs f
+
+  numbers_first : (i : ℕ) (f : Numbered F) (fs : List (Numbered F)) → numbered_with i (f ∷ fs) ≡ one_at i f.number + numbered_with i fs
+  numbers_first i f fs = sum_by-cons (λ (f : Numbered F). cond (f.number == i) 1 0) f fs
 
 module _ {F A : Type 0} (future : FutureOf F A) where
-  any_push : (fs : List F) (f : F) (x : A) → AnyOf future (fs ++ f ∷ []) x → AnyOf future fs x ⊎ future.gives f x
-  any_push [] f x (inl h) = inr h
-  any_push [] f x (inr h) = absurd h
-  any_push (g ∷ fs) f x (inl h) = inl (inl h)
-  any_push (g ∷ fs) f x (inr h) = elim (any_push fs f x h) [ inl k ↦ inl (inr k) | inr k ↦ inr k ]
+  any_push : (fs : List (Numbered F)) (f : Numbered F) (out : ℕ × A) → AnyOf future (fs ++ f ∷ []) out → AnyOf future fs out ⊎ ((out.0 ≡ f.number) × future.gives f.future out.1)
+  any_push [] f out (inl h) = inr h
+  any_push [] f out (inr h) = absurd h
+  any_push (g ∷ fs) f out (inl h) = inl (inl h)
+  any_push (g ∷ fs) f out (inr h) = elim (any_push fs f out h) [ inl k ↦ inl (inr k) | inr k ↦ inr k ]
 
-  push_all : (fs : List F) (f : F) → AllByRecursion future.can_poll fs → future.can_poll f → AllByRecursion future.can_poll (fs ++ f ∷ [])
+  push_all : (fs : List (Numbered F)) (f : Numbered F) → AllByRecursion (CanPollFuture future.can_poll) fs → future.can_poll f.future → AllByRecursion (CanPollFuture future.can_poll) (fs ++ f ∷ [])
   push_all [] f all fit = (fit, tt)
   push_all (g ∷ fs) f all fit = (all.0, push_all fs f all.1 fit)
 
-  longer : (fs : List F) (f : F) → length (fs ++ f ∷ []) ≡ length fs + 1
-  longer [] f = omega arith
-  longer (g ∷ fs) f = omega (arith, longer fs f)
+  -- where a future may give an output with a number, one is held with it
+  waiting_counts : (fs : List (Numbered F)) (out : ℕ × A) → AnyOf future fs out → 0 < numbered_with out.0 fs
+  waiting_counts [] out h = absurd h
+  waiting_counts (f ∷ fs) out (inl own) =
+      let one : one_at out.0 f.number ≡ 1 = subst (λ n. one_at out.0 n ≡ 1) own.0 (one_self out.0) in
+      omega (arith, numbers_first out.0 f fs, one)
+  waiting_counts (f ∷ fs) out (inr h) = omega (arith, numbers_first out.0 f fs, waiting_counts fs out h)
 
-  Some-same : {P : Type 0} {a b : P} → Some a ≡ Some b → a ≡ b
-  Some-same e = cc
+  pub number_counts : (q : Queued F) (out : ℕ × A) → NumberGives future q out → 0 < queued_with out.0 q
+  number_counts q out (inl h) = omega (arith, waiting_counts q.waiting out h)
+  number_counts q out (inr h) = omega (arith, tag_counts out.0 q.set.slots h.0 h.1 h.2)
 
-  -- what a slot may give after a push, it might before, or the future that was pushed may
-  slot_or_pushed : (old new : Flights F) (f : F) (tag : ℕ) (key : Key) → PushesAt future old f tag key new → (x : A) → AnySlotGives future new x → AnySlotGives future old x ⊎ future.gives f x
-  slot_or_pushed old new f tag key p x h =
+  -- what may come under a tag after a call, might before
+  tags_within : (old new : Flights F) → new.slots ≡ old.slots → RunsGiveNoMore future old new → (out : ℕ × A) → AnyTaggedGives future new out → AnyTaggedGives future old out
+  tags_within old new same narrows out h = (h.0, h.1, subst (λ s. value_in s h.0 ≡ Some (record { tag = out.0; push = h.1 })) same h.2, narrows (record { slot = h.0; push = h.1 }, Some out.1) h.3)
+
+  tags_after : (old new : Flights F) (slot : ℕ) → new.slots ≡ with_slot_freed old.slots slot → RunsGiveNoMore future old new → (out : ℕ × A) → AnyTaggedGives future new out → AnyTaggedGives future old out
+  tags_after old new slot same narrows out h =
+      let holds = subst (λ s. value_in s h.0 ≡ Some (record { tag = out.0; push = h.1 })) same h.2 in
+      elim (cases_eq h.0 slot) [
+        | inl at ↦ absurd (None-Some (sym (value_in-with_slot_freed old.slots slot) ∙ subst (λ i. value_in (with_slot_freed old.slots slot) i ≡ Some (record { tag = out.0; push = h.1 })) at holds))
+        | inr other ↦ (h.0, h.1, sym (value_in-with_slot_freed_other old.slots slot h.0 other) ∙ holds, narrows (record { slot = h.0; push = h.1 }, Some out.1) h.3)
+      ]
+
+  -- or the future that was pushed may give it, under its tag
+  tag_or_pushed : (old new : Flights F) (f : F) (tag : ℕ) (key : Key) → PushesAt future old f tag key new → (out : ℕ × A) → AnyTaggedGives future new out → AnyTaggedGives future old out ⊎ ((out.0 ≡ tag) × future.gives f out.1)
+  tag_or_pushed old new f tag key p out h =
       elim (cases_eq h.0 key.slot) [
-        | inl same ↦ inr (p.own x (subst (λ (k : Key). KeyGives future new k x) (at_key same) h.1.2))
-        | inr other ↦ elim (p.others _ h.1.2) [
-          | inl was ↦ inl (h.0, (h.1.0, sym (get_or-set_other old.slots.places key.slot h.0 _ None other) ∙ (sym (ap (λ ps. get_or ps h.0 None) p.went_in.now_held) ∙ h.1.1), was))
-          | inr own ↦ inr own.1
+        | inl same ↦
+            let is : record { tag = out.0; push = h.1 } ≡ record { tag = tag; push = key.push } = Some-same (sym h.2 ∙ (ap (λ i. value_in new.slots i) same ∙ holds)) in
+            let at_key : record { slot = h.0; push = h.1 } ≡ key = ap₂ (λ (slot push : ℕ). record { slot = slot; push = push }) same (ap (λ (place : Place). place.push) is) in
+            inr (ap (λ (place : Place). place.tag) is, p.own out.1 (subst (λ (k : Key). KeyGives future new k out.1) at_key h.3))
+        | inr other ↦ elim (p.others _ h.3) [
+          | inl was ↦ inl (h.0, h.1, sym (get_or-set_other old.slots.places key.slot h.0 _ None other) ∙ (sym (ap (λ ps. get_or ps h.0 None) p.went_in.now_held) ∙ h.2), was)
+          | inr own ↦ absurd (other (ap (λ (k : Key). k.slot) own.0))
         ]
       ]
     where
       holds : value_in new.slots key.slot ≡ Some (record { tag = tag; push = key.push })
       holds = ap (λ ps. get_or ps key.slot None) p.went_in.now_held ∙ get_or-set_same old.slots.places key.slot (Some (record { tag = tag; push = key.push })) None p.went_in.within
 
-      at_key : h.0 ≡ key.slot → record { slot = h.0; push = h.1.0.push } ≡ key
-      at_key same =
-          let place : h.1.0 ≡ record { tag = tag; push = key.push } = Some-same (sym h.1.1 ∙ (ap (λ i. value_in new.slots i) same ∙ holds)) in
-          ap₂ (λ (slot push : ℕ). record { slot = slot; push = push }) same (ap (λ (p : Place). p.push) place)
+  still_waiting : (old new : Queued F) → CanPollQueue future old → new.waiting ≡ old.waiting → AllByRecursion (CanPollFuture future.can_poll) new.waiting
+  still_waiting old new can same = subst (λ fs. AllByRecursion (CanPollFuture future.can_poll) fs) (sym same) can.waiting
 
   -- the future went into flight
-  pub flies : (old new : Queued F) (f : F) (key : Key) → CanPollQueue future old → new.waiting ≡ old.waiting → PushesAt future old.set f 0 key new.set → CanPollAll future new.set → PushesQueued future old f new
-  flies old new f key can same p again =
+  pub flies : (old new : Queued F) (f : F) (number : ℕ) (key : Key) → CanPollQueue future old → new.waiting ≡ old.waiting → PushesAt future old.set f number key new.set → CanPollAll future new.set → PushesNumber future old f number new
+  flies old new f number key can same p again =
       record {
         one_more = omega (arith, p.one_more, ap length same);
-        gives = λ x h. elim h [
+        numbers = λ i. omega (arith, ap (λ fs. numbered_with i fs) same, tags_inserted i old.set.slots new.set.slots key.slot _ p.went_in);
+        gives = λ out h. elim h [
           | inl waits ↦ inl (inl (rw same at waits))
-          | inr runs ↦ elim (slot_or_pushed old.set new.set f 0 key p x runs) [ inl was ↦ inl (inr was) | inr own ↦ inr own ]
+          | inr runs ↦ elim (tag_or_pushed old.set new.set f number key p out runs) [ inl was ↦ inl (inr was) | inr own ↦ inr own ]
         ];
         same_room = ap length p.went_in.now_held ∙ length-set old.set.slots.places key.slot _;
-        again = record { flying = again; waiting = subst (λ fs. AllByRecursion future.can_poll fs) (sym same) can.waiting };
+        again = record { flying = again; waiting = still_waiting old new can same };
       }
 
   -- the future waits for memory
-  pub left_waiting : (old new : Queued F) (f : F) → CanPollQueue future old → future.can_poll f → new.waiting ≡ old.waiting ++ f ∷ [] → StaysAsItWas future old.set new.set → CanPollAll future new.set → PushesQueued future old f new
+  pub left_waiting : (old new : Queued F) (f : Numbered F) → CanPollQueue future old → future.can_poll f.future → new.waiting ≡ old.waiting ++ f ∷ [] → StaysAsItWas future old.set new.set → CanPollAll future new.set → PushesNumber future old f.future f.number new
   left_waiting old new f can fit is stays again =
       record {
-        one_more = omega (arith, ap length is, longer old.waiting f, ap held_count stays.slots);
-        gives = λ x h. elim h [
-          | inl waits ↦ elim (any_push old.waiting f x (rw is at waits)) [ inl was ↦ inl (inl was) | inr own ↦ inr own ]
-          | inr runs ↦ inl (inr (slots_within future old.set new.set stays.slots stays.narrows x runs))
+        one_more = omega (arith, ap length is, length_push old.waiting f, ap held_count stays.slots);
+        numbers = λ i. omega (arith, ap (λ fs. numbered_with i fs) is, numbers_more i old.waiting f, ap (λ slots. tagged_with i slots) stays.slots);
+        gives = λ out h. elim h [
+          | inl waits ↦ elim (any_push old.waiting f out (rw is at waits)) [ inl was ↦ inl (inl was) | inr own ↦ inr own ]
+          | inr runs ↦ inl (inr (tags_within old.set new.set stays.slots stays.narrows out runs))
         ];
         same_room = ap slot_count stays.slots;
-        again = record { flying = again; waiting = subst (λ fs. AllByRecursion future.can_poll fs) (sym is) (push_all old.waiting f can.waiting fit) };
+        again = record { flying = again; waiting = subst (λ fs. AllByRecursion (CanPollFuture future.can_poll) fs) (sym is) (push_all old.waiting f can.waiting fit) };
+      }
+
+  -- a push of which the number is not told
+  pub pushed_any : (old new : Queued F) (f : F) (number : ℕ) → PushesNumber future old f number new → PushesQueued future old f new
+  pushed_any old new f number p =
+      record {
+        one_more = p.one_more;
+        gives = λ x h. elim (p.gives (h.0, x) h.1) [ inl was ↦ inl (h.0, was) | inr own ↦ inr own.1 ];
+        same_room = p.same_room;
+        again = p.again;
       }
 
   pub starts_none : (q : Queued F) → CanPollQueue future q → Starts future q q
-  starts_none q can = record { same_count = refl; narrows = λ x h. h; same_room = refl; again = can }
+  starts_none q can = record { same_count = refl; numbers = λ i. refl; narrows = λ out h. h; same_room = refl; again = can }
 
   pub starts_on : (a b c : Queued F) → Starts future a b → Starts future b c → Starts future a c
-  starts_on a b c p q = record { same_count = q.same_count ∙ p.same_count; narrows = λ x h. p.narrows x (q.narrows x h); same_room = q.same_room ∙ p.same_room; again = q.again }
+  starts_on a b c p q = record { same_count = q.same_count ∙ p.same_count; numbers = λ i. q.numbers i ∙ p.numbers i; narrows = λ out h. p.narrows out (q.narrows out h); same_room = q.same_room ∙ p.same_room; again = q.again }
 
   -- the one that waited longest went into flight
-  pub started : (old new : Queued F) (f : F) (key : Key) → CanPollQueue future old → old.waiting ≡ f ∷ new.waiting → PushesAt future old.set f 0 key new.set → CanPollAll future new.set → Starts future old new
+  pub started : (old new : Queued F) (f : Numbered F) (key : Key) → CanPollQueue future old → old.waiting ≡ f ∷ new.waiting → PushesAt future old.set f.future f.number key new.set → CanPollAll future new.set → Starts future old new
   started old new f key can is p again =
       record {
         same_count = omega (arith, p.one_more, ap length is);
-        narrows = λ x h. subst (λ fs. AnyOf future fs x ⊎ AnySlotGives future old.set x) (sym is) (elim h [
+        numbers = λ i. omega (arith, ap (λ fs. numbered_with i fs) is, numbers_first i f new.waiting, tags_inserted i old.set.slots new.set.slots key.slot _ p.went_in);
+        narrows = λ out h. subst (λ fs. AnyOf future fs out ⊎ AnyTaggedGives future old.set out) (sym is) (elim h [
           | inl waits ↦ inl (inr waits)
-          | inr runs ↦ elim (slot_or_pushed old.set new.set f 0 key p x runs) [ inl was ↦ inr was | inr own ↦ inl (inl own) ]
+          | inr runs ↦ elim (tag_or_pushed old.set new.set f.future f.number key p out runs) [ inl was ↦ inr was | inr own ↦ inl (inl own) ]
         ]);
         same_room = ap length p.went_in.now_held ∙ length-set old.set.slots.places key.slot _;
         again = record { flying = again; waiting = (rw is at can.waiting).1 };
@@ -100,47 +171,51 @@ module _ {F A : Type 0} (future : FutureOf F A) where
   put_back old new can same stays again =
       record {
         same_count = omega (arith, ap length same, ap held_count stays.slots);
-        narrows = λ x h. elim h [
+        numbers = λ i. omega (arith, ap (λ fs. numbered_with i fs) same, ap (λ slots. tagged_with i slots) stays.slots);
+        narrows = λ out h. elim h [
           | inl waits ↦ inl (rw same at waits)
-          | inr runs ↦ inr (slots_within future old.set new.set stays.slots stays.narrows x runs)
+          | inr runs ↦ inr (tags_within old.set new.set stays.slots stays.narrows out runs)
         ];
         same_room = ap slot_count stays.slots;
-        again = record { flying = again; waiting = subst (λ fs. AllByRecursion future.can_poll fs) (sym same) can.waiting };
+        again = record { flying = again; waiting = still_waiting old new can same };
       }
 
   -- an output came of the set
   pub polled_output : (old new : Queued F) (came : Came A) → CanPollQueue future old → new.waiting ≡ old.waiting → Yields future old.set came new.set → RunsGiveNoMore future old.set new.set → CanPollAll future new.set
-      → PollsQueued future old (Ready (Some came.output)) new
+      → PollsNumber future old (Ready (Some (came.tag, came.output))) new
   polled_output old new came can same y narrows again =
       record {
-        gave = (inr (came.key.slot, (record { tag = came.tag; push = came.key.push }, y.was_held, y.gave)), omega (arith, y.fewer, ap length same));
-        narrows = λ x h. elim h [
+        gave = (inr (came.key.slot, came.key.push, y.was_held, y.gave), omega (arith, y.fewer, ap length same));
+        numbers = λ i. omega (arith, ap (λ fs. numbered_with i fs) same, ap (λ slots. tagged_with i slots) y.freed, tags_freed i old.set.slots came.key.slot _ y.was_held);
+        narrows = λ out h. elim h [
           | inl waits ↦ inl (rw same at waits)
-          | inr runs ↦ inr (slots_after future old.set new.set came.key.slot y.freed narrows x runs)
+          | inr runs ↦ inr (tags_after old.set new.set came.key.slot y.freed narrows out runs)
         ];
         same_room = ap (λ (s : Slots Place). length s.places) y.freed ∙ length-set old.set.slots.places came.key.slot None;
-        again = record { flying = again; waiting = subst (λ fs. AllByRecursion future.can_poll fs) (sym same) can.waiting };
+        again = record { flying = again; waiting = still_waiting old new can same };
       }
 
   -- no output came of the set
   pub polled_none : (old new : Queued F) → 0 < length old.waiting + held_count old.set.slots → CanPollQueue future old → new.waiting ≡ old.waiting → new.set.slots ≡ old.set.slots → RunsGiveNoMore future old.set new.set → CanPollAll future new.set
-      → PollsQueued future old Pending new
+      → PollsNumber future old Pending new
   polled_none old new some can same slots narrows again =
       let left = put_back old new can same (record { slots = slots; narrows = narrows }) again in
-      record { gave = (some, left.same_count); narrows = left.narrows; same_room = left.same_room; again = left.again }
+      record { gave = (some, left.same_count); numbers = λ i. let e = left.numbers i in omega (arith, e); narrows = left.narrows; same_room = left.same_room; again = left.again }
 
   -- a poll of what the starts left
-  pub starts_then : (old mid new : Queued F) (answer : Poll (Option A)) → 0 < queued_count old → Starts future old mid → PollsQueued future mid answer new → PollsQueued future old answer new
-  starts_then old mid new (Ready None) some s p = absurd (let k = p.gave.0 in let e = s.same_count in omega (arith, k, e, some))
-  starts_then old mid new (Ready (Some x)) some s p =
-      record { gave = (s.narrows x p.gave.0, p.gave.1 ∙ s.same_count); narrows = λ y h. s.narrows y (p.narrows y h); same_room = p.same_room ∙ s.same_room; again = p.again }
-  starts_then old mid new Pending some s p =
-      record { gave = (some, p.gave.1 ∙ s.same_count); narrows = λ y h. s.narrows y (p.narrows y h); same_room = p.same_room ∙ s.same_room; again = p.again }
+  pub starts_then : (old mid new : Queued F) (answer : Poll (Option (ℕ × A))) → 0 < queued_count old → Starts future old mid → PollsNumber future mid answer new → PollsNumber future old answer new
+  starts_then old mid new answer some s p =
+      record { gave = gave answer p.gave; numbers = λ i. p.numbers i ∙ s.numbers i; narrows = λ out h. s.narrows out (p.narrows out h); same_room = p.same_room ∙ s.same_room; again = p.again }
+    where
+      gave : (answer : Poll (Option (ℕ × A))) → GivesHeld (NumberGives future) mid answer new → GivesHeld (NumberGives future) old answer new
+      gave (Ready None) g = absurd (let k = g.0 in let e = s.same_count in omega (arith, k, e, some))
+      gave (Ready (Some out)) g = (s.narrows out g.0, g.1 ∙ s.same_count)
+      gave Pending g = (some, g.1 ∙ s.same_count)
 
   -- a poll leaves no more than there is room for
-  pub within_room : (old new : Queued F) (answer : Poll (Option A)) → HoldsWithinRoom old → PollsQueued future old answer new → HoldsWithinRoom new
+  pub within_room : (old new : Queued F) (answer : Poll (Option (ℕ × A))) → HoldsWithinRoom old → PollsNumber future old answer new → HoldsWithinRoom new
   within_room old new (Ready None) within p = subst HoldsWithinRoom (sym p.gave.1) within
-  within_room old new (Ready (Some x)) within p =
+  within_room old new (Ready (Some out)) within p =
       let same = p.same_room in
       let fewer = p.gave.1 in
       (omega (arith, within.0, same), omega (arith, within.1, same, fewer))
@@ -148,3 +223,16 @@ module _ {F A : Type 0} (future : FutureOf F A) where
       let same = p.same_room in
       let count = p.gave.1 in
       (omega (arith, within.0, same), omega (arith, within.1, same, count))
+
+  narrows_any : (old new : Queued F) (answer : Poll (Option (ℕ × A))) → PollsNumber future old answer new → QueueGivesNoMore future old new
+  narrows_any old new answer p x h = (h.0, p.narrows (h.0, x) h.1)
+
+  -- a poll of which the number is not told
+  pub polled_any : (old new : Queued F) (out : ℕ × A) → PollsNumber future old (Ready (Some out)) new → PollsQueued future old (Ready (Some out.1)) new
+  polled_any old new out p = record { gave = ((out.0, p.gave.0), p.gave.1); narrows = narrows_any old new (Ready (Some out)) p; same_room = p.same_room; again = p.again }
+
+  pub ended_any : (old new : Queued F) → PollsNumber future old (Ready None) new → PollsQueued future old (Ready None) new
+  ended_any old new p = record { gave = p.gave; narrows = narrows_any old new (Ready None) p; same_room = p.same_room; again = p.again }
+
+  pub pending_any : (old new : Queued F) → PollsNumber future old Pending new → PollsQueued future old Pending new
+  pending_any old new p = record { gave = p.gave; narrows = narrows_any old new Pending p; same_room = p.same_room; again = p.again }

@@ -1,3 +1,4 @@
 pub mod InFlightLemmas
 pub mod InFlightQueueLemmas
+pub mod InFlightOrderedLemmas
 pub mod WaitingLemmas

@@ -1,2 +1,3 @@
 pub mod InFlight
 pub mod InFlightQueue
+pub mod InFlightOrdered

@@ -3,12 +3,13 @@ ghost use Rattle.std.specs.Prelude.{◌≡◌, ◌<◌, ◌≤◌, ◌+◌, ◌�
 ghost use Rattle.futures.specs.Poll.{OnPending};
 ghost use Rattle.futures.specs.Task.{Covers, Keeps};
 ghost use Rattle.futures_buffered_core.specs.Made.{MakesSlots};
-ghost use Rattle.futures_buffered_in_flight.specs.InFlightQueue.{CanPollQueue, HoldsWithinRoom, IsNewQueued, PollsQueued, PollsQueuedTask, PushesQueued, Starts, queued_count, queued_room};
+ghost use Rattle.futures_buffered_in_flight.specs.InFlightQueue.{CanPollQueue, HoldsWithinRoom, IsNewQueued, PollsNumber, PollsQueued, PollsQueuedTask, PushesNumber, PushesQueued, Starts, queued_count, queued_room};
 
 use crate::in_flight::InFlight;
 use futures::Future;
 use futures::task::{Context, Poll};
 use futures_buffered_core::ready_core::NewFault;
+use futures_buffered_ordered::numbered::Numbered;
 use std::alloc::Global;
 use std::collections::VecDeque;
 use std::marker::Model;
@@ -18,8 +19,9 @@ use std::marker::Model;
 /// A push takes each future where there is room. One for which memory is refused waits in a place that was made with the queue, is held like the others, and goes into flight at the next poll for which there is memory. These places are written to at no other time.
 #[derive(Drop)]
 pub struct InFlightQueue<F> {
+    // Each future has its number as its tag.
     set: InFlight<F>,
-    waiting: VecDeque<F>,
+    waiting: VecDeque<Numbered<F>>,
 }
 
 impl<F> Model for InFlightQueue<F> {
@@ -76,15 +78,27 @@ impl<F: Future<Output: Drop>> InFlightQueue<F> {
     }
 
     /// Adds the future, so that a later poll polls it. Takes the memory that the kit's set takes for a future, and does without where that is refused.
-    #[tactic(auto, using(crate::proofs::InFlightQueueLemmas::flies, crate::proofs::InFlightQueueLemmas::left_waiting))]
+    #[tactic(auto, using(crate::proofs::InFlightQueueLemmas::pushed_any))]
     pub fn push(&mut self, future: F)
         requires room { queued_count self.old < queued_room self.old }
         requires held { CanPollQueue F.Future self.old }
         requires fit { F.can_poll future }
         ensures { PushesQueued F.Future self.old future self.new }
     {
-        if let Err(future) = self.set.try_push(future) {
-            self.waiting.push_back_reserved(future);
+        self.push_with_number(Numbered { future, number: 0 });
+    }
+
+    /// As `push`, of a future with a number, which comes with its output. Numbers need not differ.
+    #[tactic(auto, using(crate::proofs::InFlightQueueLemmas::flies, crate::proofs::InFlightQueueLemmas::left_waiting))]
+    pub fn push_with_number(&mut self, value: Numbered<F>)
+        requires room { queued_count self.old < queued_room self.old }
+        requires held { CanPollQueue F.Future self.old }
+        requires fit { F.can_poll value.future }
+        ensures { PushesNumber F.Future self.old value.future value.number self.new }
+    {
+        let Numbered { future, number } = value;
+        if let Err(future) = self.set.try_push_tagged(future, number) {
+            self.waiting.push_back_reserved(Numbered { future, number });
         }
     }
 
@@ -94,13 +108,14 @@ impl<F: Future<Output: Drop>> InFlightQueue<F> {
         requires { CanPollQueue F.Future self.old }
         ensures { Starts F.Future self.old self.new }
     {
-        let Some(future) = self.waiting.pop_front() else {
+        let Some(Numbered { future, number }) = self.waiting.pop_front() else {
             return false;
         };
-        match self.set.try_push(future) {
+        match self.set.try_push_tagged(future, number) {
             Ok(_) => true,
             Err(future) => {
-                self.waiting.push_front_reserved(future);
+                self.waiting
+                    .push_front_reserved(Numbered { future, number });
                 false
             }
         }
@@ -130,28 +145,26 @@ impl<F: Future<Output: Drop>> InFlightQueue<F> {
 
     // One poll of the set, of a queue that holds some.
     #[tactic(auto, using(crate::proofs::InFlightQueueLemmas::polled_output, crate::proofs::InFlightQueueLemmas::polled_none))]
-    fn poll_flying(&mut self, cx: &mut Context<'_>) -> Poll<Option<F::Output>>
+    fn poll_flying(&mut self, cx: &mut Context<'_>) -> Poll<Option<(usize, F::Output)>>
         requires held { CanPollQueue F.Future self.old }
         requires some { 0 < queued_count self.old }
-        ensures polled { PollsQueued F.Future self.old result self.new }
+        ensures polled { PollsNumber F.Future self.old result self.new }
         ensures task { PollsQueuedTask result self.new cx.old cx.new }
     {
         match self.set.poll_next_keyed(cx) {
             Poll::Pending => return Poll::Pending,
-            Poll::Ready(Some(came)) => return Poll::Ready(Some(came.output)),
+            Poll::Ready(Some(came)) => return Poll::Ready(Some((came.tag, came.output))),
             // All of them are waiting for memory.
             Poll::Ready(None) => {}
         }
         cx.yield_now()
     }
 
-    /// One poll: an output of one of the futures, or the end, exactly where nothing is held.
-    ///
-    /// Futures that wait for memory go into flight first. Where memory is still refused the task is woken at once.
+    /// As `poll_output`, where an output comes with the number of its future.
     #[tactic(auto, using(crate::proofs::InFlightQueueLemmas::starts_then, crate::proofs::InFlightQueueLemmas::within_room))]
-    pub fn poll_output(&mut self, cx: &mut Context<'_>) -> Poll<Option<F::Output>>
+    pub fn poll_with_number(&mut self, cx: &mut Context<'_>) -> Poll<Option<(usize, F::Output)>>
         requires { CanPollQueue F.Future self.old }
-        ensures polled { PollsQueued F.Future self.old result self.new }
+        ensures polled { PollsNumber F.Future self.old result self.new }
         ensures task { PollsQueuedTask result self.new cx.old cx.new }
         ensures bound { HoldsWithinRoom self.new }
     {
@@ -161,5 +174,22 @@ impl<F: Future<Output: Drop>> InFlightQueue<F> {
         self.start_all();
         self.ask_again(cx);
         self.poll_flying(cx)
+    }
+
+    /// One poll: an output of one of the futures, or the end, exactly where nothing is held.
+    ///
+    /// Futures that wait for memory go into flight first. Where memory is still refused the task is woken at once.
+    #[tactic(auto, using(crate::proofs::InFlightQueueLemmas::polled_any, crate::proofs::InFlightQueueLemmas::ended_any, crate::proofs::InFlightQueueLemmas::pending_any))]
+    pub fn poll_output(&mut self, cx: &mut Context<'_>) -> Poll<Option<F::Output>>
+        requires { CanPollQueue F.Future self.old }
+        ensures polled { PollsQueued F.Future self.old result self.new }
+        ensures task { PollsQueuedTask result self.new cx.old cx.new }
+        ensures bound { HoldsWithinRoom self.new }
+    {
+        match self.poll_with_number(cx) {
+            Poll::Pending => Poll::Pending,
+            Poll::Ready(None) => Poll::Ready(None),
+            Poll::Ready(Some((_, output))) => Poll::Ready(Some(output)),
+        }
     }
 }

@@ -6,15 +6,18 @@
 //! - `in_flight`: `InFlight`, at most n futures, told apart by their keys, each of which can be cancelled; `in_flight_stream` is the same set as a stream.
 //! - `waiting`: `Waiting`, which holds a set while a task waits for its next output, and gives it back.
 //! - `in_flight_queue`: `InFlightQueue`, the set as what an adaptor holds: a push never hands a future back.
+//! - `in_flight_ordered`: `InFlightOrdered`, the same with the outputs in the order of the pushes.
 #![tactic(auto)]
 
 pub mod in_flight;
+pub mod in_flight_ordered;
 pub mod in_flight_queue;
 mod in_flight_stream;
 pub mod run;
 pub mod waiting;
 
 pub use in_flight::{Came, InFlight};
+pub use in_flight_ordered::InFlightOrdered;
 pub use in_flight_queue::InFlightQueue;
 pub use run::Key;
 pub use waiting::Waiting;

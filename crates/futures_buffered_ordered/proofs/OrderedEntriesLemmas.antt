@@ -1,5 +1,5 @@
 -- What the calls of an ordered queue add, and what its polls may still give.
-use Rattle.std.proofs.Common.{◌≡◌, ℕ, ◌+◌, List, [], ◌∷◌, ◌++◌, ◌∙◌, ap, length, set, Option, Some, None, MatchOption, IfSome, refl, sym, subst, zero, suc}
+use Rattle.std.proofs.Common.{◌≡◌, ◌⊎◌, ℕ, ◌+◌, ◌≤◌, List, [], ◌∷◌, ◌++◌, ◌∙◌, ap, arith, count_by, inl, inr, length, length-set, set, true, Option, Some, None, MatchOption, IfSome, IfNone, OnSome, refl, sym, subst, zero, suc}
 use Rattle.std.specs.List.{FoldsTo, slice_get}
 use Rattle.std.proofs.lemmas.Fn.{FoldsTo-push}
 use Rattle.std.proofs.lemmas.List.{length_push}
@@ -7,10 +7,11 @@ use Rattle.futures.specs.declared.task.context.Context.{Context}
 use Rattle.futures.specs.declared.task.Poll.{Poll}
 use Rattle.futures.specs.declared.task.Poll.TheVariants.{Ready, Pending}
 use Rattle.futures.specs.Poll.{IfReady, OnPending}
-use Rattle.futures.specs.Runs.{After, Within}
-use Rattle.futures_buffered_ordered.specs.OrderedEntries.{Ordered, AddsBack, AddsEachBack, SetYields, LastStep, OrderedGives, GivesWithTask, with_task, InTurn, EntryGives, ComesInOrder}
+use Rattle.futures.specs.Runs.{Runs, After, Within, Chains, Leads, Ends}
+use Rattle.futures_buffered_ordered.specs.OrderedEntries.{Ordered, AddsBack, AddsEachBack, SetYields, LastStep, OrderedGives, GivesWithTask, with_task, InTurn, EntryGives, ComesInOrder, IsUnused, runs_with, starts_running}
 use Rattle.futures_buffered_ordered.specs.declared.ordered_entries.Entry.{Entry}
 use Rattle.futures_buffered_ordered.specs.declared.ordered_entries.Entry.TheVariants.{Running, Kept}
+use Rattle.futures_buffered_ordered.proofs.OrderedEntriesInvariantLemmas.{entry_with}
 
 -- one item more was added at the back
 pub adds_one_more : {F Q A : Type 0} (pushes : Q → F → ℕ → Q → Type 0) (old mid new : Ordered Q A) (items : List F) (item : F) → AddsEachBack pushes old items mid → AddsBack pushes mid item new → AddsEachBack pushes old (items ++ item ∷ []) new
@@ -123,3 +124,91 @@ module _ {Q A : Type 0} (gives : Q → Poll (Option (ℕ × A)) → Q → Type 0
         (InTurn-Within before after h.before.entries h.before.entries
         (Narrows-all before after h.before.entries (entry_less h.before.set new.set Pending h.last_step.1))
         xs last (subst (λ (l : List (Entry A)). InTurn after l xs last) h.last_step.2 k))
+
+no_start : {A : Type 0} (es : List (Entry A)) → length es ≡ 0 → starts_running es ≡ true → ⊥
+no_start [] none runs = cc
+no_start (e ∷ es) none runs = omega (arith, none)
+
+-- how many entries a poll leaves
+module _ {Q A : Type 0} (gives : Q → Poll (Option (ℕ × A)) → Q → Type 0) (count : Q → ℕ) (old new : Ordered Q A) where
+  row_len : (row : List (ℕ × A)) (from before : Ordered Q A) → FoldsTo (SetYields gives) from row before → length before.entries ≡ length from.entries
+  row_len [] from before h = ap (λ (q : Ordered Q A). length q.entries) (sym h)
+  row_len (out ∷ row) from before h =
+      row_len row h.0 before h.2 ∙ (ap (λ (l : List (Entry A)). length l) h.1.entries ∙ length-set from.entries h.1.at (Kept out.1))
+
+  -- a poll that finds none changes nothing
+  none_left : OrderedGives gives count old (Ready None) new → (length old.entries ≡ 0) × (new ≡ old)
+  none_left h = (none, by_row h.yielded h.row)
+    where
+      none : length old.entries ≡ 0
+      none = sym (row_len h.yielded old h.before h.row) ∙ ap (λ (l : List (Entry A)). length l) h.last_step.0
+
+      by_row : (row : List (ℕ × A)) → FoldsTo (SetYields gives) old row h.before → new ≡ old
+      by_row [] ran = h.last_step.1 ∙ sym ran
+      by_row (out ∷ row) ran = absurd (no_start old.entries none ran.1.front_runs)
+
+  some_left : (x : A) → OrderedGives gives count old (Ready (Some x)) new → length new.entries + 1 ≡ length old.entries
+  some_left x h = let e = row_len h.yielded old h.before h.row in let k = ap (λ (l : List (Entry A)). length l) h.last_step.0 in omega (arith, e, k)
+
+  pub empty_of : (answer : Poll (Option A)) → OrderedGives gives count old answer new → IfReady answer (λ o. IfNone o ((length old.entries ≡ 0) × (new ≡ old)))
+  empty_of (Ready None) h = none_left h
+  empty_of (Ready (Some x)) h = tt
+  empty_of Pending h = tt
+
+  pub fewer_of : (answer : Poll (Option A)) → OrderedGives gives count old answer new → IfReady answer (λ o. OnSome o (length new.entries + 1 ≡ length old.entries))
+  fewer_of (Ready None) h = tt
+  fewer_of (Ready (Some x)) h = some_left x h
+  fewer_of Pending h = tt
+
+  pub as_many_of : (answer : Poll (Option A)) → OrderedGives gives count old answer new → OnPending answer (length new.entries ≡ length old.entries)
+  as_many_of (Ready o) h = tt
+  as_many_of Pending h = ap (λ (l : List (Entry A)). length l) h.last_step.2 ∙ row_len h.yielded old h.before h.row
+
+  pub no_more_of : (answer : Poll (Option A)) → OrderedGives gives count old answer new → length new.entries ≤ length old.entries
+  no_more_of (Ready None) h = let e = ap (λ (q : Ordered Q A). length q.entries) (none_left h).1 in omega (arith, e)
+  no_more_of (Ready (Some x)) h = let e = some_left x h in omega (arith, e)
+  no_more_of Pending h = let e = as_many_of Pending h in omega (arith, e)
+
+module _ {E A : Type 0} (may : E → A → Type 0) where
+  -- one more entry leads
+  lead : (d : E) (ds : List E) (more : Runs A) (x : A) (xs : List A) (last : Option A) → may d x → Chains (InTurn may ds) more xs last → Chains (InTurn may (d ∷ ds)) more (x ∷ xs) last
+  lead d ds more x xs None gave (inl h) = absurd h
+  lead d ds more x xs (Some y) gave (inl h) = inl (gave, h)
+  lead d ds more x xs last gave (inr h) = inr (x ∷ h.0, h.1, ap (λ (l : List A). x ∷ l) h.2, (gave, h.3), h.4)
+
+  -- what comes from the entries before the last, and what comes from that
+  pub last_apart : (after : E → A → Type 0) (es : List E) (e : E) (P : A → Type 0) → ((k : ℕ) (d : E) → slice_get es k ≡ Some d → (y : A) → after d y → may d y) → ((y : A) → after e y → P y)
+      → (xs : List A) (last : Option A) → InTurn after (es ++ e ∷ []) xs last → Chains (InTurn may es) (Leads P Ends) xs last
+  last_apart after [] e P less this [] None h = absurd h
+  last_apart after [] e P less this [] (Some y) h = inr ([], [], refl, (refl, refl), this y h)
+  last_apart after [] e P less this (x ∷ xs) last h = inr ([], x ∷ xs, refl, (refl, refl), (this x h.0, h.1))
+  last_apart after (d ∷ ds) e P less this [] None h = absurd h
+  last_apart after (d ∷ ds) e P less this [] (Some y) h = inl (less 0 d refl y h)
+  last_apart after (d ∷ ds) e P less this (x ∷ xs) last h =
+      lead d ds (Leads P Ends) x xs last (less 0 d refl x h.0) (last_apart after ds e P (λ k c at. less (suc k) c at) this xs last h.1)
+
+-- where no entry has a number, none counts
+pub unused_none : {A : Type 0} (i : ℕ) (es : List (Entry A)) → IsUnused i es → count_by (runs_with i) es ≡ 0
+unused_none i es unused = by_count (count_by (runs_with i) es) refl
+  where
+    by_count : (n : ℕ) → count_by (runs_with i) es ≡ n → count_by (runs_with i) es ≡ 0
+    by_count zero e = e
+    by_count (suc n) e = let there = entry_with i es (omega (arith, e)) in absurd (unused there.0 there.1)
+
+-- an output more comes, behind all others, where the set may give no more than before but with the number of the new entry
+module _ {Q F A : Type 0} (may_give : Q → ℕ × A → Type 0) (gives : F → A → Type 0) (pushes : Q → F → ℕ → Q → Type 0) (old new : Ordered Q A) (item : F) (added : AddsBack pushes old item new)
+    (more : (out : ℕ × A) → may_give new.set out → may_give old.set out ⊎ ((out.0 ≡ added.0) × gives item out.1)) (none : (y : A) → may_give old.set (added.0, y) → ⊥) where
+  no_more : (k : ℕ) (d : Entry A) → slice_get old.entries k ≡ Some d → (y : A) → EntryGives may_give new.set d y → EntryGives may_give old.set d y
+  no_more k (Kept x) at y h = h
+  no_more k (Running j) at y h = elim (more (j, y) h) [
+    | inl was ↦ was
+    | inr own ↦ absurd (added.1.unused k (at ∙ ap (λ (n : ℕ). Some (Running n)) own.0))
+  ]
+
+  of_item : (y : A) → may_give new.set (added.0, y) → gives item y
+  of_item y h = elim (more (added.0, y) h) [ inl was ↦ absurd (none y was) | inr own ↦ own.1 ]
+
+  pub comes_behind : Within (Chains (ComesInOrder may_give old) (Leads (gives item) Ends)) (ComesInOrder may_give new)
+  comes_behind xs last h =
+      last_apart (EntryGives may_give old.set) (EntryGives may_give new.set) old.entries (Running added.0) (gives item) no_more of_item xs last
+      (subst (λ (l : List (Entry A)). InTurn (EntryGives may_give new.set) l xs last) added.2 h)

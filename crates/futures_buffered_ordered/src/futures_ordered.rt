@@ -26,6 +26,7 @@ use std::marker::Model;
 
 impl<T: Drop, S: NewSource> NumberedSet for FuturesUnordered<Numbered<T>, S> {
     ghost use Rattle.std.proofs.Common.{◌≡◌, OnOk, OnErr, IfErr, IsErr, refl, ◌∙◌};
+    ghost use Rattle.std.specs.Prelude.{⊤};
     ghost use Rattle.futures_buffered_ordered.specs.Numbered.{PushesInto};
     ghost use Rattle.futures_buffered_unordered.specs.FuturesUnordered.{SetMayRefuse, SetRefuses};
     ghost use Rattle.futures_buffered_ordered.specs.FuturesOrdered.{GrowingPushesNumber, SameLimit, held_in_groups, held_in_groups_with};
@@ -43,6 +44,10 @@ impl<T: Drop, S: NewSource> NumberedSet for FuturesUnordered<Numbered<T>, S> {
     ghost refuses = { SetRefuses };
 
     ghost keeps = { SameLimit };
+
+    ghost takes = { λ _. ⊤ };
+
+    ghost is_fit = { λ _. ⊤ };
 
     fn refuses_all(&self) -> bool {
         self.is_at_bound()

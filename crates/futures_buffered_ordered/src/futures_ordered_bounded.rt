@@ -28,6 +28,7 @@ use std::marker::Model;
 
 impl<T: Drop, S: ReadySource> NumberedSet for FuturesUnorderedBounded<Numbered<T>, S> {
     ghost use Rattle.std.proofs.Common.{◌≡◌, OnOk, OnErr, IfErr, IsErr, refl, ◌∙◌};
+    ghost use Rattle.std.specs.Prelude.{⊤};
     ghost use Rattle.futures_buffered_unordered.specs.FuturesUnorderedBounded.{held_in};
     ghost use Rattle.futures_buffered_ordered.specs.Numbered.{PushesInto, held_with};
     ghost use Rattle.futures_buffered_ordered.specs.FuturesOrderedBounded.{PushesNumber, SameSize, SetIsFull};
@@ -45,6 +46,10 @@ impl<T: Drop, S: ReadySource> NumberedSet for FuturesUnorderedBounded<Numbered<T
     ghost refuses = { SetIsFull };
 
     ghost keeps = { SameSize };
+
+    ghost takes = { λ _. ⊤ };
+
+    ghost is_fit = { λ _. ⊤ };
 
     fn refuses_all(&self) -> bool {
         self.len() == self.capacity()

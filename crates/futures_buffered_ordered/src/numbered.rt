@@ -7,7 +7,7 @@ use futures_buffered_unordered::slot_future::SlotHandle;
 
 /// What the set of a queue holds: a future, and the number that its entry has.
 #[derive(Drop)]
-pub struct Numbered<T: Drop> {
+pub struct Numbered<T> {
     /// The future in progress.
     pub future: T,
     /// The number of its entry, which no other entry in progress has.

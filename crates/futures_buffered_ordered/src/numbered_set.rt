@@ -30,17 +30,26 @@ pub trait NumberedSet: Drop {
     // What each call keeps of it.
     ghost keeps: { Self → Self → Type 0 };
 
+    // Pushes may be asked of it.
+    ghost takes: { Self → Type 0 };
+
+    // The futures that may be pushed.
+    ghost is_fit: { Self.Future → Type 0 };
+
     /// Whether it refuses each push, whether there is memory or not. Takes the same time at any number of futures.
     fn refuses_all(&self) -> bool
         ensures { IsTrue result ↔ refuses self.now };
 
     /// Puts the future in, with its number. It comes back, and nothing has changed, where it is refused.
     fn push_numbered(&mut self, value: Numbered<Self::Future>) -> Result<(), Numbered<Self::Future>>
+        requires held { takes self.old }
+        requires fit { is_fit value.future }
         ensures pushed { OnOk result
             (PushesInto pushes count with_number keeps self.old value self.new) }
         ensures back { IfErr result (λ back. (back ≡ value) × (self.new ≡ self.old)) }
         ensures room { OnErr result (may_refuse self.old) }
-        ensures full { refuses self.old → IsErr result };
+        ensures full { refuses self.old → IsErr result }
+        ensures again { takes self.new };
 
     ghost keeps_self: { (a : Self) → keeps a a };
 

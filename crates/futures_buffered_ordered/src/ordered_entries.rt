@@ -86,6 +86,13 @@ impl<Q: Drop, A: Drop> OrderedEntries<Q, A> {
         })
     }
 
+    /// The set that holds the futures in progress.
+    pub fn set(&self) -> &Q
+        ensures { result.now ≡ self.now.queue.set }
+    {
+        &self.set
+    }
+
     /// The number of entries, in progress and kept. Takes the same time at any length.
     pub fn len(&self) -> usize
         ensures { result ≡ length self.now.queue.entries }
@@ -137,12 +144,15 @@ impl<Q: NumberedSet, A: Drop> OrderedEntries<Q, A> {
 
     // Makes a place for one entry more, and puts the future into the set with this number. The entry is still to come. Where either is refused, the future comes back.
     fn admit(&mut self, future: Q::Future, number: usize) -> Result<(), Q::Future>
+        requires held { Q.takes self.old.queue.set }
+        requires fit { Q.is_fit future }
         ensures admitted { OnOk result (Admits Q.pushes Q.count Q.with_number Q.keeps
             self.old.queue future number self.new.queue) }
         ensures back { IfErr result (λ back. HandsBack Q.may_refuse
             self.old.queue future back self.new.queue) }
         ensures large { QueueIsAtBound Q.refuses self.old.queue → IsErr result }
         ensures same { self.new.outgoing ≡ self.old.outgoing }
+        ensures again { Q.takes self.new.queue.set }
     {
         if !self.reserve_entry() {
             return Err(future);
@@ -157,10 +167,13 @@ impl<Q: NumberedSet, A: Drop> OrderedEntries<Q, A> {
     ///
     /// The future comes back where the queue has `MAX_LEN` entries, where the set refuses it, and where a request for memory was refused; no entry and no future has changed then. Asks for memory only where there are as many entries as places for them, and where the set does.
     pub fn add_back(&mut self, future: Q::Future) -> Result<(), Q::Future>
-        requires { IsNumbered Q.with_number Q.count self.old }
+        requires numbered { IsNumbered Q.with_number Q.count self.old }
+        requires held { Q.takes self.old.queue.set }
+        requires fit { Q.is_fit future }
         ensures push { PushesOrHandsBack (AddsBack Q.pushes) Q.may_refuse Q.refuses Q.keeps
             self.old.queue future result self.new.queue }
         ensures keeps { AddingKeeps Q.with_number Q.count Q.keeps self.old self.new }
+        ensures again { Q.takes self.new.queue.set }
     {
         let number = self.outgoing.wrapping_add(self.entries.len());
         self.admit(future, number)?;
@@ -170,10 +183,13 @@ impl<Q: NumberedSet, A: Drop> OrderedEntries<Q, A> {
 
     /// As `add_back`, before all others: its output is the next to be yielded.
     pub fn add_front(&mut self, future: Q::Future) -> Result<(), Q::Future>
-        requires { IsNumbered Q.with_number Q.count self.old }
+        requires numbered { IsNumbered Q.with_number Q.count self.old }
+        requires held { Q.takes self.old.queue.set }
+        requires fit { Q.is_fit future }
         ensures push { PushesOrHandsBack (AddsFront Q.pushes) Q.may_refuse Q.refuses Q.keeps
             self.old.queue future result self.new.queue }
         ensures keeps { AddingKeeps Q.with_number Q.count Q.keeps self.old self.new }
+        ensures again { Q.takes self.new.queue.set }
     {
         let number = self.outgoing.wrapping_sub(1);
         self.admit(future, number)?;
@@ -187,6 +203,8 @@ impl<Q: NumberedSet, A: Drop> OrderedEntries<Q, A> {
     pub fn extend<I: IntoIterator<Item = Q::Future>>(&mut self, iter: I) -> Result<(), Q::Future>
         requires finite { IsFiniteSource I.IntoIterator I.IntoIter.Iterator iter }
         requires numbered { IsNumbered Q.with_number Q.count self.old }
+        requires held { Q.takes self.old.queue.set }
+        requires fit { (future : Q.Future) → Q.is_fit future }
         ensures extends { Extends I.IntoIterator I.IntoIter.Iterator iter (AddsBack Q.pushes)
             (RefusesOne Q.may_refuse) self.old.queue result self.new.queue }
         ensures keeps { AddingKeeps Q.with_number Q.count Q.keeps self.old self.new }

@@ -9,3 +9,4 @@ invariant-loop-item g l =
     × (goal.iterator-loop-item g).is_finite l.item-iterator
     × AddsEachBack set.pushes l.fn.self.queue l.yielded l.self.queue
     × AddingKeeps set.with_number set.count set.keeps l.fn.self l.self
+    × set.takes l.self.queue.set

@@ -1,0 +1,131 @@
+-- What the calls of an ordered queue of futures in flight leave of it.
+use Rattle.std.proofs.Common.{◌≡◌, ◌+◌, ◌<◌, ◌≤◌, ℕ, List, [], length, cond, is_some, Option, Some, None, inl, inr, refl, sym, ap, subst, ◌∙◌, arith}
+use Rattle.std.proofs.lemmas.List.{length-replicate}
+use Rattle.std.proofs.lemmas.List.Folds.{sum_by-replicate}
+use Rattle.futures.specs.declared.task.Poll.{Poll}
+use Rattle.futures.specs.declared.task.Poll.TheVariants.{Ready, Pending}
+use Rattle.futures.specs.declared.task.context.Context.{Context}
+use Rattle.futures_buffered_table.specs.declared.answer.TheConstants.{MAX_CAPACITY}
+use Rattle.futures_buffered_core.specs.SlotMap.{Slots, held_count, no_slots}
+use Rattle.futures_buffered_unordered.proofs.StreamAnswersLemmas.{after_item, while_pending}
+use Rattle.futures_buffered_ordered.specs.Numbered.{PollsNumberedSet, PollsNumberedTask}
+use Rattle.futures_buffered_ordered.specs.declared.numbered.Numbered.{Numbered}
+use Rattle.futures_buffered_ordered.specs.OrderedEntries.{AddsBack, MayRefuse, PollsQueue, PollsQueueTask}
+use Rattle.futures_buffered_ordered.specs.OrderedEntriesInvariant.{AddingKeeps, IsNumbered, Numbering}
+use Rattle.futures_buffered_ordered.proofs.OrderedEntriesInvariantLemmas.{held_by_entries, new_is_numbered}
+use Rattle.futures_buffered_ordered.proofs.OrderedEntriesLemmas.{as_many_of, comes_behind, empty_of, fewer_of, no_more_of, one_entry_more, rest_of, same_of, unused_none, value_of}
+use Rattle.futures_buffered_in_flight.specs.InFlight.{FutureOf}
+use Rattle.futures_buffered_in_flight.specs.InFlightQueue.{Queued, CanPollQueue, GivesHeld, IsNewQueued, NumberGives, PollsNumber, PollsQueuedTask, PushesNumber, SameRoom, QueueIsFull, has_tag, numbered_with, tagged_with, queued_count, queued_room, queued_with}
+use Rattle.futures_buffered_in_flight.specs.InFlightOrdered.{AnswersInTurn, FlightLeavesTask, GivesInTurn, KeepsInOrder, LeavesInOrder, OrderedInFlight, OrderedPends, PushesBack, ordered_count, ordered_room}
+use Rattle.futures_buffered_in_flight.specs.declared.in_flight.Place.{Place}
+use Rattle.futures_buffered_in_flight.proofs.InFlightQueueLemmas.{number_counts}
+
+-- a queue of which no push is refused
+pub has_room : {F A : Type 0} (q : Numbering (Queued F) A) → KeepsInOrder q → ordered_count q.queue < ordered_room q.queue → MayRefuse QueueIsFull q.queue → ⊥
+has_room q keeps fewer (inl full) = absurd (omega (arith, full, keeps.fits, fewer))
+has_room q keeps fewer (inr (inl full)) = absurd (omega (arith, full, fewer, held_by_entries queued_with queued_count q.queue.set q.queue.entries q.outgoing keeps.numbered))
+has_room q keeps fewer (inr (inr long)) = absurd (omega (arith, long, keeps.small, fewer))
+
+-- free slots, no entry, and a place for an entry of each slot
+pub new_keeps : {F A : Type 0} (q : Numbering (Queued F) A) (set : Queued F) (n : ℕ) → 0 < n → IsNewQueued n set → q.queue.set ≡ set → q.queue.entries ≡ [] → q.outgoing ≡ 0 → n ≤ q.queue.room → n ≤ MAX_CAPACITY → KeepsInOrder q
+new_keeps {F} q set n some new is none first room small =
+    let slots : queued_room set ≡ n = ap length (ap (λ s. s.places) new.1.0) ∙ length-replicate n None in
+    let same : ordered_room q.queue ≡ n = ap (λ (s : Queued F). queued_room s) is ∙ slots in
+    let empty : ordered_count q.queue ≡ 0 = ap length none in
+    let none_held : held_count {F = Place} (no_slots n) ≡ 0 = sum_by-replicate (λ (o : Option Place). cond (is_some o) 1 0) n None ∙ omega arith in
+    record {
+      numbered = new_is_numbered queued_with queued_count q set is none first
+          (λ i.
+          let none_tagged : tagged_with i (no_slots n) ≡ 0 = sum_by-replicate (λ (o : Option Place). cond (has_tag i o) 1 0) n None ∙ omega arith in
+          omega (arith, ap (λ (fs : List (Numbered F)). numbered_with i fs) new.0, ap (λ s. tagged_with i s) new.1.0, none_tagged))
+          (omega (arith, ap (λ (fs : List (Numbered F)). length fs) new.0, ap (λ (s : Slots Place). held_count s) new.1.0, none_held));
+      some = omega (arith, same, some);
+      bound = omega (arith, empty);
+      fits = omega (arith, same, room);
+      small = omega (arith, same, small);
+    }
+
+-- an entry more
+pub pushed_keeps : {F A : Type 0} (old new : Numbering (Queued F) A) → KeepsInOrder old → AddingKeeps queued_with queued_count SameRoom old new → ordered_count new.queue ≡ ordered_count old.queue + 1 → ordered_count old.queue < ordered_room old.queue → KeepsInOrder new
+pushed_keeps old new keeps adds one fewer =
+    let same = adds.set in
+    record {
+      numbered = adds.numbered;
+      some = omega (arith, same, keeps.some);
+      bound = omega (arith, same, one, fewer);
+      fits = omega (arith, same, keeps.fits, adds.room);
+      small = omega (arith, same, keeps.small);
+    }
+
+module _ {F A : Type 0} (future : FutureOf F A) where
+  -- what an ordered queue asks of a poll of the futures
+  pub polls_set : (old new : Queued F) (answer : Poll (Option (ℕ × A))) → PollsNumber future old answer new → PollsNumberedSet (CanPollQueue future) queued_count queued_with SameRoom old answer new
+  polls_set old new (Ready None) p =
+      record { empty = p.gave.0; fewer = omega (arith, ap (λ (q : Queued F). queued_count q) p.gave.1); numbers = p.numbers; pollable = p.again; set = p.same_room }
+  polls_set old new (Ready (Some out)) p =
+      record { empty = tt; fewer = p.gave.1; numbers = p.numbers; pollable = p.again; set = p.same_room }
+  polls_set old new Pending p =
+      record { empty = tt; fewer = let k = p.gave.1 in omega (arith, k); numbers = p.numbers; pollable = p.again; set = p.same_room }
+
+  -- what was given might be given, and what may still be given might be given before
+  gave : (old new : Queued F) (out : ℕ × A) → PollsNumber future old (Ready (Some out)) new → NumberGives future old out
+  gave old new out p = p.gave.0
+
+  still : (old new : Queued F) (answer : Poll (Option (ℕ × A))) → PollsNumber future old answer new → (out : ℕ × A) → NumberGives future new out → NumberGives future old out
+  still old new answer p = p.narrows
+
+  pub pushes_back : (old : Numbering (Queued F) A) (new : OrderedInFlight F A) (item : F) → KeepsInOrder old → AddsBack (PushesNumber future) old.queue item new → PushesBack future old.queue item new
+  pushes_back old new item keeps added =
+      record {
+        added = added;
+        one_more = one_entry_more (PushesNumber future) old.queue new item added;
+        behind = comes_behind (NumberGives future) future.gives (PushesNumber future) old.queue new item added added.1.pushed.gives none;
+        same_room = added.1.pushed.same_room;
+        again = added.1.pushed.again;
+      }
+    where
+      none : (y : A) → NumberGives future old.queue.set (added.0, y) → ⊥
+      none y h = absurd (omega (arith, number_counts future old.queue.set (added.0, y) h, keeps.numbered.as_many added.0, unused_none added.0 old.queue.entries added.1.unused))
+
+  module _ (old new : Numbering (Queued F) A) (answer : Poll (Option A)) (keeps : KeepsInOrder old) (polled : GivesInTurn future old.queue answer new.queue) (left : PollsQueue (CanPollQueue future) queued_count SameRoom old.queue answer new.queue) where
+    pub polled_keeps : IsNumbered queued_with queued_count new → KeepsInOrder new
+    polled_keeps numbered =
+        let same = left.set in
+        let room = left.room in
+        let fewer = no_more_of (PollsNumber future) queued_count old.queue new.queue answer polled in
+        record {
+          numbered = numbered;
+          some = omega (arith, same, keeps.some);
+          bound = omega (arith, same, fewer, keeps.bound);
+          fits = omega (arith, same, room, keeps.fits);
+          small = omega (arith, same, keeps.small);
+        }
+
+    pub leaves_in_order : LeavesInOrder old.queue answer new.queue
+    leaves_in_order =
+        let same = left.set in
+        let fewer = no_more_of (PollsNumber future) queued_count old.queue new.queue answer polled in
+        record {
+          empty = empty_of (PollsNumber future) queued_count old.queue new.queue answer polled;
+          fewer = fewer_of (PollsNumber future) queued_count old.queue new.queue answer polled;
+          same_count = as_many_of (PollsNumber future) queued_count old.queue new.queue answer polled;
+          same_room = same;
+          some = omega (arith, same, keeps.some);
+          bound = omega (arith, same, fewer, keeps.bound);
+        }
+
+    pub answers_in_turn : (cx after : Context) → PollsQueueTask (PollsNumber future) FlightLeavesTask queued_count OrderedPends old.queue answer new.queue cx after → AnswersInTurn future old.queue answer new.queue cx after
+    answers_in_turn cx after task =
+        record {
+          value = value_of (PollsNumber future) (NumberGives future) still gave queued_count old.queue new.queue answer polled;
+          rest = rest_of (PollsNumber future) (NumberGives future) still gave queued_count old.queue new.queue answer polled;
+          same = same_of (PollsNumber future) (NumberGives future) still gave queued_count old.queue new.queue answer polled;
+          goes = after_item answer left.pollable;
+          again = while_pending answer left.pollable;
+          registered = task.waits;
+          kept = task.kept;
+        }
+
+-- and of what it leaves of the task
+pub polls_task : {F A : Type 0} (old new : Queued F) (answer : Poll (Option (ℕ × A))) (cx left : Context) → PollsQueuedTask answer new cx left → PollsNumberedTask OrderedPends FlightLeavesTask old answer new cx left
+polls_task old new answer cx left p = record { waits = p.registered; leaves = p; kept = p.kept }

@@ -1,0 +1,17 @@
+use Rattle.futures_buffered_in_flight.proofs.InFlightOrderedLemmas.{answers_in_turn, leaves_in_order, polled_keeps}
+use Rattle.futures_buffered_in_flight.proofs.in_flight_ordered.InFlightOrdered.poll_output.Goals as goal
+
+pub invariant_of-self : goal.invariant_of-self
+invariant_of-self g c =
+    let poll = c.poll_entries.ensures in
+    polled_keeps g.F.Future c.self.inside.queue c.poll_entries.new.self c.poll_entries.result c.self.invariant poll.polled poll.queue poll.numbered
+
+pub returns-clause-queue : goal.returns-clause-queue
+returns-clause-queue g c =
+    let poll = c.poll_entries.ensures in
+    rw (← c.self.view_is) (leaves_in_order g.F.Future c.self.inside.queue c.poll_entries.new.self c.poll_entries.result c.self.invariant poll.polled poll.queue)
+
+pub returns-clause-stream : goal.returns-clause-stream
+returns-clause-stream g c =
+    let poll = c.poll_entries.ensures in
+    rw (← c.self.view_is) (answers_in_turn g.F.Future c.self.inside.queue c.poll_entries.new.self c.poll_entries.result c.self.invariant poll.polled poll.queue c.args.cx.now c.poll_entries.new.cx poll.task)

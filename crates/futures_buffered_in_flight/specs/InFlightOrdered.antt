@@ -1,0 +1,110 @@
+-- What a contract sees of an ordered queue of futures in flight: the words on ordered queues at a
+-- queue in flight. A clause names the futures by the ghost members of their type: `F.Future`.
+use Rattle.std.specs.Prelude.{◌≡◌, ◌+◌, ◌<◌, ◌≤◌, ◌^◌, ℕ, Option, length, IfNone, OnSome}
+use Rattle.futures.specs.Poll.{IfReady, OnPending}
+use Rattle.futures.specs.Runs.{Runs, Within, Leads, Chains, Ends}
+use Rattle.futures.specs.Task.{Covers}
+use Rattle.futures.specs.declared.task.Poll.{Poll}
+use Rattle.futures.specs.declared.task.context.Context.{Context}
+use Rattle.futures_buffered_unordered.specs.StreamAnswers.{StreamAnswers}
+use Rattle.futures_buffered_ordered.specs.OrderedEntries.{Ordered, AddsBack, ComesInOrder}
+use Rattle.futures_buffered_ordered.specs.OrderedEntries.{IsNewQueue, OrderedGives}
+use Rattle.futures_buffered_ordered.specs.OrderedEntries.{OrderedLeavesTask}
+use Rattle.futures_buffered_ordered.specs.OrderedEntriesInvariant.{IsNumbered, Numbering}
+use Rattle.futures_buffered_in_flight.specs.InFlight.{FutureOf}
+use Rattle.futures_buffered_in_flight.specs.InFlightQueue.{Queued, CanPollQueue, IsNewQueued}
+use Rattle.futures_buffered_in_flight.specs.InFlightQueue.{NumberGives, PollsNumber, PushesNumber}
+use Rattle.futures_buffered_in_flight.specs.InFlightQueue.{PollsQueuedTask, QueueWaitsAt}
+use Rattle.futures_buffered_in_flight.specs.InFlightQueue.{queued_count, queued_room, queued_with}
+
+-- the futures in flight, each with a number; the entries from the front to the back, where one in
+-- progress has the number of its future; and how many there is a place for
+abbrev pub OrderedInFlight : Type 0 → Type 0 → Type 0
+OrderedInFlight F A = Ordered (Queued F) A
+
+-- how many are held, in progress or waiting for their turn
+abbrev pub ordered_count : {F A : Type 0} → OrderedInFlight F A → ℕ
+ordered_count q = length q.entries
+
+-- how many can be held
+abbrev pub ordered_room : {F A : Type 0} → OrderedInFlight F A → ℕ
+ordered_room q = queued_room q.set
+
+-- there is room for n, no future, and no entry
+abbrev pub IsNewInOrder : {F A : Type 0} → ℕ → OrderedInFlight F A → Type 0
+IsNewInOrder n = IsNewQueue (IsNewQueued n) n
+
+-- the place at which a pending poll waits
+abbrev pub OrderedWaitsAt : {F A : Type 0} → OrderedInFlight F A → ℕ → Type 0
+OrderedWaitsAt q = QueueWaitsAt q.set
+
+-- How the queue keeps itself: the numbers are in order, it can hold one at least and holds no more
+-- than it can, and there is a place for an entry of each.
+pub record KeepsInOrder {F A : Type 0} (q : Numbering (Queued F) A) : Type 0 where
+  pub numbered : IsNumbered queued_with queued_count q
+  pub some : 0 < ordered_room q.queue
+  pub bound : ordered_count q.queue ≤ ordered_room q.queue
+  pub fits : ordered_room q.queue ≤ q.queue.room
+  pub small : ordered_room q.queue < 2 ^ 62
+
+-- How many one poll leaves, which took the queue from old to new.
+pub record LeavesInOrder {F A : Type 0} (old : OrderedInFlight F A) (answer : Poll (Option A))
+    (new : OrderedInFlight F A) : Type 0 where
+  -- the end comes only where nothing is held, and changes nothing
+  pub empty : IfReady answer (λ o. IfNone o ((ordered_count old ≡ 0) × (new ≡ old)))
+  -- an output leaves one fewer
+  pub fewer : IfReady answer (λ o. OnSome o (ordered_count new + 1 ≡ ordered_count old))
+  -- a pending poll leaves as many as before
+  pub same_count : OnPending answer (ordered_count new ≡ ordered_count old)
+  -- it can hold as many as before, one at least, and holds no more
+  pub same_room : ordered_room new ≡ ordered_room old
+  pub some : 0 < ordered_room new
+  pub bound : ordered_count new ≤ ordered_room new
+
+-- a pending poll leaves the task with what the futures wait for
+abbrev pub OrderedPends : {F : Type 0} → Context → Queued F → Type 0
+OrderedPends left set = Covers left (QueueWaitsAt set)
+
+-- what a poll of the futures leaves of the task
+abbrev pub FlightLeavesTask : {F A : Type 0}
+    → Queued F → Poll (Option A) → Queued F → Context → Context → Type 0
+FlightLeavesTask old answer new cx left = PollsQueuedTask answer new cx left
+
+module _ {F A : Type 0} (future : FutureOf F A) where
+  -- each future in progress may be polled
+  abbrev pub CanPollOrdered : OrderedInFlight F A → Type 0
+  CanPollOrdered q = CanPollQueue future q.set
+
+  -- what may come: an output of each entry, of its own future, from the front to the back, and then
+  -- the end
+  abbrev pub ComesInTurn : OrderedInFlight F A → Runs A
+  ComesInTurn = ComesInOrder (NumberGives future)
+
+  -- One push, from old to new.
+  pub record PushesBack (old : OrderedInFlight F A) (pushed : F) (new : OrderedInFlight F A)
+      : Type 0 where
+    -- the future went in, and its entry behind all others
+    pub added : AddsBack (PushesNumber future) old pushed new
+    pub one_more : ordered_count new ≡ ordered_count old + 1
+    -- behind what might come before, an output of the future may come
+    pub behind : Within (Chains (ComesInTurn old) (Leads (future.gives pushed) Ends))
+        (ComesInTurn new)
+    -- it can hold as many as before
+    pub same_room : ordered_room new ≡ ordered_room old
+    -- the queue may be polled
+    pub again : CanPollOrdered new
+
+  -- one poll: polls of the futures, each of whose outputs is kept in the entry of its number, and
+  -- then the front
+  abbrev pub GivesInTurn : OrderedInFlight F A → Poll (Option A) → OrderedInFlight F A → Type 0
+  GivesInTurn = OrderedGives (PollsNumber future) queued_count
+
+  -- what it leaves of the task: what the polls of the futures leave, one after another
+  abbrev pub LeavesInTurn : OrderedInFlight F A → Poll (Option A) → OrderedInFlight F A
+      → Context → Context → Type 0
+  LeavesInTurn = OrderedLeavesTask (PollsNumber future) FlightLeavesTask queued_count
+
+  -- what a stream promises of one poll
+  abbrev pub AnswersInTurn : OrderedInFlight F A → Poll (Option A) → OrderedInFlight F A
+      → Context → Context → Type 0
+  AnswersInTurn = StreamAnswers CanPollOrdered OrderedWaitsAt ComesInTurn

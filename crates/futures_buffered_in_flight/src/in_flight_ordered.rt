@@ -1,0 +1,165 @@
+//! Futures of the kit in flight, in a queue whose outputs come in the order of the pushes.
+ghost use Rattle.std.specs.Prelude.{◌≡◌, ◌<◌, ◌≤◌, IfOk};
+ghost use Rattle.futures_buffered_core.specs.Made.{MakesSlots};
+ghost use Rattle.futures_buffered_in_flight.specs.InFlightOrdered.{AnswersInTurn, CanPollOrdered, GivesInTurn, IsNewInOrder, LeavesInOrder, LeavesInTurn, PushesBack, ordered_count, ordered_room};
+
+use crate::in_flight_queue::InFlightQueue;
+use futures::Future;
+use futures::task::{Context, Poll};
+use futures_buffered_core::ready_core::NewFault;
+use futures_buffered_ordered::numbered::Numbered;
+use futures_buffered_ordered::numbered_set::{NumberedSet, PollNumberedSet};
+use futures_buffered_ordered::ordered_entries::OrderedEntries;
+use futures_buffered_unordered::poll_one::PollFuture;
+use std::alloc::Global;
+use std::marker::Model;
+
+impl<F: Future<Output: Drop>> NumberedSet for InFlightQueue<F> {
+    ghost use Rattle.std.proofs.Common.{◌≡◌, OnOk, OnErr, IfErr, IsErr, refl, ◌∙◌};
+    ghost use Rattle.futures_buffered_ordered.specs.Numbered.{PushesInto};
+    ghost use Rattle.futures_buffered_in_flight.specs.InFlightQueue.{CanPollQueue, PushesNumber, QueueIsFull, SameRoom, queued_count, queued_with};
+
+    type Future = F;
+
+    ghost count = { queued_count };
+
+    ghost with_number = { queued_with };
+
+    ghost pushes = { PushesNumber F.Future };
+
+    ghost may_refuse = { QueueIsFull };
+
+    ghost refuses = { QueueIsFull };
+
+    ghost keeps = { SameRoom };
+
+    ghost takes = { CanPollQueue F.Future };
+
+    ghost is_fit = { F.can_poll };
+
+    fn refuses_all(&self) -> bool {
+        self.capacity() <= self.len()
+    }
+
+    fn push_numbered(&mut self, value: Numbered<F>) -> Result<(), Numbered<F>>
+        requires held { CanPollQueue F.Future self.old }
+        requires fit { F.can_poll value.future }
+        ensures pushed { OnOk result (PushesInto (PushesNumber F.Future) queued_count queued_with
+            SameRoom self.old value self.new) }
+        ensures back { IfErr result (λ back. (back ≡ value) × (self.new ≡ self.old)) }
+        ensures room { OnErr result (QueueIsFull self.old) }
+        ensures full { QueueIsFull self.old → IsErr result }
+        ensures again { CanPollQueue F.Future self.new }
+    {
+        if self.capacity() <= self.len() {
+            return Err(value);
+        }
+        self.push_with_number(value);
+        Ok(())
+    }
+
+    ghost keeps_self = { λ a. refl };
+
+    ghost keeps_on = { λ a b c first then. then ∙ first };
+}
+
+impl<F: Future<Output: Drop>> PollNumberedSet<PollFuture> for InFlightQueue<F> {
+    ghost use Rattle.futures_buffered_in_flight.specs.InFlightQueue.{CanPollQueue, PollsNumber};
+    ghost use Rattle.futures_buffered_in_flight.specs.InFlightOrdered.{FlightLeavesTask, OrderedPends};
+
+    type Output = F::Output;
+
+    ghost can_poll = { CanPollQueue F.Future };
+
+    ghost gives = { PollsNumber F.Future };
+
+    ghost pends = { OrderedPends };
+
+    ghost leaves = { FlightLeavesTask };
+
+    #[tactic(auto, using(crate::proofs::InFlightOrderedLemmas::polls_set, crate::proofs::InFlightOrderedLemmas::polls_task))]
+    fn poll_numbered(
+        &mut self,
+        _rule: &PollFuture,
+        cx: &mut Context<'_>,
+    ) -> Poll<Option<(usize, F::Output)>> {
+        self.poll_with_number(cx)
+    }
+}
+
+/// Futures in flight, as many as there is room for, one at least, whose outputs come in the order of the pushes.
+///
+/// An output that comes before its turn is kept, and counts as held until it is yielded. A push takes each future where there is room, as that of `InFlightQueue` does. A contract sees the futures in flight, each with a number, and the entries from the front to the back, where one in progress has the number of its future.
+#[derive(Drop)]
+pub struct InFlightOrdered<F: Drop, A: Drop> {
+    queue: OrderedEntries<InFlightQueue<F>, A>,
+}
+
+impl<F: Drop, A: Drop> Model for InFlightOrdered<F, A> {
+    ghost use Rattle.futures_buffered_in_flight.specs.InFlightOrdered.{KeepsInOrder, OrderedInFlight};
+
+    ghost Value = { OrderedInFlight F A };
+
+    ghost view = { λ q. q.queue.queue };
+
+    ghost invariant = { λ q. KeepsInOrder q.queue };
+}
+
+impl<F: Drop, A: Drop> InFlightOrdered<F, A> {
+    /// How many are held: futures in progress, and outputs that wait for their turn. Takes the same time at any number.
+    pub fn len(&self) -> usize
+        ensures value { result ≡ ordered_count self.now }
+        ensures bound { ordered_count self.now ≤ ordered_room self.now }
+    {
+        self.queue.len()
+    }
+
+    /// How many can be held, which never changes. Takes the same time at any number.
+    pub fn capacity(&self) -> usize
+        ensures { result ≡ ordered_room self.now }
+    {
+        self.queue.set().capacity()
+    }
+}
+
+impl<F: Future<Output = A>, A: Drop> InFlightOrdered<F, A> {
+    /// A queue with room for `n`, and nothing held.
+    ///
+    /// Takes time and memory in proportion to `n`. `TooLarge` where `n` is above `MAX_CAPACITY`, and `Memory` where a request for memory was refused.
+    pub fn new(alloc: Global, n: usize) -> Result<Self, NewFault>
+        requires { 0 < n }
+        ensures made { MakesSlots n (IsNewInOrder n) result }
+        ensures can_poll { IfOk result (CanPollOrdered F.Future) }
+    {
+        let set = InFlightQueue::new(alloc, n)?;
+        let queue = OrderedEntries::with_room(alloc, set, n)?;
+        Ok(InFlightOrdered { queue })
+    }
+
+    /// Adds the future behind all others, so that a later poll polls it. Takes the memory that the kit's set takes for a future, and does without where that is refused.
+    #[tactic(auto, using(crate::proofs::InFlightOrderedLemmas::pushes_back, crate::proofs::InFlightOrderedLemmas::has_room))]
+    pub fn push(&mut self, future: F)
+        requires room { ordered_count self.old < ordered_room self.old }
+        requires held { CanPollOrdered F.Future self.old }
+        requires fit { F.can_poll future }
+        ensures { PushesBack F.Future self.old future self.new }
+    {
+        match self.queue.add_back(future) {
+            Ok(()) => {}
+            Err(_) => unreachable!(),
+        }
+    }
+
+    /// One poll: the output of the future that was pushed first of those held, or the end, exactly where nothing is held.
+    ///
+    /// A front whose output is kept leaves with it, and no future is polled. Else the futures are polled, and each output that comes is kept, until the front's has come. Futures that wait for memory go into flight first, and where memory is still refused the task is woken at once.
+    pub fn poll_output(&mut self, cx: &mut Context<'_>) -> Poll<Option<A>>
+        requires { CanPollOrdered F.Future self.old }
+        ensures polled { GivesInTurn F.Future self.old result self.new }
+        ensures queue { LeavesInOrder self.old result self.new }
+        ensures stream { AnswersInTurn F.Future self.old result self.new cx.old cx.new }
+        ensures leaves { LeavesInTurn F.Future self.old result self.new cx.old cx.new }
+    {
+        self.queue.poll_entries(&PollFuture, cx)
+    }
+}
