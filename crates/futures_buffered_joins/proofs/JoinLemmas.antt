@@ -8,18 +8,19 @@ use Rattle.futures_buffered_table.specs.declared.answer.Woke.{Woke}
 use Rattle.futures_buffered_core.specs.ReadySource.{SourceSteps}
 use Rattle.futures_buffered_unordered.proofs.HeldGivesLemmas.{gives_passed, gives_output}
 use Rattle.futures_buffered_unordered.specs.Held.{AllHeld}
-use Rattle.futures_buffered_joins.specs.Joining.{Places, MayBeAll}
+use Rattle.futures_buffered_joins.specs.Joining.{Places, MayBeAll, MayGiveAt}
 use Rattle.futures_buffered_joins.specs.JoinRule.{Outcome, output_kept}
 use Rattle.futures_buffered_joins.specs.Join.{JoinGives, JoinMayGive, JoinsByPlace}
 use Rattle.futures_buffered_joins.specs.JoinTask.{PollsJoin, ReadySourceOf, SlotFutureOf, JoinRuleOf}
-use Rattle.futures_buffered_joins.proofs.JoiningGivenLemmas.{all_back, all_now, any_back, waits_back, by_place}
+use Rattle.futures_buffered_joins.proofs.JoiningGivenLemmas.{all_back, any_back, waits_back, by_place}
+use Rattle.futures_buffered_joins.proofs.OutputsLemmas.{all_now}
 
 module _ {F O A E S : Type 0} (polled : ℕ → F → Poll O → F → Type 0) (steps : SourceSteps S) (output_of : Result A E → O) where
   pub ready_value : (old new : Option (Places F A S)) (answer : Poll (Outcome A E)) → JoinGives polled steps output_of old answer new → IfReady answer (JoinMayGive polled output_of old)
   ready_value None new (Ready (Ok outputs)) h = h.0
   ready_value None new (Ready (Err e)) h = absurd h
   ready_value None new Pending h = absurd h
-  ready_value (Some old) new (Ready (Ok outputs)) h = all_back polled steps (output_kept output_of) h.0 old h.1 outputs h.2 (all_now polled steps (output_kept output_of) h.1 outputs h.3.1)
+  ready_value (Some old) new (Ready (Ok outputs)) h = all_back polled steps (output_kept output_of) h.0 old h.1 outputs h.2 (all_now (λ k x. MayGiveAt polled h.1.set.slots k (output_of (Ok x))) h.1.outputs outputs h.3.1)
   ready_value (Some old) new (Ready (Err e)) h =
       let asks = h.3.0.2 in
       any_back polled steps (output_kept output_of) h.0 old h.1 (output_of (Err e)) h.2 (gives_passed polled asks.0 h.1.set.slots asks.2 (output_of (Err e)) asks.3.passes (gives_output polled asks.2 _ h.3.0.0 (output_of (Err e)) asks.4))

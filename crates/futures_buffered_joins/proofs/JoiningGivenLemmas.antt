@@ -1,7 +1,7 @@
 -- What the outputs of a join may be, seen from before some polls of its set.
-use Rattle.std.proofs.Common.{◌≡◌, ◌≢◌, ℕ, List, [], ◌∷◌, length, map, get_or, set, Option, Some, None, MatchOption, refl, sym, ap, subst, inl, inr, arith, ◌∙◌, length-set}
+use Rattle.std.proofs.Common.{◌≡◌, ◌≢◌, ℕ, List, [], ◌∷◌, length, get_or, set, Option, Some, None, MatchOption, refl, sym, ap, subst, inl, inr, arith, ◌∙◌, length-set}
 use Rattle.std.specs.List.{FoldsTo}
-use Rattle.std.proofs.lemmas.List.{get_or-set_same, get_or-set_other, get_or_past, get_or-map, get_or-replicate, length-map, length-replicate}
+use Rattle.std.proofs.lemmas.List.{get_or-set_same, get_or-set_other, get_or_past, get_or-map, get_or-replicate, length-replicate}
 use Rattle.std.proofs.lemmas.Option.{get_or_from_slice_get, slice_get_within}
 use Rattle.std.proofs.lemmas.Bool.{cases_eq, cases_lt}
 use Rattle.futures.specs.declared.task.Poll.{Poll}
@@ -111,16 +111,6 @@ module _ {F R A S : Type 0} (polled : ℕ → F → Poll R → F → Type 0) (st
       record {
         as_many = all.as_many ∙ ap length h.same_outputs;
         each = λ k x got. same_output old new k x (output_at old k) refl (ap (λ (l : List (Option A)). get_or l k None) h.same_outputs) (passed_all_at polled h.is_pending.0 old.set.slots new.set.slots k (as_output x) h.is_pending.3.passes) (all.each k x got);
-      }
-
-  -- outputs that have come are all outputs
-  pub all_now : (before : Places F A S) (outputs : List A) → before.outputs ≡ map Some outputs → MayBeAll polled as_output before outputs
-  all_now before outputs is =
-      record {
-        as_many = sym (ap length is ∙ length-map outputs Some);
-        each = λ k x got.
-            let found : output_at before k ≡ Some x = rw is (get_or-map Some outputs k x None (slice_get_within outputs k x got) ∙ ap Some (get_or_from_slice_get outputs k x x got)) in
-            rw found refl;
       }
 
   -- all outputs of a new join are one of each item

@@ -1,9 +1,6 @@
 -- What one poll of a join's set makes of its places.
-use Rattle.std.proofs.Common.{◌≡◌, ℕ, ◌<◌, zero, suc, List, [], ◌∷◌, length, map, get_or, set, Option, Some, None, Result, Err, IsSome, is_some, true, false, not, cond, refl, sym, ap, subst, inl, inr, arith, ◌∙◌}
-use Rattle.std.specs.List.{count_by}
-use Rattle.std.proofs.lemmas.List.{get_or_past, get_or-replicate, length-map, length-replicate}
-use Rattle.std.proofs.lemmas.List.Sums.{sum_by-cons}
-use Rattle.std.proofs.lemmas.Bool.{cases_lt}
+use Rattle.std.proofs.Common.{◌≡◌, ℕ, ◌<◌, zero, suc, List, [], ◌∷◌, length, map, get_or, set, Option, Some, None, Result, Err, IsSome, is_some, true, false, not, refl, sym, ap, subst, arith, ◌∙◌}
+use Rattle.std.proofs.lemmas.List.{get_or-replicate, length-map, length-replicate}
 use Rattle.std.specs.Prelude.{replicate}
 use Rattle.futures.specs.declared.task.Poll.{Poll}
 use Rattle.futures.specs.declared.task.Poll.TheVariants.{Ready}
@@ -12,33 +9,15 @@ use Rattle.futures_buffered_table.specs.declared.answer.Woke.{Woke}
 use Rattle.futures_buffered_core.specs.ReadySource.{SourceSteps}
 use Rattle.futures_buffered_unordered.specs.FuturesUnorderedBounded.{Bounded, HoldsEach, AsksUntil, with_empty_slot}
 use Rattle.futures_buffered_joins.specs.Joining.{Places, Fills}
-use Rattle.futures_buffered_joins.specs.JoiningInvariant.{KeepsJoinPlaces}
+use Rattle.futures_buffered_joins.specs.Outputs.{WaitsOrCame}
 use Rattle.futures_buffered_joins.specs.Join.{Fails}
-
-pub none_from : {A : Type 0} (o : Option A) → is_some o ≡ false → o ≡ None
-none_from None e = refl
-none_from (Some x) e = cc
-
--- what is there stands below the length
-pub below_from_some : {A : Type 0} (xs : List (Option A)) (i : ℕ) → is_some (get_or xs i None) ≡ true → i < length xs
-below_from_some {A} xs i e =
-    elim (cases_lt i (length xs)) [
-      | inl below ↦ below
-      | inr past ↦ let none : get_or xs i None ≡ None = get_or_past {X = Option A} xs i None past in let k : false ≡ true = rw none at e in cc
-    ]
-
--- where nothing is counted, nothing is there
-pub none_counted : {F : Type 0} (xs : List (Option F)) (i : ℕ) → count_by is_some xs ≡ 0 → is_some (get_or xs i None) ≡ false
-none_counted [] i e = refl
-none_counted (None ∷ xs) zero e = refl
-none_counted (None ∷ xs) (suc i) e = none_counted xs i e
-none_counted {F} (Some f ∷ xs) i e = absurd (omega (arith, e, sum_by-cons (λ (o : Option F). cond (is_some o) 1 0) (Some f) xs))
+use Rattle.futures_buffered_joins.proofs.OutputsLemmas.{none_from, below_from_some}
 
 module _ {F O A S : Type 0} (polled : ℕ → F → Poll O → F → Type 0) (steps : SourceSteps S) where
-  pub fills_place : (as_output : A → O) (old new : Places F A S) (held mid : Bounded F S) (outputs : List (Option A)) (gathered : List A) (room i : ℕ) (output : O) (x : A) → old ≡ record { set = held; outputs = outputs } → KeepsJoinPlaces {F = F} {A = A} {S = S} (record { set = held; outputs = outputs }) gathered room → as_output x ≡ output
+  pub fills_place : (as_output : A → O) (old new : Places F A S) (held mid : Bounded F S) (outputs : List (Option A)) (i : ℕ) (output : O) (x : A) → old ≡ record { set = held; outputs = outputs } → WaitsOrCame held.slots outputs → as_output x ≡ output
       → AsksUntil polled steps held (Ready (i, output)) mid → ((j : ℕ) → is_some (value_in mid.slots j) ≡ is_some (value_in held.slots j)) → IsSome (value_in mid.slots i)
       → new.set ≡ with_empty_slot mid i → new.outputs ≡ set outputs i (Some x) → Fills polled steps as_output old (i, x) new
-  fills_place as_output old new held mid outputs gathered room i output x is keeps of gave same some gone done =
+  fills_place as_output old new held mid outputs i output x is keeps of gave same some gone done =
       let was : is_some (value_in held.slots i) ≡ true = sym (same i) ∙ some in
       let below : i < length outputs = omega (arith, below_from_some held.slots.places i was, keeps.same_size) in
       let waited : get_or outputs i None ≡ None = none_from (get_or outputs i None) (keeps.either i below ∙ ap not was) in
@@ -49,9 +28,8 @@ module _ {F O A S : Type 0} (polled : ℕ → F → Poll O → F → Type 0) (st
   fails_place output_of old held mid outputs i output e is of gave = rw is (i, mid, subst (λ (a : O). AsksUntil polled steps held (Ready (i, a)) mid) (sym of) gave)
 
 -- a new join keeps itself
-pub keeps_new : {F A S : Type 0} (made : ℕ → S → Type 0) (marks : S → ℕ → Woke → S → Type 0) (limit : ℕ) (items : List F) (held : Bounded F S) (outputs : List (Option A)) (gathered : List A) (room : ℕ) → HoldsEach made marks limit items held → outputs ≡ replicate (slot_count held.slots) None → gathered ≡ [] → room ≡ slot_count held.slots
-    → KeepsJoinPlaces {F = F} {A = A} {S = S} (record { set = held; outputs = outputs }) gathered room
-keeps_new {F} {A} made marks limit items held outputs gathered room new is empty enough =
+pub keeps_new : {F A S : Type 0} (made : ℕ → S → Type 0) (marks : S → ℕ → Woke → S → Type 0) (limit : ℕ) (items : List F) (held : Bounded F S) (outputs : List (Option A)) → HoldsEach made marks limit items held → outputs ≡ replicate (slot_count held.slots) None → WaitsOrCame held.slots outputs
+keeps_new {F} {A} made marks limit items held outputs new is =
     let size : length outputs ≡ slot_count held.slots = ap length is ∙ length-replicate (slot_count held.slots) None in
     let count : slot_count held.slots ≡ length items = ap slot_count new.slots_hold ∙ length-map items Some in
     record {
@@ -59,8 +37,6 @@ keeps_new {F} {A} made marks limit items held outputs gathered room new is empty
       either = λ k below.
           let none : get_or outputs k None ≡ None = rw is (get_or-replicate {A = Option A} (slot_count held.slots) k None None (omega (arith, size, below))) in
           rw (none, new.slots_hold) (there items k (omega (arith, size, count, below)));
-      none_gathered = empty;
-      has_room = omega (arith, size, enough);
     }
   where
     there : (xs : List F) (k : ℕ) → k < length xs → false ≡ not (is_some (get_or (map Some xs) k None))

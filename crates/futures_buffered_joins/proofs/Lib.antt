@@ -1,3 +1,5 @@
 pub mod JoiningLemmas
 pub mod JoiningGivenLemmas
 pub mod JoinLemmas
+pub mod OutputsLemmas
+pub mod InFlightJoinLemmas

@@ -12,6 +12,7 @@ use Rattle.futures_buffered_unordered.specs.FuturesUnorderedBounded.{Bounded, As
 use Rattle.futures_buffered_joins.specs.Joining.{Places, IsNewJoin, Fills, PollsPending, MayBeAll}
 use Rattle.futures_buffered_joins.specs.Joining.{CameByPlace}
 use Rattle.futures_buffered_joins.specs.JoinRule.{Outcome, output_kept}
+use Rattle.futures_buffered_joins.specs.Outputs.{MayEndWith}
 
 -- `output_of` says which output is kept as a value, and which one ends the join with an error
 module _
@@ -69,9 +70,6 @@ module _
 -- that one of the futures waited for may give
 abbrev pub JoinMayGive : {F O A E S : Type 0} → (ℕ → F → Poll O → F → Type 0)
     → (Result A E → O) → Option (Places F A S) → Outcome A E → Type 0
-JoinMayGive polled output_of None (Ok outputs) = outputs ≡ []
-JoinMayGive polled output_of None (Err e) = ⊥
-JoinMayGive polled output_of (Some places) (Ok outputs) =
-    MayBeAll polled (output_kept output_of) places outputs
-JoinMayGive polled output_of (Some places) (Err e) =
-    AnyMayGive polled places.set.slots (output_of (Err e))
+JoinMayGive polled output_of = MayEndWith
+    (MayBeAll polled (output_kept output_of))
+    (λ places e. AnyMayGive polled places.set.slots (output_of (Err e)))

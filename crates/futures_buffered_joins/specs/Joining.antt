@@ -1,6 +1,6 @@
 -- What a contract sees of a join, and what the polls of its set make of it.
-use Rattle.std.specs.Prelude.{◌≡◌, ℕ, ◌<◌, List, length, Option, Some, None, MatchOption, slice_get}
-use Rattle.std.specs.Prelude.{slice_index_or, slice_set, replicate, refl}
+use Rattle.std.specs.Prelude.{◌≡◌, ℕ, ◌<◌, List, length, Option, Some, None, slice_set, replicate}
+use Rattle.std.specs.Prelude.{refl}
 use Rattle.std.specs.List.{FoldsTo}
 use Rattle.std.specs.Coded.{Coded, code_by, coded×, coded_list, coded_option}
 use Rattle.futures.specs.declared.task.context.Context.{Context}
@@ -13,6 +13,7 @@ use Rattle.futures_buffered_unordered.specs.Held.{MayGive}
 use Rattle.futures_buffered_unordered.specs.FuturesUnorderedBounded.{Bounded, HoldsEach, AsksUntil}
 use Rattle.futures_buffered_unordered.specs.FuturesUnorderedBounded.{slots_in, with_empty_slot}
 use Rattle.futures_buffered_unordered.specs.FuturesUnorderedBounded.{LeavesTask, OnlyRegisters}
+use Rattle.futures_buffered_joins.specs.Outputs.{CameInOrder, MayComeAll, MayComeAt, output_in}
 
 -- the places of a join that has not ended: a set of the futures that it waits for, each in the slot
 -- of its place, and at each place the output that has come, or nothing
@@ -37,7 +38,7 @@ places_in places = slots_in places.set
 
 -- the output that has come at a place, if any
 abbrev pub output_at : {F A S : Type 0} → Places F A S → ℕ → Option A
-output_at places k = slice_index_or places.outputs k None
+output_at places = output_in places.outputs
 
 -- item k waits at place k, and no output has come
 pub record IsNewJoin
@@ -90,30 +91,17 @@ MayGiveAt {F} polled slots k x = (f : F) × (value_in slots k ≡ Some f) × May
 -- x may be the output at this place: it has come there, or the future that waits there may give it
 abbrev pub MayBeAt : {F R A S : Type 0}
     → (ℕ → F → Poll R → F → Type 0) → (A → R) → Places F A S → ℕ → A → Type 0
-MayBeAt polled as_output places k x = MatchOption (output_at places k)
-    (MayGiveAt polled places.set.slots k (as_output x))
-    (λ done. x ≡ done)
+MayBeAt polled as_output places =
+    MayComeAt (λ k x. MayGiveAt polled places.set.slots k (as_output x)) places.outputs
 
 -- these may be all outputs, one for each place, in the order of the places
-pub record MayBeAll
-    {F R A S : Type 0}
-    (polled : ℕ → F → Poll R → F → Type 0)
-    (as_output : A → R)
-    (places : Places F A S)
-    (outputs : List A)
-    : Type 0 where
-  pub as_many : length outputs ≡ length places.outputs
-  pub each : (k : ℕ) (x : A) → slice_get outputs k ≡ Some x → MayBeAt polled as_output places k x
+abbrev pub MayBeAll : {F R A S : Type 0}
+    → (ℕ → F → Poll R → F → Type 0) → (A → R) → Places F A S → List A → Type 0
+MayBeAll polled as_output places =
+    MayComeAll (λ k x. MayGiveAt polled places.set.slots k (as_output x)) places.outputs
 
 -- there are as many outputs as items, and the output at place k is one that item k may give, polled
 -- with the waker of slot k
-pub record CameByPlace
-    {F R A : Type 0}
-    (polled : ℕ → F → Poll R → F → Type 0)
-    (as_output : A → R)
-    (items : List F)
-    (outputs : List A)
-    : Type 0 where
-  pub as_many : length outputs ≡ length items
-  pub each : (k : ℕ) (item : F) (x : A) → slice_get items k ≡ Some item
-      → slice_get outputs k ≡ Some x → MayGive (polled k) item (as_output x)
+abbrev pub CameByPlace : {F R A : Type 0}
+    → (ℕ → F → Poll R → F → Type 0) → (A → R) → List F → List A → Type 0
+CameByPlace polled as_output = CameInOrder (λ k item x. MayGive (polled k) item (as_output x))

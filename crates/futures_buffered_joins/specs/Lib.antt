@@ -1,7 +1,8 @@
 pub mod Joining
-pub mod JoiningInvariant
 pub mod JoinMade
 pub mod JoiningFills
 pub mod JoinTask
 pub mod JoinRule
 pub mod Join
+pub mod Outputs
+pub mod InFlightJoin

@@ -13,21 +13,20 @@ ghost use Rattle.futures_buffered_joins.specs.JoiningFills.{FillsOne, FillsAll, 
 ghost use Rattle.futures_buffered_joins.specs.Join.{Fails, FailsAfter};
 
 use crate::join_rule::JoinRule;
+use crate::outputs::Outputs;
 use futures::task::{Context, Poll};
 use futures_buffered_core::ready_core::NewFault;
 use futures_buffered_core::ready_source::{NewSource, ReadySource};
-use futures_buffered_core::slot_map::empty_places;
 use futures_buffered_unordered::futures_unordered_bounded::{FuturesUnorderedBounded, POLL_LIMIT};
 use futures_buffered_unordered::{PollFuture, SlotFuture};
 use std::alloc::Global;
 use std::marker::Model;
 
-/// The futures that a join waits for, each in the slot of its place, and the outputs that have come, each at its place. Room for the vector that is given at the end was taken at the beginning.
+/// The futures that a join waits for, each in the slot of its place, and the outputs that have come, each at its place.
 #[derive(Drop)]
 pub struct Joining<F: Drop, A: Drop, S: ReadySource> {
     set: FuturesUnorderedBounded<F, S>,
-    outputs: Vec<Option<A>>,
-    gathered: Vec<A>,
+    outputs: Outputs<A>,
 }
 
 impl<F: Drop, A: Drop, S: ReadySource> Model for Joining<F, A, S> {
@@ -38,13 +37,11 @@ impl<F: Drop, A: Drop, S: ReadySource> Model for Joining<F, A, S> {
 
     ghost coded = { places_code A.code (bounded_code F.code S.code) };
 
-    ghost use Rattle.std.specs.Prelude.{vec_capacity};
-    ghost use Rattle.futures_buffered_joins.specs.JoiningInvariant.{KeepsJoinPlaces};
+    ghost use Rattle.futures_buffered_joins.specs.Outputs.{WaitsOrCame};
 
-    ghost view = { λ s. record { set = s.set; outputs = s.outputs.items } };
+    ghost view = { λ s. record { set = s.set; outputs = s.outputs } };
 
-    ghost invariant = { λ s. KeepsJoinPlaces (record { set = s.set; outputs = s.outputs.items })
-        s.gathered.items (vec_capacity s.gathered) };
+    ghost invariant = { λ s. WaitsOrCame s.set.slots s.outputs };
 }
 
 impl<F: Drop, A: Drop, S: NewSource> Joining<F, A, S> {
@@ -59,13 +56,8 @@ impl<F: Drop, A: Drop, S: NewSource> Joining<F, A, S> {
             (IsNewJoin S.made S.marks POLL_LIMIT) result }
     {
         let set = FuturesUnorderedBounded::over(env, alloc, iter)?;
-        let outputs = empty_places(alloc, set.capacity())?;
-        let gathered = Vec::with_capacity(alloc, set.capacity())?;
-        Ok(Joining {
-            set,
-            outputs,
-            gathered,
-        })
+        let outputs = Outputs::new(alloc, set.capacity())?;
+        Ok(Joining { set, outputs })
     }
 }
 
@@ -92,26 +84,16 @@ impl<F: Drop, A: Drop, S: ReadySource> Joining<F, A, S> {
         ensures fewer { held_count self.new.set.slots + 1 ≡ held_count self.old.set.slots }
     {
         self.set.empty_slot(i);
-        self.outputs[i] = Some(output);
+        self.outputs.put(i, output);
     }
 
     // All outputs, in the order of the places.
+    #[tactic(auto, using(crate::proofs::OutputsLemmas::all_came))]
     pub(crate) fn gather(self) -> Vec<A>
         requires { held_count self.set.slots ≡ 0 }
         ensures { self.outputs ≡ map Some result.items }
     {
-        let Joining {
-            set: _set,
-            outputs,
-            mut gathered,
-        } = self;
-        'places: for output in outputs {
-            match output {
-                Some(output) => gathered.push_reserved(output),
-                None => unreachable!(),
-            }
-        }
-        gathered
+        self.outputs.gather()
     }
 }
 

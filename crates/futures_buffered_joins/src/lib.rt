@@ -7,14 +7,23 @@
 //! - `join_rule`: by what rule a join goes: what is kept of an output, and which output ends the join.
 //! - `join_by`: the type of both, by a rule.
 //! - `joining`: what a join keeps until it ends, a set of the futures and the outputs that have come.
+//! - `outputs`: the outputs that have come, each at its place.
+//! - `in_flight_join`: `foreign_join_all` and `foreign_try_join_all`, by the same rules, of futures of the kit in plain sight.
+//! - `flying`: what such a join keeps until it ends.
 #![tactic(auto)]
 
+mod flying;
+pub mod in_flight_join;
 pub mod join;
 pub mod join_by;
 pub mod join_rule;
 mod joining;
+mod outputs;
 pub mod try_join;
 
+pub use in_flight_join::{
+    ForeignJoin, ForeignTryJoin, InFlightJoin, foreign_join_all, foreign_try_join_all,
+};
 pub use join::{Join, JoinAll, join_all};
 pub use join_by::{JoinBy, JoinName, JoinRule};
 pub use try_join::{TryJoin, TryJoinAll, try_join_all};

@@ -19,7 +19,7 @@ returns-in-Ok-clause-ready g c =
     record {
       filled = record {
         output = (way.i, c.in-Ok.kept);
-        fills = fills_place future.polled source.steps (output_kept g.R.JoinRule.output_of) c.args.self.now c.fill.new.self _ c.poll_first.new.self _ _ _ way.i way.output c.in-Ok.kept (sym c.self.view_is) c.self.invariant c.in-Ok.ensures way.ensures.polled way.ensures.set.same_slots (some_from_end (future.polled way.i) _ _ way.ensures.set.last) c.fill.ensures.set c.fill.ensures.outputs;
+        fills = fills_place future.polled source.steps (output_kept g.R.JoinRule.output_of) c.args.self.now c.fill.new.self _ c.poll_first.new.self _ way.i way.output c.in-Ok.kept (sym c.self.view_is) c.self.invariant c.in-Ok.ensures way.ensures.polled way.ensures.set.same_slots (some_from_end (future.polled way.i) _ _ way.ensures.set.last) c.fill.ensures.set c.fill.ensures.outputs;
         again = grind (arith, common_steps);
         fewer = grind (arith, common_steps);
       };

@@ -1,11 +1,7 @@
-use Rattle.std.proofs.Common.{rules, ◌∙◌}
 use Rattle.futures_buffered_joins.proofs.JoiningLemmas.{keeps_new}
 use Rattle.futures_buffered_joins.proofs.joining.Joining.over.Goals as goal
 
 pub invariant_of-result : goal.invariant_of-result
 invariant_of-result g c =
     let held = c.in_ok-set.ensures.holds in
-    keeps_new g.S.NewSource.made g.S.ReadySource.marks _ held.0 c.in_ok-set.set c.in_ok-outputs.outputs.items _ _ held.2 (rw (← c.capacity.ensures.value) c.in_ok-outputs.ensures) c.in_ok-gathered.ensures.items (c.in_ok-gathered.ensures.exact ∙ c.capacity-2.ensures.value)
-
-pub returns-in_err-gathered : goal.returns-in_err-gathered
-returns-in_err-gathered g c = record { holds = search rules; fits = search rules; large = search rules }
+    keeps_new g.S.NewSource.made g.S.ReadySource.marks _ held.0 c.in_ok-set.set c.in_ok-outputs.outputs held.2 (rw (← c.capacity.ensures.value) c.in_ok-outputs.ensures)

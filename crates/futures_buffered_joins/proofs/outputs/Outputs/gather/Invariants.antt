@@ -1,5 +1,5 @@
 use Rattle.std.proofs.Common.{◌≡◌, Some, map, vec_capacity}
-use Rattle.futures_buffered_joins.proofs.joining.Joining.gather.Given as goal
+use Rattle.futures_buffered_joins.proofs.outputs.Outputs.gather.Given as goal
 
 abbrev pub invariant-places : goal.invariant-places
 invariant-places g l = (goal.iterator-places g).can_next l.output-iterator

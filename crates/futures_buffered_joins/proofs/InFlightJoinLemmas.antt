@@ -1,0 +1,271 @@
+-- How a join of futures in flight is made, and what an output, a pending poll and the end make of it.
+use Rattle.std.proofs.Common.{◌≡◌, ◌≢◌, ◌<◌, ℕ, zero, suc, ◌+◌, ◌-◌, List, [], ◌∷◌, ◌++◌, length, map, get_or, set, Option, Some, None, Ok, Err, is_some, cond, not, true, All, refl, sym, ap, ap₂, subst, ◌∙◌, inl, inr, arith, length-set, slice_get}
+use Rattle.std.specs.List.{range_with_len, count_by}
+use Rattle.std.specs.Prelude.{replicate}
+use Rattle.std.specs.Iterator.{Drains, YieldsThen}
+use Rattle.std.proofs.lemmas.List.{get_or-set_same, get_or-set_other, get_or-replicate, length-replicate, length_push}
+use Rattle.std.proofs.lemmas.List.Sums.{sum_by-cons, count_by-le-length}
+use Rattle.std.proofs.lemmas.Option.{slice_get_within}
+use Rattle.std.proofs.lemmas.Bool.{cases_eq}
+use Rattle.futures_buffered_core.specs.Drawn.{SourceOf, IteratorOf, Draws}
+use Rattle.futures_buffered_core.specs.SlotMap.{Slots, value_in, held_count, slot_count, with_slot_freed}
+use Rattle.futures_buffered_unordered.proofs.HeldGivesLemmas.{value_in-with_slot_freed, value_in-with_slot_freed_other, None-Some}
+use Rattle.futures_buffered_in_flight.specs.InFlight.{FutureOf, Flights, CanPollAll, IsNewInFlight, KeyGives, SlotGives, PushesAt, Yields, RunsGiveNoMore}
+use Rattle.futures_buffered_in_flight.specs.declared.in_flight.Came.{Came}
+use Rattle.futures_buffered_in_flight.specs.declared.in_flight.Place.{Place}
+use Rattle.futures_buffered_in_flight.specs.declared.run.Key.{Key}
+use Rattle.futures_buffered_in_flight.proofs.InFlightLemmas.{slots_within, slots_after}
+use Rattle.futures_buffered_joins.specs.JoinRule.{Outcome}
+use Rattle.futures_buffered_joins.specs.JoinTask.{JoinRuleOf}
+use Rattle.futures_buffered_joins.specs.Outputs.{WaitsOrCame, MayComeAt, output_in}
+use Rattle.futures_buffered_joins.specs.InFlightJoin.{Flying, EachDrawn, FliesByPlace, HoldsInOrder, FliesOn, FlyingMayGive}
+use Rattle.futures_buffered_joins.proofs.OutputsLemmas.{below_from_some, none_from, all_now}
+
+Some-same : {F : Type 0} {f g : F} → Some f ≡ Some g → f ≡ g
+Some-same e = cc
+
+same_head : {x y : ℕ} {xs ys : List ℕ} → x ∷ xs ≡ y ∷ ys → x ≡ y
+same_head e = cc
+
+same_tail : {x y : ℕ} {xs ys : List ℕ} → x ∷ xs ≡ y ∷ ys → xs ≡ ys
+same_tail e = cc
+
+no_head : {x : ℕ} {xs : List ℕ} → x ∷ xs ≡ [] → ⊥
+no_head e = cc
+
+-- each of the items that came from an iterator is one that may come
+all_drawn : {S A : Type 0} (steps : S → Option A → S → Type 0) (P : A → Type 0) (it : S) (items : List A) → Drains steps it items
+    → ((xs : List A) (x : A) (rest : S) → YieldsThen steps it xs (Some x) rest → P x) → All P items
+all_drawn steps P it [] drains each k d below = absurd (omega arith)
+all_drawn steps P it (x ∷ items) drains each zero d below =
+    let first = drains.1.1 in
+    each [] x first.0 (it, refl, first.1)
+all_drawn steps P it (x ∷ items) drains each (suc k) d below =
+    let first = drains.1.1 in
+    all_drawn steps P first.0 items (drains.0, (drains.1.0, first.2, drains.1.2)) (λ xs y rest more. each (x ∷ xs) y rest (more.0, (first.0, first.1, more.1), more.2)) k d (omega arith)
+
+-- so each of them is as each item is that may come
+pub fit_drawn : {U F I : Type 0} (by : SourceOf U F I) (gives : IteratorOf I F) (source : U) (P : F → Type 0) (items : List F) → EachDrawn by gives source P → Draws by gives source items → All P items
+fit_drawn by gives source P items each draws = all_drawn gives.next_gives P draws.0 items draws.2 (λ xs x rest more. each draws.0 rest xs x draws.1 more)
+
+get_push_last : {F : Type 0} (xs : List F) (f : F) → slice_get (xs ++ f ∷ []) (length xs) ≡ Some f
+get_push_last [] f = refl
+get_push_last (x ∷ xs) f = get_push_last xs f
+
+get_push_other : {F : Type 0} (xs : List F) (f g : F) (k : ℕ) → slice_get (xs ++ f ∷ []) k ≡ Some g → k ≢ length xs → slice_get xs k ≡ Some g
+get_push_other [] f g zero got other = absurd (other refl)
+get_push_other [] f g (suc k) got other = got
+get_push_other (x ∷ xs) f g zero got other = got
+get_push_other (x ∷ xs) f g (suc k) got other = get_push_other xs f g k got (λ same. other (ap suc same))
+
+none_held : (n : ℕ) → count_by is_some (replicate {A = Option Place} n None) ≡ 0
+none_held zero = refl
+none_held (suc n) = none_held n
+
+-- where as many are counted as there are, each is there
+all_counted : {P : Type 0} (places : List (Option P)) (k : ℕ) → count_by is_some places ≡ length places → k < length places → is_some (get_or places k None) ≡ true
+all_counted [] k same below = absurd (omega arith)
+all_counted (None ∷ places) k same below = absurd (let most = count_by-le-length is_some places in omega (arith, same, most, sum_by-cons (λ (o : Option _). cond (is_some o) 1 0) None places))
+all_counted (Some x ∷ places) zero same below = refl
+all_counted (Some x ∷ places) (suc k) same below = all_counted places k (omega (arith, same, sum_by-cons (λ (o : Option _). cond (is_some o) 1 0) (Some x) places)) (omega arith)
+
+module _ {F O : Type 0} (future : FutureOf F O) where
+  -- these went in so far, of n, each in the slot of its place
+  pub record PushedSoFar (n : ℕ) (xs : List F) (held : Flights F) : Type 0 where
+    pub as_many : slot_count held.slots ≡ n
+    pub free : held.slots.free ≡ range_with_len (length xs) (n - length xs)
+    pub all_wait : held_count held.slots ≡ length xs
+    pub own : (k : ℕ) (item : F) (x : O) → slice_get xs k ≡ Some item → SlotGives future held k x → future.gives item x
+    pub again : CanPollAll future held
+
+  pub pushed_none : (n : ℕ) (set : Flights F) → IsNewInFlight n set → CanPollAll future set → PushedSoFar n [] set
+  pushed_none n set new can =
+      record {
+        as_many = ap (λ (s : Slots Place). slot_count s) new.0 ∙ length-replicate n None;
+        free = ap (λ (s : Slots Place). s.free) new.0 ∙ ap (range_with_len 0) (omega arith);
+        all_wait = ap (λ (s : Slots Place). held_count s) new.0 ∙ none_held n;
+        own = λ k item x got h. absurd (None-Some got);
+        again = can;
+      }
+
+  -- one more went in
+  pub pushed_one : (n : ℕ) (xs : List F) (f : F) (key : Key) (old new : Flights F) → PushedSoFar n xs old → PushesAt future old f 0 key new → CanPollAll future new → PushedSoFar n (xs ++ f ∷ []) new
+  pushed_one n xs f key old new so p can = by_left (n - length xs) refl
+    where
+      holds : value_in new.slots key.slot ≡ Some (record { tag = 0; push = key.push })
+      holds = ap (λ ps. get_or ps key.slot None) p.went_in.now_held ∙ get_or-set_same old.slots.places key.slot (Some (record { tag = 0; push = key.push })) None p.went_in.within
+
+      its_own : (k : ℕ) (x : O) → k ≡ key.slot → SlotGives future new k x → future.gives f x
+      its_own k x same h =
+          let place : h.0 ≡ record { tag = 0; push = key.push } = Some-same (sym h.1 ∙ (ap (λ i. value_in new.slots i) same ∙ holds)) in
+          let at : record { slot = k; push = h.0.push } ≡ key = ap₂ (λ (slot push : ℕ). record { slot = slot; push = push }) same (ap (λ (p : Place). p.push) place) in
+          p.own x (subst (λ (key : Key). KeyGives future new key x) at h.2)
+
+      others : (k : ℕ) (item : F) (x : O) → k ≢ key.slot → slice_get xs k ≡ Some item → SlotGives future new k x → future.gives item x
+      others k item x other got h =
+          elim (p.others _ h.2) [
+            | inl was ↦ so.own k item x got (h.0, sym (get_or-set_other old.slots.places key.slot k _ None other) ∙ (sym (ap (λ ps. get_or ps k None) p.went_in.now_held) ∙ h.1), was)
+            | inr own ↦ absurd (other (ap (λ (key : Key). key.slot) own.0))
+          ]
+
+      by_left : (m : ℕ) → n - length xs ≡ m → PushedSoFar n (xs ++ f ∷ []) new
+      by_left zero left = absurd (no_head (sym p.went_in.first_free ∙ (so.free ∙ ap (range_with_len (length xs)) left)))
+      by_left (suc m) left =
+          let free : key.slot ∷ new.slots.free ≡ length xs ∷ range_with_len (length xs + 1) m = sym p.went_in.first_free ∙ (so.free ∙ ap (range_with_len (length xs)) left) in
+          let at : key.slot ≡ length xs = same_head free in
+          let more : length (xs ++ f ∷ []) ≡ length xs + 1 = length_push xs f in
+          let fewer : m ≡ n - length (xs ++ f ∷ []) = omega (arith, more, left) in
+          record {
+            as_many = ap length p.went_in.now_held ∙ (length-set old.slots.places key.slot _ ∙ so.as_many);
+            free = same_tail free ∙ ap₂ range_with_len (sym more) fewer;
+            all_wait = omega (arith, p.one_more, so.all_wait, more);
+            own = λ k item x got h. elim (cases_eq k key.slot) [
+              | inl same ↦
+                  let is : f ≡ item = Some-same (sym (get_push_last xs f) ∙ (ap (slice_get (xs ++ f ∷ [])) (sym (same ∙ at)) ∙ got)) in
+                  subst (λ (g : F). future.gives g x) is (its_own k x same h)
+              | inr other ↦ others k item x other (get_push_other xs f item k got (λ same. other (same ∙ sym at))) h
+            ];
+            again = can;
+          }
+
+  -- all of them went in
+  pub pushed_all : (items xs : List F) (set : Flights F) → items ≡ xs → PushedSoFar (length items) xs set → HoldsInOrder future items set
+  pushed_all items xs set same so =
+      record {
+        as_many = so.as_many;
+        all_wait = so.all_wait ∙ sym (ap length same);
+        own = λ k item x got h. so.own k item x (sym (ap (λ ys. slice_get ys k) same) ∙ got) h;
+      }
+
+  -- at each place of a new join its future waits
+  pub all_wait : {A : Type 0} (items : List F) (set : Flights F) (outputs : List (Option A)) → HoldsInOrder future items set → outputs ≡ replicate (length items) None → WaitsOrCame set.slots outputs
+  all_wait {A} items set outputs holds none =
+      let size : length outputs ≡ length items = ap length none ∙ length-replicate (length items) None in
+      record {
+        same_size = size ∙ sym holds.as_many;
+        either = λ k below.
+            let nothing : output_in outputs k ≡ None = rw none (get_or-replicate {A = Option A} (length items) k None None (omega (arith, size, below))) in
+            let there : is_some (value_in set.slots k) ≡ true = all_counted set.slots.places k (holds.all_wait ∙ sym holds.as_many) (omega (arith, size, below, holds.as_many)) in
+            ap is_some nothing ∙ sym (ap not there);
+      }
+
+module _ {F R O A E B : Type 0} (future : FutureOf F O) (rule : JoinRuleOf R O A E B) where
+  pub flies_first : (places : Flying F A) → WaitsOrCame places.set.slots places.outputs → CanPollAll future places.set → FliesOn future rule places places
+  flies_first places keeps can = record { places = keeps; as_many = refl; narrows = λ x h. h; again = can }
+
+  pub flies_then : (a b c : Flying F A) → FliesOn future rule a b → FliesOn future rule b c → FliesOn future rule a c
+  flies_then a b c p q = record { places = q.places; as_many = q.as_many ∙ p.as_many; narrows = λ x h. p.narrows x (q.narrows x h); again = q.again }
+
+  -- what may come at a place once an output came, here or elsewhere, might before
+  came_at : (before after : Flights F) (outputs : List (Option A)) (came : Came O) (kept : A) → WaitsOrCame before.slots outputs → Yields future before came after → RunsGiveNoMore future before after
+      → rule.output_of (Ok kept) ≡ came.output → came.key.slot < length outputs → (k : ℕ) (x : A)
+      → MayComeAt (λ k x. SlotGives future after k (rule.output_of (Ok x))) (set outputs came.key.slot (Some kept)) k x
+      → MayComeAt (λ k x. SlotGives future before k (rule.output_of (Ok x))) outputs k x
+  came_at before after outputs came kept keeps y narrows of below k x h =
+      elim (cases_eq k came.key.slot) [ inl same ↦ here same | inr other ↦ by_output other (output_in outputs k) refl ]
+    where
+      here : k ≡ came.key.slot → MayComeAt (λ k x. SlotGives future before k (rule.output_of (Ok x))) outputs k x
+      here same =
+          let now : output_in (set outputs came.key.slot (Some kept)) k ≡ Some kept = ap (output_in (set outputs came.key.slot (Some kept))) same ∙ get_or-set_same {A = Option A} outputs came.key.slot (Some kept) None below in
+          let is : x ≡ kept = rw now at h in
+          let was : output_in outputs k ≡ None = ap (output_in outputs) same ∙ none_from (output_in outputs came.key.slot) (keeps.either came.key.slot below ∙ ap not (ap is_some y.was_held)) in
+          let output : came.output ≡ rule.output_of (Ok x) = sym of ∙ ap (λ (z : A). rule.output_of (Ok z)) (sym is) in
+          let gives : SlotGives future before came.key.slot came.output = (record { tag = came.tag; push = came.key.push }, y.was_held, y.gave) in
+          rw was (subst (λ (i : ℕ). SlotGives future before i (rule.output_of (Ok x))) (sym same) (subst (λ (o : O). SlotGives future before came.key.slot o) output gives))
+
+      gave_before : k ≢ came.key.slot → SlotGives future after k (rule.output_of (Ok x)) → SlotGives future before k (rule.output_of (Ok x))
+      gave_before other may =
+          let holds : value_in (with_slot_freed before.slots came.key.slot) k ≡ Some may.0 = subst (λ (s : Slots Place). value_in s k ≡ Some may.0) y.freed may.1 in
+          (may.0, sym (value_in-with_slot_freed_other before.slots came.key.slot k other) ∙ holds, narrows _ may.2)
+
+      by_output : k ≢ came.key.slot → (o : Option A) → output_in outputs k ≡ o → MayComeAt (λ k x. SlotGives future before k (rule.output_of (Ok x))) outputs k x
+      by_output other None was =
+          let now : output_in (set outputs came.key.slot (Some kept)) k ≡ None = get_or-set_other {A = Option A} outputs came.key.slot k (Some kept) None other ∙ was in
+          let may : SlotGives future after k (rule.output_of (Ok x)) = rw now at h in
+          rw was (gave_before other may)
+      by_output other (Some z) was =
+          let now : output_in (set outputs came.key.slot (Some kept)) k ≡ Some z = get_or-set_other {A = Option A} outputs came.key.slot k (Some kept) None other ∙ was in
+          let is : x ≡ z = rw now at h in
+          rw was is
+
+  -- an output came, and is kept at its place
+  pub fills_place : (old : Flying F A) (after : Flights F) (came : Came O) (kept : A) → WaitsOrCame old.set.slots old.outputs → Yields future old.set came after → RunsGiveNoMore future old.set after
+      → CanPollAll future after → rule.output_of (Ok kept) ≡ came.output
+      → FliesOn future rule old (record { set = after; outputs = set old.outputs came.key.slot (Some kept) })
+  fills_place old after came kept keeps y narrows can of =
+      record {
+        places = record {
+          same_size = size ∙ (keeps.same_size ∙ sym slots);
+          either = λ k within. elim (cases_eq k came.key.slot) [
+            | inl same ↦
+                let now : output_in filled k ≡ Some kept = ap (output_in filled) same ∙ get_or-set_same {A = Option A} old.outputs came.key.slot (Some kept) None below in
+                let gone : value_in after.slots k ≡ None = ap (value_in after.slots) same ∙ (ap (λ (s : Slots Place). value_in s came.key.slot) y.freed ∙ value_in-with_slot_freed old.set.slots came.key.slot) in
+                ap is_some now ∙ sym (ap not (ap is_some gone))
+            | inr other ↦
+                let stays : output_in filled k ≡ output_in old.outputs k = get_or-set_other {A = Option A} old.outputs came.key.slot k (Some kept) None other in
+                let waits : value_in after.slots k ≡ value_in old.set.slots k = ap (λ (s : Slots Place). value_in s k) y.freed ∙ value_in-with_slot_freed_other old.set.slots came.key.slot k other in
+                ap is_some stays ∙ (keeps.either k (omega (arith, size, within)) ∙ sym (ap not (ap is_some waits)))
+          ];
+        };
+        as_many = size;
+        narrows = λ x. back x;
+        again = can;
+      }
+    where
+      filled : List (Option A)
+      filled = set old.outputs came.key.slot (Some kept)
+
+      size : length (set old.outputs came.key.slot (Some kept)) ≡ length old.outputs
+      size = length-set {A = Option A} old.outputs came.key.slot (Some kept)
+
+      slots : slot_count after.slots ≡ slot_count old.set.slots
+      slots = ap (λ (s : Slots Place). slot_count s) y.freed ∙ length-set {A = Option Place} old.set.slots.places came.key.slot None
+
+      below : came.key.slot < length old.outputs
+      below =
+          let k = below_from_some old.set.slots.places came.key.slot (ap is_some y.was_held) in
+          omega (arith, k, keeps.same_size)
+
+      back : (x : Outcome A E) → FlyingMayGive future rule (Some (record { set = after; outputs = set old.outputs came.key.slot (Some kept) })) x → FlyingMayGive future rule (Some old) x
+      back (Ok outputs) h = record { as_many = h.as_many ∙ size; each = λ k x got. came_at old.set after old.outputs came kept keeps y narrows of below k x (h.each k x got) }
+      back (Err e) h = slots_after future old.set after came.key.slot y.freed narrows (rule.output_of (Err e)) h
+
+  -- nothing came
+  pub flies_still : (old : Flying F A) (after : Flights F) → WaitsOrCame old.set.slots old.outputs → after.slots ≡ old.set.slots → RunsGiveNoMore future old.set after → CanPollAll future after
+      → FliesOn future rule old (record { set = after; outputs = old.outputs })
+  flies_still old after keeps same narrows can =
+      record {
+        places = record {
+          same_size = keeps.same_size ∙ sym (ap (λ (s : Slots Place). slot_count s) same);
+          either = λ k below. keeps.either k below ∙ sym (ap (λ (s : Slots Place). not (is_some (value_in s k))) same);
+        };
+        as_many = refl;
+        narrows = λ x. back x;
+        again = can;
+      }
+    where
+      gave_before : (k : ℕ) (o : O) → SlotGives future after k o → SlotGives future old.set k o
+      gave_before k o may = (may.0, subst (λ (s : Slots Place). value_in s k ≡ Some may.0) same may.1, narrows _ may.2)
+
+      at : (k : ℕ) (x : A) (was : Option A) → output_in old.outputs k ≡ was → MayComeAt (λ k x. SlotGives future after k (rule.output_of (Ok x))) old.outputs k x → MayComeAt (λ k x. SlotGives future old.set k (rule.output_of (Ok x))) old.outputs k x
+      at k x None is h = let may : SlotGives future after k (rule.output_of (Ok x)) = rw is at h in rw is (gave_before k (rule.output_of (Ok x)) may)
+      at k x (Some z) is h = let done : x ≡ z = rw is at h in rw is done
+
+      back : (x : Outcome A E) → FlyingMayGive future rule (Some (record { set = after; outputs = old.outputs })) x → FlyingMayGive future rule (Some old) x
+      back (Ok outputs) h = record { as_many = h.as_many; each = λ k x got. at k x (output_in old.outputs k) refl (h.each k x got) }
+      back (Err e) h = slots_within future old.set after same narrows (rule.output_of (Err e)) h
+
+  -- all outputs came
+  pub gives_all : (old new : Flying F A) (outputs : List A) → FliesOn future rule old new → new.outputs ≡ map Some outputs → FlyingMayGive future rule (Some old) (Ok outputs)
+  gives_all old new outputs on is = on.narrows (Ok outputs) (all_now (λ k x. SlotGives future new.set k (rule.output_of (Ok x))) new.outputs outputs is)
+
+  -- what a new join may give, the items may
+  pub flies_by_place : FliesByPlace future rule
+  flies_by_place items first outputs new all =
+      record {
+        as_many = all.as_many ∙ (ap length new.none_done ∙ length-replicate (length items) None);
+        each = λ k item x of_item got.
+            let none : output_in first.outputs k ≡ None = rw new.none_done (get_or-replicate {A = Option A} (length items) k None None (slice_get_within items k item of_item)) in
+            let gives : SlotGives future first.set k (rule.output_of (Ok x)) = rw none at (all.each k x got) in
+            new.waits_for.own k item (rule.output_of (Ok x)) of_item gives;
+      }

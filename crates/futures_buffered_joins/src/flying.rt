@@ -1,0 +1,162 @@
+//! What a join of futures in flight keeps until it ends: the set of the futures, and the outputs that have come.
+ghost use Rattle.std.specs.Prelude.{◌≡◌, ◌<◌, ◌≤◌, ◌+◌, All, IfOk, OnOk, map, Some, vec_len};
+ghost use Rattle.futures.specs.Poll.{OnPending};
+ghost use Rattle.futures.specs.Task.{Covers, Keeps};
+ghost use Rattle.futures_buffered_core.specs.Drawn.{Draws, IsFiniteSource, RefusesTooMany};
+ghost use Rattle.futures_buffered_core.specs.SlotMap.{held_count};
+ghost use Rattle.futures_buffered_table.specs.declared.answer.TheConstants.{MAX_CAPACITY};
+ghost use Rattle.futures_buffered_unordered.specs.Extended.{MakesFull};
+ghost use Rattle.futures_buffered_in_flight.specs.InFlight.{CanPollAll, IsNewInFlight, WaitsAt};
+ghost use Rattle.futures_buffered_joins.specs.JoiningFills.{FillsOrFails};
+ghost use Rattle.futures_buffered_joins.specs.InFlightJoin.{EachDrawn, FillsPlace, FillsRest, HoldsInOrder, IsNewFlying, SomeMayFail, WaitsOn, flying_size};
+ghost use Rattle.futures_buffered_joins.specs.Outputs.{WaitsOrCame};
+
+use crate::join_rule::JoinRule;
+use crate::outputs::Outputs;
+use futures::Future;
+use futures::task::{Context, Poll};
+use futures_buffered_core::ready_core::{MAX_CAPACITY, NewFault};
+use futures_buffered_in_flight::InFlight;
+use std::alloc::{AllocError, Global};
+use std::marker::Model;
+
+/// The futures that a join waits for, each in the slot of its place, and the outputs that have come.
+#[derive(Drop)]
+pub struct Flying<F, A> {
+    set: InFlight<F>,
+    outputs: Outputs<A>,
+}
+
+impl<F, A> Model for Flying<F, A> {
+    ghost use Rattle.futures_buffered_joins.specs.InFlightJoin.{Flying as FlyingValue};
+
+    ghost Value = { FlyingValue F A };
+
+    ghost view = { λ s. record { set = s.set; outputs = s.outputs } };
+}
+
+// What an iterator gives, at most as many as there may be slots.
+fn draw<F: Drop, I: IntoIterator<Item = F>>(alloc: Global, iter: I) -> Result<Vec<F>, NewFault>
+    requires { IsFiniteSource I.IntoIterator I.IntoIter.Iterator iter }
+    ensures drawn { IfOk result (λ drawn.
+        Draws I.IntoIterator I.IntoIter.Iterator iter drawn.items) }
+    ensures fits { IfOk result (λ drawn. vec_len drawn ≤ MAX_CAPACITY) }
+    ensures large { RefusesTooMany I.IntoIterator I.IntoIter.Iterator iter result }
+{
+    let mut drawn = Vec::new(alloc);
+    for item in iter {
+        if drawn.len() == MAX_CAPACITY {
+            return Err(NewFault::TooLarge);
+        }
+        let Ok(()) = drawn.push(item) else {
+            return Err(NewFault::Memory);
+        };
+    }
+    Ok(drawn)
+}
+
+// Has a new set take these futures, each in the slot of its place.
+#[tactic(auto, using(crate::proofs::InFlightJoinLemmas::pushed_none, crate::proofs::InFlightJoinLemmas::pushed_all))]
+fn push_all<F>(set: &mut InFlight<F>, futures: Vec<F>) -> Result<(), AllocError>
+where
+    F: Future<Output: Drop>,
+    requires new { IsNewInFlight (vec_len futures) set.old }
+    requires held { CanPollAll F.Future set.old }
+    requires fit { All F.can_poll futures.items }
+    ensures holds { OnOk result (HoldsInOrder F.Future futures.items set.new) }
+    ensures again { OnOk result (CanPollAll F.Future set.new) }
+{
+    'futures: for future in futures {
+        let Ok(_key) = set.try_push(future) else {
+            return Err(AllocError);
+        };
+    }
+    Ok(())
+}
+
+impl<F: Future<Output: Drop>, A: Drop> Flying<F, A> {
+    // Item k is in flight at place k.
+
+    pub(crate) fn over<I: IntoIterator<Item = F>>(alloc: Global, iter: I) -> Result<Self, NewFault>
+        requires finite { IsFiniteSource I.IntoIterator I.IntoIter.Iterator iter }
+        requires fit { EachDrawn I.IntoIterator I.IntoIter.Iterator iter F.can_poll }
+        ensures made { MakesFull I.IntoIterator I.IntoIter.Iterator iter flying_size
+            (IsNewFlying F.Future) result }
+        ensures places { IfOk result (λ new. WaitsOrCame new.set.slots new.outputs) }
+        ensures can_poll { IfOk result (λ new. CanPollAll F.Future new.set) }
+    {
+        let futures = draw(alloc, iter)?;
+        let outputs = Outputs::new(alloc, futures.len())?;
+        let mut set = InFlight::new(alloc, futures.len())?;
+        push_all(&mut set, futures)?;
+        Ok(Flying { set, outputs })
+    }
+
+    // How many futures are waited for.
+    pub(crate) fn len(&self) -> usize
+        ensures { result ≡ held_count self.now.set.slots }
+    {
+        self.set.len()
+    }
+
+    // One poll of the set: what is kept of an output fills its place, or the output ends the join.
+    fn fill_one<R: JoinRule<F::Output, Kept = A>>(
+        &mut self,
+        cx: &mut Context<'_>,
+    ) -> Poll<Result<(), R::Error>>
+        requires some { 0 < held_count self.old.set.slots }
+        requires places { WaitsOrCame self.old.set.slots self.old.outputs }
+        requires held { CanPollAll F.Future self.old.set }
+        ensures ready { FillsOrFails (FillsPlace F.Future R.JoinRule self.old self.new)
+            (SomeMayFail F.Future R.JoinRule self.old) result }
+        ensures pending { OnPending result (WaitsOn F.Future R.JoinRule self.old self.new) }
+        ensures registered { OnPending result (Covers cx.new (WaitsAt self.new.set)) }
+        ensures kept { Keeps cx.old cx.new }
+    {
+        match self.set.poll_next_keyed(cx) {
+            Poll::Pending => Poll::Pending,
+            Poll::Ready(None) => unreachable!(),
+            Poll::Ready(Some(came)) => match R::keep(came.output) {
+                Ok(kept) => {
+                    self.outputs.put(came.key.slot, kept);
+                    Poll::Ready(Ok(()))
+                }
+                Err(error) => Poll::Ready(Err(error)),
+            },
+        }
+    }
+
+    // Polls of the set, until it is Pending, no future is waited for, or an output ends the join.
+    #[tactic(auto, using(crate::proofs::InFlightJoinLemmas::flies_first, crate::proofs::InFlightJoinLemmas::flies_then))]
+    pub(crate) fn fill_all<R: JoinRule<F::Output, Kept = A>>(
+        &mut self,
+        cx: &mut Context<'_>,
+    ) -> Poll<Result<(), R::Error>>
+        requires places { WaitsOrCame self.old.set.slots self.old.outputs }
+        requires held { CanPollAll F.Future self.old.set }
+        ensures ready { FillsOrFails (FillsRest F.Future R.JoinRule self.old self.new)
+            (SomeMayFail F.Future R.JoinRule self.old) result }
+        ensures pending { OnPending result (WaitsOn F.Future R.JoinRule self.old self.new) }
+        ensures registered { OnPending result (Covers cx.new (WaitsAt self.new.set)) }
+        ensures kept { Keeps cx.old cx.new }
+    {
+        'places: while !self.set.is_empty() {
+            match self.fill_one::<R>(cx) {
+                Poll::Ready(Ok(())) => {}
+                Poll::Ready(Err(error)) => return Poll::Ready(Err(error)),
+                Poll::Pending => return Poll::Pending,
+            }
+        }
+        Poll::Ready(Ok(()))
+    }
+
+    // All outputs, in the order of the places.
+    #[tactic(auto, using(crate::proofs::OutputsLemmas::all_came))]
+    pub(crate) fn gather(self) -> Vec<A>
+        requires places { WaitsOrCame self.set.slots self.outputs }
+        requires done { held_count self.set.slots ≡ 0 }
+        ensures { self.outputs ≡ map Some result.items }
+    {
+        self.outputs.gather()
+    }
+}

@@ -1,0 +1,64 @@
+//! The outputs of a join that have come, each at its place.
+ghost use Rattle.std.specs.Prelude.{◌≡◌, ◌<◌, Some, None, IsSome, IfOk, length, map, replicate, slice_index_or, slice_set};
+
+use futures_buffered_core::slot_map::empty_places;
+use std::alloc::{AllocError, Global};
+use std::marker::Model;
+
+/// At each place the output that has come, or nothing. Room for the vector that is given at the end was taken at the beginning.
+#[derive(Drop)]
+pub struct Outputs<A> {
+    places: Vec<Option<A>>,
+    gathered: Vec<A>,
+}
+
+impl<A> Model for Outputs<A> {
+    ghost use Rattle.std.specs.Prelude.{◌≡◌, ◌≤◌, List, [], Option, length, vec_capacity};
+    ghost use Rattle.std.specs.Coded.{coded_list, coded_option};
+
+    ghost Value = { List (Option A) };
+
+    ghost coded = { coded_list (coded_option A.code) };
+
+    ghost view = { λ s. s.places.items };
+
+    ghost invariant = { λ s. (s.gathered.items ≡ [])
+        × (length s.places.items ≤ vec_capacity s.gathered) };
+}
+
+impl<A: Drop> Outputs<A> {
+    // `n` places at which nothing has come.
+    pub(crate) fn new(alloc: Global, n: usize) -> Result<Self, AllocError>
+        ensures { IfOk result (λ outputs. outputs ≡ replicate n None) }
+    {
+        let places = empty_places(alloc, n)?;
+        let gathered = Vec::with_capacity(alloc, n)?;
+        Ok(Outputs { places, gathered })
+    }
+
+    // An output has come at this place.
+    pub(crate) fn put(&mut self, place: usize, output: A)
+        requires { place < length self.old }
+        ensures { self.new ≡ slice_set self.old place (Some output) }
+    {
+        self.places[place] = Some(output);
+    }
+
+    // All outputs, in the order of the places.
+    pub(crate) fn gather(self) -> Vec<A>
+        requires { (k : _) → k < length self → IsSome (slice_index_or self k None) }
+        ensures { self ≡ map Some result.items }
+    {
+        let Outputs {
+            places,
+            mut gathered,
+        } = self;
+        'places: for output in places {
+            match output {
+                Some(output) => gathered.push_reserved(output),
+                None => unreachable!(),
+            }
+        }
+        gathered
+    }
+}
