@@ -5,3 +5,5 @@ pub mod MergeUnboundedLemmas
 pub mod MergeUnboundedGaveLemmas
 pub mod MergeBoundedPushesLemmas
 pub mod MergeUnboundedPushesLemmas
+pub mod InFlightMergeLemmas
+pub mod WaitingMergeLemmas

@@ -7,15 +7,28 @@
 //! - `merge_of`: `MergeOf`, the type of both merges, by the set in which the streams are held.
 //! - `merge_bounded`: `MergeBounded`, as many streams as it has slots.
 //! - `merge_unbounded`: `MergeUnbounded`, any number of streams, in groups of slots.
+//!
+//! Of streams of the kit, which no slot holds:
+//!
+//! - `with_end`: `WithEnd`, a stream whose end can be counted.
+//! - `in_flight_merge`: `InFlightMerge`, such streams in the kit's own set, in plain sight; `foreign_merge` and `growing_foreign_merge` make it of an iterator.
+//! - `waiting_merge`: `WaitingMerge`, which holds a merge while a task waits for its next item, and gives it back.
 #![tactic(auto)]
 
+pub mod in_flight_merge;
 pub mod merge_bounded;
 pub mod merge_of;
 pub mod merge_unbounded;
 mod merging;
 pub mod slot_stream;
+pub mod waiting_merge;
+pub mod with_end;
 
+pub use in_flight_merge::{
+    ForeignMerge, GrowingForeignMerge, InFlightMerge, foreign_merge, growing_foreign_merge,
+};
 pub use merge_bounded::{Merge, MergeBounded};
 pub use merge_of::{MergeOf, StreamSet};
 pub use merge_unbounded::MergeUnbounded;
 pub use slot_stream::{PollStream, SlotStream};
+pub use waiting_merge::WaitingMerge;

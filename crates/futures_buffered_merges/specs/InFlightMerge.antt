@@ -1,0 +1,149 @@
+-- What a contract sees of a merge of the kit's streams. A clause names the streams by the ghost
+-- members of their type: `St.Stream`.
+use Rattle.std.specs.Prelude.{◌≡◌, ◌+◌, ◌<◌, ◌≤◌, ◌⊎◌, ℕ, List, [], ◌∷◌, Option, Some, None}
+use Rattle.std.specs.Prelude.{IsSomeAnd, MatchOption, Result, IfErr, OnOk, OnErr}
+use Rattle.std.specs.Prelude.{IsErr, Ok, Err, length}
+use Rattle.std.specs.Option.{option_len}
+use Rattle.std.specs.Iterator.{YieldsThen}
+use Rattle.futures.specs.declared.task.Poll.{Poll}
+use Rattle.futures.specs.declared.task.context.Context.{Context}
+use Rattle.futures.specs.declared.stream.ext.into_future.StreamFuture.{StreamFuture}
+use Rattle.futures.specs.declared.stream.made.select_all.SelectAll.{SelectAll}
+use Rattle.futures.specs.Poll.{IfReady, OnPending}
+use Rattle.futures.specs.Merged.{AnyYields, CanPollNext}
+use Rattle.futures.specs.Queued.{AllPollable, set_len, set_places}
+use Rattle.futures.specs.Runs.{Runs}
+use Rattle.futures.specs.Task.{Covers, Keeps}
+use Rattle.futures_buffered_core.specs.Drawn.{SourceOf, IteratorOf}
+use Rattle.futures_buffered_merges.specs.WithEnd.{StreamOf, MayAnswer, with_end}
+use Rattle.futures_buffered_merges.specs.declared.with_end.WithEnd.{WithEnd}
+
+-- how many streams are held, how many at most, and the kit's set of them
+pub record Merged (St : Type 0) : Type 0 where
+  pub held : ℕ
+  pub limit : ℕ
+  pub running : Option (SelectAll (WithEnd St))
+
+-- the streams of the kit's set
+abbrev pub streams_in : {St : Type 0} → Option (SelectAll (WithEnd St))
+    → List (Option (StreamFuture (WithEnd St)))
+streams_in None = []
+streams_in (Some all) = all.held ∷ set_places all.inner
+
+-- how many streams the kit's set counts: those that are held, and those that have told their end
+-- and are still to be let go
+abbrev pub stream_count : {St : Type 0} → Option (SelectAll (WithEnd St)) → ℕ
+stream_count None = 0
+stream_count (Some all) = set_len all.inner + option_len all.held
+
+-- nothing is held, and there is room for so many
+abbrev pub IsNewMerge : {St : Type 0} → ℕ → Merged St → Type 0
+IsNewMerge n m = (m.held ≡ 0) × (m.limit ≡ n) × (m.running ≡ None)
+
+-- the place at which a pending poll waits: that of the kit's set
+abbrev pub WaitsAt : {St : Type 0} → Merged St → ℕ → Type 0
+WaitsAt m source = IsSomeAnd m.running
+    (λ all. (all.held ≡ None) × (source ≡ all.inner.tasks.source.id))
+
+-- P holds of each item that comes from a source
+abbrev pub EachDrawn : {U F I : Type 0} → SourceOf U F I → IteratorOf I F → U → (F → Type 0)
+    → Type 0
+EachDrawn {F = F} {I = I} by gives source P = (it : I) → by.into_iter_gives source it
+    → (items : List F) (more : F) (rest : I)
+    → YieldsThen gives.next_gives it items (Some more) rest → P more
+
+module _ {St A : Type 0} (stream : StreamOf St A) where
+  -- one of the streams may give this answer, an item or its end, now or later
+  abbrev pub AnyAnswers : Merged St → Option A → Type 0
+  AnyAnswers m = AnyYields (with_end stream) (streams_in m.running)
+
+  -- each stream may be polled
+  abbrev pub CanPollAll : Merged St → Type 0
+  CanPollAll m = AllPollable (CanPollNext (with_end stream)) (streams_in m.running)
+
+  -- what may come: items of the streams, and the end where nothing is held or a stream may end
+  abbrev pub ComesFromStreams : Merged St → Runs A
+  ComesFromStreams m before (Some x) = AnyAnswers m (Some x)
+  ComesFromStreams m before None = (m.held ≡ 0) ⊎ AnyAnswers m None
+
+  -- One push.
+  pub record PushesStream (old : Merged St) (pushed : St) (result : Result (Unit {0}) St)
+      (new : Merged St) : Type 0 where
+    -- it went in, and the kit's set has it
+    pub went_in : OnOk result ((new.held ≡ old.held + 1)
+        × (stream_count new.running ≡ stream_count old.running + 1))
+    -- or it comes back, and as many are held as before
+    pub back : IfErr result (λ back. back ≡ pushed)
+    pub stays : OnErr result ((new.held ≡ old.held)
+        × (stream_count new.running ≡ stream_count old.running))
+    -- where there is no room it comes back, and nothing has changed
+    pub full : old.limit ≤ old.held → IsErr result × (new ≡ old)
+    pub same_limit : new.limit ≡ old.limit
+    -- no other stream gives what it could not give before
+    pub answers : (answer : Option A) → AnyAnswers new answer
+        → AnyAnswers old answer ⊎ MayAnswer stream pushed answer
+    -- the merge may be polled
+    pub again : CanPollAll new
+
+  -- a stream went in
+  abbrev pub Pushes : Merged St → St → Merged St → Type 0
+  Pushes old pushed new = PushesStream old pushed (Ok tt) new
+
+  -- some stream came back
+  abbrev pub Refuses : Merged St → Merged St → Type 0
+  Refuses old new = (pushed : St) × PushesStream old pushed (Err pushed) new
+
+  -- one of these streams may give this answer, now or later
+  abbrev pub AnyOf : List St → Option A → Type 0
+  AnyOf [] answer = ⊥
+  AnyOf (st ∷ sts) answer = MayAnswer stream st answer ⊎ AnyOf sts answer
+
+  -- these streams are held, and the merge may be polled
+  pub record HoldsStreams (items : List St) (m : Merged St) : Type 0 where
+    pub count : m.held ≡ length items
+    pub answers : (answer : Option A) → AnyAnswers m answer → AnyOf items answer
+    pub again : CanPollAll m
+
+  -- one stream at most has ended, which one of them may
+  abbrev pub EndsOneAtMost : Merged St → Merged St → Type 0
+  EndsOneAtMost old new = (new.held ≡ old.held)
+      ⊎ ((new.held + 1 ≡ old.held) × AnyAnswers old None)
+
+  -- no stream gives what it could not give before
+  abbrev pub AnswersNoMore : Merged St → Merged St → Type 0
+  AnswersNoMore old new = (answer : Option A) → AnyAnswers new answer → AnyAnswers old answer
+
+  -- an item that one of the streams may give, the end where nothing is held, or nothing
+  abbrev pub Gives : Merged St → Poll (Option A) → Merged St → Type 0
+  Gives old answer new = IfReady answer (λ o. MatchOption o (new.held ≡ 0)
+      (λ x. (new.held ≡ old.held) × (0 < old.held) × AnyAnswers old (Some x)))
+      × OnPending answer (0 < new.held)
+
+  -- One poll, which took the merge from old to new and the task from cx to left.
+  pub record PollsMerge (old : Merged St) (answer : Poll (Option A)) (new : Merged St)
+      (cx left : Context) : Type 0 where
+    -- an item, the end exactly where nothing is held, or nothing
+    pub gave : Gives old answer new
+    -- a stream leaves only as it ends
+    pub ended : EndsOneAtMost old new
+    -- no stream gives what it could not give before
+    pub narrows : AnswersNoMore old new
+    pub same_limit : new.limit ≡ old.limit
+    -- the merge may be polled
+    pub again : CanPollAll new
+    -- the task of a pending merge hears of what it waits for
+    pub registered : OnPending answer (Covers left (WaitsAt new))
+    -- nothing of the task is lost
+    pub kept : Keeps cx left
+
+  -- Polls until an item came or the end: the merge was new by then.
+  pub record CameOf (old : Merged St) (item : Option A) (new : Merged St) : Type 0 where
+    -- an item that one of the streams may give, or the end exactly where nothing is held
+    pub gave : MatchOption item (new.held ≡ 0) (λ x. (0 < new.held) × AnyAnswers old (Some x))
+    -- streams leave only as they end
+    pub ended : (new.held ≡ old.held) ⊎ ((new.held < old.held) × AnyAnswers old None)
+    -- no stream gives what it could not give before
+    pub narrows : AnswersNoMore old new
+    pub same_limit : new.limit ≡ old.limit
+    -- the merge may be polled
+    pub again : CanPollAll new
