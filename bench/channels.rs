@@ -1,12 +1,14 @@
-//! Channels in a merge, from sending to item: those of the kit in a merge over the source that has streams of the kit polled, and those of this library in one over the shared source.
+//! Channels in a merge, from sending to item: those of the kit in a merge of the kit's streams, and those of this library in one over the shared source.
 use crate::report::Workload;
 use futures::Stream;
 use futures::channel::mpsc as kit;
 use futures::task::Context;
 use futures_buffered_core::ready_shared::SharedReady;
-use futures_buffered_held::{ForeignMerge, ForeignStream, foreign_merge, spsc};
+use futures_buffered_held::spsc;
 use futures_buffered_merges::merge_bounded::MergeBounded;
+use futures_buffered_merges::{ForeignMerge, foreign_merge};
 use std::alloc::Global;
+use std::marker::Model;
 
 // No item takes more polls than this.
 const POLLS_AN_ITEM: usize = 100;
@@ -27,18 +29,31 @@ pub trait Channel: Drop {
     fn gives(merge: &mut Self::Merge, cx: &mut Context<'_>) -> bool;
 }
 
-impl Channel for kit::Sender<u64> {
-    type Receiver = ForeignStream<kit::Receiver<u64>>;
+/// A merge of the kit's channels, each of which may be polled at any time.
+#[derive(Drop)]
+pub struct KitMerge(ForeignMerge<kit::Receiver<u64>>);
 
-    type Merge = ForeignMerge<kit::Receiver<u64>>;
+impl Model for KitMerge {
+    ghost use Rattle.futures_buffered_merges.specs.InFlightMerge.{CanPollAll};
+
+    ghost Value = { Unit {0} };
+
+    ghost view = { λ _. tt };
+
+    ghost invariant = { λ m. CanPollAll ⟦<kit::Receiver<u64> as Stream>⟧ m.0 };
+}
+
+impl Channel for kit::Sender<u64> {
+    type Receiver = kit::Receiver<u64>;
+
+    type Merge = KitMerge;
 
     fn open(alloc: Global, room: usize) -> Option<(kit::Sender<u64>, Self::Receiver)> {
-        let (sender, receiver) = kit::channel(alloc, room).ok()?;
-        Some((sender, ForeignStream::new(receiver)))
+        kit::channel(alloc, room).ok()
     }
 
     fn merge(alloc: Global, receivers: Vec<Self::Receiver>) -> Option<Self::Merge> {
-        foreign_merge(alloc, receivers).ok()
+        Some(KitMerge(foreign_merge(alloc, receivers).ok()?))
     }
 
     fn send(&mut self) {
@@ -46,7 +61,7 @@ impl Channel for kit::Sender<u64> {
     }
 
     fn gives(merge: &mut Self::Merge, cx: &mut Context<'_>) -> bool {
-        merge.poll_next(cx).is_ready()
+        merge.0.poll_next(cx).is_ready()
     }
 }
 

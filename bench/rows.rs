@@ -25,6 +25,9 @@ use std::time::Clock;
 
 const SIZES: [usize; 4] = [16, 256, 4_096, 65_536];
 
+// How many slots the first group of a growing set has, and how many futures it holds: in four groups, and in eight.
+const GROUPS: [(usize, usize); 2] = [(18, 256), (17, 4_096)];
+
 const PENDING: &str = "a wake and a pending poll, held";
 
 // What the rows of queues are called.
@@ -54,6 +57,16 @@ impl<R: Clock + RandomSource + AllocGlobal, O: io::Write> Report<'_, R, O> {
         self.timed("kit set", name, 256, made)
     }
 
+    // The same in a set that grew to four groups, and to eight.
+    fn refilled_groups(&mut self, yields: u64, name: &str) -> io::Result<()> {
+        let alloc = self.rt.alloc();
+        for (first, held) in GROUPS {
+            let made = GrowingSet::<Yields>::with_capacity(alloc, first).ok();
+            self.timed("growing set", name, held, Refilled::new(made, held, yields))?;
+        }
+        Ok(())
+    }
+
     // A future that ends is woken at random, or one that stays pending in turn.
     fn woken_sets(&mut self, ends: bool, name: &str) -> io::Result<()> {
         let alloc = self.rt.alloc();
@@ -70,6 +83,11 @@ impl<R: Clock + RandomSource + AllocGlobal, O: io::Write> Report<'_, R, O> {
             let made = Set::<Kept<SharedWaker>>::new(alloc, held).ok();
             let made = Woken::new(alloc, made, held, held, false);
             self.timed("set", PENDING, held, made)?;
+        }
+        for (first, held) in GROUPS {
+            let made = GrowingSet::<Kept<SharedWaker>>::with_capacity(alloc, first).ok();
+            let made = Woken::new(alloc, made, held, held, false);
+            self.timed("growing set", PENDING, held, made)?;
         }
         Ok(())
     }
@@ -109,7 +127,7 @@ impl<R: Clock + RandomSource + AllocGlobal, O: io::Write> Report<'_, R, O> {
         for burst in [1, 16] {
             let made = Channels::<mpsc::Sender<u64>>::new(alloc, 16, burst);
             self.timed(
-                "driven merge",
+                "foreign merge",
                 "an item of a channel of the kit, at once",
                 burst,
                 made,
@@ -155,9 +173,13 @@ impl<R: Clock + RandomSource + AllocGlobal, O: io::Write> Report<'_, R, O> {
     fn whole(&mut self) -> io::Result<()> {
         let alloc = self.rt.alloc();
         let (of, name) = ("growing set", "made, pushed into and drained, a future of");
-        self.timed(of, name, 10_000, Some(DrainedSet(alloc, 10_000)))?;
+        for count in [1_000, 10_000, 100_000, 1_000_000] {
+            self.timed(of, name, count, Some(DrainedSet(alloc, count)))?;
+        }
         let name = "made, polled and ready, a future of";
-        self.timed("join_all", name, 1_000, Some(Joined(alloc, 1_000)))?;
+        for count in [1_000, 100_000, 1_000_000] {
+            self.timed("join_all", name, count, Some(Joined(alloc, count)))?;
+        }
         let made: Option<Merge> = MergeBounded::from_iter(alloc, (0..100).map(|_| Feed)).ok();
         self.timed("merge", "an item of one of the streams, of", 100, made)
     }
@@ -196,6 +218,8 @@ impl<R: Clock + RandomSource + AllocGlobal + Threads + Wait + Sync, O: io::Write
         self.list()?;
         self.refilled_sets(0, "a ready future, replaced, held")?;
         self.refilled_sets(1, "a future that wakes itself once, replaced, held")?;
+        self.refilled_groups(0, "a ready future, replaced, held")?;
+        self.refilled_groups(1, "a future that wakes itself once, replaced, held")?;
         self.woken_sets(true, "a random wake, its output, replaced, held")?;
         self.woken_sets(false, PENDING)?;
         self.pending_polls()?;

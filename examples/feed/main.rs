@@ -5,7 +5,7 @@ use anyhow::bail;
 use futures::channel::mpsc::{Sender, channel};
 use futures::executor::block_on;
 use futures::{StreamExt, future, stream};
-use futures_buffered::{ForeignMerge, ForeignStream};
+use futures_buffered::foreign_merge;
 use std::alloc::Global;
 use std::env::Env;
 use std::io::Print;
@@ -103,9 +103,9 @@ fn main(rt: HostRuntime) -> Result<(), anyhow::Error> {
         let path = source.path.clone()?;
         let thread = thread::spawn(&rt, move || send_lines(&rt, place, path.as_str(), sender))?;
         threads.push(thread)?;
-        streams.push(ForeignStream::new(receiver))?;
+        streams.push(receiver)?;
     }
-    let merged = ForeignMerge::over(&(), rt.alloc(), streams)?;
+    let merged = foreign_merge(rt.alloc(), streams)?;
     let counted = merged.for_each(|line| {
         if let Some(source) = sources.get_mut(line.source) {
             source.count = source.count.saturating_add(1);

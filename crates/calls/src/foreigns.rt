@@ -1,4 +1,4 @@
-//! What holds futures and streams of the kit, over `Driven`: sets, queues, joins, a merge and a buffer; and the source itself.
+//! What holds futures and streams of the kit: over `Driven` sets, queues and a buffer, and the source itself; and joins and a merge of them in plain sight.
 use crate::answer::{
     Answer, Reply, of_debug, of_growth, of_item, of_output, of_outputs, of_results,
 };
@@ -9,20 +9,22 @@ use crate::shared_world::SharedWorld;
 use crate::source::FutureSource;
 use crate::subject::{Call, Subject};
 use crate::task_script::{KitFuture, KitStream, KitTryFuture};
-use crate::values::{new_value, new_values};
-use futures::stream::StreamFuture;
+use crate::values::{Output, new_value, new_values};
 use futures::task::Context;
 use futures::{Future, Stream};
 use futures_buffered::buffered_ordered::BufferedOrdered;
+use futures_buffered::in_flight_join::InFlightJoin;
+use futures_buffered::join::AllOutputs;
+use futures_buffered::try_join::UntilError;
+use futures_buffered::{
+    GrowingForeignMerge, foreign_join_all, foreign_try_join_all, growing_foreign_merge,
+};
 use futures_buffered_core::ready_core::NewFault;
 use futures_buffered_core::ready_source::{NewSource, ReadySource};
-use futures_buffered_held::{
-    Driven, Foreign, ForeignStream, GrowingForeignMerge, GrowingForeignQueue, GrowingForeignSet,
-};
-use futures_buffered_sets::{
-    FuturesOrdered, FuturesUnordered, JoinAll, MergeUnbounded, TryJoinAll,
-};
+use futures_buffered_held::{Driven, Foreign, GrowingForeignQueue, GrowingForeignSet};
+use futures_buffered_sets::{FuturesOrdered, FuturesUnordered};
 use std::alloc::Global;
+use std::marker::Model;
 
 impl Subject for FuturesUnordered<Foreign<KitFuture>, Driven<KitFuture>> {
     fn poll(&mut self, cx: &mut Context<'_>, _outputs: &mut Vec<u64>) -> Answer {
@@ -89,33 +91,52 @@ pub fn run_queue(
     run_made(session, made, lines)
 }
 
-impl Subject for JoinAll<Foreign<KitFuture>, Driven<KitFuture>> {
+/// A join of futures of the kit that may be polled.
+#[derive(Drop)]
+struct Joined<R, F: Future, A> {
+    join: InFlightJoin<R, F, A>,
+}
+
+impl<R, F: Future, A> Model for Joined<R, F, A> {
+    ghost use Rattle.std.specs.Prelude.{Option};
+    ghost use Rattle.futures_buffered.specs.InFlightJoin.{CanPollFlying, Flying};
+
+    ghost Value = { Option (Flying F A) };
+
+    ghost view = { λ s. s.join };
+
+    ghost invariant = { λ s. CanPollFlying F.Future s.join };
+}
+
+impl Subject for Joined<AllOutputs, KitFuture, Output> {
     fn poll(&mut self, cx: &mut Context<'_>, outputs: &mut Vec<u64>) -> Answer {
-        of_outputs(Future::poll(self, cx), outputs)
+        of_outputs(self.join.poll(cx), outputs)
     }
 
-    fn call(&mut self, _call: Call<'_>, _world: &SharedWorld, _text: &mut String) -> Reply {
-        Reply::Nothing
+    fn call(&mut self, call: Call<'_>, _world: &SharedWorld, text: &mut String) -> Reply {
+        match call {
+            Call::Ask(Query::Debug) => of_debug(write!(text, "{:?}", self.join)),
+            _ => Reply::Nothing,
+        }
     }
 }
 
 pub fn run_join(session: &mut Session, ids: &[usize], lines: &[&str]) -> Result<usize, NewFault> {
-    let futures: Vec<Foreign<KitFuture>> = new_values(&session.world, ids);
-    let made: Result<JoinAll<Foreign<KitFuture>, Driven<KitFuture>>, NewFault> = JoinAll::over(
-        &(),
-        session.options.alloc,
-        futures,
-    );
-    run_made(session, made, lines)
+    let futures: Vec<KitFuture> = new_values(&session.world, ids);
+    let join = foreign_join_all(session.options.alloc, futures)?;
+    run_made(session, Ok(Joined { join }), lines)
 }
 
-impl Subject for TryJoinAll<Foreign<KitTryFuture>, Driven<KitTryFuture>> {
+impl Subject for Joined<UntilError, KitTryFuture, Output> {
     fn poll(&mut self, cx: &mut Context<'_>, outputs: &mut Vec<u64>) -> Answer {
-        of_results(Future::poll(self, cx), outputs)
+        of_results(self.join.poll(cx), outputs)
     }
 
-    fn call(&mut self, _call: Call<'_>, _world: &SharedWorld, _text: &mut String) -> Reply {
-        Reply::Nothing
+    fn call(&mut self, call: Call<'_>, _world: &SharedWorld, text: &mut String) -> Reply {
+        match call {
+            Call::Ask(Query::Debug) => of_debug(write!(text, "{:?}", self.join)),
+            _ => Reply::Nothing,
+        }
     }
 }
 
@@ -124,38 +145,49 @@ pub fn run_try_join(
     ids: &[usize],
     lines: &[&str],
 ) -> Result<usize, NewFault> {
-    let futures: Vec<Foreign<KitTryFuture>> = new_values(&session.world, ids);
-    let made: Result<TryJoinAll<Foreign<KitTryFuture>, Driven<KitTryFuture>>, NewFault> =
-        TryJoinAll::over(&(), session.options.alloc, futures);
-    run_made(session, made, lines)
+    let futures: Vec<KitTryFuture> = new_values(&session.world, ids);
+    let join = foreign_try_join_all(session.options.alloc, futures)?;
+    run_made(session, Ok(Joined { join }), lines)
 }
 
-impl Subject for MergeUnbounded<ForeignStream<KitStream>, Driven<StreamFuture<KitStream>>> {
+/// A merge of streams of the kit. A call of a subject asks nothing of it, so each stream may be polled at any time.
+#[derive(Drop)]
+struct KitMerge {
+    merge: GrowingForeignMerge<KitStream>,
+}
+
+impl Model for KitMerge {
+    ghost use Rattle.futures_buffered.specs.InFlightMerge.{CanPollAll};
+
+    ghost Value = { Unit {0} };
+
+    ghost view = { λ _. tt };
+
+    ghost invariant = { λ m. CanPollAll ⟦<KitStream as Stream>⟧ m.merge };
+}
+
+impl Subject for KitMerge {
     fn poll(&mut self, cx: &mut Context<'_>, _outputs: &mut Vec<u64>) -> Answer {
-        of_item(self.poll_next(cx))
+        of_item(self.merge.poll_next(cx))
     }
 
     fn call(&mut self, call: Call<'_>, world: &SharedWorld, _text: &mut String) -> Reply {
         match call {
             Call::Push(_, id) => match new_value(world, id) {
-                Some(value) => of_growth(self.push(value)),
+                Some(value) => of_growth(self.merge.try_push(value)),
                 None => Reply::Nothing,
             },
-            Call::Ask(Query::Len) => Reply::Number(self.len()),
+            Call::Ask(Query::Len) => Reply::Number(self.merge.len()),
             _ => Reply::Nothing,
         }
     }
 }
 
-/// Begins a growing merge, whose first group holds the streams of the line.
+/// Begins a merge without a limit of the streams of the line.
 pub fn run_merge(session: &mut Session, ids: &[usize], lines: &[&str]) -> Result<usize, NewFault> {
-    let streams: Vec<ForeignStream<KitStream>> = new_values(&session.world, ids);
-    let made: Result<GrowingForeignMerge<KitStream>, NewFault> = MergeUnbounded::over(
-        (),
-        session.options.alloc,
-        streams,
-    );
-    run_made(session, made, lines)
+    let streams: Vec<KitStream> = new_values(&session.world, ids);
+    let merge = growing_foreign_merge(session.options.alloc, streams)?;
+    run_made(session, Ok(KitMerge { merge }), lines)
 }
 
 impl Subject for BufferedOrdered<FutureSource<Foreign<KitFuture>>, Driven<KitFuture>> {

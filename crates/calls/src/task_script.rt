@@ -8,7 +8,7 @@ use crate::step::Action;
 use crate::values::{Output, Scripted};
 use futures::task::{Context, Poll, Source};
 use futures::{Future, Stream};
-use futures_buffered_held::{Foreign, ForeignStream};
+use futures_buffered_held::Foreign;
 
 /// A script that is polled with a task's context.
 #[derive(Drop)]
@@ -92,9 +92,15 @@ impl Future for KitFuture {
     }
 }
 
+impl Scripted for KitFuture {
+    fn new(script: Script) -> KitFuture {
+        KitFuture(TaskScript::new(script))
+    }
+}
+
 impl Scripted for Foreign<KitFuture> {
     fn new(script: Script) -> Foreign<KitFuture> {
-        Foreign::new(KitFuture(TaskScript::new(script)))
+        Foreign::new(KitFuture::new(script))
     }
 }
 
@@ -118,9 +124,9 @@ impl Future for KitTryFuture {
     }
 }
 
-impl Scripted for Foreign<KitTryFuture> {
-    fn new(script: Script) -> Foreign<KitTryFuture> {
-        Foreign::new(KitTryFuture(TaskScript::new(script)))
+impl Scripted for KitTryFuture {
+    fn new(script: Script) -> KitTryFuture {
+        KitTryFuture(TaskScript::new(script))
     }
 }
 
@@ -141,10 +147,10 @@ impl Stream for KitStream {
     }
 }
 
-impl Scripted for ForeignStream<KitStream> {
-    fn new(script: Script) -> ForeignStream<KitStream> {
+impl Scripted for KitStream {
+    fn new(script: Script) -> KitStream {
         let mut script = script;
         script.role = Role::Stream;
-        ForeignStream::new(KitStream(TaskScript::new(script)))
+        KitStream(TaskScript::new(script))
     }
 }

@@ -1,5 +1,5 @@
 -- What a push and a poll of a queue of futures in flight are to a buffer.
-use Rattle.std.proofs.Common.{◌≡◌, ◌+◌, ◌<◌, ℕ, List, [], ◌∷◌, ◌⊎◌, inl, inr, length, Option, Some, None, count_by, is_some, cond, false, refl, arith}
+use Rattle.std.proofs.Common.{◌≡◌, ◌+◌, ◌<◌, ℕ, List, [], ◌∷◌, ◌⊎◌, inl, inr, length, Option, Some, None, count_by, is_some, cond, false, true, refl, arith}
 use Rattle.std.proofs.lemmas.List.{get_or_past}
 use Rattle.std.proofs.lemmas.List.Sums.{get_or-le-sum_by}
 use Rattle.std.proofs.lemmas.Bool.{cases_lt}
@@ -11,7 +11,9 @@ use Rattle.futures_buffered_core.specs.SlotMap.{Slots, value_in, held_count}
 use Rattle.futures_buffered_unordered.specs.StreamAnswers.{StreamAnswers}
 use Rattle.futures_buffered_unordered.proofs.HeldGivesLemmas.{Gathers-Within, Gathers-After}
 use Rattle.futures_buffered_in_flight.specs.InFlight.{FutureOf}
-use Rattle.futures_buffered_in_flight.specs.InFlightQueue.{Queued, AnyOf, AnyQueuedGives, CanPollQueue, ComesFromQueue, HoldsWithinRoom, PollsQueued, PollsQueuedTask, PushesQueued, QueueWaitsAt, queued_count, queued_room}
+use Rattle.futures_buffered_ordered.specs.declared.numbered.Numbered.{Numbered}
+use Rattle.futures_buffered_in_flight.specs.InFlightOrdered.{CanPollOrdered, ComesInTurn, LeavesInOrder, OrderedInFlight, PushesBack, ordered_count, ordered_room}
+use Rattle.futures_buffered_in_flight.specs.InFlightQueue.{Queued, AnyOf, AnyQueuedGives, NumberGives, CanPollQueue, ComesFromQueue, HoldsWithinRoom, PollsQueued, PollsQueuedTask, PushesQueued, QueueWaitsAt, queued_count, queued_room}
 use Rattle.futures_buffered.specs.FutureQueue.{AddsOutput, MayCome, PollLeavesQueue, PushLeavesQueue}
 
 some_held : {P : Type 0} (m : Slots P) (i : ℕ) (p : P) → value_in m i ≡ Some p → 0 < held_count m
@@ -23,14 +25,17 @@ some_held {P} m i p found =
     omega (arith, rw found at (get_or-le-sum_by (λ (o : Option P). cond (is_some o) 1 0) m.places i None within))
 
 module _ {F A : Type 0} (future : FutureOf F A) where
-  waiting_counts : (fs : List F) (x : A) → AnyOf future fs x → 0 < length fs
-  waiting_counts [] x h = absurd h
-  waiting_counts (f ∷ fs) x h = omega arith
+  waiting_counts : (fs : List (Numbered F)) (out : ℕ × A) → AnyOf future fs out → 0 < length fs
+  waiting_counts [] out h = absurd h
+  waiting_counts (f ∷ fs) out h = omega arith
+
+  number_held : (q : Queued F) (out : ℕ × A) → NumberGives future q out → 0 < queued_count q
+  number_held q out (inl h) = omega (arith, waiting_counts q.waiting out h)
+  number_held q out (inr h) = omega (arith, some_held q.set.slots h.0 _ h.2)
 
   -- where a future may give an output, one is held
   counts : (q : Queued F) (x : A) → AnyQueuedGives future q x → 0 < queued_count q
-  counts q x (inl h) = omega (arith, waiting_counts q.waiting x h)
-  counts q x (inr h) = omega (arith, some_held q.set.slots h.0 h.1.0 h.1.1)
+  counts q x h = number_held q (h.0, x) h.1
 
   comes_first : (q : Queued F) (x : A) → AnyQueuedGives future q x → ComesFromQueue future q [] (Some x)
   comes_first q x h = record { each = tt; ends = (h, counts q x h) }
@@ -84,3 +89,19 @@ module _ {F A : Type 0} (future : FutureOf F A) where
         registered = task.registered;
         kept = task.kept;
       }
+
+  pub push_leaves_ordered : (old new : OrderedInFlight F A) (f : F) → PushesBack future old f new
+      → PushLeavesQueue ordered_count ordered_room true (ComesInTurn future) future.gives future.can_poll (CanPollOrdered future) old f None new
+  push_leaves_ordered old new f p =
+      record {
+        one_more = p.one_more;
+        adds = p.behind;
+        value = tt;
+        stays = tt;
+        overtakes = tt;
+        same_room = p.same_room;
+        again = λ can fit. p.again;
+      }
+
+pub poll_leaves_ordered : {F A : Type 0} (old new : OrderedInFlight F A) (answer : Poll (Option A)) → LeavesInOrder old answer new → PollLeavesQueue ordered_count ordered_room old answer new
+poll_leaves_ordered old new answer p = record { empty = p.empty; fewer = p.fewer; same_count = p.same_count; same_room = p.same_room; some = p.some; bound = p.bound }

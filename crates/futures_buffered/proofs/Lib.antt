@@ -7,5 +7,5 @@ pub mod TryBufferAccountLemmas
 pub mod BufferUnorderedAccountLemmas
 pub mod BufferedOrderedAccountLemmas
 pub mod ForEachConcurrentLemmas
-pub mod TryForEachConcurrentLemmas
+pub mod DrainLemmas
 pub mod InFlightLemmas

@@ -1,27 +1,28 @@
 //! Adaptors of a stream of futures, as methods of the stream.
 //!
-//! Each is its type's `over`: with a shared source, so that what it holds is woken from any thread, or, where its name begins with `foreign`, with `Driven`; the unordered forms of these hold the kit's futures in plain sight, in an `InFlightQueue`.
+//! Each stands on its type's `over`, with a shared source, so that what it holds is woken from any thread; or, where its name begins with `foreign`, holds the kit's futures in plain sight, in an `InFlightQueue` or an `InFlightOrdered`.
 ghost use Rattle.std.specs.Prelude.{◌<◌, IfOk};
 ghost use Rattle.futures_buffered_core.specs.Made.{MakesSlots};
 ghost use Rattle.futures_buffered_core.specs.ReadyShared.{IsNewShared};
-ghost use Rattle.futures_buffered_held.specs.Driven.{IsNewDriven};
+ghost use Rattle.futures_buffered_in_flight.specs.InFlightOrdered.{CanPollOrdered, IsNewInOrder};
 ghost use Rattle.futures_buffered_in_flight.specs.InFlightQueue.{CanPollQueue, IsNewQueued};
 ghost use Rattle.futures_buffered.specs.Buffer.{IsNewBuffer};
 ghost use Rattle.futures_buffered.specs.BufferUnordered.{IsNewUnordered};
 ghost use Rattle.futures_buffered.specs.BufferedOrdered.{IsNewOrdered};
+ghost use Rattle.futures_buffered.specs.Drain.{HoldsPollable, IsNewDrain};
 ghost use Rattle.futures_buffered.specs.ForEachConcurrent.{IsNewForEach};
 
 use crate::buffer::Buffer;
 pub use crate::buffer_unordered::BufferUnordered;
 pub use crate::buffered_ordered::BufferedOrdered;
-pub use crate::for_each_concurrent::ForEachConcurrent;
-pub use crate::in_flight::ForeignBufferUnordered;
+use crate::drain::Drain;
+pub use crate::for_each_concurrent::{ForEachConcurrent, ForeignForEachConcurrent};
+pub use crate::in_flight::{ForeignBufferUnordered, ForeignBufferedOrdered};
+use futures::stream::StreamExt;
 use futures::{Future, Stream};
 use futures_buffered_core::ready_core::NewFault;
 use futures_buffered_core::ready_shared::{SharedReady, SharedWaker};
-use futures_buffered_held::mailbox::Mailbox;
-use futures_buffered_held::{Driven, Foreigns};
-use futures_buffered_in_flight::InFlightQueue;
+use futures_buffered_in_flight::{InFlightOrdered, InFlightQueue};
 use futures_buffered_unordered::SlotFuture;
 use futures_buffered_unordered::futures_unordered_bounded::POLL_LIMIT;
 use std::alloc::Global;
@@ -60,20 +61,22 @@ pub trait BufferedStreamExt: Stream + Sized {
         BufferUnordered::over(&(), alloc, self, n)
     }
 
-    /// As `buffered_ordered`, of a stream of futures of the kit. These are polled with the task's own context.
+    /// As `buffered_ordered`, of a stream of futures of the kit, which stand in a queue of their own. A future may contain closures.
     ///
-    /// Takes time and memory in proportion to `n`. It refuses as `buffered_ordered` does.
+    /// Takes time and memory in proportion to `n`. It refuses as `buffered_ordered` does. A poll takes the memory that the kit's set takes for each future, and does without where that is refused: the future waits, and the task is woken.
     final fn foreign_buffered_ordered(
         self,
         alloc: Global,
         n: usize,
-    ) -> Result<BufferedOrdered<Foreigns<Self>, Driven<Self::Item>>, NewFault>
+    ) -> Result<ForeignBufferedOrdered<Self>, NewFault>
     where
         Self::Item: Future<Output: Drop>,
         requires { 0 < n }
-        ensures { MakesSlots n (IsNewOrdered IsNewDriven POLL_LIMIT self n) result }
+        ensures made { MakesSlots n (IsNewBuffer (IsNewInOrder n) self) result }
+        ensures held { IfOk result (λ b. CanPollOrdered Self.Item.Future b.queue) }
     {
-        BufferedOrdered::over(&(), alloc, Foreigns::new(self), n)
+        let queue = InFlightOrdered::new(alloc, n)?;
+        Ok(Buffer::with_queue(self, queue))
     }
 
     /// As `buffered_unordered`, of a stream of futures of the kit, which stand in a set of their own. A future may contain closures.
@@ -114,23 +117,25 @@ pub trait BufferedStreamExt: Stream + Sized {
         ForEachConcurrent::over(&(), alloc, self, limit, f)
     }
 
-    /// As `for_each_concurrent`, where `f` makes a `Foreign` of each item, or a future made of one, as `map(Foreign::new(receiver), |_| ())`. The futures of the kit are polled with the task's own context.
+    /// As `for_each_concurrent`, where `f` makes futures of the kit, which stand in a set of their own. A future may contain closures.
     ///
-    /// Takes time and memory in proportion to `limit`. It refuses as `for_each_concurrent` does.
-    final fn foreign_for_each_concurrent<Fut, T, F>(
+    /// Takes time and memory in proportion to `limit`. It refuses as `for_each_concurrent` does. A poll takes the memory that the kit's set takes for each future, and does without where that is refused: the future waits, and the task is woken.
+    final fn foreign_for_each_concurrent<Fut, F>(
         self,
         alloc: Global,
         limit: usize,
         f: F,
-    ) -> Result<ForEachConcurrent<Self, F, T, Driven<Fut>>, NewFault>
+    ) -> Result<ForeignForEachConcurrent<Self, F, Fut>, NewFault>
     where
-        Fut: Future<Output: Drop>,
-        F: FnMut(Self::Item) -> T + Drop,
-        T: SlotFuture<Mailbox<Fut>, Output = ()>,
+        F: FnMut(Self::Item) -> Fut + Drop,
+        Fut: Future<Output = ()>,
         requires { 0 < limit }
-        ensures { MakesSlots limit (IsNewForEach IsNewDriven POLL_LIMIT self f limit) result }
+        ensures made { MakesSlots limit (IsNewDrain (IsNewQueued limit) POLL_LIMIT
+            (record { stream = self; f = f })) result }
+        ensures held { IfOk result (HoldsPollable Fut.Future) }
     {
-        ForEachConcurrent::over_limit(&(), alloc, self, limit, POLL_LIMIT, f)
+        let queue = InFlightQueue::new(alloc, limit)?;
+        Ok(Drain::over_buffer(Buffer::with_queue(self.map(f), queue), POLL_LIMIT))
     }
 }
 

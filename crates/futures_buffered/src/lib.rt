@@ -7,13 +7,14 @@
 //! - `future_queue`: `FutureQueue`, what an adaptor holds, and `NewQueue`.
 //! - `buffer`: `Buffer`, the adaptor over any such queue.
 //! - `buffer_unordered`: `BufferUnordered`, whose outputs come as the futures finish.
-//! - `in_flight`: `InFlightQueue` of the crate below, futures of the kit in plain sight, as such a queue.
+//! - `in_flight`: `InFlightQueue` and `InFlightOrdered` of the crate below, futures of the kit in plain sight, as such queues.
 //! - `buffered_ordered`: `BufferedOrdered`, whose outputs come in the order of the futures.
-//! - `for_each_concurrent`: `ForEachConcurrent`, which makes its futures of the items by a closure.
+//! - `drain`: `Drain`, which polls a buffer to its end, or to the first output that ends it; `drain_output` says of which outputs.
+//! - `for_each_concurrent`: `ForEachConcurrent`, which makes its futures of the items by a closure, and `ForeignForEachConcurrent`, a `Drain` of such futures in plain sight.
 //! - `buffered`: `BufferedStreamExt`, these adaptors as methods of a stream.
 //! - `try_buffer`: `TryBuffer`, a `Buffer` over a stream that gives errors as well, and `TryQueue`, which it is made of.
 //! - `try_buffer_unordered` and `try_buffered_ordered`: `TryBufferUnordered` and `TryBufferedOrdered`, whose stream gives errors as well.
-//! - `try_for_each_concurrent`: `TryForEachConcurrent`, as `ForEachConcurrent`, over such a stream, and `TryDrain`, which it is made of.
+//! - `try_for_each_concurrent`: `TryForEachConcurrent`, as `ForEachConcurrent`, over such a stream, and `TryDrain`, the `Drain` that it is made of.
 //! - `try_buffered`: `BufferedTryStreamExt`, these as methods of a stream.
 //! - `iter_ext`: `IterExt`, the constructors of sets, queues, joins and merges as methods of what gives the items.
 #![tactic(auto)]
@@ -22,6 +23,8 @@ pub mod buffer;
 pub mod buffer_unordered;
 pub mod buffered;
 pub mod buffered_ordered;
+pub mod drain;
+pub mod drain_output;
 pub mod for_each_concurrent;
 pub mod future_queue;
 mod in_flight;
@@ -36,7 +39,9 @@ pub use buffer::Buffer;
 pub use buffer_unordered::{BufferUnordered, CompletionQueue};
 pub use buffered::BufferedStreamExt;
 pub use buffered_ordered::{BufferedOrdered, OrderedQueue};
-pub use for_each_concurrent::ForEachConcurrent;
+pub use drain::Drain;
+pub use drain_output::DrainOutput;
+pub use for_each_concurrent::{ForEachConcurrent, ForeignForEachConcurrent};
 pub use future_queue::{FutureQueue, NewQueue};
 pub use futures_buffered_core::core_source::CoreSource;
 pub use futures_buffered_core::ready_core::{
@@ -50,14 +55,25 @@ pub use futures_buffered_core::{
     core_source, ready_core, ready_shared, ready_source, ready_table, script_source, slot_map,
 };
 pub use futures_buffered_held::{
-    Driven, Either, Foreign, ForeignMerge, ForeignQueue, ForeignSet, ForeignStream, Foreigns,
-    GrowingForeignMerge, GrowingForeignQueue, GrowingForeignSet, TryForeigns, driven, foreign,
-    foreign_join_all, foreign_merge, foreign_queue, foreign_set, foreign_sets, foreign_stream,
-    foreign_try_join_all, foreigns, future, growing_foreign_merge, growing_foreign_queue,
-    growing_foreign_set, mailbox, oneshot, spsc, stream, try_foreigns,
+    Driven, Either, Foreign, ForeignQueue, ForeignSet, ForeignStream, GrowingForeignQueue,
+    GrowingForeignSet, driven, foreign, foreign_queue, foreign_set, foreign_sets, foreign_stream,
+    future, growing_foreign_queue, growing_foreign_set, mailbox, oneshot, spsc, stream,
 };
-pub use futures_buffered_in_flight::{Came, InFlight, InFlightQueue, Key, Waiting};
-pub use in_flight::{ForeignBufferUnordered, ForeignTryBufferUnordered};
+pub use futures_buffered_in_flight::{
+    Came, InFlight, InFlightOrdered, InFlightQueue, Key, Waiting,
+};
+pub use futures_buffered_joins::in_flight_join;
+pub use futures_buffered_joins::in_flight_join::{
+    ForeignJoin, ForeignTryJoin, foreign_join_all, foreign_try_join_all,
+};
+pub use futures_buffered_merges::{
+    ForeignMerge, GrowingForeignMerge, InFlightMerge, WaitingMerge, foreign_merge,
+    growing_foreign_merge,
+};
+pub use in_flight::{
+    ForeignBufferUnordered, ForeignBufferedOrdered, ForeignTryBufferUnordered,
+    ForeignTryBufferedOrdered,
+};
 // Sets, queues, joins and merges.
 pub use futures_buffered_sets::{
     FusedFuture, FusedStream, FuturesOrdered, FuturesOrderedBounded, FuturesUnordered,

@@ -1,4 +1,3 @@
 pub mod MailboxLemmas
-pub mod ForeignsLemmas
 pub mod OneshotPlaceLemmas
 pub mod SpscLemmas

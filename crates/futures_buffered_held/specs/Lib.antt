@@ -7,7 +7,6 @@ pub mod Then
 pub mod Given
 pub mod Mailbox
 pub mod Driven
-pub mod Foreigns
 pub mod OneshotPlace
 pub mod Oneshot
 pub mod Spsc

@@ -1,33 +1,22 @@
-//! Sets, queues, joins and merges of futures and streams of the kit, each by a short name and made in one call.
+//! Sets and queues of futures of the kit, each by a short name and made in one call.
 //!
 //! A slot holds a `Foreign`, or any future made of one: `map(Foreign::new(receiver), closure)`.
-ghost use Rattle.futures_buffered_core.specs.Drawn.{IsFiniteSource};
 ghost use Rattle.futures_buffered_core.specs.Made.{MakesGroup, MakesSlots};
-ghost use Rattle.futures_buffered_core.specs.ReadyCore.{Marks};
-ghost use Rattle.futures_buffered_unordered.specs.Extended.{MakesExtended, MakesFull};
-ghost use Rattle.futures_buffered_unordered.specs.FuturesUnorderedBounded.{HoldsEach, IsNewSet, slots_in};
-ghost use Rattle.futures_buffered_unordered.specs.FuturesUnordered.{GrowingPushes, IsNewGrowing, SetRefuses, no_groups};
+ghost use Rattle.futures_buffered_unordered.specs.FuturesUnorderedBounded.{IsNewSet};
+ghost use Rattle.futures_buffered_unordered.specs.FuturesUnordered.{IsNewGrowing};
 ghost use Rattle.futures_buffered_ordered.specs.FuturesOrderedBounded.{IsNewBoundedQueue};
 ghost use Rattle.futures_buffered_ordered.specs.FuturesOrdered.{IsNewGrowingQueue};
-ghost use Rattle.futures_buffered_joins.specs.JoinMade.{MakesJoin};
 ghost use Rattle.futures_buffered_held.specs.Driven.{IsNewDriven};
 
 use crate::driven::Driven;
 use crate::foreign::Foreign;
-use crate::foreign_stream::{ForeignMerge, GrowingForeignMerge};
 use crate::mailbox::Mailbox;
-use futures::stream::StreamFuture;
-use futures::{Future, Stream};
+use futures::Future;
 use futures_buffered_core::ready_core::NewFault;
-use futures_buffered_joins::join::{Join, JoinAll};
-use futures_buffered_joins::try_join::{TryJoin, TryJoinAll};
-use futures_buffered_merges::merge_bounded::MergeBounded;
-use futures_buffered_merges::merge_unbounded::MergeUnbounded;
-use futures_buffered_merges::slot_stream::SlotStream;
 use futures_buffered_ordered::futures_ordered::FuturesOrdered;
 use futures_buffered_ordered::futures_ordered_bounded::FuturesOrderedBounded;
 use futures_buffered_unordered::SlotFuture;
-use futures_buffered_unordered::futures_unordered::{FIRST_GROUP, FuturesUnordered};
+use futures_buffered_unordered::futures_unordered::FuturesUnordered;
 use futures_buffered_unordered::futures_unordered_bounded::{FuturesUnorderedBounded, POLL_LIMIT};
 use std::alloc::Global;
 
@@ -42,12 +31,6 @@ pub type ForeignQueue<F, T = Foreign<F>> = FuturesOrderedBounded<T, Driven<F>>;
 
 /// A growing ordered queue of futures of the kit.
 pub type GrowingForeignQueue<F, T = Foreign<F>> = FuturesOrdered<T, Driven<F>>;
-
-/// A join of futures of the kit.
-pub type ForeignJoin<F, T = Foreign<F>> = JoinAll<T, Driven<F>>;
-
-/// A join of futures of the kit that may fail.
-pub type ForeignTryJoin<F, T = Foreign<F>> = TryJoinAll<T, Driven<F>>;
 
 /// An empty set of `cap` slots.
 ///
@@ -95,54 +78,4 @@ pub fn growing_foreign_queue<F: Future<Output: Drop>, T: SlotFuture<Mailbox<F>, 
     ensures { MakesGroup cap (IsNewGrowingQueue IsNewDriven cap POLL_LIMIT) result }
 {
     FuturesOrdered::over((), alloc, cap)
-}
-
-/// A merge without a free slot of the streams that this iterator gives, in its order. It refuses as `MergeBounded::over` does.
-pub fn foreign_merge<
-    St: Stream<Item: Drop>,
-    I: IntoIterator<Item: SlotStream<Mailbox<StreamFuture<St>>>>,
->(alloc: Global, iter: I) -> Result<ForeignMerge<St, I::Item>, NewFault>
-    requires { IsFiniteSource I.IntoIterator I.IntoIter.Iterator iter }
-    ensures { MakesFull I.IntoIterator I.IntoIter.Iterator iter slots_in
-        (HoldsEach IsNewDriven Marks POLL_LIMIT) result }
-{
-    MergeBounded::over(&(), alloc, iter)
-}
-
-/// A merge that grows, of the streams that this iterator gives, in its order. It refuses as `MergeUnbounded::over` does.
-pub fn growing_foreign_merge<
-    St: Stream<Item: Drop>,
-    I: IntoIterator<Item: SlotStream<Mailbox<StreamFuture<St>>>>,
->(alloc: Global, iter: I) -> Result<GrowingForeignMerge<St, I::Item>, NewFault>
-    requires { IsFiniteSource I.IntoIterator I.IntoIter.Iterator iter }
-    ensures { MakesExtended I.IntoIterator I.IntoIter.Iterator iter
-        (GrowingPushes Marks IsNewDriven FIRST_GROUP) SetRefuses (no_groups POLL_LIMIT) result }
-{
-    MergeUnbounded::over((), alloc, iter)
-}
-
-/// A join of what this iterator gives, in its order. Nothing is polled, and it refuses as `JoinAll::over` does.
-pub fn foreign_join_all<
-    F: Future<Output: Drop>,
-    I: IntoIterator<Item: SlotFuture<Mailbox<F>, Output: Drop>>,
->(alloc: Global, iter: I) -> Result<ForeignJoin<F, I::Item>, NewFault>
-    requires { IsFiniteSource I.IntoIterator I.IntoIter.Iterator iter }
-    ensures { MakesJoin I.IntoIterator I.IntoIter.Iterator iter
-        IsNewDriven Marks POLL_LIMIT result }
-{
-    Join::over(&(), alloc, iter)
-}
-
-/// As `foreign_join_all`, of what may fail: it is ready as soon as one gives an error.
-pub fn foreign_try_join_all<
-    F: Future<Output: Drop>,
-    I: IntoIterator<Item: SlotFuture<Mailbox<F>, Output = Result<A, E>>>,
-    A: Drop,
-    E,
->(alloc: Global, iter: I) -> Result<ForeignTryJoin<F, I::Item>, NewFault>
-    requires { IsFiniteSource I.IntoIterator I.IntoIter.Iterator iter }
-    ensures { MakesJoin I.IntoIterator I.IntoIter.Iterator iter
-        IsNewDriven Marks POLL_LIMIT result }
-{
-    TryJoin::over(&(), alloc, iter)
 }

@@ -2,14 +2,11 @@
 ghost use Rattle.std.specs.Prelude.{◌≡◌, Some};
 ghost use Rattle.futures.specs.declared.stream.ext.into_future.StreamFuture.{StreamFuture};
 
-use crate::driven::Driven;
 use crate::foreign::Foreign;
 use crate::mailbox::Mailbox;
 use futures::stream::StreamFuture;
 use futures::task::Poll;
 use futures::{Stream, StreamExt};
-use futures_buffered_merges::merge_bounded::MergeBounded;
-use futures_buffered_merges::merge_unbounded::MergeUnbounded;
 use futures_buffered_merges::slot_stream::SlotStream;
 use futures_buffered_unordered::slot_future::SlotFuture;
 use std::marker::Model;
@@ -30,15 +27,6 @@ impl<St: Stream<Item: Drop>> Model for ForeignStream<St> {
 
     ghost view = { λ foreign. foreign.next };
 }
-
-/// A merge of streams of the kit.
-pub type ForeignMerge<St, T = ForeignStream<St>> = MergeBounded<T, Driven<StreamFuture<St>>>;
-
-/// A growing merge of streams of the kit.
-pub type GrowingForeignMerge<St, T = ForeignStream<St>> = MergeUnbounded<
-    T,
-    Driven<StreamFuture<St>>,
->;
 
 impl<St: Stream<Item: Drop>> ForeignStream<St> {
     /// Takes no memory, and polls nothing.

@@ -17,13 +17,12 @@
 //! - `held`: `Held`, a future that may be polled, and `Given`, an output with the fact that a future may give it.
 //! - `mailbox`: `Mailbox`, by which a slot hands its future over and gets the output back, and `Ticket`, which says whose output it is.
 //! - `foreign`: `Foreign`, what a set holds in place of a future.
-//! - `foreigns` and `try_foreigns`: `Foreigns`, the stand-ins of a stream's futures, as a stream, and `TryForeigns`, where the stream gives errors as well.
 //! - `foreign_stream`: `ForeignStream`, what a merge holds in place of a stream.
 //! - `running`: the futures that one source handed over, in a set of the kit.
 //! - `desk`: these, and their outputs, which wait there until the source asks for them.
 //! - `driver`: what polls the futures of all sources beside one another.
 //! - `driven`: `Driven`, a source that names the slots whose outputs have come.
-//! - `foreign_sets`: sets, queues, joins and merges over it, by short names.
+//! - `foreign_sets`: sets and queues over it, by short names.
 #![tactic(auto)]
 
 mod desk;
@@ -33,7 +32,6 @@ pub mod either;
 pub mod foreign;
 pub mod foreign_sets;
 pub mod foreign_stream;
-pub mod foreigns;
 pub mod future;
 mod held;
 pub mod iter;
@@ -49,16 +47,12 @@ pub mod spsc;
 mod spsc_place;
 pub mod stream;
 pub mod then;
-pub mod try_foreigns;
 
 pub use driven::Driven;
 pub use either::Either;
 pub use foreign::Foreign;
 pub use foreign_sets::{
-    ForeignJoin, ForeignQueue, ForeignSet, ForeignTryJoin, GrowingForeignQueue, GrowingForeignSet,
-    foreign_join_all, foreign_merge, foreign_queue, foreign_set, foreign_try_join_all,
-    growing_foreign_merge, growing_foreign_queue, growing_foreign_set,
+    ForeignQueue, ForeignSet, GrowingForeignQueue, GrowingForeignSet, foreign_queue, foreign_set,
+    growing_foreign_queue, growing_foreign_set,
 };
-pub use foreign_stream::{ForeignMerge, ForeignStream, GrowingForeignMerge};
-pub use foreigns::Foreigns;
-pub use try_foreigns::TryForeigns;
+pub use foreign_stream::ForeignStream;

@@ -5,11 +5,9 @@
 // - `turns`: outputs of a slot that holds another future by now, and sources that leave or let all go.
 // - `drops`: what ends with a source that leaves, and with a clear.
 // - `busy`: a source that is asked while another thread has the futures polled.
-// - `adaptors`: the adaptors over streams of futures that a thread completes.
-// - `short_names`: what the short names of sets, queues, joins and merges make.
+// - `short_names`: what the short names of queues make.
 // - `nested`: joins as futures of a set.
 // - `threads`: futures that are completed from threads.
-mod adaptors;
 mod busy;
 mod drops;
 mod nested;

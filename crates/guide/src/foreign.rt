@@ -3,11 +3,9 @@ use crate::show::{print_all, print_next};
 use futures::channel::mpsc::{TrySendError, UnboundedReceiver, UnboundedSender, unbounded};
 use futures::channel::oneshot::{Canceled, Receiver, channel};
 use futures::executor::block_on;
-use futures::{StreamExt, future, stream};
+use futures::{FutureExt, StreamExt, future, stream};
 use futures_buffered::future::{map, then};
-use futures_buffered::{
-    BufferedStreamExt, Foreign, ForeignStream, foreign_join_all, foreign_merge, foreign_set,
-};
+use futures_buffered::{BufferedStreamExt, Foreign, foreign_join_all, foreign_merge, foreign_set};
 use std::alloc::{AllocError, AllocGlobal, Global};
 use std::io::Print;
 use std::random::RandomSource;
@@ -54,10 +52,8 @@ where
 {
     let alloc = rt.alloc();
     let receivers = vec![in alloc; sent(alloc, 1)?, sent(alloc, 2)?, sent(alloc, 3)?]?;
-    let outputs = stream::iter(receivers)
-        .foreign_buffered_ordered(alloc, 2)?
-        .map(|sent| sent.unwrap_or(0));
-    print_all(rt, outputs)
+    let requests = stream::iter(receivers).map(|receiver| receiver.map(|sent| sent.unwrap_or(0)));
+    print_all(rt, requests.foreign_buffered_ordered(alloc, 2)?)
 }
 
 pub fn joined<R>(rt: &R) -> Result<(), anyhow::Error>
@@ -65,10 +61,10 @@ where
     R: Wait + RandomSource + AllocGlobal + Print,
 {
     let alloc = rt.alloc();
-    let jobs = vec![in alloc;
-        Foreign::new(sent(alloc, 1)?),
-        Foreign::new(sent(alloc, 2)?),
-    ]?;
+    let receivers = vec![in alloc; sent(alloc, 1)?, sent(alloc, 2)?]?;
+    let jobs = receivers
+        .into_iter()
+        .map(|receiver| receiver.map(|sent| sent.unwrap_or(0)));
     println!(rt; "{:?}", block_on(rt, foreign_join_all(alloc, jobs)?)?)?;
     Ok(())
 }
@@ -96,13 +92,10 @@ fn send_each(sender: &UnboundedSender<u64>, items: &[u64]) -> Result<(), TrySend
 }
 
 // The stream of a channel into which these have been sent, and no more can be.
-fn items_of(
-    alloc: Global,
-    items: &[u64],
-) -> Result<ForeignStream<UnboundedReceiver<u64>>, anyhow::Error> {
+fn items_of(alloc: Global, items: &[u64]) -> Result<UnboundedReceiver<u64>, anyhow::Error> {
     let (sender, receiver) = unbounded(alloc)?;
     send_each(&sender, items)?;
-    Ok(ForeignStream::new(receiver))
+    Ok(receiver)
 }
 
 pub fn three_channels<R>(rt: &R) -> Result<(), anyhow::Error>

@@ -3,13 +3,14 @@ ghost use Rattle.std.specs.Prelude.{◌<◌};
 
 use crate::same::assert_same;
 use futures::Stream;
-use futures::channel::mpsc::unbounded;
+use futures::channel::mpsc::{UnboundedReceiver, unbounded};
 use futures::channel::oneshot::{Receiver, Sender, channel};
 use futures::future::{Ready, ready};
+use futures::stream::StreamFuture;
 use futures::task::Poll;
 use futures::test::MockTask;
 use futures_buffered::{
-    ForeignSet, ForeignStream, foreign_merge, foreign_queue, foreign_set, growing_foreign_set,
+    ForeignSet, ForeignStream, MergeBounded, foreign_queue, foreign_set, growing_foreign_set,
 };
 use futures_buffered_core::ready_core::Taken;
 use futures_buffered_core::ready_source::{NewSource, ReadySource};
@@ -24,6 +25,8 @@ use test_support::dropped::Dropped;
 use test_support::keep::keep;
 
 type Source = Driven<Ready<Dropped>>;
+
+type Items = UnboundedReceiver<u64>;
 
 // Hands the future over by slot 0.
 fn begin(source: &mut Source, held: &mut Foreign<Ready<Dropped>>) -> Taken
@@ -100,7 +103,8 @@ fn what_was_polled_before_a_queue_or_a_merge_is_cleared(rt: HostRuntime) -> Resu
     let _pushed = queue.try_push_back(Foreign::new(receiver)).is_ok();
     let (items, stream) = unbounded::<u64>(rt.alloc())?;
     let streams = vec![in rt.alloc(); ForeignStream::new(stream)]?;
-    let mut merge = foreign_merge(rt.alloc(), streams)?;
+    let mut merge: MergeBounded<ForeignStream<Items>, Driven<StreamFuture<Items>>> =
+        MergeBounded::over(&(), rt.alloc(), streams)?;
     for _ in 0..2 {
         let _pending = task.enter(|cx| queue.poll_next(cx));
         let _pending = task.enter(|cx| merge.poll_next(cx));

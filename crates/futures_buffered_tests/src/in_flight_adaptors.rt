@@ -1,11 +1,10 @@
-//! The adaptors over streams of futures of the kit, which a thread completes.
+//! What holds futures of the kit in plain sight: the buffers, of futures that a thread completes, the for-eaches, and a join.
 use crate::same::assert_same;
 use futures::channel::oneshot::{Canceled, Receiver, Sender, channel};
 use futures::executor::block_on;
 use futures::future::ready;
-use futures::test::MockTask;
-use futures::{Stream, StreamExt, stream};
-use futures_buffered::{BufferedStreamExt, BufferedTryStreamExt, Foreign, Foreigns, TryForeigns};
+use futures::{FutureExt, Stream, StreamExt, TryFutureExt, stream};
+use futures_buffered::{BufferedStreamExt, BufferedTryStreamExt, foreign_try_join_all};
 use std::alloc::{AllocError, AllocGlobal, Global};
 use std::random::RandomSource;
 use std::sync::atomic::Ordering::SeqCst;
@@ -112,7 +111,7 @@ fn for_each_item(rt: HostRuntime) -> Result<(), Fail> {
     let added = Arc::try_clone(&sum)?;
     let all = stream::iter(0..20u64).foreign_for_each_concurrent(rt.alloc(), 4, move |n: u64| {
         added.fetch_add(n, SeqCst);
-        Foreign::new(ready(()))
+        ready(n).map(|_| ())
     })?;
     block_on(&rt, all)?;
     assert_same(&rt, sum.load(SeqCst), 190);
@@ -127,7 +126,7 @@ fn for_each_item_up_to_an_error(rt: HostRuntime) -> Result<(), Fail> {
     let numbers = stream::iter(0..100u64).map(Ok::<_, u64>);
     let all = numbers.foreign_try_for_each_concurrent(rt.alloc(), 4, move |n: u64| {
         counted.fetch_add(1, SeqCst);
-        Foreign::new(ready(if n == 13 { Err(n) } else { Ok(()) }))
+        ready(Ok(n)).and_then(|n| ready(if n == 13 { Err(n) } else { Ok(()) }))
     })?;
     let ended = block_on(&rt, all)?;
     let calls = calls.load(SeqCst);
@@ -139,45 +138,18 @@ fn for_each_item_up_to_an_error(rt: HostRuntime) -> Result<(), Fail> {
     Ok(())
 }
 
-// One draw from the stream: whether it answers, and whether it wakes the task.
-fn draw<St>(task: &MockTask, stream: &mut St) -> (bool, bool)
-where
-    St: Stream,
-    St::Item: Drop,
-    requires { St.can_poll stream.old }
-{
-    let drew = task.enter(|cx| stream.poll_next(cx));
-    (drew.is_ready(), task.is_woken())
+// A receiver whose value has been sent.
+fn sent<R: AllocGlobal>(rt: &R, value: u64) -> Result<Receiver<u64>, AllocError> {
+    let (sender, receiver) = channel(rt.alloc())?;
+    let _ = sender.send(value);
+    Ok(receiver)
 }
 
-const ANSWERS: (bool, bool) = (true, false);
-
-const WAITS: (bool, bool) = (false, false);
-
-// What an adaptor draws: a stand-in for the stream's future, the end, and nothing where the stream waits.
 #[test]
-fn a_draw_wakes_nobody(rt: HostRuntime) -> Result<(), Fail> {
-    let task = MockTask::new(&rt)?;
-    let (_sender, receiver) = channel::<u64>(rt.alloc())?;
-    let mut stand_ins = Foreigns::new(stream::iter(Some(receiver)));
-    assert_same(&rt, draw(&task, &mut stand_ins), ANSWERS);
-    assert_same(&rt, draw(&task, &mut stand_ins), ANSWERS);
-    let mut waits = Foreigns::new(stream::pending::<Receiver<u64>>());
-    assert_same(&rt, draw(&task, &mut waits), WAITS);
-    Ok(())
-}
-
-// The same where the stream may fail: a stand-in, an error, the end, and a stream that waits.
-#[test]
-fn a_draw_of_an_attempt_wakes_nobody(rt: HostRuntime) -> Result<(), Fail> {
-    let task = MockTask::new(&rt)?;
-    let (_sender, receiver) = channel::<u64>(rt.alloc())?;
-    let attempts = vec![in rt.alloc(); Ok(receiver), Err(7u64)]?;
-    let mut stand_ins = TryForeigns::new(stream::iter(attempts));
-    assert_same(&rt, draw(&task, &mut stand_ins), ANSWERS);
-    assert_same(&rt, draw(&task, &mut stand_ins), ANSWERS);
-    assert_same(&rt, draw(&task, &mut stand_ins), ANSWERS);
-    let mut waits = TryForeigns::new(stream::pending::<Result<Receiver<u64>, u64>>());
-    assert_same(&rt, draw(&task, &mut waits), WAITS);
+fn a_join_that_may_fail(rt: HostRuntime) -> Result<(), Fail> {
+    let receivers = vec![in rt.alloc(); sent(&rt, 4)?, sent(&rt, 5)?]?;
+    let all = block_on(&rt, foreign_try_join_all(rt.alloc(), receivers)?)?;
+    let sum = all.map(|all| all.iter().fold(0u64, |sum, one| sum.wrapping_add(*one)));
+    assert_same(&rt, sum, Ok(9));
     Ok(())
 }

@@ -2,9 +2,9 @@ use Rattle.std.proofs.Common.{rules, ◌≡◌, ◌<◌, ◌∷◌, ◌++◌, []
 use Rattle.std.proofs.lemmas.Fn.{FoldsTo-push}
 use Rattle.std.proofs.lemmas.List.{length_push}
 use Rattle.futures_buffered.specs.Buffer.{PollsStream, CanDraw, BufferGives}
-use Rattle.futures_buffered.specs.TryForEachConcurrent.{CallsBuffer, CanDrain, DrainGives, GoesOn}
-use Rattle.futures_buffered.proofs.TryForEachConcurrentLemmas.{call_leaves}
-use Rattle.futures_buffered.proofs.try_for_each_concurrent.TryDrainFuture.poll.Goals as goal
+use Rattle.futures_buffered.specs.Drain.{CallsBuffer, CanDrain, DrainGives, GoesOn}
+use Rattle.futures_buffered.proofs.DrainLemmas.{call_leaves}
+use Rattle.futures_buffered.proofs.drain.DrainFuture.poll.Goals as goal
 
 pub turns-init : goal.turns-init
 turns-init g c = record { done = []; row = refl; count = refl; limit = refl; again = c.requires; gives = λ x h. h; kept = λ fact h. h }
@@ -18,7 +18,7 @@ turns-preserved g c =
     let goes = rw none at c.turn.ensures.goes in
     record {
       done = so.done ++ tt ∷ [];
-      row = FoldsTo-push (GoesOn (CallsBuffer (PollsStream stream.yields) queue.count queue.room queue.pushes queue.polls queue.leaves)) (c.args.self.now.buffer, c.args.cx.now) so.done (c.turns.self.buffer, c.turns.cx) tt (c.turn.new.self.buffer, c.turn.new.cx) so.row (rw none at c.turn.ensures.turn);
+      row = FoldsTo-push (GoesOn g.Q.Output.DrainOutput (CallsBuffer (PollsStream stream.yields) queue.count queue.room queue.pushes queue.polls queue.leaves)) (c.args.self.now.buffer, c.args.cx.now) so.done (c.turns.self.buffer, c.turns.cx) tt (c.turn.new.self.buffer, c.turn.new.cx) so.row (rw none at c.turn.ensures.turn);
       count = omega (arith, length_push so.done tt, so.count);
       limit = goes.limit ∙ so.limit;
       again = goes.again;
@@ -37,7 +37,7 @@ returns-in-Some-clause-drain g c =
     let stream = g.St.Stream in
     let queue = g.Q.FutureQueue in
     let so = c.turns.invariant in
-    call_leaves (CanDrain (CanDraw stream.can_poll stream.yields queue.is_fit queue.can_poll)) (DrainGives (BufferGives stream.yields queue.gives queue.count queue.yields queue.in_order)) c.args.self.now c.turns.self c.turn.new.self c.in-Some.answer so.limit so.gives c.in-Some.ensures.ends
+    call_leaves (CanDrain (CanDraw stream.can_poll stream.yields queue.is_fit queue.can_poll)) (DrainGives g.Q.Output.DrainOutput (BufferGives stream.yields queue.gives queue.count queue.yields queue.in_order)) c.args.self.now c.turns.self c.turn.new.self c.in-Some.answer so.limit so.gives c.in-Some.ensures.ends
 
 pub returns-clause-called : goal.returns-clause-called
 returns-clause-called g c =

@@ -1,0 +1,206 @@
+//! A buffer that is polled to its end, or to the first output that ends it.
+ghost use Rattle.std.specs.Prelude.{◌≡◌, ◌<◌, ◌≤◌, IfSome, IfNone, option_copied};
+ghost use Rattle.futures.specs.Task.{Covers, Keeps};
+ghost use Rattle.futures.specs.Poll.{OnPending};
+ghost use Rattle.futures_buffered_core.specs.Made.{MakesSlots};
+ghost use Rattle.futures_buffered_unordered.specs.FuturesUnorderedBounded.{IsWoken};
+ghost use Rattle.futures_buffered.specs.Buffer.{PollsStream, CanDraw, WaitsAt, BufferGives};
+ghost use Rattle.futures_buffered.specs.Drain.{CallsBuffer, CanDrain, DrainCall, DrainGives, DrainTurn, DrainWaitsAt, GoingLeavesDrain, IsDrained, IsNewDrain, LeavesDrain};
+
+use crate::buffer::Buffer;
+use crate::drain_output::DrainOutput;
+use crate::future_queue::{FutureQueue, NewQueue};
+use futures::task::{Context, Poll};
+use futures::{Future, Stream};
+use futures_buffered_core::ready_core::NewFault;
+use futures_buffered_unordered::futures_unordered_bounded::POLL_LIMIT;
+use futures_buffered_unordered::{FusedFuture, FusedStream};
+use std::alloc::Global;
+use std::fmt;
+use std::marker::Model;
+
+/// Polls a buffer to its end, or to the first output that ends it.
+///
+/// A contract sees the buffer, or nothing once the drain was ready, and how many turns one poll takes. A poll takes no memory but what the stream, the futures and the source's calls take. Where the drain is ready the buffer is dropped at once, with what it holds.
+#[derive(Drop)]
+pub struct Drain<St: Drop, Q: Drop> {
+    buffer: Option<Buffer<St, Q>>,
+    limit: usize,
+}
+
+impl<St: Drop, Q: Drop> Model for Drain<St, Q> {
+    ghost use Rattle.futures_buffered.specs.Buffer.{Buffering, buffer_code};
+    ghost use Rattle.futures_buffered.specs.Drain.{Draining, draining_code};
+
+    ghost Value = { Draining (Buffering St Q) };
+
+    ghost coded = { draining_code (buffer_code St.code Q.code) };
+
+    ghost use Rattle.std.specs.Prelude.{◌≤◌};
+
+    ghost view = { λ s. record { buffer = s.buffer; limit = s.limit } };
+
+    ghost invariant = { λ s. 1 ≤ s.limit };
+}
+
+impl<St: Drop, Q: Drop> Drain<St, Q> {
+    /// Over this buffer, where one poll takes at most `limit` turns. Nothing is polled.
+    pub fn over_buffer(buffer: Buffer<St, Q>, limit: usize) -> Self
+        requires { 1 ≤ limit }
+        ensures { result ≡ record { buffer = Some buffer; limit = limit } }
+    {
+        Drain {
+            buffer: Some(buffer),
+            limit,
+        }
+    }
+
+    /// The buffer that is polled, or `None` once the drain was ready: it was dropped then, with what it held. Takes the same time at any number.
+    pub fn buffer(&self) -> Option<&Buffer<St, Q>>
+        ensures { option_copied result ≡ self.now.buffer }
+    {
+        self.buffer.as_ref()
+    }
+}
+
+impl<St: Drop, Q: NewQueue> Drain<St, Q> {
+    /// Over this stream, with at most `n` held at a time and a queue made for them. Nothing is polled.
+    ///
+    /// Takes time and memory in proportion to `n`. The stream is dropped where it is refused: `TooLarge` where `n` is above `MAX_CAPACITY`, and `Memory` where a request for memory was refused.
+    pub fn over(env: &Q::Env, alloc: Global, stream: St, n: usize) -> Result<Self, NewFault>
+        requires { 0 < n }
+        ensures { MakesSlots n (IsNewDrain (Q.made n POLL_LIMIT) POLL_LIMIT stream) result }
+    {
+        Self::over_limit(env, alloc, stream, n, POLL_LIMIT)
+    }
+
+    /// As `over`, where one poll takes at most `limit` turns, and its polls of the queue's set at most as many names each.
+    pub fn over_limit(
+        env: &Q::Env,
+        alloc: Global,
+        stream: St,
+        n: usize,
+        limit: usize,
+    ) -> Result<Self, NewFault>
+        requires room { 0 < n }
+        requires some { 1 ≤ limit }
+        ensures { MakesSlots n (IsNewDrain (Q.made n limit) limit stream) result }
+    {
+        let buffer = Buffer::over_limit(env, alloc, stream, n, limit)?;
+        Ok(Self::over_buffer(buffer, limit))
+    }
+}
+
+impl<St, Q> Drain<St, Q>
+where
+    St: Stream,
+    Q: FutureQueue<St::Item, Output: DrainOutput>,
+{
+    // Polls the buffer once. The answer of the call, where it ends here.
+    fn turn(&mut self, cx: &mut Context<'_>) -> Option<Poll<Q::Output>>
+        requires { CanDrain (CanDraw St.can_poll St.yields Q.is_fit Q.can_poll) self.old }
+        ensures turn { DrainTurn Q.Output.DrainOutput
+            (CallsBuffer (PollsStream St.yields) Q.count Q.room Q.pushes Q.polls Q.leaves)
+            self.old.buffer result self.new.buffer cx.old cx.new }
+        ensures goes { IfNone result (GoingLeavesDrain
+            (CanDrain (CanDraw St.can_poll St.yields Q.is_fit Q.can_poll))
+            (DrainGives Q.Output.DrainOutput
+            (BufferGives St.yields Q.gives Q.count Q.yields Q.in_order))
+            self.old self.new) }
+        ensures ends { IfSome result (λ answer. LeavesDrain
+            (CanDrain (CanDraw St.can_poll St.yields Q.is_fit Q.can_poll))
+            (DrainGives Q.Output.DrainOutput
+            (BufferGives St.yields Q.gives Q.count Q.yields Q.in_order))
+            self.old answer self.new) }
+        ensures registered { IfSome result (λ answer. OnPending answer (Covers cx.new
+            (DrainWaitsAt (WaitsAt St.needs Q.needs Q.count Q.room) self.new))) }
+        ensures kept { Keeps cx.old cx.new }
+    {
+        let Some(buffer) = &mut self.buffer else {
+            return Some(Poll::Ready(Q::Output::done()));
+        };
+        match buffer.poll_next(cx) {
+            Poll::Pending => Some(Poll::Pending),
+            Poll::Ready(Some(output)) => {
+                if output.is_done() {
+                    return None;
+                }
+                self.buffer = None;
+                Some(Poll::Ready(output))
+            }
+            Poll::Ready(None) => {
+                self.buffer = None;
+                Some(Poll::Ready(Q::Output::done()))
+            }
+        }
+    }
+}
+
+impl<St, Q> Future for Drain<St, Q>
+where
+    St: Stream,
+    Q: FutureQueue<St::Item, Output: DrainOutput>,
+{
+    type Output = Q::Output;
+
+    ghost can_poll = { CanDrain (CanDraw St.can_poll St.yields Q.is_fit Q.can_poll) };
+
+    ghost needs = { DrainWaitsAt (WaitsAt St.needs Q.needs Q.count Q.room) };
+
+    ghost gives = { DrainGives Q.Output.DrainOutput
+        (BufferGives St.yields Q.gives Q.count Q.yields Q.in_order) };
+
+    /// At most as many turns as the limit is, each of which polls the buffer once. Another follows after an output that ends nothing. `Ready` with the first output that ends it, of a push or of a future, or, where the stream has ended and nothing is held, with what it is ready with at its end: what is held is dropped then, and a later poll answers that again and polls nothing. At the limit the task is woken at once.
+    ///
+    /// Takes no memory but what the stream, the futures and the source's calls take, and waits for nobody where these do not. Takes time in proportion to the turns, the items drawn, and the names that the turns' polls of the set take, besides the polls.
+    fn poll(&mut self, cx: &mut Context<'_>) -> Poll<Q::Output>
+        requires { CanDrain (CanDraw St.can_poll St.yields Q.is_fit Q.can_poll) self.old }
+        ensures called { DrainCall Q.Output.DrainOutput
+            (CallsBuffer (PollsStream St.yields) Q.count Q.room Q.pushes Q.polls Q.leaves)
+            IsWoken self.old.limit self.old.buffer result self.new.buffer cx.old cx.new }
+        ensures drain { LeavesDrain
+            (CanDrain (CanDraw St.can_poll St.yields Q.is_fit Q.can_poll))
+            (DrainGives Q.Output.DrainOutput
+            (BufferGives St.yields Q.gives Q.count Q.yields Q.in_order))
+            self.old result self.new }
+        ensures registered { OnPending result (Covers cx.new
+            (DrainWaitsAt (WaitsAt St.needs Q.needs Q.count Q.room) self.new)) }
+        ensures kept { Keeps cx.old cx.new }
+    {
+        'turns: for _turn in 0..self.limit {
+            if let Some(answer) = self.turn(cx) {
+                return answer;
+            }
+        }
+        cx.yield_now()
+    }
+}
+
+/// Whether there is no buffer, or its stream has ended and it holds nothing. Takes the same time at any capacity.
+impl<St, Q> FusedFuture for Drain<St, Q>
+where
+    St: Stream,
+    Q: FutureQueue<St::Item, Output: DrainOutput>,
+{
+    ghost is_over = { IsDrained Q.count };
+
+    fn is_terminated(&self) -> bool {
+        match &self.buffer {
+            Some(buffer) => buffer.is_terminated(),
+            None => true,
+        }
+    }
+}
+
+/// Prints whether it has ended.
+impl<St, Q> fmt::Debug for Drain<St, Q>
+where
+    St: Stream,
+    Q: FutureQueue<St::Item, Output: DrainOutput>,
+{
+    fn fmt<W: fmt::Write>(&self, f: &mut fmt::Formatter<W>) -> fmt::Result {
+        f.debug_struct(Q::Output::drain_name())
+            .field("has_ended", &self.buffer.is_none())
+            .finish_non_exhaustive()
+    }
+}

@@ -1,0 +1,111 @@
+//! Which items and ends a merge of the kit's streams gives, whom it wakes, and which streams it drops and when: each is seen by its sender.
+ghost use Rattle.futures_buffered.specs.InFlightMerge.{CanPollAll};
+
+use crate::same::assert_same;
+use futures::Stream;
+use futures::channel::mpsc::{UnboundedReceiver, UnboundedSender, unbounded};
+use futures::task::{Context, Poll};
+use futures::test::MockTask;
+use futures_buffered::{InFlightMerge, foreign_merge};
+use std::alloc::AllocGlobal;
+use std::process::Abort;
+use std::test::Fail;
+
+type Merge = InFlightMerge<UnboundedReceiver<u64>>;
+
+// A sender, and whether its receiver went into the merge.
+fn push<R: AllocGlobal + Abort>(
+    rt: &R,
+    merge: &mut Merge,
+) -> Result<(UnboundedSender<u64>, bool), Fail>
+    requires { CanPollAll ⟦<UnboundedReceiver<u64> as Stream>⟧ merge.old }
+    ensures { CanPollAll ⟦<UnboundedReceiver<u64> as Stream>⟧ merge.new }
+{
+    let (sender, receiver) = unbounded::<u64>(rt.alloc())?;
+    Ok((sender, merge.try_push(receiver).is_ok()))
+}
+
+// What one poll gives, and how many streams are held then.
+fn polled(merge: &mut Merge, cx: &mut Context<'_>) -> (Poll<Option<u64>>, usize)
+    requires { CanPollAll ⟦<UnboundedReceiver<u64> as Stream>⟧ merge.old }
+    ensures { CanPollAll ⟦<UnboundedReceiver<u64> as Stream>⟧ merge.new }
+{
+    let answer = merge.poll_next(cx);
+    (answer, merge.len())
+}
+
+fn items_and_ends<R: AllocGlobal + Abort>(rt: &R, cx: &mut Context<'_>) -> Result<(), Fail> {
+    let mut merge = InFlightMerge::new(rt.alloc(), 2);
+    assert_same(rt, polled(&mut merge, cx), (Poll::Ready(None), 0));
+    let (first, _) = push(rt, &mut merge)?;
+    let (second, _) = push(rt, &mut merge)?;
+    second.unbounded_send(5)?;
+    second.unbounded_send(6)?;
+    assert_same(rt, polled(&mut merge, cx), (Poll::Ready(Some(5)), 2));
+    assert_same(rt, polled(&mut merge, cx), (Poll::Ready(Some(6)), 2));
+    assert_same(rt, polled(&mut merge, cx), (Poll::Pending, 2));
+    drop(second);
+    assert_same(rt, polled(&mut merge, cx), (Poll::Pending, 1));
+    first.unbounded_send(7)?;
+    assert_same(rt, polled(&mut merge, cx), (Poll::Ready(Some(7)), 1));
+    drop(first);
+    assert_same(rt, polled(&mut merge, cx), (Poll::Ready(None), 0));
+    let (third, _) = push(rt, &mut merge)?;
+    third.unbounded_send(8)?;
+    assert_same(rt, polled(&mut merge, cx), (Poll::Ready(Some(8)), 1));
+    Ok(())
+}
+
+// Each item comes, of a stream in its order, and the end where no stream is held. A push after that starts it again.
+#[test]
+fn each_item_and_then_the_end(rt: HostRuntime) -> Result<(), Fail> {
+    let task = MockTask::new(&rt)?;
+    task.enter(|cx| items_and_ends(&rt, cx))
+}
+
+// Where it waits an item wakes the task.
+#[test]
+fn an_item_wakes_the_task(rt: HostRuntime) -> Result<(), Fail> {
+    let task = MockTask::new(&rt)?;
+    let mut merge = InFlightMerge::new(rt.alloc(), 2);
+    let (first, _) = push(&rt, &mut merge)?;
+    let (_second, _) = push(&rt, &mut merge)?;
+    let waits = task.enter(|cx| polled(&mut merge, cx));
+    assert_same(&rt, (waits, task.is_woken()), ((Poll::Pending, 2), false));
+    first.unbounded_send(1)?;
+    assert_same(&rt, task.is_woken(), true);
+    Ok(())
+}
+
+fn dropped<R: AllocGlobal + Abort>(rt: &R, cx: &mut Context<'_>) -> Result<(), Fail> {
+    let mut merge = InFlightMerge::new(rt.alloc(), 2);
+    let (first, _) = push(rt, &mut merge)?;
+    let (second, _) = push(rt, &mut merge)?;
+    let (third, went_in) = push(rt, &mut merge)?;
+    assert_same(rt, (went_in, third.is_closed()), (false, true));
+    assert_same(rt, polled(&mut merge, cx), (Poll::Pending, 2));
+    assert_same(rt, (first.is_closed(), second.is_closed()), (false, false));
+    merge.clear();
+    assert_same(rt, (first.is_closed(), second.is_closed()), (true, true));
+    assert_same(rt, polled(&mut merge, cx), (Poll::Ready(None), 0));
+    Ok(())
+}
+
+// A full merge takes no other stream. A clear drops each stream in the call.
+#[test]
+fn a_full_merge_and_a_clear(rt: HostRuntime) -> Result<(), Fail> {
+    let task = MockTask::new(&rt)?;
+    task.enter(|cx| dropped(&rt, cx))
+}
+
+// A merge that is made of streams has room for no other.
+#[test]
+fn a_merge_of_two(rt: HostRuntime) -> Result<(), Fail> {
+    let (_first, one) = unbounded::<u64>(rt.alloc())?;
+    let (_second, other) = unbounded::<u64>(rt.alloc())?;
+    let streams = vec![in rt.alloc(); one, other]?;
+    let mut merge = foreign_merge(rt.alloc(), streams)?;
+    let (_third, went_in) = push(&rt, &mut merge)?;
+    assert_same(&rt, (merge.len(), merge.capacity(), went_in), (2, 2, false));
+    Ok(())
+}
