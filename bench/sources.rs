@@ -99,7 +99,7 @@ fn take_often(source: &mut Source, takings: u64) {
 fn add_wakers(wakers: &mut Vec<SharedWaker<Nobody>>, source: &Source) -> Result<(), AllocError> {
     for slot in 0..source.capacity() {
         if slot < source.capacity() {
-            keep(wakers, source.waker(slot).try_clone()?)?;
+            keep(wakers, source.try_waker(slot)?)?;
         }
     }
     Ok(())

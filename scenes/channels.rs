@@ -1,11 +1,11 @@
 //! A channel from one sender on a thread, whose receiver is polled meanwhile.
+use crate::slots::Slots;
 use crate::tasks::{drain, wait_for};
 use anyhow::bail;
 use futures::Stream;
 use futures::task::{Context, Poll};
 use futures::test::MockTask;
 use futures_buffered_core::ready_core::Taken;
-use futures_buffered_core::ready_shared::SharedReady;
 use futures_buffered_held::spsc::{Receiver, Sender, TrySendError, channel};
 use futures_buffered_merges::merge_bounded::MergeBounded;
 use futures_buffered_merges::slot_stream::SlotStream;
@@ -32,9 +32,9 @@ fn send_all(alloc: Global, mut sender: Sender<Item>, items: usize) -> Option<Sen
     Some(sender)
 }
 
-fn sleep_until_named<R: Wait>(rt: &R, source: &mut SharedReady, slot: usize) {
+fn sleep_until_named<R: Wait>(rt: &R, slots: &mut Slots, slot: usize) {
     for _ in rt.forever() {
-        if source.take() == Taken::Slot(slot) {
+        if slots.source.take() == Taken::Slot(slot) {
             return;
         }
         yield_now();
@@ -44,20 +44,20 @@ fn sleep_until_named<R: Wait>(rt: &R, source: &mut SharedReady, slot: usize) {
 // Receives until so many items came or the stream ends, at the slots 0 and 1 in turn where it moves. Returns how many came, where they came in order.
 fn receive<R: Wait>(
     rt: &R,
-    source: &mut SharedReady,
+    slots: &mut Slots,
     receiver: &mut Receiver<Item>,
     most: usize,
     moves: bool,
 ) -> Result<usize, anyhow::Error> {
     let (mut came, mut slot) = (0usize, 0usize);
     for _ in rt.forever() {
-        match receiver.poll_next(source.waker(slot)) {
+        match receiver.poll_next(slots.waker(slot)) {
             Poll::Ready(Some(value)) if *value == came as u64 => came = came + 1,
             Poll::Ready(Some(_)) => bail!("the items come in another order"),
             Poll::Ready(None) => break,
             Poll::Pending if moves && slot == 0 => slot = 1,
             Poll::Pending => {
-                sleep_until_named(rt, source, slot);
+                sleep_until_named(rt, slots, slot);
                 yield_now();
             }
         }
@@ -82,10 +82,10 @@ pub fn sender_goes<R: Threads + Wait + AllocGlobal>(
     items: usize,
 ) -> Result<(), anyhow::Error> {
     let alloc = rt.alloc();
-    let mut source: SharedReady = SharedReady::new(alloc, 2)?;
+    let mut slots = Slots::new(alloc)?;
     let (sender, mut receiver) = channel::<Item>(alloc, places)?;
     let thread = thread::spawn(rt, move || drop(send_all(alloc, sender, items)))?;
-    let came = receive(rt, &mut source, &mut receiver, usize::MAX, false)?;
+    let came = receive(rt, &mut slots, &mut receiver, usize::MAX, false)?;
     thread.join(rt);
     wanted(came, items)
 }
@@ -97,14 +97,14 @@ pub fn sender_finishes<R: Threads + Wait + AllocGlobal>(
     items: usize,
 ) -> Result<(), anyhow::Error> {
     let alloc = rt.alloc();
-    let mut source: SharedReady = SharedReady::new(alloc, 2)?;
+    let mut slots = Slots::new(alloc)?;
     let (sender, mut receiver) = channel::<Item>(alloc, places)?;
     let send_and_finish = move || match send_all(alloc, sender, items) {
         Some(sender) => sender.finish(),
         None => None,
     };
     let thread = thread::spawn(rt, send_and_finish)?;
-    let came = receive(rt, &mut source, &mut receiver, usize::MAX, false)?;
+    let came = receive(rt, &mut slots, &mut receiver, usize::MAX, false)?;
     let Some(mut finished) = thread.join(rt) else {
         bail!("the receiver is taken for gone");
     };
@@ -120,10 +120,10 @@ pub fn sender_stays<R: Threads + Wait + AllocGlobal>(
     moves: bool,
 ) -> Result<(), anyhow::Error> {
     let alloc = rt.alloc();
-    let mut source: SharedReady = SharedReady::new(alloc, 2)?;
+    let mut slots = Slots::new(alloc)?;
     let (sender, mut receiver) = channel::<Item>(alloc, places)?;
     let thread = thread::spawn(rt, move || send_all(alloc, sender, items))?;
-    let came = receive(rt, &mut source, &mut receiver, items, moves)?;
+    let came = receive(rt, &mut slots, &mut receiver, items, moves)?;
     let Some(mut sender) = thread.join(rt) else {
         bail!("the receiver is taken for gone");
     };
@@ -139,13 +139,13 @@ pub fn receiver_goes<R: Threads + Wait + AllocGlobal>(
     most: usize,
 ) -> Result<(), anyhow::Error> {
     let alloc = rt.alloc();
-    let mut source: SharedReady = SharedReady::new(alloc, 2)?;
+    let mut slots = Slots::new(alloc)?;
     let (sender, mut receiver) = channel::<Item>(alloc, places)?;
     let thread = thread::spawn(rt, move || drop(send_all(alloc, sender, items)))?;
     let came = if most == 0 {
         0
     } else {
-        receive(rt, &mut source, &mut receiver, most, false)?
+        receive(rt, &mut slots, &mut receiver, most, false)?
     };
     drop(receiver);
     thread.join(rt);
@@ -158,7 +158,7 @@ pub fn sender_looks<R: Threads + Wait + AllocGlobal>(
     places: usize,
 ) -> Result<(), anyhow::Error> {
     let alloc = rt.alloc();
-    let source: SharedReady = SharedReady::new(alloc, 1)?;
+    let slots = Slots::new(alloc)?;
     let (mut sender, mut receiver) = channel::<Item>(alloc, places)?;
     let value = Box::new(alloc, 0u64)?;
     let look_and_send = move || {
@@ -166,7 +166,7 @@ pub fn sender_looks<R: Threads + Wait + AllocGlobal>(
         (is_closed, sender.try_send(value).is_ok())
     };
     let thread = thread::spawn(rt, look_and_send)?;
-    let _came = receiver.poll_next(source.waker(0)).is_ready();
+    let _came = receiver.poll_next(slots.waker(0)).is_ready();
     drop(receiver);
     let (is_closed, is_sent) = thread.join(rt);
     if is_closed && is_sent {

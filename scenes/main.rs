@@ -13,6 +13,7 @@ mod joins;
 mod one_shots;
 mod outer;
 mod ready_list;
+mod slots;
 mod tally;
 mod tasks;
 

@@ -1,9 +1,9 @@
 //! A one-shot whose sender is on a thread, and whose receiver is polled meanwhile.
+use crate::slots::Slots;
 use anyhow::bail;
 use futures::task::Poll;
 use futures_buffered::SlotFuture;
 use futures_buffered_core::ready_core::Taken;
-use futures_buffered_core::ready_shared::SharedReady;
 use futures_buffered_held::oneshot::{Canceled, Receiver, channel};
 use std::alloc::AllocGlobal;
 use std::sync::Wait;
@@ -15,14 +15,14 @@ type Answer = Result<Box<u64>, Canceled>;
 
 // So many polls, the last of them with the waker of slot `last`, and those before with that of slot 0. Returns the answer, if one came.
 fn poll_often(
-    source: &SharedReady,
+    slots: &Slots,
     receiver: &mut Receiver<Box<u64>>,
     polls: usize,
     last: usize,
 ) -> Option<Answer> {
     for poll in 0..polls {
         let slot = if poll + 1 == polls { last } else { 0 };
-        if let Poll::Ready(answer) = receiver.poll(source.waker(slot)) {
+        if let Poll::Ready(answer) = receiver.poll(slots.waker(slot)) {
             return Some(answer);
         }
     }
@@ -31,16 +31,16 @@ fn poll_often(
 
 // Once the sender is done: the slot of the last poll was woken if there was one, and the answer is there.
 fn answer_after(
-    source: &mut SharedReady,
+    slots: &mut Slots,
     receiver: &mut Receiver<Box<u64>>,
     polls: usize,
     last: usize,
 ) -> Result<Answer, anyhow::Error> {
-    let (first, second) = (source.take(), source.take());
+    let (first, second) = (slots.source.take(), slots.source.take());
     if polls > 0 && first != Taken::Slot(last) && second != Taken::Slot(last) {
         bail!("no wake of the slot of the last poll");
     }
-    match receiver.poll(source.waker(last)) {
+    match receiver.poll(slots.waker(last)) {
         Poll::Ready(answer) => Ok(answer),
         Poll::Pending => bail!("the sender is done, and no answer came"),
     }
@@ -49,17 +49,17 @@ fn answer_after(
 // Polls while the sender acts on its thread, and afterwards. Returns the answer, and what the thread gives.
 fn receive<R: Threads, T: Drop>(
     rt: &R,
-    source: &mut SharedReady,
+    slots: &mut Slots,
     receiver: &mut Receiver<Box<u64>>,
     thread: JoinHandle<T>,
     polls: usize,
     last: usize,
 ) -> Result<(Answer, T), anyhow::Error> {
-    let answer = poll_often(source, receiver, polls, last);
+    let answer = poll_often(slots, receiver, polls, last);
     let given = thread.join(rt);
     match answer {
         Some(answer) => Ok((answer, given)),
-        None => Ok((answer_after(source, receiver, polls, last)?, given)),
+        None => Ok((answer_after(slots, receiver, polls, last)?, given)),
     }
 }
 
@@ -76,11 +76,11 @@ pub fn sent<R: Threads + Wait + AllocGlobal>(
     polls: usize,
     last: usize,
 ) -> Result<(), anyhow::Error> {
-    let mut source: SharedReady = SharedReady::new(rt.alloc(), 2)?;
+    let mut slots = Slots::new(rt.alloc())?;
     let (sender, mut receiver) = channel::<Box<u64>>(rt.alloc())?;
     let value = Box::new(rt.alloc(), VALUE)?;
     let thread = thread::spawn(rt, move || sender.send(value).is_ok())?;
-    let (answer, is_sent) = receive(rt, &mut source, &mut receiver, thread, polls, last)?;
+    let (answer, is_sent) = receive(rt, &mut slots, &mut receiver, thread, polls, last)?;
     if !is_value(&answer) || !is_sent {
         bail!("another answer");
     }
@@ -92,11 +92,11 @@ pub fn sent_with_receipt<R: Threads + Wait + AllocGlobal>(
     rt: &R,
     polls: usize,
 ) -> Result<(), anyhow::Error> {
-    let mut source: SharedReady = SharedReady::new(rt.alloc(), 2)?;
+    let mut slots = Slots::new(rt.alloc())?;
     let (sender, mut receiver) = channel::<Box<u64>>(rt.alloc())?;
     let value = Box::new(rt.alloc(), VALUE)?;
     let thread = thread::spawn(rt, move || sender.send_with_receipt(value).ok())?;
-    let (answer, receipt) = receive(rt, &mut source, &mut receiver, thread, polls, 0)?;
+    let (answer, receipt) = receive(rt, &mut slots, &mut receiver, thread, polls, 0)?;
     let Some(receipt) = receipt else {
         bail!("the value came back");
     };
@@ -113,10 +113,10 @@ pub fn sender_goes<R: Threads + Wait + AllocGlobal>(
     polls: usize,
     last: usize,
 ) -> Result<(), anyhow::Error> {
-    let mut source: SharedReady = SharedReady::new(rt.alloc(), 2)?;
+    let mut slots = Slots::new(rt.alloc())?;
     let (sender, mut receiver) = channel::<Box<u64>>(rt.alloc())?;
     let thread = thread::spawn(rt, move || drop(sender))?;
-    let (answer, ()) = receive(rt, &mut source, &mut receiver, thread, polls, last)?;
+    let (answer, ()) = receive(rt, &mut slots, &mut receiver, thread, polls, last)?;
     if answer.is_ok() {
         bail!("a value came, and none was sent");
     }
@@ -128,11 +128,11 @@ pub fn receiver_goes<R: Threads + Wait + AllocGlobal>(
     rt: &R,
     polls: usize,
 ) -> Result<(), anyhow::Error> {
-    let source: SharedReady = SharedReady::new(rt.alloc(), 2)?;
+    let slots = Slots::new(rt.alloc())?;
     let (sender, mut receiver) = channel::<Box<u64>>(rt.alloc())?;
     let value = Box::new(rt.alloc(), VALUE)?;
     let thread = thread::spawn(rt, move || sender.send(value).err())?;
-    let came = poll_often(&source, &mut receiver, polls, 0).is_some();
+    let came = poll_often(&slots, &mut receiver, polls, 0).is_some();
     drop(receiver);
     match thread.join(rt) {
         Some(_) if came => bail!("the value came, and came back"),
@@ -146,7 +146,7 @@ pub fn sender_looks<R: Threads + Wait + AllocGlobal>(
     rt: &R,
     polls: usize,
 ) -> Result<(), anyhow::Error> {
-    let mut source: SharedReady = SharedReady::new(rt.alloc(), 2)?;
+    let mut slots = Slots::new(rt.alloc())?;
     let (sender, mut receiver) = channel::<Box<u64>>(rt.alloc())?;
     let value = Box::new(rt.alloc(), VALUE)?;
     let look_and_send = move || {
@@ -155,7 +155,7 @@ pub fn sender_looks<R: Threads + Wait + AllocGlobal>(
         is_gone
     };
     let thread = thread::spawn(rt, look_and_send)?;
-    let (answer, is_gone) = receive(rt, &mut source, &mut receiver, thread, polls, 0)?;
+    let (answer, is_gone) = receive(rt, &mut slots, &mut receiver, thread, polls, 0)?;
     if !is_value(&answer) || is_gone {
         bail!("another answer, or the receiver is taken for gone");
     }

@@ -21,7 +21,7 @@ where
     let mut started: Vec<JoinHandle<()>> = Vec::new(alloc);
     for thread in 0..threads {
         let woken = tally.expect(thread % slots, wakes)?;
-        let waker = source.waker(thread % slots).try_clone()?;
+        let waker = source.try_waker(thread % slots)?;
         let wake = move || wake_often(&woken, &waker, wakes);
         let _ = started.push(thread::spawn(rt, wake)?);
     }
@@ -64,7 +64,7 @@ where
     source.set_outer(before.caller()?);
     tally.take_all(&mut source, 0);
     let woken = tally.expect(0, wakes)?;
-    let waker = source.waker(0).try_clone()?;
+    let waker = source.try_waker(0)?;
     let thread = thread::spawn(rt, move || wake_often(&woken, &waker, wakes))?;
     take_until_known(rt, &mut source, &bed, &mut tally)?;
     thread.join(rt);

@@ -43,7 +43,7 @@ fn start<R: Threads>(
     place: usize,
     wakes: usize,
 ) -> Result<JoinHandle<()>, anyhow::Error> {
-    let waker = source.waker(slot).try_clone()?;
+    let waker = source.try_waker(slot)?;
     let woken = tally.expect(place, wakes)?;
     Ok(thread::spawn(rt, move || wake_often(&woken, &waker, wakes))?)
 }

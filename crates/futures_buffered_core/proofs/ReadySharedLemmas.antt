@@ -1,22 +1,11 @@
--- What a list of wakers, one for each slot, says of their number and of each of them, and what a taking names.
-use Rattle.std.proofs.Common.{◌≡◌, ℕ, ◌<◌, List, length, get_or, map, ap, ◌∙◌, zero-add, refl, inl, inr}
-use Rattle.std.specs.List.{range_with_len}
-use Rattle.std.proofs.lemmas.List.{length-map}
-use Rattle.std.proofs.lemmas.List.FromFn.{length-range_with_len, get_or-map-range_with_len}
+-- What a taking names, what stays as it was, and the waker that is lent.
+use Rattle.std.proofs.Common.{◌≡◌, ℕ, ◌<◌, List, Option, None, Some, refl, ap, inl, inr, arith}
 use Rattle.futures_buffered_table.specs.declared.answer.Taken.{Taken}
 use Rattle.futures_buffered_table.specs.declared.answer.Taken.TheVariants.{Slot, Empty, Pause}
 use Rattle.futures_buffered_table.specs.Taking.{CallsAtStub}
 use Rattle.futures_buffered_table.specs.declared.view.AtomicStep.{AtomicStep}
 use Rattle.futures_buffered_core.specs.ReadyCore.{IsNameBelow}
-use Rattle.futures_buffered_core.specs.ReadyShared.{WakerOfShared, waker_at}
-
--- as many wakers as slots
-pub wakers_count : (wakers : List WakerOfShared) (awaited count cap : ℕ) → count ≡ length wakers → wakers ≡ map (waker_at awaited) (range_with_len 0 cap) → count ≡ cap
-wakers_count wakers awaited count cap counted all = counted ∙ (ap length all ∙ (length-map (range_with_len 0 cap) (waker_at awaited) ∙ length-range_with_len 0 cap))
-
--- the waker at place i of those of the slots from 0 on
-pub waker_at_place : (wakers : List WakerOfShared) (awaited n i : ℕ) (waker : WakerOfShared) → wakers ≡ map (waker_at awaited) (range_with_len 0 n) → i < n → waker ≡ get_or wakers i waker → waker ≡ waker_at awaited i
-waker_at_place wakers awaited n i waker all below is = is ∙ (ap (λ (l : List WakerOfShared). get_or l i waker) all ∙ get_or-map-range_with_len (waker_at awaited) 0 n i i waker below (zero-add i))
+use Rattle.futures_buffered_core.specs.ReadyShared.{WakerOfShared, LendsFirst, lent_slot, waker_at}
 
 -- a taking that names only slots below n
 pub name_below : (n : ℕ) (taken : Taken) → ((slot : ℕ) → taken ≡ Slot slot → slot < n) → IsNameBelow n taken
@@ -30,3 +19,13 @@ stays n made (Slot i) head before after same = same
 stays n made Empty head before after same = same
 stays n made Pause head before after (inl here) = here.1
 stays n made Pause head before after (inr there) = there.1
+
+-- the waker that is lent at first is of slot 0
+pub first_lent : (capacity awaited : ℕ) (lent : Option WakerOfShared) → LendsFirst capacity awaited lent → lent_slot lent ≡ 0
+first_lent capacity awaited None none = refl
+first_lent capacity awaited (Some waker) first = ap (λ (w : WakerOfShared). w.slot) first.1
+
+-- and is there, where there is a slot
+pub first_lends : (capacity awaited : ℕ) (lent : Option WakerOfShared) → LendsFirst capacity awaited lent → 0 < capacity → (slot : ℕ) × (lent ≡ Some (waker_at capacity awaited slot))
+first_lends capacity awaited None none some = absurd (omega (arith, none, some))
+first_lends capacity awaited (Some waker) first some = (0, ap Some first.1)

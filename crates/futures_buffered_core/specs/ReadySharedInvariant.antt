@@ -1,20 +1,18 @@
 -- How a shared source keeps itself. No public clause cites this module.
-use Rattle.std.specs.Prelude.{◌≡◌, ℕ, List, map}
-use Rattle.std.specs.List.{range_with_len}
+use Rattle.std.specs.Prelude.{◌≡◌, ◌<◌, ℕ, Option, Some}
 use Rattle.futures_buffered_table.specs.ReadyList.{ListIdentity, Waker, Poller}
 use Rattle.futures_buffered_core.specs.ReadyShared.{WakerOfShared, waker_at}
 
--- both seats are of the list, and there is a waker for each of its slots, in turn, that wakes whom
--- the poller awaits
+-- both seats are of the list, its wakes look where the poller waits, and where it has a slot there is
+-- a waker of one to lend
 pub record KeepsShared
     (list : ListIdentity)
-    (awaited : ℕ)
+    (outer awaited : ℕ)
     (poll : Poller)
     (marks : Waker)
-    (wakers : List WakerOfShared)
-    (count : ℕ)
+    (lent : Option WakerOfShared)
     : Type 0 where
   pub polls : poll.list ≡ list.list
   pub marks_it : marks.list ≡ list.list
-  pub sized : list.capacity ≡ count
-  pub all : wakers ≡ map (waker_at awaited) (range_with_len 0 count)
+  pub shares_place : outer ≡ awaited
+  pub lends : 0 < list.capacity → (slot : ℕ) × (lent ≡ Some (waker_at list.capacity outer slot))

@@ -10,6 +10,10 @@ pub record SourceSteps (S : Type 0) : Type 1 where
   pub registers : S → S → Type 0
   pub takes : S → Taken → S → Type 0
 
+-- the last call was a taking that named slot i
+abbrev pub IsNamed : {S : Type 0} → (S → Taken → S → Type 0) → S → ℕ → Type 0
+IsNamed {S} takes s i = (old : S) × takes old (Slot i) s
+
 -- both wait at the same places of a task's wakes, by what a source needs
 abbrev pub WaitsAlike : {S : Type 0} → (S → ℕ → Type 0) → S → S → Type 0
 WaitsAlike needs a b = (n : ℕ) → needs a n ↔ needs b n

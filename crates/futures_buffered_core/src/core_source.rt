@@ -1,4 +1,5 @@
 //! The source of one caller: a ready core, whose wakers do nothing.
+ghost use Rattle.std.specs.Prelude.{◌<◌};
 ghost use Rattle.futures.specs.Task.{IsArmed, Keeps};
 ghost use Rattle.futures_buffered_core.specs.ReadyCore.{Marks, Takes, core_laws};
 ghost use Rattle.futures_buffered_core.specs.ReadySource.{WaitsNowhere, never_waits, only_takes};
@@ -69,7 +70,10 @@ impl ReadySource for CoreSource {
         self.core.take()
     }
 
-    fn waker(&self, _i: usize) -> &NoopWaker {
+    /// Has a waker for each slot, whichever was named last.
+    fn waker(&self, _i: usize) -> &NoopWaker
+        requires { _i < self.now.capacity }
+    {
         &self.noop
     }
 

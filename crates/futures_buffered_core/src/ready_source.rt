@@ -7,7 +7,7 @@ ghost use Rattle.futures.specs.declared.task.context.Context.{Context};
 ghost use Rattle.futures_buffered_table.specs.declared.answer.Woke.{Woke};
 ghost use Rattle.futures_buffered_table.specs.declared.answer.Taken.{Taken};
 ghost use Rattle.futures_buffered_core.specs.Made.{MakesSlots};
-ghost use Rattle.futures_buffered_core.specs.ReadySource.{SourceLaws, SourceSteps, WaitsAlike, WaitsForGood};
+ghost use Rattle.futures_buffered_core.specs.ReadySource.{IsNamed, SourceLaws, SourceSteps, WaitsAlike, WaitsForGood};
 
 pub use crate::core_source::{CoreSource, NoopWaker};
 use crate::ready_core::{NewFault, Taken, Woke};
@@ -62,9 +62,9 @@ pub trait ReadySource: Drop {
     fn take(&mut self) -> Taken
         ensures { steps.takes self.old result self.new };
 
-    /// The waker of a slot, made when the source was. Takes no memory.
+    /// Lends the waker of the slot that it named last. The waker is of that slot until a taking names another; a copy is for good. Takes no memory.
     fn waker(&self, i: usize) -> &Self::Waker
-        requires { i < slots self.now }
+        requires { IsNamed steps.takes self.now i }
         ensures { Self.Waker.wakes result.now i };
 
     /// Keeps the waker of the task that polls in place of the one kept before, or polls what the source waits for with `cx`.

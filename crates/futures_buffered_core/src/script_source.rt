@@ -1,5 +1,5 @@
 //! The source of a test: it names what a list says.
-ghost use Rattle.std.specs.Prelude.{◌≡◌, ◌≢◌, ℕ, IfOk, OnOk, length};
+ghost use Rattle.std.specs.Prelude.{◌≡◌, ◌≢◌, ◌<◌, ℕ, IfOk, OnOk, length};
 ghost use Rattle.futures.specs.Task.{IsArmed, Keeps};
 ghost use Rattle.futures_buffered_core.specs.ReadySource.{WaitsNowhere, laws_of_takes, only_takes};
 ghost use Rattle.futures_buffered_core.specs.ScriptSource.{MarksNothing, TakesNext};
@@ -96,7 +96,10 @@ impl ReadySource for ScriptSource {
         self.answers.next().unwrap_or(Taken::Empty)
     }
 
-    fn waker(&self, _i: usize) -> &NoopWaker {
+    /// Has a waker for each slot, whichever was named last.
+    fn waker(&self, _i: usize) -> &NoopWaker
+        requires { _i < self.now.capacity }
+    {
         &self.noop
     }
 

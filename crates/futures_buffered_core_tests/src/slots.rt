@@ -13,18 +13,18 @@ pub fn mark<S: ReadySource>(source: &mut S, slot: usize) -> Option<Woke> {
 }
 
 pub fn wake<O: OuterWaker>(source: &SharedReady<O>, slot: usize) {
-    if slot < source.capacity() {
-        source.waker(slot).wake();
+    if let Ok(waker) = waker_of(source, slot) {
+        waker.wake();
     }
 }
 
-/// A second waker of this slot.
+/// A waker of this slot.
 pub fn waker_of<O: OuterWaker>(
     source: &SharedReady<O>,
     slot: usize,
 ) -> Result<SharedWaker<O>, Fail> {
     if slot < source.capacity() {
-        Ok(source.waker(slot).try_clone()?)
+        Ok(source.try_waker(slot)?)
     } else {
         Err("no such slot".into())
     }

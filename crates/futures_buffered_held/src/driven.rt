@@ -313,7 +313,10 @@ impl<F: Future<Output: Drop>> ReadySource for Driven<F> {
         }
     }
 
-    fn waker(&self, i: usize) -> &Mailbox<F> {
+    /// Has a mailbox for each slot, whichever was named last.
+    fn waker(&self, i: usize) -> &Mailbox<F>
+        requires { i < self.now.capacity }
+    {
         &self.mailboxes[i]
     }
 

@@ -33,7 +33,10 @@ fn polled(source: &SharedReady, receiver: &mut Receiver<u64>, round: u64) -> boo
     if source.capacity() == 0 {
         return false;
     }
-    receiver.poll(source.waker(0)) == Poll::Ready(Ok(round))
+    match source.try_waker(0) {
+        Ok(waker) => receiver.poll(&waker) == Poll::Ready(Ok(round)),
+        Err(_) => false,
+    }
 }
 
 // One round: whether the value came, or the slot was marked and it came then.

@@ -18,16 +18,17 @@ use test_support::dropped::Dropped;
 #[test]
 fn the_waker_of_the_last_poll_is_woken(rt: HostRuntime) -> Result<(), Fail> {
     let mut source: SharedReady = SharedReady::new(rt.alloc(), 2)?;
+    let (before, last) = (source.try_waker(0)?, source.try_waker(1)?);
     let (sender, mut receiver) = channel::<u64>(rt.alloc())?;
-    assert_same(&rt, receiver.poll(source.waker(0)), Poll::Pending);
-    assert_same(&rt, receiver.poll(source.waker(1)), Poll::Pending);
+    assert_same(&rt, receiver.poll(&before), Poll::Pending);
+    assert_same(&rt, receiver.poll(&last), Poll::Pending);
     assert_same(&rt, sender.send(7), Ok(()));
     assert_same(&rt, name_of(&mut source), Some(1));
     assert_same(&rt, name_of(&mut source), None);
-    assert_same(&rt, receiver.poll(source.waker(1)), Poll::Ready(Ok(7)));
+    assert_same(&rt, receiver.poll(&last), Poll::Ready(Ok(7)));
     assert_same(&rt, name_of(&mut source), None);
     let after = Poll::Ready(Err(Canceled));
-    assert_same(&rt, receiver.poll(source.waker(1)), after);
+    assert_same(&rt, receiver.poll(&last), after);
     Ok(())
 }
 
@@ -36,9 +37,10 @@ fn the_waker_of_the_last_poll_is_woken(rt: HostRuntime) -> Result<(), Fail> {
 fn a_receiver_that_moved_to_another_source(rt: HostRuntime) -> Result<(), Fail> {
     let mut first: SharedReady = SharedReady::new(rt.alloc(), 1)?;
     let mut second: SharedReady = SharedReady::new(rt.alloc(), 1)?;
+    let (before, after) = (first.try_waker(0)?, second.try_waker(0)?);
     let (sender, mut receiver) = channel::<u64>(rt.alloc())?;
-    assert_same(&rt, receiver.poll(first.waker(0)), Poll::Pending);
-    assert_same(&rt, receiver.poll(second.waker(0)), Poll::Pending);
+    assert_same(&rt, receiver.poll(&before), Poll::Pending);
+    assert_same(&rt, receiver.poll(&after), Poll::Pending);
     assert_same(&rt, sender.send(7), Ok(()));
     assert_same(&rt, name_of(&mut first), None);
     assert_same(&rt, name_of(&mut second), Some(0));
@@ -85,7 +87,8 @@ fn passes(alloc: Global, waker: &SharedWaker, value: u64) -> Result<Option<u64>,
 #[test]
 fn a_receipt_shows_what_came(rt: HostRuntime) -> Result<(), Fail> {
     let source: SharedReady = SharedReady::new(rt.alloc(), 1)?;
-    assert_same(&rt, passes(rt.alloc(), source.waker(0), 7)?, Some(7));
+    let waker = source.try_waker(0)?;
+    assert_same(&rt, passes(rt.alloc(), &waker, 7)?, Some(7));
     Ok(())
 }
 

@@ -53,11 +53,12 @@ fn turns_come(sender: &mut Sender<u64>, receiver: &mut Receiver<u64>, waker: &Sh
 #[test]
 fn values_come_in_order_over_many_turns(rt: HostRuntime) -> Result<(), Fail> {
     let source: SharedReady = SharedReady::new(rt.alloc(), 1)?;
+    let waker = source.try_waker(0)?;
     let (mut sender, mut receiver) = channel::<u64>(rt.alloc(), 7)?;
     assert_same(&rt, (sender.capacity(), receiver.capacity()), (7, 7));
-    let comes = turns_come(&mut sender, &mut receiver, source.waker(0));
+    let comes = turns_come(&mut sender, &mut receiver, &waker);
     assert_same(&rt, comes, true);
-    assert_same(&rt, receiver.poll_next(source.waker(0)), Poll::Pending);
+    assert_same(&rt, receiver.poll_next(&waker), Poll::Pending);
     Ok(())
 }
 
@@ -77,8 +78,9 @@ fn a_full_channel_gives_the_value_back(rt: HostRuntime) -> Result<(), Fail> {
 #[test]
 fn a_channel_without_places(rt: HostRuntime) -> Result<(), Fail> {
     let mut source: SharedReady = SharedReady::new(rt.alloc(), 1)?;
+    let waker = source.try_waker(0)?;
     let (mut sender, mut receiver) = channel::<u64>(rt.alloc(), 0)?;
-    assert_same(&rt, receiver.poll_next(source.waker(0)), Poll::Pending);
+    assert_same(&rt, receiver.poll_next(&waker), Poll::Pending);
     assert_same(&rt, sender.try_send(1), Err(TrySendError::Full(1)));
     assert_same(&rt, name_of(&mut source), None);
     assert_same(&rt, receiver.try_recv(), Err(TryRecvError::Empty));
@@ -101,12 +103,13 @@ fn a_receiver_that_is_gone(rt: HostRuntime) -> Result<(), Fail> {
 #[test]
 fn a_sender_that_is_gone(rt: HostRuntime) -> Result<(), Fail> {
     let source: SharedReady = SharedReady::new(rt.alloc(), 1)?;
+    let waker = source.try_waker(0)?;
     let (mut sender, mut receiver) = channel::<u64>(rt.alloc(), 2)?;
     assert_same(&rt, send_run(&mut sender, 5, 2), 0);
     drop(sender);
-    assert_same(&rt, run_comes(&mut receiver, source.waker(0), 5, 2), true);
-    assert_same(&rt, receiver.poll_next(source.waker(0)), Poll::Ready(None));
-    assert_same(&rt, receiver.poll_next(source.waker(0)), Poll::Ready(None));
+    assert_same(&rt, run_comes(&mut receiver, &waker, 5, 2), true);
+    assert_same(&rt, receiver.poll_next(&waker), Poll::Ready(None));
+    assert_same(&rt, receiver.poll_next(&waker), Poll::Ready(None));
     assert_same(&rt, receiver.try_recv(), Err(TryRecvError::Disconnected));
     Ok(())
 }
@@ -115,12 +118,14 @@ fn a_sender_that_is_gone(rt: HostRuntime) -> Result<(), Fail> {
 #[test]
 fn the_waker_of_the_last_poll_is_woken_once(rt: HostRuntime) -> Result<(), Fail> {
     let mut source: SharedReady = SharedReady::new(rt.alloc(), 2)?;
+    let waker = source.try_waker(0)?;
+    let second = source.try_waker(1)?;
     let (mut sender, mut receiver) = channel::<u64>(rt.alloc(), 4)?;
     assert_same(&rt, sender.try_send(6), Ok(()));
     assert_same(&rt, name_of(&mut source), None);
-    assert_same(&rt, run_comes(&mut receiver, source.waker(0), 6, 1), true);
-    assert_same(&rt, receiver.poll_next(source.waker(0)), Poll::Pending);
-    assert_same(&rt, receiver.poll_next(source.waker(1)), Poll::Pending);
+    assert_same(&rt, run_comes(&mut receiver, &waker, 6, 1), true);
+    assert_same(&rt, receiver.poll_next(&waker), Poll::Pending);
+    assert_same(&rt, receiver.poll_next(&second), Poll::Pending);
     assert_same(&rt, receiver.try_recv(), Err(TryRecvError::Empty));
     assert_same(&rt, sender.is_closed(), false);
     assert_same(&rt, name_of(&mut source), None);
@@ -128,7 +133,7 @@ fn the_waker_of_the_last_poll_is_woken_once(rt: HostRuntime) -> Result<(), Fail>
     assert_same(&rt, name_of(&mut source), Some(1));
     assert_same(&rt, sender.try_send(8), Ok(()));
     assert_same(&rt, name_of(&mut source), None);
-    assert_same(&rt, run_comes(&mut receiver, source.waker(1), 7, 2), true);
+    assert_same(&rt, run_comes(&mut receiver, &second, 7, 2), true);
     assert_same(&rt, sender.try_send(9), Ok(()));
     assert_same(&rt, name_of(&mut source), None);
     Ok(())
@@ -138,17 +143,18 @@ fn the_waker_of_the_last_poll_is_woken_once(rt: HostRuntime) -> Result<(), Fail>
 #[test]
 fn a_sender_that_goes_wakes_the_slot(rt: HostRuntime) -> Result<(), Fail> {
     let mut source: SharedReady = SharedReady::new(rt.alloc(), 1)?;
+    let waker = source.try_waker(0)?;
     let (sender, mut receiver) = channel::<u64>(rt.alloc(), 1)?;
-    assert_same(&rt, receiver.poll_next(source.waker(0)), Poll::Pending);
+    assert_same(&rt, receiver.poll_next(&waker), Poll::Pending);
     drop(sender);
     assert_same(&rt, name_of(&mut source), Some(0));
-    assert_same(&rt, receiver.poll_next(source.waker(0)), Poll::Ready(None));
+    assert_same(&rt, receiver.poll_next(&waker), Poll::Ready(None));
     assert_same(&rt, name_of(&mut source), None);
     let (sender, mut receiver) = channel::<u64>(rt.alloc(), 1)?;
-    assert_same(&rt, receiver.poll_next(source.waker(0)), Poll::Pending);
+    assert_same(&rt, receiver.poll_next(&waker), Poll::Pending);
     assert_same(&rt, sender.finish().is_some(), true);
     assert_same(&rt, name_of(&mut source), Some(0));
-    assert_same(&rt, receiver.poll_next(source.waker(0)), Poll::Ready(None));
+    assert_same(&rt, receiver.poll_next(&waker), Poll::Ready(None));
     Ok(())
 }
 
@@ -158,7 +164,7 @@ fn a_receiver_that_goes_while_it_waits(rt: HostRuntime) -> Result<(), Fail> {
     let task = MockTask::new(&rt)?;
     let mut source: SharedReady = SharedReady::new(rt.alloc(), 1)?;
     let (sender, mut receiver) = channel::<u64>(rt.alloc(), 1)?;
-    let waker = source.waker(0).try_clone()?;
+    let waker = source.try_waker(0)?;
     task.enter(|cx| source.register(cx));
     assert_same(&rt, receiver.poll_next(&waker), Poll::Pending);
     drop(waker);

@@ -56,7 +56,10 @@ fn polled(source: &SharedReady, slot: usize, receiver: &mut Receiver<u64>) -> Po
     if slot >= source.capacity() {
         return Poll::Pending;
     }
-    receiver.poll_next(source.waker(slot))
+    match source.try_waker(slot) {
+        Ok(waker) => receiver.poll_next(&waker),
+        Err(_) => Poll::Pending,
+    }
 }
 
 // Looks without a pause until a value or the end comes. Whether it is this value.

@@ -30,9 +30,10 @@ fn a_value_is_given_at_once(rt: HostRuntime) -> Result<(), Fail> {
 #[test]
 fn a_value_is_given_once(rt: HostRuntime) -> Result<(), Fail> {
     let source: SharedReady = SharedReady::new(rt.alloc(), 1)?;
+    let waker = source.try_waker(0)?;
     let mut value = ready(5);
-    assert_same(&rt, value.poll(source.waker(0)), Poll::Ready(5));
-    assert_same(&rt, value.poll(source.waker(0)), Poll::Pending);
+    assert_same(&rt, value.poll(&waker), Poll::Ready(5));
+    assert_same(&rt, value.poll(&waker), Poll::Pending);
     Ok(())
 }
 

@@ -1,4 +1,5 @@
 //! A source whose drops and registrations are counted, that is made only as often as a test allows, and that leaves the task's waker to the test.
+ghost use Rattle.std.specs.Prelude.{◌<◌};
 ghost use Rattle.futures_buffered_core.specs.ReadyCore.{Marks, Takes, core_laws};
 ghost use Rattle.futures_buffered_core.specs.ReadySource.{WaitsNowhere, never_waits, only_takes};
 
@@ -106,7 +107,9 @@ impl ReadySource for CountedSource {
         self.core.take()
     }
 
-    fn waker(&self, i: usize) -> &NoopWaker {
+    fn waker(&self, i: usize) -> &NoopWaker
+        requires { i < self.now.capacity }
+    {
         self.core.waker(i)
     }
 
