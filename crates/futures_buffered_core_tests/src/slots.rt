@@ -13,8 +13,10 @@ pub fn mark<S: ReadySource>(source: &mut S, slot: usize) -> Option<Woke> {
 }
 
 pub fn wake<O: OuterWaker>(source: &SharedReady<O>, slot: usize) {
-    if let Ok(waker) = waker_of(source, slot) {
-        waker.wake();
+    if slot < source.capacity() {
+        if let Ok(waker) = source.try_waker(slot) {
+            waker.wake();
+        }
     }
 }
 
