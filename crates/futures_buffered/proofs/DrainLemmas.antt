@@ -5,7 +5,7 @@ use Rattle.futures.specs.declared.task.context.Context.{Context}
 use Rattle.futures.specs.declared.task.Poll.{Poll}
 use Rattle.futures.specs.declared.task.Poll.TheVariants.{Ready, Pending}
 use Rattle.futures.specs.Runs.{Runs}
-use Rattle.futures_buffered_unordered.specs.StreamAnswers.{StreamAnswers}
+use Rattle.futures_buffered_unordered.specs.StreamAnswers.{StreamAnswers, stream_of}
 use Rattle.futures_buffered.specs.Drain.{CanDrain, Draining, DrainGives, DrainOutputOf, DrainTurn, GoingLeavesDrain, LeavesDrain, buffer_answer, left_after}
 
 module _ {B O : Type 0} (output : DrainOutputOf O) (calls : B → Poll (Option O) → B → Context → Context → Type 0) where
@@ -15,7 +15,7 @@ module _ {B O : Type 0} (output : DrainOutputOf O) (calls : B → Poll (Option O
 
 -- an output came that ends nothing
 pub going : {B O : Type 0} (output : DrainOutputOf O) (can_poll : B → Type 0) (needs : B → ℕ → Type 0) (yields : B → Runs O) (old : Draining B) (buffer after : B) (limit : ℕ) (answer : Poll (Option O)) (cx left : Context)
-    → old ≡ record { buffer = Some buffer; limit = limit } → StreamAnswers can_poll needs yields buffer answer after cx left → answer ≡ Ready (Some output.done)
+    → old ≡ record { buffer = Some buffer; limit = limit } → StreamAnswers (stream_of can_poll needs yields) buffer answer after cx left → answer ≡ Ready (Some output.done)
     → GoingLeavesDrain (CanDrain can_poll) (DrainGives output yields) old (record { buffer = Some after; limit = limit })
 going output can_poll needs yields old buffer after limit answer cx left is answers same = record {
   again = rw same at answers.goes;

@@ -8,7 +8,7 @@ use Rattle.futures.specs.declared.task.Poll.{Poll}
 use Rattle.futures.specs.declared.task.Poll.TheVariants.{Ready, Pending}
 use Rattle.futures.specs.declared.task.context.Context.{Context}
 use Rattle.futures_buffered_core.specs.SlotMap.{Slots, value_in, held_count}
-use Rattle.futures_buffered_unordered.specs.StreamAnswers.{StreamAnswers}
+use Rattle.futures_buffered_unordered.specs.StreamAnswers.{StreamAnswers, stream_of}
 use Rattle.futures_buffered_unordered.proofs.HeldGivesLemmas.{Gathers-Within, Gathers-After}
 use Rattle.futures_buffered_in_flight.specs.InFlight.{FutureOf}
 use Rattle.futures_buffered_ordered.specs.declared.numbered.Numbered.{Numbered}
@@ -66,7 +66,7 @@ module _ {F A : Type 0} (future : FutureOf F A) where
   poll_leaves old new Pending p within = record { empty = tt; fewer = tt; same_count = p.gave.1; same_room = p.same_room; some = within.0; bound = within.1 }
 
   pub answers : (old new : Queued F) (answer : Poll (Option A)) (cx left : Context) → PollsQueued future old answer new → PollsQueuedTask answer new cx left
-      → StreamAnswers (CanPollQueue future) QueueWaitsAt (ComesFromQueue future) old answer new cx left
+      → StreamAnswers (stream_of (CanPollQueue future) QueueWaitsAt (ComesFromQueue future)) old answer new cx left
   answers old new (Ready None) cx left p task =
       record { value = record { each = tt; ends = let k = p.gave.0 in omega (arith, k) }; rest = tt; same = tt; goes = tt; again = tt; registered = tt; kept = task.kept }
   answers old new (Ready (Some x)) cx left p task =

@@ -190,9 +190,7 @@ impl<St: Stream, Q: FutureQueue<St::Item>> Stream for Buffer<St, Q> {
         ensures called { CallGives (PollsStream St.yields) Q.count (Q.room self.old.queue)
             Q.pushes Q.polls self.old result self.new }
         ensures buffer { CallLeavesBuffer Q.count Q.room self.old result self.new }
-        ensures stream { StreamAnswers (CanDraw St.can_poll St.yields Q.is_fit Q.can_poll)
-            (WaitsAt St.needs Q.needs Q.count Q.room)
-            (BufferGives St.yields Q.gives Q.count Q.yields Q.in_order)
+        ensures stream { StreamAnswers ⟦<Buffer<St, Q> as Stream>⟧
             self.old result self.new cx.old cx.new }
         ensures leaves { CallLeavesTask (λ polls alone. CallGivesWith (PollsStream St.yields)
             Q.count (Q.room self.old.queue) Q.pushes polls alone self.old result self.new)

@@ -3,7 +3,7 @@
 //! A buffer is written once, for any such queue. `CompletionQueue` and `InFlightQueue` are such, whose outputs come as the futures finish, `OrderedQueue` is one that keeps the order of the pushes, and `TryQueue` makes of either one to which errors can be given as well.
 ghost use Rattle.std.specs.Prelude.{◌≡◌, ◌<◌, ◌≤◌, ℕ, Bool, List, Option};
 ghost use Rattle.futures_buffered_core.specs.Made.{MakesSlots};
-ghost use Rattle.futures_buffered_unordered.specs.StreamAnswers.{StreamAnswers};
+ghost use Rattle.futures_buffered_unordered.specs.StreamAnswers.{StreamAnswers, stream_of};
 ghost use Rattle.futures_buffered.specs.FutureQueue.{PollLeavesQueue, PushLeavesQueue};
 
 use futures::task::{Context, Poll};
@@ -77,7 +77,7 @@ pub trait FutureQueue<I>: Drop {
         requires { can_poll self.old }
         ensures polled { polls self.old result self.new }
         ensures queue { PollLeavesQueue count room self.old result self.new }
-        ensures stream { StreamAnswers can_poll needs yields
+        ensures stream { StreamAnswers (stream_of can_poll needs yields)
             self.old result self.new cx.old cx.new }
         ensures leaves { leaves self.old result self.new cx.old cx.new };
 

@@ -6,7 +6,7 @@ use Rattle.futures.specs.Runs.{Runs, Within, Leads, Chains, Ends}
 use Rattle.futures.specs.Task.{Covers}
 use Rattle.futures.specs.declared.task.Poll.{Poll}
 use Rattle.futures.specs.declared.task.context.Context.{Context}
-use Rattle.futures_buffered_unordered.specs.StreamAnswers.{StreamAnswers}
+use Rattle.futures_buffered_unordered.specs.StreamAnswers.{StreamAnswers, stream_of}
 use Rattle.futures_buffered_ordered.specs.OrderedEntries.{Ordered, AddsBack, ComesInOrder}
 use Rattle.futures_buffered_ordered.specs.OrderedEntries.{IsNewQueue, OrderedGives}
 use Rattle.futures_buffered_ordered.specs.OrderedEntries.{OrderedLeavesTask}
@@ -107,4 +107,4 @@ module _ {F A : Type 0} (future : FutureOf F A) where
   -- what a stream promises of one poll
   abbrev pub AnswersInTurn : OrderedInFlight F A → Poll (Option A) → OrderedInFlight F A
       → Context → Context → Type 0
-  AnswersInTurn = StreamAnswers CanPollOrdered OrderedWaitsAt ComesInTurn
+  AnswersInTurn = StreamAnswers (stream_of CanPollOrdered OrderedWaitsAt ComesInTurn)

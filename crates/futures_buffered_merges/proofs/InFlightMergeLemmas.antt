@@ -8,7 +8,7 @@ use Rattle.futures.specs.declared.task.Poll.{Poll}
 use Rattle.futures.specs.declared.task.Poll.TheVariants.{Ready, Pending}
 use Rattle.futures.specs.declared.task.context.Context.{Context}
 use Rattle.futures.specs.declared.stream.made.select_all.SelectAll.{SelectAll}
-use Rattle.futures_buffered_unordered.specs.StreamAnswers.{StreamAnswers}
+use Rattle.futures_buffered_unordered.specs.StreamAnswers.{StreamAnswers, stream_of}
 use Rattle.futures_buffered_merges.specs.WithEnd.{StreamOf, MayAnswer, with_end}
 use Rattle.futures_buffered_merges.specs.InFlightMerge.{Merged, AnswersNoMore, AnyAnswers, AnyOf, CanPollAll, ComesFromStreams, EndsOneAtMost, HoldsStreams, IsNewMerge, PollsMerge, Pushes, WaitsAt, streams_in}
 use Rattle.futures_buffered_merges.specs.declared.with_end.WithEnd.{WithEnd}
@@ -49,7 +49,7 @@ module _ {St A : Type 0} (stream : StreamOf St A) where
   comes_before old new (inr one) narrows before after None (inl none) = inr one.1
 
   pub stream_answers : (old new : Merged St) (answer : Poll (Option A)) (cx left : Context) → PollsMerge stream old answer new cx left
-      → StreamAnswers (CanPollAll stream) WaitsAt (ComesFromStreams stream) old answer new cx left
+      → StreamAnswers (stream_of (CanPollAll stream) WaitsAt (ComesFromStreams stream)) old answer new cx left
   stream_answers old new Pending cx left p = record {
     value = tt;
     rest = tt;

@@ -239,7 +239,7 @@ impl<St: Stream<Item: Drop>> Stream for InFlightMerge<St> {
     fn poll_next(&mut self, cx: &mut Context<'_>) -> Poll<Option<St::Item>>
         requires { CanPollAll St.Stream self.old }
         ensures polled { PollsMerge St.Stream self.old result self.new cx.old cx.new }
-        ensures stream { StreamAnswers (CanPollAll St.Stream) WaitsAt (ComesFromStreams St.Stream)
+        ensures stream { StreamAnswers ⟦<InFlightMerge<St> as Stream>⟧
             self.old result self.new cx.old cx.new }
     {
         self.poll_item(cx)

@@ -170,9 +170,7 @@ impl<St: SlotStream<S::Waker>, S: ReadySource> Stream for MergeBounded<St, S> {
         requires { AllHeld St.can_poll self.old.slots }
         ensures polled { MergeGives St.polled S.steps S.marks
             self.old result self.new }
-        ensures stream { StreamAnswers (λ merge. AllHeld St.can_poll merge.slots)
-            (λ merge n. (0 < held_count merge.slots) × S.needs merge.source n)
-            (λ merge. ComesFromStreams St.polled merge.slots)
+        ensures stream { StreamAnswers ⟦<MergeBounded<St, S> as Stream>⟧
             self.old result self.new cx.old cx.new }
         ensures streams { PollsStreams St.can_poll (λ _ now. 0 < now) (λ _ now. now ≡ 0)
             self.old result self.new }

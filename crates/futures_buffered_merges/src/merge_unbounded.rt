@@ -201,9 +201,7 @@ impl<St: SlotStream<S::Waker>, S: NewSource> Stream for MergeUnbounded<St, S> {
             self.old.groups result self.new.groups }
         ensures ends { (result ≡ Poll.Ready None) ↔ (held_in_all self.new.groups.listed ≡ 0) }
         ensures limit { self.new.limit ≡ self.old.limit }
-        ensures stream { StreamAnswers (λ merge. EachHeld St.can_poll merge.groups.listed)
-            (λ merge. AnyNeeds S.needs merge.groups.listed)
-            (λ merge. ItemsComeFromGroups St.polled merge.groups.listed)
+        ensures stream { StreamAnswers ⟦<MergeUnbounded<St, S> as Stream>⟧
             self.old result self.new cx.old cx.new }
         ensures pollable { EachHeld St.can_poll self.new.groups.listed }
         ensures task { PollsGroupsTask (MergeAsksToEmpty St.polled S.steps S.marks)

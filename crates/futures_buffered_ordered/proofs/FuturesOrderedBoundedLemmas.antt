@@ -1,12 +1,12 @@
 -- What holds of an ordered queue over a bounded set: what a push needs, how many names a poll takes, and what may come.
-use Rattle.std.proofs.Common.{◌≡◌, ◌⊎◌, ℕ, ◌+◌, ◌*◌, ◌<◌, ◌≤◌, List, [], ◌∷◌, ◌++◌, length, cond, is_some, Option, Some, None, sym, ap, subst, inl, inr, arith, ◌∙◌, add-one}
+use Rattle.std.proofs.Common.{◌≡◌, ◌⊎◌, ℕ, ◌+◌, ◌*◌, ◌<◌, ◌≤◌, List, [], ◌∷◌, ◌++◌, length, cond, is_some, Option, Some, None, IfNone, sym, ap, subst, inl, inr, arith, ◌∙◌, add-one}
 use Rattle.std.specs.List.{FoldsTo}
 use Rattle.std.proofs.lemmas.List.{append_assoc, length-replicate}
 use Rattle.std.proofs.lemmas.List.Folds.{sum_by-replicate}
 use Rattle.futures_buffered_table.specs.declared.answer.TheConstants.{MAX_CAPACITY}
 use Rattle.std.proofs.Math.Nat.{mul-le-mul_left, mul-suc}
 use Rattle.futures.specs.Task.{Covers}
-use Rattle.futures.specs.Poll.{OnPending}
+use Rattle.futures.specs.Poll.{IfReady, OnPending}
 use Rattle.futures.specs.declared.task.context.Context.{Context}
 use Rattle.futures.specs.declared.task.Poll.{Poll}
 use Rattle.futures.specs.declared.task.Poll.TheVariants.{Ready, Pending}
@@ -14,9 +14,14 @@ use Rattle.futures_buffered_core.specs.SlotMap.{slot_count, held_count, no_slots
 use Rattle.futures_buffered_table.specs.declared.answer.Taken.{Taken}
 use Rattle.futures_buffered_table.specs.declared.answer.Taken.TheVariants.{Slot, Empty, Pause}
 use Rattle.futures_buffered_core.specs.ReadySource.{SourceSteps}
-use Rattle.futures_buffered_unordered.specs.FuturesUnorderedBounded.{Bounded, EndsWaiting, IsWoken, SaidEmpty, held_in, names_taken}
+use Rattle.futures_buffered_unordered.specs.FuturesUnorderedBounded.{Bounded, EndsWaiting, held_in, names_taken}
+use Rattle.futures_buffered_core.specs.declared.ready_source.ReadySource.{Ghosts as ReadySourceOf}
+use Rattle.futures_buffered_unordered.specs.declared.poll_one.PollOne.{Ghosts as PollOneOf}
+use Rattle.futures_buffered_unordered.specs.PollsBounded.{PollsBounded}
+use Rattle.futures_buffered_unordered.proofs.PollsBoundedLemmas.{asks_task_of}
 use Rattle.futures_buffered_unordered.proofs.FuturesUnorderedBoundedLemmas.{poll_gave, poll_still}
 use Rattle.futures_buffered_ordered.specs.Numbered.{PollsNumbered, held_with}
+use Rattle.futures_buffered_unordered.specs.Groups.{outputs_in}
 use Rattle.futures_buffered_ordered.specs.OrderedEntries.{SetYields, MayRefuse}
 use Rattle.futures_buffered_ordered.specs.OrderedEntriesInvariant.{Numbering}
 use Rattle.futures_buffered_ordered.specs.FuturesOrderedBounded.{OrderedBounded, SetGives, SetIsFull, SetMayGive, SetPends, TakesFewNames, names_of_row}
@@ -52,11 +57,25 @@ module _ {F A S : Type 0} where
         small = omega (arith, slots, small);
       }
 
--- what a poll leaves of its task, as a queue asks it of its set
-pub set_pends : {F A S : Type 0} (steps : SourceSteps S) (needs : S → ℕ → Type 0) (registers : Context → Context → Type 0) (cx left : Context) (answer : Poll A) (set : Bounded (Numbered F) S) → OnPending answer (Covers left (needs set.source)) → OnPending answer (IsWoken left ⊎ (SaidEmpty steps set.source × registers cx left)) → OnPending answer (SetPends steps needs left set)
-set_pends steps needs registers cx left (Ready o) set covered woken = tt
-set_pends steps needs registers cx left Pending set covered (inl asked) = record { covered = covered; woken = inl asked }
-set_pends steps needs registers cx left Pending set covered (inr waits) = record { covered = covered; woken = inr waits.0 }
+-- one poll of the set, as a queue asks for it
+module _ {R F W A S : Type 0} (rule : PollOneOf R (Numbered F) W (ℕ × A)) (source : ReadySourceOf S W) (old new : Bounded (Numbered F) S) (cx left : Context) where
+  pub set_empty : (answer : Poll (Option (ℕ × A))) → PollsBounded rule source old answer new cx left → IfReady answer (λ o. IfNone o (held_in old ≡ 0))
+  set_empty (Ready None) poll = poll.gave.0
+  set_empty (Ready (Some out)) poll = tt
+  set_empty Pending poll = tt
+
+  pub set_fewer : (answer : Poll (Option (ℕ × A))) → PollsBounded rule source old answer new cx left → held_in new + outputs_in answer ≡ held_in old
+  set_fewer (Ready None) poll = omega (arith, ap held_in poll.gave.1)
+  set_fewer (Ready (Some out)) poll = poll.fewer
+  set_fewer Pending poll = omega (arith, poll.same)
+
+  pub set_pends : (answer : Poll (Option (ℕ × A))) → PollsBounded rule source old answer new cx left → OnPending answer (SetPends source.steps source.needs left new)
+  set_pends (Ready o) poll = tt
+  set_pends Pending poll =
+      elim (asks_task_of rule source old new Pending cx left poll.gave.1).woken [
+        | inl asked ↦ record { covered = poll.covered; woken = inl asked }
+        | inr waits ↦ record { covered = poll.covered; woken = inr waits.0 }
+      ]
 
 -- the task of a pending queue hears of its source
 pub covered_of : {F A S : Type 0} (steps : SourceSteps S) (needs : S → ℕ → Type 0) (cx : Context) (answer : Poll A) (set : Bounded (Numbered F) S) → OnPending answer (SetPends steps needs cx set) → OnPending answer (Covers cx (λ n. (0 < held_in set) × needs set.source n))

@@ -33,9 +33,8 @@ where
         requires { EachInProgress T.can_poll self.old.set }
         ensures polled { OrderedGives (GroupsGiveNumbered T.polled S.steps) held_in_groups
             self.old result self.new }
-        ensures stream { StreamAnswers (λ q. EachInProgress T.can_poll q.set)
-            (λ q. AnyNeeds S.needs q.set.groups.listed)
-            (ComesInOrder (GrowingMayGive T.polled)) self.old result self.new cx.old cx.new }
+        ensures stream { StreamAnswers ⟦<GrowingQueue<T, A, S> as Stream>⟧
+            self.old result self.new cx.old cx.new }
         ensures queue { PollsQueue (EachInProgress T.can_poll) held_in_groups SameLimit
             self.old result self.new }
         ensures task { PollsQueueTask (GroupsGiveNumbered T.polled S.steps)

@@ -33,9 +33,8 @@ where
         requires { EachRunning T.can_poll self.old.set }
         ensures polled { OrderedGives (SetGives T.polled S.steps) held_in
             self.old result self.new }
-        ensures stream { StreamAnswers (λ q. EachRunning T.can_poll q.set)
-            (λ q n. (0 < held_in q.set) × S.needs q.set.source n)
-            (ComesInOrder (SetMayGive T.polled)) self.old result self.new cx.old cx.new }
+        ensures stream { StreamAnswers ⟦<BoundedQueue<T, A, S> as Stream>⟧
+            self.old result self.new cx.old cx.new }
         ensures queue { PollsQueue (EachRunning T.can_poll) held_in SameSize
             self.old result self.new }
         ensures task { PollsQueueTask (SetGives T.polled S.steps)

@@ -3,6 +3,7 @@ pub mod HeldLemmas
 pub mod HeldGivesLemmas
 pub mod ExtendedLemmas
 pub mod FuturesUnorderedBoundedLemmas
+pub mod PollsBoundedLemmas
 pub mod GroupsLemmas
 pub mod GroupsStepLemmas
 pub mod GroupsRoundLemmas

@@ -1,6 +1,6 @@
 -- What a contract sees of a bounded set, and what its calls make of it.
 use Rattle.std.specs.Prelude.{◌≡◌, ◌⊎◌, ℕ, ◌+◌, ◌<◌, List, ◌++◌, map, length, Option, Some, None}
-use Rattle.std.specs.Prelude.{IfNone, OnSome, is_some, refl, Result, OnOk, IfErr}
+use Rattle.std.specs.Prelude.{is_some, refl, Result, OnOk, IfErr}
 use Rattle.std.specs.List.{FoldsTo, range_with_len}
 use Rattle.std.specs.Option.{option_to_list}
 use Rattle.std.specs.Coded.{Coded, code_by, coded×, coded_ℕ}
@@ -251,30 +251,6 @@ module _
     names_taken old (Ready (Some x)) new poll = length poll.1.2.0 + 1
     names_taken old Pending new poll = length poll.1.0
 
-    -- What one poll leaves of its task, which it took from cx to left.
-    pub record PollsSetTask
-        (needs : S → ℕ → Type 0)
-        (registers_poll : S → Context → Context → Type 0)
-        (old : Bounded F S)
-        (answer : Poll (Option A))
-        (new : Bounded F S)
-        (cx left : Context)
-        : Type 0 where
-      -- the task of a pending set hears of its source
-      pub covered : OnPending answer (Covers left (needs new.source))
-      -- where it is pending, the task was asked to poll again, or it was registered and no further
-      -- name came
-      pub woken : OnPending answer
-          (IsWoken left ⊎ (SaidEmpty steps new.source × registers_poll old.source cx left))
-      -- by each answer, what the poll made of the task
-      pub leaves : PollLeavesTask registers_poll old answer new cx left
-      -- the end leaves the task alone
-      pub untouched : IfReady answer (λ o. IfNone o (left ≡ cx))
-      -- an output only registers it
-      pub only_registered : IfReady answer (λ o. OnSome o (registers_poll old.source cx left))
-      -- nothing of the task is lost
-      pub kept : Keeps cx left
-
 -- What one count of names, from old to new, leaves of a set. `continues` says after which outputs
 -- the value may be polled again.
 pub record AsksSet
@@ -323,21 +299,3 @@ pub record AsksSetTask
   pub only_registered : IfReady answer (λ _. registers cx left)
   -- nothing of the task is lost
   pub kept : Keeps cx left
-
--- What one poll, from old to new, leaves of a set.
-pub record PollsSet
-    {F A S : Type 0}
-    (can_poll : F → Type 0)
-    (old : Bounded F S)
-    (answer : Poll (Option A))
-    (new : Bounded F S)
-    : Type 0 where
-  -- each value that is held can be polled again
-  pub pollable : AllHeld can_poll new.slots
-  -- an output leaves one value fewer
-  pub fewer : IfReady answer (λ o. OnSome o (held_count new.slots + 1 ≡ held_count old.slots))
-  -- a pending poll leaves as many as before
-  pub same : OnPending answer (held_count new.slots ≡ held_count old.slots)
-  -- the number of slots and the limit stay
-  pub capacity : slot_count new.slots ≡ slot_count old.slots
-  pub limit : new.limit ≡ old.limit

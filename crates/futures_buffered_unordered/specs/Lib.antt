@@ -2,6 +2,7 @@ pub mod Held
 pub mod Extended
 pub mod StreamAnswers
 pub mod FuturesUnorderedBounded
+pub mod PollsBounded
 pub mod Groups
 pub mod GroupsStep
 pub mod Interleaves

@@ -1,13 +1,12 @@
 //! The bounded set as a stream, which says how much is left and whether it has ended.
 ghost use Rattle.std.specs.Prelude.{◌≡◌, ◌<◌};
 ghost use Rattle.futures_buffered_core.specs.SlotMap.{held_count};
-ghost use Rattle.futures_buffered_unordered.specs.StreamAnswers.{StreamAnswers};
 ghost use Rattle.futures_buffered_unordered.specs.Held.{AllHeld, ComesFrom};
-ghost use Rattle.futures_buffered_unordered.specs.FuturesUnorderedBounded.{PollGives, PollsSet, PollsSetTask};
+ghost use Rattle.futures_buffered_unordered.specs.PollsBounded.{PollsBounded};
 
 use crate::fused::{FusedStream, SizeHint};
 use crate::futures_unordered_bounded::FuturesUnorderedBounded;
-use crate::poll_one::PollFuture;
+use crate::poll_one::{PollFuture, PollOne};
 use crate::slot_future::SlotFuture;
 use futures::Stream;
 use futures::task::{Context, Poll};
@@ -28,12 +27,7 @@ impl<F: SlotFuture<S::Waker>, S: ReadySource> Stream for FuturesUnorderedBounded
     /// Takes no memory where the calls of the source take none. Takes at most as many names as the set's limit and polls only what these slots hold, so its time is that of these takings and polls, at any capacity. Holds no lock of the source while it polls a future.
     fn poll_next(&mut self, cx: &mut Context<'_>) -> Poll<Option<F::Output>>
         requires { AllHeld F.can_poll self.old.slots }
-        ensures polled { PollGives F.polled S.steps self.old result self.new }
-        ensures stream { StreamAnswers (λ set. AllHeld F.can_poll set.slots)
-            (λ set n. (0 < held_count set.slots) × S.needs set.source n)
-            (λ set. ComesFrom F.polled set.slots) self.old result self.new cx.old cx.new }
-        ensures set { PollsSet F.can_poll self.old result self.new }
-        ensures task { PollsSetTask F.polled S.steps S.needs S.registers_poll
+        ensures { PollsBounded ⟦<PollFuture as PollOne<F, S::Waker>>⟧ S.ReadySource
             self.old result self.new cx.old cx.new }
     {
         self.poll_with(&PollFuture, cx)

@@ -3,14 +3,14 @@
 //! Each future stands in a slot. A push marks its slot, and a future's waker marks it again. A poll takes the names of marked slots from the set's source, at most as many as its limit, and polls what these slots hold until one is ready. A slot that nobody marked costs nothing.
 ghost use Rattle.std.specs.Prelude.{◌≡◌, ◌<◌, ◌≤◌, ◌+◌, ◌==◌, ◌↔◌, IfOk, IsSome, IsTrue};
 ghost use Rattle.futures.specs.Task.{Covers};
-ghost use Rattle.futures.specs.Poll.{IfReady};
 ghost use Rattle.futures_buffered_core.specs.Drawn.{IsFiniteSource};
 ghost use Rattle.futures_buffered_core.specs.Made.{MakesSlots};
 ghost use Rattle.futures_buffered_core.specs.ReadyShared.{IsNewShared, MarksShared};
 ghost use Rattle.futures_buffered_core.specs.ReadySource.{WaitsAlike};
 ghost use Rattle.futures_buffered_core.specs.SlotMap.{value_in, held_count, slot_count, no_slots, IsFull};
 ghost use Rattle.futures_buffered_unordered.specs.Held.{AllHeld};
-ghost use Rattle.futures_buffered_unordered.specs.FuturesUnorderedBounded.{AsksSet, AsksSetTask, AsksUntil, HoldsEach, IsNewSet, LeavesTask, PollGives, PollsSet, PollsSetTask, Pushes, PushesIfRoom, PushesOne, emptied, slots_in, with_empty_slot, with_source};
+ghost use Rattle.futures_buffered_unordered.specs.FuturesUnorderedBounded.{HoldsEach, IsNewSet, Pushes, PushesIfRoom, PushesOne, emptied, slots_in, with_empty_slot};
+ghost use Rattle.futures_buffered_unordered.specs.PollsBounded.{PollsBounded, RegistersAndTakes, TakesNames, registered};
 ghost use Rattle.futures_buffered_unordered.specs.Extended.{Extends, MakesFull};
 
 use crate::poll_one::PollOne;
@@ -247,20 +247,14 @@ impl<F: Drop, S: ReadySource> FuturesUnorderedBounded<F, S> {
         cx: &mut Context<'_>,
     ) -> Poll<(usize, R::Output)>
         requires { AllHeld R.can_poll self.old.slots }
-        ensures polled { AsksUntil R.polled S.steps self.old result self.new }
-        ensures set { AsksSet R.can_poll R.polled R.goes_on self.old result self.new }
-        ensures still_covered { IfReady result (λ _. Covers cx.new (S.needs self.new.source)) }
-        ensures task { AsksSetTask S.steps S.needs (S.registers_poll self.old.source)
-            (LeavesTask R.polled S.steps S.registers_poll self.old self.new)
-            self.new.source result cx.old cx.new }
+        ensures { RegistersAndTakes R.PollOne S.ReadySource
+            self.old result self.new cx.old cx.new }
     {
         self.source.register(cx);
         self.poll_first_registered(rule, cx)
     }
 
     /// As `poll_first`, for a task that is registered already, with this set or with one beside it. Registers nothing. It is public for merges that grow.
-    ///
-    /// The contract tells the poll from any source of which a registration may have made this one.
     #[inline(always)]
     pub fn poll_first_registered<R: PollOne<F, S::Waker>>(
         &mut self,
@@ -269,16 +263,7 @@ impl<F: Drop, S: ReadySource> FuturesUnorderedBounded<F, S> {
     ) -> Poll<(usize, R::Output)>
         requires held { AllHeld R.can_poll self.old.slots }
         requires registered { Covers cx.old (S.needs self.old.source) }
-        ensures polled { (before : S) → S.steps.registers before self.old.source
-            → AsksUntil R.polled S.steps
-            (with_source self.old before) result self.new }
-        ensures set { AsksSet R.can_poll R.polled R.goes_on self.old result self.new }
-        ensures still_covered { IfReady result (λ _. Covers cx.new (S.needs self.new.source)) }
-        ensures task { AsksSetTask S.steps S.needs (λ cx left. left ≡ cx)
-            (λ cx left. (before : S) → S.steps.registers before self.old.source
-            → LeavesTask R.polled S.steps (λ _ was now. now ≡ was)
-            (with_source self.old before) self.new cx left)
-            self.new.source result cx.old cx.new }
+        ensures { TakesNames R.PollOne S.ReadySource self.old result self.new cx.old cx.new }
     {
         'names: for _count in 0..self.limit {
             let i = match self.source.take() {
@@ -332,9 +317,7 @@ impl<F: Drop, S: ReadySource> FuturesUnorderedBounded<F, S> {
         cx: &mut Context<'_>,
     ) -> Poll<Option<R::Output>>
         requires { AllHeld R.can_poll self.old.slots }
-        ensures polled { PollGives R.polled S.steps self.old result self.new }
-        ensures set { PollsSet R.can_poll self.old result self.new }
-        ensures task { PollsSetTask R.polled S.steps S.needs S.registers_poll
+        ensures { PollsBounded R.PollOne S.ReadySource
             self.old result self.new cx.old cx.new }
     {
         if self.slots.is_empty() {
@@ -356,13 +339,9 @@ impl<F: Drop, S: ReadySource> FuturesUnorderedBounded<F, S> {
         rule: &R,
         cx: &mut Context<'_>,
     ) -> Poll<Option<R::Output>>
-    where
-        S: NewSource,
         requires held { AllHeld R.can_poll self.old.slots }
         requires registered { Covers cx.old (S.needs self.old.source) }
-        ensures polled { PollGives R.polled S.steps self.old result self.new }
-        ensures set { PollsSet R.can_poll self.old result self.new }
-        ensures task { PollsSetTask R.polled S.steps S.needs (λ _ was now. now ≡ was)
+        ensures { PollsBounded R.PollOne (registered S.ReadySource)
             self.old result self.new cx.old cx.new }
     {
         if self.is_empty() {

@@ -29,9 +29,7 @@ impl<F: SlotFuture<S::Waker>, S: NewSource> Stream for FuturesUnordered<F, S> {
         requires { EachHeld F.can_poll self.old.groups.listed }
         ensures polled { GroupsGive (PollGives F.polled S.steps)
             self.old.groups result self.new.groups }
-        ensures stream { StreamAnswers (λ set. EachHeld F.can_poll set.groups.listed)
-            (λ set. AnyNeeds S.needs set.groups.listed)
-            (λ set. ComesFromGroups F.polled set.groups.listed)
+        ensures stream { StreamAnswers ⟦<FuturesUnordered<F, S> as Stream>⟧
             self.old result self.new cx.old cx.new }
         ensures set { PollsGrowing F.can_poll self.old result self.new }
         ensures task { PollsGroupsTask (PollAsksToEmpty F.polled S.steps)

@@ -1,0 +1,284 @@
+-- A poll of a bounded set: what it has asked so far, how it ends, and what a caller takes from its record.
+use Rattle.std.proofs.Common.{◌≡◌, ◌⊎◌, ℕ, ◌+◌, ◌<◌, List, [], ◌∷◌, ◌++◌, map, length, Option, Some, None, IfNone, is_some, refl, sym, ap, subst, inl, inr, arith, append-nil, length-set, ◌∙◌}
+use Rattle.std.specs.List.{FoldsTo}
+use Rattle.std.specs.Option.{option_to_list}
+use Rattle.std.proofs.lemmas.Fn.{FoldsTo-push}
+use Rattle.std.proofs.lemmas.List.{length_push, map_push}
+use Rattle.futures.specs.Task.{Covers, Keeps}
+use Rattle.futures.specs.declared.task.context.Context.{Context}
+use Rattle.futures.specs.declared.task.Poll.{Poll}
+use Rattle.futures.specs.declared.task.Poll.TheVariants.{Ready, Pending}
+use Rattle.futures.specs.Poll.{IfReady, OnPending}
+use Rattle.futures_buffered_core.specs.SlotMap.{Slots, value_in, held_count, slot_count, with_value}
+use Rattle.futures_buffered_table.specs.declared.answer.Taken.{Taken}
+use Rattle.futures_buffered_table.specs.declared.answer.Taken.TheVariants.{Slot, Empty, Pause}
+use Rattle.futures_buffered_unordered.specs.StreamAnswers.{StreamAnswers}
+use Rattle.futures_buffered_unordered.specs.Held.{AllHeld, ComesFrom, EndsWith, Passes}
+use Rattle.futures_buffered_unordered.specs.FuturesUnorderedBounded.{Bounded, Asks, AsksSet, AsksSetTask, AsksUntil, EndsWaiting, IsWoken, LeavesTask, PollGives, PollLeavesTask, SaidEmpty, with_source}
+use Rattle.futures_buffered_unordered.specs.PollsBounded.{EndsPending, Ends, PollOneOf, PollsBounded, ReadySourceOf, RegistersAndTakes, TakesNames}
+use Rattle.futures_buffered_unordered.proofs.HeldLemmas.{AllHeld-with, AllHeldBut-with, count-with, same-with, value_in-with_value, passes_free, passes_pending}
+use Rattle.futures_buffered_unordered.proofs.StreamAnswersLemmas.{after_item, while_pending, covers_fewer}
+use Rattle.futures_buffered_unordered.proofs.FuturesUnorderedBoundedLemmas.{rest_of, same_of, value_of}
+
+module _ {R F W A S : Type 0} (rule : PollOneOf R F W A) (source : ReadySourceOf S W) where
+  -- so many names came, and each value that was polled is pending
+  pub record SoFar (old : Bounded F S) (count : ℕ) (slots : Slots F) (now : S) : Type 0 where
+    pub names : List ℕ
+    pub counted : length names ≡ count
+    pub answers : FoldsTo source.steps.takes old.source (map Slot names) now
+    pub passes : FoldsTo (Passes rule.polled) old.slots names slots
+    pub pollable : AllHeld rule.can_poll slots
+    pub held : held_count slots ≡ held_count old.slots
+    pub same_slots : (j : ℕ) → is_some (value_in slots j) ≡ is_some (value_in old.slots j)
+    pub capacity : slot_count slots ≡ slot_count old.slots
+
+  pub SoFar-start : (old : Bounded F S) (slots : Slots F) (now : S) → slots ≡ old.slots → now ≡ old.source → AllHeld rule.can_poll slots → SoFar old 0 slots now
+  SoFar-start old slots now same_slots same_source all =
+      record {
+        names = [];
+        counted = refl;
+        answers = sym same_source;
+        passes = sym same_slots;
+        pollable = all;
+        held = ap held_count same_slots;
+        same_slots = λ j. ap (λ (m : Slots F). is_some (value_in m j)) same_slots;
+        capacity = ap slot_count same_slots;
+      }
+
+  pub SoFar-skip : (old : Bounded F S) (count i : ℕ) (slots : Slots F) (now left : S) → SoFar old count slots now → source.steps.takes now (Slot i) left → value_in slots i ≡ None → SoFar old (count + 1) slots left
+  SoFar-skip old count i slots now left so taken e =
+      record {
+        names = so.names ++ i ∷ [];
+        counted = omega (arith, length_push so.names i, so.counted);
+        answers = rw (map_push Slot so.names i) (FoldsTo-push source.steps.takes old.source (map Slot so.names) now (Slot i) left so.answers taken);
+        passes = FoldsTo-push (Passes rule.polled) old.slots so.names slots i slots so.passes (passes_free rule.polled slots i e);
+        pollable = so.pollable;
+        held = so.held;
+        same_slots = so.same_slots;
+        capacity = so.capacity;
+      }
+
+  pub SoFar-pending : (old : Bounded F S) (count i : ℕ) (slots : Slots F) (now left : S) (f f2 : F) → SoFar old count slots now → source.steps.takes now (Slot i) left → Some f ≡ value_in slots i → rule.polled i f Pending f2 → rule.can_poll f2 → SoFar old (count + 1) (with_value slots i f2) left
+  SoFar-pending old count i slots now left f f2 so taken e h again =
+      record {
+        names = so.names ++ i ∷ [];
+        counted = omega (arith, length_push so.names i, so.counted);
+        answers = rw (map_push Slot so.names i) (FoldsTo-push source.steps.takes old.source (map Slot so.names) now (Slot i) left so.answers taken);
+        passes = FoldsTo-push (Passes rule.polled) old.slots so.names slots i (with_value slots i f2) so.passes (passes_pending rule.polled slots i f f2 (sym e) h);
+        pollable = AllHeld-with rule.can_poll slots i f2 so.pollable again;
+        held = count-with slots i f f2 e ∙ so.held;
+        same_slots = λ j. same-with slots i j f f2 e ∙ so.same_slots j;
+        capacity = length-set slots.places i (Some f2) ∙ so.capacity;
+      }
+
+  module _ (old : Bounded F S) (count limit : ℕ) (slots : Slots F) (now : S) (so : SoFar old count slots now) (same : limit ≡ old.limit) (cx left : Context) where
+    -- the value of the slot named last was ready
+    pub takes_ready : (i : ℕ) (after : S) (f f2 : F) (x : A) → count < old.limit → source.steps.takes now (Slot i) after → Some f ≡ value_in slots i → rule.polled i f (Ready x) f2 → (rule.goes_on x → rule.can_poll f2) → left ≡ cx → Covers left (source.needs after)
+        → TakesNames rule source old (Ready (i, x)) (record { slots = with_value slots i f2; source = after; limit = limit }) cx left
+    takes_ready i after f f2 x below taken e h goes stays covers =
+        record {
+          names = so.names;
+          last = Some (Slot i);
+          came = FoldsTo-push source.steps.takes old.source (map Slot so.names) now (Slot i) after so.answers taken;
+          passed = slots;
+          passes = so.passes;
+          ends = (omega (arith, so.counted), refl, record { value = f; held = sym e; left = f2; gave = h; now_holds = refl }, stays);
+          count = count-with slots i f f2 e ∙ so.held;
+          same_slots = λ j. same-with slots i j f f2 e ∙ so.same_slots j;
+          capacity = length-set slots.places i (Some f2) ∙ so.capacity;
+          limit = same;
+          covered = covers;
+          kept = rw stays (λ fact holds. holds);
+          pollable = tt;
+          others = AllHeldBut-with rule.can_poll slots i f2 so.pollable;
+          continues = λ more. AllHeld-with rule.can_poll slots i f2 so.pollable (goes more);
+        }
+
+    -- no value was ready
+    takes_pending : (last : Option Taken) (after : S) → FoldsTo source.steps.takes old.source (map Slot so.names ++ option_to_list last) after → EndsPending old.limit count last cx left → Covers left (source.needs after) → Keeps cx left
+        → TakesNames rule source old Pending (record { slots = slots; source = after; limit = limit }) cx left
+    takes_pending last after came ended covers keeps =
+        record {
+          names = so.names;
+          last = last;
+          came = came;
+          passed = slots;
+          passes = so.passes;
+          ends = (refl, subst (λ (n : ℕ). EndsPending old.limit n last cx left) (sym so.counted) ended);
+          count = so.held;
+          same_slots = so.same_slots;
+          capacity = so.capacity;
+          limit = same;
+          covered = covers;
+          kept = keeps;
+          pollable = so.pollable;
+          others = tt;
+          continues = tt;
+        }
+
+    pub takes_last : (last : Taken) (after : S) → source.steps.takes now last after → EndsPending old.limit count (Some last) cx left → Covers left (source.needs after) → Keeps cx left
+        → TakesNames rule source old Pending (record { slots = slots; source = after; limit = limit }) cx left
+    takes_last last after taken = takes_pending (Some last) after (FoldsTo-push source.steps.takes old.source (map Slot so.names) now last after so.answers taken)
+
+    pub takes_all : EndsPending old.limit count None cx left → Covers left (source.needs now) → Keeps cx left
+        → TakesNames rule source old Pending (record { slots = slots; source = now; limit = limit }) cx left
+    takes_all = takes_pending None now (subst (λ (given : List Taken). FoldsTo source.steps.takes old.source given now) (sym (append-nil (map Slot so.names))) so.answers)
+
+  -- a value that gave an output is what its last poll left, in its slot
+  pub takes_held : (old new : Bounded F S) (i : ℕ) (x : A) (cx left : Context) → TakesNames rule source old (Ready (i, x)) new cx left → EndsWith (rule.polled i) x (value_in new.slots i)
+  takes_held old new i x cx left takes =
+      let it = takes.ends.2 in
+      let holds : value_in new.slots i ≡ Some it.left = ap (λ (m : Slots F). value_in m i) it.now_holds ∙ value_in-with_value takes.passed i it.value it.left (sym it.held) in
+      rw holds (it.value, it.gave)
+
+-- the source as one of which this is a registration, which leaves the task alone
+abbrev pub registered_by : {S W : Type 0} → ReadySourceOf S W → (S → S → Type 0) → ReadySourceOf S W
+registered_by source registers = record source {
+  steps = record { registers = registers; takes = source.steps.takes };
+  registers_poll = λ _ cx left. left ≡ cx;
+}
+
+-- a count of names of a set that is registered, told from the source as it was before a registration
+pub takes_after : {R F W A S : Type 0} (rule : PollOneOf R F W A) (source : ReadySourceOf S W) (registers : S → S → Type 0) (before : S) (old new : Bounded F S) (answer : Poll (ℕ × A)) (cx left : Context) → registers before old.source → TakesNames rule source old answer new cx left
+    → RegistersAndTakes rule (registered_by source registers) (with_source old before) answer new cx left
+takes_after {R} {F} {W} {A} {S} rule source registers before old new answer cx left first it =
+    record {
+      source_then = old.source;
+      task_then = cx;
+      registers = first;
+      registers_task = refl;
+      takes = record {
+        names = it.names;
+        last = it.last;
+        came = it.came;
+        passed = it.passed;
+        passes = it.passes;
+        ends = same_end answer it.ends;
+        count = it.count;
+        same_slots = it.same_slots;
+        capacity = it.capacity;
+        limit = it.limit;
+        covered = it.covered;
+        kept = it.kept;
+        pollable = it.pollable;
+        others = it.others;
+        continues = it.continues;
+      };
+      kept = it.kept;
+    }
+  where
+    same_end : (a : Poll (ℕ × A)) → Ends rule source old.limit (length it.names) it.last it.passed a new.slots cx left → Ends rule (registered_by source registers) old.limit (length it.names) it.last it.passed a new.slots cx left
+    same_end (Ready x) h = h
+    same_end Pending h = h
+
+-- What a caller takes from the record of a poll, who speaks of the value alone: the relation of
+-- values, by any registration that this one may be.
+module _ {R F W A S : Type 0} (rule : PollOneOf R F W A) (source : ReadySourceOf S W) (registers : S → S → Type 0) (within : (a b : S) → source.steps.registers a b → registers a b) where
+  asks_of : (old new : Bounded F S) (answer : Poll (ℕ × A)) (cx left : Context) (asks : RegistersAndTakes rule source old answer new cx left) (last : Option Taken) (slots : Slots F) → asks.takes.last ≡ last → slots ≡ asks.takes.passed
+      → Asks rule.polled (record { registers = registers; takes = source.steps.takes }) old asks.takes.names last slots new.source
+  asks_of old new answer cx left asks last slots is same =
+      record {
+        registered = asks.source_then;
+        registers_first = within old.source asks.source_then asks.registers;
+        answers = rw (← is) asks.takes.came;
+        passes = rw same asks.takes.passes;
+      }
+
+  waits_of : (limit : ℕ) (names : List ℕ) (last : Option Taken) (cx left : Context) → EndsPending limit (length names) last cx left → EndsWaiting limit names last
+  waits_of limit names (Some Empty) cx left h = h.0
+  waits_of limit names (Some Pause) cx left h = h.0
+  waits_of limit names (Some (Slot i)) cx left h = h
+  waits_of limit names None cx left h = h.0
+
+  pub until_of : (old new : Bounded F S) (answer : Poll (ℕ × A)) (cx left : Context) → RegistersAndTakes rule source old answer new cx left
+      → AsksUntil rule.polled (record { registers = registers; takes = source.steps.takes }) old answer new
+  until_of old new (Ready (i, x)) cx left asks =
+      let it = asks.takes in
+      (it.names, it.ends.0, it.passed, asks_of old new (Ready (i, x)) cx left asks (Some (Slot i)) it.passed it.ends.1 refl, it.ends.2, it.limit)
+  until_of old new Pending cx left asks =
+      let it = asks.takes in
+      (it.names, it.last, waits_of old.limit it.names it.last _ _ it.ends.1, asks_of old new Pending cx left asks it.last new.slots refl it.ends.0, it.limit)
+
+  pub gives_of : (old new : Bounded F S) (answer : Poll (Option A)) (cx left : Context) → PollsBounded rule source old answer new cx left
+      → PollGives rule.polled (record { registers = registers; takes = source.steps.takes }) old answer new
+  gives_of old new (Ready None) cx left it = (it.gave.0, it.gave.1)
+  gives_of old new (Ready (Some x)) cx left it = (it.gave.0, (it.gave.1.0, it.gave.1.1, until_of old it.gave.1.1 (Ready (it.gave.1.0, x)) cx left it.gave.1.2, it.gave.1.3))
+  gives_of old new Pending cx left it = (it.gave.0, until_of old new Pending cx left it.gave.1)
+
+  -- and what becomes of the task, for who tells it apart
+  pub leaves_of : (old new : Bounded F S) (cx left : Context) → RegistersAndTakes rule source old Pending new cx left
+      → LeavesTask rule.polled (record { registers = registers; takes = source.steps.takes }) source.registers_poll old new cx left
+  leaves_of old new cx left asks = by_last asks.takes.last refl asks.takes.ends.1
+    where
+      by_last : (last : Option Taken) → asks.takes.last ≡ last → EndsPending old.limit (length asks.takes.names) last asks.task_then left → LeavesTask rule.polled (record { registers = registers; takes = source.steps.takes }) source.registers_poll old new cx left
+      by_last (Some Empty) is h = inl ((asks.takes.names, h.0, asks_of old new Pending cx left asks (Some Empty) new.slots is asks.takes.ends.0), rw h.1 asks.registers_task)
+      by_last (Some Pause) is h = inr ((asks.takes.names, Some Pause, h.0, asks_of old new Pending cx left asks (Some Pause) new.slots is asks.takes.ends.0), h.1)
+      by_last (Some (Slot i)) is h = absurd h
+      by_last None is h = inr ((asks.takes.names, None, h.0, asks_of old new Pending cx left asks None new.slots is asks.takes.ends.0), h.1)
+
+  pub task_of : (old new : Bounded F S) (answer : Poll (Option A)) (cx left : Context) → PollsBounded rule source old answer new cx left
+      → PollLeavesTask rule.polled (record { registers = registers; takes = source.steps.takes }) source.registers_poll old answer new cx left
+  task_of old new (Ready None) cx left it = it.gave.2
+  task_of old new (Ready (Some x)) cx left it = let asks = it.gave.1.2 in rw asks.takes.ends.3 asks.registers_task
+  task_of old new Pending cx left it = leaves_of old new cx left it.gave.1
+
+  pub untouched_of : (old new : Bounded F S) (answer : Poll (Option A)) (cx left : Context) → PollsBounded rule source old answer new cx left → IfReady answer (λ o. IfNone o (left ≡ cx))
+  untouched_of old new (Ready None) cx left it = it.gave.2
+  untouched_of old new (Ready (Some x)) cx left it = tt
+  untouched_of old new Pending cx left it = tt
+
+module _ {R F W A S : Type 0} (rule : PollOneOf R F W A) (source : ReadySourceOf S W) where
+  -- a poll of a set is one of a stream
+  pub answers_as_stream : (old new : Bounded F S) (answer : Poll (Option A)) (cx left : Context) → PollsBounded rule source old answer new cx left
+      → StreamAnswers (record { can_poll = λ (set : Bounded F S). AllHeld rule.can_poll set.slots; needs = λ (set : Bounded F S) n. (0 < held_count set.slots) × source.needs set.source n; yields = λ (set : Bounded F S). ComesFrom rule.polled set.slots }) old answer new cx left
+  answers_as_stream old new answer cx left it =
+      let gives = gives_of rule source source.steps.registers (λ a b h. h) old new answer cx left it in
+      record {
+        value = value_of rule.polled source.steps old new answer gives;
+        rest = rest_of rule.polled source.steps old new answer gives it.fewer;
+        same = same_of rule.polled source.steps old new answer gives it.same;
+        goes = after_item answer it.pollable;
+        again = while_pending answer it.pollable;
+        registered = covers_fewer answer left (source.needs new.source) _ (λ n waits. waits.1) it.covered;
+        kept = it.kept;
+      }
+
+-- What a caller takes who tells the set and the task apart.
+last_taken : {S : Type 0} (takes : S → Taken → S → Type 0) (taken : List Taken) (last : Taken) (old new : S) → FoldsTo takes old (taken ++ last ∷ []) new → (before : S) × takes before last new
+last_taken takes [] last old new h = (old, rw (← h.2) h.1)
+last_taken takes (t ∷ taken) last old new h = last_taken takes taken last h.0 new h.2
+
+module _ {R F W A S : Type 0} (rule : PollOneOf R F W A) (source : ReadySourceOf S W) where
+  woken_by : (old new : Bounded F S) (cx left : Context) (asks : RegistersAndTakes rule source old Pending new cx left) (last : Option Taken) → asks.takes.last ≡ last → EndsPending old.limit (length asks.takes.names) last asks.task_then left → IsWoken left ⊎ (SaidEmpty source.steps new.source × source.registers_poll old.source cx left)
+  woken_by old new cx left asks (Some Empty) is h = inr (last_taken source.steps.takes (map Slot asks.takes.names) Empty asks.source_then new.source (subst (λ (l : Option Taken). FoldsTo source.steps.takes asks.source_then (map Slot asks.takes.names ++ option_to_list l) new.source) is asks.takes.came), rw h.1 asks.registers_task)
+  woken_by old new cx left asks (Some Pause) is h = inl h.1
+  woken_by old new cx left asks (Some (Slot i)) is h = absurd h
+  woken_by old new cx left asks None is h = inl h.1
+
+  -- what a registration and one count of names leave of the set
+  pub asks_set_of : (old new : Bounded F S) (answer : Poll (ℕ × A)) (cx left : Context) → RegistersAndTakes rule source old answer new cx left → AsksSet rule.can_poll rule.polled rule.goes_on old answer new
+  asks_set_of old new answer cx left it =
+      let takes = it.takes in
+      record { pollable = takes.pollable; others = takes.others; goes_on = takes.continues; last = held answer takes; count = takes.count; same_slots = takes.same_slots; capacity = takes.capacity; limit = takes.limit }
+    where
+      held : (a : Poll (ℕ × A)) → TakesNames rule source (with_source old it.source_then) a new it.task_then left → IfReady a (λ p. EndsWith (rule.polled p.0) p.1 (value_in new.slots p.0))
+      held (Ready (i, x)) takes = takes_held rule source (with_source old it.source_then) new i x it.task_then left takes
+      held Pending takes = tt
+
+  -- and where it gave an output, the task hears of the source still
+  pub ready_covered : (old new : Bounded F S) (answer : Poll (ℕ × A)) (cx left : Context) → RegistersAndTakes rule source old answer new cx left → IfReady answer (λ _. Covers left (source.needs new.source))
+  ready_covered old new (Ready x) cx left it = it.takes.covered
+  ready_covered old new Pending cx left it = tt
+
+  -- and of the task
+  pub asks_task_of : (old new : Bounded F S) (answer : Poll (ℕ × A)) (cx left : Context) → RegistersAndTakes rule source old answer new cx left
+      → AsksSetTask source.steps source.needs (source.registers_poll old.source) (LeavesTask rule.polled source.steps source.registers_poll old new) new.source answer cx left
+  asks_task_of old new (Ready (i, x)) cx left it = record { covered = tt; woken = tt; leaves = tt; only_registered = rw it.takes.ends.3 it.registers_task; kept = it.kept }
+  asks_task_of old new Pending cx left it =
+      record {
+        covered = it.takes.covered;
+        woken = woken_by old new cx left it it.takes.last refl it.takes.ends.1;
+        leaves = leaves_of rule source source.steps.registers (λ a b h. h) old new cx left it;
+        only_registered = tt;
+        kept = it.kept;
+      }
