@@ -93,8 +93,8 @@ module _ {F A : Type 0} (future : FutureOf F A) where
   abbrev pub ComesInTurn : OrderedInFlight F A → Runs A
   ComesInTurn = ComesInOrder (NumberGives future)
 
-  -- One push, from old to new: `adds` says at which end the entry of the future stands, and `with_one`
-  -- what may come where an output of one future more does.
+  -- One push, from old to new: `adds` says at which end the entry of the future stands, and
+  -- `with_one` what may come where an output of one future more does.
   pub record PushesInTurn
       (adds : OrderedInFlight F A → F → OrderedInFlight F A → Type 0)
       (with_one : (A → Type 0) → Runs A → Runs A)
