@@ -95,7 +95,7 @@ module _ {F A : Type 0} (future : FutureOf F A) where
   push_leaves_ordered old new f p =
       record {
         one_more = p.one_more;
-        adds = p.behind;
+        adds = p.comes;
         value = tt;
         stays = tt;
         overtakes = tt;

@@ -94,7 +94,7 @@ impl<F: Future<Output = A>, A: Drop> FutureQueue<F> for InFlightOrdered<F, A> {
 
     #[tactic(auto, using(crate::proofs::InFlightLemmas::push_leaves_ordered))]
     fn push(&mut self, future: F) -> Option<A> {
-        InFlightOrdered::push(self, future);
+        InFlightOrdered::push_back(self, future);
         None
     }
 

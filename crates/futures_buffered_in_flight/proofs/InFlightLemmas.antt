@@ -1,15 +1,16 @@
 -- What may come from the kit's set of the futures, and from the slots over it.
-use Rattle.std.proofs.Common.{◌≡◌, ◌<◌, ℕ, ◌+◌, List, [], ◌∷◌, Option, Some, None, MatchOption, is_some, count_by, cond, get_or, set, zero, suc, ap, ap₂, refl, sym, subst, ◌∙◌, ◌⊎◌, inl, inr, arith, Ok, Err}
+use Rattle.std.proofs.Common.{◌≡◌, ◌<◌, ℕ, ◌+◌, List, [], ◌∷◌, Option, Some, None, MatchOption, is_some, count_by, cond, get_or, length, length-set, set, zero, suc, ap, ap₂, refl, sym, subst, ◌∙◌, ◌⊎◌, inl, inr, arith, Ok, Err}
 use Rattle.std.proofs.lemmas.Bool.{cases_eq}
 use Rattle.std.proofs.lemmas.List.Sums.{sum_by-cons}
 use Rattle.std.proofs.lemmas.List.{set-get_or, get_or-set_same}
 use Rattle.futures.specs.Runs.{After, Within}
 use Rattle.futures.specs.Queued.{AnyGives, Gathers, GivesNoMore, AllPollable, set_places, set_len}
 use Rattle.futures.specs.declared.stream.futures_unordered.FuturesUnordered.{FuturesUnordered}
-use Rattle.futures_buffered_core.specs.SlotMap.{Slots, value_in, held_count, with_slot_freed, Inserts}
+use Rattle.futures_buffered_core.specs.SlotMap.{Slots, value_in, held_count, slot_count, with_slot_freed, Inserts}
 use Rattle.futures_buffered_unordered.proofs.HeldGivesLemmas.{Gathers-Within, Gathers-After, value_in-with_slot_freed, value_in-with_slot_freed_other, None-Some}
-use Rattle.futures_buffered_in_flight.specs.InFlight.{FutureOf, Flights, CanPollAll, run_count, runs_in, ComesFromSlots, AnySlotGives, RunsGiveNoMore, Yields, GivesWithKey, HasNoRoom, PushesOne}
+use Rattle.futures_buffered_in_flight.specs.InFlight.{FutureOf, Flights, CanPollAll, run_count, runs_in, ComesFromSlots, AnySlotGives, RunsGiveNoMore, Yields, GivesWithKey, HasNoRoom, PushesAt, PushesOne}
 use Rattle.futures_buffered_in_flight.specs.declared.in_flight.Came.{Came}
+use Rattle.futures_buffered_in_flight.specs.declared.in_flight.Place.{Place}
 use Rattle.futures_buffered_in_flight.specs.declared.run.Key.{Key}
 use Rattle.futures_buffered_in_flight.specs.declared.run.Run.{Run}
 
@@ -138,6 +139,10 @@ module _ {F A : Type 0} (future : FutureOf F A) where
           ];
         };
       }
+
+  -- a push keeps the number of slots
+  pub same_slots : (old new : Flights F) (f : F) (tag : ℕ) (key : Key) → PushesAt future old f tag key new → slot_count new.slots ≡ slot_count old.slots
+  same_slots old new f tag key p = ap (λ (places : List (Option Place)). length places) p.went_in.now_held ∙ length-set old.slots.places key.slot _
 
   -- a future that came back
   pub came_back : (old new : Flights F) (f back : F) (tag : ℕ) → CanPollAll future old → back ≡ f

@@ -1,5 +1,5 @@
 -- What the calls of an ordered queue of futures in flight leave of it.
-use Rattle.std.proofs.Common.{◌≡◌, ◌+◌, ◌<◌, ◌≤◌, ℕ, List, [], length, cond, is_some, Option, Some, None, inl, inr, refl, sym, ap, subst, ◌∙◌, arith}
+use Rattle.std.proofs.Common.{◌≡◌, ◌+◌, ◌<◌, ◌≤◌, ℕ, List, [], length, cond, is_some, Option, Some, None, inl, inr, ap, ◌∙◌, arith}
 use Rattle.std.proofs.lemmas.List.{length-replicate}
 use Rattle.std.proofs.lemmas.List.Folds.{sum_by-replicate}
 use Rattle.futures.specs.declared.task.Poll.{Poll}
@@ -10,13 +10,13 @@ use Rattle.futures_buffered_core.specs.SlotMap.{Slots, held_count, no_slots}
 use Rattle.futures_buffered_unordered.proofs.StreamAnswersLemmas.{after_item, while_pending}
 use Rattle.futures_buffered_ordered.specs.Numbered.{PollsNumberedSet, PollsNumberedTask}
 use Rattle.futures_buffered_ordered.specs.declared.numbered.Numbered.{Numbered}
-use Rattle.futures_buffered_ordered.specs.OrderedEntries.{AddsBack, MayRefuse, PollsQueue, PollsQueueTask}
+use Rattle.futures_buffered_ordered.specs.OrderedEntries.{AddsBack, AddsFront, IsUnused, MayRefuse, PollsQueue, PollsQueueTask}
 use Rattle.futures_buffered_ordered.specs.OrderedEntriesInvariant.{AddingKeeps, IsNumbered, Numbering}
 use Rattle.futures_buffered_ordered.proofs.OrderedEntriesInvariantLemmas.{held_by_entries, new_is_numbered}
-use Rattle.futures_buffered_ordered.proofs.OrderedEntriesLemmas.{as_many_of, comes_behind, empty_of, fewer_of, no_more_of, one_entry_more, rest_of, same_of, unused_none, value_of}
+use Rattle.futures_buffered_ordered.proofs.OrderedEntriesLemmas.{as_many_of, comes_before, comes_behind, empty_of, fewer_of, no_more_of, one_entry_more, one_entry_more_before, rest_of, same_of, unused_none, value_of}
 use Rattle.futures_buffered_in_flight.specs.InFlight.{FutureOf}
-use Rattle.futures_buffered_in_flight.specs.InFlightQueue.{Queued, CanPollQueue, GivesHeld, IsNewQueued, NumberGives, PollsNumber, PollsQueuedTask, PushesNumber, SameRoom, QueueIsFull, has_tag, numbered_with, tagged_with, queued_count, queued_room, queued_with}
-use Rattle.futures_buffered_in_flight.specs.InFlightOrdered.{AnswersInTurn, FlightLeavesTask, GivesInTurn, KeepsInOrder, LeavesInOrder, OrderedInFlight, OrderedPends, PushesBack, ordered_count, ordered_room}
+use Rattle.futures_buffered_in_flight.specs.InFlightQueue.{Queued, CanPollQueue, IsNewQueued, NumberGives, PollsNumber, PollsQueuedTask, PushesNumber, SameRoom, QueueIsFull, has_tag, numbered_with, tagged_with, queued_count, queued_room, queued_with}
+use Rattle.futures_buffered_in_flight.specs.InFlightOrdered.{AnswersInTurn, FlightLeavesTask, GivesInTurn, KeepsInOrder, LeavesInOrder, OrderedInFlight, OrderedPends, PushesBack, PushesFront, ordered_count, ordered_room}
 use Rattle.futures_buffered_in_flight.specs.declared.in_flight.Place.{Place}
 use Rattle.futures_buffered_in_flight.proofs.InFlightQueueLemmas.{number_counts}
 
@@ -74,18 +74,29 @@ module _ {F A : Type 0} (future : FutureOf F A) where
   still : (old new : Queued F) (answer : Poll (Option (ℕ × A))) → PollsNumber future old answer new → (out : ℕ × A) → NumberGives future new out → NumberGives future old out
   still old new answer p = p.narrows
 
+  -- no future may give an output with a number that no entry has
+  none_with : (old : Numbering (Queued F) A) (i : ℕ) → KeepsInOrder old → IsUnused i old.queue.entries → (y : A) → NumberGives future old.queue.set (i, y) → ⊥
+  none_with old i keeps unused y h = absurd (omega (arith, number_counts future old.queue.set (i, y) h, keeps.numbered.as_many i, unused_none i old.queue.entries unused))
+
   pub pushes_back : (old : Numbering (Queued F) A) (new : OrderedInFlight F A) (item : F) → KeepsInOrder old → AddsBack (PushesNumber future) old.queue item new → PushesBack future old.queue item new
   pushes_back old new item keeps added =
       record {
         added = added;
         one_more = one_entry_more (PushesNumber future) old.queue new item added;
-        behind = comes_behind (NumberGives future) future.gives (PushesNumber future) old.queue new item added added.1.pushed.gives none;
+        comes = comes_behind (NumberGives future) future.gives (PushesNumber future) old.queue new item added added.1.pushed.gives (none_with old added.0 keeps added.1.unused);
         same_room = added.1.pushed.same_room;
         again = added.1.pushed.again;
       }
-    where
-      none : (y : A) → NumberGives future old.queue.set (added.0, y) → ⊥
-      none y h = absurd (omega (arith, number_counts future old.queue.set (added.0, y) h, keeps.numbered.as_many added.0, unused_none added.0 old.queue.entries added.1.unused))
+
+  pub pushes_front : (old : Numbering (Queued F) A) (new : OrderedInFlight F A) (item : F) → KeepsInOrder old → AddsFront (PushesNumber future) old.queue item new → PushesFront future old.queue item new
+  pushes_front old new item keeps added =
+      record {
+        added = added;
+        one_more = one_entry_more_before (PushesNumber future) old.queue new item added;
+        comes = comes_before (NumberGives future) future.gives (PushesNumber future) old.queue new item added added.1.pushed.gives (none_with old added.0 keeps added.1.unused);
+        same_room = added.1.pushed.same_room;
+        again = added.1.pushed.again;
+      }
 
   module _ (old new : Numbering (Queued F) A) (answer : Poll (Option A)) (keeps : KeepsInOrder old) (polled : GivesInTurn future old.queue answer new.queue) (left : PollsQueue (CanPollQueue future) queued_count SameRoom old.queue answer new.queue) where
     pub polled_keeps : IsNumbered queued_with queued_count new → KeepsInOrder new

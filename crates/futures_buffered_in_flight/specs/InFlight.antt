@@ -1,7 +1,7 @@
 -- What a contract sees of a set of futures in flight. A clause names the futures by the ghost members
 -- of their type: `F.Future`.
 use Rattle.std.specs.Prelude.{◌≡◌, ◌+◌, ◌-◌, ◌^◌, ◌<◌, ◌≤◌, ◌⊎◌, min, ℕ, List, [], Option, Some, None, IfSome, IsSomeAnd}
-use Rattle.std.specs.Prelude.{Result, IfOk, IfErr, OnErr, IsErr}
+use Rattle.std.specs.Prelude.{Result, Ok, Err, IfOk, IfErr, OnErr, IsErr}
 use Rattle.futures.specs.declared.task.Poll.{Poll}
 use Rattle.futures.specs.declared.task.Poll.TheVariants.{Ready, Pending}
 use Rattle.futures.specs.declared.task.context.Context.{Context}
@@ -128,6 +128,14 @@ module _ {F A : Type 0} (future : FutureOf F A) where
     pub full : HasNoRoom old → IsErr result
     -- the set may be polled
     pub again : CanPollAll new
+
+  -- a future went in without a tag of the caller's
+  abbrev pub Pushes : Flights F → F → Flights F → Type 0
+  Pushes old pushed new = (key : Key) × PushesOne old pushed 0 (Ok key) new
+
+  -- some future came back
+  abbrev pub Refuses : Flights F → Flights F → Type 0
+  Refuses old new = (pushed : F) × PushesOne old pushed 0 (Err pushed) new
 
   -- an output that the future with this key may give, whose slot is free then
   pub record Yields (old : Flights F) (came : Came A) (new : Flights F) : Type 0 where

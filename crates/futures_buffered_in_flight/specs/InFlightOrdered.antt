@@ -1,14 +1,15 @@
 -- What a contract sees of an ordered queue of futures in flight: the words on ordered queues at a
 -- queue in flight. A clause names the futures by the ghost members of their type: `F.Future`.
-use Rattle.std.specs.Prelude.{◌≡◌, ◌+◌, ◌<◌, ◌≤◌, ◌^◌, ℕ, Option, length, IfNone, OnSome}
+use Rattle.std.specs.Prelude.{◌≡◌, ◌↔◌, ◌+◌, ◌<◌, ◌≤◌, ◌^◌, ℕ, [], Option, length, IfNone, IfSome}
+use Rattle.std.specs.Prelude.{OnSome, Result, IfErr, IsErr, OnOk}
 use Rattle.futures.specs.Poll.{IfReady, OnPending}
-use Rattle.futures.specs.Runs.{Runs, Within, Leads, Chains, Ends}
+use Rattle.futures.specs.Runs.{Runs, After, Within, Leads, Chains, Ends}
 use Rattle.futures.specs.Task.{Covers}
 use Rattle.futures.specs.declared.task.Poll.{Poll}
 use Rattle.futures.specs.declared.task.context.Context.{Context}
-use Rattle.futures_buffered_unordered.specs.StreamAnswers.{StreamAnswers, stream_of}
-use Rattle.futures_buffered_ordered.specs.OrderedEntries.{Ordered, AddsBack, ComesInOrder}
-use Rattle.futures_buffered_ordered.specs.OrderedEntries.{IsNewQueue, OrderedGives}
+use Rattle.futures_buffered_unordered.specs.StreamAnswers.{StreamAnswers}
+use Rattle.futures_buffered_ordered.specs.OrderedEntries.{Ordered, AddsBack, AddsFront}
+use Rattle.futures_buffered_ordered.specs.OrderedEntries.{ComesInOrder, IsNewQueue, OrderedGives}
 use Rattle.futures_buffered_ordered.specs.OrderedEntries.{OrderedLeavesTask}
 use Rattle.futures_buffered_ordered.specs.OrderedEntriesInvariant.{IsNumbered, Numbering}
 use Rattle.futures_buffered_in_flight.specs.InFlight.{FutureOf}
@@ -29,6 +30,10 @@ ordered_count q = length q.entries
 -- how many can be held
 abbrev pub ordered_room : {F A : Type 0} → OrderedInFlight F A → ℕ
 ordered_room q = queued_room q.set
+
+-- as many are held as can be
+abbrev pub OrderedIsFull : {F A : Type 0} → OrderedInFlight F A → Type 0
+OrderedIsFull q = ordered_room q ≤ ordered_count q
 
 -- there is room for n, no future, and no entry
 abbrev pub IsNewInOrder : {F A : Type 0} → ℕ → OrderedInFlight F A → Type 0
@@ -70,6 +75,14 @@ abbrev pub FlightLeavesTask : {F A : Type 0}
     → Queued F → Poll (Option A) → Queued F → Context → Context → Type 0
 FlightLeavesTask old answer new cx left = PollsQueuedTask answer new cx left
 
+-- an output of one more comes behind all that comes
+abbrev pub ComesLast : {A : Type 0} → (A → Type 0) → Runs A → Runs A
+ComesLast gives runs = Chains runs (Leads gives Ends)
+
+-- a push that is refused changes nothing, and as many are held as can be
+abbrev pub RefusesFull : {F A : Type 0} → OrderedInFlight F A → OrderedInFlight F A → Type 0
+RefusesFull old new = OrderedIsFull old × (new ≡ old)
+
 module _ {F A : Type 0} (future : FutureOf F A) where
   -- each future in progress may be polled
   abbrev pub CanPollOrdered : OrderedInFlight F A → Type 0
@@ -80,17 +93,47 @@ module _ {F A : Type 0} (future : FutureOf F A) where
   abbrev pub ComesInTurn : OrderedInFlight F A → Runs A
   ComesInTurn = ComesInOrder (NumberGives future)
 
-  -- One push, from old to new.
-  pub record PushesBack (old : OrderedInFlight F A) (pushed : F) (new : OrderedInFlight F A)
+  -- One push, from old to new: `adds` says at which end the entry of the future stands, and
+  -- `with_one` what may come where an output of one future more does.
+  pub record PushesInTurn
+      (adds : OrderedInFlight F A → F → OrderedInFlight F A → Type 0)
+      (with_one : (A → Type 0) → Runs A → Runs A)
+      (old : OrderedInFlight F A)
+      (pushed : F)
+      (new : OrderedInFlight F A)
       : Type 0 where
-    -- the future went in, and its entry behind all others
-    pub added : AddsBack (PushesNumber future) old pushed new
+    -- the future went in, and its entry at this end
+    pub added : adds old pushed new
     pub one_more : ordered_count new ≡ ordered_count old + 1
-    -- behind what might come before, an output of the future may come
-    pub behind : Within (Chains (ComesInTurn old) (Leads (future.gives pushed) Ends))
-        (ComesInTurn new)
+    -- an output of the future may come there, and else what might come before
+    pub comes : Within (with_one (future.gives pushed) (ComesInTurn old)) (ComesInTurn new)
     -- it can hold as many as before
     pub same_room : ordered_room new ≡ ordered_room old
+    -- the queue may be polled
+    pub again : CanPollOrdered new
+
+  -- the future went in behind all others: its output comes last
+  abbrev pub PushesBack : OrderedInFlight F A → F → OrderedInFlight F A → Type 0
+  PushesBack = PushesInTurn (AddsBack (PushesNumber future)) ComesLast
+
+  -- the future went in before all others: its output comes first
+  abbrev pub PushesFront : OrderedInFlight F A → F → OrderedInFlight F A → Type 0
+  PushesFront = PushesInTurn (AddsFront (PushesNumber future)) Leads
+
+  -- A push that hands the future back where there is no room: `pushes` says what it is to go in.
+  pub record PushesIfRoom
+      (pushes : OrderedInFlight F A → F → OrderedInFlight F A → Type 0)
+      (old : OrderedInFlight F A)
+      (pushed : F)
+      (result : Result (Unit {0}) F)
+      (new : OrderedInFlight F A)
+      : Type 0 where
+    -- the future went in
+    pub went_in : OnOk result (pushes old pushed new)
+    -- or it comes back, and nothing has changed
+    pub back : IfErr result (λ back. (back ≡ pushed) × (new ≡ old))
+    -- it comes back exactly where as many are held as can be
+    pub full : IsErr result ↔ OrderedIsFull old
     -- the queue may be polled
     pub again : CanPollOrdered new
 
@@ -108,3 +151,18 @@ module _ {F A : Type 0} (future : FutureOf F A) where
   abbrev pub AnswersInTurn : OrderedInFlight F A → Poll (Option A) → OrderedInFlight F A
       → Context → Context → Type 0
   AnswersInTurn = StreamAnswers (stream_of CanPollOrdered OrderedWaitsAt ComesInTurn)
+
+  -- Polls until the output of the front came, or the end: the queue was new by then.
+  pub record CameInTurn (old : OrderedInFlight F A) (came : Option A) (new : OrderedInFlight F A)
+      : Type 0 where
+    -- it is one that might come first
+    pub gave : ComesInTurn old [] came
+    -- what may come after it might have come behind it
+    pub rest : IfSome came (λ x. After (ComesInTurn old) x (ComesInTurn new))
+    -- the end comes exactly where nothing is held, and changes nothing
+    pub empty : IfNone came ((ordered_count old ≡ 0) × (new ≡ old))
+    pub fewer : OnSome came (ordered_count new + 1 ≡ ordered_count old)
+    -- it can hold as many as before
+    pub same_room : ordered_room new ≡ ordered_room old
+    -- the queue may be polled
+    pub again : CanPollOrdered new

@@ -5,9 +5,11 @@ ghost use Rattle.std.specs.Prelude.{◌≡◌, ◌+◌, ◌↔◌, ◌⊎◌, If
 ghost use Rattle.futures.specs.Poll.{IfReady, OnPending};
 ghost use Rattle.futures.specs.Task.{Covers, Keeps};
 ghost use Rattle.futures.specs.Queued.{AllPollable, AnyGives, GivesNoMore};
+ghost use Rattle.futures_buffered_core.specs.Drawn.{IsFiniteSource};
 ghost use Rattle.futures_buffered_core.specs.Made.{MakesSlots};
 ghost use Rattle.futures_buffered_core.specs.SlotMap.{held_count, slot_count, value_in, no_slots, with_slot_freed};
-ghost use Rattle.futures_buffered_in_flight.specs.InFlight.{CanPollAll, Cancels, EndsOneAtMost, GivesWithKey, HasNoRoom, IsNewInFlight, PollsInFlight, PushesOne, WaitsAt, run_count, runs_in};
+ghost use Rattle.futures_buffered_unordered.specs.Extended.{EachDrawn, Extends};
+ghost use Rattle.futures_buffered_in_flight.specs.InFlight.{CanPollAll, Cancels, EndsOneAtMost, GivesWithKey, HasNoRoom, IsNewInFlight, PollsInFlight, Pushes, PushesOne, Refuses, WaitsAt, run_count, runs_in};
 
 use crate::run::{Key, Run, Stop};
 use futures::future::{AbortHandle, Abortable, pending};
@@ -282,6 +284,24 @@ impl<F: Future<Output: Drop>> InFlight<F> {
         let key = self.put(future, 0, Some(stop))?;
         self.keep_handle(key.slot, handle);
         Ok(key)
+    }
+
+    /// Pushes each item, in order, as `try_push` does. The first that is refused comes back; those before it stay, and the iterator is asked for no further one.
+    pub fn extend<I: IntoIterator<Item = F>>(&mut self, iter: I) -> Result<(), F>
+        requires finite { IsFiniteSource I.IntoIterator I.IntoIter.Iterator iter }
+        requires held { CanPollAll F.Future self.old }
+        requires each { EachDrawn I.IntoIterator I.IntoIter.Iterator iter F.can_poll }
+        ensures extends { Extends I.IntoIterator I.IntoIter.Iterator iter
+            (Pushes F.Future) (Refuses F.Future) self.old result self.new }
+        ensures capacity { slot_count self.new.slots ≡ slot_count self.old.slots }
+        ensures again { CanPollAll F.Future self.new }
+    {
+        for future in iter {
+            if let Err(back) = self.try_push(future) {
+                return Err(back);
+            }
+        }
+        Ok(())
     }
 
     // One poll of the kit's set.

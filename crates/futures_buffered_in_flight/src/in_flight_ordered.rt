@@ -1,7 +1,9 @@
 //! Futures of the kit in flight, in a queue whose outputs come in the order of the pushes.
-ghost use Rattle.std.specs.Prelude.{◌≡◌, ◌<◌, ◌≤◌, IfOk};
+ghost use Rattle.std.specs.Prelude.{◌≡◌, ◌↔◌, ◌<◌, ◌≤◌, IfOk, IsTrue};
+ghost use Rattle.futures_buffered_core.specs.Drawn.{IsFiniteSource};
 ghost use Rattle.futures_buffered_core.specs.Made.{MakesSlots};
-ghost use Rattle.futures_buffered_in_flight.specs.InFlightOrdered.{AnswersInTurn, CanPollOrdered, GivesInTurn, IsNewInOrder, LeavesInOrder, LeavesInTurn, PushesBack, ordered_count, ordered_room};
+ghost use Rattle.futures_buffered_unordered.specs.Extended.{EachDrawn, Extends};
+ghost use Rattle.futures_buffered_in_flight.specs.InFlightOrdered.{AnswersInTurn, CanPollOrdered, GivesInTurn, IsNewInOrder, LeavesInOrder, LeavesInTurn, OrderedIsFull, PushesBack, PushesFront, PushesIfRoom, RefusesFull, ordered_count, ordered_room};
 
 use crate::in_flight_queue::InFlightQueue;
 use futures::Future;
@@ -89,7 +91,7 @@ impl<F: Future<Output: Drop>> PollNumberedSet<PollFuture> for InFlightQueue<F> {
 
 /// Futures in flight, as many as there is room for, one at least, whose outputs come in the order of the pushes.
 ///
-/// An output that comes before its turn is kept, and counts as held until it is yielded. A push takes each future where there is room, as that of `InFlightQueue` does. A contract sees the futures in flight, each with a number, and the entries from the front to the back, where one in progress has the number of its future.
+/// Pushes add at both ends. An output that comes before its turn is kept, and counts as held until it is yielded. A push takes each future where there is room, as that of `InFlightQueue` does: memory is no reason to refuse it. A contract sees the futures in flight, each with a number, and the entries from the front to the back, where one in progress has the number of its future.
 #[derive(Drop)]
 pub struct InFlightOrdered<F: Drop, A: Drop> {
     queue: OrderedEntries<InFlightQueue<F>, A>,
@@ -114,11 +116,25 @@ impl<F: Drop, A: Drop> InFlightOrdered<F, A> {
         self.queue.len()
     }
 
+    /// Whether nothing is held. Takes the same time at any number.
+    pub fn is_empty(&self) -> bool
+        ensures { IsTrue result ↔ (ordered_count self.now ≡ 0) }
+    {
+        self.queue.is_empty()
+    }
+
     /// How many can be held, which never changes. Takes the same time at any number.
     pub fn capacity(&self) -> usize
         ensures { result ≡ ordered_room self.now }
     {
-        self.queue.set().capacity()
+        self.queue.set.capacity()
+    }
+
+    /// Whether each push is refused: as many are held as can be, where outputs that wait for their turn count. Takes the same time at any number.
+    pub fn is_full(&self) -> bool
+        ensures { IsTrue result ↔ OrderedIsFull self.now }
+    {
+        self.len() >= self.capacity()
     }
 }
 
@@ -136,9 +152,37 @@ impl<F: Future<Output = A>, A: Drop> InFlightOrdered<F, A> {
         Ok(InFlightOrdered { queue })
     }
 
-    /// Adds the future behind all others, so that a later poll polls it. Takes the memory that the kit's set takes for a future, and does without where that is refused.
+    /// Adds the future behind all others, so that a later poll polls it. It comes back, and nothing has changed, exactly where as many are held as can be (`is_full`).
+    ///
+    /// Takes the memory that the kit's set takes for a future, and does without where that is refused. Takes the same time at any number.
+    pub fn try_push_back(&mut self, future: F) -> Result<(), F>
+        requires held { CanPollOrdered F.Future self.old }
+        requires fit { F.can_poll future }
+        ensures { PushesIfRoom F.Future (PushesBack F.Future) self.old future result self.new }
+    {
+        if self.is_full() {
+            return Err(future);
+        }
+        self.push_back(future);
+        Ok(())
+    }
+
+    /// As `try_push_back`, before all others: its output is the next to be yielded.
+    pub fn try_push_front(&mut self, future: F) -> Result<(), F>
+        requires held { CanPollOrdered F.Future self.old }
+        requires fit { F.can_poll future }
+        ensures { PushesIfRoom F.Future (PushesFront F.Future) self.old future result self.new }
+    {
+        if self.is_full() {
+            return Err(future);
+        }
+        self.push_front(future);
+        Ok(())
+    }
+
+    /// As `try_push_back`, for a queue that is not full.
     #[tactic(auto, using(crate::proofs::InFlightOrderedLemmas::pushes_back, crate::proofs::InFlightOrderedLemmas::has_room))]
-    pub fn push(&mut self, future: F)
+    pub fn push_back(&mut self, future: F)
         requires room { ordered_count self.old < ordered_room self.old }
         requires held { CanPollOrdered F.Future self.old }
         requires fit { F.can_poll future }
@@ -150,7 +194,49 @@ impl<F: Future<Output = A>, A: Drop> InFlightOrdered<F, A> {
         }
     }
 
-    /// One poll: the output of the future that was pushed first of those held, or the end, exactly where nothing is held.
+    /// As `try_push_front`, for a queue that is not full.
+    #[tactic(auto, using(crate::proofs::InFlightOrderedLemmas::pushes_front, crate::proofs::InFlightOrderedLemmas::has_room))]
+    pub fn push_front(&mut self, future: F)
+        requires room { ordered_count self.old < ordered_room self.old }
+        requires held { CanPollOrdered F.Future self.old }
+        requires fit { F.can_poll future }
+        ensures { PushesFront F.Future self.old future self.new }
+    {
+        match self.queue.add_front(future) {
+            Ok(()) => {}
+            Err(_) => unreachable!(),
+        }
+    }
+
+    /// Adds each item at the back, in order, as `try_push_back` does. The first that is refused comes back; those before it stay, and the iterator is asked for no further one.
+    pub fn extend<I: IntoIterator<Item = F>>(&mut self, iter: I) -> Result<(), F>
+        requires finite { IsFiniteSource I.IntoIterator I.IntoIter.Iterator iter }
+        requires held { CanPollOrdered F.Future self.old }
+        requires each { EachDrawn I.IntoIterator I.IntoIter.Iterator iter F.can_poll }
+        ensures extends { Extends I.IntoIterator I.IntoIter.Iterator iter
+            (PushesBack F.Future) RefusesFull self.old result self.new }
+        ensures same_room { ordered_room self.new ≡ ordered_room self.old }
+        ensures again { CanPollOrdered F.Future self.new }
+    {
+        for future in iter {
+            if let Err(back) = self.try_push_back(future) {
+                return Err(back);
+            }
+        }
+        Ok(())
+    }
+
+    /// Drops each future that is in progress, and each output that waits for its turn, in this call. Takes no memory, and time in proportion to the capacity, besides the drops.
+    pub fn clear(&mut self)
+        ensures none { IsNewInOrder (ordered_room self.old) self.new }
+        ensures same_room { ordered_room self.new ≡ ordered_room self.old }
+        ensures can_poll { CanPollOrdered F.Future self.new }
+    {
+        self.queue.set.clear();
+        self.queue.drop_entries();
+    }
+
+    /// One poll: the output of the front, or the end, exactly where nothing is held.
     ///
     /// A front whose output is kept leaves with it, and no future is polled. Else the futures are polled, and each output that comes is kept, until the front's has come. Futures that wait for memory go into flight first, and where memory is still refused the task is woken at once.
     pub fn poll_output(&mut self, cx: &mut Context<'_>) -> Poll<Option<A>>

@@ -4,13 +4,14 @@
 //!
 //! - `run`: `Key`, which names one push, and `Run`, a future whose output comes with its key.
 //! - `in_flight`: `InFlight`, at most n futures, told apart by their keys, each of which can be cancelled; `in_flight_stream` is the same set as a stream.
-//! - `waiting`: `Waiting`, which holds a set while a task waits for its next output, and gives it back.
 //! - `in_flight_queue`: `InFlightQueue`, the set as what an adaptor holds: a push never hands a future back.
-//! - `in_flight_ordered`: `InFlightOrdered`, the same with the outputs in the order of the pushes.
+//! - `in_flight_ordered`: `InFlightOrdered`, a queue with pushes at both ends, whose outputs come from the front; `in_flight_ordered_stream` is the same queue as a stream.
+//! - `waiting`: `Waiting`, which holds a set or an ordered queue while a task waits for its next output, and gives it back.
 #![tactic(auto)]
 
 pub mod in_flight;
 pub mod in_flight_ordered;
+mod in_flight_ordered_stream;
 pub mod in_flight_queue;
 mod in_flight_stream;
 pub mod run;

@@ -1,8 +1,10 @@
-//! A set of futures in flight while a task waits for its next output.
+//! Futures in flight while a task waits for their next output.
 ghost use Rattle.std.specs.Prelude.{◌≡◌, Some, IfOk, IsSomeAnd};
 ghost use Rattle.futures_buffered_in_flight.specs.InFlight.{CameOf, CanPollAll, WaitsAt};
+ghost use Rattle.futures_buffered_in_flight.specs.InFlightOrdered.{CameInTurn, CanPollOrdered, OrderedWaitsAt};
 
 use crate::in_flight::{Came, InFlight};
+use crate::in_flight_ordered::InFlightOrdered;
 use futures::Future;
 use futures::executor::block_on;
 use futures::task::{Context, Poll};
@@ -11,41 +13,42 @@ use std::io;
 use std::random::RandomSource;
 use std::sync::Wait;
 
-/// Waits for the next output of a set, or its end, and gives the set back with it, so that all that is known of the set is known still.
+/// Waits for the next output of a set or a queue, or its end, and gives that back with it, so that all that is known of it is known still.
 #[derive(Drop)]
-pub struct Waiting<F> {
-    set: Option<InFlight<F>>,
+pub struct Waiting<S> {
+    // None once it was given back.
+    held: Option<S>,
 }
 
-impl<F: Future<Output: Drop>> Future for Waiting<F> {
+impl<F: Future<Output: Drop>> Future for Waiting<InFlight<F>> {
     type Output = (Option<Came<F::Output>>, InFlight<F>);
 
     // A set that was given back is not there to be polled.
-    ghost can_poll = { λ waiting. IsSomeAnd waiting.set (CanPollAll F.Future) };
+    ghost can_poll = { λ waiting. IsSomeAnd waiting.held (CanPollAll F.Future) };
 
-    ghost needs = { λ waiting place. IsSomeAnd waiting.set (λ set. WaitsAt set place) };
+    ghost needs = { λ waiting place. IsSomeAnd waiting.held (λ set. WaitsAt set place) };
 
-    ghost gives = { λ waiting given. IsSomeAnd waiting.set
+    ghost gives = { λ waiting given. IsSomeAnd waiting.held
         (λ set. CameOf F.Future set given.0 given.1) };
 
     #[tactic(auto, using(crate::proofs::WaitingLemmas::came_at_once, crate::proofs::WaitingLemmas::came_later))]
     fn poll(&mut self, cx: &mut Context<'_>) -> Poll<Self::Output> {
-        let Some(set) = &mut self.set else {
+        let Some(set) = &mut self.held else {
             unreachable!()
         };
         let Poll::Ready(came) = set.poll_next_keyed(cx) else {
             return Poll::Pending;
         };
-        Poll::Ready((came, self.set.take().unwrap()))
+        Poll::Ready((came, self.held.take().unwrap()))
     }
 }
 
 impl<F: Future<Output: Drop>> InFlight<F> {
     /// The set, as a future that is ready with its next output, or with `None` where nothing is held, and with the set.
-    pub fn into_next(self) -> Waiting<F>
-        ensures { result.set ≡ Some self }
+    pub fn into_next(self) -> Waiting<Self>
+        ensures { result.held ≡ Some self }
     {
-        Waiting { set: Some(self) }
+        Waiting { held: Some(self) }
     }
 
     /// Blocks the thread until the next output comes, or the end, and gives the set back. The set is dropped where the thread cannot wait.
@@ -54,6 +57,48 @@ impl<F: Future<Output: Drop>> InFlight<F> {
         R: Wait + RandomSource + AllocGlobal,
         requires { CanPollAll F.Future self }
         ensures { IfOk result (λ given. CameOf F.Future self given.0 given.1) }
+    {
+        block_on(rt, self.into_next())
+    }
+}
+
+impl<F: Future<Output = A>, A: Drop> Future for Waiting<InFlightOrdered<F, A>> {
+    type Output = (Option<A>, InFlightOrdered<F, A>);
+
+    // A queue that was given back is not there to be polled.
+    ghost can_poll = { λ waiting. IsSomeAnd waiting.held (CanPollOrdered F.Future) };
+
+    ghost needs = { λ waiting place. IsSomeAnd waiting.held (λ queue. OrderedWaitsAt queue place) };
+
+    ghost gives = { λ waiting given. IsSomeAnd waiting.held
+        (λ queue. CameInTurn F.Future queue given.0 given.1) };
+
+    #[tactic(auto, using(crate::proofs::WaitingLemmas::came_in_turn_at_once, crate::proofs::WaitingLemmas::came_in_turn_later))]
+    fn poll(&mut self, cx: &mut Context<'_>) -> Poll<Self::Output> {
+        let Some(queue) = &mut self.held else {
+            unreachable!()
+        };
+        let Poll::Ready(came) = queue.poll_output(cx) else {
+            return Poll::Pending;
+        };
+        Poll::Ready((came, self.held.take().unwrap()))
+    }
+}
+
+impl<F: Future<Output = A>, A: Drop> InFlightOrdered<F, A> {
+    /// The queue, as a future that is ready with the output of the front, or with `None` where nothing is held, and with the queue.
+    pub fn into_next(self) -> Waiting<Self>
+        ensures { result.held ≡ Some self }
+    {
+        Waiting { held: Some(self) }
+    }
+
+    /// Blocks the thread until the output of the front comes, or the end, and gives the queue back. The queue is dropped where the thread cannot wait.
+    pub fn wait<R>(self, rt: &R) -> io::Result<(Option<A>, InFlightOrdered<F, A>)>
+    where
+        R: Wait + RandomSource + AllocGlobal,
+        requires { CanPollOrdered F.Future self }
+        ensures { IfOk result (λ given. CameInTurn F.Future self given.0 given.1) }
     {
         block_on(rt, self.into_next())
     }

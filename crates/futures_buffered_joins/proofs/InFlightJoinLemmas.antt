@@ -9,6 +9,7 @@ use Rattle.std.proofs.lemmas.Option.{slice_get_within}
 use Rattle.std.proofs.lemmas.Bool.{cases_eq}
 use Rattle.futures_buffered_core.specs.Drawn.{SourceOf, IteratorOf, Draws}
 use Rattle.futures_buffered_core.specs.SlotMap.{Slots, value_in, held_count, slot_count, with_slot_freed}
+use Rattle.futures_buffered_unordered.specs.Extended.{EachDrawn}
 use Rattle.futures_buffered_unordered.proofs.HeldGivesLemmas.{value_in-with_slot_freed, value_in-with_slot_freed_other, None-Some}
 use Rattle.futures_buffered_in_flight.specs.InFlight.{FutureOf, Flights, CanPollAll, IsNewInFlight, KeyGives, SlotGives, PushesAt, Yields, RunsGiveNoMore}
 use Rattle.futures_buffered_in_flight.specs.declared.in_flight.Came.{Came}
@@ -18,7 +19,7 @@ use Rattle.futures_buffered_in_flight.proofs.InFlightLemmas.{slots_within, slots
 use Rattle.futures_buffered_joins.specs.JoinRule.{Outcome}
 use Rattle.futures_buffered_joins.specs.JoinTask.{JoinRuleOf}
 use Rattle.futures_buffered_joins.specs.Outputs.{WaitsOrCame, MayComeAt, output_in}
-use Rattle.futures_buffered_joins.specs.InFlightJoin.{Flying, EachDrawn, FliesByPlace, HoldsInOrder, FliesOn, FlyingMayGive}
+use Rattle.futures_buffered_joins.specs.InFlightJoin.{Flying, FliesByPlace, HoldsInOrder, FliesOn, FlyingMayGive}
 use Rattle.futures_buffered_joins.proofs.OutputsLemmas.{below_from_some, none_from, all_now}
 
 Some-same : {F : Type 0} {f g : F} → Some f ≡ Some g → f ≡ g
@@ -46,7 +47,7 @@ all_drawn steps P it (x ∷ items) drains each (suc k) d below =
 
 -- so each of them is as each item is that may come
 pub fit_drawn : {U F I : Type 0} (by : SourceOf U F I) (gives : IteratorOf I F) (source : U) (P : F → Type 0) (items : List F) → EachDrawn by gives source P → Draws by gives source items → All P items
-fit_drawn by gives source P items each draws = all_drawn gives.next_gives P draws.0 items draws.2 (λ xs x rest more. each draws.0 rest xs x draws.1 more)
+fit_drawn by gives source P items each draws = all_drawn gives.next_gives P draws.0 items draws.2 (λ xs x rest more. each draws.0 draws.1 xs x rest more)
 
 get_push_last : {F : Type 0} (xs : List F) (f : F) → slice_get (xs ++ f ∷ []) (length xs) ≡ Some f
 get_push_last [] f = refl

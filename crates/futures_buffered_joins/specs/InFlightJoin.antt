@@ -2,7 +2,6 @@
 -- the ghost members of their types: `F.Future R.JoinRule`.
 use Rattle.std.specs.Prelude.{◌≡◌, ℕ, ◌+◌, ◌<◌, List, length, replicate, slice_get}
 use Rattle.std.specs.Prelude.{Option, Some, None, IfSome, IsSomeAnd, Result, Ok, Err}
-use Rattle.std.specs.Iterator.{YieldsThen}
 use Rattle.futures.specs.Poll.{IfReady, OnPending}
 use Rattle.futures.specs.Task.{Covers, Keeps}
 use Rattle.futures.specs.declared.task.Poll.{Poll}
@@ -35,13 +34,6 @@ flying_places (Some places) = flying_size places
 -- the place at which a pending join waits: that of its futures
 abbrev pub FlyingWaitsAt : {F A : Type 0} → Option (Flying F A) → ℕ → Type 0
 FlyingWaitsAt join source = IsSomeAnd join (λ places. WaitsAt places.set source)
-
--- P holds of each item that may come from a source
-abbrev pub EachDrawn : {U F I : Type 0} → SourceOf U F I → IteratorOf I F → U
-    → (F → Type 0) → Type 0
-EachDrawn {F = F} {I = I} by gives source P = (it rest : I) (items : List F) (item : F)
-    → by.into_iter_gives source it
-    → YieldsThen gives.next_gives it items (Some item) rest → P item
 
 module _ {F O : Type 0} (future : FutureOf F O) where
   -- each future of the join may be polled; one that has ended may be polled too

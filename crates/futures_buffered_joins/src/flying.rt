@@ -5,10 +5,10 @@ ghost use Rattle.futures.specs.Task.{Covers, Keeps};
 ghost use Rattle.futures_buffered_core.specs.Drawn.{Draws, IsFiniteSource, RefusesTooMany};
 ghost use Rattle.futures_buffered_core.specs.SlotMap.{held_count};
 ghost use Rattle.futures_buffered_table.specs.declared.answer.TheConstants.{MAX_CAPACITY};
-ghost use Rattle.futures_buffered_unordered.specs.Extended.{MakesFull};
+ghost use Rattle.futures_buffered_unordered.specs.Extended.{EachDrawn, MakesFull};
 ghost use Rattle.futures_buffered_in_flight.specs.InFlight.{CanPollAll, IsNewInFlight, WaitsAt};
 ghost use Rattle.futures_buffered_joins.specs.JoiningFills.{FillsOrFails};
-ghost use Rattle.futures_buffered_joins.specs.InFlightJoin.{EachDrawn, FillsPlace, FillsRest, HoldsInOrder, IsNewFlying, SomeMayFail, WaitsOn, flying_size};
+ghost use Rattle.futures_buffered_joins.specs.InFlightJoin.{FillsPlace, FillsRest, HoldsInOrder, IsNewFlying, SomeMayFail, WaitsOn, flying_size};
 ghost use Rattle.futures_buffered_joins.specs.Outputs.{WaitsOrCame};
 
 use crate::join_rule::JoinRule;

@@ -1,7 +1,8 @@
 //! Joins of the kit's futures, which a join holds as they are, in plain sight.
 ghost use Rattle.std.specs.Prelude.{◌≡◌, None, IfOk};
 ghost use Rattle.futures_buffered_core.specs.Drawn.{IsFiniteSource};
-ghost use Rattle.futures_buffered_joins.specs.InFlightJoin.{CanPollFlying, EachDrawn, FliesByPlace, FlyingMayGive, FlyingWaitsAt, MakesFlying, PollsFlying};
+ghost use Rattle.futures_buffered_unordered.specs.Extended.{EachDrawn};
+ghost use Rattle.futures_buffered_joins.specs.InFlightJoin.{CanPollFlying, FliesByPlace, FlyingMayGive, FlyingWaitsAt, MakesFlying, PollsFlying};
 
 use crate::flying::Flying;
 use crate::join::AllOutputs;

@@ -4,7 +4,6 @@ use Rattle.std.specs.Prelude.{◌≡◌, ◌+◌, ◌<◌, ◌≤◌, ◌⊎◌,
 use Rattle.std.specs.Prelude.{IsSomeAnd, MatchOption, Result, IfErr, OnOk, OnErr}
 use Rattle.std.specs.Prelude.{IsErr, Ok, Err, length}
 use Rattle.std.specs.Option.{option_len}
-use Rattle.std.specs.Iterator.{YieldsThen}
 use Rattle.futures.specs.declared.task.Poll.{Poll}
 use Rattle.futures.specs.declared.task.context.Context.{Context}
 use Rattle.futures.specs.declared.stream.ext.into_future.StreamFuture.{StreamFuture}
@@ -14,7 +13,6 @@ use Rattle.futures.specs.Merged.{AnyYields, CanPollNext}
 use Rattle.futures.specs.Queued.{AllPollable, set_len, set_places}
 use Rattle.futures.specs.Runs.{Runs}
 use Rattle.futures.specs.Task.{Covers, Keeps}
-use Rattle.futures_buffered_core.specs.Drawn.{SourceOf, IteratorOf}
 use Rattle.futures_buffered_merges.specs.WithEnd.{StreamOf, MayAnswer, with_end}
 use Rattle.futures_buffered_merges.specs.declared.with_end.WithEnd.{WithEnd}
 
@@ -44,13 +42,6 @@ IsNewMerge n m = (m.held ≡ 0) × (m.limit ≡ n) × (m.running ≡ None)
 abbrev pub WaitsAt : {St : Type 0} → Merged St → ℕ → Type 0
 WaitsAt m source = IsSomeAnd m.running
     (λ all. (all.held ≡ None) × (source ≡ all.inner.tasks.source.id))
-
--- P holds of each item that comes from a source
-abbrev pub EachDrawn : {U F I : Type 0} → SourceOf U F I → IteratorOf I F → U → (F → Type 0)
-    → Type 0
-EachDrawn {F = F} {I = I} by gives source P = (it : I) → by.into_iter_gives source it
-    → (items : List F) (more : F) (rest : I)
-    → YieldsThen gives.next_gives it items (Some more) rest → P more
 
 module _ {St A : Type 0} (stream : StreamOf St A) where
   -- one of the streams may give this answer, an item or its end, now or later

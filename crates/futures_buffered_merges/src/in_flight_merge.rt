@@ -5,10 +5,10 @@ ghost use Rattle.std.specs.Prelude.{◌≡◌, ◌+◌, ◌^◌, ◌-◌, ◌≤
 ghost use Rattle.futures.specs.Poll.{IfReady, OnPending};
 ghost use Rattle.futures.specs.Task.{Covers, Keeps};
 ghost use Rattle.futures_buffered_core.specs.Drawn.{IsFiniteSource};
-ghost use Rattle.futures_buffered_unordered.specs.Extended.{Extends, HoldsAllOf};
+ghost use Rattle.futures_buffered_unordered.specs.Extended.{EachDrawn, Extends, HoldsAllOf};
 ghost use Rattle.futures_buffered_unordered.specs.StreamAnswers.{StreamAnswers};
 ghost use Rattle.futures_buffered_merges.specs.WithEnd.{MayAnswer};
-ghost use Rattle.futures_buffered_merges.specs.InFlightMerge.{AnswersNoMore, AnyAnswers, CanPollAll, ComesFromStreams, EachDrawn, HoldsStreams, IsNewMerge, PollsMerge, Pushes, PushesStream, Refuses, WaitsAt, stream_count};
+ghost use Rattle.futures_buffered_merges.specs.InFlightMerge.{AnswersNoMore, AnyAnswers, CanPollAll, ComesFromStreams, HoldsStreams, IsNewMerge, PollsMerge, Pushes, PushesStream, Refuses, WaitsAt, stream_count};
 
 use crate::with_end::WithEnd;
 use futures::Stream;

@@ -8,7 +8,7 @@ use Rattle.futures.specs.declared.task.Poll.{Poll}
 use Rattle.futures.specs.declared.task.Poll.TheVariants.{Ready, Pending}
 use Rattle.futures.specs.Poll.{IfReady, OnPending}
 use Rattle.futures.specs.Runs.{Runs, After, Within, Chains, Leads, Ends}
-use Rattle.futures_buffered_ordered.specs.OrderedEntries.{Ordered, AddsBack, AddsEachBack, SetYields, LastStep, OrderedGives, GivesWithTask, with_task, InTurn, EntryGives, ComesInOrder, IsUnused, runs_with, starts_running}
+use Rattle.futures_buffered_ordered.specs.OrderedEntries.{Ordered, AddsBack, AddsEachBack, AddsFront, SetYields, LastStep, OrderedGives, GivesWithTask, with_task, InTurn, EntryGives, ComesInOrder, IsUnused, runs_with, starts_running}
 use Rattle.futures_buffered_ordered.specs.declared.ordered_entries.Entry.{Entry}
 use Rattle.futures_buffered_ordered.specs.declared.ordered_entries.Entry.TheVariants.{Running, Kept}
 use Rattle.futures_buffered_ordered.proofs.OrderedEntriesInvariantLemmas.{entry_with}
@@ -19,6 +19,9 @@ adds_one_more pushes old mid new items item before added = FoldsTo-push (AddsBac
 
 pub one_entry_more : {F Q A : Type 0} (pushes : Q → F → ℕ → Q → Type 0) (old new : Ordered Q A) (item : F) → AddsBack pushes old item new → length new.entries ≡ length old.entries + 1
 one_entry_more {A = A} pushes old new item added = ap (λ (l : List (Entry A)). length l) added.2 ∙ length_push old.entries (Running added.0)
+
+pub one_entry_more_before : {F Q A : Type 0} (pushes : Q → F → ℕ → Q → Type 0) (old new : Ordered Q A) (item : F) → AddsFront pushes old item new → length new.entries ≡ length old.entries + 1
+one_entry_more_before {A = A} pushes old new item added = let e = ap (λ (l : List (Entry A)). length l) added.2 in omega (arith, e)
 
 -- how a poll ends, by what was popped
 pub last_from : {Q A : Type 0} (gives : Q → Poll (Option (ℕ × A)) → Q → Type 0) (old new : Ordered Q A) (o : Option A) → MatchOption o ((old.entries ≡ []) × (new ≡ old)) (λ x. (old.entries ≡ Kept x ∷ new.entries) × (new.room ≡ old.room)) → new.set ≡ old.set
@@ -68,6 +71,10 @@ module _ {E A : Type 0} (may may' : E → A → Type 0) where
   pub Narrows-all : (es : List E) → ((e : E) (y : A) → may' e y → may e y) → Narrows es es
   Narrows-all [] less = tt
   Narrows-all (e ∷ es) less = (less e, Narrows-all es less)
+
+  pub Narrows-each : (es : List E) → ((k : ℕ) (d : E) → slice_get es k ≡ Some d → (y : A) → may' d y → may d y) → Narrows es es
+  Narrows-each [] less = tt
+  Narrows-each (e ∷ es) less = (less 0 e refl, Narrows-each es (λ k d at. less (suc k) d at))
 
   pub Narrows-set : (es : List E) (k : ℕ) (d v : E) → slice_get es k ≡ Some d → ((y : A) → may' v y → may d y) → ((e : E) (y : A) → may' e y → may e y) → Narrows es (set es k v)
   Narrows-set [] k d v at here less = tt
@@ -187,6 +194,13 @@ module _ {E A : Type 0} (may : E → A → Type 0) where
   last_apart after (d ∷ ds) e P less this (x ∷ xs) last h =
       lead d ds (Leads P Ends) x xs last (less 0 d refl x h.0) (last_apart after ds e P (λ k c at. less (suc k) c at) this xs last h.1)
 
+  -- what comes from the first entry, and what comes from those behind it
+  pub first_apart : (after : E → A → Type 0) (es : List E) (e : E) (P : A → Type 0) → ((k : ℕ) (d : E) → slice_get es k ≡ Some d → (y : A) → after d y → may d y) → ((y : A) → after e y → P y)
+      → (xs : List A) (last : Option A) → InTurn after (e ∷ es) xs last → Leads P (InTurn may es) xs last
+  first_apart after es e P less this [] None h = h
+  first_apart after es e P less this [] (Some y) h = this y h
+  first_apart after es e P less this (x ∷ xs) last h = (this x h.0, InTurn-Within may after es es (Narrows-each may after es less) xs last h.1)
+
 -- where no entry has a number, none counts
 pub unused_none : {A : Type 0} (i : ℕ) (es : List (Entry A)) → IsUnused i es → count_by (runs_with i) es ≡ 0
 unused_none i es unused = by_count (count_by (runs_with i) es) refl
@@ -195,20 +209,33 @@ unused_none i es unused = by_count (count_by (runs_with i) es) refl
     by_count zero e = e
     by_count (suc n) e = let there = entry_with i es (omega (arith, e)) in absurd (unused there.0 there.1)
 
--- an output more comes, behind all others, where the set may give no more than before but with the number of the new entry
-module _ {Q F A : Type 0} (may_give : Q → ℕ × A → Type 0) (gives : F → A → Type 0) (pushes : Q → F → ℕ → Q → Type 0) (old new : Ordered Q A) (item : F) (added : AddsBack pushes old item new)
-    (more : (out : ℕ × A) → may_give new.set out → may_give old.set out ⊎ ((out.0 ≡ added.0) × gives item out.1)) (none : (y : A) → may_give old.set (added.0, y) → ⊥) where
+-- an output more comes, of an entry at either end, where the set may give no more than before but with the number of the new entry
+module _ {Q F A : Type 0} (may_give : Q → ℕ × A → Type 0) (gives : F → A → Type 0) (old new : Ordered Q A) (item : F) (i : ℕ) (unused : IsUnused i old.entries)
+    (more : (out : ℕ × A) → may_give new.set out → may_give old.set out ⊎ ((out.0 ≡ i) × gives item out.1)) (none : (y : A) → may_give old.set (i, y) → ⊥) where
   no_more : (k : ℕ) (d : Entry A) → slice_get old.entries k ≡ Some d → (y : A) → EntryGives may_give new.set d y → EntryGives may_give old.set d y
   no_more k (Kept x) at y h = h
   no_more k (Running j) at y h = elim (more (j, y) h) [
     | inl was ↦ was
-    | inr own ↦ absurd (added.1.unused k (at ∙ ap (λ (n : ℕ). Some (Running n)) own.0))
+    | inr own ↦ absurd (unused k (at ∙ ap (λ (n : ℕ). Some (Running n)) own.0))
   ]
 
-  of_item : (y : A) → may_give new.set (added.0, y) → gives item y
-  of_item y h = elim (more (added.0, y) h) [ inl was ↦ absurd (none y was) | inr own ↦ own.1 ]
+  of_item : (y : A) → may_give new.set (i, y) → gives item y
+  of_item y h = elim (more (i, y) h) [ inl was ↦ absurd (none y was) | inr own ↦ own.1 ]
 
-  pub comes_behind : Within (Chains (ComesInOrder may_give old) (Leads (gives item) Ends)) (ComesInOrder may_give new)
-  comes_behind xs last h =
-      last_apart (EntryGives may_give old.set) (EntryGives may_give new.set) old.entries (Running added.0) (gives item) no_more of_item xs last
-      (subst (λ (l : List (Entry A)). InTurn (EntryGives may_give new.set) l xs last) added.2 h)
+  at_back : new.entries ≡ old.entries ++ Running i ∷ [] → Within (Chains (ComesInOrder may_give old) (Leads (gives item) Ends)) (ComesInOrder may_give new)
+  at_back is xs last h =
+      last_apart (EntryGives may_give old.set) (EntryGives may_give new.set) old.entries (Running i) (gives item) no_more of_item xs last
+      (subst (λ (l : List (Entry A)). InTurn (EntryGives may_give new.set) l xs last) is h)
+
+  at_front : new.entries ≡ Running i ∷ old.entries → Within (Leads (gives item) (ComesInOrder may_give old)) (ComesInOrder may_give new)
+  at_front is xs last h = first_apart (EntryGives may_give old.set) (EntryGives may_give new.set) old.entries (Running i) (gives item) no_more of_item xs last
+      (subst (λ (l : List (Entry A)). InTurn (EntryGives may_give new.set) l xs last) is h)
+
+module _ {Q F A : Type 0} (may_give : Q → ℕ × A → Type 0) (gives : F → A → Type 0) (pushes : Q → F → ℕ → Q → Type 0) (old new : Ordered Q A) (item : F) where
+  pub comes_behind : (added : AddsBack pushes old item new) → ((out : ℕ × A) → may_give new.set out → may_give old.set out ⊎ ((out.0 ≡ added.0) × gives item out.1)) → ((y : A) → may_give old.set (added.0, y) → ⊥)
+      → Within (Chains (ComesInOrder may_give old) (Leads (gives item) Ends)) (ComesInOrder may_give new)
+  comes_behind added more none = at_back may_give gives old new item added.0 added.1.unused more none added.2
+
+  pub comes_before : (added : AddsFront pushes old item new) → ((out : ℕ × A) → may_give new.set out → may_give old.set out ⊎ ((out.0 ≡ added.0) × gives item out.1)) → ((y : A) → may_give old.set (added.0, y) → ⊥)
+      → Within (Leads (gives item) (ComesInOrder may_give old)) (ComesInOrder may_give new)
+  comes_before added more none = at_front may_give gives old new item added.0 added.1.unused more none added.2

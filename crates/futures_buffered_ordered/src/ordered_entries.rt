@@ -34,7 +34,8 @@ pub enum Entry<A> {
 /// A contract sees the set, the entries from the front to the back, how many there is a place for, and the number of the front. It is what the queues are made of. Pushes and polls ask that the numbers are in order, and leave them so; they are where a new one stands over a set that holds nothing.
 #[derive(Drop)]
 pub struct OrderedEntries<Q: Drop, A: Drop> {
-    pub(crate) set: Q,
+    /// The set that holds the futures in progress.
+    pub set: Q,
     entries: VecDeque<Entry<A>>,
     // The number of the front. Numbers rise by one from entry to entry, and wrap: only their differences count, and there are fewer entries than half the numbers, so none ever changes.
     outgoing: usize,
@@ -86,13 +87,6 @@ impl<Q: Drop, A: Drop> OrderedEntries<Q, A> {
         })
     }
 
-    /// The set that holds the futures in progress.
-    pub fn set(&self) -> &Q
-        ensures { result.now ≡ self.now.queue.set }
-    {
-        &self.set
-    }
-
     /// The number of entries, in progress and kept. Takes the same time at any length.
     pub fn len(&self) -> usize
         ensures { result ≡ length self.now.queue.entries }
@@ -107,8 +101,8 @@ impl<Q: Drop, A: Drop> OrderedEntries<Q, A> {
         self.entries.is_empty()
     }
 
-    // Drops each entry, with the output that it keeps. The set stays, so the caller has to take out what is in progress. Takes no memory.
-    pub(crate) fn drop_entries(&mut self)
+    /// Drops each entry, with the output that it keeps. The set stays, so the caller has to take out what is in progress. There is a place for as many entries as before. Takes no memory.
+    pub fn drop_entries(&mut self)
         ensures queue { self.new.queue ≡ without_entries self.old.queue.set self.old.queue }
         ensures first { self.new.outgoing ≡ 0 }
     {

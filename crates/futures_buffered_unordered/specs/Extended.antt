@@ -9,6 +9,13 @@ use Rattle.futures_buffered_table.specs.declared.answer.NewFault.{NewFault}
 use Rattle.futures_buffered_table.specs.declared.answer.NewFault.TheVariants.{TooLarge}
 use Rattle.futures_buffered_table.specs.declared.answer.TheConstants.{MAX_CAPACITY}
 
+-- P holds of each item that may come from a source
+abbrev pub EachDrawn : {U F I : Type 0} → SourceOf U F I → IteratorOf I F → U → (F → Type 0)
+    → Type 0
+EachDrawn {F = F} {I = I} by gives source P = (it : I) → by.into_iter_gives source it
+    → (items : List F) (more : F) (rest : I)
+    → YieldsThen gives.next_gives it items (Some more) rest → P more
+
 module _ {U F I X : Type 0} (by : SourceOf U F I) (gives : IteratorOf I F) (source : U) where
   -- what holds all items that came
   abbrev pub HoldsAllOf : (List F → X → Type 0) → X → Type 0

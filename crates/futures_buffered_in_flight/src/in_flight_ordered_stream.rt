@@ -1,0 +1,59 @@
+//! The ordered queue as a stream, which says how much is left and whether it has ended.
+ghost use Rattle.futures_buffered_in_flight.specs.InFlightOrdered.{AnswersInTurn, CanPollOrdered, ComesInTurn, GivesInTurn, LeavesInOrder, LeavesInTurn, OrderedWaitsAt, ordered_count};
+
+use crate::in_flight_ordered::InFlightOrdered;
+use futures::task::{Context, Poll};
+use futures::{Future, Stream};
+use futures_buffered_unordered::fused::{FusedStream, SizeHint};
+use std::fmt;
+
+impl<F: Future<Output = A>, A: Drop> Stream for InFlightOrdered<F, A> {
+    type Item = A;
+
+    ghost can_poll = { CanPollOrdered F.Future };
+
+    ghost needs = { OrderedWaitsAt };
+
+    ghost yields = { ComesInTurn F.Future };
+
+    /// One poll, as `poll_output`.
+    fn poll_next(&mut self, cx: &mut Context<'_>) -> Poll<Option<A>>
+        requires { CanPollOrdered F.Future self.old }
+        ensures polled { GivesInTurn F.Future self.old result self.new }
+        ensures queue { LeavesInOrder self.old result self.new }
+        ensures stream { AnswersInTurn F.Future self.old result self.new cx.old cx.new }
+        ensures leaves { LeavesInTurn F.Future self.old result self.new cx.old cx.new }
+    {
+        self.poll_output(cx)
+    }
+}
+
+/// Whether nothing is held, so that the next poll gives the end. A push after that starts it again.
+impl<F: Future<Output = A>, A: Drop> FusedStream for InFlightOrdered<F, A> {
+    ghost use Rattle.std.specs.Prelude.{◌≡◌};
+
+    ghost is_over = { λ queue. ordered_count queue ≡ 0 };
+
+    fn is_terminated(&self) -> bool {
+        self.is_empty()
+    }
+}
+
+impl<F: Drop, A: Drop> SizeHint for InFlightOrdered<F, A> {
+    ghost use Rattle.std.specs.Prelude.{Some};
+
+    ghost items_left = { λ queue. (ordered_count queue, Some (ordered_count queue)) };
+
+    fn size_hint(&self) -> (usize, Option<usize>) {
+        (self.len(), Some(self.len()))
+    }
+}
+
+/// Prints the number of futures and outputs held.
+impl<F: Drop, A: Drop> fmt::Debug for InFlightOrdered<F, A> {
+    fn fmt<W: fmt::Write>(&self, f: &mut fmt::Formatter<W>) -> fmt::Result {
+        f.debug_struct("InFlightOrdered")
+            .field("len", &self.len())
+            .finish_non_exhaustive()
+    }
+}
