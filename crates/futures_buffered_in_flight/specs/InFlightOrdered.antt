@@ -7,7 +7,7 @@ use Rattle.futures.specs.Runs.{Runs, After, Within, Leads, Chains, Ends}
 use Rattle.futures.specs.Task.{Covers}
 use Rattle.futures.specs.declared.task.Poll.{Poll}
 use Rattle.futures.specs.declared.task.context.Context.{Context}
-use Rattle.futures_buffered_unordered.specs.StreamAnswers.{StreamAnswers}
+use Rattle.futures_buffered_unordered.specs.StreamAnswers.{StreamAnswers, stream_of}
 use Rattle.futures_buffered_ordered.specs.OrderedEntries.{Ordered, AddsBack, AddsFront}
 use Rattle.futures_buffered_ordered.specs.OrderedEntries.{ComesInOrder, IsNewQueue, OrderedGives}
 use Rattle.futures_buffered_ordered.specs.OrderedEntries.{OrderedLeavesTask}
