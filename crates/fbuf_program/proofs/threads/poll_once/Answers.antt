@@ -1,12 +1,14 @@
 use Rattle.futures.specs.declared.task.Poll.TheVariants.{Ready, Pending}
+use Rattle.futures_buffered_unordered.proofs.PollsBoundedLemmas.{gives_of}
 use Rattle.fbuf_program.proofs.ThreadsLemmas.{poll_gave, poll_left}
 use Rattle.fbuf_program.proofs.threads.poll_once.Goals as goal
 
 pub returns-in-Ready-clause-numbers : goal.returns-in-Ready-clause-numbers
 returns-in-Ready-clause-numbers g c =
     poll_gave _ c.args.set.now c.poll_with-polled.new.self (Ready c.in-Ready.first)
-    c.in-Ready.ensures.polled
+    (gives_of _ _ _ (λ a b h. h) _ _ _ _ _ c.in-Ready.ensures)
 
 pub returns-clause-numbers : goal.returns-clause-numbers
 returns-clause-numbers g c =
-    poll_left _ c.args.set.now c.poll_with-polled.new.self Pending c.in-Pending.ensures.polled
+    poll_left _ c.args.set.now c.poll_with-polled.new.self Pending
+    (gives_of _ _ _ (λ a b h. h) _ _ _ _ _ c.in-Pending.ensures)
