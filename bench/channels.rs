@@ -1,14 +1,15 @@
-//! Channels in a merge, from sending to item: those of the kit in a merge of the kit's streams, and those of this library in one over the shared source.
+//! Channels in a merge, from sending to item: those of the kit in the kit's own merge and in a merge of this library that holds the kit's streams, and those of this library in one over the shared source.
+use crate::items::Items;
 use crate::report::Workload;
 use futures::Stream;
 use futures::channel::mpsc as kit;
+use futures::stream::{SelectAll, select_all};
 use futures::task::Context;
 use futures_buffered_core::ready_shared::SharedReady;
 use futures_buffered_held::spsc;
 use futures_buffered_merges::merge_bounded::MergeBounded;
 use futures_buffered_merges::{ForeignMerge, foreign_merge};
 use std::alloc::Global;
-use std::marker::Model;
 
 // No item takes more polls than this.
 const POLLS_AN_ITEM: usize = 100;
@@ -29,31 +30,18 @@ pub trait Channel: Drop {
     fn gives(merge: &mut Self::Merge, cx: &mut Context<'_>) -> bool;
 }
 
-/// A merge of the kit's channels, each of which may be polled at any time.
-#[derive(Drop)]
-pub struct KitMerge(ForeignMerge<kit::Receiver<u64>>);
-
-impl Model for KitMerge {
-    ghost use Rattle.futures_buffered_merges.specs.InFlightMerge.{CanPollAll};
-
-    ghost Value = { Unit {0} };
-
-    ghost view = { λ _. tt };
-
-    ghost invariant = { λ m. CanPollAll ⟦<kit::Receiver<u64> as Stream>⟧ m.0 };
-}
-
+// In a merge of this library that holds streams of the kit.
 impl Channel for kit::Sender<u64> {
     type Receiver = kit::Receiver<u64>;
 
-    type Merge = KitMerge;
+    type Merge = Items<ForeignMerge<kit::Receiver<u64>>>;
 
     fn open(alloc: Global, room: usize) -> Option<(kit::Sender<u64>, Self::Receiver)> {
         kit::channel(alloc, room).ok()
     }
 
     fn merge(alloc: Global, receivers: Vec<Self::Receiver>) -> Option<Self::Merge> {
-        Some(KitMerge(foreign_merge(alloc, receivers).ok()?))
+        Some(Items::new(foreign_merge(alloc, receivers).ok()?))
     }
 
     fn send(&mut self) {
@@ -61,7 +49,34 @@ impl Channel for kit::Sender<u64> {
     }
 
     fn gives(merge: &mut Self::Merge, cx: &mut Context<'_>) -> bool {
-        merge.0.poll_next(cx).is_ready()
+        merge.gives(cx)
+    }
+}
+
+/// The sender of a channel of the kit whose receiver stands in the kit's own merge.
+#[derive(Drop)]
+pub struct Selected(kit::Sender<u64>);
+
+impl Channel for Selected {
+    type Receiver = kit::Receiver<u64>;
+
+    type Merge = Items<SelectAll<kit::Receiver<u64>>>;
+
+    fn open(alloc: Global, room: usize) -> Option<(Selected, Self::Receiver)> {
+        let (sender, receiver) = kit::channel(alloc, room).ok()?;
+        Some((Selected(sender), receiver))
+    }
+
+    fn merge(alloc: Global, receivers: Vec<Self::Receiver>) -> Option<Self::Merge> {
+        Some(Items::new(select_all(alloc, receivers).ok()?))
+    }
+
+    fn send(&mut self) {
+        let _ = self.0.try_send(1);
+    }
+
+    fn gives(merge: &mut Self::Merge, cx: &mut Context<'_>) -> bool {
+        merge.gives(cx)
     }
 }
 

@@ -5,6 +5,7 @@ mod adaptors;
 mod blocking;
 mod channels;
 mod holders;
+mod items;
 mod one_shots;
 mod report;
 mod rows;

@@ -1,17 +1,22 @@
 //! The rows that the program prints.
+ghost use Rattle.std.specs.Prelude.{◌<◌};
+
 use crate::adaptors::{Feed, ForEach, Merge, Ordered, Ready, Unordered};
 use crate::blocking::{all_in_one, handed_over, one_by_one};
-use crate::channels::Channels;
+use crate::channels::{Channels, Selected};
 use crate::holders::{
     Drained, DrainedSet, GrowingQueue, GrowingSet, Joined, Queue, Refilled, Set, Yields,
 };
-use crate::one_shots::OneShots;
+use crate::items::{Items, Sent};
+use crate::one_shots::{Flights, OneShots};
 use crate::report::{RUNS, Report};
 use crate::sources::{FourWakers, Listed, TaskAlone};
 use crate::waiting::{Kept, Woken};
+use futures::StreamExt;
 use futures::channel::{mpsc, oneshot as kit};
 use futures::stream::FuturesUnordered as KitSet;
 use futures::task::Waker;
+use futures_buffered::BufferedStreamExt;
 use futures_buffered::buffer::Buffer;
 use futures_buffered_core::ready_shared::SharedWaker;
 use futures_buffered_held::{foreign_set, oneshot, spsc};
@@ -111,6 +116,8 @@ impl<R: Clock + RandomSource + AllocGlobal, O: io::Write> Report<'_, R, O> {
         for slots in [16, 256, 4_096] {
             let made = KitSet::<kit::Receiver<u64>>::new(alloc).ok();
             self.timed("kit set", of_kit, slots, OneShots::new(alloc, made, slots))?;
+            let made = OneShots::new(alloc, Flights::new(alloc, slots), slots);
+            self.timed("in flight", of_kit, slots, made)?;
             let made = foreign_set::<kit::Receiver<u64>, _>(alloc, slots).ok();
             let made = OneShots::new(alloc, made, slots);
             self.timed("driven set", of_kit, slots, made)?;
@@ -124,21 +131,15 @@ impl<R: Clock + RandomSource + AllocGlobal, O: io::Write> Report<'_, R, O> {
     // So many values through each of 16 channels, before the merge is polled.
     fn channels(&mut self) -> io::Result<()> {
         let alloc = self.rt.alloc();
+        let of_kit = "an item of a channel of the kit, at once";
+        let of_own = "an item of a channel of this library, at once";
         for burst in [1, 16] {
+            let made = Channels::<Selected>::new(alloc, 16, burst);
+            self.timed("kit merge", of_kit, burst, made)?;
             let made = Channels::<mpsc::Sender<u64>>::new(alloc, 16, burst);
-            self.timed(
-                "foreign merge",
-                "an item of a channel of the kit, at once",
-                burst,
-                made,
-            )?;
+            self.timed("foreign merge", of_kit, burst, made)?;
             let made = Channels::<spsc::Sender<u64>>::new(alloc, 16, burst);
-            self.timed(
-                "merge",
-                "an item of a channel of this library, at once",
-                burst,
-                made,
-            )?;
+            self.timed("merge", of_own, burst, made)?;
         }
         Ok(())
     }
@@ -168,6 +169,28 @@ impl<R: Clock + RandomSource + AllocGlobal, O: io::Write> Report<'_, R, O> {
         self.timed("buffered_unordered", name, 100, made)?;
         let (of, name) = ("for_each_concurrent", "an item, at most held");
         self.timed(of, name, 100, Some(ForEach(alloc)))
+    }
+
+    // Adaptors of the kit and of this library, of a stream of the kit's futures.
+    fn kits_futures(&mut self, n: usize) -> io::Result<()>
+        requires { 0 < n }
+    {
+        let (alloc, name) = (self.rt.alloc(), "a ready one-shot of the kit, at most held");
+        if let Ok(stream) = Sent(alloc).buffered(alloc, n) {
+            self.timed("kit buffered", name, n, Some(Items::new(stream)))?;
+        }
+        if let Ok(stream) = Sent(alloc).foreign_buffered_ordered(alloc, n) {
+            let made = Some(Items::new(stream));
+            self.timed("foreign_buffered_ordered", name, n, made)?;
+        }
+        if let Ok(stream) = Sent(alloc).buffer_unordered(alloc, n) {
+            self.timed("kit buffer_unordered", name, n, Some(Items::new(stream)))?;
+        }
+        if let Ok(stream) = Sent(alloc).foreign_buffered_unordered(alloc, n) {
+            let made = Some(Items::new(stream));
+            self.timed("foreign_buffered_unordered", name, n, made)?;
+        }
+        Ok(())
     }
 
     fn whole(&mut self) -> io::Result<()> {
@@ -228,6 +251,8 @@ impl<R: Clock + RandomSource + AllocGlobal + Threads + Wait + Sync, O: io::Write
         self.channels()?;
         self.queues()?;
         self.adaptors()?;
+        self.kits_futures(32)?;
+        self.kits_futures(256)?;
         self.whole()?;
         for slots in [16, 256, 4_096] {
             self.taking(slots)?;

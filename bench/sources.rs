@@ -96,7 +96,10 @@ fn take_often(source: &mut Source, takings: u64) {
     }
 }
 
-fn add_wakers(wakers: &mut Vec<SharedWaker<Nobody>>, source: &Source) -> Result<(), AllocError> {
+fn add_wakers(
+    wakers: &mut Vec<SharedWaker<Nobody>>,
+    source: &mut Source,
+) -> Result<(), AllocError> {
     for slot in 0..source.capacity() {
         if slot < source.capacity() {
             keep(wakers, source.try_waker(slot)?)?;
@@ -122,9 +125,9 @@ pub struct FourWakers {
 
 impl FourWakers {
     pub fn new(alloc: Global, slots: usize) -> Result<FourWakers, NewFault> {
-        let source = Source::new(alloc, slots)?;
+        let mut source = Source::new(alloc, slots)?;
         let mut wakers = Vec::new(alloc);
-        add_wakers(&mut wakers, &source)?;
+        add_wakers(&mut wakers, &mut source)?;
         Ok(FourWakers { source, wakers })
     }
 

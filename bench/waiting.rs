@@ -7,29 +7,30 @@ use futures::{Future, Stream};
 use futures_buffered_core::ready_shared::SharedWaker;
 use futures_buffered_unordered::slot_future::{SlotFuture, SlotWaker};
 use std::alloc::{AllocError, Global};
-use std::sync::{Arc, Mutex, MutexGuard};
+use std::cell::{RefCell, RefMut};
+use std::rc::Rc;
 
 /// Where futures leave their wakers, each at a place of its own.
 #[derive(Drop)]
 pub struct Board<W> {
     source: Source,
-    places: Vec<Mutex<Option<W>>>,
+    places: Vec<RefCell<Option<W>>>,
 }
 
 impl<W: Drop> Board<W> {
-    fn new(alloc: Global, places: usize) -> Result<Arc<Board<W>>, AllocError> {
+    fn new(alloc: Global, places: usize) -> Result<Rc<Board<W>>, AllocError> {
         let mut board = Board {
             source: Source::new(),
             places: Vec::with_capacity(alloc, places)?,
         };
         for _ in 0..places {
-            let _ = board.places.push(Mutex::new(None));
+            let _ = board.places.push(RefCell::new(None));
         }
-        Ok(Arc::new(alloc, board)?)
+        Ok(Rc::new(alloc, board)?)
     }
 
-    fn place(&self, at: usize) -> Option<MutexGuard<'_, Option<W>>> {
-        self.places.get(at)?.try_lock()
+    fn place(&self, at: usize) -> Option<RefMut<'_, Option<W>>> {
+        self.places.get(at)?.try_borrow_mut().ok()
     }
 
     fn take(&self, at: usize) -> Option<W> {
@@ -74,7 +75,7 @@ impl Wakes for Waker {
 /// Leaves its waker at its place at its first poll. It is ready at its second, or never.
 #[derive(Drop)]
 pub struct Kept<W: Drop> {
-    board: Arc<Board<W>>,
+    board: Rc<Board<W>>,
     place: usize,
     was_polled: bool,
     ends: bool,
@@ -146,7 +147,7 @@ impl Holder<Kept<Waker>> for KitSet<Kept<Waker>> {
 pub struct Woken<H, W: Drop> {
     holder: H,
     held: usize,
-    board: Arc<Board<W>>,
+    board: Rc<Board<W>>,
     wakers: Vec<W>,
     ends: bool,
     number: u64,
@@ -176,7 +177,7 @@ impl<W: Wakes, H: Holder<Kept<W>>> Woken<H, W> {
     }
 
     fn add(&mut self, place: usize) {
-        if let Ok(board) = Arc::try_clone(&self.board) {
+        if let Ok(board) = Rc::clone(&self.board) {
             self.holder.add(Kept {
                 board,
                 place,

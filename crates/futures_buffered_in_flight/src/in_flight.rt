@@ -12,7 +12,7 @@ ghost use Rattle.futures_buffered_unordered.specs.Extended.{EachDrawn, Extends};
 ghost use Rattle.futures_buffered_in_flight.specs.InFlight.{CanPollAll, Cancels, EndsOneAtMost, GivesWithKey, HasNoRoom, IsNewInFlight, PollsInFlight, Pushes, PushesOne, Refuses, WaitsAt, run_count, runs_in};
 
 use crate::run::{Key, Run, Stop};
-use futures::future::{AbortHandle, Abortable, pending};
+use futures::channel::oneshot::{Sender, channel};
 use futures::stream::FuturesUnordered;
 use futures::task::{Context, Poll};
 use futures::{Future, Stream};
@@ -47,7 +47,7 @@ pub struct InFlight<F> {
     cancelled: usize,
     next: u64,
     // For each slot what ends its future, if it was pushed so. Empty before the first such push.
-    handles: Vec<Option<AbortHandle>>,
+    handles: Vec<Option<Sender<()>>>,
     alloc: Global,
 }
 
@@ -104,7 +104,7 @@ impl<F: Drop> InFlight<F> {
     }
 
     // What ends the future of a slot, if it was pushed so.
-    fn take_handle(&mut self, slot: usize) -> Option<AbortHandle>
+    fn take_handle(&mut self, slot: usize) -> Option<Sender<()>>
         ensures { self.new ≡ self.old }
     {
         self.handles.get_mut(slot)?.take()
@@ -125,7 +125,7 @@ impl<F: Drop> InFlight<F> {
     }
 
     // Keeps what ends the future of a slot.
-    fn keep_handle(&mut self, slot: usize, handle: AbortHandle)
+    fn keep_handle(&mut self, slot: usize, handle: Sender<()>)
         ensures { self.new ≡ self.old }
     {
         if let Some(place) = self.handles.get_mut(slot) {
@@ -275,7 +275,10 @@ impl<F: Future<Output: Drop>> InFlight<F> {
         requires new { F.can_poll future }
         ensures { PushesOne F.Future self.old future 0 result self.new }
     {
-        let Ok((stop, handle)) = Abortable::new(self.alloc, pending()) else {
+        let Ok((handle, stop)) = channel(self.alloc) else {
+            return Err(future);
+        };
+        let Ok(stop) = Box::new(self.alloc, stop) else {
             return Err(future);
         };
         if !self.make_handles() {
@@ -383,9 +386,8 @@ impl<F: Future<Output: Drop>> InFlight<F> {
     {
         let tag = self.take_place(key)?;
         self.cancelled = self.cancelled.saturating_add(1);
-        if let Some(handle) = self.take_handle(key.slot) {
-            handle.abort();
-        }
+        // A run whose handle is dropped ends.
+        self.take_handle(key.slot);
         if self.slots.is_empty() {
             self.drop_runs();
         }

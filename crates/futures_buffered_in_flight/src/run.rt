@@ -3,7 +3,7 @@ ghost use Rattle.std.specs.Prelude.{◌≡◌};
 ghost use Rattle.futures.specs.Task.{Keeps};
 
 use futures::Future;
-use futures::future::{Abortable, Pending};
+use futures::channel::oneshot::Receiver;
 use futures::task::{Context, Poll};
 
 /// Where a future stands, and the number of its push. No two pushes of a set have one number, so a key is never used twice.
@@ -13,8 +13,8 @@ pub struct Key {
     pub push: u64,
 }
 
-/// What ends a run from outside: it is ready once its handle has aborted it, and never before.
-pub type Stop = Abortable<Pending<()>>;
+/// What ends a run from outside: it is ready once its sender is dropped, and never before. In a box, so that each run is small.
+pub type Stop = Box<Receiver<()>>;
 
 /// A future on its way. Its output comes with its key, and `None` in place of an output where it was stopped.
 #[derive(Drop)]
