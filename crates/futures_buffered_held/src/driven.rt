@@ -316,6 +316,7 @@ impl<F: Future<Output: Drop>> ReadySource for Driven<F> {
     /// Has a mailbox for each slot, whichever was named last.
     fn waker(&self, i: usize) -> &Mailbox<F>
         requires { i < self.now.capacity }
+        ensures { result.now.slot ≡ i }
     {
         &self.mailboxes[i]
     }
