@@ -1,4 +1,4 @@
-//! What holds futures and streams of the kit: over `Driven` sets, queues and a buffer, and the source itself; and joins and a merge of them in plain sight.
+//! What holds futures and streams of the kit: a set and a queue over `Driven`, and the source itself; and joins, a merge and a buffer of them in plain sight.
 use crate::answer::{
     Answer, Reply, of_debug, of_growth, of_item, of_output, of_outputs, of_results,
 };
@@ -10,14 +10,14 @@ use crate::source::FutureSource;
 use crate::subject::{Call, Subject};
 use crate::task_script::{KitFuture, KitStream, KitTryFuture};
 use crate::values::{Output, new_value, new_values};
-use futures::task::Context;
+use futures::task::{Context, Poll};
 use futures::{Future, Stream};
-use futures_buffered::buffered_ordered::BufferedOrdered;
 use futures_buffered::in_flight_join::InFlightJoin;
 use futures_buffered::join::AllOutputs;
 use futures_buffered::try_join::UntilError;
 use futures_buffered::{
-    GrowingForeignMerge, foreign_join_all, foreign_try_join_all, growing_foreign_merge,
+    BufferedStreamExt, ForeignBufferedOrdered, GrowingForeignMerge, foreign_join_all,
+    foreign_try_join_all, growing_foreign_merge,
 };
 use futures_buffered_core::ready_core::NewFault;
 use futures_buffered_core::ready_source::{NewSource, ReadySource};
@@ -190,9 +190,33 @@ pub fn run_merge(session: &mut Session, ids: &[usize], lines: &[&str]) -> Result
     run_made(session, Ok(KitMerge { merge }), lines)
 }
 
-impl Subject for BufferedOrdered<FutureSource<Foreign<KitFuture>>, Driven<KitFuture>> {
+/// An adaptor of a stream of the kit's futures. No clause says that it may be polled after its end, so it is dropped there.
+#[derive(Drop)]
+struct KitBuffer {
+    buffer: Option<ForeignBufferedOrdered<FutureSource<KitFuture>>>,
+}
+
+impl Model for KitBuffer {
+    ghost use Rattle.std.specs.Prelude.{IfSome};
+
+    ghost Value = { Unit {0} };
+
+    ghost view = { λ _. tt };
+
+    ghost invariant = { λ b. IfSome b.buffer
+        ⟦<ForeignBufferedOrdered<FutureSource<KitFuture>> as Stream>⟧.can_poll };
+}
+
+impl Subject for KitBuffer {
     fn poll(&mut self, cx: &mut Context<'_>, _outputs: &mut Vec<u64>) -> Answer {
-        of_output(self.poll_next(cx))
+        let Some(buffer) = &mut self.buffer else {
+            return Answer::Nothing;
+        };
+        let polled = buffer.poll_next(cx);
+        if let Poll::Ready(None) = &polled {
+            self.buffer = None;
+        }
+        of_output(polled)
     }
 
     fn call(&mut self, _call: Call<'_>, _world: &SharedWorld, _text: &mut String) -> Reply {
@@ -209,15 +233,10 @@ pub fn run_buffer(
     if n == 0 {
         return Ok(0);
     }
-    let source: FutureSource<Foreign<KitFuture>> = FutureSource::new(
-        &session.world,
-        session.options.hint,
-    )?;
-    let made: Result<
-        BufferedOrdered<FutureSource<Foreign<KitFuture>>, Driven<KitFuture>>,
-        NewFault,
-    > = BufferedOrdered::over(&(), session.options.alloc, source, n);
-    run_made(session, made, lines)
+    let (alloc, hint) = (session.options.alloc, session.options.hint);
+    let source: FutureSource<KitFuture> = FutureSource::new(&session.world, hint)?;
+    let buffer = Some(source.foreign_buffered_ordered(alloc, n)?);
+    run_made(session, Ok(KitBuffer { buffer }), lines)
 }
 
 /// A source, and those that were made beside it.
