@@ -22,7 +22,6 @@ SETS = [
     ("this library", "set", BLUE),
     ("the kit's own set", "kit set", ORANGE),
     ("the Rust crate", "rust crate", GREY),
-    ("Rust's futures", "rust futures", GREEN),
 ]
 HELD = 256
 PENDING = "a wake and a pending poll, held"
@@ -40,7 +39,6 @@ GROWING = "a wake in the last group and a pending poll, groups"
 # The lines of the two parts of the picture of growth: what each is called, its name in the texts, and its colour.
 WAKES = [
     ("the Rust crate, growing", f"rust crate growing: {PENDING}", LIGHT_GREY),
-    ("Rust's futures", f"rust futures: {PENDING}", GREEN),
     ("this library, growing: the last group", f"growing set: {GROWING}", LIGHT_BLUE),
     ("this library, bounded", f"set: {PENDING}", BLUE),
     ("the Rust crate, bounded", f"rust crate: {PENDING}", GREY),
