@@ -6,6 +6,7 @@ use futures::Stream;
 use futures::task::{Context, Poll};
 use futures::test::MockTask;
 use futures_buffered_core::ready_core::Taken;
+use futures_buffered_core::ready_shared::SharedReady;
 use futures_buffered_held::spsc::{Receiver, Sender, TrySendError, channel};
 use futures_buffered_merges::merge_bounded::MergeBounded;
 use futures_buffered_merges::slot_stream::SlotStream;
