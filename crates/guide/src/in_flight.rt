@@ -1,12 +1,13 @@
-//! Futures of the kit in flight, each told by its key.
+//! Futures of the kit in flight, each told by its key, or in a queue.
 ghost use Rattle.futures_buffered.specs.InFlight.{CanPollAll};
+ghost use Rattle.futures_buffered.specs.InFlightOrdered.{CanPollOrdered};
 
 use crate::foreign::sent;
 use crate::show::print_all;
 use anyhow::bail;
-use futures::channel::oneshot::channel;
+use futures::channel::oneshot::{Canceled, channel};
 use futures::{Future, FutureExt, StreamExt, stream};
-use futures_buffered::{BufferedStreamExt, InFlight};
+use futures_buffered::{BufferedStreamExt, InFlight, InFlightOrdered};
 use std::alloc::AllocGlobal;
 use std::io::{self, Print};
 use std::random::RandomSource;
@@ -75,5 +76,58 @@ where
         bail!("there is no memory for the future");
     }
     println!(rt; "{sum}")?;
+    Ok(())
+}
+
+pub fn at_both_ends<R>(rt: &R) -> Result<(), anyhow::Error>
+where
+    R: Wait + RandomSource + AllocGlobal + Print,
+{
+    let alloc = rt.alloc();
+    let number = |sent: Result<u64, Canceled>| sent.unwrap_or(0);
+    let mut queue = InFlightOrdered::new(alloc, 2)?;
+    let behind = queue.try_push_back(sent(alloc, 2)?.map(number)).is_ok();
+    let before = queue.try_push_front(sent(alloc, 1)?.map(number)).is_ok();
+    let is_back = queue.try_push_back(sent(alloc, 3)?.map(number)).is_err();
+    println!(rt; "{behind}, {before}, 3 is back: {is_back}, {queue:?}")?;
+    print_all(rt, queue)
+}
+
+/// The number whose digits the futures give, from the front to the back.
+fn number_of<R, F>(
+    rt: &R,
+    queue: InFlightOrdered<F, Result<u64, Canceled>>,
+) -> Result<u64, anyhow::Error>
+where
+    R: Wait + RandomSource + AllocGlobal,
+    F: Future<Output = Result<u64, Canceled>>,
+    requires { CanPollOrdered F.Future queue }
+{
+    let mut queue = queue;
+    let mut number: u64 = 0;
+    'digits: for _count in 0..queue.len() {
+        let (digit, rest) = queue.wait(rt)?;
+        queue = rest;
+        let Some(digit) = digit else {
+            return Ok(number);
+        };
+        number = number.wrapping_mul(10).wrapping_add(digit?);
+    }
+    Ok(number)
+}
+
+pub fn digits<R>(rt: &R) -> Result<(), anyhow::Error>
+where
+    R: Wait + RandomSource + AllocGlobal + Print,
+{
+    let alloc = rt.alloc();
+    let mut queue = InFlightOrdered::new(alloc, 8)?;
+    if queue
+        .extend(vec![in alloc; sent(alloc, 4)?, sent(alloc, 2)?]?)
+        .is_err()
+    {
+        bail!("there is no room for them");
+    }
+    println!(rt; "{}", number_of(rt, queue)?)?;
     Ok(())
 }

@@ -48,6 +48,8 @@ fn main(rt: HostRuntime) -> Result<(), anyhow::Error> {
     in_flight::with_closures_inside(&rt)?;
     in_flight::told_by_keys(&rt)?;
     in_flight::summed(&rt)?;
+    in_flight::at_both_ends(&rt)?;
+    in_flight::digits(&rt)?;
     foreign::ended_early(&rt)?;
     foreign::three_channels(&rt)?;
     sources::one_caller(&rt)?;
