@@ -170,8 +170,8 @@ def part_of_growth(figures, title, shown, first):
     ends = sorted((at(*times[name][-1]), words, colour) for words, name, colour in shown)
     ends.sort(key=lambda end: end[0][1])
     for ((x, y), words, colour), height in zip(ends, spread([y for (_, y), _, _ in ends], 17)):
-        yield line(x + 6, y, x + 26, height, colour)
-        yield label(x + 30, height + 4, words, size=12, colour=colour)
+        yield line(x + 6, y, right + 26, height, colour)
+        yield label(right + 30, height + 4, words, size=12, colour=colour)
     for _, name, colour in shown:
         yield from curve(times[name], at, colour)
 
