@@ -2,9 +2,21 @@
 use Rattle.std.proofs.Common.{◌≡◌, ℕ, List, [], ◌∷◌, ◌++◌, Option, Some, None, refl, sym, subst, inl, inr, append-nil, append_assoc}
 use Rattle.std.specs.Option.{option_to_list}
 use Rattle.std.specs.List.{FoldsTo}
+use Rattle.futures.specs.declared.task.context.Context.{Context}
 use Rattle.futures.specs.declared.task.Poll.{Poll}
 use Rattle.futures.specs.declared.task.Poll.TheVariants.{Ready, Pending}
-use Rattle.futures_buffered.specs.Buffer.{Buffering, CallEnds, CallsInTurn, DrawsItem, DrawsLast, DrawsNone, all_drawn, all_outputs, answer_from, output_of}
+use Rattle.futures_buffered.specs.Buffer.{Buffering, FutureQueueOf, StreamOf, CallEnds, CallGivesWith, PollsBuffer, PollsStream, PollsWithTask, CallsInTurn, DrawsItem, DrawsLast, DrawsNone, all_drawn, all_outputs, answer_from, output_of}
+
+-- What a caller takes from the record of a poll, who speaks of the buffer alone.
+pub calls_of : {St X A Q : Type 0} (source : StreamOf St X) (by : FutureQueueOf Q X A) (old new : Buffering St Q) (answer : Poll (Option A)) (cx left : Context) → PollsBuffer source by old answer new cx left
+    → CallGivesWith (PollsStream source.yields) by.count (by.room old.queue) by.pushes by.polls (Unit {0}) old answer new
+calls_of {St} {X} {A} {Q} source by old new answer cx left it =
+    let call = it.gave.1 in
+    (it.gave.0, record { given = call.given; filled = call.filled; draws = call.draws; ends = alone call.given call.ends })
+  where
+    alone : (given : Option A) → CallEnds (PollsWithTask by.polls by.leaves it.drawn left) (left ≡ it.drawn) given it.gave.1.filled answer new → CallEnds by.polls (Unit {0}) given it.gave.1.filled answer new
+    alone None ends = record { queue_answer = ends.queue_answer; polls_queue = ends.polls_queue.0; same_stream = ends.same_stream; gives = ends.gives }
+    alone (Some x) ends = (ends.0, ends.1, tt)
 
 same_output : {St A : Type 0} (stream : Option St) (queue_answer : Poll (Option A)) → output_of (answer_from stream queue_answer) ≡ output_of queue_answer
 same_output stream (Ready (Some x)) = refl

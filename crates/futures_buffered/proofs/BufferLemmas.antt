@@ -1,5 +1,5 @@
 -- What one draw, and one poll of the queue, leave of what may come from a buffer, and of whether it may be polled.
-use Rattle.std.proofs.Common.{◌≡◌, ◌⊎◌, ℕ, ◌+◌, ◌<◌, List, [], ◌∷◌, ◌++◌, length, Option, Some, None, IfSome, IsSomeAnd, Bool, true, false, is_some, refl, sym, ap, subst, inl, inr, arith, ◌∙◌, append_assoc}
+use Rattle.std.proofs.Common.{◌≡◌, ◌⊎◌, ℕ, ◌+◌, ◌<◌, List, [], ◌∷◌, ◌++◌, length, Option, Some, None, IfNone, IfSome, IsSomeAnd, Bool, true, false, is_some, refl, sym, ap, subst, inl, inr, arith, ◌∙◌, append_assoc}
 use Rattle.futures.proofs.SentLemmas.{AllByRecursion_weaker}
 use Rattle.futures.specs.declared.task.Poll.{Poll}
 use Rattle.futures.specs.declared.task.Poll.TheVariants.{Ready, Pending}
@@ -7,8 +7,9 @@ use Rattle.futures.specs.declared.task.context.Context.{Context}
 use Rattle.futures.specs.Task.{Lasting, Covers, Keeps, Hears}
 use Rattle.futures.specs.Runs.{Runs, After, Within, Ends, Leads, Chains, Resolves, firsts}
 use Rattle.futures.specs.Buffered.{GathersWith}
-use Rattle.futures_buffered.specs.FutureQueue.{MayCome, AddsOutput, PushLeavesQueue}
-use Rattle.futures_buffered.specs.Buffer.{Buffering, Ahead, AsksStream, DrawsAll, DrawsBuffer, DrawsTask, HasNoTurn, CallGivesWith, CallLeavesTask, PollsWithTask, CanDraw, WaitsAt, OneComes, Comes, BufferGives, answer_from, answer_of_none}
+use Rattle.futures.specs.Poll.{IfReady}
+use Rattle.futures_buffered.specs.FutureQueue.{MayCome, AddsOutput, PollLeavesQueue, PushLeavesQueue}
+use Rattle.futures_buffered.specs.Buffer.{Buffering, FutureQueueOf, StreamOf, Ahead, AsksStream, DrawsAll, DrawsBuffer, DrawsTask, HasNoTurn, CallGivesWith, PollsBuffer, PollsStream, PollsWithTask, CanDraw, WaitsAt, OneComes, Comes, BufferGives, answer_from, answer_of_none}
 
 None-Some : {X F : Type 0} {f : F} → None ≡ Some f → X
 None-Some e = cc
@@ -320,11 +321,28 @@ call_of next count n pushes polls alone old filled stream queue left queue_answe
   },
 )
 
-pub task_of : {St F A Q : Type 0} (next : St → Poll (Option F) → St → Type 0) (count : Q → ℕ) (n : ℕ) (pushes : Q → F → Option A → Q → Type 0) (polls : Q → Poll (Option A) → Q → Type 0) (leaves : Q → Poll (Option A) → Q → Context → Context → Type 0) (old filled : Buffering St Q) (stream : Option St) (queue left : Q) (queue_answer answer : Poll (Option A)) (cx drawn after : Context)
-    → filled ≡ record { stream = stream; queue = queue } → (items : List F) × DrawsAll next count n pushes old items None filled → polls queue queue_answer left → leaves queue queue_answer left drawn after → answer ≡ answer_from stream queue_answer → Keeps cx drawn → (HasNoTurn next count n old → drawn ≡ cx)
-    → CallLeavesTask (λ polls alone. CallGivesWith next count n pushes polls alone old answer (record { stream = stream; queue = left })) (HasNoTurn next count n old) polls leaves cx after
-task_of next count n pushes polls leaves old filled stream queue left queue_answer answer cx drawn after is draws polled left_so gives kept not_polled =
-    record { drawn = drawn; kept = kept; not_polled = not_polled; called = call_of next count n pushes (PollsWithTask polls leaves drawn after) (after ≡ drawn) old filled stream queue left queue_answer answer is draws (polled, left_so) gives }
+-- where the queue gave the end and the stream has ended, nothing is held
+ended_by : {St A Q : Type 0} (count room : Q → ℕ) (stream : Option St) (queue left : Q) (queue_answer : Poll (Option A)) → PollLeavesQueue count room queue queue_answer left → IfReady (answer_from stream queue_answer) (λ o. IfNone o ((stream ≡ None) × (count left ≡ 0)))
+ended_by count room stream queue left (Ready (Some x)) it = tt
+ended_by count room None queue left (Ready None) it = (refl, rw it.empty.1 it.empty.0)
+ended_by count room (Some s) queue left (Ready None) it = tt
+ended_by count room stream queue left Pending it = tt
+
+-- a call that ended with a poll of the queue
+pub poll_of : {St X A Q : Type 0} (source : StreamOf St X) (by : FutureQueueOf Q X A) (old filled : Buffering St Q) (stream : Option St) (queue left : Q) (queue_answer answer : Poll (Option A)) (cx drawn after : Context)
+    → filled ≡ record { stream = stream; queue = queue } → (items : List X) × DrawsAll (PollsStream source.yields) by.count (by.room old.queue) by.pushes old items None filled → by.polls queue queue_answer left → by.leaves queue queue_answer left drawn after
+    → PollLeavesQueue by.count by.room queue queue_answer left → answer ≡ answer_from stream queue_answer → Keeps cx drawn → (HasNoTurn (PollsStream source.yields) by.count (by.room old.queue) old → drawn ≡ cx) → by.room filled.queue ≡ by.room old.queue
+    → PollsBuffer source by old answer (record { stream = stream; queue = left }) cx after
+poll_of source by old filled stream queue left queue_answer answer cx drawn after is draws polled left_so it gives kept not_polled same_room =
+    record {
+      drawn = drawn;
+      draws_keep = kept;
+      not_polled = not_polled;
+      gave = call_of (PollsStream source.yields) by.count (by.room old.queue) by.pushes (PollsWithTask by.polls by.leaves drawn after) (after ≡ drawn) old filled stream queue left queue_answer answer is draws (polled, left_so) gives;
+      ended = rw gives (ended_by by.count by.room stream queue left queue_answer it);
+      same_room = it.same_room ∙ rw is at same_room;
+      bound = it.bound;
+    }
 
 -- the end of the queue, where the stream goes on and where it has ended
 pub some_pends : {St A : Type 0} (stream : Option St) → is_some stream ≡ true → ◌≡◌ {A = Poll (Option A)} Pending (answer_of_none stream)

@@ -16,7 +16,10 @@ use Rattle.futures.specs.declared.task.Poll.TheVariants.{Ready, Pending}
 use Rattle.futures.specs.Poll.{IfReady, OnPending}
 use Rattle.futures.specs.Runs.{Runs, After, Within, Ends, AllItems, Chains, Resolves}
 use Rattle.futures.specs.Buffered.{AnyItemGives, GathersWith}
+pub use Rattle.futures.specs.declared.stream.Stream.{Ghosts as StreamOf}
+use Rattle.futures_buffered_unordered.specs.StreamAnswers.{stream_of}
 use Rattle.futures_buffered.specs.FutureQueue.{MayCome}
+pub use Rattle.futures_buffered.specs.declared.future_queue.FutureQueue.{Ghosts as FutureQueueOf}
 
 -- the stream, or nothing once it has ended, and the queue of what was drawn
 pub record Buffering (St Q : Type 0) : Type 0 where
@@ -140,15 +143,11 @@ module _ {St X Q : Type 0} (next : St → Poll (Option X) → St → Type 0) (co
       abbrev pub CallGivesWith : Buffering St Q → Poll (Option A) → Buffering St Q → Type 0
       CallGivesWith old answer new = (drawn : List X) × Calls old drawn answer new
 
-    module _ (polls : Q → Poll (Option A) → Q → Type 0) where
-      -- one call, of which no more is said where the queue is not polled
-      abbrev pub CallGives : Buffering St Q → Poll (Option A) → Buffering St Q → Type 0
-      CallGives = CallGivesWith polls (Unit {0})
-
-      -- many such calls in a row, each with the items that it drew and with its answer
-      abbrev pub CallsInTurn : Buffering St Q → List (List X × Poll (Option A)) → Buffering St Q
-          → Type 0
-      CallsInTurn = FoldsTo (λ old call new. Calls polls (Unit {0}) old call.0 call.1 new)
+    -- many calls in a row, each with the items that it drew and with its answer, of which no more
+    -- is said where the queue is not polled
+    abbrev pub CallsInTurn : (Q → Poll (Option A) → Q → Type 0) → Buffering St Q
+        → List (List X × Poll (Option A)) → Buffering St Q → Type 0
+    CallsInTurn polls = FoldsTo (λ old call new. Calls polls (Unit {0}) old call.0 call.1 new)
 
 -- the answer that was handed back where drawing ended, if one was
 abbrev pub handed_back : {A : Type 0} → ControlFlow (Option A) (Unit {0}) → Option A
@@ -198,21 +197,6 @@ pub record DrawsTask
   -- nothing of the task is lost
   pub kept : Keeps cx left
 
--- What a call leaves of what a buffer holds.
-pub record CallLeavesBuffer
-    {St A Q : Type 0}
-    (count room : Q → ℕ)
-    (old : Buffering St Q)
-    (answer : Poll (Option A))
-    (new : Buffering St Q)
-    : Type 0 where
-  -- the end comes only where the stream has ended and nothing is held
-  pub ended : IfReady answer (λ o. IfNone o ((new.stream ≡ None) × (count new.queue ≡ 0)))
-  -- the queue can hold as many as before
-  pub same_room : room new.queue ≡ room old.queue
-  -- the queue holds no more than that
-  pub bound : count new.queue ≤ room new.queue
-
 -- a poll of the queue that takes the task from one context to another, as the queue leaves it
 abbrev pub PollsWithTask : {Q A : Type 0}
     → (Q → Poll (Option A) → Q → Type 0)
@@ -221,22 +205,33 @@ abbrev pub PollsWithTask : {Q A : Type 0}
 PollsWithTask polls leaves cx left old answer new =
     polls old answer new × leaves old answer new cx left
 
--- What a call leaves of its task. The polls of the stream took the task to a context of which it is
--- known that nothing was lost, and which is the first one where the stream had no turn. From there
--- the poll of the queue left it as that poll does; where an answer that was handed back ended the
--- call, the task stayed there.
-pub record CallLeavesTask
-    {Q A : Type 0}
-    (call : (Q → Poll (Option A) → Q → Type 0) → Type 0 → Type 0)
-    (no_turn : Type 0)
-    (polls : Q → Poll (Option A) → Q → Type 0)
-    (leaves : Q → Poll (Option A) → Q → Context → Context → Type 0)
+-- One call, which took a buffer from old to new and the task from cx to left. A clause names stream
+-- and queue by the ghost members of their types: `St.Stream Q.FutureQueue`.
+pub record PollsBuffer
+    {St X A Q : Type 0}
+    (stream : StreamOf St X)
+    (queue : FutureQueueOf Q X A)
+    (old : Buffering St Q)
+    (answer : Poll (Option A))
+    (new : Buffering St Q)
     (cx left : Context)
     : Type 0 where
+  -- to what the draws took the task: nothing of it was lost, and it is as it was where the stream
+  -- was not polled
   pub drawn : Context
-  pub kept : Keeps cx drawn
-  pub not_polled : no_turn → drawn ≡ cx
-  pub called : call (PollsWithTask polls leaves drawn left) (left ≡ drawn)
+  pub draws_keep : Keeps cx drawn
+  pub not_polled : HasNoTurn (PollsStream stream.yields) queue.count (queue.room old.queue) old
+      → drawn ≡ cx
+  -- what came, and who is woken: some items were drawn and are held; then an answer came that a push
+  -- handed back, and the task stays so; or a poll of the queue gave the answer and left the task
+  pub gave : CallGivesWith (PollsStream stream.yields) queue.count (queue.room old.queue)
+      queue.pushes (PollsWithTask queue.polls queue.leaves drawn left) (left ≡ drawn)
+      old answer new
+  -- the end comes only where the stream has ended and nothing is held
+  pub ended : IfReady answer (λ o. IfNone o ((new.stream ≡ None) × (queue.count new.queue ≡ 0)))
+  -- what stays: the queue can hold as many as before, and holds no more than that
+  pub same_room : queue.room new.queue ≡ queue.room old.queue
+  pub bound : queue.count new.queue ≤ queue.room new.queue
 
 -- the items that these calls drew, in order, and the outputs that they gave
 abbrev pub all_drawn : {F A : Type 0} → List (List F × Poll (Option A)) → List F
@@ -311,3 +306,11 @@ module _ {St X A Q : Type 0} (yields : St → Runs X) (item_gives : X → A → 
   abbrev pub BufferGives : Bool → Buffering St Q → Runs A
   BufferGives true b = ComesInTurn b
   BufferGives false b = Comes b
+
+-- the ghost members of a buffer as a stream
+abbrev pub buffer_of : {St X A Q : Type 0}
+    → StreamOf St X → FutureQueueOf Q X A → StreamOf (Buffering St Q) A
+buffer_of stream queue = stream_of
+    (CanDraw stream.can_poll stream.yields queue.is_fit queue.can_poll)
+    (WaitsAt stream.needs queue.needs queue.count queue.room)
+    (BufferGives stream.yields queue.gives queue.count queue.yields queue.in_order)

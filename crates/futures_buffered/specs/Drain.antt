@@ -1,17 +1,19 @@
 -- One call of a `Drain`: turns, each of which polls its buffer once, up to the first output that ends
--- it, or the end. A clause says which outputs these are by the ghost members of their type:
--- `Q.Output.DrainOutput`.
+-- it, or the end. A clause names stream, queue and outputs by the ghost members of their types:
+-- `St.Stream Q.FutureQueue Q.Output.DrainOutput`.
 use Rattle.std.specs.Prelude.{◌≡◌, ◌⊎◌, ℕ, ◌<◌, List, length, map, Option, Some, None}
 use Rattle.std.specs.Prelude.{IfSome, IsSomeAnd, refl}
 use Rattle.std.specs.List.{FoldsTo}
 use Rattle.std.specs.Coded.{Coded, code_by, coded×, coded_option, coded_ℕ}
+use Rattle.futures.specs.Task.{Covers, Keeps}
 use Rattle.futures.specs.declared.task.context.Context.{Context}
 use Rattle.futures.specs.declared.task.Poll.{Poll}
 use Rattle.futures.specs.declared.task.Poll.TheVariants.{Ready, Pending}
 use Rattle.futures.specs.Poll.{IfReady, OnPending}
 use Rattle.futures.specs.Runs.{Runs, Ends}
-use Rattle.futures_buffered.specs.Buffer.{Buffering, CallLeavesBuffer, CallLeavesTask}
-use Rattle.futures_buffered.specs.Buffer.{CallGives, CallGivesWith, HasNoTurn, IsNewBuffer}
+use Rattle.futures_buffered_unordered.specs.FuturesUnorderedBounded.{IsWoken}
+use Rattle.futures_buffered.specs.Buffer.{Buffering, FutureQueueOf, IsNewBuffer, PollsBuffer}
+use Rattle.futures_buffered.specs.Buffer.{StreamOf, buffer_of}
 use Rattle.futures_buffered_in_flight.specs.InFlight.{FutureOf}
 use Rattle.futures_buffered_in_flight.specs.InFlightQueue.{Queued, CanPollQueue}
 pub use Rattle.futures_buffered.specs.declared.drain_output.DrainOutput.{Ghosts as DrainOutputOf}
@@ -36,26 +38,6 @@ abbrev pub IsNewDrain : {St Q : Type 0} → (Q → Type 0) → ℕ → St → Dr
     → Type 0
 IsNewDrain is_new limit stream d =
     IsSomeAnd d.buffer (IsNewBuffer is_new stream) × (d.limit ≡ limit)
-
--- one call of a buffer: what it answers, what it leaves of what is held, and what it leaves of its
--- task
-pub record CallsBuffer
-    {St X A Q : Type 0}
-    (next : St → Poll (Option X) → St → Type 0)
-    (count room : Q → ℕ)
-    (pushes : Q → X → Option A → Q → Type 0)
-    (polls : Q → Poll (Option A) → Q → Type 0)
-    (leaves : Q → Poll (Option A) → Q → Context → Context → Type 0)
-    (old : Buffering St Q)
-    (answer : Poll (Option A))
-    (new : Buffering St Q)
-    (cx left : Context)
-    : Type 0 where
-  pub gives : CallGives next count (room old.queue) pushes polls old answer new
-  pub buffer : CallLeavesBuffer count room old answer new
-  pub task : CallLeavesTask
-      (λ polls alone. CallGivesWith next count (room old.queue) pushes polls alone old answer new)
-      (HasNoTurn next count (room old.queue) old) polls leaves cx left
 
 -- what stays of the buffer: nothing where the turn was ready
 abbrev pub left_after : {B O : Type 0} → Option (Poll O) → B → Option B
@@ -88,15 +70,13 @@ module _ {O : Type 0} (output : DrainOutputOf O) where
 
       -- how a call ends, where so many turns came before: with one more, which is the last; or
       -- without, where that would be one too many, and then it is pending and the task is woken
-      abbrev pub DrainEnds : (Context → Type 0) → ℕ → ℕ → Option B × Context
-          → Poll O → Option B → Context → Type 0
-      DrainEnds is_woken limit turns before answer new left =
+      abbrev pub DrainEnds : ℕ → ℕ → Option B × Context → Poll O → Option B → Context → Type 0
+      DrainEnds limit turns before answer new left =
           ((turns < limit) × DrainTurn before.0 (Some answer) new before.1 left)
-          ⊎ ((turns ≡ limit) × (answer ≡ Pending) × (new ≡ before.0) × is_woken left)
+          ⊎ ((turns ≡ limit) × (answer ≡ Pending) × (new ≡ before.0) × IsWoken left)
 
       -- one call: some turns, in each of which an output came that ends nothing, and its end
       pub record DrainCall
-          (is_woken : Context → Type 0)
           (limit : ℕ)
           (old : Option B)
           (answer : Poll O)
@@ -106,68 +86,78 @@ module _ {O : Type 0} (output : DrainOutputOf O) where
         pub turns : List (Unit {0})
         pub before : Option B × Context
         pub row : FoldsTo GoesOn (old, cx) turns before
-        pub ends : DrainEnds is_woken limit (length turns) before answer new left
+        pub ends : DrainEnds limit (length turns) before answer new left
 
 -- what may come from the buffer, and the end at once where there is none
 abbrev pub FromBuffer : {B A : Type 0} → (B → Runs A) → Option B → Runs A
 FromBuffer yields None = Ends
 FromBuffer yields (Some buffer) = yields buffer
 
--- it may end with this answer, where outputs that end nothing may come from its buffer, and then what
--- comes last before that answer
-abbrev pub DrainGives : {B O : Type 0}
-    → DrainOutputOf O → (B → Runs O) → Draining B → O → Type 0
-DrainGives output yields d answer = (outputs : List (Unit {0}))
-    × FromBuffer yields d.buffer (map (λ _. output.done) outputs) (output.last_of answer)
-
--- its buffer may be polled, if there is one
-abbrev pub CanDrain : {B : Type 0} → (B → Type 0) → Draining B → Type 0
-CanDrain can_poll d = IfSome d.buffer can_poll
-
 -- each future that it holds may be polled
 abbrev pub HoldsPollable : {F A St : Type 0}
     → FutureOf F A → Draining (Buffering St (Queued F)) → Type 0
 HoldsPollable future d = IfSome d.buffer (λ buffer. CanPollQueue future buffer.queue)
 
--- a pending call waits where its buffer waits
-abbrev pub DrainWaitsAt : {B : Type 0} → (B → ℕ → Type 0) → Draining B → ℕ → Type 0
-DrainWaitsAt needs d place = IsSomeAnd d.buffer (λ buffer. needs buffer place)
-
 -- nothing more is polled: there is no buffer, or its stream has ended and it holds nothing
 abbrev pub IsDrained : {St Q : Type 0} → (Q → ℕ) → Draining (Buffering St Q) → Type 0
 IsDrained count d = IfSome d.buffer (λ buffer. (buffer.stream ≡ None) × (count buffer.queue ≡ 0))
 
--- What a call, from old to new, leaves of a drain, of which `can_poll` says whether it may be polled
--- and `gives` what it may answer.
-pub record LeavesDrain
-    {B O : Type 0}
-    (can_poll : Draining B → Type 0)
-    (gives : Draining B → O → Type 0)
-    (old : Draining B)
-    (answer : Poll (O))
-    (new : Draining B)
-    : Type 0 where
-  -- where it is ready, nothing is left of the buffer
-  pub ended : IfReady answer (λ _. new.buffer ≡ None)
-  -- and the answer is one that it might give
-  pub value : IfReady answer (gives old)
-  -- while it is pending it can be polled again
-  pub again : OnPending answer (can_poll new)
-  -- and may give only what it might have given before
-  pub same : OnPending answer ((x : O) → gives new x → gives old x)
-  -- the limit stays
-  pub limit : new.limit ≡ old.limit
+module _ {B O : Type 0} (buffer : StreamOf B O) where
+  -- its buffer may be polled, if there is one
+  abbrev pub CanDrain : Draining B → Type 0
+  CanDrain d = IfSome d.buffer buffer.can_poll
 
--- What a turn that goes on leaves of it.
-pub record GoingLeavesDrain
-    {B O : Type 0}
-    (can_poll : Draining B → Type 0)
-    (gives : Draining B → O → Type 0)
-    (old new : Draining B)
+  -- a pending call waits where its buffer waits
+  abbrev pub DrainWaitsAt : Draining B → ℕ → Type 0
+  DrainWaitsAt d place = IsSomeAnd d.buffer (λ b. buffer.needs b place)
+
+module _ {B O : Type 0} (output : DrainOutputOf O) (buffer : StreamOf B O) where
+  -- it may end with this answer, where outputs that end nothing may come from its buffer, and then
+  -- what comes last before that answer
+  abbrev pub DrainGives : Draining B → O → Type 0
+  DrainGives d answer = (outputs : List (Unit {0})) × FromBuffer buffer.yields d.buffer
+      (map (λ _. output.done) outputs) (output.last_of answer)
+
+  -- What a turn that goes on leaves of a drain.
+  pub record GoingLeavesDrain (old new : Draining B) : Type 0 where
+    -- it can be polled again
+    pub again : CanDrain buffer new
+    -- and may give only what it might have given before
+    pub same : (x : O) → DrainGives new x → DrainGives old x
+    -- the limit stays
+    pub limit : new.limit ≡ old.limit
+
+  -- What a call, or the turn that ends it, leaves of a drain and of its task.
+  pub record LeavesDrain (old : Draining B) (answer : Poll O) (new : Draining B)
+      (cx left : Context) : Type 0 where
+    -- where it is ready, nothing is left of the buffer
+    pub ended : IfReady answer (λ _. new.buffer ≡ None)
+    -- and the answer is one that it might give
+    pub value : IfReady answer (DrainGives old)
+    -- while it is pending it may give only what it might have given before
+    pub same : OnPending answer ((x : O) → DrainGives new x → DrainGives old x)
+    -- and can be polled again
+    pub again : OnPending answer (CanDrain buffer new)
+    -- who waits where: the task of a pending drain hears of its buffer
+    pub registered : OnPending answer (Covers left (DrainWaitsAt buffer new))
+    -- nothing of the task is lost
+    pub kept : Keeps cx left
+    -- the limit stays
+    pub limit : new.limit ≡ old.limit
+
+-- One call, which took a drain from old to new and the task from cx to left.
+pub record PollsDrain
+    {St X Q O : Type 0}
+    (stream : StreamOf St X)
+    (queue : FutureQueueOf Q X O)
+    (output : DrainOutputOf O)
+    (old : Draining (Buffering St Q))
+    (answer : Poll O)
+    (new : Draining (Buffering St Q))
+    (cx left : Context)
     : Type 0 where
-  -- it can be polled again
-  pub again : can_poll new
-  -- and may give only what it might have given before
-  pub same : (x : O) → gives new x → gives old x
-  -- the limit stays
-  pub limit : new.limit ≡ old.limit
+  -- what came, and who is woken
+  pub called : DrainCall output (PollsBuffer stream queue)
+      old.limit old.buffer answer new.buffer cx left
+  -- what stays, what may come, who waits where, and what may be polled again
+  pub leaves : LeavesDrain output (buffer_of stream queue) old answer new cx left

@@ -3,7 +3,7 @@ ghost use Rattle.std.specs.Prelude.{◌≡◌, ◌<◌, ◌≤◌, ◌↔◌, Li
 ghost use Rattle.std.specs.declared.ops.ControlFlow.TheVariants.{Break};
 ghost use Rattle.futures_buffered_core.specs.Made.{MakesSlots};
 ghost use Rattle.futures_buffered_unordered.specs.StreamAnswers.{StreamAnswers};
-ghost use Rattle.futures_buffered.specs.Buffer.{PollsStream, DrawsAll, DrawsUpToOne, DrawsBuffer, DrawsTask, CallGives, CallGivesWith, CallLeavesBuffer, CallLeavesTask, HasNoTurn, IsNewBuffer, CanDraw, WaitsAt, BufferGives, handed_back, hint_with, hint_ahead};
+ghost use Rattle.futures_buffered.specs.Buffer.{PollsStream, DrawsAll, DrawsUpToOne, DrawsBuffer, DrawsTask, PollsBuffer, IsNewBuffer, CanDraw, WaitsAt, BufferGives, handed_back, hint_with, hint_ahead};
 
 use crate::future_queue::{FutureQueue, NewQueue};
 use futures::Stream;
@@ -187,15 +187,10 @@ impl<St: Stream, Q: FutureQueue<St::Item>> Stream for Buffer<St, Q> {
     /// Takes no memory but what the stream, the futures and the source's calls take, and waits for nobody where these do not. Takes time in proportion to the items drawn and the names that one poll of the queue takes, besides the polls.
     fn poll_next(&mut self, cx: &mut Context<'_>) -> Poll<Option<Q::Output>>
         requires { CanDraw St.can_poll St.yields Q.is_fit Q.can_poll self.old }
-        ensures called { CallGives (PollsStream St.yields) Q.count (Q.room self.old.queue)
-            Q.pushes Q.polls self.old result self.new }
-        ensures buffer { CallLeavesBuffer Q.count Q.room self.old result self.new }
+        ensures polls { PollsBuffer St.Stream Q.FutureQueue
+            self.old result self.new cx.old cx.new }
         ensures stream { StreamAnswers ⟦<Buffer<St, Q> as Stream>⟧
             self.old result self.new cx.old cx.new }
-        ensures leaves { CallLeavesTask (λ polls alone. CallGivesWith (PollsStream St.yields)
-            Q.count (Q.room self.old.queue) Q.pushes polls alone self.old result self.new)
-            (HasNoTurn (PollsStream St.yields) Q.count (Q.room self.old.queue) self.old)
-            Q.polls Q.leaves cx.old cx.new }
     {
         if let Some(answer) = self.fill(cx) {
             return Poll::Ready(Some(answer));

@@ -1,11 +1,9 @@
 //! A buffer that is polled to its end, or to the first output that ends it.
 ghost use Rattle.std.specs.Prelude.{◌≡◌, ◌<◌, ◌≤◌, IfSome, IfNone, option_copied};
-ghost use Rattle.futures.specs.Task.{Covers, Keeps};
-ghost use Rattle.futures.specs.Poll.{OnPending};
+ghost use Rattle.futures.specs.Task.{Keeps};
 ghost use Rattle.futures_buffered_core.specs.Made.{MakesSlots};
-ghost use Rattle.futures_buffered_unordered.specs.FuturesUnorderedBounded.{IsWoken};
-ghost use Rattle.futures_buffered.specs.Buffer.{PollsStream, CanDraw, WaitsAt, BufferGives};
-ghost use Rattle.futures_buffered.specs.Drain.{CallsBuffer, CanDrain, DrainCall, DrainGives, DrainTurn, DrainWaitsAt, GoingLeavesDrain, IsDrained, IsNewDrain, LeavesDrain};
+ghost use Rattle.futures_buffered.specs.Buffer.{PollsBuffer, buffer_of};
+ghost use Rattle.futures_buffered.specs.Drain.{CanDrain, DrainGives, DrainTurn, DrainWaitsAt, GoingLeavesDrain, IsDrained, IsNewDrain, LeavesDrain, PollsDrain};
 
 use crate::buffer::Buffer;
 use crate::drain_output::DrainOutput;
@@ -98,22 +96,14 @@ where
 {
     // Polls the buffer once. The answer of the call, where it ends here.
     fn turn(&mut self, cx: &mut Context<'_>) -> Option<Poll<Q::Output>>
-        requires { CanDrain (CanDraw St.can_poll St.yields Q.is_fit Q.can_poll) self.old }
-        ensures turn { DrainTurn Q.Output.DrainOutput
-            (CallsBuffer (PollsStream St.yields) Q.count Q.room Q.pushes Q.polls Q.leaves)
+        requires { CanDrain (buffer_of St.Stream Q.FutureQueue) self.old }
+        ensures turn { DrainTurn Q.Output.DrainOutput (PollsBuffer St.Stream Q.FutureQueue)
             self.old.buffer result self.new.buffer cx.old cx.new }
         ensures goes { IfNone result (GoingLeavesDrain
-            (CanDrain (CanDraw St.can_poll St.yields Q.is_fit Q.can_poll))
-            (DrainGives Q.Output.DrainOutput
-            (BufferGives St.yields Q.gives Q.count Q.yields Q.in_order))
-            self.old self.new) }
+            Q.Output.DrainOutput (buffer_of St.Stream Q.FutureQueue) self.old self.new) }
         ensures ends { IfSome result (λ answer. LeavesDrain
-            (CanDrain (CanDraw St.can_poll St.yields Q.is_fit Q.can_poll))
-            (DrainGives Q.Output.DrainOutput
-            (BufferGives St.yields Q.gives Q.count Q.yields Q.in_order))
-            self.old answer self.new) }
-        ensures registered { IfSome result (λ answer. OnPending answer (Covers cx.new
-            (DrainWaitsAt (WaitsAt St.needs Q.needs Q.count Q.room) self.new))) }
+            Q.Output.DrainOutput (buffer_of St.Stream Q.FutureQueue)
+            self.old answer self.new cx.old cx.new) }
         ensures kept { Keeps cx.old cx.new }
     {
         let Some(buffer) = &mut self.buffer else {
@@ -143,29 +133,19 @@ where
 {
     type Output = Q::Output;
 
-    ghost can_poll = { CanDrain (CanDraw St.can_poll St.yields Q.is_fit Q.can_poll) };
+    ghost can_poll = { CanDrain (buffer_of St.Stream Q.FutureQueue) };
 
-    ghost needs = { DrainWaitsAt (WaitsAt St.needs Q.needs Q.count Q.room) };
+    ghost needs = { DrainWaitsAt (buffer_of St.Stream Q.FutureQueue) };
 
-    ghost gives = { DrainGives Q.Output.DrainOutput
-        (BufferGives St.yields Q.gives Q.count Q.yields Q.in_order) };
+    ghost gives = { DrainGives Q.Output.DrainOutput (buffer_of St.Stream Q.FutureQueue) };
 
     /// At most as many turns as the limit is, each of which polls the buffer once. Another follows after an output that ends nothing. `Ready` with the first output that ends it, of a push or of a future, or, where the stream has ended and nothing is held, with what it is ready with at its end: what is held is dropped then, and a later poll answers that again and polls nothing. At the limit the task is woken at once.
     ///
     /// Takes no memory but what the stream, the futures and the source's calls take, and waits for nobody where these do not. Takes time in proportion to the turns, the items drawn, and the names that the turns' polls of the set take, besides the polls.
     fn poll(&mut self, cx: &mut Context<'_>) -> Poll<Q::Output>
-        requires { CanDrain (CanDraw St.can_poll St.yields Q.is_fit Q.can_poll) self.old }
-        ensures called { DrainCall Q.Output.DrainOutput
-            (CallsBuffer (PollsStream St.yields) Q.count Q.room Q.pushes Q.polls Q.leaves)
-            IsWoken self.old.limit self.old.buffer result self.new.buffer cx.old cx.new }
-        ensures drain { LeavesDrain
-            (CanDrain (CanDraw St.can_poll St.yields Q.is_fit Q.can_poll))
-            (DrainGives Q.Output.DrainOutput
-            (BufferGives St.yields Q.gives Q.count Q.yields Q.in_order))
-            self.old result self.new }
-        ensures registered { OnPending result (Covers cx.new
-            (DrainWaitsAt (WaitsAt St.needs Q.needs Q.count Q.room) self.new)) }
-        ensures kept { Keeps cx.old cx.new }
+        requires { CanDrain (buffer_of St.Stream Q.FutureQueue) self.old }
+        ensures { PollsDrain St.Stream Q.FutureQueue Q.Output.DrainOutput
+            self.old result self.new cx.old cx.new }
     {
         'turns: for _turn in 0..self.limit {
             if let Some(answer) = self.turn(cx) {

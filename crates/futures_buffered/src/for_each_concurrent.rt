@@ -1,16 +1,14 @@
 //! A closure called with each item of a stream, and some of the futures that it makes at a time.
 ghost use Rattle.std.specs.Prelude.{◌≡◌, ◌<◌, ◌≤◌, ◌↔◌, Option, IsTrue, true, false, option_copied};
 ghost use Rattle.futures.specs.Task.{Covers, Keeps};
-ghost use Rattle.futures.specs.Runs.{Calls};
 ghost use Rattle.futures.specs.Poll.{OnPending};
 ghost use Rattle.futures.specs.declared.task.Poll.{Poll};
 ghost use Rattle.futures.specs.declared.task.Poll.TheVariants.{Pending};
 ghost use Rattle.futures_buffered_core.specs.Made.{MakesSlots};
 ghost use Rattle.futures_buffered_core.specs.ReadyShared.{IsNewShared};
-ghost use Rattle.futures_buffered_unordered.specs.FuturesUnorderedBounded.{Pushes, PollGives, PollLeavesTask, IsWoken, held_in, slots_in};
-ghost use Rattle.futures_buffered.specs.Buffer.{PollsStream, DrawsTask, WaitsAt};
-ghost use Rattle.futures_buffered.specs.BufferUnordered.{SetWaitsAt};
-ghost use Rattle.futures_buffered.specs.ForEachConcurrent.{IsNewForEach, IsDone, DrawsOnce, ForEachCall, CanForEach, ForEachGives, LeavesForEach, drew_one};
+ghost use Rattle.futures_buffered_unordered.specs.FuturesUnorderedBounded.{held_in, slots_in};
+ghost use Rattle.futures_buffered.specs.Buffer.{PollsStream, DrawsTask};
+ghost use Rattle.futures_buffered.specs.ForEachConcurrent.{IsNewForEach, IsDone, DrawsOnce, ForEachCall, CanForEach, ForEachGives, ForEachWaitsAt, LeavesForEach, drew_one};
 
 use crate::drain::Drain;
 use futures::stream::Map;
@@ -165,14 +163,11 @@ impl<
 
     // Draws at most one item, gives it to the closure, and pushes the future that comes of it. Says whether one was drawn.
     fn draw(&mut self, cx: &mut Context<'_>) -> bool
-        requires { CanForEach St.can_poll St.yields F.pre (Calls F.FnMut) Fut.can_poll self.old }
+        requires { CanForEach St.Stream F.FnMut Fut.SlotFuture self.old }
         ensures drew { (asked : Option (Poll (Option St.Item))) × (drew_one asked ≡ result)
-            × DrawsOnce (PollsStream St.yields) held_in (slots_in self.old.buffer.queue)
-            (Pushes S.marks) (Calls F.FnMut) self.old asked self.new }
+            × DrawsOnce St.Stream F.FnMut Fut.SlotFuture S.ReadySource self.old asked self.new }
         ensures count { result ≡ true → 0 < held_in self.new.buffer.queue }
-        ensures for_each { LeavesForEach
-            (CanForEach St.can_poll St.yields F.pre (Calls F.FnMut) Fut.can_poll)
-            (ForEachGives St.yields) self.old Pending self.new }
+        ensures leaves { LeavesForEach St.Stream F.FnMut Fut.SlotFuture self.old Pending self.new }
         ensures task { DrawsTask (PollsStream St.yields) held_in slots_in St.needs
             (result ≡ false) self.old.buffer self.new.buffer cx.old cx.new }
     {
@@ -205,27 +200,22 @@ impl<
 > Future for ForEachConcurrent<St, F, Fut, S> {
     type Output = ();
 
-    ghost can_poll = { CanForEach St.can_poll St.yields F.pre (Calls F.FnMut) Fut.can_poll };
+    ghost can_poll = { CanForEach St.Stream F.FnMut Fut.SlotFuture };
 
-    ghost needs = { λ b. WaitsAt St.needs (SetWaitsAt S.needs) held_in slots_in b.buffer };
+    ghost needs = { ForEachWaitsAt St.Stream S.ReadySource };
 
-    ghost gives = { ForEachGives St.yields };
+    ghost gives = { ForEachGives St.Stream };
 
     /// At most as many turns as the limit is. A turn draws at most one item, where there is room, calls the closure with it, holds the future that comes of it, and polls the set once. Another follows where an item was drawn or a future was done. `Ready` where the stream has ended and nothing is held, and then again; at the limit the task is woken at once.
     ///
     /// Takes no memory but what the stream, the closure, the futures and the source's calls take, and waits for nobody where these do not. Takes time in proportion to the turns and the names that their polls of the set take, besides the polls and the closure's calls.
     fn poll(&mut self, cx: &mut Context<'_>) -> Poll<()>
-        requires { CanForEach St.can_poll St.yields F.pre (Calls F.FnMut) Fut.can_poll self.old }
-        ensures called { ForEachCall (PollsStream St.yields) held_in
-            (slots_in self.old.buffer.queue) (Pushes S.marks) (Calls F.FnMut)
-            (PollGives Fut.polled S.steps) (PollLeavesTask Fut.polled S.steps S.registers_poll)
-            IsWoken self.old.buffer.queue.limit self.old result self.new cx.old cx.new }
-        ensures for_each { LeavesForEach
-            (CanForEach St.can_poll St.yields F.pre (Calls F.FnMut) Fut.can_poll)
-            (ForEachGives St.yields) self.old result self.new }
+        requires { CanForEach St.Stream F.FnMut Fut.SlotFuture self.old }
+        ensures called { ForEachCall St.Stream F.FnMut Fut.SlotFuture S.ReadySource
+            self.old result self.new cx.old cx.new }
+        ensures leaves { LeavesForEach St.Stream F.FnMut Fut.SlotFuture self.old result self.new }
         ensures registered { OnPending result
-            (Covers cx.new
-            (WaitsAt St.needs (SetWaitsAt S.needs) held_in slots_in self.new.buffer)) }
+            (Covers cx.new (ForEachWaitsAt St.Stream S.ReadySource self.new)) }
         ensures kept { Keeps cx.old cx.new }
     {
         'turns: for _turn in 0..self.turn_limit() {

@@ -8,7 +8,7 @@ use Rattle.futures.specs.Queued.{AnyGives, Gathers, GivesNoMore, AllPollable, se
 use Rattle.futures.specs.declared.stream.futures_unordered.FuturesUnordered.{FuturesUnordered}
 use Rattle.futures_buffered_core.specs.SlotMap.{Slots, value_in, held_count, slot_count, with_slot_freed, Inserts}
 use Rattle.futures_buffered_unordered.proofs.HeldGivesLemmas.{Gathers-Within, Gathers-After, value_in-with_slot_freed, value_in-with_slot_freed_other, None-Some}
-use Rattle.futures_buffered_in_flight.specs.InFlight.{FutureOf, Flights, CanPollAll, run_count, runs_in, ComesFromSlots, AnySlotGives, RunsGiveNoMore, Yields, GivesWithKey, HasNoRoom, PushesAt, PushesOne}
+use Rattle.futures_buffered_in_flight.specs.InFlight.{FutureOf, Flights, CanPollAll, run_count, runs_in, ComesFromSlots, AnySlotGives, RunsGiveNoMore, ComesByKey, GivesWithKey, HasNoRoom, PushesAt, PushesOne}
 use Rattle.futures_buffered_in_flight.specs.declared.in_flight.Came.{Came}
 use Rattle.futures_buffered_in_flight.specs.declared.in_flight.Place.{Place}
 use Rattle.futures_buffered_in_flight.specs.declared.run.Key.{Key}
@@ -41,7 +41,7 @@ module _ {F A : Type 0} (future : FutureOf F A) where
   pub slots_within : (old new : Flights F) → new.slots ≡ old.slots → RunsGiveNoMore future old new → (x : A) → AnySlotGives future new x → AnySlotGives future old x
   slots_within old new same narrows x h = (h.0, (h.1.0, subst (λ s. value_in s h.0 ≡ Some h.1.0) same h.1.1, narrows (record { slot = h.0; push = h.1.0.push }, Some x) h.1.2))
 
-  any : (old new : Flights F) (came : Came A) → Yields future old came new → AnySlotGives future old came.output
+  any : (old new : Flights F) (came : Came A) → ComesByKey future old came new → AnySlotGives future old came.output
   any old new came y = (came.key.slot, (record { tag = came.tag; push = came.key.push }, y.was_held, y.gave))
 
   pub slots_after : (old new : Flights F) (slot : ℕ) → new.slots ≡ with_slot_freed old.slots slot → RunsGiveNoMore future old new → (x : A) → AnySlotGives future new x → AnySlotGives future old x
@@ -55,10 +55,10 @@ module _ {F A : Type 0} (future : FutureOf F A) where
   pub comes_within : (old new : Flights F) → new.slots ≡ old.slots → RunsGiveNoMore future old new → Within (ComesFromSlots future old) (ComesFromSlots future new)
   comes_within old new same narrows = Gathers-Within (slots_within old new same narrows) (held_count old.slots) (held_count new.slots) (subst (λ s. held_count s ≡ held_count old.slots) (sym same) refl)
 
-  pub comes_after : (old new : Flights F) (came : Came A) → Yields future old came new → RunsGiveNoMore future old new → After (ComesFromSlots future old) came.output (ComesFromSlots future new)
+  pub comes_after : (old new : Flights F) (came : Came A) → ComesByKey future old came new → RunsGiveNoMore future old new → After (ComesFromSlots future old) came.output (ComesFromSlots future new)
   comes_after old new came y narrows = Gathers-After (slots_after old new came.key.slot y.freed narrows) (held_count old.slots) (held_count new.slots) came.output y.fewer (any old new came y)
 
-  pub comes_first : (old new : Flights F) (came : Came A) → Yields future old came new → ComesFromSlots future old [] (Some came.output)
+  pub comes_first : (old new : Flights F) (came : Came A) → ComesByKey future old came new → ComesFromSlots future old [] (Some came.output)
   comes_first old new came y = record { each = tt; ends = (any old new came y, let k = y.fewer in omega (arith, k)) }
 
   pub older_still : (old new : Flights F) → CanPollAll future old → AllPollable (λ run. future.can_poll run.future) (runs_in new.running)

@@ -11,7 +11,7 @@ use Rattle.futures_buffered_core.proofs.SlotMapLemmas.{value_within}
 use Rattle.futures_buffered_unordered.proofs.HeldGivesLemmas.{value_in-with_slot_freed, value_in-with_slot_freed_other, None-Some}
 use Rattle.futures_buffered_ordered.specs.Numbered.{CanPollFuture, one_at}
 use Rattle.futures_buffered_ordered.specs.declared.numbered.Numbered.{Numbered}
-use Rattle.futures_buffered_in_flight.specs.InFlight.{FutureOf, Flights, KeyGives, CanPollAll, PushesAt, StaysAsItWas, Yields, RunsGiveNoMore}
+use Rattle.futures_buffered_in_flight.specs.InFlight.{FutureOf, Flights, KeyGives, CanPollAll, PushesAt, StaysAsItWas, ComesByKey, RunsGiveNoMore}
 use Rattle.futures_buffered_in_flight.specs.InFlightQueue.{Queued, AnyOf, AnyTaggedGives, NumberGives, CanPollQueue, PollsNumber, PollsQueued, PushesNumber, PushesQueued, Starts, HoldsWithinRoom, GivesHeld, QueueGivesNoMore, has_tag, numbered_with, queued_count, queued_with, tagged_with}
 use Rattle.futures_buffered_in_flight.specs.declared.in_flight.Came.{Came}
 use Rattle.futures_buffered_in_flight.specs.declared.in_flight.Place.{Place}
@@ -181,7 +181,7 @@ module _ {F A : Type 0} (future : FutureOf F A) where
       }
 
   -- an output came of the set
-  pub polled_output : (old new : Queued F) (came : Came A) → CanPollQueue future old → new.waiting ≡ old.waiting → Yields future old.set came new.set → RunsGiveNoMore future old.set new.set → CanPollAll future new.set
+  pub polled_output : (old new : Queued F) (came : Came A) → CanPollQueue future old → new.waiting ≡ old.waiting → ComesByKey future old.set came new.set → RunsGiveNoMore future old.set new.set → CanPollAll future new.set
       → PollsNumber future old (Ready (Some (came.tag, came.output))) new
   polled_output old new came can same y narrows again =
       record {

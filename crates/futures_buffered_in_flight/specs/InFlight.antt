@@ -138,7 +138,7 @@ module _ {F A : Type 0} (future : FutureOf F A) where
   Refuses old new = (pushed : F) × PushesOne old pushed 0 (Err pushed) new
 
   -- an output that the future with this key may give, whose slot is free then
-  pub record Yields (old : Flights F) (came : Came A) (new : Flights F) : Type 0 where
+  pub record ComesByKey (old : Flights F) (came : Came A) (new : Flights F) : Type 0 where
     pub was_held : value_in old.slots came.key.slot
         ≡ Some (record { tag = came.tag; push = came.key.push })
     pub gave : KeyGives old came.key came.output
@@ -149,7 +149,7 @@ module _ {F A : Type 0} (future : FutureOf F A) where
   abbrev pub GivesByKey : Flights F → Poll (Option (Came A)) → Flights F → Type 0
   GivesByKey old (Ready None) new = (held_count old.slots ≡ 0) × (new.slots ≡ old.slots)
       × ((old.cancelled ≡ 0) ⊎ (new.running ≡ None))
-  GivesByKey old (Ready (Some came)) new = Yields old came new
+  GivesByKey old (Ready (Some came)) new = ComesByKey old came new
   GivesByKey old Pending new = (0 < held_count old.slots) × (new.slots ≡ old.slots)
 
   -- One poll, which took the set from old to new and the task from cx to left.

@@ -11,13 +11,13 @@ use Rattle.futures_buffered_core.specs.Drawn.{SourceOf, IteratorOf, Draws}
 use Rattle.futures_buffered_core.specs.SlotMap.{Slots, value_in, held_count, slot_count, with_slot_freed}
 use Rattle.futures_buffered_unordered.specs.Extended.{EachDrawn}
 use Rattle.futures_buffered_unordered.proofs.HeldGivesLemmas.{value_in-with_slot_freed, value_in-with_slot_freed_other, None-Some}
-use Rattle.futures_buffered_in_flight.specs.InFlight.{FutureOf, Flights, CanPollAll, IsNewInFlight, KeyGives, SlotGives, PushesAt, Yields, RunsGiveNoMore}
+use Rattle.futures_buffered_in_flight.specs.InFlight.{FutureOf, Flights, CanPollAll, IsNewInFlight, KeyGives, SlotGives, PushesAt, ComesByKey, RunsGiveNoMore}
 use Rattle.futures_buffered_in_flight.specs.declared.in_flight.Came.{Came}
 use Rattle.futures_buffered_in_flight.specs.declared.in_flight.Place.{Place}
 use Rattle.futures_buffered_in_flight.specs.declared.run.Key.{Key}
 use Rattle.futures_buffered_in_flight.proofs.InFlightLemmas.{slots_within, slots_after}
 use Rattle.futures_buffered_joins.specs.JoinRule.{Outcome}
-use Rattle.futures_buffered_joins.specs.JoinTask.{JoinRuleOf}
+use Rattle.futures_buffered_joins.specs.Joining.{JoinRuleOf}
 use Rattle.futures_buffered_joins.specs.Outputs.{WaitsOrCame, MayComeAt, output_in}
 use Rattle.futures_buffered_joins.specs.InFlightJoin.{Flying, FliesByPlace, HoldsInOrder, FliesOn, FlyingMayGive}
 use Rattle.futures_buffered_joins.proofs.OutputsLemmas.{below_from_some, none_from, all_now}
@@ -158,7 +158,7 @@ module _ {F R O A E B : Type 0} (future : FutureOf F O) (rule : JoinRuleOf R O A
   flies_then a b c p q = record { places = q.places; as_many = q.as_many ∙ p.as_many; narrows = λ x h. p.narrows x (q.narrows x h); again = q.again }
 
   -- what may come at a place once an output came, here or elsewhere, might before
-  came_at : (before after : Flights F) (outputs : List (Option A)) (came : Came O) (kept : A) → WaitsOrCame before.slots outputs → Yields future before came after → RunsGiveNoMore future before after
+  came_at : (before after : Flights F) (outputs : List (Option A)) (came : Came O) (kept : A) → WaitsOrCame before.slots outputs → ComesByKey future before came after → RunsGiveNoMore future before after
       → rule.output_of (Ok kept) ≡ came.output → came.key.slot < length outputs → (k : ℕ) (x : A)
       → MayComeAt (λ k x. SlotGives future after k (rule.output_of (Ok x))) (set outputs came.key.slot (Some kept)) k x
       → MayComeAt (λ k x. SlotGives future before k (rule.output_of (Ok x))) outputs k x
@@ -190,7 +190,7 @@ module _ {F R O A E B : Type 0} (future : FutureOf F O) (rule : JoinRuleOf R O A
           rw was is
 
   -- an output came, and is kept at its place
-  pub fills_place : (old : Flying F A) (after : Flights F) (came : Came O) (kept : A) → WaitsOrCame old.set.slots old.outputs → Yields future old.set came after → RunsGiveNoMore future old.set after
+  pub fills_place : (old : Flying F A) (after : Flights F) (came : Came O) (kept : A) → WaitsOrCame old.set.slots old.outputs → ComesByKey future old.set came after → RunsGiveNoMore future old.set after
       → CanPollAll future after → rule.output_of (Ok kept) ≡ came.output
       → FliesOn future rule old (record { set = after; outputs = set old.outputs came.key.slot (Some kept) })
   fills_place old after came kept keeps y narrows can of =

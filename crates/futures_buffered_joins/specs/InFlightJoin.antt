@@ -13,7 +13,7 @@ use Rattle.futures_buffered_unordered.specs.Extended.{MakesFull}
 use Rattle.futures_buffered_in_flight.specs.InFlight.{FutureOf, Flights, CanPollAll, SlotGives}
 use Rattle.futures_buffered_in_flight.specs.InFlight.{AnySlotGives, WaitsAt}
 use Rattle.futures_buffered_joins.specs.JoinRule.{Outcome}
-use Rattle.futures_buffered_joins.specs.JoinTask.{JoinRuleOf}
+use Rattle.futures_buffered_joins.specs.Joining.{JoinRuleOf}
 use Rattle.futures_buffered_joins.specs.Outputs.{CameInOrder, MayComeAll, MayEndWith, WaitsOrCame}
 
 -- the places of a join that has not ended: a set of the futures that it waits for, each in the slot

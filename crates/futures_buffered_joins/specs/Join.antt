@@ -1,75 +1,134 @@
--- One poll of a join, and what it may be ready with.
-use Rattle.std.specs.Prelude.{◌≡◌, ℕ, List, [], map, Option, Some, None, IsSomeAnd, Result, Ok}
-use Rattle.std.specs.Prelude.{Err}
+-- What one poll of a join makes of it and of the task that polls it. A clause names futures, rule and
+-- source by the ghost members of their types: `F.SlotFuture R.JoinRule S.ReadySource`.
+use Rattle.std.specs.Prelude.{◌≡◌, ℕ, ◌<◌, List, [], map, slice_set, Option, Some, None, IfSome}
+use Rattle.std.specs.Prelude.{IsSomeAnd, Ok, Err}
 use Rattle.std.specs.List.{FoldsTo}
+use Rattle.futures.specs.Poll.{IfReady, OnPending}
+use Rattle.futures.specs.Task.{Covers, Keeps}
+use Rattle.futures.specs.declared.task.context.Context.{Context}
 use Rattle.futures.specs.declared.task.Poll.{Poll}
 use Rattle.futures.specs.declared.task.Poll.TheVariants.{Ready, Pending}
-use Rattle.futures_buffered_core.specs.SlotMap.{held_count}
-use Rattle.futures_buffered_table.specs.declared.answer.Woke.{Woke}
-use Rattle.futures_buffered_core.specs.ReadySource.{SourceSteps}
-use Rattle.futures_buffered_unordered.specs.Held.{AnyMayGive}
-use Rattle.futures_buffered_unordered.specs.FuturesUnorderedBounded.{Bounded, AsksUntil}
-use Rattle.futures_buffered_joins.specs.Joining.{Places, IsNewJoin, Fills, PollsPending, MayBeAll}
-use Rattle.futures_buffered_joins.specs.Joining.{CameByPlace}
-use Rattle.futures_buffered_joins.specs.JoinRule.{Outcome, output_kept}
-use Rattle.futures_buffered_joins.specs.Outputs.{MayEndWith}
+pub use Rattle.futures_buffered_core.specs.declared.ready_source.ReadySource.{Ghosts as ReadySourceOf}
+use Rattle.futures_buffered_unordered.specs.Held.{AllHeld}
+use Rattle.futures_buffered_unordered.specs.FuturesUnorderedBounded.{Bounded, held_in}
+use Rattle.futures_buffered_unordered.specs.FuturesUnorderedBounded.{with_empty_slot}
+use Rattle.futures_buffered_unordered.specs.PollsBounded.{RegistersAndTakes}
+use Rattle.futures_buffered_unordered.specs.declared.poll_one.PollFuture.{PollFuture}
+pub use Rattle.futures_buffered_unordered.specs.declared.poll_one.PollOne.{Ghosts as PollOneOf}
+use Rattle.futures_buffered_joins.specs.Joining.{Places, IsNewJoin, CameByPlace, JoinMayGive}
+use Rattle.futures_buffered_joins.specs.Joining.{SlotFutureOf, JoinRuleOf}
+use Rattle.futures_buffered_joins.specs.JoinRule.{Outcome}
+use Rattle.futures_buffered_joins.specs.Outputs.{output_in}
 
--- `output_of` says which output is kept as a value, and which one ends the join with an error
+-- the rule of a set that polls each future itself
+abbrev pub itself : {F W O : Type 0} → SlotFutureOf F W O → PollOneOf PollFuture F W O
+itself future = record { can_poll = future.can_poll; polled = future.polled; goes_on = λ _. ⊥ }
+
+-- the answer of a poll, as `seen` shows what it is ready with
+abbrev pub as_seen : {B C : Type 0} → (B → C) → Poll B → Poll C
+as_seen seen (Ready answer) = Ready (seen answer)
+as_seen seen Pending = Pending
+
 module _
-    {F O A E S : Type 0}
-    (polled : ℕ → F → Poll O → F → Type 0)
-    (steps : SourceSteps S)
-    (output_of : Result A E → O)
+    {F W R O A E B S : Type 0}
+    (future : SlotFutureOf F W O)
+    (rule : JoinRuleOf R O A E B)
+    (source : ReadySourceOf S W)
   where
+    -- One poll of the set, by a task, gave the output of the future at this place. That future is
+    -- gone, and what is kept of the output fills its place, where nothing had come. The other
+    -- places stay.
+    pub record Fills
+        (old : Places F A S × Context)
+        (filled : ℕ × A)
+        (new : Places F A S × Context)
+        : Type 0 where
+      pub left : Bounded F S
+      pub gave : RegistersAndTakes (itself future) source
+          old.0.set (Ready (filled.0, rule.output_of (Ok filled.1))) left old.1 new.1
+      pub future_gone : new.0.set ≡ with_empty_slot left filled.0
+      pub was_waiting : output_in old.0.outputs filled.0 ≡ None
+      pub now_done : new.0.outputs ≡ slice_set old.0.outputs filled.0 (Some filled.1)
+
     -- one poll of the set gave an output that ends the join with this error
-    abbrev pub Fails : Places F A S → E → Type 0
-    Fails before e = (i : ℕ) × (left : Bounded F S)
-        × AsksUntil polled steps before.set (Ready (i, output_of (Err e))) left
+    abbrev pub Fails : Places F A S → Context → Context → E → Type 0
+    Fails before cx left e = (i : ℕ) × (after : Bounded F S)
+        × RegistersAndTakes (itself future) source
+        before.set (Ready (i, rule.output_of (Err e))) after cx left
 
-    -- the end of a poll: no future is waited for, all outputs are given in the order of their
-    -- places, and the join has ended; or a future gave an error, which is the answer, and the join
-    -- has ended, whatever it waited for; or the set was Pending
-    abbrev pub EndsJoin : Places F A S → Poll (Outcome A E) → Option (Places F A S) → Type 0
-    EndsJoin before (Ready (Ok outputs)) new = (held_count before.set.slots ≡ 0)
-        × (before.outputs ≡ map Some outputs)
-        × (new ≡ None)
-    EndsJoin before (Ready (Err e)) new = Fails before e × (new ≡ None)
-    EndsJoin before Pending new =
-        IsSomeAnd new (PollsPending polled steps (output_kept output_of) before)
+    -- a future is waited for, and one poll of the set was Pending
+    pub record PollsPending (before new : Places F A S) (cx left : Context) : Type 0 where
+      pub some_waiting : 0 < held_in before.set
+      pub is_pending : RegistersAndTakes (itself future) source
+          before.set Pending new.set cx left
+      pub same_outputs : new.outputs ≡ before.outputs
 
-    -- one poll: of a join that has ended, Ready of no outputs at once; else some outputs came, one
-    -- after another, and filled their places, and then the poll ended
-    abbrev pub JoinGives : Option (Places F A S)
-        → Poll (Outcome A E) → Option (Places F A S) → Type 0
-    JoinGives None (Ready (Ok outputs)) new = (outputs ≡ []) × (new ≡ None)
-    JoinGives None (Ready (Err e)) new = ⊥
-    JoinGives None Pending new = ⊥
-    JoinGives (Some old) answer new = (row : List (ℕ × A)) × (before : Places F A S)
-        × FoldsTo (Fills polled steps (output_kept output_of)) old row before
-        × EndsJoin before answer new
+    -- Some outputs came, one after another, and filled their places; what that left of the join and
+    -- of its task then ended so.
+    pub record FillsThen
+        (ends : Places F A S → Context → Type 0)
+        (old : Places F A S)
+        (cx : Context)
+        : Type 0 where
+      pub row : List (ℕ × A)
+      pub before : Places F A S
+      pub between : Context
+      pub filled : FoldsTo Fills (old, cx) row (before, between)
+      pub ended : ends before between
+
+    -- How a poll ends. No future is waited for: all outputs are given, in the order of their places,
+    -- and the join has ended. A future gave an error: that is the answer, and the join has ended,
+    -- whatever it waited for. Or the set was Pending, which says who is woken.
+    abbrev pub EndsJoin : Poll (Outcome A E) → Option (Places F A S) → Context
+        → Places F A S → Context → Type 0
+    EndsJoin (Ready (Ok outputs)) new left before cx = (held_in before.set ≡ 0)
+        × (before.outputs ≡ map Some outputs) × (new ≡ None) × (left ≡ cx)
+    EndsJoin (Ready (Err e)) new left before cx = Fails before cx left e × (new ≡ None)
+    EndsJoin Pending new left before cx = IsSomeAnd new (λ now. PollsPending before now cx left)
+
+    -- what a poll gives: of a join that has ended no outputs, at once, and the task is as it was
+    abbrev pub JoinGives : Option (Places F A S) → Poll (Outcome A E) → Option (Places F A S)
+        → Context → Context → Type 0
+    JoinGives None (Ready (Ok outputs)) new cx left = (outputs ≡ []) × (new ≡ None) × (left ≡ cx)
+    JoinGives None (Ready (Err e)) new cx left = ⊥
+    JoinGives None Pending new cx left = ⊥
+    JoinGives (Some old) answer new cx left = FillsThen (EndsJoin answer new left) old cx
+
+    -- One poll of a join, which took it from old to new and the task from cx to left.
+    pub record PollsJoin
+        (old : Option (Places F A S))
+        (answer : Poll B)
+        (new : Option (Places F A S))
+        (cx left : Context)
+        : Type 0 where
+      -- what came, and who is woken
+      pub gave : JoinGives old (as_seen rule.seen answer) new cx left
+      -- it is ready with nothing but what it might give before, and holds nothing more
+      pub value : IfReady answer (λ x. JoinMayGive future rule old (rule.seen x))
+      pub ended : IfReady answer (λ _. new ≡ None)
+      -- a pending poll adds nothing to what it may give
+      pub same : OnPending answer ((x : Outcome A E)
+          → JoinMayGive future rule new x → JoinMayGive future rule old x)
+      -- who waits where: the task of a pending join hears of its source
+      pub registered : OnPending answer
+          (Covers left (λ n. IsSomeAnd new (λ places. source.needs places.set.source n)))
+      -- nothing of the task is lost
+      pub kept : Keeps cx left
+      -- what may be polled again: each future that a pending join waits for
+      pub again : OnPending answer (IfSome new (λ places. AllHeld future.can_poll places.set.slots))
+
+    -- a poll, by some task, was Pending
+    abbrev pub StaysPending : Places F A S → Places F A S → Places F A S → Type 0
+    StaysPending old left new = (cx : Context) × (after : Context)
+        × JoinGives (Some old) Pending (Some left) cx after × (new ≡ left)
 
     -- Where a join was made of these items, then after any pending polls the outputs that it is
     -- ready with are one of each item, each at its item's place.
-    abbrev pub JoinsByPlace : (ℕ → S → Type 0) → (S → ℕ → Woke → S → Type 0) → ℕ → Type 0
-    JoinsByPlace made marks limit = (items : List F) (first last : Places F A S)
+    abbrev pub JoinsByPlace : (ℕ → S → Type 0) → ℕ → Type 0
+    JoinsByPlace made limit = (items : List F) (first last : Places F A S)
         (later : List (Places F A S)) (outputs : List A) (after : Option (Places F A S))
-        → IsNewJoin made marks limit items first
-        → FoldsTo (λ old left new. JoinGives (Some old) Pending (Some left) × (new ≡ left))
-        first later last
-        → JoinGives (Some last) (Ready (Ok outputs)) after
-        → CameByPlace polled (output_kept output_of) items outputs
-
-    -- outputs filled their places, one after another, and then one ended the join with this error
-    pub record FailsAfter (old : Places F A S) (e : E) : Type 0 where
-      pub row : List (ℕ × A)
-      pub before : Places F A S
-      pub filled : FoldsTo (Fills polled steps (output_kept output_of)) old row before
-      pub fails : Fails before e
-
--- what a join may be ready with: no outputs once it has ended; else one of each place, or an error
--- that one of the futures waited for may give
-abbrev pub JoinMayGive : {F O A E S : Type 0} → (ℕ → F → Poll O → F → Type 0)
-    → (Result A E → O) → Option (Places F A S) → Outcome A E → Type 0
-JoinMayGive polled output_of = MayEndWith
-    (MayBeAll polled (output_kept output_of))
-    (λ places e. AnyMayGive polled places.set.slots (output_of (Err e)))
+        (cx left : Context)
+        → IsNewJoin made source.marks limit items first
+        → FoldsTo StaysPending first later last
+        → JoinGives (Some last) (Ready (Ok outputs)) after cx left
+        → CameByPlace future rule items outputs

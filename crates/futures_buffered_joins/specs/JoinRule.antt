@@ -8,10 +8,6 @@ use Rattle.futures_buffered_joins.specs.declared.join.AllOutputs.{AllOutputs}
 abbrev pub Outcome : Type 0 → Type 0 → Type 0
 Outcome A E = Result (List A) E
 
--- the output of which this is kept
-abbrev pub output_kept : {O A E : Type 0} → (Result A E → O) → A → O
-output_kept output_of = λ kept. output_of (Ok kept)
-
 -- all outputs: each is kept as it is, and none ends the join early
 abbrev pub kept_as_it_is : {O : Type 0} → Result O AllOutputs → O
 kept_as_it_is (Ok output) = output

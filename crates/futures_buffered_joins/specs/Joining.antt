@@ -1,19 +1,16 @@
--- What a contract sees of a join, and what the polls of its set make of it.
-use Rattle.std.specs.Prelude.{◌≡◌, ℕ, ◌<◌, List, length, Option, Some, None, slice_set, replicate}
-use Rattle.std.specs.Prelude.{refl}
-use Rattle.std.specs.List.{FoldsTo}
+-- What a contract sees of a join, and what may come of it. A clause names futures and rule by the
+-- ghost members of their types: `F.SlotFuture R.JoinRule`.
+use Rattle.std.specs.Prelude.{◌≡◌, ℕ, List, length, Option, Some, None, Ok, Err, replicate, refl}
 use Rattle.std.specs.Coded.{Coded, code_by, coded×, coded_list, coded_option}
-use Rattle.futures.specs.declared.task.context.Context.{Context}
 use Rattle.futures.specs.declared.task.Poll.{Poll}
-use Rattle.futures.specs.declared.task.Poll.TheVariants.{Ready, Pending}
-use Rattle.futures_buffered_core.specs.SlotMap.{Slots, value_in, held_count}
+use Rattle.futures_buffered_core.specs.SlotMap.{Slots, value_in}
 use Rattle.futures_buffered_table.specs.declared.answer.Woke.{Woke}
-use Rattle.futures_buffered_core.specs.ReadySource.{SourceSteps}
-use Rattle.futures_buffered_unordered.specs.Held.{MayGive}
-use Rattle.futures_buffered_unordered.specs.FuturesUnorderedBounded.{Bounded, HoldsEach, AsksUntil}
-use Rattle.futures_buffered_unordered.specs.FuturesUnorderedBounded.{slots_in, with_empty_slot}
-use Rattle.futures_buffered_unordered.specs.FuturesUnorderedBounded.{LeavesTask, OnlyRegisters}
-use Rattle.futures_buffered_joins.specs.Outputs.{CameInOrder, MayComeAll, MayComeAt, output_in}
+use Rattle.futures_buffered_unordered.specs.Held.{AnyMayGive, MayGive}
+use Rattle.futures_buffered_unordered.specs.FuturesUnorderedBounded.{Bounded, HoldsEach, slots_in}
+pub use Rattle.futures_buffered_unordered.specs.declared.slot_future.SlotFuture.{Ghosts as SlotFutureOf}
+use Rattle.futures_buffered_joins.specs.JoinRule.{Outcome}
+pub use Rattle.futures_buffered_joins.specs.declared.join_rule.JoinRule.{Ghosts as JoinRuleOf}
+use Rattle.futures_buffered_joins.specs.Outputs.{CameInOrder, MayComeAll, MayComeAt, MayEndWith}
 
 -- the places of a join that has not ended: a set of the futures that it waits for, each in the slot
 -- of its place, and at each place the output that has come, or nothing
@@ -36,10 +33,6 @@ places_code {F} {A} {S} code set_code =
 abbrev pub places_in : {F A S : Type 0} → Places F A S → ℕ
 places_in places = slots_in places.set
 
--- the output that has come at a place, if any
-abbrev pub output_at : {F A S : Type 0} → Places F A S → ℕ → Option A
-output_at places = output_in places.outputs
-
 -- item k waits at place k, and no output has come
 pub record IsNewJoin
     {F A S : Type 0}
@@ -52,56 +45,36 @@ pub record IsNewJoin
   pub waits_for : HoldsEach made marks limit items places.set
   pub none_done : places.outputs ≡ replicate (length items) None
 
-module _
-    {F R A S : Type 0}
-    (polled : ℕ → F → Poll R → F → Type 0)
-    (steps : SourceSteps S)
-    (as_output : A → R)
-  where
-    -- One poll of the set gave the output of the future at this place. That future is gone, and
-    -- what it gave fills its place, where nothing had come. The other places stay.
-    pub record Fills (old : Places F A S) (filled : ℕ × A) (new : Places F A S) : Type 0 where
-      pub left : Bounded F S
-      pub gave : AsksUntil polled steps old.set
-          (Ready (filled.0, as_output filled.1)) left
-      pub future_gone : new.set ≡ with_empty_slot left filled.0
-      pub was_waiting : output_at old filled.0 ≡ None
-      pub now_done : new.outputs ≡ slice_set old.outputs filled.0 (Some filled.1)
-
-    -- a future is waited for, and one poll of the set was Pending
-    pub record PollsPending (old new : Places F A S) : Type 0 where
-      pub some_waiting : 0 < held_count old.set.slots
-      pub is_pending : AsksUntil polled steps old.set Pending new.set
-      pub same_outputs : new.outputs ≡ old.outputs
-
-    -- What a pending poll of a join leaves of its task: its polls of the set registered it, and the
-    -- last one left it as a pending poll of a set does.
-    abbrev pub JoinLeavesTask : (S → Context → Context → Type 0) → Places F A S → Places F A S
-        → Context → Context → Type 0
-    JoinLeavesTask registers_poll old new cx left = (row : List (ℕ × A)) × (before : Places F A S)
-        × FoldsTo Fills old row before
-        × PollsPending before new
-        × LeavesTask polled steps (λ _. OnlyRegisters registers_poll) before.set new.set cx left
-
 -- the future that is held in this slot may give x, polled with the waker of the slot
 abbrev pub MayGiveAt : {F A : Type 0}
     → (ℕ → F → Poll A → F → Type 0) → Slots F → ℕ → A → Type 0
 MayGiveAt {F} polled slots k x = (f : F) × (value_in slots k ≡ Some f) × MayGive (polled k) f x
 
--- x may be the output at this place: it has come there, or the future that waits there may give it
-abbrev pub MayBeAt : {F R A S : Type 0}
-    → (ℕ → F → Poll R → F → Type 0) → (A → R) → Places F A S → ℕ → A → Type 0
-MayBeAt polled as_output places =
-    MayComeAt (λ k x. MayGiveAt polled places.set.slots k (as_output x)) places.outputs
+module _
+    {F W R O A E B : Type 0}
+    (future : SlotFutureOf F W O)
+    (rule : JoinRuleOf R O A E B)
+  where
+    -- the future that is held in this slot may give an output of which x is kept
+    abbrev pub MayKeepAt : Slots F → ℕ → A → Type 0
+    MayKeepAt slots k x = MayGiveAt future.polled slots k (rule.output_of (Ok x))
 
--- these may be all outputs, one for each place, in the order of the places
-abbrev pub MayBeAll : {F R A S : Type 0}
-    → (ℕ → F → Poll R → F → Type 0) → (A → R) → Places F A S → List A → Type 0
-MayBeAll polled as_output places =
-    MayComeAll (λ k x. MayGiveAt polled places.set.slots k (as_output x)) places.outputs
+    -- x may stand at this place: it has come there, or the future that waits there may give it
+    abbrev pub MayBeAt : {S : Type 0} → Places F A S → ℕ → A → Type 0
+    MayBeAt places = MayComeAt (MayKeepAt places.set.slots) places.outputs
 
--- there are as many outputs as items, and the output at place k is one that item k may give, polled
--- with the waker of slot k
-abbrev pub CameByPlace : {F R A : Type 0}
-    → (ℕ → F → Poll R → F → Type 0) → (A → R) → List F → List A → Type 0
-CameByPlace polled as_output = CameInOrder (λ k item x. MayGive (polled k) item (as_output x))
+    -- these may be all outputs, one for each place, in the order of the places
+    abbrev pub MayBeAll : {S : Type 0} → Places F A S → List A → Type 0
+    MayBeAll places = MayComeAll (MayKeepAt places.set.slots) places.outputs
+
+    -- there are as many outputs as items, and the output at place k is one that item k may give,
+    -- polled with the waker of slot k
+    abbrev pub CameByPlace : List F → List A → Type 0
+    CameByPlace = CameInOrder (λ k item x. MayGive (future.polled k) item (rule.output_of (Ok x)))
+
+    -- what a join may be ready with: no outputs once it has ended; else one of each place, or an
+    -- error that one of the futures waited for may give
+    abbrev pub JoinMayGive : {S : Type 0} → Option (Places F A S) → Outcome A E → Type 0
+    JoinMayGive = MayEndWith
+        MayBeAll
+        (λ places e. AnyMayGive future.polled places.set.slots (rule.output_of (Err e)))

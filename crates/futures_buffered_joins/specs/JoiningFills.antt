@@ -1,48 +1,41 @@
 -- What polls of its set make of the places of a join.
-use Rattle.std.specs.Prelude.{◌≡◌, ℕ, ◌+◌, List, Result, OnOk, IfErr}
-use Rattle.std.specs.List.{FoldsTo}
+use Rattle.std.specs.Prelude.{◌≡◌, ℕ, ◌+◌, Result, OnOk, IfErr}
 use Rattle.futures.specs.Poll.{IfReady}
+use Rattle.futures.specs.declared.task.context.Context.{Context}
 use Rattle.futures.specs.declared.task.Poll.{Poll}
-use Rattle.futures_buffered_core.specs.SlotMap.{held_count}
 use Rattle.futures_buffered_unordered.specs.Held.{AllHeld}
-use Rattle.futures_buffered_joins.specs.Joining.{Places, Fills, PollsPending}
-use Rattle.futures_buffered_joins.specs.JoinRule.{output_kept}
-use Rattle.futures_buffered_joins.specs.JoinTask.{SlotFutureOf, JoinRuleOf, ReadySourceOf}
+use Rattle.futures_buffered_unordered.specs.FuturesUnorderedBounded.{held_in}
+use Rattle.futures_buffered_joins.specs.Joining.{Places, SlotFutureOf, JoinRuleOf}
+use Rattle.futures_buffered_joins.specs.Join.{Fails, Fills, FillsThen, PollsPending, ReadySourceOf}
 
 module _
-    {F W R O A E B S V : Type 0}
+    {F W R O A E B S : Type 0}
     (future : SlotFutureOf F W O)
     (rule : JoinRuleOf R O A E B)
-    (source : ReadySourceOf S V)
+    (source : ReadySourceOf S W)
   where
     -- an output came, and filled its place
-    pub record FillsOne (old new : Places F A S) : Type 0 where
+    pub record FillsOne (old new : Places F A S) (cx left : Context) : Type 0 where
       pub output : ℕ × A
-      pub fills : Fills future.polled source.steps (output_kept rule.output_of) old output new
+      pub fills : Fills future rule source (old, cx) output (new, left)
       -- the futures that are still held can be polled
       pub again : AllHeld future.can_poll new.set.slots
-      pub fewer : held_count new.set.slots + 1 ≡ held_count old.set.slots
+      pub fewer : held_in new.set + 1 ≡ held_in old.set
 
     -- outputs filled their places, one after another, and no future is left
-    pub record FillsAll (old new : Places F A S) : Type 0 where
-      pub row : List (ℕ × A)
-      pub filled : FoldsTo (Fills future.polled source.steps (output_kept rule.output_of))
-          old row new
-      pub done : held_count new.set.slots ≡ 0
+    abbrev pub FillsAll : Places F A S → Places F A S → Context → Context → Type 0
+    FillsAll old new cx left = FillsThen future rule source
+        (λ before between. (before ≡ new) × (between ≡ left) × (held_in new.set ≡ 0)) old cx
 
-    -- one poll of the set was Pending
-    pub record WaitsOnce (old new : Places F A S) : Type 0 where
-      pub waits : PollsPending future.polled source.steps (output_kept rule.output_of) old new
-      pub again : AllHeld future.can_poll new.set.slots
+    -- and then one ended the join with this error
+    abbrev pub FailsAfter : Places F A S → Context → Context → E → Type 0
+    FailsAfter old cx left e = FillsThen future rule source
+        (λ before between. Fails future rule source before between left e) old cx
 
-    -- outputs filled their places, one after another, and then a poll of the set was Pending
-    pub record WaitsAfter (old new : Places F A S) : Type 0 where
-      pub row : List (ℕ × A)
-      pub before : Places F A S
-      pub filled : FoldsTo (Fills future.polled source.steps (output_kept rule.output_of))
-          old row before
-      pub waits : PollsPending future.polled source.steps (output_kept rule.output_of) before new
-      pub again : AllHeld future.can_poll new.set.slots
+    -- and then a poll of the set was Pending
+    abbrev pub WaitsAfter : Places F A S → Places F A S → Context → Context → Type 0
+    WaitsAfter old new cx left = FillsThen future rule source
+        (λ before between. PollsPending future rule source before new between left) old cx
 
 -- What the futures of a join that may fail did, by an answer that is ready.
 pub record FillsOrFails {B E : Type 0} (fills : Type 0) (fails : E → Type 0)

@@ -1,7 +1,6 @@
 pub mod Joining
 pub mod JoinMade
 pub mod JoiningFills
-pub mod JoinTask
 pub mod JoinRule
 pub mod Join
 pub mod Outputs

@@ -1,11 +1,10 @@
 //! A join by a rule: what is kept of each output, which output ends the join at once, and what the join is ready with.
-ghost use Rattle.std.specs.Prelude.{◌≡◌, None, IfSome, IsSomeAnd};
+ghost use Rattle.std.specs.Prelude.{IfSome, IsSomeAnd};
 ghost use Rattle.futures_buffered_core.specs.Drawn.{IsFiniteSource};
 ghost use Rattle.futures_buffered_unordered.specs.Held.{AllHeld};
-ghost use Rattle.futures_buffered_joins.specs.Joining.{Places};
+ghost use Rattle.futures_buffered_joins.specs.Joining.{JoinMayGive, Places};
 ghost use Rattle.futures_buffered_joins.specs.JoinMade.{MakesJoin};
-ghost use Rattle.futures_buffered_joins.specs.JoinTask.{PollsJoin, PollsTask};
-ghost use Rattle.futures_buffered_joins.specs.Join.{JoinMayGive, JoinsByPlace};
+ghost use Rattle.futures_buffered_joins.specs.Join.{JoinsByPlace, PollsJoin};
 
 pub use crate::join_rule::{JoinName, JoinRule};
 use crate::joining::Joining;
@@ -83,17 +82,15 @@ where
 
     ghost needs = { λ join n. IsSomeAnd join (λ places. S.needs places.set.source n) };
 
-    ghost gives = { λ join answer. JoinMayGive F.polled R.output_of join (R.seen answer) };
+    ghost gives = { λ join answer. JoinMayGive F.SlotFuture R.JoinRule join (R.seen answer) };
 
     /// Polls the set of the futures again and again, each output filling its place, until that is Pending, no future is left or an output ends the join. With no future left it is ready with all outputs; at an error it is ready with that error, and the other futures and all outputs are dropped in this call. In both cases it holds nothing more: its source is dropped, which may wake the task, and later polls give no outputs, and poll nothing.
     ///
     /// Takes no memory but what the calls of the source take, and waits for nobody where they do not. Takes time in proportion to the names that its polls of the set take, and at the end to the number of places, besides the polls.
     fn poll(&mut self, cx: &mut Context<'_>) -> Poll<R::Answer>
         requires { IfSome self.old (λ places. AllHeld F.can_poll places.set.slots) }
-        ensures join { PollsJoin F.SlotFuture R.JoinRule S.ReadySource self.old result self.new }
-        ensures task { PollsTask F.SlotFuture R.JoinRule S.ReadySource
-            self.old self.new result cx.old cx.new }
-        ensures untouched { self.old ≡ None → cx.new ≡ cx.old }
+        ensures { PollsJoin F.SlotFuture R.JoinRule S.ReadySource
+            self.old result self.new cx.old cx.new }
     {
         let Some(mut joining) = self.joining.take() else {
             return Poll::Ready(R::answer(Ok(Vec::new(self.alloc))));
@@ -146,5 +143,5 @@ pub fn outputs_come_by_place<R, F, O, S: NewSource>()
 where
     R: JoinRule<O>,
     F: SlotFuture<S::Waker, Output = O>,
-    ensures { JoinsByPlace F.polled S.steps R.output_of S.made S.marks POLL_LIMIT }
+    ensures { JoinsByPlace F.SlotFuture R.JoinRule S.ReadySource S.made POLL_LIMIT }
 {}

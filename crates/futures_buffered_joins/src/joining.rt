@@ -1,16 +1,15 @@
 //! What a join keeps until it ends: a set of its futures, and the outputs that have come.
-ghost use Rattle.std.specs.Prelude.{◌≡◌, ◌<◌, ◌+◌, Some, None, IsSome, IsTrue, ◌↔◌, map, slice_set};
+ghost use Rattle.std.specs.Prelude.{◌≡◌, ◌<◌, ◌+◌, Some, IsSome, IsTrue, ◌↔◌, map, slice_set};
 ghost use Rattle.futures.specs.Poll.{OnPending};
-ghost use Rattle.futures.specs.declared.task.context.Context.{Context};
+ghost use Rattle.futures.specs.Task.{Keeps};
 ghost use Rattle.futures_buffered_core.specs.Drawn.{IsFiniteSource};
 ghost use Rattle.futures_buffered_core.specs.SlotMap.{value_in, held_count};
 ghost use Rattle.futures_buffered_unordered.specs.Held.{AllHeld};
-ghost use Rattle.futures_buffered_unordered.specs.FuturesUnorderedBounded.{AsksSetTask, LeavesTask, with_empty_slot};
+ghost use Rattle.futures_buffered_unordered.specs.FuturesUnorderedBounded.{with_empty_slot};
 ghost use Rattle.futures_buffered_unordered.specs.Extended.{MakesFull};
 ghost use Rattle.futures_buffered_joins.specs.Joining.{IsNewJoin, Places, places_in};
-ghost use Rattle.futures_buffered_joins.specs.JoinTask.{PollsTask};
-ghost use Rattle.futures_buffered_joins.specs.JoiningFills.{FillsOne, FillsAll, FillsOrFails, WaitsOnce, WaitsAfter};
-ghost use Rattle.futures_buffered_joins.specs.Join.{Fails, FailsAfter};
+ghost use Rattle.futures_buffered_joins.specs.JoiningFills.{FailsAfter, FillsAll, FillsOne, FillsOrFails, WaitsAfter};
+ghost use Rattle.futures_buffered_joins.specs.Join.{Fails, PollsPending};
 
 use crate::join_rule::JoinRule;
 use crate::outputs::Outputs;
@@ -111,13 +110,11 @@ where
         requires some { 0 < held_count self.old.set.slots }
         requires held { AllHeld F.can_poll self.old.set.slots }
         ensures ready { FillsOrFails
-            (FillsOne F.SlotFuture R.JoinRule S.ReadySource self.old self.new)
-            (Fails F.polled S.steps R.output_of self.old) result }
+            (FillsOne F.SlotFuture R.JoinRule S.ReadySource self.old self.new cx.old cx.new)
+            (Fails F.SlotFuture R.JoinRule S.ReadySource self.old cx.old cx.new) result }
         ensures pending { OnPending result
-            (WaitsOnce F.SlotFuture R.JoinRule S.ReadySource self.old self.new) }
-        ensures task { AsksSetTask S.steps S.needs (S.registers_poll self.old.set.source)
-            (LeavesTask F.polled S.steps S.registers_poll self.old.set self.new.set)
-            self.new.set.source result cx.old cx.new }
+            (PollsPending F.SlotFuture R.JoinRule S.ReadySource self.old self.new cx.old cx.new) }
+        ensures kept { Keeps cx.old cx.new }
     {
         match self.set.poll_first(&PollFuture, cx) {
             Poll::Ready((i, output)) => match R::keep(output) {
@@ -138,12 +135,11 @@ where
     ) -> Poll<Result<(), R::Error>>
         requires { AllHeld F.can_poll self.old.set.slots }
         ensures ready { FillsOrFails
-            (FillsAll F.SlotFuture R.JoinRule S.ReadySource self.old self.new)
-            (FailsAfter F.polled S.steps R.output_of self.old) result }
+            (FillsAll F.SlotFuture R.JoinRule S.ReadySource self.old self.new cx.old cx.new)
+            (FailsAfter F.SlotFuture R.JoinRule S.ReadySource self.old cx.old cx.new) result }
         ensures pending { OnPending result
-            (WaitsAfter F.SlotFuture R.JoinRule S.ReadySource self.old self.new) }
-        ensures task { PollsTask F.SlotFuture R.JoinRule S.ReadySource
-            (Some self.old) (Some self.new) result cx.old cx.new }
+            (WaitsAfter F.SlotFuture R.JoinRule S.ReadySource self.old self.new cx.old cx.new) }
+        ensures kept { Keeps cx.old cx.new }
     {
         'places: while !self.is_done() {
             match self.fill_one::<R>(cx) {

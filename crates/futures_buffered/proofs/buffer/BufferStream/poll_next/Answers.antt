@@ -1,14 +1,7 @@
 use Rattle.std.proofs.Common.{◌≡◌, [], ◌∷◌, Some, None, sym, refl}
-use Rattle.futures_buffered.specs.Buffer.{PollsStream, BufferGives}
-use Rattle.futures_buffered.proofs.BufferLemmas.{as_before, call_of, task_of, some_pends, none_ends, none_is, queue_within, queue_value, queue_after, queue_ends, polled_can, same_can, pending_covers, empty_covers}
+use Rattle.futures_buffered.specs.Buffer.{BufferGives}
+use Rattle.futures_buffered.proofs.BufferLemmas.{as_before, poll_of, some_pends, none_ends, none_is, queue_within, queue_value, queue_after, queue_ends, polled_can, same_can, pending_covers, empty_covers}
 use Rattle.futures_buffered.proofs.buffer.BufferStream.poll_next.Goals as goal
-
-pub returns-in-Pending-clause-called : goal.returns-in-Pending-clause-called
-returns-in-Pending-clause-called g c =
-    let stream = g.St.Stream in
-    let queue = g.Q.FutureQueue in
-    call_of (PollsStream stream.yields) queue.count (queue.room c.args.self.now.queue) queue.pushes queue.polls (Unit {0}) c.args.self.now c.fill.new.self c.self.inside.stream c.self.inside.queue c.poll_output.new.self c.poll_output.result _ (sym c.self.view_is) c.in_default.ensures.draws c.poll_output.ensures.polled
-    (rw c.in-Pending.is refl)
 
 pub returns-in-Pending-clause-stream : goal.returns-in-Pending-clause-stream
 returns-in-Pending-clause-stream g c =
@@ -26,19 +19,12 @@ returns-in-Pending-clause-stream g c =
       kept = λ fact h. c.poll_output.ensures.stream.kept fact (c.fill.ensures.task.kept fact h);
     }
 
-pub returns-in-Pending-clause-leaves : goal.returns-in-Pending-clause-leaves
-returns-in-Pending-clause-leaves g c =
-    let stream = g.St.Stream in
-    let queue = g.Q.FutureQueue in
-    task_of (PollsStream stream.yields) queue.count (queue.room c.args.self.now.queue) queue.pushes queue.polls queue.leaves c.args.self.now c.fill.new.self c.self.inside.stream c.self.inside.queue c.poll_output.new.self c.poll_output.result _ c.args.cx.now c.fill.new.cx c.poll_output.new.cx (sym c.self.view_is) c.in_default.ensures.draws c.poll_output.ensures.polled c.poll_output.ensures.leaves
-    (rw c.in-Pending.is refl) c.fill.ensures.task.kept c.fill.ensures.task.no_turn
-
-pub returns-in-Ready-Some-clause-called : goal.returns-in-Ready-Some-clause-called
-returns-in-Ready-Some-clause-called g c =
-    let stream = g.St.Stream in
-    let queue = g.Q.FutureQueue in
-    call_of (PollsStream stream.yields) queue.count (queue.room c.args.self.now.queue) queue.pushes queue.polls (Unit {0}) c.args.self.now c.fill.new.self c.self.inside.stream c.self.inside.queue c.poll_output.new.self c.poll_output.result _ (sym c.self.view_is) c.in_default.ensures.draws c.poll_output.ensures.polled
-    (rw (c.in-Ready-Some.is, c.in-Ready-Some.field-0-is) refl)
+pub returns-in-Pending-clause-polls : goal.returns-in-Pending-clause-polls
+returns-in-Pending-clause-polls g c =
+    let filled = c.fill.ensures in
+    let polled = c.poll_output.ensures in
+    poll_of g.St.Stream g.Q.FutureQueue c.args.self.now c.fill.new.self c.self.inside.stream c.self.inside.queue c.poll_output.new.self c.poll_output.result _ c.args.cx.now c.fill.new.cx c.poll_output.new.cx (sym c.self.view_is) c.in_default.ensures.draws polled.polled polled.leaves polled.queue
+    (rw c.in-Pending.is refl) filled.task.kept filled.task.no_turn filled.buffer.same_room
 
 pub returns-in-Ready-Some-clause-stream : goal.returns-in-Ready-Some-clause-stream
 returns-in-Ready-Some-clause-stream g c =
@@ -57,19 +43,12 @@ returns-in-Ready-Some-clause-stream g c =
       kept = λ fact h. c.poll_output.ensures.stream.kept fact (c.fill.ensures.task.kept fact h);
     }
 
-pub returns-in-Ready-Some-clause-leaves : goal.returns-in-Ready-Some-clause-leaves
-returns-in-Ready-Some-clause-leaves g c =
-    let stream = g.St.Stream in
-    let queue = g.Q.FutureQueue in
-    task_of (PollsStream stream.yields) queue.count (queue.room c.args.self.now.queue) queue.pushes queue.polls queue.leaves c.args.self.now c.fill.new.self c.self.inside.stream c.self.inside.queue c.poll_output.new.self c.poll_output.result _ c.args.cx.now c.fill.new.cx c.poll_output.new.cx (sym c.self.view_is) c.in_default.ensures.draws c.poll_output.ensures.polled c.poll_output.ensures.leaves
-    (rw (c.in-Ready-Some.is, c.in-Ready-Some.field-0-is) refl) c.fill.ensures.task.kept c.fill.ensures.task.no_turn
-
-pub returns-then-is_some-clause-called : goal.returns-then-is_some-clause-called
-returns-then-is_some-clause-called g c =
-    let stream = g.St.Stream in
-    let queue = g.Q.FutureQueue in
-    call_of (PollsStream stream.yields) queue.count (queue.room c.args.self.now.queue) queue.pushes queue.polls (Unit {0}) c.args.self.now c.fill.new.self c.self.inside.stream c.self.inside.queue c.poll_output.new.self c.poll_output.result _ (sym c.self.view_is) c.in_default.ensures.draws c.poll_output.ensures.polled
-    (rw (c.in-Ready-None.is, c.in-Ready-None.field-0-is) (some_pends c.self.inside.stream (sym c.if-is_some.ensures)))
+pub returns-in-Ready-Some-clause-polls : goal.returns-in-Ready-Some-clause-polls
+returns-in-Ready-Some-clause-polls g c =
+    let filled = c.fill.ensures in
+    let polled = c.poll_output.ensures in
+    poll_of g.St.Stream g.Q.FutureQueue c.args.self.now c.fill.new.self c.self.inside.stream c.self.inside.queue c.poll_output.new.self c.poll_output.result _ c.args.cx.now c.fill.new.cx c.poll_output.new.cx (sym c.self.view_is) c.in_default.ensures.draws polled.polled polled.leaves polled.queue
+    (rw (c.in-Ready-Some.is, c.in-Ready-Some.field-0-is) refl) filled.task.kept filled.task.no_turn filled.buffer.same_room
 
 pub returns-then-is_some-clause-stream : goal.returns-then-is_some-clause-stream
 returns-then-is_some-clause-stream g c =
@@ -88,19 +67,12 @@ returns-then-is_some-clause-stream g c =
       kept = λ fact h. c.poll_output.ensures.stream.kept fact (c.fill.ensures.task.kept fact h);
     }
 
-pub returns-then-is_some-clause-leaves : goal.returns-then-is_some-clause-leaves
-returns-then-is_some-clause-leaves g c =
-    let stream = g.St.Stream in
-    let queue = g.Q.FutureQueue in
-    task_of (PollsStream stream.yields) queue.count (queue.room c.args.self.now.queue) queue.pushes queue.polls queue.leaves c.args.self.now c.fill.new.self c.self.inside.stream c.self.inside.queue c.poll_output.new.self c.poll_output.result _ c.args.cx.now c.fill.new.cx c.poll_output.new.cx (sym c.self.view_is) c.in_default.ensures.draws c.poll_output.ensures.polled c.poll_output.ensures.leaves
-    (rw (c.in-Ready-None.is, c.in-Ready-None.field-0-is) (some_pends c.self.inside.stream (sym c.if-is_some.ensures))) c.fill.ensures.task.kept c.fill.ensures.task.no_turn
-
-pub returns-clause-called : goal.returns-clause-called
-returns-clause-called g c =
-    let stream = g.St.Stream in
-    let queue = g.Q.FutureQueue in
-    call_of (PollsStream stream.yields) queue.count (queue.room c.args.self.now.queue) queue.pushes queue.polls (Unit {0}) c.args.self.now c.fill.new.self c.self.inside.stream c.self.inside.queue c.poll_output.new.self c.poll_output.result _ (sym c.self.view_is) c.in_default.ensures.draws c.poll_output.ensures.polled
-    (rw (c.in-Ready-None.is, c.in-Ready-None.field-0-is) (none_ends c.self.inside.stream (sym c.if-is_some.ensures)))
+pub returns-then-is_some-clause-polls : goal.returns-then-is_some-clause-polls
+returns-then-is_some-clause-polls g c =
+    let filled = c.fill.ensures in
+    let polled = c.poll_output.ensures in
+    poll_of g.St.Stream g.Q.FutureQueue c.args.self.now c.fill.new.self c.self.inside.stream c.self.inside.queue c.poll_output.new.self c.poll_output.result _ c.args.cx.now c.fill.new.cx c.poll_output.new.cx (sym c.self.view_is) c.in_default.ensures.draws polled.polled polled.leaves polled.queue
+    (rw (c.in-Ready-None.is, c.in-Ready-None.field-0-is) (some_pends c.self.inside.stream (sym c.if-is_some.ensures))) filled.task.kept filled.task.no_turn filled.buffer.same_room
 
 pub returns-clause-stream : goal.returns-clause-stream
 returns-clause-stream g c =
@@ -120,24 +92,23 @@ returns-clause-stream g c =
       kept = λ fact h. c.poll_output.ensures.stream.kept fact (c.fill.ensures.task.kept fact h);
     }
 
-pub returns-clause-leaves : goal.returns-clause-leaves
-returns-clause-leaves g c =
-    let stream = g.St.Stream in
-    let queue = g.Q.FutureQueue in
-    task_of (PollsStream stream.yields) queue.count (queue.room c.args.self.now.queue) queue.pushes queue.polls queue.leaves c.args.self.now c.fill.new.self c.self.inside.stream c.self.inside.queue c.poll_output.new.self c.poll_output.result _ c.args.cx.now c.fill.new.cx c.poll_output.new.cx (sym c.self.view_is) c.in_default.ensures.draws c.poll_output.ensures.polled c.poll_output.ensures.leaves
-    (rw (c.in-Ready-None.is, c.in-Ready-None.field-0-is) (none_ends c.self.inside.stream (sym c.if-is_some.ensures))) c.fill.ensures.task.kept c.fill.ensures.task.no_turn
+pub returns-clause-polls : goal.returns-clause-polls
+returns-clause-polls g c =
+    let filled = c.fill.ensures in
+    let polled = c.poll_output.ensures in
+    poll_of g.St.Stream g.Q.FutureQueue c.args.self.now c.fill.new.self c.self.inside.stream c.self.inside.queue c.poll_output.new.self c.poll_output.result _ c.args.cx.now c.fill.new.cx c.poll_output.new.cx (sym c.self.view_is) c.in_default.ensures.draws polled.polled polled.leaves polled.queue
+    (rw (c.in-Ready-None.is, c.in-Ready-None.field-0-is) (none_ends c.self.inside.stream (sym c.if-is_some.ensures))) filled.task.kept filled.task.no_turn filled.buffer.same_room
 
-pub returns-in-Some-clause-called : goal.returns-in-Some-clause-called
-returns-in-Some-clause-called g c =
-    let draws = c.in-Some.ensures.draws in
-    (draws.0, record { given = Some c.in-Some.answer; filled = c.fill.new.self; draws = draws.1; ends = (refl, refl, tt) })
-
-pub returns-in-Some-clause-leaves : goal.returns-in-Some-clause-leaves
-returns-in-Some-clause-leaves g c =
+pub returns-in-Some-clause-polls : goal.returns-in-Some-clause-polls
+returns-in-Some-clause-polls g c =
+    let filled = c.fill.ensures in
     let draws = c.in-Some.ensures.draws in
     record {
       drawn = c.fill.new.cx;
-      kept = c.fill.ensures.task.kept;
-      not_polled = c.fill.ensures.task.no_turn;
-      called = (draws.0, record { given = Some c.in-Some.answer; filled = c.fill.new.self; draws = draws.1; ends = (refl, refl, refl) });
+      draws_keep = filled.task.kept;
+      not_polled = filled.task.no_turn;
+      gave = (draws.0, record { given = Some c.in-Some.answer; filled = c.fill.new.self; draws = draws.1; ends = (refl, refl, refl) });
+      ended = tt;
+      same_room = filled.buffer.same_room;
+      bound = filled.buffer.bound;
     }

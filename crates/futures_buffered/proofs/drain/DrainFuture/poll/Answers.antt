@@ -1,9 +1,9 @@
 use Rattle.std.proofs.Common.{rules, ◌≡◌, ◌<◌, ◌∷◌, ◌++◌, [], length, None, refl, inl, inr, arith, ◌∙◌}
 use Rattle.std.proofs.lemmas.Fn.{FoldsTo-push}
 use Rattle.std.proofs.lemmas.List.{length_push}
-use Rattle.futures_buffered.specs.Buffer.{PollsStream, CanDraw, BufferGives}
-use Rattle.futures_buffered.specs.Drain.{CallsBuffer, CanDrain, DrainGives, GoesOn}
-use Rattle.futures_buffered.proofs.DrainLemmas.{call_leaves}
+use Rattle.futures_buffered.specs.Buffer.{PollsBuffer, buffer_of}
+use Rattle.futures_buffered.specs.Drain.{GoesOn}
+use Rattle.futures_buffered.proofs.DrainLemmas.{call_leaves, stops_at_limit}
 use Rattle.futures_buffered.proofs.drain.DrainFuture.poll.Goals as goal
 
 pub turns-init : goal.turns-init
@@ -11,14 +11,12 @@ turns-init g c = record { done = []; row = refl; count = refl; limit = refl; aga
 
 pub turns-preserved : goal.turns-preserved
 turns-preserved g c =
-    let stream = g.St.Stream in
-    let queue = g.Q.FutureQueue in
     let so = c.turns.invariant in
     let none : c.turn.result ≡ None = search rules in
     let goes = rw none at c.turn.ensures.goes in
     record {
       done = so.done ++ tt ∷ [];
-      row = FoldsTo-push (GoesOn g.Q.Output.DrainOutput (CallsBuffer (PollsStream stream.yields) queue.count queue.room queue.pushes queue.polls queue.leaves)) (c.args.self.now.buffer, c.args.cx.now) so.done (c.turns.self.buffer, c.turns.cx) tt (c.turn.new.self.buffer, c.turn.new.cx) so.row (rw none at c.turn.ensures.turn);
+      row = FoldsTo-push (GoesOn g.Q.Output.DrainOutput (PollsBuffer g.St.Stream g.Q.FutureQueue)) (c.args.self.now.buffer, c.args.cx.now) so.done (c.turns.self.buffer, c.turns.cx) tt (c.turn.new.self.buffer, c.turn.new.cx) so.row (rw none at c.turn.ensures.turn);
       count = omega (arith, length_push so.done tt, so.count);
       limit = goes.limit ∙ so.limit;
       again = goes.again;
@@ -26,21 +24,21 @@ turns-preserved g c =
       kept = λ fact h. c.turn.ensures.kept fact (so.kept fact h);
     }
 
-pub returns-in-Some-clause-called : goal.returns-in-Some-clause-called
-returns-in-Some-clause-called g c =
+pub returns-in-Some : goal.returns-in-Some
+returns-in-Some g c =
     let so = c.turns.invariant in
     let below : length so.done < c.args.self.now.limit = let k = so.count in search rules in
-    record { turns = so.done; before = (c.turns.self.buffer, c.turns.cx); row = so.row; ends = inl (below, c.in-Some.ensures.turn) }
+    record {
+      called = record { turns = so.done; before = (c.turns.self.buffer, c.turns.cx); row = so.row; ends = inl (below, c.in-Some.ensures.turn) };
+      leaves = call_leaves g.Q.Output.DrainOutput (buffer_of g.St.Stream g.Q.FutureQueue) c.args.self.now c.turns.self c.turn.new.self c.in-Some.answer _ _ _ so.limit so.gives so.kept c.in-Some.ensures.ends;
+    }
 
-pub returns-in-Some-clause-drain : goal.returns-in-Some-clause-drain
-returns-in-Some-clause-drain g c =
-    let stream = g.St.Stream in
-    let queue = g.Q.FutureQueue in
-    let so = c.turns.invariant in
-    call_leaves (CanDrain (CanDraw stream.can_poll stream.yields queue.is_fit queue.can_poll)) (DrainGives g.Q.Output.DrainOutput (BufferGives stream.yields queue.gives queue.count queue.yields queue.in_order)) c.args.self.now c.turns.self c.turn.new.self c.in-Some.answer so.limit so.gives c.in-Some.ensures.ends
-
-pub returns-clause-called : goal.returns-clause-called
-returns-clause-called g c =
+pub returns : goal.returns
+returns g c =
     let so = c.turns.invariant in
     let full : length so.done ≡ c.args.self.now.limit = let k = so.count in search rules in
-    record { turns = so.done; before = (c.turns.self.buffer, c.turns.cx); row = so.row; ends = inr (full, c.yield_now.ensures.pending, refl, c.yield_now.ensures.heard) }
+    let woken = c.yield_now.ensures in
+    record {
+      called = record { turns = so.done; before = (c.turns.self.buffer, c.turns.cx); row = so.row; ends = inr (full, woken.pending, refl, woken.heard) };
+      leaves = stops_at_limit g.Q.Output.DrainOutput (buffer_of g.St.Stream g.Q.FutureQueue) c.args.self.now c.turns.self _ _ _ _ woken.pending so.limit so.gives so.again (woken.armed, λ place waits. woken.heard place) so.kept woken.kept;
+    }
