@@ -157,13 +157,13 @@ struct KitMerge {
 }
 
 impl Model for KitMerge {
-    ghost use Rattle.futures_buffered.specs.InFlightMerge.{CanPollAll};
+    ghost use Rattle.futures_buffered.specs.InFlightMerge.{CanPollStreams};
 
     ghost Value = { Unit {0} };
 
     ghost view = { λ _. tt };
 
-    ghost invariant = { λ m. CanPollAll ⟦<KitStream as Stream>⟧ m.merge };
+    ghost invariant = { λ m. CanPollStreams ⟦<KitStream as Stream>⟧ m.merge };
 }
 
 impl Subject for KitMerge {

@@ -20,8 +20,8 @@ abbrev pub ScriptGrowing : Type 0
 ScriptGrowing = Growing ReadyAfter Standing
 
 -- one poll of the groups of a growing set, each polled as a bounded set is; the limit stays
-abbrev pub PollsGrowing : ScriptGrowing → PollAnswer (Option ℕ) → ScriptGrowing → Type 0
-PollsGrowing old answer new =
+abbrev pub PollsGrowingLine : ScriptGrowing → PollAnswer (Option ℕ) → ScriptGrowing → Type 0
+PollsGrowingLine old answer new =
     GroupsGive PollsSet old.groups answer new.groups × (new.limit ≡ old.limit)
 
 -- one push into a growing set that can take more
@@ -33,7 +33,7 @@ PushesGrowing old future new = (IsAtBound old.groups.listed → ⊥)
 abbrev pub GrowingGives : ScriptGrowing → Command → Reply → ScriptGrowing → Type 0
 GrowingGives old (Push future) reply new = (reply ≡ Done) × PushesGrowing old future new
 GrowingGives old Poll reply new =
-    (answer : PollAnswer (Option ℕ)) × (reply ≡ poll_reply answer) × PollsGrowing old answer new
+    (answer : PollAnswer (Option ℕ)) × (reply ≡ poll_reply answer) × PollsGrowingLine old answer new
 GrowingGives old Len reply new = (reply ≡ Count (held_in_all old.groups.listed)) × (new ≡ old)
 GrowingGives old command reply new = (reply ≡ Bad) × (new ≡ old)
 

@@ -35,8 +35,8 @@ abbrev pub FrontGives : ScriptOrdered → ReadyAfter → Reply → ScriptOrdered
 FrontGives = QueuePushGives (AddsFront (PushesNumber Marks))
 
 -- one poll of the queue
-abbrev pub PollsQueue : ScriptOrdered → PollAnswer (Option ℕ) → ScriptOrdered → Type 0
-PollsQueue old answer new =
+abbrev pub PollsOrderedLine : ScriptOrdered → PollAnswer (Option ℕ) → ScriptOrdered → Type 0
+PollsOrderedLine old answer new =
     OrderedGives (SetGives (λ _. PollsReadyAfter) core_steps) held_in old answer new
 
 -- one mark of a slot of the queue's set
@@ -52,7 +52,7 @@ QueueGives old (Wake slot) reply new =
     ((woke : Woke) × (reply ≡ woke_reply woke) × MarksQueue old slot woke new)
     ⊎ ((reply ≡ Bad) × (slot_count old.set.slots ≤ slot) × (new ≡ old))
 QueueGives old Poll reply new =
-    (answer : PollAnswer (Option ℕ)) × (reply ≡ poll_reply answer) × PollsQueue old answer new
+    (answer : PollAnswer (Option ℕ)) × (reply ≡ poll_reply answer) × PollsOrderedLine old answer new
 QueueGives old Len reply new = (reply ≡ Count (length old.entries)) × (new ≡ old)
 QueueGives old command reply new = (reply ≡ Bad) × (new ≡ old)
 

@@ -12,7 +12,7 @@ use Rattle.fbuf_lines.specs.Lines.{lines_of}
 use Rattle.fbuf_lines.specs.Session.{first_session}
 use Rattle.fbuf_program.specs.Script.{AppendsFirstReplies, AppendsPartOfReplies}
 use Rattle.fbuf_program.specs.Threads.{AppendsThreadsLine}
-use Rattle.fbuf_program.specs.ProgramWords.{WordsAskFor, CallEnds, EndsScript}
+use Rattle.fbuf_program.specs.ProgramWords.{WordsAskFor, ProgramEnds, EndsScript}
 use Rattle.fbuf_program.specs.ProgramWords.{status_of, ended_status, fault_of_script}
 use Rattle.fbuf_program.specs.declared.program_words.Call.{Call}
 use Rattle.fbuf_program.specs.declared.program_words.Call.TheVariants.{Script, Threads}
@@ -129,7 +129,7 @@ done_at_zero (Err given) P fault ok none = absurd (omega (arith, fault, none))
 -- words that ask for a run of threads ask for no other call
 pub threads_end : (words : List (List ℕ)) (n m status : ℕ) (known old new : Option (List ℕ))
     → WordsAskFor words (Some (Threads n m)) → (status ≡ 0 → AppendsThreadsLine n m old new)
-    → (call : Call) → WordsAskFor words (Some call) → CallEnds call status known old new
+    → (call : Call) → WordsAskFor words (Some call) → ProgramEnds call status known old new
 threads_end words n m status known old new asked done Script asks =
     let none = sym asks.0 ∙ asked.0 in cc
 threads_end words n m status known old new asked done (Threads p q) asks =

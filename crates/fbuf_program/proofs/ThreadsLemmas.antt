@@ -28,7 +28,7 @@ use Rattle.futures_buffered_unordered.specs.FuturesUnorderedBounded.{Bounded, Po
 use Rattle.futures_buffered_unordered.proofs.HeldLemmas.{value_in-with_value}
 use Rattle.fbuf_lines.specs.Command.{spaced_number}
 use Rattle.fbuf_program.specs.declared.threads.AllWakes.{AllWakes}
-use Rattle.fbuf_program.specs.Threads.{times_in, has_number, times_held, AnswersNumber}
+use Rattle.fbuf_program.specs.Threads.{times_in, is_numbered, times_held, AnswersNumber}
 use Rattle.fbuf_program.specs.Threads.{HoldsNumbers, GaveNumber, GiveNumbers}
 
 -- no number stands behind the text yet
@@ -128,7 +128,7 @@ pub HoldsNumbers-none : (R : Type 0) (n : ℕ) → HoldsNumbers {R = R} (no_slot
 HoldsNumbers-none R n k =
     omega (
       arith,
-      sum_by-replicate (λ (o : Option (AllWakes R)). cond (has_number k o) 1 0) n None,
+      sum_by-replicate (λ (o : Option (AllWakes R)). cond (is_numbered k o) 1 0) n None,
     )
 
 -- a sort, and one after a push
@@ -153,10 +153,10 @@ module _ {R : Type 0} where
   times_held-set : (slots : Slots (AllWakes R)) (i : ℕ) (held : Option (AllWakes R))
       (free : List ℕ) (k : ℕ) → i < slot_count slots
       → times_held (record { places = set slots.places i held; free = free }) k
-      + cond (has_number k (value_in slots i)) 1 0
-      ≡ times_held slots k + cond (has_number k held) 1 0
+      + cond (is_numbered k (value_in slots i)) 1 0
+      ≡ times_held slots k + cond (is_numbered k held) 1 0
   times_held-set slots i held free k within =
-      sum_by-set (λ (o : Option (AllWakes R)). cond (has_number k o) 1 0)
+      sum_by-set (λ (o : Option (AllWakes R)). cond (is_numbered k o) 1 0)
       slots.places i held None within
 
   within_slots : (slots : Slots (AllWakes R)) (i : ℕ) (future : AllWakes R)
@@ -189,7 +189,7 @@ module _ {R : Type 0} where
   times_held-none slots k none =
       omega (
         arith,
-        sum_by-le-sum_by (λ (o : Option (AllWakes R)). cond (has_number k o) 1 0)
+        sum_by-le-sum_by (λ (o : Option (AllWakes R)). cond (is_numbered k o) 1 0)
             (λ o. cond (is_some o) 1 0) slots.places counts,
       )
     where
@@ -197,7 +197,7 @@ module _ {R : Type 0} where
       at_most true = omega arith
       at_most false = omega arith
 
-      counts : (o : Option (AllWakes R)) → cond (has_number k o) 1 0 ≤ cond (is_some o) 1 0
+      counts : (o : Option (AllWakes R)) → cond (is_numbered k o) 1 0 ≤ cond (is_some o) 1 0
       counts None = omega arith
       counts (Some future) = at_most (eqb future.number k)
 

@@ -62,9 +62,9 @@ pub record EndsScript (status : ℕ) (bytes : List ℕ) (old new : Option (List 
   pub failed : status ≡ 1 → AppendsPartOfReplies bytes old new
 
 -- what a call has written, by its status, to a script whose bytes may be known
-abbrev pub CallEnds : Call → ℕ → Option (List ℕ) → Option (List ℕ) → Option (List ℕ) → Type 0
-CallEnds Script status input old new = IfSome input (λ bytes. EndsScript status bytes old new)
-CallEnds (Threads n m) status input old new = status ≡ 0 → AppendsThreadsLine n m old new
+abbrev pub ProgramEnds : Call → ℕ → Option (List ℕ) → Option (List ℕ) → Option (List ℕ) → Type 0
+ProgramEnds Script status input old new = IfSome input (λ bytes. EndsScript status bytes old new)
+ProgramEnds (Threads n m) status input old new = status ≡ 0 → AppendsThreadsLine n m old new
 
 -- what ends the program where a script or a run of threads was ended
 abbrev pub fault_of_script : ScriptFault → Fault

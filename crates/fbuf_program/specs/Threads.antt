@@ -37,13 +37,13 @@ module _ {R : Type 0} where
       × IfReady answer (λ number. number ≡ old.number)
 
   -- what a slot holds has this number
-  abbrev pub has_number : ℕ → Option (AllWakes R) → Bool
-  has_number k None = false
-  has_number k (Some future) = future.number == k
+  abbrev pub is_numbered : ℕ → Option (AllWakes R) → Bool
+  is_numbered k None = false
+  is_numbered k (Some future) = future.number == k
 
   -- how many futures of this number are held
   abbrev pub times_held : Slots (AllWakes R) → ℕ → ℕ
-  times_held slots k = count_by (has_number k) slots.places
+  times_held slots k = count_by (is_numbered k) slots.places
 
   -- these are the numbers of the futures that are held, in any order
   abbrev pub HoldsNumbers : Slots (AllWakes R) → List ℕ → Type 0

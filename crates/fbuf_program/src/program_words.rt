@@ -6,7 +6,7 @@ ghost use Rattle.std.specs.declared.io.ErrorKind.TheVariants.{OutOfMemory};
 ghost use Rattle.std.specs.Vec.Iter.{into_iter_items};
 ghost use Rattle.std.specs.String.{string_bytes};
 ghost use Rattle.std.specs.Fmt.{decimal};
-ghost use Rattle.fbuf_program.specs.ProgramWords.{WordsAskFor, CallEnds, EndsScript};
+ghost use Rattle.fbuf_program.specs.ProgramWords.{WordsAskFor, ProgramEnds, EndsScript};
 ghost use Rattle.fbuf_program.specs.ProgramWords.{status_of, ended_status};
 ghost use Rattle.fbuf_program.specs.Threads.{AppendsThreadsLine};
 
@@ -154,7 +154,7 @@ where
     ensures untouched { result ≡ 2 → (input.new ≡ input.old) × (output.new ≡ output.old) }
     ensures ends { IfOk words (λ given. (call : Call) →
         WordsAskFor (map string_bytes (into_iter_items given)) (Some call) →
-        CallEnds call result (R.remaining input.old.inner) (W.contents output.old.inner)
+        ProgramEnds call result (R.remaining input.old.inner) (W.contents output.old.inner)
         (W.contents output.new.inner)) }
     ensures words { IfErr words (λ _. (1 ≤ result) × (input.new ≡ input.old)
         × (output.new ≡ output.old)) }
@@ -191,7 +191,7 @@ where
         (input.new ≡ input.old) × (output.new ≡ output.old) }
     ensures ends { (call : Call) →
         WordsAskFor (map string_bytes (into_iter_items words)) (Some call) →
-        CallEnds call (ended_status result) (R.remaining input.old.inner)
+        ProgramEnds call (ended_status result) (R.remaining input.old.inner)
         (W.contents output.old.inner) (W.contents output.new.inner) }
 {
     match call_of(words) {

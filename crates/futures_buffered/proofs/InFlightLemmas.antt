@@ -12,8 +12,8 @@ use Rattle.futures_buffered_unordered.specs.StreamAnswers.{StreamAnswers, stream
 use Rattle.futures_buffered_unordered.proofs.HeldGivesLemmas.{Gathers-Within, Gathers-After}
 use Rattle.futures_buffered_in_flight.specs.InFlight.{FutureOf}
 use Rattle.futures_buffered_ordered.specs.declared.numbered.Numbered.{Numbered}
-use Rattle.futures_buffered_in_flight.specs.InFlightOrdered.{CanPollOrdered, ComesInTurn, LeavesInOrder, OrderedInFlight, PushesBack, ordered_count, ordered_room}
-use Rattle.futures_buffered_in_flight.specs.InFlightQueue.{Queued, AnyOf, AnyQueuedGives, NumberGives, CanPollQueue, ComesFromQueue, HoldsWithinRoom, PollsQueued, PollsQueuedTask, PushesQueued, QueueWaitsAt, queued_count, queued_room}
+use Rattle.futures_buffered_in_flight.specs.InFlightOrdered.{CanPollOrdered, ComesOfEach, LeavesInOrder, OrderedInFlight, PushesBack, ordered_count, ordered_room}
+use Rattle.futures_buffered_in_flight.specs.InFlightQueue.{Queued, SomeOf, AnyQueuedGives, NumberGives, CanPollQueue, ComesFromQueue, HoldsWithinRoom, PollsQueued, PollsQueuedTask, PushesQueued, QueuedWaitsAt, queued_count, queued_room}
 use Rattle.futures_buffered.specs.FutureQueue.{AddsOutput, MayCome, PollLeavesQueue, PushLeavesQueue}
 
 some_held : {P : Type 0} (m : Slots P) (i : ℕ) (p : P) → value_in m i ≡ Some p → 0 < held_count m
@@ -25,7 +25,7 @@ some_held {P} m i p found =
     omega (arith, rw found at (get_or-le-sum_by (λ (o : Option P). cond (is_some o) 1 0) m.places i None within))
 
 module _ {F A : Type 0} (future : FutureOf F A) where
-  waiting_counts : (fs : List (Numbered F)) (out : ℕ × A) → AnyOf future fs out → 0 < length fs
+  waiting_counts : (fs : List (Numbered F)) (out : ℕ × A) → SomeOf future fs out → 0 < length fs
   waiting_counts [] out h = absurd h
   waiting_counts (f ∷ fs) out h = omega arith
 
@@ -66,7 +66,7 @@ module _ {F A : Type 0} (future : FutureOf F A) where
   poll_leaves old new Pending p within = record { empty = tt; fewer = tt; same_count = p.gave.1; same_room = p.same_room; some = within.0; bound = within.1 }
 
   pub answers : (old new : Queued F) (answer : Poll (Option A)) (cx left : Context) → PollsQueued future old answer new → PollsQueuedTask answer new cx left
-      → StreamAnswers (stream_of (CanPollQueue future) QueueWaitsAt (ComesFromQueue future)) old answer new cx left
+      → StreamAnswers (stream_of (CanPollQueue future) QueuedWaitsAt (ComesFromQueue future)) old answer new cx left
   answers old new (Ready None) cx left p task =
       record { value = record { each = tt; ends = let k = p.gave.0 in omega (arith, k) }; rest = tt; same = tt; goes = tt; again = tt; registered = tt; kept = task.kept }
   answers old new (Ready (Some x)) cx left p task =
@@ -91,7 +91,7 @@ module _ {F A : Type 0} (future : FutureOf F A) where
       }
 
   pub push_leaves_ordered : (old new : OrderedInFlight F A) (f : F) → PushesBack future old f new
-      → PushLeavesQueue ordered_count ordered_room true (ComesInTurn future) future.gives future.can_poll (CanPollOrdered future) old f None new
+      → PushLeavesQueue ordered_count ordered_room true (ComesOfEach future) future.gives future.can_poll (CanPollOrdered future) old f None new
   push_leaves_ordered old new f p =
       record {
         one_more = p.one_more;

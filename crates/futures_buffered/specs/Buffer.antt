@@ -67,7 +67,7 @@ output_of Pending = None
 
 module _ {St A Q : Type 0} (polls : Q → Poll (Option A) → Q → Type 0) where
   -- the queue was polled once, and the stream was not
-  pub record PollsQueue (old : Buffering St Q) (answer : Poll (Option A))
+  pub record AsksQueue (old : Buffering St Q) (answer : Poll (Option A))
       (new : Buffering St Q) : Type 0 where
     pub queue_answer : Poll (Option A)
     pub polls_queue : polls old.queue queue_answer new.queue
@@ -78,7 +78,7 @@ module _ {St A Q : Type 0} (polls : Q → Poll (Option A) → Q → Type 0) wher
   -- polled and `alone` holds; or else with a poll of the queue
   abbrev pub CallEnds : Type 0 → Option A → Buffering St Q → Poll (Option A) → Buffering St Q
       → Type 0
-  CallEnds alone None filled answer new = PollsQueue filled answer new
+  CallEnds alone None filled answer new = AsksQueue filled answer new
   CallEnds alone (Some x) filled answer new =
       (answer ≡ Ready (Some x)) × (new ≡ filled) × alone
 

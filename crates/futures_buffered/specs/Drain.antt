@@ -65,8 +65,8 @@ module _ {O : Type 0} (output : DrainOutputOf O) where
           × (new ≡ left_after answer after)
 
       -- a turn after which another follows, of the buffer and of its task
-      abbrev pub GoesOn : Option B × Context → Unit {0} → Option B × Context → Type 0
-      GoesOn old _ new = DrainTurn old.0 None new.0 old.1 new.1
+      abbrev pub DrainGoesOn : Option B × Context → Unit {0} → Option B × Context → Type 0
+      DrainGoesOn old _ new = DrainTurn old.0 None new.0 old.1 new.1
 
       -- how a call ends, where so many turns came before: with one more, which is the last; or
       -- without, where that would be one too many, and then it is pending and the task is woken
@@ -85,7 +85,7 @@ module _ {O : Type 0} (output : DrainOutputOf O) where
           : Type 0 where
         pub turns : List (Unit {0})
         pub before : Option B × Context
-        pub row : FoldsTo GoesOn (old, cx) turns before
+        pub row : FoldsTo DrainGoesOn (old, cx) turns before
         pub ends : DrainEnds limit (length turns) before answer new left
 
 -- what may come from the buffer, and the end at once where there is none

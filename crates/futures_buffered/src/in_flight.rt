@@ -1,6 +1,6 @@
 //! Futures of the kit in plain sight, as what a buffer holds.
-ghost use Rattle.futures_buffered_in_flight.specs.InFlightOrdered.{CanPollOrdered, ComesInTurn, GivesInTurn, LeavesInTurn, OrderedWaitsAt, PushesBack, ordered_count, ordered_room};
-ghost use Rattle.futures_buffered_in_flight.specs.InFlightQueue.{CanPollQueue, ComesFromQueue, PollsQueued, PollsQueuedTask, PushesQueued, QueueWaitsAt, queued_count, queued_room};
+ghost use Rattle.futures_buffered_in_flight.specs.InFlightOrdered.{CanPollOrdered, ComesOfEach, GivesInTurn, LeavesInTurn, OrderedWaitsAt, PushesBack, ordered_count, ordered_room};
+ghost use Rattle.futures_buffered_in_flight.specs.InFlightQueue.{CanPollQueue, ComesFromQueue, PollsQueued, PollsQueuedTask, PushesQueued, QueuedWaitsAt, queued_count, queued_room};
 ghost use Rattle.futures_buffered.specs.FutureQueue.{OnlyPushes};
 
 use crate::buffer::Buffer;
@@ -35,7 +35,7 @@ impl<F: Future<Output: Drop>> FutureQueue<F> for InFlightQueue<F> {
 
     ghost in_order = { false };
 
-    ghost needs = { QueueWaitsAt };
+    ghost needs = { QueuedWaitsAt };
 
     fn len(&self) -> usize {
         InFlightQueue::len(self)
@@ -78,7 +78,7 @@ impl<F: Future<Output = A>, A: Drop> FutureQueue<F> for InFlightOrdered<F, A> {
 
     ghost gives = { F.gives };
 
-    ghost yields = { ComesInTurn F.Future };
+    ghost yields = { ComesOfEach F.Future };
 
     ghost in_order = { true };
 

@@ -14,7 +14,7 @@ use Rattle.futures_buffered_held.specs.declared.oneshot_place.Left.{Left}
 use Rattle.futures_buffered_held.specs.declared.oneshot_place.Left.TheVariants.{Nothing}
 use Rattle.futures_buffered_held.specs.declared.oneshot_place.View.{View}
 use Rattle.futures_buffered_held.specs.declared.oneshot_place.View.TheVariants.{Spent, Both, Sender, Writing, Sent, Waiting, Idle, Got, Compared}
-use Rattle.futures_buffered_held.specs.OneshotPlace.{Inside, value_of, IsHome, IsFull, Fits, HoldsOne, stands_at, sent_by, sent_view, finished, opened, looked, turned, matched}
+use Rattle.futures_buffered_held.specs.OneshotPlace.{Inside, value_of, IsHome, IsSent, Fits, HoldsOne, place_at, sent_by, sent_view, finished, opened, looked, turned, matched}
 
 at_end : {A : Type 0} (l : List A) (a b : A) (j : ℕ) → get_elem? (l ++ a ∷ []) j ≡ some b → (get_elem? l j ≡ some b) ⊎ ((j ≡ length l) × (a ≡ b))
 at_end [] a b zero e = inr (refl, some-injective a b e)
@@ -63,15 +63,15 @@ module _ {T W : Type 0} where
 
   -- the others, at a step of the sender
   by_sender : (x : Inside T W) (seat word : ℕ) (value waker : Home T W) (sent : Option T) → seat ≡ x.sender → x.sent ≡ None → x.word ≢ 2
-      → (x.word ≡ 0 → (word ≡ 0) ⊎ IsFull (changed x word value waker sent)) → (x.word ≡ 1 → (word ≡ 1) ⊎ IsFull (changed x word value waker sent))
+      → (x.word ≡ 0 → (word ≡ 0) ⊎ IsSent (changed x word value waker sent)) → (x.word ≡ 1 → (word ≡ 1) ⊎ IsSent (changed x word value waker sent))
       → Others x (changed x word value waker sent) seat
   by_sender x seat word value waker sent me unsent undone idle waits j Spent apart f = tt
   by_sender x seat word value waker sent me unsent undone idle waits j Both apart f = absurd (apart (f.0 ∙ sym me))
   by_sender x seat word value waker sent me unsent undone idle waits j Sender apart f = absurd (apart (f.0 ∙ sym me))
   by_sender x seat word value waker sent me unsent undone idle waits j Writing apart f = absurd (apart (f.0 ∙ sym me))
   by_sender x seat word value waker sent me unsent undone idle waits j (Sent v) apart f = absurd (none-some v (sym unsent ∙ f))
-  by_sender x seat word value waker sent me unsent undone idle waits j Waiting apart f = (f.0, ⊎_elim waits (λ (full : IsFull x). absurd (undone full.0)) f.1)
-  by_sender x seat word value waker sent me unsent undone idle waits j Idle apart f = (f.0, ⊎_elim idle (λ (full : IsFull x). absurd (undone full.0)) f.1)
+  by_sender x seat word value waker sent me unsent undone idle waits j Waiting apart f = (f.0, ⊎_elim waits (λ (full : IsSent x). absurd (undone full.0)) f.1)
+  by_sender x seat word value waker sent me unsent undone idle waits j Idle apart f = (f.0, ⊎_elim idle (λ (full : IsSent x). absurd (undone full.0)) f.1)
   by_sender x seat word value waker sent me unsent undone idle waits j (Got o) apart f = absurd (undone f.1)
   by_sender x seat word value waker sent me unsent undone idle waits j (Compared o v) apart f = absurd (undone f.1)
 
@@ -166,7 +166,7 @@ module _ {T W : Type 0} where
         let found = finds s h in
         let waker = h.waits one in
         let y = waker.0 in
-        let full : IsFull (changed x 2 (some z) none (value_of z)) = (refl, (z, refl, refl)) in (
+        let full : IsSent (changed x 2 (some z) none (value_of z)) = (refl, (z, refl, refl)) in (
           sent_view (value_of z),
           chain gives (takes 1 y),
           (tt, ap (λ (hs : List (Home T W)). get_elem? (set hs 0 (some z)) 1) h.homes ∙ ap some waker.1),
@@ -181,7 +181,7 @@ module _ {T W : Type 0} where
         let x = h.inside in
         let mine = h.each_view id Writing at in
         let found = finds s h in
-        let full : IsFull (changed x 2 (some z) x.waker_home (value_of z)) = (refl, (z, refl, refl)) in (
+        let full : IsSent (changed x 2 (some z) x.waker_home (value_of z)) = (refl, (z, refl, refl)) in (
           sent_view (value_of z),
           gives,
           tt,
@@ -201,7 +201,7 @@ module _ {T W : Type 0} where
     finishes z m is = subst (λ (m : Mine T W). Allows HoldsOne slots id m 0 (λ _. 2) (λ found n. finished m found n)) (sym is) (λ s h _ at _. finishes_at z s h at)
 
     -- the receiver takes the place of the value
-    opens_value : (m : Mine T W) (s : Whole T W) (h : HoldsOne s) (new : ℕ) → set s.words 0 new ≡ h.inside.word ∷ [] → id ≡ h.inside.receiver → IsFull h.inside → Moves s m new (opened m)
+    opens_value : (m : Mine T W) (s : Whole T W) (h : HoldsOne s) (new : ℕ) → set s.words 0 new ≡ h.inside.word ∷ [] → id ≡ h.inside.receiver → IsSent h.inside → Moves s m new (opened m)
     opens_value m s h new words me full =
         let x = h.inside in
         let y = full.1.0 in (
@@ -231,7 +231,7 @@ module _ {T W : Type 0} where
           stays (Waiting, c) s h (get_or s.words 0 0) words at,
           ((λ two. absurd (omega arith)), (λ _. refl)),
         ))
-        (λ (full : IsFull h.inside).
+        (λ (full : IsSent h.inside).
         let o = opens_value (Waiting, c) s h (get_or s.words 0 0) words mine.0 full in
         (o.0, o.1, o.2, o.3, ((λ _. o.4), (λ other. absurd (other (found ∙ full.0))))))
         mine.1
@@ -266,7 +266,7 @@ module _ {T W : Type 0} where
     turned_word before new s h = ap (λ ws. set ws 0 (either (eqb (get_or ws 0 0) before) new (get_or ws 0 0))) h.words
 
     -- the sender is done
-    turns_late : (m : Mine T W) (before new : ℕ) (s : Whole T W) (h : HoldsOne s) → id ≡ h.inside.receiver → before ≢ 2 → IsFull h.inside → Turns m before new s
+    turns_late : (m : Mine T W) (before new : ℕ) (s : Whole T W) (h : HoldsOne s) → id ≡ h.inside.receiver → before ≢ 2 → IsSent h.inside → Turns m before new s
     turns_late m before new s h me apart full =
         let late : h.inside.word ≢ before = λ e. apart (sym e ∙ full.0) in
         let o = opens_value m s h _ (turned_word before new s h ∙ ap (λ (n : ℕ). n ∷ []) (differs h.inside.word before new late)) me full in
@@ -274,7 +274,7 @@ module _ {T W : Type 0} where
 
     -- a receiver that waits takes the place of the waker
     takes_waker : (w : View T) (new : ℕ) → new ≢ 1 → new ≢ 2 → ((x : Inside T W) → id ≡ x.receiver → x.word ≡ new → Fits x id w)
-        → ((y : Left T W) → stands_at new [] (w, (1, y) ∷ [])) → (s : Whole T W) (h : HoldsOne s) → get_elem? s.views id ≡ some Waiting → Turns (Waiting, []) 1 new s
+        → ((y : Left T W) → place_at new [] (w, (1, y) ∷ [])) → (s : Whole T W) (h : HoldsOne s) → get_elem? s.views id ≡ some Waiting → Turns (Waiting, []) 1 new s
     takes_waker w new unwaiting undone fits stands s h at =
         let x = h.inside in
         let mine = h.each_view id Waiting at in
@@ -291,7 +291,7 @@ module _ {T W : Type 0} where
               (by_receiver x id new x.value_home none mine.0 (λ _. (undone, refl))) (fits next mine.0 refl),
           ((λ _. stands y), (λ other. absurd (other (finds s h ∙ one)))),
         ))
-        (λ (full : IsFull x). turns_late (Waiting, []) 1 new s h mine.0 (λ e. absurd (omega arith)) full)
+        (λ (full : IsSent x). turns_late (Waiting, []) 1 new s h mine.0 (λ e. absurd (omega arith)) full)
         mine.1
 
     pub withdraws : (m : Mine T W) → m ≡ (Waiting, []) → Allows HoldsOne slots id m 0 (λ n. either (eqb n 1) 0 n) (turned 1 0 m)
@@ -316,7 +316,7 @@ module _ {T W : Type 0} where
               (by_receiver x id 1 x.value_home (some z) mine.0 (λ _. ((λ e. absurd (omega arith)), refl))) (mine.0, inl refl),
           ((λ _. refl), (λ other. absurd (other (finds s h ∙ idle)))),
         ))
-        (λ (full : IsFull x). turns_late (Idle, (1, z) ∷ []) 0 1 s h mine.0 (λ e. absurd (omega arith)) full)
+        (λ (full : IsSent x). turns_late (Idle, (1, z) ∷ []) 0 1 s h mine.0 (λ e. absurd (omega arith)) full)
         mine.1
 
     pub registers : (z : Left T W) (m : Mine T W) → m ≡ (Idle, (1, z) ∷ []) → Allows HoldsOne slots id m 0 (λ n. either (eqb n 0) 1 n) (turned 0 1 m)

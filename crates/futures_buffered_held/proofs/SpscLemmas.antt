@@ -8,7 +8,7 @@ use Rattle.rtrb.specs.Ring.{SameConsumer, received, known_items}
 use Rattle.futures.specs.declared.task.Poll.{Poll}
 use Rattle.futures.specs.declared.task.Poll.TheVariants.{Ready, Pending}
 use Rattle.futures_buffered_merges.specs.SlotStream.{items_in}
-use Rattle.futures_buffered_held.specs.Spsc.{Comes, FindsNone, Receives, KeepsSendingOrder}
+use Rattle.futures_buffered_held.specs.Spsc.{ComesThrough, FindsNone, ReceivesNext, KeepsSendingOrder}
 
 module _ {T : Type 0} where
   prefix_on : (first second third xs ys : List T) → IsPrefix first (xs ++ second)
@@ -33,7 +33,7 @@ module _ {T A P : Type 0} (allows : List T → T → Type 0) where
       → SameConsumer first third
   same_on first second third h k = ((k.0.0 ∙ h.0.0, k.0.1 ∙ h.0.1, k.0.2 ∙ h.0.2, k.0.3 ∙ h.0.3), k.1 ∙ h.1)
 
-  none_comes : (c : Consumer T A P) → Comes allows c [] c
+  none_comes : (c : Consumer T A P) → ComesThrough allows c [] c
   none_comes c =
       record {
         same = ((refl, refl, refl, refl), refl);
@@ -42,8 +42,8 @@ module _ {T A P : Type 0} (allows : List T → T → Type 0) where
         allowed = tt;
       }
 
-  comes_on : (first second third : Consumer T A P) (xs ys : List T) → Comes allows first xs second
-      → Comes allows second ys third → Comes allows first (xs ++ ys) third
+  comes_on : (first second third : Consumer T A P) (xs ys : List T) → ComesThrough allows first xs second
+      → ComesThrough allows second ys third → ComesThrough allows first (xs ++ ys) third
   comes_on first second third xs ys h k =
       record {
         same = same_on first second third h.same k.same;
@@ -53,7 +53,7 @@ module _ {T A P : Type 0} (allows : List T → T → Type 0) where
             (subst (λ (s : List T). Allowed allows s ys) h.next k.allowed);
       }
 
-  comes_of_none : (old new : Consumer T A P) → FindsNone old new → Comes allows old [] new
+  comes_of_none : (old new : Consumer T A P) → FindsNone old new → ComesThrough allows old [] new
   comes_of_none old new h =
       record {
         same = h.0.0;
@@ -63,8 +63,8 @@ module _ {T A P : Type 0} (allows : List T → T → Type 0) where
       }
 
   pub come_in_order : (answers : List (Poll (Option T))) (old now : Consumer T A P)
-      → FoldsTo (Receives allows) old answers now → Comes allows old (items_in answers) now
-  come_in_order [] old now h = subst (λ c. Comes allows old [] c) h (none_comes old)
+      → FoldsTo (ReceivesNext allows) old answers now → ComesThrough allows old (items_in answers) now
+  come_in_order [] old now h = subst (λ c. ComesThrough allows old [] c) h (none_comes old)
   come_in_order (Ready (Some x) ∷ answers) old now h =
       comes_on old h.0 now (x ∷ []) (items_in answers) h.1 (come_in_order answers h.0 now h.2)
   come_in_order (Ready None ∷ answers) old now h =
@@ -74,4 +74,4 @@ module _ {T A P : Type 0} (allows : List T → T → Type 0) where
 
   pub keeps_sending_order : KeepsSendingOrder T A P allows
   keeps_sending_order old items now gave =
-      subst (λ (s : List T). Comes allows old s now) (sym gave.gave) (come_in_order gave.answers old now gave.polls)
+      subst (λ (s : List T). ComesThrough allows old s now) (sym gave.gave) (come_in_order gave.answers old now gave.polls)

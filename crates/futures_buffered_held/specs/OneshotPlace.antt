@@ -59,8 +59,8 @@ module _ {T W : Type 0} where
   IsHome home = (y : Left T W) × (home ≡ some y)
 
   -- the sender is done, and what it sent lies at its place
-  abbrev pub IsFull : Inside T W → Type 0
-  IsFull x = (x.word ≡ 2) × ((y : Left T W) × (x.value_home ≡ some y) × (value_of y ≡ x.sent))
+  abbrev pub IsSent : Inside T W → Type 0
+  IsSent x = (x.word ≡ 2) × ((y : Left T W) × (x.value_home ≡ some y) × (value_of y ≡ x.sent))
 
   -- what a seat's view says
   abbrev pub Fits : Inside T W → ℕ → View T → Type 0
@@ -70,8 +70,8 @@ module _ {T W : Type 0} where
   Fits x seat Sender = (seat ≡ x.sender) × (x.word ≢ 2) × (x.sent ≡ None) × IsHome x.value_home
   Fits x seat Writing = (seat ≡ x.sender) × (x.word ≢ 2) × (x.sent ≡ None)
   Fits x seat (Sent v) = x.sent ≡ Some v
-  Fits x seat Waiting = (seat ≡ x.receiver) × ((x.word ≡ 1) ⊎ IsFull x)
-  Fits x seat Idle = (seat ≡ x.receiver) × ((x.word ≡ 0) ⊎ IsFull x)
+  Fits x seat Waiting = (seat ≡ x.receiver) × ((x.word ≡ 1) ⊎ IsSent x)
+  Fits x seat Idle = (seat ≡ x.receiver) × ((x.word ≡ 0) ⊎ IsSent x)
   Fits x seat (Got answer) = (seat ≡ x.receiver) × (x.word ≡ 2) × (x.sent ≡ answer)
   Fits x seat (Compared answer v) = (seat ≡ x.receiver) × (x.word ≡ 2) × (x.sent ≡ answer)
       × (x.sent ≡ Some v)
@@ -111,14 +111,14 @@ module _ {T W : Type 0} where
 
   -- what the receiver is, and what it holds, once it has put this number into the word: it has taken the place of the
   -- waker, has given it back and waits, or has taken it and is gone
-  abbrev pub stands_at : ℕ → List (ℕ × Left T W) → Me (Left T W) (View T) → Type 0
-  stands_at zero held n = (y : Left T W) × (n ≡ (Idle, (1, y) ∷ held))
-  stands_at (suc zero) held n = n ≡ (Waiting, rest held)
-  stands_at word held n = (y : Left T W) × (n ≡ (Spent, (1, y) ∷ held))
+  abbrev pub place_at : ℕ → List (ℕ × Left T W) → Me (Left T W) (View T) → Type 0
+  place_at zero held n = (y : Left T W) × (n ≡ (Idle, (1, y) ∷ held))
+  place_at (suc zero) held n = n ≡ (Waiting, rest held)
+  place_at word held n = (y : Left T W) × (n ≡ (Spent, (1, y) ∷ held))
 
   -- the receiver turns the word from one number to another, unless the sender is done
   abbrev pub turned : ℕ → ℕ → Me (Left T W) (View T) → ℕ → Me (Left T W) (View T) → Type 0
-  turned before after m found n = (found ≡ before → stands_at after m.1 n) × (found ≢ before → opened m n)
+  turned before after m found n = (found ≡ before → place_at after m.1 n) × (found ≢ before → opened m n)
 
   -- the receiver has the place of the waker
   abbrev pub IsIdle : Me (Left T W) (View T) → Type 0
@@ -129,5 +129,5 @@ module _ {T W : Type 0} where
   HasOpened m = (y : Left T W) × (more : List (ℕ × Left T W)) × (m ≡ (Got (value_of y), (0, y) ∷ more))
 
   -- the receiver has this answer, or waits
-  abbrev pub Answers : Option (Option T) → Me (Left T W) (View T) → Type 0
-  Answers answer m = MatchOption answer (m ≡ (Waiting, [])) (λ got. m.0 ≡ Got got)
+  abbrev pub PlaceAnswers : Option (Option T) → Me (Left T W) (View T) → Type 0
+  PlaceAnswers answer m = MatchOption answer (m ≡ (Waiting, [])) (λ got. m.0 ≡ Got got)

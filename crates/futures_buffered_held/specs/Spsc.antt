@@ -35,22 +35,22 @@ module _ {T A P : Type 0} where
   FindsNone old new = ConsumerLooked old new × (known_items new ≡ [])
 
   -- these values came, in order: behind those that came before, and those that are known to come next first
-  pub record Comes (allows : List T → T → Type 0) (old : Consumer T A P) (values : List T) (new : Consumer T A P) : Type 0 where
+  pub record ComesThrough (allows : List T → T → Type 0) (old : Consumer T A P) (values : List T) (new : Consumer T A P) : Type 0 where
     pub same : SameConsumer old new
     pub next : received new ≡ received old ++ values
     pub first : IsPrefix (known_items old) (values ++ known_items new)
     pub allowed : Allowed allows (received old) values
 
   -- one poll of a receiver
-  abbrev pub Receives : (List T → T → Type 0) → Consumer T A P → Poll (Option T) → Consumer T A P → Type 0
-  Receives allows old (Ready (Some x)) new = Comes allows old (x ∷ []) new
-  Receives allows old (Ready None) new = FindsNone old new
-  Receives allows old Pending new = FindsNone old new
+  abbrev pub ReceivesNext : (List T → T → Type 0) → Consumer T A P → Poll (Option T) → Consumer T A P → Type 0
+  ReceivesNext allows old (Ready (Some x)) new = ComesThrough allows old (x ∷ []) new
+  ReceivesNext allows old (Ready None) new = FindsNone old new
+  ReceivesNext allows old Pending new = FindsNone old new
 
 -- what many polls of a receiver gave came in order
 abbrev pub KeepsSendingOrder : (T A P : Type 0) → (List T → T → Type 0) → Type 0
 KeepsSendingOrder T A P allows = (old : Consumer T A P) (values : List T) (now : Consumer T A P)
-    → Gave (Receives allows) old values now → Comes allows old values now
+    → Gave (ReceivesNext allows) old values now → ComesThrough allows old values now
 
 -- the answer of a poll that finds the same
 abbrev pub poll_of : {T : Type 0} → Result T TryRecvError → Poll (Option T)

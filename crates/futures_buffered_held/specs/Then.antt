@@ -12,15 +12,15 @@ module _
     (post : C → A → B → Type 0)
   where
     -- the first is ready, the closure makes the second of its output, and that is polled once
-    abbrev pub GoesOn : F → C → Poll O → Then F B C → Type 0
-    GoesOn future change answer new = (x : A) × (left : F) × (second after : B)
+    abbrev pub ThenGoesOn : F → C → Poll O → Then F B C → Type 0
+    ThenGoesOn future change answer new = (x : A) × (left : F) × (second after : B)
         × first_polled future (Ready x) left × post change x second
         × second_polled second answer after × (new ≡ Second after)
 
     -- one poll
     abbrev pub Follows : Then F B C → Poll O → Then F B C → Type 0
-    Follows (First future change) (Ready y) new = GoesOn future change (Ready y) new
-    Follows (First future change) Pending new = GoesOn future change Pending new
+    Follows (First future change) (Ready y) new = ThenGoesOn future change (Ready y) new
+    Follows (First future change) Pending new = ThenGoesOn future change Pending new
         ⊎ ((left : F) × first_polled future Pending left × (new ≡ First left change))
     Follows (Second second) answer new =
         (after : B) × second_polled second answer after × (new ≡ Second after)

@@ -8,7 +8,7 @@
 //! Every step is sequentially consistent, so all of them stand in one order.
 ghost use Rattle.std.specs.Prelude.{◌≡◌, [], IfOk, IfErr, IfSome, MatchResult};
 ghost use Rattle.futures_buffered_held.specs.declared.oneshot_place.View.TheVariants.{Waiting};
-ghost use Rattle.futures_buffered_held.specs.OneshotPlace.{Answers};
+ghost use Rattle.futures_buffered_held.specs.OneshotPlace.{PlaceAnswers};
 ghost use Rattle.futures_buffered_held.specs.Oneshot.{unanswered, slip};
 
 use crate::oneshot_place;
@@ -199,7 +199,7 @@ impl<T: Drop> Receipt<T> {
 fn asked<T: Drop>(place: &Place<T>, seat: &mut Seat<T>, waker: &SharedWaker) -> Option<Option<T>>
     requires { (seat.old.table_id ≡ place.now) × (seat.old.me ≡ (Waiting, [])) }
     ensures same { seat.new.table_id ≡ seat.old.table_id }
-    ensures answer { Answers result seat.new.me }
+    ensures answer { PlaceAnswers result seat.new.me }
 {
     if let Some(answer) = place.look(seat) {
         return Some(answer);

@@ -3,7 +3,7 @@ ghost use Rattle.std.specs.Prelude.{◌≡◌, ℕ, List, [], ◌∷◌, Option,
 ghost use Rattle.futures_buffered_held.specs.declared.oneshot_place.Left.{Left};
 ghost use Rattle.futures_buffered_held.specs.declared.oneshot_place.Left.TheVariants.{Value};
 ghost use Rattle.futures_buffered_held.specs.declared.oneshot_place.View.TheVariants.{Sender, Sent, Waiting, Got};
-ghost use Rattle.futures_buffered_held.specs.OneshotPlace.{Answers, IsIdle, HasOpened, finished};
+ghost use Rattle.futures_buffered_held.specs.OneshotPlace.{PlaceAnswers, IsIdle, HasOpened, finished};
 
 use crate::oneshot_plays::{Ends, Finish, Look, Match, OneValue, Receipted, Turn};
 use atomic_table::{Refused, Table};
@@ -181,7 +181,7 @@ impl<T: Drop, W: Drop> Place<T, W> {
     pub fn look(&self, seat: &mut Seat<T, W>) -> Option<Option<T>>
         requires { (seat.old.table_id ≡ self.now) × (seat.old.me ≡ (Waiting, [])) }
         ensures same { seat.new.table_id ≡ seat.old.table_id }
-        ensures answer { Answers result seat.new.me }
+        ensures answer { PlaceAnswers result seat.new.me }
     {
         if self.table.shared.load::<Look>(seat, 0) == DONE {
             return Some(self.open(seat));
@@ -206,7 +206,7 @@ impl<T: Drop, W: Drop> Place<T, W> {
     pub fn register(&self, seat: &mut Seat<T, W>, waker: W) -> Option<Option<T>>
         requires { (seat.old.table_id ≡ self.now) × (seat.old.me ≡ (Waiting, [])) }
         ensures same { seat.new.table_id ≡ seat.old.table_id }
-        ensures answer { Answers result seat.new.me }
+        ensures answer { PlaceAnswers result seat.new.me }
     {
         if let Some(answer) = self.withdraw(seat) {
             return Some(answer);

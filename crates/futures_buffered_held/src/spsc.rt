@@ -8,7 +8,7 @@ ghost use Rattle.std.specs.declared.alloc.Global.{Global};
 ghost use Rattle.rtrb.specs.declared.consumer.Consumer.{Consumer};
 ghost use Rattle.rtrb.specs.declared.producer.Producer.{Producer};
 ghost use Rattle.futures_buffered_core.specs.Made.{MakesSlots};
-ghost use Rattle.futures_buffered_held.specs.Spsc.{IsNewChannel, Sends, Receives, KeepsSendingOrder, poll_of, sent, received, known_items, producer_capacity, consumer_capacity, all_sent, IsPair, Finishes, IsFinishedOf, SameProducer, ProducerLooked, ConsumerLooked};
+ghost use Rattle.futures_buffered_held.specs.Spsc.{IsNewChannel, Sends, ReceivesNext, KeepsSendingOrder, poll_of, sent, received, known_items, producer_capacity, consumer_capacity, all_sent, IsPair, Finishes, IsFinishedOf, SameProducer, ProducerLooked, ConsumerLooked};
 
 use crate::spsc_place::WaitingPlace;
 use futures::task::Poll;
@@ -178,7 +178,7 @@ impl<T: Drop, P: Protocol<T>> Drop for Sender<T, P> {
 impl<T: Drop, P: Protocol<T>> Receiver<T, P> {
     // Looks whether the sender is gone before it looks for a value, so that a value that was sent before that comes first.
     fn next(&mut self) -> Poll<Option<T>>
-        ensures { Receives P.allows self.old result self.new }
+        ensures { ReceivesNext P.allows self.old result self.new }
     {
         let is_over = self.ring.is_abandoned();
         match self.ring.pop() {
@@ -190,7 +190,7 @@ impl<T: Drop, P: Protocol<T>> Receiver<T, P> {
 
     /// The next value, where one is there. It leaves no waker.
     pub fn try_recv(&mut self) -> Result<T, TryRecvError>
-        ensures { Receives P.allows self.old (poll_of result) self.new }
+        ensures { ReceivesNext P.allows self.old (poll_of result) self.new }
     {
         match self.next() {
             Poll::Ready(Some(value)) => Ok(value),
@@ -251,11 +251,11 @@ impl<T: Drop, P: Protocol<T>> Drop for Receiver<T, P> {
 }
 
 impl<T: Drop, P: Protocol<T>> SlotStream<SharedWaker> for Receiver<T, P> {
-    ghost use Rattle.futures_buffered_held.specs.Spsc.{Receives};
+    ghost use Rattle.futures_buffered_held.specs.Spsc.{ReceivesNext};
 
     type Item = T;
 
-    ghost polled = { λ _. Receives P.allows };
+    ghost polled = { λ _. ReceivesNext P.allows };
 
     fn poll_next(&mut self, waker: &SharedWaker) -> Poll<Option<T>> {
         if let Ok(value) = self.ring.pop() {

@@ -8,7 +8,7 @@ use Rattle.futures.specs.Queued.{AnyGives, Gathers, GivesNoMore, AllPollable, se
 use Rattle.futures.specs.declared.stream.futures_unordered.FuturesUnordered.{FuturesUnordered}
 use Rattle.futures_buffered_core.specs.SlotMap.{Slots, value_in, held_count, slot_count, with_slot_freed, Inserts}
 use Rattle.futures_buffered_unordered.proofs.HeldGivesLemmas.{Gathers-Within, Gathers-After, value_in-with_slot_freed, value_in-with_slot_freed_other, None-Some}
-use Rattle.futures_buffered_in_flight.specs.InFlight.{FutureOf, Flights, CanPollAll, run_count, runs_in, ComesFromSlots, AnySlotGives, RunsGiveNoMore, ComesByKey, GivesWithKey, HasNoRoom, PushesAt, PushesOne}
+use Rattle.futures_buffered_in_flight.specs.InFlight.{FutureOf, Flights, CanPollAll, run_count, runs_in, ComesFromSlots, AnySlotGives, RunsGiveNoMore, ComesByKey, GivesWithKey, HasNoRoom, EntersAt, PushesInFlight}
 use Rattle.futures_buffered_in_flight.specs.declared.in_flight.Came.{Came}
 use Rattle.futures_buffered_in_flight.specs.declared.in_flight.Place.{Place}
 use Rattle.futures_buffered_in_flight.specs.declared.run.Key.{Key}
@@ -112,7 +112,7 @@ module _ {F A : Type 0} (future : FutureOf F A) where
       → ((came : Key × Option A) → AnyGives (GivesWithKey future.gives) (runs_in new.running) came
       → AnyGives (GivesWithKey future.gives) (runs_in old.running) came ⊎ GivesWithKey future.gives run came)
       → (HasNoRoom old → ⊥)
-      → PushesOne future old run.future tag (Ok run.key) new
+      → PushesInFlight future old run.future tag (Ok run.key) new
   pushed old new run tag can number next inserts more runs same_room each gives room =
       record {
         went_in = record {
@@ -141,7 +141,7 @@ module _ {F A : Type 0} (future : FutureOf F A) where
       }
 
   -- a push keeps the number of slots
-  pub same_slots : (old new : Flights F) (f : F) (tag : ℕ) (key : Key) → PushesAt future old f tag key new → slot_count new.slots ≡ slot_count old.slots
+  pub same_slots : (old new : Flights F) (f : F) (tag : ℕ) (key : Key) → EntersAt future old f tag key new → slot_count new.slots ≡ slot_count old.slots
   same_slots old new f tag key p = ap (λ (places : List (Option Place)). length places) p.went_in.now_held ∙ length-set old.slots.places key.slot _
 
   -- a future that came back
@@ -149,7 +149,7 @@ module _ {F A : Type 0} (future : FutureOf F A) where
       → new.slots ≡ old.slots → new.next ≡ old.next → new.cancelled ≡ old.cancelled
       → AllPollable (λ run. future.can_poll run.future) (runs_in new.running)
       → RunsGiveNoMore future old new
-      → PushesOne future old f tag (Err back) new
+      → PushesInFlight future old f tag (Err back) new
   came_back old new f back tag can same slots next room each narrows =
       record {
         went_in = tt;

@@ -15,13 +15,13 @@ use Rattle.futures_buffered_ordered.specs.OrderedEntriesInvariant.{AddingKeeps, 
 use Rattle.futures_buffered_ordered.proofs.OrderedEntriesInvariantLemmas.{held_by_entries, new_is_numbered}
 use Rattle.futures_buffered_ordered.proofs.OrderedEntriesLemmas.{as_many_of, comes_before, comes_behind, empty_of, fewer_of, no_more_of, one_entry_more, one_entry_more_before, rest_of, same_of, unused_none, value_of}
 use Rattle.futures_buffered_in_flight.specs.InFlight.{FutureOf}
-use Rattle.futures_buffered_in_flight.specs.InFlightQueue.{Queued, CanPollQueue, IsNewQueued, NumberGives, PollsNumber, PollsQueuedTask, PushesNumber, SameRoom, QueueIsFull, has_tag, numbered_with, tagged_with, queued_count, queued_room, queued_with}
+use Rattle.futures_buffered_in_flight.specs.InFlightQueue.{Queued, CanPollQueue, IsNewQueued, NumberGives, PollsNumber, PollsQueuedTask, QueuesNumber, SameRoom, IsAtItsBound, has_tag, numbered_with, tagged_with, queued_count, queued_room, queued_with}
 use Rattle.futures_buffered_in_flight.specs.InFlightOrdered.{AnswersInTurn, FlightLeavesTask, GivesInTurn, KeepsInOrder, LeavesInOrder, OrderedInFlight, OrderedPends, PushesBack, PushesFront, ordered_count, ordered_room}
 use Rattle.futures_buffered_in_flight.specs.declared.in_flight.Place.{Place}
 use Rattle.futures_buffered_in_flight.proofs.InFlightQueueLemmas.{number_counts}
 
 -- a queue of which no push is refused
-pub has_room : {F A : Type 0} (q : Numbering (Queued F) A) → KeepsInOrder q → ordered_count q.queue < ordered_room q.queue → MayRefuse QueueIsFull q.queue → ⊥
+pub has_room : {F A : Type 0} (q : Numbering (Queued F) A) → KeepsInOrder q → ordered_count q.queue < ordered_room q.queue → MayRefuse IsAtItsBound q.queue → ⊥
 has_room q keeps fewer (inl full) = absurd (omega (arith, full, keeps.fits, fewer))
 has_room q keeps fewer (inr (inl full)) = absurd (omega (arith, full, fewer, held_by_entries queued_with queued_count q.queue.set q.queue.entries q.outgoing keeps.numbered))
 has_room q keeps fewer (inr (inr long)) = absurd (omega (arith, long, keeps.small, fewer))
@@ -78,22 +78,22 @@ module _ {F A : Type 0} (future : FutureOf F A) where
   none_with : (old : Numbering (Queued F) A) (i : ℕ) → KeepsInOrder old → IsUnused i old.queue.entries → (y : A) → NumberGives future old.queue.set (i, y) → ⊥
   none_with old i keeps unused y h = absurd (omega (arith, number_counts future old.queue.set (i, y) h, keeps.numbered.as_many i, unused_none i old.queue.entries unused))
 
-  pub pushes_back : (old : Numbering (Queued F) A) (new : OrderedInFlight F A) (item : F) → KeepsInOrder old → AddsBack (PushesNumber future) old.queue item new → PushesBack future old.queue item new
+  pub pushes_back : (old : Numbering (Queued F) A) (new : OrderedInFlight F A) (item : F) → KeepsInOrder old → AddsBack (QueuesNumber future) old.queue item new → PushesBack future old.queue item new
   pushes_back old new item keeps added =
       record {
         added = added;
-        one_more = one_entry_more (PushesNumber future) old.queue new item added;
-        comes = comes_behind (NumberGives future) future.gives (PushesNumber future) old.queue new item added added.1.pushed.gives (none_with old added.0 keeps added.1.unused);
+        one_more = one_entry_more (QueuesNumber future) old.queue new item added;
+        comes = comes_behind (NumberGives future) future.gives (QueuesNumber future) old.queue new item added added.1.pushed.gives (none_with old added.0 keeps added.1.unused);
         same_room = added.1.pushed.same_room;
         again = added.1.pushed.again;
       }
 
-  pub pushes_front : (old : Numbering (Queued F) A) (new : OrderedInFlight F A) (item : F) → KeepsInOrder old → AddsFront (PushesNumber future) old.queue item new → PushesFront future old.queue item new
+  pub pushes_front : (old : Numbering (Queued F) A) (new : OrderedInFlight F A) (item : F) → KeepsInOrder old → AddsFront (QueuesNumber future) old.queue item new → PushesFront future old.queue item new
   pushes_front old new item keeps added =
       record {
         added = added;
-        one_more = one_entry_more_before (PushesNumber future) old.queue new item added;
-        comes = comes_before (NumberGives future) future.gives (PushesNumber future) old.queue new item added added.1.pushed.gives (none_with old added.0 keeps added.1.unused);
+        one_more = one_entry_more_before (QueuesNumber future) old.queue new item added;
+        comes = comes_before (NumberGives future) future.gives (QueuesNumber future) old.queue new item added added.1.pushed.gives (none_with old added.0 keeps added.1.unused);
         same_room = added.1.pushed.same_room;
         again = added.1.pushed.again;
       }

@@ -11,8 +11,8 @@ use Rattle.futures_buffered_core.proofs.SlotMapLemmas.{value_within}
 use Rattle.futures_buffered_unordered.proofs.HeldGivesLemmas.{value_in-with_slot_freed, value_in-with_slot_freed_other, None-Some}
 use Rattle.futures_buffered_ordered.specs.Numbered.{CanPollFuture, one_at}
 use Rattle.futures_buffered_ordered.specs.declared.numbered.Numbered.{Numbered}
-use Rattle.futures_buffered_in_flight.specs.InFlight.{FutureOf, Flights, KeyGives, CanPollAll, PushesAt, StaysAsItWas, ComesByKey, RunsGiveNoMore}
-use Rattle.futures_buffered_in_flight.specs.InFlightQueue.{Queued, AnyOf, AnyTaggedGives, NumberGives, CanPollQueue, PollsNumber, PollsQueued, PushesNumber, PushesQueued, Starts, HoldsWithinRoom, GivesHeld, QueueGivesNoMore, has_tag, numbered_with, queued_count, queued_with, tagged_with}
+use Rattle.futures_buffered_in_flight.specs.InFlight.{FutureOf, Flights, KeyGives, CanPollAll, EntersAt, StaysAsItWas, ComesByKey, RunsGiveNoMore}
+use Rattle.futures_buffered_in_flight.specs.InFlightQueue.{Queued, SomeOf, AnyTaggedGives, NumberGives, CanPollQueue, PollsNumber, PollsQueued, QueuesNumber, PushesQueued, Starts, HoldsWithinRoom, GivesHeld, QueueGivesNoMore, has_tag, numbered_with, queued_count, queued_with, tagged_with}
 use Rattle.futures_buffered_in_flight.specs.declared.in_flight.Came.{Came}
 use Rattle.futures_buffered_in_flight.specs.declared.in_flight.Place.{Place}
 use Rattle.futures_buffered_in_flight.specs.declared.run.Key.{Key}
@@ -54,7 +54,7 @@ module _ {F : Type 0} where
   numbers_first i f fs = sum_by-cons (λ (f : Numbered F). cond (f.number == i) 1 0) f fs
 
 module _ {F A : Type 0} (future : FutureOf F A) where
-  any_push : (fs : List (Numbered F)) (f : Numbered F) (out : ℕ × A) → AnyOf future (fs ++ f ∷ []) out → AnyOf future fs out ⊎ ((out.0 ≡ f.number) × future.gives f.future out.1)
+  any_push : (fs : List (Numbered F)) (f : Numbered F) (out : ℕ × A) → SomeOf future (fs ++ f ∷ []) out → SomeOf future fs out ⊎ ((out.0 ≡ f.number) × future.gives f.future out.1)
   any_push [] f out (inl h) = inr h
   any_push [] f out (inr h) = absurd h
   any_push (g ∷ fs) f out (inl h) = inl (inl h)
@@ -65,7 +65,7 @@ module _ {F A : Type 0} (future : FutureOf F A) where
   push_all (g ∷ fs) f all fit = (all.0, push_all fs f all.1 fit)
 
   -- where a future may give an output with a number, one is held with it
-  waiting_counts : (fs : List (Numbered F)) (out : ℕ × A) → AnyOf future fs out → 0 < numbered_with out.0 fs
+  waiting_counts : (fs : List (Numbered F)) (out : ℕ × A) → SomeOf future fs out → 0 < numbered_with out.0 fs
   waiting_counts [] out h = absurd h
   waiting_counts (f ∷ fs) out (inl own) =
       let one : one_at out.0 f.number ≡ 1 = subst (λ n. one_at out.0 n ≡ 1) own.0 (one_self out.0) in
@@ -89,7 +89,7 @@ module _ {F A : Type 0} (future : FutureOf F A) where
       ]
 
   -- or the future that was pushed may give it, under its tag
-  tag_or_pushed : (old new : Flights F) (f : F) (tag : ℕ) (key : Key) → PushesAt future old f tag key new → (out : ℕ × A) → AnyTaggedGives future new out → AnyTaggedGives future old out ⊎ ((out.0 ≡ tag) × future.gives f out.1)
+  tag_or_pushed : (old new : Flights F) (f : F) (tag : ℕ) (key : Key) → EntersAt future old f tag key new → (out : ℕ × A) → AnyTaggedGives future new out → AnyTaggedGives future old out ⊎ ((out.0 ≡ tag) × future.gives f out.1)
   tag_or_pushed old new f tag key p out h =
       elim (cases_eq h.0 key.slot) [
         | inl same ↦
@@ -109,7 +109,7 @@ module _ {F A : Type 0} (future : FutureOf F A) where
   still_waiting old new can same = subst (λ fs. AllByRecursion (CanPollFuture future.can_poll) fs) (sym same) can.waiting
 
   -- the future went into flight
-  pub flies : (old new : Queued F) (f : F) (number : ℕ) (key : Key) → CanPollQueue future old → new.waiting ≡ old.waiting → PushesAt future old.set f number key new.set → CanPollAll future new.set → PushesNumber future old f number new
+  pub flies : (old new : Queued F) (f : F) (number : ℕ) (key : Key) → CanPollQueue future old → new.waiting ≡ old.waiting → EntersAt future old.set f number key new.set → CanPollAll future new.set → QueuesNumber future old f number new
   flies old new f number key can same p again =
       record {
         one_more = omega (arith, p.one_more, ap length same);
@@ -123,7 +123,7 @@ module _ {F A : Type 0} (future : FutureOf F A) where
       }
 
   -- the future waits for memory
-  pub left_waiting : (old new : Queued F) (f : Numbered F) → CanPollQueue future old → future.can_poll f.future → new.waiting ≡ old.waiting ++ f ∷ [] → StaysAsItWas future old.set new.set → CanPollAll future new.set → PushesNumber future old f.future f.number new
+  pub left_waiting : (old new : Queued F) (f : Numbered F) → CanPollQueue future old → future.can_poll f.future → new.waiting ≡ old.waiting ++ f ∷ [] → StaysAsItWas future old.set new.set → CanPollAll future new.set → QueuesNumber future old f.future f.number new
   left_waiting old new f can fit is stays again =
       record {
         one_more = omega (arith, ap length is, length_push old.waiting f, ap held_count stays.slots);
@@ -137,7 +137,7 @@ module _ {F A : Type 0} (future : FutureOf F A) where
       }
 
   -- a push of which the number is not told
-  pub pushed_any : (old new : Queued F) (f : F) (number : ℕ) → PushesNumber future old f number new → PushesQueued future old f new
+  pub pushed_any : (old new : Queued F) (f : F) (number : ℕ) → QueuesNumber future old f number new → PushesQueued future old f new
   pushed_any old new f number p =
       record {
         one_more = p.one_more;
@@ -153,12 +153,12 @@ module _ {F A : Type 0} (future : FutureOf F A) where
   starts_on a b c p q = record { same_count = q.same_count ∙ p.same_count; numbers = λ i. q.numbers i ∙ p.numbers i; narrows = λ out h. p.narrows out (q.narrows out h); same_room = q.same_room ∙ p.same_room; again = q.again }
 
   -- the one that waited longest went into flight
-  pub started : (old new : Queued F) (f : Numbered F) (key : Key) → CanPollQueue future old → old.waiting ≡ f ∷ new.waiting → PushesAt future old.set f.future f.number key new.set → CanPollAll future new.set → Starts future old new
+  pub started : (old new : Queued F) (f : Numbered F) (key : Key) → CanPollQueue future old → old.waiting ≡ f ∷ new.waiting → EntersAt future old.set f.future f.number key new.set → CanPollAll future new.set → Starts future old new
   started old new f key can is p again =
       record {
         same_count = omega (arith, p.one_more, ap length is);
         numbers = λ i. omega (arith, ap (λ fs. numbered_with i fs) is, numbers_first i f new.waiting, tags_inserted i old.set.slots new.set.slots key.slot _ p.went_in);
-        narrows = λ out h. subst (λ fs. AnyOf future fs out ⊎ AnyTaggedGives future old.set out) (sym is) (elim h [
+        narrows = λ out h. subst (λ fs. SomeOf future fs out ⊎ AnyTaggedGives future old.set out) (sym is) (elim h [
           | inl waits ↦ inl (inr waits)
           | inr runs ↦ elim (tag_or_pushed old.set new.set f.future f.number key p out runs) [ inl was ↦ inr was | inr own ↦ inl (inl own) ]
         ]);

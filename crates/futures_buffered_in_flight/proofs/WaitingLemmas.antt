@@ -3,7 +3,7 @@ use Rattle.std.proofs.Common.{◌≡◌, ◌<◌, ◌≤◌, ◌∷◌, [], inl,
 use Rattle.futures.specs.declared.task.Poll.TheVariants.{Ready, Pending}
 use Rattle.futures.specs.declared.task.context.Context.{Context}
 use Rattle.futures_buffered_core.specs.SlotMap.{Slots, value_in, held_count, with_slot_freed}
-use Rattle.futures_buffered_in_flight.specs.InFlight.{FutureOf, Flights, CameOf, GivesByKey, PollsInFlight, RunsGiveNoMore, LeavesCancelled, EndsOneAtMost}
+use Rattle.futures_buffered_in_flight.specs.InFlight.{FutureOf, Flights, CameInFlight, GivesByKey, PollsInFlight, RunsGiveNoMore, LeavesCancelled, EndsOneAtMost}
 use Rattle.futures_buffered_in_flight.specs.InFlightOrdered.{AnswersInTurn, CameInTurn, CanPollOrdered, GivesInTurn, LeavesInOrder, OrderedInFlight, ordered_count}
 use Rattle.futures_buffered_in_flight.specs.declared.in_flight.Came.{Came}
 use Rattle.futures_buffered_ordered.specs.OrderedEntries.{starts_running}
@@ -18,7 +18,7 @@ module _ {F A : Type 0} (future : FutureOf F A) where
   one_at_most old new (inl same) = omega (arith, same)
   one_at_most old new (inr one) = omega (arith, one)
 
-  pub came_at_once : (old new : Flights F) (came : Option (Came A)) (cx left : Context) → PollsInFlight future old (Ready came) new cx left → CameOf future old came new
+  pub came_at_once : (old new : Flights F) (came : Option (Came A)) (cx left : Context) → PollsInFlight future old (Ready came) new cx left → CameInFlight future old came new
   came_at_once old new came cx left p = record { gave = p.gave; narrows = p.narrows; keys = p.keys; room = none_more old new came p.room; again = p.again }
 
   later : (old mid new : Flights F) (came : Option (Came A)) → 0 < held_count old.slots → mid.slots ≡ old.slots → RunsGiveNoMore future old mid → GivesByKey future mid (Ready came) new → GivesByKey future old (Ready came) new
@@ -32,7 +32,7 @@ module _ {F A : Type 0} (future : FutureOf F A) where
       }
 
   -- what may come after a pending poll might come before
-  pub came_later : (old mid new : Flights F) (came : Option (Came A)) (cx left : Context) → PollsInFlight future old Pending mid cx left → CameOf future mid came new → CameOf future old came new
+  pub came_later : (old mid new : Flights F) (came : Option (Came A)) (cx left : Context) → PollsInFlight future old Pending mid cx left → CameInFlight future mid came new → CameInFlight future old came new
   came_later old mid new came cx left p c =
       let before = one_at_most old mid p.room in
       let after = c.room in

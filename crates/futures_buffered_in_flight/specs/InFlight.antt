@@ -49,8 +49,8 @@ abbrev pub IsNewInFlight : {F : Type 0} → ℕ → Flights F → Type 0
 IsNewInFlight n s = (s.slots ≡ no_slots n) × (s.running ≡ None) × (s.cancelled ≡ 0)
 
 -- the place at which a pending poll waits: that of the set of all its futures
-abbrev pub WaitsAt : {F : Type 0} → Flights F → ℕ → Type 0
-WaitsAt s source = IsSomeAnd s.running (λ set. source ≡ set.tasks.source.id)
+abbrev pub FlightsWaitAt : {F : Type 0} → Flights F → ℕ → Type 0
+FlightsWaitAt s source = IsSomeAnd s.running (λ set. source ≡ set.tasks.source.id)
 
 -- one future at most of those that were cancelled has ended, and its room is free
 abbrev pub EndsOneAtMost : {F : Type 0} → Flights F → Flights F → Type 0
@@ -92,7 +92,7 @@ module _ {F A : Type 0} (future : FutureOf F A) where
         → AnyGives (GivesWithKey future.gives) (runs_in s.running) came → came.0.push < s.next
 
   -- a future went into a slot that was free, under this tag and this key
-  pub record PushesAt (old : Flights F) (pushed : F) (tag : ℕ) (key : Key)
+  pub record EntersAt (old : Flights F) (pushed : F) (tag : ℕ) (key : Key)
       (new : Flights F) : Type 0 where
     -- a key is never used twice: it has the number of this push
     pub numbered : (key.push ≡ old.next) × (new.next ≡ old.next + 1)
@@ -116,10 +116,10 @@ module _ {F A : Type 0} (future : FutureOf F A) where
     pub narrows : RunsGiveNoMore old new
 
   -- One push.
-  pub record PushesOne (old : Flights F) (pushed : F) (tag : ℕ) (result : Result Key F)
+  pub record PushesInFlight (old : Flights F) (pushed : F) (tag : ℕ) (result : Result Key F)
       (new : Flights F) : Type 0 where
     -- it went in
-    pub went_in : IfOk result (λ key. PushesAt old pushed tag key new)
+    pub went_in : IfOk result (λ key. EntersAt old pushed tag key new)
     -- or it comes back, and the set stays as it was
     pub back : IfErr result (λ back. back ≡ pushed)
     pub stays : OnErr result (StaysAsItWas old new)
@@ -130,12 +130,12 @@ module _ {F A : Type 0} (future : FutureOf F A) where
     pub again : CanPollAll new
 
   -- a future went in without a tag of the caller's
-  abbrev pub Pushes : Flights F → F → Flights F → Type 0
-  Pushes old pushed new = (key : Key) × PushesOne old pushed 0 (Ok key) new
+  abbrev pub WentIn : Flights F → F → Flights F → Type 0
+  WentIn old pushed new = (key : Key) × PushesInFlight old pushed 0 (Ok key) new
 
   -- some future came back
-  abbrev pub Refuses : Flights F → Flights F → Type 0
-  Refuses old new = (pushed : F) × PushesOne old pushed 0 (Err pushed) new
+  abbrev pub CameBack : Flights F → Flights F → Type 0
+  CameBack old new = (pushed : F) × PushesInFlight old pushed 0 (Err pushed) new
 
   -- an output that the future with this key may give, whose slot is free then
   pub record ComesByKey (old : Flights F) (came : Came A) (new : Flights F) : Type 0 where
@@ -165,12 +165,12 @@ module _ {F A : Type 0} (future : FutureOf F A) where
     -- the set may be polled
     pub again : CanPollAll new
     -- the task of a pending set hears of what it waits for
-    pub registered : OnPending answer (Covers left (WaitsAt new))
+    pub registered : OnPending answer (Covers left (FlightsWaitAt new))
     -- nothing of the task is lost
     pub kept : Keeps cx left
 
   -- Polls until an output came or the end: the set was new by then.
-  pub record CameOf (old : Flights F) (came : Option (Came A)) (new : Flights F) : Type 0 where
+  pub record CameInFlight (old : Flights F) (came : Option (Came A)) (new : Flights F) : Type 0 where
     -- an output with its key, or the end exactly where nothing is held
     pub gave : GivesByKey old (Ready came) new
     -- no future gives what it could not give before

@@ -14,8 +14,8 @@ use Rattle.futures_buffered_ordered.specs.OrderedEntries.{OrderedLeavesTask}
 use Rattle.futures_buffered_ordered.specs.OrderedEntriesInvariant.{IsNumbered, Numbering}
 use Rattle.futures_buffered_in_flight.specs.InFlight.{FutureOf}
 use Rattle.futures_buffered_in_flight.specs.InFlightQueue.{Queued, CanPollQueue, IsNewQueued}
-use Rattle.futures_buffered_in_flight.specs.InFlightQueue.{NumberGives, PollsNumber, PushesNumber}
-use Rattle.futures_buffered_in_flight.specs.InFlightQueue.{PollsQueuedTask, QueueWaitsAt}
+use Rattle.futures_buffered_in_flight.specs.InFlightQueue.{NumberGives, PollsNumber, QueuesNumber}
+use Rattle.futures_buffered_in_flight.specs.InFlightQueue.{PollsQueuedTask, QueuedWaitsAt}
 use Rattle.futures_buffered_in_flight.specs.InFlightQueue.{queued_count, queued_room, queued_with}
 
 -- the futures in flight, each with a number; the entries from the front to the back, where one in
@@ -41,7 +41,7 @@ IsNewInOrder n = IsNewQueue (IsNewQueued n) n
 
 -- the place at which a pending poll waits
 abbrev pub OrderedWaitsAt : {F A : Type 0} → OrderedInFlight F A → ℕ → Type 0
-OrderedWaitsAt q = QueueWaitsAt q.set
+OrderedWaitsAt q = QueuedWaitsAt q.set
 
 -- How the queue keeps itself: the numbers are in order, it can hold one at least and holds no more
 -- than it can, and there is a place for an entry of each.
@@ -68,7 +68,7 @@ pub record LeavesInOrder {F A : Type 0} (old : OrderedInFlight F A) (answer : Po
 
 -- a pending poll leaves the task with what the futures wait for
 abbrev pub OrderedPends : {F : Type 0} → Context → Queued F → Type 0
-OrderedPends left set = Covers left (QueueWaitsAt set)
+OrderedPends left set = Covers left (QueuedWaitsAt set)
 
 -- what a poll of the futures leaves of the task
 abbrev pub FlightLeavesTask : {F A : Type 0}
@@ -90,8 +90,8 @@ module _ {F A : Type 0} (future : FutureOf F A) where
 
   -- what may come: an output of each entry, of its own future, from the front to the back, and then
   -- the end
-  abbrev pub ComesInTurn : OrderedInFlight F A → Runs A
-  ComesInTurn = ComesInOrder (NumberGives future)
+  abbrev pub ComesOfEach : OrderedInFlight F A → Runs A
+  ComesOfEach = ComesInOrder (NumberGives future)
 
   -- One push, from old to new: `adds` says at which end the entry of the future stands, and
   -- `with_one` what may come where an output of one future more does.
@@ -106,7 +106,7 @@ module _ {F A : Type 0} (future : FutureOf F A) where
     pub added : adds old pushed new
     pub one_more : ordered_count new ≡ ordered_count old + 1
     -- an output of the future may come there, and else what might come before
-    pub comes : Within (with_one (future.gives pushed) (ComesInTurn old)) (ComesInTurn new)
+    pub comes : Within (with_one (future.gives pushed) (ComesOfEach old)) (ComesOfEach new)
     -- it can hold as many as before
     pub same_room : ordered_room new ≡ ordered_room old
     -- the queue may be polled
@@ -114,14 +114,14 @@ module _ {F A : Type 0} (future : FutureOf F A) where
 
   -- the future went in behind all others: its output comes last
   abbrev pub PushesBack : OrderedInFlight F A → F → OrderedInFlight F A → Type 0
-  PushesBack = PushesInTurn (AddsBack (PushesNumber future)) ComesLast
+  PushesBack = PushesInTurn (AddsBack (QueuesNumber future)) ComesLast
 
   -- the future went in before all others: its output comes first
   abbrev pub PushesFront : OrderedInFlight F A → F → OrderedInFlight F A → Type 0
-  PushesFront = PushesInTurn (AddsFront (PushesNumber future)) Leads
+  PushesFront = PushesInTurn (AddsFront (QueuesNumber future)) Leads
 
   -- A push that hands the future back where there is no room: `pushes` says what it is to go in.
-  pub record PushesIfRoom
+  pub record PushesOrComesBack
       (pushes : OrderedInFlight F A → F → OrderedInFlight F A → Type 0)
       (old : OrderedInFlight F A)
       (pushed : F)
@@ -150,15 +150,15 @@ module _ {F A : Type 0} (future : FutureOf F A) where
   -- what a stream promises of one poll
   abbrev pub AnswersInTurn : OrderedInFlight F A → Poll (Option A) → OrderedInFlight F A
       → Context → Context → Type 0
-  AnswersInTurn = StreamAnswers (stream_of CanPollOrdered OrderedWaitsAt ComesInTurn)
+  AnswersInTurn = StreamAnswers (stream_of CanPollOrdered OrderedWaitsAt ComesOfEach)
 
   -- Polls until the output of the front came, or the end: the queue was new by then.
   pub record CameInTurn (old : OrderedInFlight F A) (came : Option A) (new : OrderedInFlight F A)
       : Type 0 where
     -- it is one that might come first
-    pub gave : ComesInTurn old [] came
+    pub gave : ComesOfEach old [] came
     -- what may come after it might have come behind it
-    pub rest : IfSome came (λ x. After (ComesInTurn old) x (ComesInTurn new))
+    pub rest : IfSome came (λ x. After (ComesOfEach old) x (ComesOfEach new))
     -- the end comes exactly where nothing is held, and changes nothing
     pub empty : IfNone came ((ordered_count old ≡ 0) × (new ≡ old))
     pub fewer : OnSome came (ordered_count new + 1 ≡ ordered_count old)

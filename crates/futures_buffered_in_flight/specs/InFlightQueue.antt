@@ -14,7 +14,7 @@ use Rattle.futures_buffered_core.specs.SlotMap.{Slots, value_in, held_count, slo
 use Rattle.futures_buffered_ordered.specs.Numbered.{CanPollFuture, one_at, outputs_with}
 use Rattle.futures_buffered_ordered.specs.declared.numbered.Numbered.{Numbered}
 use Rattle.futures_buffered_in_flight.specs.InFlight.{FutureOf, Flights, CanPollAll, KeyGives}
-use Rattle.futures_buffered_in_flight.specs.InFlight.{IsNewInFlight, WaitsAt}
+use Rattle.futures_buffered_in_flight.specs.InFlight.{IsNewInFlight, FlightsWaitAt}
 use Rattle.futures_buffered_in_flight.specs.declared.in_flight.Place.{Place}
 
 -- the futures in flight, each under its number as a tag; and those that wait until there is memory
@@ -53,16 +53,16 @@ abbrev pub IsNewQueued : {F : Type 0} → ℕ → Queued F → Type 0
 IsNewQueued n q = (q.waiting ≡ []) × IsNewInFlight n q.set
 
 -- the place at which a pending poll waits
-abbrev pub QueueWaitsAt : {F : Type 0} → Queued F → ℕ → Type 0
-QueueWaitsAt q = WaitsAt q.set
+abbrev pub QueuedWaitsAt : {F : Type 0} → Queued F → ℕ → Type 0
+QueuedWaitsAt q = FlightsWaitAt q.set
 
 -- it can hold one at least, and holds no more than it can
 abbrev pub HoldsWithinRoom : {F : Type 0} → Queued F → Type 0
 HoldsWithinRoom q = (0 < queued_room q) × (queued_count q ≤ queued_room q)
 
 -- it holds as many as it can
-abbrev pub QueueIsFull : {F : Type 0} → Queued F → Type 0
-QueueIsFull q = queued_room q ≤ queued_count q
+abbrev pub IsAtItsBound : {F : Type 0} → Queued F → Type 0
+IsAtItsBound q = queued_room q ≤ queued_count q
 
 -- as many can be held as before
 abbrev pub SameRoom : {F : Type 0} → Queued F → Queued F → Type 0
@@ -79,9 +79,9 @@ GivesHeld may_give old Pending new = (0 < queued_count old) × (queued_count new
 
 module _ {F A : Type 0} (future : FutureOf F A) where
   -- one of these has this number and may give this output
-  abbrev pub AnyOf : List (Numbered F) → ℕ × A → Type 0
-  AnyOf [] out = ⊥
-  AnyOf (f ∷ fs) out = ((out.0 ≡ f.number) × future.gives f.future out.1) ⊎ AnyOf fs out
+  abbrev pub SomeOf : List (Numbered F) → ℕ × A → Type 0
+  SomeOf [] out = ⊥
+  SomeOf (f ∷ fs) out = ((out.0 ≡ f.number) × future.gives f.future out.1) ⊎ SomeOf fs out
 
   -- the future of a slot with this tag may give this output
   abbrev pub AnyTaggedGives : Flights F → ℕ × A → Type 0
@@ -91,7 +91,7 @@ module _ {F A : Type 0} (future : FutureOf F A) where
 
   -- one of the futures held has this number and may give this output
   abbrev pub NumberGives : Queued F → ℕ × A → Type 0
-  NumberGives q out = AnyOf q.waiting out ⊎ AnyTaggedGives q.set out
+  NumberGives q out = SomeOf q.waiting out ⊎ AnyTaggedGives q.set out
 
   -- one of the futures held may give x
   abbrev pub AnyQueuedGives : Queued F → A → Type 0
@@ -115,7 +115,7 @@ module _ {F A : Type 0} (future : FutureOf F A) where
     pub waiting : AllByRecursion (CanPollFuture future.can_poll) q.waiting
 
   -- One push of a future with a number, into a queue that takes each.
-  pub record PushesNumber (old : Queued F) (pushed : F) (number : ℕ) (new : Queued F)
+  pub record QueuesNumber (old : Queued F) (pushed : F) (number : ℕ) (new : Queued F)
       : Type 0 where
     -- it holds one more, which has this number
     pub one_more : queued_count new ≡ queued_count old + 1
@@ -176,6 +176,6 @@ module _ {F A : Type 0} (future : FutureOf F A) where
 pub record PollsQueuedTask {F A : Type 0} (answer : Poll (Option A)) (new : Queued F)
     (cx left : Context) : Type 0 where
   -- the task of a pending queue hears of what it waits for
-  pub registered : OnPending answer (Covers left (QueueWaitsAt new))
+  pub registered : OnPending answer (Covers left (QueuedWaitsAt new))
   -- nothing of the task is lost
   pub kept : Keeps cx left

@@ -9,7 +9,7 @@ ghost use Rattle.futures_buffered_core.specs.Drawn.{IsFiniteSource};
 ghost use Rattle.futures_buffered_core.specs.Made.{MakesSlots};
 ghost use Rattle.futures_buffered_core.specs.SlotMap.{held_count, slot_count, value_in, no_slots, with_slot_freed};
 ghost use Rattle.futures_buffered_unordered.specs.Extended.{EachDrawn, Extends};
-ghost use Rattle.futures_buffered_in_flight.specs.InFlight.{CanPollAll, Cancels, EndsOneAtMost, GivesWithKey, HasNoRoom, IsNewInFlight, PollsInFlight, Pushes, PushesOne, Refuses, WaitsAt, run_count, runs_in};
+ghost use Rattle.futures_buffered_in_flight.specs.InFlight.{CanPollAll, Cancels, EndsOneAtMost, GivesWithKey, HasNoRoom, IsNewInFlight, PollsInFlight, WentIn, PushesInFlight, CameBack, FlightsWaitAt, run_count, runs_in};
 
 use crate::run::{Key, Run, Stop};
 use futures::channel::oneshot::{Sender, channel};
@@ -222,7 +222,7 @@ impl<F: Future<Output: Drop>> InFlight<F> {
     fn put(&mut self, future: F, tag: usize, stop: Option<Stop>) -> Result<Key, F>
         requires held { CanPollAll F.Future self.old }
         requires new { F.can_poll future }
-        ensures { PushesOne F.Future self.old future tag result self.new }
+        ensures { PushesInFlight F.Future self.old future tag result self.new }
     {
         let push = self.next;
         let Some(next) = push.checked_add(1) else {
@@ -253,7 +253,7 @@ impl<F: Future<Output: Drop>> InFlight<F> {
     pub fn try_push(&mut self, future: F) -> Result<Key, F>
         requires held { CanPollAll F.Future self.old }
         requires new { F.can_poll future }
-        ensures { PushesOne F.Future self.old future 0 result self.new }
+        ensures { PushesInFlight F.Future self.old future 0 result self.new }
     {
         self.put(future, 0, None)
     }
@@ -262,7 +262,7 @@ impl<F: Future<Output: Drop>> InFlight<F> {
     pub fn try_push_tagged(&mut self, future: F, tag: usize) -> Result<Key, F>
         requires held { CanPollAll F.Future self.old }
         requires new { F.can_poll future }
-        ensures { PushesOne F.Future self.old future tag result self.new }
+        ensures { PushesInFlight F.Future self.old future tag result self.new }
     {
         self.put(future, tag, None)
     }
@@ -273,7 +273,7 @@ impl<F: Future<Output: Drop>> InFlight<F> {
     pub fn try_push_abortable(&mut self, future: F) -> Result<Key, F>
         requires held { CanPollAll F.Future self.old }
         requires new { F.can_poll future }
-        ensures { PushesOne F.Future self.old future 0 result self.new }
+        ensures { PushesInFlight F.Future self.old future 0 result self.new }
     {
         let Ok((handle, stop)) = channel(self.alloc) else {
             return Err(future);
@@ -289,13 +289,13 @@ impl<F: Future<Output: Drop>> InFlight<F> {
         Ok(key)
     }
 
-    /// Pushes each item, in order, as `try_push` does. The first that is refused comes back; those before it stay, and the iterator is asked for no further one.
+    /// WentIn each item, in order, as `try_push` does. The first that is refused comes back; those before it stay, and the iterator is asked for no further one.
     pub fn extend<I: IntoIterator<Item = F>>(&mut self, iter: I) -> Result<(), F>
         requires finite { IsFiniteSource I.IntoIterator I.IntoIter.Iterator iter }
         requires held { CanPollAll F.Future self.old }
         requires each { EachDrawn I.IntoIterator I.IntoIter.Iterator iter F.can_poll }
         ensures extends { Extends I.IntoIterator I.IntoIter.Iterator iter
-            (Pushes F.Future) (Refuses F.Future) self.old result self.new }
+            (WentIn F.Future) (CameBack F.Future) self.old result self.new }
         ensures capacity { slot_count self.new.slots ≡ slot_count self.old.slots }
         ensures again { CanPollAll F.Future self.new }
     {
@@ -318,7 +318,7 @@ impl<F: Future<Output: Drop>> InFlight<F> {
             (runs_in self.old.running) (runs_in self.new.running) }
         ensures slots { (self.new.slots ≡ self.old.slots) × (self.new.next ≡ self.old.next) }
         ensures room { self.new.cancelled ≡ self.old.cancelled }
-        ensures registered { OnPending result (Covers cx.new (WaitsAt self.new)) }
+        ensures registered { OnPending result (Covers cx.new (FlightsWaitAt self.new)) }
         ensures kept { Keeps cx.old cx.new }
     {
         let Some(running) = &mut self.running else {

@@ -3,7 +3,7 @@ ghost use Rattle.std.specs.Prelude.{◌≡◌, ◌↔◌, ◌<◌, ◌≤◌, If
 ghost use Rattle.futures_buffered_core.specs.Drawn.{IsFiniteSource};
 ghost use Rattle.futures_buffered_core.specs.Made.{MakesSlots};
 ghost use Rattle.futures_buffered_unordered.specs.Extended.{EachDrawn, Extends};
-ghost use Rattle.futures_buffered_in_flight.specs.InFlightOrdered.{AnswersInTurn, CanPollOrdered, GivesInTurn, IsNewInOrder, LeavesInOrder, LeavesInTurn, OrderedIsFull, PushesBack, PushesFront, PushesIfRoom, RefusesFull, ordered_count, ordered_room};
+ghost use Rattle.futures_buffered_in_flight.specs.InFlightOrdered.{AnswersInTurn, CanPollOrdered, GivesInTurn, IsNewInOrder, LeavesInOrder, LeavesInTurn, OrderedIsFull, PushesBack, PushesFront, PushesOrComesBack, RefusesFull, ordered_count, ordered_room};
 
 use crate::in_flight_queue::InFlightQueue;
 use futures::Future;
@@ -19,7 +19,7 @@ use std::marker::Model;
 impl<F: Future<Output: Drop>> NumberedSet for InFlightQueue<F> {
     ghost use Rattle.std.proofs.Common.{◌≡◌, OnOk, OnErr, IfErr, IsErr, refl, ◌∙◌};
     ghost use Rattle.futures_buffered_ordered.specs.Numbered.{PushesInto};
-    ghost use Rattle.futures_buffered_in_flight.specs.InFlightQueue.{CanPollQueue, PushesNumber, QueueIsFull, SameRoom, queued_count, queued_with};
+    ghost use Rattle.futures_buffered_in_flight.specs.InFlightQueue.{CanPollQueue, QueuesNumber, IsAtItsBound, SameRoom, queued_count, queued_with};
 
     type Future = F;
 
@@ -27,11 +27,11 @@ impl<F: Future<Output: Drop>> NumberedSet for InFlightQueue<F> {
 
     ghost with_number = { queued_with };
 
-    ghost pushes = { PushesNumber F.Future };
+    ghost pushes = { QueuesNumber F.Future };
 
-    ghost may_refuse = { QueueIsFull };
+    ghost may_refuse = { IsAtItsBound };
 
-    ghost refuses = { QueueIsFull };
+    ghost refuses = { IsAtItsBound };
 
     ghost keeps = { SameRoom };
 
@@ -46,11 +46,11 @@ impl<F: Future<Output: Drop>> NumberedSet for InFlightQueue<F> {
     fn push_numbered(&mut self, value: Numbered<F>) -> Result<(), Numbered<F>>
         requires held { CanPollQueue F.Future self.old }
         requires fit { F.can_poll value.future }
-        ensures pushed { OnOk result (PushesInto (PushesNumber F.Future) queued_count queued_with
+        ensures pushed { OnOk result (PushesInto (QueuesNumber F.Future) queued_count queued_with
             SameRoom self.old value self.new) }
         ensures back { IfErr result (λ back. (back ≡ value) × (self.new ≡ self.old)) }
-        ensures room { OnErr result (QueueIsFull self.old) }
-        ensures full { QueueIsFull self.old → IsErr result }
+        ensures room { OnErr result (IsAtItsBound self.old) }
+        ensures full { IsAtItsBound self.old → IsErr result }
         ensures again { CanPollQueue F.Future self.new }
     {
         if self.capacity() <= self.len() {
@@ -158,7 +158,7 @@ impl<F: Future<Output = A>, A: Drop> InFlightOrdered<F, A> {
     pub fn try_push_back(&mut self, future: F) -> Result<(), F>
         requires held { CanPollOrdered F.Future self.old }
         requires fit { F.can_poll future }
-        ensures { PushesIfRoom F.Future (PushesBack F.Future) self.old future result self.new }
+        ensures { PushesOrComesBack F.Future (PushesBack F.Future) self.old future result self.new }
     {
         if self.is_full() {
             return Err(future);
@@ -171,7 +171,7 @@ impl<F: Future<Output = A>, A: Drop> InFlightOrdered<F, A> {
     pub fn try_push_front(&mut self, future: F) -> Result<(), F>
         requires held { CanPollOrdered F.Future self.old }
         requires fit { F.can_poll future }
-        ensures { PushesIfRoom F.Future (PushesFront F.Future) self.old future result self.new }
+        ensures { PushesOrComesBack F.Future (PushesFront F.Future) self.old future result self.new }
     {
         if self.is_full() {
             return Err(future);

@@ -1,5 +1,5 @@
 //! The ordered queue as a stream, which says how much is left and whether it has ended.
-ghost use Rattle.futures_buffered_in_flight.specs.InFlightOrdered.{AnswersInTurn, CanPollOrdered, ComesInTurn, GivesInTurn, LeavesInOrder, LeavesInTurn, OrderedWaitsAt, ordered_count};
+ghost use Rattle.futures_buffered_in_flight.specs.InFlightOrdered.{AnswersInTurn, CanPollOrdered, ComesOfEach, GivesInTurn, LeavesInOrder, LeavesInTurn, OrderedWaitsAt, ordered_count};
 
 use crate::in_flight_ordered::InFlightOrdered;
 use futures::task::{Context, Poll};
@@ -14,7 +14,7 @@ impl<F: Future<Output = A>, A: Drop> Stream for InFlightOrdered<F, A> {
 
     ghost needs = { OrderedWaitsAt };
 
-    ghost yields = { ComesInTurn F.Future };
+    ghost yields = { ComesOfEach F.Future };
 
     /// One poll, as `poll_output`.
     fn poll_next(&mut self, cx: &mut Context<'_>) -> Poll<Option<A>>

@@ -3,7 +3,7 @@ ghost use Rattle.std.specs.Prelude.{◌≡◌, ◌<◌, ◌≤◌, ◌+◌, ◌�
 ghost use Rattle.futures.specs.Poll.{OnPending};
 ghost use Rattle.futures.specs.Task.{Covers, Keeps};
 ghost use Rattle.futures_buffered_core.specs.Made.{MakesSlots};
-ghost use Rattle.futures_buffered_in_flight.specs.InFlightQueue.{CanPollQueue, HoldsWithinRoom, IsNewQueued, PollsNumber, PollsQueued, PollsQueuedTask, PushesNumber, PushesQueued, Starts, queued_count, queued_room};
+ghost use Rattle.futures_buffered_in_flight.specs.InFlightQueue.{CanPollQueue, HoldsWithinRoom, IsNewQueued, PollsNumber, PollsQueued, PollsQueuedTask, QueuesNumber, PushesQueued, Starts, queued_count, queued_room};
 
 use crate::in_flight::InFlight;
 use futures::Future;
@@ -94,7 +94,7 @@ impl<F: Future<Output: Drop>> InFlightQueue<F> {
         requires room { queued_count self.old < queued_room self.old }
         requires held { CanPollQueue F.Future self.old }
         requires fit { F.can_poll value.future }
-        ensures { PushesNumber F.Future self.old value.future value.number self.new }
+        ensures { QueuesNumber F.Future self.old value.future value.number self.new }
     {
         let Numbered { future, number } = value;
         if let Err(future) = self.set.try_push_tagged(future, number) {

@@ -1,6 +1,6 @@
 //! The set as a stream, which says how much is left and whether it has ended.
 ghost use Rattle.futures_buffered_core.specs.SlotMap.{held_count};
-ghost use Rattle.futures_buffered_in_flight.specs.InFlight.{CanPollAll, ComesFromSlots, WaitsAt};
+ghost use Rattle.futures_buffered_in_flight.specs.InFlight.{CanPollAll, ComesFromSlots, FlightsWaitAt};
 
 use crate::in_flight::InFlight;
 use futures::task::{Context, Poll};
@@ -13,7 +13,7 @@ impl<F: Future<Output: Drop>> Stream for InFlight<F> {
 
     ghost can_poll = { CanPollAll F.Future };
 
-    ghost needs = { WaitsAt };
+    ghost needs = { FlightsWaitAt };
 
     ghost yields = { ComesFromSlots F.Future };
 

@@ -1,6 +1,6 @@
 //! Futures in flight while a task waits for their next output.
 ghost use Rattle.std.specs.Prelude.{◌≡◌, Some, IfOk, IsSomeAnd};
-ghost use Rattle.futures_buffered_in_flight.specs.InFlight.{CameOf, CanPollAll, WaitsAt};
+ghost use Rattle.futures_buffered_in_flight.specs.InFlight.{CameInFlight, CanPollAll, FlightsWaitAt};
 ghost use Rattle.futures_buffered_in_flight.specs.InFlightOrdered.{CameInTurn, CanPollOrdered, OrderedWaitsAt};
 
 use crate::in_flight::{Came, InFlight};
@@ -26,10 +26,10 @@ impl<F: Future<Output: Drop>> Future for Waiting<InFlight<F>> {
     // A set that was given back is not there to be polled.
     ghost can_poll = { λ waiting. IsSomeAnd waiting.held (CanPollAll F.Future) };
 
-    ghost needs = { λ waiting place. IsSomeAnd waiting.held (λ set. WaitsAt set place) };
+    ghost needs = { λ waiting place. IsSomeAnd waiting.held (λ set. FlightsWaitAt set place) };
 
     ghost gives = { λ waiting given. IsSomeAnd waiting.held
-        (λ set. CameOf F.Future set given.0 given.1) };
+        (λ set. CameInFlight F.Future set given.0 given.1) };
 
     #[tactic(auto, using(crate::proofs::WaitingLemmas::came_at_once, crate::proofs::WaitingLemmas::came_later))]
     fn poll(&mut self, cx: &mut Context<'_>) -> Poll<Self::Output> {
@@ -56,7 +56,7 @@ impl<F: Future<Output: Drop>> InFlight<F> {
     where
         R: Wait + RandomSource + AllocGlobal,
         requires { CanPollAll F.Future self }
-        ensures { IfOk result (λ given. CameOf F.Future self given.0 given.1) }
+        ensures { IfOk result (λ given. CameInFlight F.Future self given.0 given.1) }
     {
         block_on(rt, self.into_next())
     }

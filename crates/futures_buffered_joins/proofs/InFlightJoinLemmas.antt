@@ -11,15 +11,15 @@ use Rattle.futures_buffered_core.specs.Drawn.{SourceOf, IteratorOf, Draws}
 use Rattle.futures_buffered_core.specs.SlotMap.{Slots, value_in, held_count, slot_count, with_slot_freed}
 use Rattle.futures_buffered_unordered.specs.Extended.{EachDrawn}
 use Rattle.futures_buffered_unordered.proofs.HeldGivesLemmas.{value_in-with_slot_freed, value_in-with_slot_freed_other, None-Some}
-use Rattle.futures_buffered_in_flight.specs.InFlight.{FutureOf, Flights, CanPollAll, IsNewInFlight, KeyGives, SlotGives, PushesAt, ComesByKey, RunsGiveNoMore}
+use Rattle.futures_buffered_in_flight.specs.InFlight.{FutureOf, Flights, CanPollAll, IsNewInFlight, KeyGives, SlotGives, EntersAt, ComesByKey, RunsGiveNoMore}
 use Rattle.futures_buffered_in_flight.specs.declared.in_flight.Came.{Came}
 use Rattle.futures_buffered_in_flight.specs.declared.in_flight.Place.{Place}
 use Rattle.futures_buffered_in_flight.specs.declared.run.Key.{Key}
 use Rattle.futures_buffered_in_flight.proofs.InFlightLemmas.{slots_within, slots_after}
 use Rattle.futures_buffered_joins.specs.JoinRule.{Outcome}
-use Rattle.futures_buffered_joins.specs.Joining.{JoinRuleOf}
+use Rattle.futures_buffered_joins.specs.Join.{JoinRuleOf}
 use Rattle.futures_buffered_joins.specs.Outputs.{WaitsOrCame, MayComeAt, output_in}
-use Rattle.futures_buffered_joins.specs.InFlightJoin.{Flying, FliesByPlace, HoldsInOrder, FliesOn, FlyingMayGive}
+use Rattle.futures_buffered_joins.specs.InFlightJoin.{Flying, FliesByPlace, FliesInOrder, FliesOn, FlyingMayGive}
 use Rattle.futures_buffered_joins.proofs.OutputsLemmas.{below_from_some, none_from, all_now}
 
 Some-same : {F : Type 0} {f g : F} → Some f ≡ Some g → f ≡ g
@@ -90,7 +90,7 @@ module _ {F O : Type 0} (future : FutureOf F O) where
       }
 
   -- one more went in
-  pub pushed_one : (n : ℕ) (xs : List F) (f : F) (key : Key) (old new : Flights F) → PushedSoFar n xs old → PushesAt future old f 0 key new → CanPollAll future new → PushedSoFar n (xs ++ f ∷ []) new
+  pub pushed_one : (n : ℕ) (xs : List F) (f : F) (key : Key) (old new : Flights F) → PushedSoFar n xs old → EntersAt future old f 0 key new → CanPollAll future new → PushedSoFar n (xs ++ f ∷ []) new
   pushed_one n xs f key old new so p can = by_left (n - length xs) refl
     where
       holds : value_in new.slots key.slot ≡ Some (record { tag = 0; push = key.push })
@@ -130,7 +130,7 @@ module _ {F O : Type 0} (future : FutureOf F O) where
           }
 
   -- all of them went in
-  pub pushed_all : (items xs : List F) (set : Flights F) → items ≡ xs → PushedSoFar (length items) xs set → HoldsInOrder future items set
+  pub pushed_all : (items xs : List F) (set : Flights F) → items ≡ xs → PushedSoFar (length items) xs set → FliesInOrder future items set
   pushed_all items xs set same so =
       record {
         as_many = so.as_many;
@@ -139,7 +139,7 @@ module _ {F O : Type 0} (future : FutureOf F O) where
       }
 
   -- at each place of a new join its future waits
-  pub all_wait : {A : Type 0} (items : List F) (set : Flights F) (outputs : List (Option A)) → HoldsInOrder future items set → outputs ≡ replicate (length items) None → WaitsOrCame set.slots outputs
+  pub all_wait : {A : Type 0} (items : List F) (set : Flights F) (outputs : List (Option A)) → FliesInOrder future items set → outputs ≡ replicate (length items) None → WaitsOrCame set.slots outputs
   all_wait {A} items set outputs holds none =
       let size : length outputs ≡ length items = ap length none ∙ length-replicate (length items) None in
       record {

@@ -13,9 +13,9 @@ use Rattle.futures_buffered_unordered.specs.Held.{Passes, Yields, MayGive, AnyMa
 use Rattle.futures_buffered_unordered.specs.FuturesUnorderedBounded.{Bounded}
 use Rattle.futures_buffered_unordered.proofs.HeldLemmas.{value_in-with_value}
 use Rattle.futures_buffered_unordered.proofs.HeldGivesLemmas.{gives_passed, gives_others, value_in-with_slot_freed, value_in-with_slot_freed_other, None-Some}
-use Rattle.futures_buffered_joins.specs.Join.{Fills, PollsPending, ReadySourceOf}
+use Rattle.futures_buffered_joins.specs.Join.{Fills, JoinRuleOf, PollsPending, ReadySourceOf, SlotFutureOf}
 use Rattle.futures_buffered_joins.specs.Outputs.{output_in}
-use Rattle.futures_buffered_joins.specs.Joining.{Places, IsNewJoin, SlotFutureOf, JoinRuleOf, MayGiveAt, MayKeepAt, MayBeAt, MayBeAll, CameByPlace}
+use Rattle.futures_buffered_joins.specs.Joining.{Places, IsNewJoin, MayGiveAt, MayKeepAt, MayBeAt, MayBeAll, CameByPlace}
 
 Some-same : {F : Type 0} {f g : F} → Some f ≡ Some g → f ≡ g
 Some-same e = cc
@@ -57,63 +57,63 @@ module _ {F R : Type 0} (polled : ℕ → F → Poll R → F → Type 0) where
       (freed.0, sym (get_or-set_other m.places i k (Some h.left) None other) ∙ (sym (value_in-with_slot_freed_other (with_value m i h.left) i k other) ∙ freed.1), freed.2)
 
 module _ {F W R O A E B S : Type 0} (future : SlotFutureOf F W O) (rule : JoinRuleOf R O A E B) where
-  same_output : (old new : Places F A S) (k : ℕ) (y : A) (o : Option A) → output_in old.outputs k ≡ o → output_in new.outputs k ≡ o → (MayKeepAt future rule new.set.slots k y → MayKeepAt future rule old.set.slots k y) → MayBeAt future rule new k y → MayBeAt future rule old k y
-  same_output old new k y None was is back may = let waits : MayKeepAt future rule new.set.slots k y = rw is at may in rw was (back waits)
+  same_output : (old new : Places F A S) (k : ℕ) (y : A) (o : Option A) → output_in old.outputs k ≡ o → output_in new.outputs k ≡ o → (MayKeepAt future.polled rule.output_of new.set.slots k y → MayKeepAt future.polled rule.output_of old.set.slots k y) → MayBeAt future.polled rule.output_of new k y → MayBeAt future.polled rule.output_of old k y
+  same_output old new k y None was is back may = let waits : MayKeepAt future.polled rule.output_of new.set.slots k y = rw is at may in rw was (back waits)
   same_output old new k y (Some z) was is back may = let same : y ≡ z = rw is at may in rw was same
 
   -- all outputs of a new join are one of each item
-  pub by_place : (made : ℕ → S → Type 0) (marks : S → ℕ → Woke → S → Type 0) (limit : ℕ) (items : List F) (first : Places F A S) (outputs : List A) → IsNewJoin made marks limit items first → MayBeAll future rule first outputs → CameByPlace future rule items outputs
+  pub by_place : (made : ℕ → S → Type 0) (marks : S → ℕ → Woke → S → Type 0) (limit : ℕ) (items : List F) (first : Places F A S) (outputs : List A) → IsNewJoin made marks limit items first → MayBeAll future.polled rule.output_of first outputs → CameByPlace future.polled rule.output_of items outputs
   by_place made marks limit items first outputs new all =
       record {
         as_many = all.as_many ∙ (ap length new.none_done ∙ length-replicate (length items) None);
         each = λ k item x of_item got.
             let below = slice_get_within items k item of_item in
             let none : output_in first.outputs k ≡ None = rw new.none_done (get_or-replicate {A = Option A} (length items) k None None below) in
-            let waits : MayKeepAt future rule first.set.slots k x = rw none at (all.each k x got) in
+            let waits : MayKeepAt future.polled rule.output_of first.set.slots k x = rw none at (all.each k x got) in
             let holds : value_in first.set.slots k ≡ Some item = rw new.waits_for.slots_hold (get_or-map Some items k item None below ∙ ap Some (get_or_from_slice_get items k item item of_item)) in
             subst (λ (f : F). MayGive (future.polled k) f (rule.output_of (Ok x))) (Some-same (sym waits.1 ∙ holds)) waits.2;
       }
 
 module _ {F W R O A E B S : Type 0} (future : SlotFutureOf F W O) (rule : JoinRuleOf R O A E B) (source : ReadySourceOf S W) where
-  fills_given : (old new : Places F A S × Context) (i : ℕ) (x : A) → Fills future rule source old (i, x) new → MayKeepAt future rule old.0.set.slots i x
+  fills_given : (old new : Places F A S × Context) (i : ℕ) (x : A) → Fills future rule source old (i, x) new → MayKeepAt future.polled rule.output_of old.0.set.slots i x
   fills_given old new i x h =
       let takes = h.gave.takes in
       passed_all_at future.polled takes.names old.0.set.slots takes.passed i (rule.output_of (Ok x)) takes.passes (given_at future.polled takes.passed _ i (rule.output_of (Ok x)) takes.ends.2)
 
-  fills_same : (old new : Places F A S × Context) (i : ℕ) (x y : A) → Fills future rule source old (i, x) new → MayBeAt future rule new.0 i y → MayKeepAt future rule old.0.set.slots i y
+  fills_same : (old new : Places F A S × Context) (i : ℕ) (x y : A) → Fills future rule source old (i, x) new → MayBeAt future.polled rule.output_of new.0 i y → MayKeepAt future.polled rule.output_of old.0.set.slots i y
   fills_same old new i x y h may =
       elim (cases_lt i (length old.0.outputs)) [
         | inl below ↦
             let found : output_in new.0.outputs i ≡ Some x = rw h.now_done (get_or-set_same {A = Option A} old.0.outputs i (Some x) None below) in
             let is : y ≡ x = rw found at may in
-            subst (λ (z : A). MayKeepAt future rule old.0.set.slots i z) (sym is) (fills_given old new i x h)
+            subst (λ (z : A). MayKeepAt future.polled rule.output_of old.0.set.slots i z) (sym is) (fills_given old new i x h)
         | inr past ↦
             let none : output_in new.0.outputs i ≡ None = rw h.now_done (get_or_past {X = Option A} (set old.0.outputs i (Some x)) i None (omega (arith, length-set {A = Option A} old.0.outputs i (Some x)))) in
-            let waits : MayKeepAt future rule new.0.set.slots i y = rw none at may in
-            let freed = subst (λ (w : Bounded F S). MayKeepAt future rule w.slots i y) h.future_gone waits in
+            let waits : MayKeepAt future.polled rule.output_of new.0.set.slots i y = rw none at may in
+            let freed = subst (λ (w : Bounded F S). MayKeepAt future.polled rule.output_of w.slots i y) h.future_gone waits in
             absurd (None-Some (sym (value_in-with_slot_freed h.left.slots i) ∙ freed.1))
       ]
 
-  fills_other : (old new : Places F A S × Context) (i k : ℕ) (x y : A) → Fills future rule source old (i, x) new → k ≢ i → MayKeepAt future rule new.0.set.slots k y → MayKeepAt future rule old.0.set.slots k y
+  fills_other : (old new : Places F A S × Context) (i k : ℕ) (x y : A) → Fills future rule source old (i, x) new → k ≢ i → MayKeepAt future.polled rule.output_of new.0.set.slots k y → MayKeepAt future.polled rule.output_of old.0.set.slots k y
   fills_other old new i k x y h other may =
       let takes = h.gave.takes in
-      passed_all_at future.polled takes.names old.0.set.slots takes.passed k (rule.output_of (Ok y)) takes.passes (others_at future.polled takes.passed h.left.slots i k (rule.output_of (Ok x)) (rule.output_of (Ok y)) takes.ends.2 other (subst (λ (w : Bounded F S). MayKeepAt future rule w.slots k y) h.future_gone may))
+      passed_all_at future.polled takes.names old.0.set.slots takes.passed k (rule.output_of (Ok y)) takes.passes (others_at future.polled takes.passed h.left.slots i k (rule.output_of (Ok x)) (rule.output_of (Ok y)) takes.ends.2 other (subst (λ (w : Bounded F S). MayKeepAt future.polled rule.output_of w.slots k y) h.future_gone may))
 
   -- an output that fills its place is one that might come there
-  fills_back : (old new : Places F A S × Context) (i k : ℕ) (x y : A) → Fills future rule source old (i, x) new → MayBeAt future rule new.0 k y → MayBeAt future rule old.0 k y
+  fills_back : (old new : Places F A S × Context) (i k : ℕ) (x y : A) → Fills future rule source old (i, x) new → MayBeAt future.polled rule.output_of new.0 k y → MayBeAt future.polled rule.output_of old.0 k y
   fills_back old new i k x y h may =
       elim (cases_eq k i) [
         | inl same ↦
-            let waits : MayKeepAt future rule old.0.set.slots i y = fills_same old new i x y h (subst (λ (q : ℕ). MayBeAt future rule new.0 q y) same may) in
+            let waits : MayKeepAt future.polled rule.output_of old.0.set.slots i y = fills_same old new i x y h (subst (λ (q : ℕ). MayBeAt future.polled rule.output_of new.0 q y) same may) in
             let none : output_in old.0.outputs k ≡ None = rw same h.was_waiting in
-            rw none (subst (λ (q : ℕ). MayKeepAt future rule old.0.set.slots q y) (sym same) waits)
+            rw none (subst (λ (q : ℕ). MayKeepAt future.polled rule.output_of old.0.set.slots q y) (sym same) waits)
         | inr other ↦
             let stays : output_in new.0.outputs k ≡ output_in old.0.outputs k = rw h.now_done (get_or-set_other {A = Option A} old.0.outputs i k (Some x) None other) in
             same_output future rule old.0 new.0 k y (output_in old.0.outputs k) refl stays (fills_other old new i k x y h other) may
       ]
 
-  row_back : (row : List (ℕ × A)) (old before : Places F A S × Context) (k : ℕ) (y : A) → FoldsTo (Fills future rule source) old row before → MayBeAt future rule before.0 k y → MayBeAt future rule old.0 k y
-  row_back [] old before k y ran may = subst (λ (w : Places F A S × Context). MayBeAt future rule w.0 k y) (sym ran) may
+  row_back : (row : List (ℕ × A)) (old before : Places F A S × Context) (k : ℕ) (y : A) → FoldsTo (Fills future rule source) old row before → MayBeAt future.polled rule.output_of before.0 k y → MayBeAt future.polled rule.output_of old.0 k y
+  row_back [] old before k y ran may = subst (λ (w : Places F A S × Context). MayBeAt future.polled rule.output_of w.0 k y) (sym ran) may
   row_back ((i, x) ∷ row) old before k y ran may = fills_back old ran.0 i k x y ran.1 (row_back row ran.0 before k y ran.2 may)
 
   row_size : (row : List (ℕ × A)) (old before : Places F A S × Context) → FoldsTo (Fills future rule source) old row before → length before.0.outputs ≡ length old.0.outputs
@@ -121,7 +121,7 @@ module _ {F W R O A E B S : Type 0} (future : SlotFutureOf F W O) (rule : JoinRu
   row_size ((i, x) ∷ row) old before ran = row_size row ran.0 before ran.2 ∙ (ap length ran.1.now_done ∙ length-set {A = Option A} old.0.outputs i (Some x))
 
   -- what may be all outputs after a row of them might be all before it
-  pub all_back : (row : List (ℕ × A)) (old before : Places F A S × Context) (outputs : List A) → FoldsTo (Fills future rule source) old row before → MayBeAll future rule before.0 outputs → MayBeAll future rule old.0 outputs
+  pub all_back : (row : List (ℕ × A)) (old before : Places F A S × Context) (outputs : List A) → FoldsTo (Fills future rule source) old row before → MayBeAll future.polled rule.output_of before.0 outputs → MayBeAll future.polled rule.output_of old.0 outputs
   all_back row old before outputs ran all = record { as_many = all.as_many ∙ row_size row old before ran; each = λ k x got. row_back row old before k x ran (all.each k x got) }
 
   -- a pending poll passes each slot that it was given the name of
@@ -129,7 +129,7 @@ module _ {F W R O A E B S : Type 0} (future : SlotFutureOf F W O) (rule : JoinRu
   waits_pass before new cx left h = rw h.is_pending.takes.ends.0 h.is_pending.takes.passes
 
   -- nor does a pending poll add to it
-  pub waits_back : (before new : Places F A S) (cx left : Context) (outputs : List A) → PollsPending future rule source before new cx left → MayBeAll future rule new outputs → MayBeAll future rule before outputs
+  pub waits_back : (before new : Places F A S) (cx left : Context) (outputs : List A) → PollsPending future rule source before new cx left → MayBeAll future.polled rule.output_of new outputs → MayBeAll future.polled rule.output_of before outputs
   waits_back before new cx left outputs h all =
       let takes = h.is_pending.takes in
       let passes = waits_pass before new cx left h in

@@ -11,9 +11,9 @@ use Rattle.futures_buffered_core.specs.SlotMap.{held_count, slot_count}
 use Rattle.futures_buffered_table.specs.declared.answer.NewFault.{NewFault}
 use Rattle.futures_buffered_unordered.specs.Extended.{MakesFull}
 use Rattle.futures_buffered_in_flight.specs.InFlight.{FutureOf, Flights, CanPollAll, SlotGives}
-use Rattle.futures_buffered_in_flight.specs.InFlight.{AnySlotGives, WaitsAt}
+use Rattle.futures_buffered_in_flight.specs.InFlight.{AnySlotGives, FlightsWaitAt}
 use Rattle.futures_buffered_joins.specs.JoinRule.{Outcome}
-use Rattle.futures_buffered_joins.specs.Joining.{JoinRuleOf}
+use Rattle.futures_buffered_joins.specs.Join.{JoinRuleOf}
 use Rattle.futures_buffered_joins.specs.Outputs.{CameInOrder, MayComeAll, MayEndWith, WaitsOrCame}
 
 -- the places of a join that has not ended: a set of the futures that it waits for, each in the slot
@@ -33,7 +33,7 @@ flying_places (Some places) = flying_size places
 
 -- the place at which a pending join waits: that of its futures
 abbrev pub FlyingWaitsAt : {F A : Type 0} → Option (Flying F A) → ℕ → Type 0
-FlyingWaitsAt join source = IsSomeAnd join (λ places. WaitsAt places.set source)
+FlyingWaitsAt join source = IsSomeAnd join (λ places. FlightsWaitAt places.set source)
 
 module _ {F O : Type 0} (future : FutureOf F O) where
   -- each future of the join may be polled; one that has ended may be polled too
@@ -41,7 +41,7 @@ module _ {F O : Type 0} (future : FutureOf F O) where
   CanPollFlying join = IfSome join (λ places. CanPollAll future places.set)
 
   -- item k waits in slot k, and there is no other slot
-  pub record HoldsInOrder (items : List F) (set : Flights F) : Type 0 where
+  pub record FliesInOrder (items : List F) (set : Flights F) : Type 0 where
     pub as_many : slot_count set.slots ≡ length items
     pub all_wait : held_count set.slots ≡ length items
     -- what may come of slot k, item k may give
@@ -50,7 +50,7 @@ module _ {F O : Type 0} (future : FutureOf F O) where
 
   -- item k waits at place k, and no output has come
   pub record IsNewFlying {A : Type 0} (items : List F) (places : Flying F A) : Type 0 where
-    pub waits_for : HoldsInOrder items places.set
+    pub waits_for : FliesInOrder items places.set
     pub none_done : places.outputs ≡ replicate (length items) None
 
   -- What a constructor of a join makes of what an iterator gives, or why it makes nothing. It makes

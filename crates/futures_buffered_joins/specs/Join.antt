@@ -14,10 +14,11 @@ use Rattle.futures_buffered_unordered.specs.FuturesUnorderedBounded.{Bounded, he
 use Rattle.futures_buffered_unordered.specs.FuturesUnorderedBounded.{with_empty_slot}
 use Rattle.futures_buffered_unordered.specs.PollsBounded.{RegistersAndTakes}
 use Rattle.futures_buffered_unordered.specs.declared.poll_one.PollFuture.{PollFuture}
+pub use Rattle.futures_buffered_unordered.specs.declared.slot_future.SlotFuture.{Ghosts as SlotFutureOf}
 pub use Rattle.futures_buffered_unordered.specs.declared.poll_one.PollOne.{Ghosts as PollOneOf}
 use Rattle.futures_buffered_joins.specs.Joining.{Places, IsNewJoin, CameByPlace, JoinMayGive}
-use Rattle.futures_buffered_joins.specs.Joining.{SlotFutureOf, JoinRuleOf}
 use Rattle.futures_buffered_joins.specs.JoinRule.{Outcome}
+pub use Rattle.futures_buffered_joins.specs.declared.join_rule.JoinRule.{Ghosts as JoinRuleOf}
 use Rattle.futures_buffered_joins.specs.Outputs.{output_in}
 
 -- the rule of a set that polls each future itself
@@ -104,11 +105,11 @@ module _
       -- what came, and who is woken
       pub gave : JoinGives old (as_seen rule.seen answer) new cx left
       -- it is ready with nothing but what it might give before, and holds nothing more
-      pub value : IfReady answer (λ x. JoinMayGive future rule old (rule.seen x))
+      pub value : IfReady answer (λ x. JoinMayGive future.polled rule.output_of old (rule.seen x))
       pub ended : IfReady answer (λ _. new ≡ None)
       -- a pending poll adds nothing to what it may give
       pub same : OnPending answer ((x : Outcome A E)
-          → JoinMayGive future rule new x → JoinMayGive future rule old x)
+          → JoinMayGive future.polled rule.output_of new x → JoinMayGive future.polled rule.output_of old x)
       -- who waits where: the task of a pending join hears of its source
       pub registered : OnPending answer
           (Covers left (λ n. IsSomeAnd new (λ places. source.needs places.set.source n)))
@@ -131,4 +132,4 @@ module _
         → IsNewJoin made source.marks limit items first
         → FoldsTo StaysPending first later last
         → JoinGives (Some last) (Ready (Ok outputs)) after cx left
-        → CameByPlace future rule items outputs
+        → CameByPlace future.polled rule.output_of items outputs

@@ -1,15 +1,13 @@
--- What a contract sees of a join, and what may come of it. A clause names futures and rule by the
--- ghost members of their types: `F.SlotFuture R.JoinRule`.
-use Rattle.std.specs.Prelude.{◌≡◌, ℕ, List, length, Option, Some, None, Ok, Err, replicate, refl}
+-- What a contract sees of a join, and what may come of it.
+use Rattle.std.specs.Prelude.{◌≡◌, ℕ, List, length, Option, Some, None, Result, Ok, Err}
+use Rattle.std.specs.Prelude.{replicate, refl}
 use Rattle.std.specs.Coded.{Coded, code_by, coded×, coded_list, coded_option}
 use Rattle.futures.specs.declared.task.Poll.{Poll}
 use Rattle.futures_buffered_core.specs.SlotMap.{Slots, value_in}
 use Rattle.futures_buffered_table.specs.declared.answer.Woke.{Woke}
 use Rattle.futures_buffered_unordered.specs.Held.{AnyMayGive, MayGive}
 use Rattle.futures_buffered_unordered.specs.FuturesUnorderedBounded.{Bounded, HoldsEach, slots_in}
-pub use Rattle.futures_buffered_unordered.specs.declared.slot_future.SlotFuture.{Ghosts as SlotFutureOf}
 use Rattle.futures_buffered_joins.specs.JoinRule.{Outcome}
-pub use Rattle.futures_buffered_joins.specs.declared.join_rule.JoinRule.{Ghosts as JoinRuleOf}
 use Rattle.futures_buffered_joins.specs.Outputs.{CameInOrder, MayComeAll, MayComeAt, MayEndWith}
 
 -- the places of a join that has not ended: a set of the futures that it waits for, each in the slot
@@ -50,31 +48,28 @@ abbrev pub MayGiveAt : {F A : Type 0}
     → (ℕ → F → Poll A → F → Type 0) → Slots F → ℕ → A → Type 0
 MayGiveAt {F} polled slots k x = (f : F) × (value_in slots k ≡ Some f) × MayGive (polled k) f x
 
-module _
-    {F W R O A E B : Type 0}
-    (future : SlotFutureOf F W O)
-    (rule : JoinRuleOf R O A E B)
-  where
-    -- the future that is held in this slot may give an output of which x is kept
-    abbrev pub MayKeepAt : Slots F → ℕ → A → Type 0
-    MayKeepAt slots k x = MayGiveAt future.polled slots k (rule.output_of (Ok x))
+-- `output_of` says which output is kept as a value, and which one ends the join with an error
+module _ {F O A E : Type 0} (polled : ℕ → F → Poll O → F → Type 0) (output_of : Result A E → O) where
+  -- the future that is held in this slot may give an output of which x is kept
+  abbrev pub MayKeepAt : Slots F → ℕ → A → Type 0
+  MayKeepAt slots k x = MayGiveAt polled slots k (output_of (Ok x))
 
-    -- x may stand at this place: it has come there, or the future that waits there may give it
-    abbrev pub MayBeAt : {S : Type 0} → Places F A S → ℕ → A → Type 0
-    MayBeAt places = MayComeAt (MayKeepAt places.set.slots) places.outputs
+  -- x may stand at this place: it has come there, or the future that waits there may give it
+  abbrev pub MayBeAt : {S : Type 0} → Places F A S → ℕ → A → Type 0
+  MayBeAt places = MayComeAt (MayKeepAt places.set.slots) places.outputs
 
-    -- these may be all outputs, one for each place, in the order of the places
-    abbrev pub MayBeAll : {S : Type 0} → Places F A S → List A → Type 0
-    MayBeAll places = MayComeAll (MayKeepAt places.set.slots) places.outputs
+  -- these may be all outputs, one for each place, in the order of the places
+  abbrev pub MayBeAll : {S : Type 0} → Places F A S → List A → Type 0
+  MayBeAll places = MayComeAll (MayKeepAt places.set.slots) places.outputs
 
-    -- there are as many outputs as items, and the output at place k is one that item k may give,
-    -- polled with the waker of slot k
-    abbrev pub CameByPlace : List F → List A → Type 0
-    CameByPlace = CameInOrder (λ k item x. MayGive (future.polled k) item (rule.output_of (Ok x)))
+  -- there are as many outputs as items, and the output at place k is one that item k may give,
+  -- polled with the waker of slot k
+  abbrev pub CameByPlace : List F → List A → Type 0
+  CameByPlace = CameInOrder (λ k item x. MayGive (polled k) item (output_of (Ok x)))
 
-    -- what a join may be ready with: no outputs once it has ended; else one of each place, or an
-    -- error that one of the futures waited for may give
-    abbrev pub JoinMayGive : {S : Type 0} → Option (Places F A S) → Outcome A E → Type 0
-    JoinMayGive = MayEndWith
-        MayBeAll
-        (λ places e. AnyMayGive future.polled places.set.slots (rule.output_of (Err e)))
+  -- what a join may be ready with: no outputs once it has ended; else one of each place, or an
+  -- error that one of the futures waited for may give
+  abbrev pub JoinMayGive : {S : Type 0} → Option (Places F A S) → Outcome A E → Type 0
+  JoinMayGive = MayEndWith
+      MayBeAll
+      (λ places e. AnyMayGive polled places.set.slots (output_of (Err e)))

@@ -5,8 +5,9 @@ use Rattle.futures.specs.declared.task.context.Context.{Context}
 use Rattle.futures.specs.declared.task.Poll.{Poll}
 use Rattle.futures_buffered_unordered.specs.Held.{AllHeld}
 use Rattle.futures_buffered_unordered.specs.FuturesUnorderedBounded.{held_in}
-use Rattle.futures_buffered_joins.specs.Joining.{Places, SlotFutureOf, JoinRuleOf}
-use Rattle.futures_buffered_joins.specs.Join.{Fails, Fills, FillsThen, PollsPending, ReadySourceOf}
+use Rattle.futures_buffered_joins.specs.Joining.{Places}
+use Rattle.futures_buffered_joins.specs.Join.{Fails, Fills, FillsThen, JoinRuleOf, PollsPending}
+use Rattle.futures_buffered_joins.specs.Join.{ReadySourceOf, SlotFutureOf}
 
 module _
     {F W R O A E B S : Type 0}

@@ -6,9 +6,9 @@ ghost use Rattle.futures_buffered_core.specs.Drawn.{Draws, IsFiniteSource, Refus
 ghost use Rattle.futures_buffered_core.specs.SlotMap.{held_count};
 ghost use Rattle.futures_buffered_table.specs.declared.answer.TheConstants.{MAX_CAPACITY};
 ghost use Rattle.futures_buffered_unordered.specs.Extended.{EachDrawn, MakesFull};
-ghost use Rattle.futures_buffered_in_flight.specs.InFlight.{CanPollAll, IsNewInFlight, WaitsAt};
+ghost use Rattle.futures_buffered_in_flight.specs.InFlight.{CanPollAll, IsNewInFlight, FlightsWaitAt};
 ghost use Rattle.futures_buffered_joins.specs.JoiningFills.{FillsOrFails};
-ghost use Rattle.futures_buffered_joins.specs.InFlightJoin.{FillsPlace, FillsRest, HoldsInOrder, IsNewFlying, SomeMayFail, WaitsOn, flying_size};
+ghost use Rattle.futures_buffered_joins.specs.InFlightJoin.{FillsPlace, FillsRest, FliesInOrder, IsNewFlying, SomeMayFail, WaitsOn, flying_size};
 ghost use Rattle.futures_buffered_joins.specs.Outputs.{WaitsOrCame};
 
 use crate::join_rule::JoinRule;
@@ -63,7 +63,7 @@ where
     requires new { IsNewInFlight (vec_len futures) set.old }
     requires held { CanPollAll F.Future set.old }
     requires fit { All F.can_poll futures.items }
-    ensures holds { OnOk result (HoldsInOrder F.Future futures.items set.new) }
+    ensures holds { OnOk result (FliesInOrder F.Future futures.items set.new) }
     ensures again { OnOk result (CanPollAll F.Future set.new) }
 {
     'futures: for future in futures {
@@ -110,7 +110,7 @@ impl<F: Future<Output: Drop>, A: Drop> Flying<F, A> {
         ensures ready { FillsOrFails (FillsPlace F.Future R.JoinRule self.old self.new)
             (SomeMayFail F.Future R.JoinRule self.old) result }
         ensures pending { OnPending result (WaitsOn F.Future R.JoinRule self.old self.new) }
-        ensures registered { OnPending result (Covers cx.new (WaitsAt self.new.set)) }
+        ensures registered { OnPending result (Covers cx.new (FlightsWaitAt self.new.set)) }
         ensures kept { Keeps cx.old cx.new }
     {
         match self.set.poll_next_keyed(cx) {
@@ -137,7 +137,7 @@ impl<F: Future<Output: Drop>, A: Drop> Flying<F, A> {
         ensures ready { FillsOrFails (FillsRest F.Future R.JoinRule self.old self.new)
             (SomeMayFail F.Future R.JoinRule self.old) result }
         ensures pending { OnPending result (WaitsOn F.Future R.JoinRule self.old self.new) }
-        ensures registered { OnPending result (Covers cx.new (WaitsAt self.new.set)) }
+        ensures registered { OnPending result (Covers cx.new (FlightsWaitAt self.new.set)) }
         ensures kept { Keeps cx.old cx.new }
     {
         'places: while !self.set.is_empty() {

@@ -82,7 +82,7 @@ where
 
     ghost needs = { λ join n. IsSomeAnd join (λ places. S.needs places.set.source n) };
 
-    ghost gives = { λ join answer. JoinMayGive F.SlotFuture R.JoinRule join (R.seen answer) };
+    ghost gives = { λ join answer. JoinMayGive F.polled R.output_of join (R.seen answer) };
 
     /// Polls the set of the futures again and again, each output filling its place, until that is Pending, no future is left or an output ends the join. With no future left it is ready with all outputs; at an error it is ready with that error, and the other futures and all outputs are dropped in this call. In both cases it holds nothing more: its source is dropped, which may wake the task, and later polls give no outputs, and poll nothing.
     ///

@@ -10,7 +10,7 @@ use Rattle.futures.specs.declared.task.context.Context.{Context}
 use Rattle.futures.specs.declared.stream.made.select_all.SelectAll.{SelectAll}
 use Rattle.futures_buffered_unordered.specs.StreamAnswers.{StreamAnswers, stream_of}
 use Rattle.futures_buffered_merges.specs.WithEnd.{StreamOf, MayAnswer, with_end}
-use Rattle.futures_buffered_merges.specs.InFlightMerge.{Merged, AnswersNoMore, AnyAnswers, AnyOf, CanPollAll, ComesFromStreams, EndsOneAtMost, HoldsStreams, IsNewMerge, PollsMerge, Pushes, WaitsAt, streams_in}
+use Rattle.futures_buffered_merges.specs.InFlightMerge.{Merged, AnswersNoMore, AnyAnswers, AnyStream, CanPollStreams, ComesFromMerged, OneStreamEndsAtMost, HoldsStreams, IsNewMerge, PollsMerge, StreamWentIn, MergedWaitsAt, streams_in}
 use Rattle.futures_buffered_merges.specs.declared.with_end.WithEnd.{WithEnd}
 
 module _ {A : Type 0} (P Q : A → Type 0) where
@@ -41,15 +41,15 @@ module _ {St A : Type 0} (stream : StreamOf St A) where
 
 module _ {St A : Type 0} (stream : StreamOf St A) where
   -- a poll adds nothing to what may come
-  comes_before : (old new : Merged St) → EndsOneAtMost stream old new → AnswersNoMore stream old new
-      → (before after : List A) (last : Option A) → ComesFromStreams stream new after last → ComesFromStreams stream old before last
+  comes_before : (old new : Merged St) → OneStreamEndsAtMost stream old new → AnswersNoMore stream old new
+      → (before after : List A) (last : Option A) → ComesFromMerged stream new after last → ComesFromMerged stream old before last
   comes_before old new ended narrows before after (Some x) h = narrows (Some x) h
   comes_before old new ended narrows before after None (inr may) = inr (narrows None may)
   comes_before old new (inl same) narrows before after None (inl none) = inl (sym same ∙ none)
   comes_before old new (inr one) narrows before after None (inl none) = inr one.1
 
   pub stream_answers : (old new : Merged St) (answer : Poll (Option A)) (cx left : Context) → PollsMerge stream old answer new cx left
-      → StreamAnswers (stream_of (CanPollAll stream) WaitsAt (ComesFromStreams stream)) old answer new cx left
+      → StreamAnswers (stream_of (CanPollStreams stream) MergedWaitsAt (ComesFromMerged stream)) old answer new cx left
   stream_answers old new Pending cx left p = record {
     value = tt;
     rest = tt;
@@ -81,10 +81,10 @@ module _ {St A : Type 0} (stream : StreamOf St A) where
   -- these streams came beside those that were held
   abbrev HoldsBeside : Merged St → List St → Merged St → Type 0
   HoldsBeside old items new = (new.held ≡ old.held + length items)
-      × ((answer : Option A) → AnyAnswers stream new answer → AnyAnswers stream old answer ⊎ AnyOf stream items answer)
-      × CanPollAll stream new
+      × ((answer : Option A) → AnyAnswers stream new answer → AnyAnswers stream old answer ⊎ AnyStream stream items answer)
+      × CanPollStreams stream new
 
-  holds_beside : (old new : Merged St) (items : List St) → CanPollAll stream old → FoldsTo (Pushes stream) old items new → HoldsBeside old items new
+  holds_beside : (old new : Merged St) (items : List St) → CanPollStreams stream old → FoldsTo (StreamWentIn stream) old items new → HoldsBeside old items new
   holds_beside old new [] can is = (ap (λ (m : Merged St). m.held) (sym is) ∙ omega arith, λ answer h. inl (rw (← is) at h), rw is at can)
   holds_beside old new (st ∷ items) can (mid, one, rest) =
       let later = holds_beside mid new items one.again rest in
@@ -99,9 +99,9 @@ module _ {St A : Type 0} (stream : StreamOf St A) where
       )
 
   -- what was pushed into a new merge is all that it holds
-  pub holds_all : (start new : Merged St) (n : ℕ) (items : List St) → IsNewMerge n start → FoldsTo (Pushes stream) start items new → HoldsStreams stream items new
+  pub holds_all : (start new : Merged St) (n : ℕ) (items : List St) → IsNewMerge n start → FoldsTo (StreamWentIn stream) start items new → HoldsStreams stream items new
   holds_all start new n items none pushes =
-      let can : CanPollAll stream start = rw none.2 tt in
+      let can : CanPollStreams stream start = rw none.2 tt in
       let all = holds_beside start new items can pushes in
       record {
         count = let count = all.0 in let zero = none.0 in omega (arith, count, zero);

@@ -4,7 +4,7 @@ use Rattle.std.specs.List.{FoldsTo, AllByRecursion}
 use Rattle.std.proofs.lemmas.List.Elements.{filter_map-append}
 use Rattle.futures.specs.declared.task.Poll.{Poll}
 use Rattle.futures.specs.declared.task.Poll.TheVariants.{Ready, Pending}
-use Rattle.futures_buffered_merges.specs.SlotStream.{item_of, GoesOn, Gave, Became}
+use Rattle.futures_buffered_merges.specs.SlotStream.{item_of, IsNoEnd, Gave, Became}
 
 -- a row of steps behind another
 pub folds_append : {P A : Type 0} (step : P → A → P → Type 0) (xs ys : List A) (p q r : P) → FoldsTo step p xs q → FoldsTo step q ys r → FoldsTo step p (xs ++ ys) r
@@ -30,7 +30,7 @@ module _ {F A : Type 0} (polled : F → Poll (Option A) → F → Type 0) where
       record {
         answers = a.answers ++ b.answers;
         polls = folds_append polled a.answers b.answers first second third a.polls b.polls;
-        go_on = every_append GoesOn a.answers b.answers a.go_on b.go_on;
+        go_on = every_append IsNoEnd a.answers b.answers a.go_on b.go_on;
         gave = rw (a.gave, b.gave) (sym (filter_map-append item_of a.answers b.answers));
       }
 

@@ -39,8 +39,8 @@ abbrev pub IsNewMerge : {St : Type 0} → ℕ → Merged St → Type 0
 IsNewMerge n m = (m.held ≡ 0) × (m.limit ≡ n) × (m.running ≡ None)
 
 -- the place at which a pending poll waits: that of the kit's set
-abbrev pub WaitsAt : {St : Type 0} → Merged St → ℕ → Type 0
-WaitsAt m source = IsSomeAnd m.running
+abbrev pub MergedWaitsAt : {St : Type 0} → Merged St → ℕ → Type 0
+MergedWaitsAt m source = IsSomeAnd m.running
     (λ all. (all.held ≡ None) × (source ≡ all.inner.tasks.source.id))
 
 module _ {St A : Type 0} (stream : StreamOf St A) where
@@ -49,13 +49,13 @@ module _ {St A : Type 0} (stream : StreamOf St A) where
   AnyAnswers m = AnyYields (with_end stream) (streams_in m.running)
 
   -- each stream may be polled
-  abbrev pub CanPollAll : Merged St → Type 0
-  CanPollAll m = AllPollable (CanPollNext (with_end stream)) (streams_in m.running)
+  abbrev pub CanPollStreams : Merged St → Type 0
+  CanPollStreams m = AllPollable (CanPollNext (with_end stream)) (streams_in m.running)
 
   -- what may come: items of the streams, and the end where nothing is held or a stream may end
-  abbrev pub ComesFromStreams : Merged St → Runs A
-  ComesFromStreams m before (Some x) = AnyAnswers m (Some x)
-  ComesFromStreams m before None = (m.held ≡ 0) ⊎ AnyAnswers m None
+  abbrev pub ComesFromMerged : Merged St → Runs A
+  ComesFromMerged m before (Some x) = AnyAnswers m (Some x)
+  ComesFromMerged m before None = (m.held ≡ 0) ⊎ AnyAnswers m None
 
   -- One push.
   pub record PushesStream (old : Merged St) (pushed : St) (result : Result (Unit {0}) St)
@@ -74,30 +74,30 @@ module _ {St A : Type 0} (stream : StreamOf St A) where
     pub answers : (answer : Option A) → AnyAnswers new answer
         → AnyAnswers old answer ⊎ MayAnswer stream pushed answer
     -- the merge may be polled
-    pub again : CanPollAll new
+    pub again : CanPollStreams new
 
   -- a stream went in
-  abbrev pub Pushes : Merged St → St → Merged St → Type 0
-  Pushes old pushed new = PushesStream old pushed (Ok tt) new
+  abbrev pub StreamWentIn : Merged St → St → Merged St → Type 0
+  StreamWentIn old pushed new = PushesStream old pushed (Ok tt) new
 
   -- some stream came back
-  abbrev pub Refuses : Merged St → Merged St → Type 0
-  Refuses old new = (pushed : St) × PushesStream old pushed (Err pushed) new
+  abbrev pub StreamCameBack : Merged St → Merged St → Type 0
+  StreamCameBack old new = (pushed : St) × PushesStream old pushed (Err pushed) new
 
   -- one of these streams may give this answer, now or later
-  abbrev pub AnyOf : List St → Option A → Type 0
-  AnyOf [] answer = ⊥
-  AnyOf (st ∷ sts) answer = MayAnswer stream st answer ⊎ AnyOf sts answer
+  abbrev pub AnyStream : List St → Option A → Type 0
+  AnyStream [] answer = ⊥
+  AnyStream (st ∷ sts) answer = MayAnswer stream st answer ⊎ AnyStream sts answer
 
   -- these streams are held, and the merge may be polled
   pub record HoldsStreams (items : List St) (m : Merged St) : Type 0 where
     pub count : m.held ≡ length items
-    pub answers : (answer : Option A) → AnyAnswers m answer → AnyOf items answer
-    pub again : CanPollAll m
+    pub answers : (answer : Option A) → AnyAnswers m answer → AnyStream items answer
+    pub again : CanPollStreams m
 
   -- one stream at most has ended, which one of them may
-  abbrev pub EndsOneAtMost : Merged St → Merged St → Type 0
-  EndsOneAtMost old new = (new.held ≡ old.held)
+  abbrev pub OneStreamEndsAtMost : Merged St → Merged St → Type 0
+  OneStreamEndsAtMost old new = (new.held ≡ old.held)
       ⊎ ((new.held + 1 ≡ old.held) × AnyAnswers old None)
 
   -- no stream gives what it could not give before
@@ -105,8 +105,8 @@ module _ {St A : Type 0} (stream : StreamOf St A) where
   AnswersNoMore old new = (answer : Option A) → AnyAnswers new answer → AnyAnswers old answer
 
   -- an item that one of the streams may give, the end where nothing is held, or nothing
-  abbrev pub Gives : Merged St → Poll (Option A) → Merged St → Type 0
-  Gives old answer new = IfReady answer (λ o. MatchOption o (new.held ≡ 0)
+  abbrev pub GivesAnswer : Merged St → Poll (Option A) → Merged St → Type 0
+  GivesAnswer old answer new = IfReady answer (λ o. MatchOption o (new.held ≡ 0)
       (λ x. (new.held ≡ old.held) × (0 < old.held) × AnyAnswers old (Some x)))
       × OnPending answer (0 < new.held)
 
@@ -114,21 +114,21 @@ module _ {St A : Type 0} (stream : StreamOf St A) where
   pub record PollsMerge (old : Merged St) (answer : Poll (Option A)) (new : Merged St)
       (cx left : Context) : Type 0 where
     -- an item, the end exactly where nothing is held, or nothing
-    pub gave : Gives old answer new
+    pub gave : GivesAnswer old answer new
     -- a stream leaves only as it ends
-    pub ended : EndsOneAtMost old new
+    pub ended : OneStreamEndsAtMost old new
     -- no stream gives what it could not give before
     pub narrows : AnswersNoMore old new
     pub same_limit : new.limit ≡ old.limit
     -- the merge may be polled
-    pub again : CanPollAll new
+    pub again : CanPollStreams new
     -- the task of a pending merge hears of what it waits for
-    pub registered : OnPending answer (Covers left (WaitsAt new))
+    pub registered : OnPending answer (Covers left (MergedWaitsAt new))
     -- nothing of the task is lost
     pub kept : Keeps cx left
 
   -- Polls until an item came or the end: the merge was new by then.
-  pub record CameOf (old : Merged St) (item : Option A) (new : Merged St) : Type 0 where
+  pub record CameOfMerge (old : Merged St) (item : Option A) (new : Merged St) : Type 0 where
     -- an item that one of the streams may give, or the end exactly where nothing is held
     pub gave : MatchOption item (new.held ≡ 0) (λ x. (0 < new.held) × AnyAnswers old (Some x))
     -- streams leave only as they end
@@ -137,4 +137,4 @@ module _ {St A : Type 0} (stream : StreamOf St A) where
     pub narrows : AnswersNoMore old new
     pub same_limit : new.limit ≡ old.limit
     -- the merge may be polled
-    pub again : CanPollAll new
+    pub again : CanPollStreams new

@@ -51,8 +51,8 @@ KeepsOrderInGroups {F} {A} {S} polled steps marks = (old new : Groups (Bounded F
     → GroupsGave polled old.listed (items_in answers) new.listed
 
 -- what the slots of each group hold
-abbrev pub slots_of : {F S : Type 0} → List (Bounded F S) → List (Slots F)
-slots_of {F} {S} groups = map (λ (group : Bounded F S). group.slots) groups
+abbrev pub slots_of_each : {F S : Type 0} → List (Bounded F S) → List (Slots F)
+slots_of_each {F} {S} groups = map (λ (group : Bounded F S). group.slots) groups
 
 -- These groups stood one behind another. The items are all that was given by the streams that they
 -- held at first and by those pushed: what one group gave, interleaved with what the others gave. A
@@ -90,5 +90,5 @@ module _
     KeepsOrderInGroupsWithPushes = (old new : Growing F S) (events : List (MergeEvent F A))
         → FoldsTo HappensInGroups old events new
         → (added : List (Slots F)) × AllByRecursion HoldsNone added
-        × GroupsGaveInTurn polled (slots_of old.groups.listed ++ added)
-        (items_in (answers_of events)) (streams_of events) (slots_of new.groups.listed)
+        × GroupsGaveInTurn polled (slots_of_each old.groups.listed ++ added)
+        (items_in (answers_of events)) (streams_of events) (slots_of_each new.groups.listed)

@@ -14,10 +14,10 @@ abbrev pub items_in : {A : Type 0} → List (Poll (Option A)) → List A
 items_in = filter_map item_of
 
 -- the answer is not the end
-abbrev pub GoesOn : {A : Type 0} → Poll (Option A) → Type 0
-GoesOn (Ready (Some x)) = ⊤
-GoesOn (Ready None) = ⊥
-GoesOn Pending = ⊤
+abbrev pub IsNoEnd : {A : Type 0} → Poll (Option A) → Type 0
+IsNoEnd (Ready (Some x)) = ⊤
+IsNoEnd (Ready None) = ⊥
+IsNoEnd Pending = ⊤
 
 module _ {F A : Type 0} (polled : F → Poll (Option A) → F → Type 0) where
   -- Polls in a row took a stream to what it is now. They gave these items, in order, and none ended
@@ -25,7 +25,7 @@ module _ {F A : Type 0} (polled : F → Poll (Option A) → F → Type 0) where
   pub record Gave (stream : F) (items : List A) (now : F) : Type 0 where
     pub answers : List (Poll (Option A))
     pub polls : FoldsTo polled stream answers now
-    pub go_on : AllByRecursion GoesOn answers
+    pub go_on : AllByRecursion IsNoEnd answers
     pub gave : items ≡ items_in answers
 
   -- what a place held, the items that its stream gave since, and what the place holds now: a stream

@@ -8,7 +8,7 @@ ghost use Rattle.futures_buffered_core.specs.Drawn.{IsFiniteSource};
 ghost use Rattle.futures_buffered_unordered.specs.Extended.{EachDrawn, Extends, HoldsAllOf};
 ghost use Rattle.futures_buffered_unordered.specs.StreamAnswers.{StreamAnswers};
 ghost use Rattle.futures_buffered_merges.specs.WithEnd.{MayAnswer};
-ghost use Rattle.futures_buffered_merges.specs.InFlightMerge.{AnswersNoMore, AnyAnswers, CanPollAll, ComesFromStreams, HoldsStreams, IsNewMerge, PollsMerge, Pushes, PushesStream, Refuses, WaitsAt, stream_count};
+ghost use Rattle.futures_buffered_merges.specs.InFlightMerge.{AnswersNoMore, AnyAnswers, CanPollStreams, ComesFromMerged, HoldsStreams, IsNewMerge, PollsMerge, StreamWentIn, PushesStream, StreamCameBack, MergedWaitsAt, stream_count};
 
 use crate::with_end::WithEnd;
 use futures::Stream;
@@ -74,7 +74,7 @@ impl<St: Stream<Item: Drop>> InFlightMerge<St> {
     /// A merge that holds nothing, and `n` streams at most. Takes no memory.
     pub fn new(alloc: Global, n: usize) -> Self
         ensures new { IsNewMerge n result }
-        ensures can_poll { CanPollAll St.Stream result }
+        ensures can_poll { CanPollStreams St.Stream result }
     {
         InFlightMerge {
             running: None,
@@ -87,7 +87,7 @@ impl<St: Stream<Item: Drop>> InFlightMerge<St> {
     /// A merge that holds nothing, and any number of streams. Takes no memory.
     pub fn growing(alloc: Global) -> Self
         ensures new { IsNewMerge (2 ^ 64 - 1) result }
-        ensures can_poll { CanPollAll St.Stream result }
+        ensures can_poll { CanPollStreams St.Stream result }
     {
         Self::new(alloc, usize::MAX)
     }
@@ -95,7 +95,7 @@ impl<St: Stream<Item: Drop>> InFlightMerge<St> {
     /// Drops each stream, in this call. Takes no memory, and time in proportion to the number of streams, besides the drops.
     pub fn clear(&mut self)
         ensures none { IsNewMerge self.old.limit self.new }
-        ensures can_poll { CanPollAll St.Stream self.new }
+        ensures can_poll { CanPollStreams St.Stream self.new }
     {
         self.running = None;
         self.held = 0;
@@ -104,8 +104,8 @@ impl<St: Stream<Item: Drop>> InFlightMerge<St> {
     // Makes the kit's set where there is none, if there is memory.
     #[tactic(auto, using(crate::proofs::InFlightMergeLemmas::new_answers_none))]
     fn make_running(&mut self)
-        requires { CanPollAll St.Stream self.old }
-        ensures again { CanPollAll St.Stream self.new }
+        requires { CanPollStreams St.Stream self.old }
+        ensures again { CanPollStreams St.Stream self.new }
         ensures narrows { AnswersNoMore St.Stream self.old self.new }
         ensures count { stream_count self.new.running ≡ stream_count self.old.running }
         ensures same { (self.new.held ≡ self.old.held) × (self.new.limit ≡ self.old.limit) }
@@ -118,9 +118,9 @@ impl<St: Stream<Item: Drop>> InFlightMerge<St> {
     // Has the kit's set take the stream. It comes back where memory lacks.
     #[tactic(auto, using(crate::proofs::InFlightMergeLemmas::answers_after_push))]
     fn start(&mut self, stream: St) -> Result<(), St>
-        requires held { CanPollAll St.Stream self.old }
+        requires held { CanPollStreams St.Stream self.old }
         requires new { St.can_poll stream }
-        ensures again { CanPollAll St.Stream self.new }
+        ensures again { CanPollStreams St.Stream self.new }
         ensures answers { (answer : _) → AnyAnswers St.Stream self.new answer
             → AnyAnswers St.Stream self.old answer ⊎ MayAnswer St.Stream stream answer }
         ensures one_more { OnOk result
@@ -144,7 +144,7 @@ impl<St: Stream<Item: Drop>> InFlightMerge<St> {
     ///
     /// Takes the memory that the kit's set takes for a stream, and the same time at any number of streams. Where memory is refused as many streams are held as before, and nothing may come that might not have come before or from this stream: the kit says no more of a push that it refuses. Polls nothing, and wakes nobody: who pushes sees to it that the merge is polled afterwards.
     pub fn try_push(&mut self, stream: St) -> Result<(), St>
-        requires held { CanPollAll St.Stream self.old }
+        requires held { CanPollStreams St.Stream self.old }
         requires new { St.can_poll stream }
         ensures { PushesStream St.Stream self.old stream result self.new }
     {
@@ -160,12 +160,12 @@ impl<St: Stream<Item: Drop>> InFlightMerge<St> {
     // One poll of the kit's set: an item, or the end of a stream.
     #[tactic(auto, using(crate::proofs::InFlightMergeLemmas::narrows_after, crate::proofs::InFlightMergeLemmas::narrows_within))]
     fn poll_running(&mut self, cx: &mut Context<'_>) -> Poll<Option<Option<St::Item>>>
-        requires { CanPollAll St.Stream self.old }
-        ensures again { CanPollAll St.Stream self.new }
+        requires { CanPollStreams St.Stream self.old }
+        ensures again { CanPollStreams St.Stream self.new }
         ensures gave { IfReady result (λ o. IfSome o (AnyAnswers St.Stream self.old)) }
         ensures narrows { AnswersNoMore St.Stream self.old self.new }
         ensures same { (self.new.held ≡ self.old.held) × (self.new.limit ≡ self.old.limit) }
-        ensures registered { OnPending result (Covers cx.new (WaitsAt self.new)) }
+        ensures registered { OnPending result (Covers cx.new (MergedWaitsAt self.new)) }
         ensures kept { Keeps cx.old cx.new }
     {
         let Some(running) = &mut self.running else {
@@ -183,7 +183,7 @@ impl<St: Stream<Item: Drop>> InFlightMerge<St> {
 
     // One poll, where one stream at most ends.
     fn poll_item(&mut self, cx: &mut Context<'_>) -> Poll<Option<St::Item>>
-        requires { CanPollAll St.Stream self.old }
+        requires { CanPollStreams St.Stream self.old }
         ensures { PollsMerge St.Stream self.old result self.new cx.old cx.new }
     {
         if self.held == 0 {
@@ -205,15 +205,15 @@ impl<St: Stream<Item: Drop>> InFlightMerge<St> {
         cx.yield_now()
     }
 
-    /// Pushes each item, in order, as `try_push` does. The first that is refused comes back; those before it stay, and the iterator is asked for no further one.
+    /// StreamWentIn each item, in order, as `try_push` does. The first that is refused comes back; those before it stay, and the iterator is asked for no further one.
     pub fn extend<I: IntoIterator<Item = St>>(&mut self, iter: I) -> Result<(), St>
         requires finite { IsFiniteSource I.IntoIterator I.IntoIter.Iterator iter }
-        requires held { CanPollAll St.Stream self.old }
+        requires held { CanPollStreams St.Stream self.old }
         requires each { EachDrawn I.IntoIterator I.IntoIter.Iterator iter St.can_poll }
         ensures extends { Extends I.IntoIterator I.IntoIter.Iterator iter
-            (Pushes St.Stream) (Refuses St.Stream) self.old result self.new }
+            (StreamWentIn St.Stream) (StreamCameBack St.Stream) self.old result self.new }
         ensures same_limit { self.new.limit ≡ self.old.limit }
-        ensures again { CanPollAll St.Stream self.new }
+        ensures again { CanPollStreams St.Stream self.new }
     {
         for stream in iter {
             if let Err(back) = self.try_push(stream) {
@@ -227,17 +227,17 @@ impl<St: Stream<Item: Drop>> InFlightMerge<St> {
 impl<St: Stream<Item: Drop>> Stream for InFlightMerge<St> {
     type Item = St::Item;
 
-    ghost can_poll = { CanPollAll St.Stream };
+    ghost can_poll = { CanPollStreams St.Stream };
 
-    ghost needs = { WaitsAt };
+    ghost needs = { MergedWaitsAt };
 
-    ghost yields = { ComesFromStreams St.Stream };
+    ghost yields = { ComesFromMerged St.Stream };
 
     /// One poll: an item of one of the streams, or the end, exactly where nothing is held any more.
     ///
     /// It polls those streams that were pushed or woken since they were polled. A stream that gives an item stays, and is polled again behind those that were woken before. One stream at most ends in a poll: where others are held then, the task polls again at once. Takes no memory but what the streams take, and what the kit's set takes at its first poll of a task; where it is refused that, the task polls again until there is some.
     fn poll_next(&mut self, cx: &mut Context<'_>) -> Poll<Option<St::Item>>
-        requires { CanPollAll St.Stream self.old }
+        requires { CanPollStreams St.Stream self.old }
         ensures polled { PollsMerge St.Stream self.old result self.new cx.old cx.new }
         ensures stream { StreamAnswers ⟦<InFlightMerge<St> as Stream>⟧
             self.old result self.new cx.old cx.new }

@@ -1,6 +1,6 @@
 //! A merge of the kit's streams while a task waits for its next item.
 ghost use Rattle.std.specs.Prelude.{◌≡◌, Some, IfOk, IsSomeAnd};
-ghost use Rattle.futures_buffered_merges.specs.InFlightMerge.{CameOf, CanPollAll, WaitsAt};
+ghost use Rattle.futures_buffered_merges.specs.InFlightMerge.{CameOfMerge, CanPollStreams, MergedWaitsAt};
 
 use crate::in_flight_merge::InFlightMerge;
 use futures::executor::block_on;
@@ -21,12 +21,12 @@ impl<St: Stream<Item: Drop>> Future for WaitingMerge<St> {
     type Output = (Option<St::Item>, InFlightMerge<St>);
 
     // A merge that was given back is not there to be polled.
-    ghost can_poll = { λ waiting. IsSomeAnd waiting.merge (CanPollAll St.Stream) };
+    ghost can_poll = { λ waiting. IsSomeAnd waiting.merge (CanPollStreams St.Stream) };
 
-    ghost needs = { λ waiting place. IsSomeAnd waiting.merge (λ merge. WaitsAt merge place) };
+    ghost needs = { λ waiting place. IsSomeAnd waiting.merge (λ merge. MergedWaitsAt merge place) };
 
     ghost gives = { λ waiting given. IsSomeAnd waiting.merge
-        (λ merge. CameOf St.Stream merge given.0 given.1) };
+        (λ merge. CameOfMerge St.Stream merge given.0 given.1) };
 
     #[tactic(auto, using(crate::proofs::WaitingMergeLemmas::came_at_once, crate::proofs::WaitingMergeLemmas::came_later))]
     fn poll(&mut self, cx: &mut Context<'_>) -> Poll<Self::Output> {
@@ -52,8 +52,8 @@ impl<St: Stream<Item: Drop>> InFlightMerge<St> {
     pub fn wait<R>(self, rt: &R) -> io::Result<(Option<St::Item>, InFlightMerge<St>)>
     where
         R: Wait + RandomSource + AllocGlobal,
-        requires { CanPollAll St.Stream self }
-        ensures { IfOk result (λ given. CameOf St.Stream self given.0 given.1) }
+        requires { CanPollStreams St.Stream self }
+        ensures { IfOk result (λ given. CameOfMerge St.Stream self given.0 given.1) }
     {
         block_on(rt, self.into_next())
     }

@@ -1,5 +1,5 @@
 //! Which items and ends a merge of the kit's streams gives, whom it wakes, and which streams it drops and when: each is seen by its sender.
-ghost use Rattle.futures_buffered.specs.InFlightMerge.{CanPollAll};
+ghost use Rattle.futures_buffered.specs.InFlightMerge.{CanPollStreams};
 
 use crate::same::assert_same;
 use futures::Stream;
@@ -18,8 +18,8 @@ fn push<R: AllocGlobal + Abort>(
     rt: &R,
     merge: &mut Merge,
 ) -> Result<(UnboundedSender<u64>, bool), Fail>
-    requires { CanPollAll ⟦<UnboundedReceiver<u64> as Stream>⟧ merge.old }
-    ensures { CanPollAll ⟦<UnboundedReceiver<u64> as Stream>⟧ merge.new }
+    requires { CanPollStreams ⟦<UnboundedReceiver<u64> as Stream>⟧ merge.old }
+    ensures { CanPollStreams ⟦<UnboundedReceiver<u64> as Stream>⟧ merge.new }
 {
     let (sender, receiver) = unbounded::<u64>(rt.alloc())?;
     Ok((sender, merge.try_push(receiver).is_ok()))
@@ -27,8 +27,8 @@ fn push<R: AllocGlobal + Abort>(
 
 // What one poll gives, and how many streams are held then.
 fn polled(merge: &mut Merge, cx: &mut Context<'_>) -> (Poll<Option<u64>>, usize)
-    requires { CanPollAll ⟦<UnboundedReceiver<u64> as Stream>⟧ merge.old }
-    ensures { CanPollAll ⟦<UnboundedReceiver<u64> as Stream>⟧ merge.new }
+    requires { CanPollStreams ⟦<UnboundedReceiver<u64> as Stream>⟧ merge.old }
+    ensures { CanPollStreams ⟦<UnboundedReceiver<u64> as Stream>⟧ merge.new }
 {
     let answer = merge.poll_next(cx);
     (answer, merge.len())

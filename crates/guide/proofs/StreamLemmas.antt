@@ -10,8 +10,7 @@ use Rattle.futures.specs.declared.task.Poll.{Poll}
 use Rattle.futures.specs.Runs.{Runs, Turns, Resolves, Chains, firsts, seconds}
 use Rattle.futures_buffered.specs.Buffer.{Ahead}
 use Rattle.futures_buffered.specs.OrderedEntries.{InTurn}
-use Rattle.futures_buffered.specs.Joining.{Places, IsNewJoin}
-use Rattle.futures_buffered.specs.Join.{JoinMayGive}
+use Rattle.futures_buffered.specs.Joining.{Places, IsNewJoin, JoinMayGive}
 use Rattle.futures_buffered.specs.JoinRule.{kept_as_it_is}
 
 -- all that the iterator of a vector gives is the vector's elements

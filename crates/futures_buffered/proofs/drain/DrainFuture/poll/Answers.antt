@@ -2,7 +2,7 @@ use Rattle.std.proofs.Common.{rules, ◌≡◌, ◌<◌, ◌∷◌, ◌++◌, []
 use Rattle.std.proofs.lemmas.Fn.{FoldsTo-push}
 use Rattle.std.proofs.lemmas.List.{length_push}
 use Rattle.futures_buffered.specs.Buffer.{PollsBuffer, buffer_of}
-use Rattle.futures_buffered.specs.Drain.{GoesOn}
+use Rattle.futures_buffered.specs.Drain.{DrainGoesOn}
 use Rattle.futures_buffered.proofs.DrainLemmas.{call_leaves, stops_at_limit}
 use Rattle.futures_buffered.proofs.drain.DrainFuture.poll.Goals as goal
 
@@ -16,7 +16,7 @@ turns-preserved g c =
     let goes = rw none at c.turn.ensures.goes in
     record {
       done = so.done ++ tt ∷ [];
-      row = FoldsTo-push (GoesOn g.Q.Output.DrainOutput (PollsBuffer g.St.Stream g.Q.FutureQueue)) (c.args.self.now.buffer, c.args.cx.now) so.done (c.turns.self.buffer, c.turns.cx) tt (c.turn.new.self.buffer, c.turn.new.cx) so.row (rw none at c.turn.ensures.turn);
+      row = FoldsTo-push (DrainGoesOn g.Q.Output.DrainOutput (PollsBuffer g.St.Stream g.Q.FutureQueue)) (c.args.self.now.buffer, c.args.cx.now) so.done (c.turns.self.buffer, c.turns.cx) tt (c.turn.new.self.buffer, c.turn.new.cx) so.row (rw none at c.turn.ensures.turn);
       count = omega (arith, length_push so.done tt, so.count);
       limit = goes.limit ∙ so.limit;
       again = goes.again;

@@ -1,6 +1,6 @@
 use Rattle.std.proofs.Common.{rules, ◌∙◌}
 use Rattle.std.proofs.lemmas.Fn.{FoldsTo-push}
-use Rattle.futures_buffered_merges.specs.InFlightMerge.{Pushes}
+use Rattle.futures_buffered_merges.specs.InFlightMerge.{StreamWentIn}
 use Rattle.futures_buffered_merges.proofs.in_flight_merge.InFlightMerge.extend.Goals as goal
 
 pub try_push-requires-clause-new : goal.try_push-requires-clause-new
@@ -11,7 +11,7 @@ loop-stream-preserved g c =
     let pushed = c.in_default.ensures in (
       search rules,
       search rules,
-      FoldsTo-push (Pushes g.St.Stream) c.args.self.now c.loop-stream.yielded c.loop-stream.self c.in-Some.stream c.try_push.new.self c.loop-stream.invariant.2 pushed,
+      FoldsTo-push (StreamWentIn g.St.Stream) c.args.self.now c.loop-stream.yielded c.loop-stream.self c.in-Some.stream c.try_push.new.self c.loop-stream.invariant.2 pushed,
       pushed.again,
       pushed.same_limit ∙ c.loop-stream.invariant.4,
     )
