@@ -19,7 +19,7 @@ use std::ops::ControlFlow;
 
 /// Futures of a stream, at most as many at a time as its queue has room for.
 ///
-/// A contract sees the stream, or nothing once it has ended, and what it sees of the queue. A poll takes no memory but what the stream, the futures and the source's calls take. A stream that ended is dropped at once.
+/// A contract sees the stream, or nothing once it has ended, and what it sees of the queue. A poll takes no memory but what the stream, the futures and the source's calls take. A stream that ended is dropped at once. Calls that poll nothing take the same time at any number held.
 #[derive(Drop)]
 pub struct Buffer<St: Drop, Q: Drop> {
     stream: Option<St>,
@@ -91,7 +91,7 @@ impl<St: Drop, Q: NewQueue<Env = (), Source = SharedReady>> Buffer<St, Q> {
 }
 
 impl<St: Stream, Q: FutureQueue<St::Item>> Buffer<St, Q> {
-    /// How many are held: futures in progress, and outputs that wait for their turn. Takes the same time at any number.
+    /// How many are held: futures in progress, and outputs that wait for their turn.
     pub fn len(&self) -> usize
         ensures value { result ≡ Q.count self.now.queue }
         ensures bound { Q.count self.now.queue ≤ Q.room self.now.queue }
@@ -99,21 +99,21 @@ impl<St: Stream, Q: FutureQueue<St::Item>> Buffer<St, Q> {
         self.queue.len()
     }
 
-    /// Whether nothing is held. The stream may have more to give. Takes the same time at any number.
+    /// Whether nothing is held. The stream may have more to give.
     pub fn is_empty(&self) -> bool
         ensures { IsTrue result ↔ (Q.count self.now.queue ≡ 0) }
     {
         self.queue.len() == 0
     }
 
-    /// How many can be held at a time, which never changes. Takes the same time at any number.
+    /// How many can be held at a time, which never changes.
     pub fn capacity(&self) -> usize
         ensures { result ≡ Q.room self.now.queue }
     {
         self.queue.capacity()
     }
 
-    /// The stream that items are drawn from, or `None` once it has ended: it was dropped then. Takes the same time at any number.
+    /// The stream that items are drawn from, or `None` once it has ended: it was dropped then.
     pub fn stream(&self) -> Option<&St>
         ensures { option_copied result ≡ self.now.stream }
     {
@@ -207,7 +207,7 @@ impl<St: Stream, Q: FutureQueue<St::Item>> Stream for Buffer<St, Q> {
     }
 }
 
-/// Whether the stream has ended and nothing is held. Takes the same time at any capacity.
+/// Whether the stream has ended and nothing is held.
 impl<St: Stream, Q: FutureQueue<St::Item>> FusedStream for Buffer<St, Q> {
     ghost use Rattle.std.specs.Prelude.{◌≡◌, None};
 

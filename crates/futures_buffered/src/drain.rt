@@ -19,7 +19,7 @@ use std::marker::Model;
 
 /// Polls a buffer to its end, or to the first output that ends it.
 ///
-/// A contract sees the buffer, or nothing once the drain was ready, and how many turns one poll takes. A poll takes no memory but what the stream, the futures and the source's calls take. Where the drain is ready the buffer is dropped at once, with what it holds.
+/// A contract sees the buffer, or nothing once the drain was ready, and how many turns one poll takes. A poll takes no memory but what the stream, the futures and the source's calls take. Where the drain is ready the buffer is dropped at once, with what it holds. Calls that poll nothing take the same time at any number held.
 #[derive(Drop)]
 pub struct Drain<St: Drop, Q: Drop> {
     buffer: Option<Buffer<St, Q>>,
@@ -53,7 +53,7 @@ impl<St: Drop, Q: Drop> Drain<St, Q> {
         }
     }
 
-    /// The buffer that is polled, or `None` once the drain was ready: it was dropped then, with what it held. Takes the same time at any number.
+    /// The buffer that is polled, or `None` once the drain was ready: it was dropped then, with what it held.
     pub fn buffer(&self) -> Option<&Buffer<St, Q>>
         ensures { option_copied result ≡ self.now.buffer }
     {
@@ -156,7 +156,7 @@ where
     }
 }
 
-/// Whether there is no buffer, or its stream has ended and it holds nothing. Takes the same time at any capacity.
+/// Whether there is no buffer, or its stream has ended and it holds nothing.
 impl<St, Q> FusedFuture for Drain<St, Q>
 where
     St: Stream,

@@ -26,7 +26,7 @@ use std::marker::Model;
 
 /// Gives each item of a stream to a closure, once and in order, and runs the futures that it makes, at most as many at a time as its set has slots.
 ///
-/// A contract sees the stream, or nothing once it has ended, what it sees of the set, and the closure. A poll takes no memory but what the stream, the closure, the futures and the source's calls take. A stream that ended is dropped at once.
+/// A contract sees the stream, or nothing once it has ended, what it sees of the set, and the closure. A poll takes no memory but what the stream, the closure, the futures and the source's calls take. A stream that ended is dropped at once. Calls that poll nothing take the same time at any number held.
 #[derive(Drop)]
 pub struct ForEachConcurrent<St: Drop, F: Drop, Fut: Drop, S: ReadySource> {
     stream: Option<St>,
@@ -101,28 +101,28 @@ impl<St: Drop, F: Drop, Fut: Drop, S: ReadySource> ForEachConcurrent<St, F, Fut,
 }
 
 impl<St: Drop, F: Drop, Fut: Drop, S: ReadySource> ForEachConcurrent<St, F, Fut, S> {
-    /// How many futures are held. Takes the same time at any number.
+    /// How many futures are held.
     pub fn len(&self) -> usize
         ensures { result ≡ held_in self.now.buffer.queue }
     {
         self.queue.len()
     }
 
-    /// Whether no future is held. The stream may have more to give. Takes the same time at any number.
+    /// Whether no future is held. The stream may have more to give.
     pub fn is_empty(&self) -> bool
         ensures { IsTrue result ↔ (held_in self.now.buffer.queue ≡ 0) }
     {
         self.queue.is_empty()
     }
 
-    /// How many futures can be held at a time, which never changes. Takes the same time at any number.
+    /// How many futures can be held at a time, which never changes.
     pub fn capacity(&self) -> usize
         ensures { result ≡ slots_in self.now.buffer.queue }
     {
         self.queue.capacity()
     }
 
-    /// The stream that items are drawn from, or `None` once it has ended: it was dropped then. Takes the same time at any number.
+    /// The stream that items are drawn from, or `None` once it has ended: it was dropped then.
     pub fn stream(&self) -> Option<&St>
         ensures { option_copied result ≡ self.now.buffer.stream }
     {
@@ -234,7 +234,7 @@ impl<
     }
 }
 
-/// Whether the stream has ended and no future is held. Takes the same time at any capacity.
+/// Whether the stream has ended and no future is held.
 impl<
     St: Stream,
     F: FnMut(St::Item) -> Fut + Drop,

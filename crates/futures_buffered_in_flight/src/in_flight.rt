@@ -38,7 +38,7 @@ pub struct Came<A> {
 
 /// Futures of the kit, as many at a time as there are slots.
 ///
-/// A contract sees what each slot holds, and the kit's set of the futures. A future that was cancelled leaves its slot at once. Where it has not ended yet it takes up room until it has.
+/// A contract sees what each slot holds, and the kit's set of the futures. A future that was cancelled leaves its slot at once. Where it has not ended yet it takes up room until it has. Calls that ask how much is held take the same time at any capacity.
 #[derive(Drop)]
 pub struct InFlight<F> {
     slots: PinSlotMap<Place>,
@@ -65,28 +65,28 @@ impl<F> Model for InFlight<F> {
 }
 
 impl<F: Drop> InFlight<F> {
-    /// The number of futures held, without those that were cancelled. Takes the same time at any capacity.
+    /// The number of futures held, without those that were cancelled.
     pub fn len(&self) -> usize
         ensures { result ≡ held_count self.now.slots }
     {
         self.slots.len()
     }
 
-    /// Whether no future is held. Takes the same time at any capacity.
+    /// Whether no future is held.
     pub fn is_empty(&self) -> bool
         ensures { IsTrue result ↔ (held_count self.now.slots ≡ 0) }
     {
         self.slots.is_empty()
     }
 
-    /// The number of slots, which never changes. Takes the same time at any capacity.
+    /// The number of slots, which never changes.
     pub fn capacity(&self) -> usize
         ensures { result ≡ slot_count self.now.slots }
     {
         self.slots.capacity()
     }
 
-    /// Whether each push is refused: the futures held, with those that were cancelled and have not ended, are as many as the slots. Takes the same time at any capacity.
+    /// Whether each push is refused: the futures held, with those that were cancelled and have not ended, are as many as the slots.
     pub fn is_full(&self) -> bool
         ensures { IsTrue result ↔ HasNoRoom self.now }
     {

@@ -91,7 +91,7 @@ impl<F: Future<Output: Drop>> PollNumberedSet<PollFuture> for InFlightQueue<F> {
 
 /// Futures in flight, as many as there is room for, one at least, whose outputs come in the order of the pushes.
 ///
-/// Pushes add at both ends. An output that comes before its turn is kept, and counts as held until it is yielded. A push takes each future where there is room, as that of `InFlightQueue` does: memory is no reason to refuse it. A contract sees the futures in flight, each with a number, and the entries from the front to the back, where one in progress has the number of its future.
+/// Pushes add at both ends. An output that comes before its turn is kept, and counts as held until it is yielded. A push takes each future where there is room, as that of `InFlightQueue` does: memory is no reason to refuse it. A contract sees the futures in flight, each with a number, and the entries from the front to the back, where one in progress has the number of its future. Calls that ask how much is held take the same time at any number.
 #[derive(Drop)]
 pub struct InFlightOrdered<F: Drop, A: Drop> {
     queue: OrderedEntries<InFlightQueue<F>, A>,
@@ -108,7 +108,7 @@ impl<F: Drop, A: Drop> Model for InFlightOrdered<F, A> {
 }
 
 impl<F: Drop, A: Drop> InFlightOrdered<F, A> {
-    /// How many are held: futures in progress, and outputs that wait for their turn. Takes the same time at any number.
+    /// How many are held: futures in progress, and outputs that wait for their turn.
     pub fn len(&self) -> usize
         ensures value { result ≡ ordered_count self.now }
         ensures bound { ordered_count self.now ≤ ordered_room self.now }
@@ -116,21 +116,21 @@ impl<F: Drop, A: Drop> InFlightOrdered<F, A> {
         self.queue.len()
     }
 
-    /// Whether nothing is held. Takes the same time at any number.
+    /// Whether nothing is held.
     pub fn is_empty(&self) -> bool
         ensures { IsTrue result ↔ (ordered_count self.now ≡ 0) }
     {
         self.queue.is_empty()
     }
 
-    /// How many can be held, which never changes. Takes the same time at any number.
+    /// How many can be held, which never changes.
     pub fn capacity(&self) -> usize
         ensures { result ≡ ordered_room self.now }
     {
         self.queue.set.capacity()
     }
 
-    /// Whether each push is refused: as many are held as can be, where outputs that wait for their turn count. Takes the same time at any number.
+    /// Whether each push is refused: as many are held as can be, where outputs that wait for their turn count.
     pub fn is_full(&self) -> bool
         ensures { IsTrue result ↔ OrderedIsFull self.now }
     {
@@ -154,7 +154,7 @@ impl<F: Future<Output = A>, A: Drop> InFlightOrdered<F, A> {
 
     /// Adds the future behind all others, so that a later poll polls it. It comes back, and nothing has changed, exactly where as many are held as can be (`is_full`).
     ///
-    /// Takes the memory that the kit's set takes for a future, and does without where that is refused. Takes the same time at any number.
+    /// Takes the memory that the kit's set takes for a future, and does without where that is refused.
     pub fn try_push_back(&mut self, future: F) -> Result<(), F>
         requires held { CanPollOrdered F.Future self.old }
         requires fit { F.can_poll future }

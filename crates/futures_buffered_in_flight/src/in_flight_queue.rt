@@ -16,7 +16,7 @@ use std::marker::Model;
 
 /// Futures in flight, as many as there is room for, one at least.
 ///
-/// A push takes each future where there is room. One for which memory is refused waits in a place that was made with the queue, is held like the others, and goes into flight at the next poll for which there is memory. These places are written to at no other time.
+/// A push takes each future where there is room. One for which memory is refused waits in a place that was made with the queue, is held like the others, and goes into flight at the next poll for which there is memory. These places are written to at no other time. Calls that ask how much is held take the same time at any number.
 #[derive(Drop)]
 pub struct InFlightQueue<F> {
     // Each future has its number as its tag.
@@ -40,7 +40,7 @@ impl<F> Model for InFlightQueue<F> {
 }
 
 impl<F: Drop> InFlightQueue<F> {
-    /// How many futures are held. Takes the same time at any number.
+    /// How many futures are held.
     pub fn len(&self) -> usize
         ensures value { result ≡ queued_count self.now }
         ensures bound { HoldsWithinRoom self.now }
@@ -48,14 +48,14 @@ impl<F: Drop> InFlightQueue<F> {
         self.waiting.len() + self.set.len()
     }
 
-    /// Whether no future is held. Takes the same time at any number.
+    /// Whether no future is held.
     pub fn is_empty(&self) -> bool
         ensures { IsTrue result ↔ (queued_count self.now ≡ 0) }
     {
         self.len() == 0
     }
 
-    /// How many futures can be held, which never changes. Takes the same time at any number.
+    /// How many futures can be held, which never changes.
     pub fn capacity(&self) -> usize
         ensures { result ≡ queued_room self.now }
     {

@@ -22,7 +22,7 @@ use std::marker::Model;
 
 /// Streams of the kit that are polled as one, `capacity` of them at most.
 ///
-/// A contract sees how many streams are held, and the kit's set of them. A stream is held from its push until the poll in which it gives its end.
+/// A contract sees how many streams are held, and the kit's set of them. A stream is held from its push until the poll in which it gives its end. Calls that ask how much is held take the same time at any number.
 #[derive(Drop)]
 pub struct InFlightMerge<St> {
     // None before the first push and after `clear`.
@@ -41,14 +41,14 @@ impl<St> Model for InFlightMerge<St> {
 }
 
 impl<St: Drop> InFlightMerge<St> {
-    /// The number of streams held. Takes the same time at any number.
+    /// The number of streams held.
     pub fn len(&self) -> usize
         ensures { result ≡ self.now.held }
     {
         self.held
     }
 
-    /// Whether no stream is held. Takes the same time at any number.
+    /// Whether no stream is held.
     pub fn is_empty(&self) -> bool
         ensures { IsTrue result ↔ (self.now.held ≡ 0) }
     {
@@ -62,7 +62,7 @@ impl<St: Drop> InFlightMerge<St> {
         self.limit
     }
 
-    /// Whether each push is refused. Takes the same time at any number.
+    /// Whether each push is refused.
     pub fn is_full(&self) -> bool
         ensures { IsTrue result ↔ (self.now.limit ≤ self.now.held) }
     {

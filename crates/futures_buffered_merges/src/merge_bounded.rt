@@ -78,14 +78,14 @@ impl<St: Drop, S: NewSource> MergeBounded<St, S> {
 }
 
 impl<St: Drop, S: ReadySource> MergeBounded<St, S> {
-    /// The number of slots, which never changes. Takes the same time at any capacity.
+    /// The number of slots, which never changes.
     pub fn capacity(&self) -> usize
         ensures { result ≡ slot_count self.now.slots }
     {
         self.set.capacity()
     }
 
-    /// Whether no slot is free. Takes the same time at any capacity.
+    /// Whether no slot is free.
     pub fn is_full(&self) -> bool
         ensures { IsTrue result ↔ (slot_count self.now.slots ≤ held_count self.now.slots) }
     {
@@ -181,7 +181,7 @@ impl<St: SlotStream<S::Waker>, S: ReadySource> Stream for MergeBounded<St, S> {
     }
 }
 
-/// Whether no stream is held. Takes the same time at any capacity.
+/// Whether no stream is held.
 impl<St: SlotStream<S::Waker>, S: ReadySource> FusedStream for MergeBounded<St, S> {
     ghost use Rattle.std.specs.Prelude.{◌≡◌};
     ghost use Rattle.futures_buffered_core.specs.SlotMap.{held_count};

@@ -22,7 +22,7 @@ pub trait StreamSet: Drop {
 
 /// Streams that are polled as one, held in a set `G`: as many as that has slots (`MergeBounded`), or any number (`MergeUnbounded`).
 ///
-/// A contract sees what it sees of the set.
+/// A contract sees what it sees of the set. Calls that ask how much is held take the same time at any capacity.
 #[derive(Drop)]
 pub struct MergeOf<G: Drop> {
     pub(crate) set: G,
@@ -37,14 +37,14 @@ impl<G: Drop> Model for MergeOf<G> {
 }
 
 impl<G: StreamSet> MergeOf<G> {
-    /// The number of streams held. Takes the same time at any capacity.
+    /// The number of streams held.
     pub fn len(&self) -> usize
         ensures { result ≡ G.count self.now }
     {
         self.set.streams_held()
     }
 
-    /// Whether no stream is held. Takes the same time at any capacity.
+    /// Whether no stream is held.
     pub fn is_empty(&self) -> bool
         ensures { IsTrue result ↔ (G.count self.now ≡ 0) }
     {

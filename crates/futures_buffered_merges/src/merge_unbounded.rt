@@ -28,7 +28,7 @@ use std::alloc::Global;
 
 /// Streams in groups of slots.
 ///
-/// A contract sees the groups, each with what its slots hold, the content of its source and its limit; the place where the next poll begins; and the limit of names of one count. Only a push that makes a group, a constructor that pushes, and the calls of the source take memory. The calls wait for nobody where those of the source do not.
+/// A contract sees the groups, each with what its slots hold, the content of its source and its limit; the place where the next poll begins; and the limit of names of one count. Only a push that makes a group, a constructor that pushes, and the calls of the source take memory. The calls wait for nobody where those of the source do not, and those that ask how much is held or fits take the same time at any number of groups.
 pub type MergeUnbounded<St, S> = MergeOf<FuturesUnordered<St, S>>;
 
 impl<St: Drop, S: NewSource> StreamSet for FuturesUnordered<St, S> {
@@ -125,8 +125,6 @@ impl<St: Drop, S: NewSource> MergeUnbounded<St, S> {
     }
 
     /// How many streams it has room for: of several groups, what they hold and the free places of the last one; of one, its slots; without groups, 0.
-    ///
-    /// Takes the same time at any number of groups.
     pub fn capacity(&self) -> usize
         ensures { result ≡ capacity_of self.now.groups.listed }
     {
@@ -165,8 +163,6 @@ impl<St: Drop, S: NewSource> MergeUnbounded<St, S> {
     }
 
     /// Whether nothing more goes in: a push is refused then, and else only where a request for memory is.
-    ///
-    /// Takes the same time at any number of groups.
     pub fn is_at_bound(&self) -> bool
         ensures { IsTrue result ↔ IsAtBound self.now.groups.listed }
     {
@@ -213,7 +209,7 @@ impl<St: SlotStream<S::Waker>, S: NewSource> Stream for MergeUnbounded<St, S> {
     }
 }
 
-/// Whether no stream is held. Takes the same time at any number of groups.
+/// Whether no stream is held.
 impl<St: SlotStream<S::Waker>, S: NewSource> FusedStream for MergeUnbounded<St, S> {
     ghost use Rattle.std.specs.Prelude.{◌≡◌};
 
