@@ -91,8 +91,8 @@ module _
   where
     -- the closure may be called with this item, and the future that it makes may be polled
     abbrev pub CanCall : Fn → X → Type 0
-    CanCall fn x = closure.pre fn (x, tt)
-        × ((made : F) (after : Fn) → Calls closure fn x made after → future.can_poll made)
+    CanCall f x = closure.pre f (x, tt)
+        × ((made : F) (after : Fn) → Calls closure f x made after → future.can_poll made)
 
     -- The stream may be polled, unless it has ended; the closure may be called with each item to
     -- come, after those before it; and each future that is held or comes of it may be polled.
