@@ -1,5 +1,5 @@
 //! A join by a rule: what is kept of each output, which output ends the join at once, and what the join is ready with.
-ghost use Rattle.std.specs.Prelude.{IfSome, IsSomeAnd};
+ghost use Rattle.std.specs.Prelude.{None, IfSome, IsSomeAnd};
 ghost use Rattle.futures_buffered_core.specs.Drawn.{IsFiniteSource};
 ghost use Rattle.futures_buffered_unordered.specs.Held.{AllHeld};
 ghost use Rattle.futures_buffered_joins.specs.Joining.{JoinMayGive, Places};

@@ -9,7 +9,7 @@ places-preserved g c =
     let ready = rw c.in-Ready-Ok.field-0-is at c.in-Ready-Ok.ensures.ready.filled in
     record {
       row = so.row ++ ready.output ∷ [];
-      filled = FoldsTo-push (Fills g.F.SlotFuture g.R.JoinRule g.S.ReadySource) _ so.row _ ready.output _ so.filled ready.fills;
+      filled = FoldsTo-push (Fills g.F.SlotFuture g.R.JoinRule g.S.ReadySource) (c.args.self.now, c.args.cx.now) so.row (c.places.self, c.places.cx) ready.output (c.fill_one.new.self, c.fill_one.new.cx) so.filled ready.fills;
       held = ready.again;
       kept = λ fact h. c.fill_one.ensures.kept fact (so.kept fact h);
     }
