@@ -1,9 +1,8 @@
 -- What a push and a poll of a queue of futures in flight are to a buffer.
-use Rattle.std.proofs.Common.{◌≡◌, ◌+◌, ◌<◌, ℕ, List, [], ◌∷◌, ◌⊎◌, inl, inr, length, Option, Some, None, count_by, is_some, cond, false, true, refl, arith}
+use Rattle.std.proofs.Common.{◌≡◌, ◌<◌, ℕ, List, [], ◌∷◌, inl, inr, length, Option, Some, None, is_some, cond, false, true, arith}
 use Rattle.std.proofs.lemmas.List.{get_or_past}
 use Rattle.std.proofs.lemmas.List.Sums.{get_or-le-sum_by}
 use Rattle.std.proofs.lemmas.Bool.{cases_lt}
-use Rattle.futures.specs.Runs.{After, Within}
 use Rattle.futures.specs.declared.task.Poll.{Poll}
 use Rattle.futures.specs.declared.task.Poll.TheVariants.{Ready, Pending}
 use Rattle.futures.specs.declared.task.context.Context.{Context}
@@ -14,7 +13,7 @@ use Rattle.futures_buffered_in_flight.specs.InFlight.{FutureOf}
 use Rattle.futures_buffered_ordered.specs.declared.numbered.Numbered.{Numbered}
 use Rattle.futures_buffered_in_flight.specs.InFlightOrdered.{CanPollOrdered, ComesOfEach, LeavesInOrder, OrderedInFlight, PushesBack, ordered_count, ordered_room}
 use Rattle.futures_buffered_in_flight.specs.InFlightQueue.{Queued, SomeOf, AnyQueuedGives, NumberGives, CanPollQueue, ComesFromQueue, HoldsWithinRoom, PollsQueued, PollsQueuedTask, PushesQueued, QueuedWaitsAt, queued_count, queued_room}
-use Rattle.futures_buffered.specs.FutureQueue.{AddsOutput, MayCome, PollLeavesQueue, PushLeavesQueue}
+use Rattle.futures_buffered.specs.FutureQueue.{AddsOutput, PollLeavesQueue, PushLeavesQueue}
 
 some_held : {P : Type 0} (m : Slots P) (i : ℕ) (p : P) → value_in m i ≡ Some p → 0 < held_count m
 some_held {P} m i p found =
