@@ -289,7 +289,7 @@ impl<F: Future<Output: Drop>> InFlight<F> {
         Ok(key)
     }
 
-    /// WentIn each item, in order, as `try_push` does. The first that is refused comes back; those before it stay, and the iterator is asked for no further one.
+    /// Pushes each item, in order, as `try_push` does. The first that is refused comes back; those before it stay, and the iterator is asked for no further one.
     pub fn extend<I: IntoIterator<Item = F>>(&mut self, iter: I) -> Result<(), F>
         requires finite { IsFiniteSource I.IntoIterator I.IntoIter.Iterator iter }
         requires held { CanPollAll F.Future self.old }

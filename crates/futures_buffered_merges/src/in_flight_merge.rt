@@ -205,7 +205,7 @@ impl<St: Stream<Item: Drop>> InFlightMerge<St> {
         cx.yield_now()
     }
 
-    /// StreamWentIn each item, in order, as `try_push` does. The first that is refused comes back; those before it stay, and the iterator is asked for no further one.
+    /// Pushes each item, in order, as `try_push` does. The first that is refused comes back; those before it stay, and the iterator is asked for no further one.
     pub fn extend<I: IntoIterator<Item = St>>(&mut self, iter: I) -> Result<(), St>
         requires finite { IsFiniteSource I.IntoIterator I.IntoIter.Iterator iter }
         requires held { CanPollStreams St.Stream self.old }
