@@ -6,7 +6,7 @@ use crate::foreign::sent;
 use crate::show::print_all;
 use anyhow::bail;
 use futures::channel::oneshot::{Canceled, channel};
-use futures::{Future, FutureExt, StreamExt, TryFutureExt, future, stream};
+use futures::{Future, FutureExt, StreamExt, future, stream};
 use futures_buffered::{BufferedStreamExt, InFlight, InFlightOrdered};
 use std::alloc::AllocGlobal;
 use std::io::{self, Print};
@@ -121,11 +121,11 @@ where
     R: Wait + RandomSource + AllocGlobal + Print,
 {
     let alloc = rt.alloc();
-    let digit = |number: u64| future::ready(Ok::<u64, Canceled>(number % 10));
     let mut queue = InFlightOrdered::new(alloc, 8)?;
-    let tens = queue.try_push_back(sent(alloc, 14)?.and_then(digit));
-    let ones = queue.try_push_back(sent(alloc, 2)?.and_then(digit));
-    if tens.is_err() || ones.is_err() {
+    if queue
+        .extend(vec![in alloc; sent(alloc, 4)?, sent(alloc, 2)?]?)
+        .is_err()
+    {
         bail!("there is no room for them");
     }
     println!(rt; "{}", number_of(rt, queue)?)?;
