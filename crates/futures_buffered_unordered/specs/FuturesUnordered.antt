@@ -1,5 +1,5 @@
 -- What a contract sees of a set that grows, and what its calls make of it.
-use Rattle.std.specs.Prelude.{◌≡◌, ◌↔◌, ℕ, ◌+◌, ◌-◌, ◌*◌, ◌<◌, List, [], ◌∷◌, ◌++◌, ◌⊎◌, Option, None}
+use Rattle.std.specs.Prelude.{◌≡◌, ℕ, ◌+◌, ◌-◌, ◌*◌, ◌<◌, List, [], ◌∷◌, ◌++◌, ◌⊎◌, Option}
 use Rattle.std.specs.Prelude.{IfNone, refl, Result, OnOk, OnErr}
 use Rattle.std.specs.List.{sum_by, All, FoldsTo}
 use Rattle.std.specs.Coded.{Coded, code_by, coded×, coded_ℕ}
@@ -9,15 +9,13 @@ use Rattle.futures.specs.Queued.{Gathers}
 use Rattle.futures.specs.Runs.{Runs}
 use Rattle.futures.specs.declared.task.context.Context.{Context}
 use Rattle.futures.specs.declared.task.Poll.{Poll}
-use Rattle.futures.specs.declared.task.Poll.TheVariants.{Ready}
 use Rattle.futures_buffered_core.specs.SlotMap.{slot_count}
 use Rattle.futures_buffered_table.specs.declared.answer.TheConstants.{MAX_CAPACITY}
 use Rattle.futures_buffered_table.specs.declared.answer.Woke.{Woke}
 use Rattle.futures_buffered_unordered.specs.Held.{AllHeld, AnyMayGive}
 use Rattle.futures_buffered_unordered.specs.FuturesUnorderedBounded.{Bounded, bounded_code, IsNewSet}
 use Rattle.futures_buffered_unordered.specs.FuturesUnorderedBounded.{Pushes, held_in}
-use Rattle.futures_buffered_unordered.specs.Groups.{Groups, groups_code, AnyOf, GroupLeavesTask, GroupsLeaveTask}
-use Rattle.futures_buffered_unordered.specs.Groups.{outputs_in}
+use Rattle.futures_buffered_unordered.specs.Groups.{Groups, groups_code, AnyOf, GroupLeavesTask}
 use Rattle.futures_buffered_unordered.specs.declared.futures_unordered.TheConstants.{FIRST_GROUP, MAX_HELD}
 
 -- the groups, the place where the next poll begins, and how many names one poll takes from each
@@ -158,63 +156,27 @@ module _ {F S : Type 0} where
       × IsNewSet made n limit group
       × (new ≡ record { groups = record { listed = group ∷ []; place = 0 }; limit = limit })))
 
-  -- What one poll, from old to new, leaves of a set that grows.
-  pub record PollsGrowing
-      {A : Type 0}
-      (can_poll : F → Type 0)
-      (old : Growing F S)
-      (answer : Poll (Option A))
-      (new : Growing F S)
-      : Type 0 where
-    -- the end comes exactly where nothing is held
-    pub ends : (answer ≡ Ready None) ↔ (held_in_all old.groups.listed ≡ 0)
-    -- an output leaves one future fewer, and any other answer as many as before
-    pub count : held_in_all new.groups.listed + outputs_in answer ≡ held_in_all old.groups.listed
-    -- each future that is held can be polled again
-    pub pollable : EachHeld can_poll new.groups.listed
-    -- the limit stays
-    pub limit : new.limit ≡ old.limit
-
-  -- What a poll leaves of its task, which it took from cx to left: `registers` says what
-  -- registrations make of a task, and `passes` what the end does.
-  module _
-      {A : Type 0}
-      (asks_to_empty : Bounded F S → Poll (Option A) → Bounded F S → Type 0)
-      (stops : Bounded F S → Bounded F S → Type 0)
-      (needs : S → ℕ → Type 0)
-      (registers passes : Context → Context → Type 0)
-    where
-      -- one poll of one group
-      pub record PollsGroupTask
-          (old : Bounded F S)
-          (answer : Poll (Option A))
-          (new : Bounded F S)
-          (cx left : Context)
-          : Type 0 where
-        -- the task of a pending group hears of its source
-        pub covered : OnPending answer (Covers left (needs new.source))
-        -- the end leaves the task so
-        pub passed : IfReady answer (λ o. IfNone o (passes cx left))
-        -- where no further name came it was registered, and else asked to poll again
-        pub leaves : GroupLeavesTask asks_to_empty stops registers old answer new cx left
-        -- nothing of the task is lost
-        pub kept : Keeps cx left
-
-      -- one poll of groups
-      pub record PollsGroupsTask
-          (old : Groups (Bounded F S))
-          (answer : Poll (Option A))
-          (new : Groups (Bounded F S))
-          (cx left : Context)
-          : Type 0 where
-        -- the task of pending groups hears of each of their sources
-        pub covered : OnPending answer (EachCovered needs left new.listed)
-        -- the end leaves the task so
-        pub passed : IfReady answer (λ o. IfNone o (passes cx left))
-        -- where no group had a further name it was registered, and else asked to poll again
-        pub leaves : GroupsLeaveTask asks_to_empty stops registers old answer new cx left
-        -- nothing of the task is lost
-        pub kept : Keeps cx left
+-- What one poll of one group leaves of its task, which it took from cx to left: `registers` says what
+-- registrations make of a task, and `passes` what the end does.
+pub record PollsGroupTask
+    {F A S : Type 0}
+    (asks_to_empty : Bounded F S → Poll (Option A) → Bounded F S → Type 0)
+    (stops : Bounded F S → Bounded F S → Type 0)
+    (needs : S → ℕ → Type 0)
+    (registers passes : Context → Context → Type 0)
+    (old : Bounded F S)
+    (answer : Poll (Option A))
+    (new : Bounded F S)
+    (cx left : Context)
+    : Type 0 where
+  -- the task of a pending group hears of its source
+  pub covered : OnPending answer (Covers left (needs new.source))
+  -- the end leaves the task so
+  pub passed : IfReady answer (λ o. IfNone o (passes cx left))
+  -- where no further name came it was registered, and else asked to poll again
+  pub leaves : GroupLeavesTask asks_to_empty stops registers old answer new cx left
+  -- nothing of the task is lost
+  pub kept : Keeps cx left
 
 module _ {F A S : Type 0} (polled : ℕ → F → Poll A → F → Type 0) where
   -- one of the futures that are held in these groups may give x

@@ -3,6 +3,7 @@ pub mod Extended
 pub mod StreamAnswers
 pub mod FuturesUnorderedBounded
 pub mod PollsBounded
+pub mod PollsGrowing
 pub mod Groups
 pub mod GroupsStep
 pub mod Interleaves

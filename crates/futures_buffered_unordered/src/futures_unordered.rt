@@ -10,11 +10,11 @@ ghost use Rattle.futures_buffered_core.specs.Answer.{RefusesTooLarge};
 ghost use Rattle.futures_buffered_core.specs.Made.{MakesGroup, MakesSlots};
 ghost use Rattle.futures_buffered_core.specs.ReadyShared.{IsNewShared, MarksShared};
 ghost use Rattle.futures_buffered_core.specs.ReadySource.{WaitsAlike};
-ghost use Rattle.futures_buffered_unordered.specs.FuturesUnorderedBounded.{AsksInPart, IsNewSet, OnlyRegisters, PollAsksToEmpty, PollGives};
-ghost use Rattle.futures_buffered_unordered.specs.Groups.{GroupsGive};
+ghost use Rattle.futures_buffered_unordered.specs.FuturesUnorderedBounded.{IsNewSet, OnlyRegisters};
 ghost use Rattle.futures_buffered_unordered.specs.GroupsStep.{AsksOne, OneLeavesTask, next_place};
-ghost use Rattle.futures_buffered_unordered.specs.FuturesUnordered.{EachHeld, EachCovered, Growing, GrowingPushes, IsAtBound, IsNewGrowing, LastIsFull, PollsGroupsTask, PollsGrowing, PushesEach, PushesOrStays, no_groups, held_in_all, capacity_of, next_capacity, spare_places, SetRefuses, SetMayRefuse};
+ghost use Rattle.futures_buffered_unordered.specs.FuturesUnordered.{EachHeld, EachCovered, Growing, GrowingPushes, IsAtBound, IsNewGrowing, LastIsFull, PushesEach, PushesOrStays, no_groups, held_in_all, capacity_of, next_capacity, spare_places, SetRefuses, SetMayRefuse};
 ghost use Rattle.futures_buffered_unordered.specs.FuturesUnorderedInvariant.{AddsGroup, PushesLast};
+ghost use Rattle.futures_buffered_unordered.specs.PollsGrowing.{PollsGroups, PollsGrowing};
 ghost use Rattle.futures_buffered_unordered.specs.Extended.{Extends, HoldsAllOf, MakesGrown, StopsAtBound};
 
 use crate::ask_group::{AskGroup, ByRule};
@@ -378,12 +378,8 @@ impl<F: Drop, S: NewSource> FuturesUnordered<F, S> {
         cx: &mut Context<'_>,
     ) -> Poll<Option<R::Output>>
         requires { EachHeld R.can_poll self.old.groups.listed }
-        ensures polled { GroupsGive R.asks self.old.groups result self.new.groups }
-        ensures limit { self.new.limit ≡ self.old.limit }
-        ensures pollable { EachHeld R.can_poll self.new.groups.listed }
-        ensures task { PollsGroupsTask R.asks_to_empty R.stops S.needs
-            (OnlyRegisters S.registers_poll) R.passes
-            self.old.groups result self.new.groups cx.old cx.new }
+        ensures { PollsGroups R.AskGroup S.ReadySource
+            self.old result self.new cx.old cx.new }
     {
         let mut is_registered = false;
         for _asked in 0..self.groups.len() {
@@ -412,12 +408,8 @@ impl<F: Drop, S: NewSource> FuturesUnordered<F, S> {
         cx: &mut Context<'_>,
     ) -> Poll<Option<R::Output>>
         requires { EachHeld R.can_poll self.old.groups.listed }
-        ensures polled { GroupsGive (PollGives R.polled S.steps)
-            self.old.groups result self.new.groups }
-        ensures set { PollsGrowing R.can_poll self.old result self.new }
-        ensures task { PollsGroupsTask (PollAsksToEmpty R.polled S.steps)
-            (AsksInPart R.polled S.steps) S.needs (OnlyRegisters S.registers_poll)
-            (λ was now. now ≡ was) self.old.groups result self.new.groups cx.old cx.new }
+        ensures { PollsGrowing R.PollOne S.ReadySource
+            self.old result self.new cx.old cx.new }
     {
         self.poll_groups(&ByRule(rule), cx)
     }

@@ -1,14 +1,13 @@
 //! A set of groups as a stream, which says how much is left and whether it has ended.
 ghost use Rattle.std.specs.Prelude.{◌≡◌, ◌↔◌};
 ghost use Rattle.futures_buffered_unordered.specs.StreamAnswers.{StreamAnswers};
-ghost use Rattle.futures_buffered_unordered.specs.FuturesUnorderedBounded.{AsksInPart, OnlyRegisters, PollAsksToEmpty, PollGives};
-ghost use Rattle.futures_buffered_unordered.specs.Groups.{GroupsGive};
-ghost use Rattle.futures_buffered_unordered.specs.FuturesUnordered.{AnyNeeds, EachHeld, PollsGroupsTask, PollsGrowing, held_in_all};
+ghost use Rattle.futures_buffered_unordered.specs.FuturesUnordered.{AnyNeeds, EachHeld, held_in_all};
+ghost use Rattle.futures_buffered_unordered.specs.PollsGrowing.{PollsGrowing};
 ghost use Rattle.futures_buffered_unordered.specs.FuturesUnordered.{ComesFromGroups};
 
 use crate::fused::{FusedStream, SizeHint};
 use crate::futures_unordered::FuturesUnordered;
-use crate::poll_one::PollFuture;
+use crate::poll_one::{PollFuture, PollOne};
 use crate::slot_future::SlotFuture;
 use futures::Stream;
 use futures::task::{Context, Poll};
@@ -27,14 +26,10 @@ impl<F: SlotFuture<S::Waker>, S: NewSource> Stream for FuturesUnordered<F, S> {
     /// One poll, as `poll_with` by the rule that polls the future itself.
     fn poll_next(&mut self, cx: &mut Context<'_>) -> Poll<Option<F::Output>>
         requires { EachHeld F.can_poll self.old.groups.listed }
-        ensures polled { GroupsGive (PollGives F.polled S.steps)
-            self.old.groups result self.new.groups }
         ensures stream { StreamAnswers ⟦<FuturesUnordered<F, S> as Stream>⟧
             self.old result self.new cx.old cx.new }
-        ensures set { PollsGrowing F.can_poll self.old result self.new }
-        ensures task { PollsGroupsTask (PollAsksToEmpty F.polled S.steps)
-            (AsksInPart F.polled S.steps) S.needs (OnlyRegisters S.registers_poll)
-            (λ was now. now ≡ was) self.old.groups result self.new.groups cx.old cx.new }
+        ensures polls { PollsGrowing ⟦<PollFuture as PollOne<F, S::Waker>>⟧ S.ReadySource
+            self.old result self.new cx.old cx.new }
     {
         self.poll_with(&PollFuture, cx)
     }

@@ -1,7 +1,6 @@
 use Rattle.std.proofs.Common.{rules}
 use Rattle.std.proofs.lemmas.Fn.{FoldsTo-push}
-use Rattle.futures_buffered_core.specs.Drawn.{DrawsAndOne}
-use Rattle.futures_buffered_unordered.specs.FuturesUnordered.{GrowingPushes, IsAtBound}
+use Rattle.futures_buffered_unordered.specs.FuturesUnordered.{GrowingPushes}
 use Rattle.futures_buffered_unordered.proofs.futures_unordered.FuturesUnordered.add_each.Goals as goal
 
 pub loop-item-preserved : goal.loop-item-preserved

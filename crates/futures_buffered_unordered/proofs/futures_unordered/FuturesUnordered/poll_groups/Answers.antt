@@ -35,23 +35,52 @@ loop-asked-init g c =
       kept = λ fact h. h;
     }
 
-pub returns-then-is_registered-clause-polled : goal.returns-then-is_registered-clause-polled
-returns-then-is_registered-clause-polled g c =
-    let asks = g.R.AskGroup.asks in
+pub returns-then-is_registered : goal.returns-then-is_registered
+returns-then-is_registered g c =
+    let rule = g.R.AskGroup in
+    let registers = OnlyRegisters g.S.ReadySource.registers_poll in
+    let so = c.loop-asked.invariant in
     let long = ap (λ (v : Growing g.row.F.Denot g.row.S.Denot). length v.groups.listed) c.self.view_is in
-    so_far_end asks c.args.self.now.groups c.loop-asked._asked true c.loop-asked.self.groups (subst (λ b. SoFar asks c.args.self.now.groups c.loop-asked._asked b c.loop-asked.self.groups) c.if-is_registered.true c.loop-asked.invariant.so_far) (omega (arith, long))
+    record {
+      gave = so_far_end rule.asks c.args.self.now.groups c.loop-asked._asked true c.loop-asked.self.groups (subst (λ b. SoFar rule.asks c.args.self.now.groups c.loop-asked._asked b c.loop-asked.self.groups) c.if-is_registered.true so.so_far) (omega (arith, long));
+      leaves = left_end rule.asks rule.asks_to_empty rule.stops registers c.args.self.now.groups c.loop-asked._asked true c.loop-asked.self.groups _ _ (subst (λ b. LeftSoFar rule.asks rule.asks_to_empty rule.stops registers c.args.self.now.groups c.loop-asked._asked b c.loop-asked.self.groups c.args.cx.now c.loop-asked.cx) c.if-is_registered.true so.leaves) (omega (arith, long));
+      passed = tt;
+      limit = so.limit;
+      covered = so.covered c.if-is_registered.true;
+      kept = so.kept;
+      pollable = so.pollable;
+    }
 
-pub returns-else-is_registered-clause-polled : goal.returns-else-is_registered-clause-polled
-returns-else-is_registered-clause-polled g c =
-    let asks = g.R.AskGroup.asks in
+pub returns-else-is_registered : goal.returns-else-is_registered
+returns-else-is_registered g c =
+    let rule = g.R.AskGroup in
+    let registers = OnlyRegisters g.S.ReadySource.registers_poll in
+    let so = c.loop-asked.invariant in
     let long = ap (λ (v : Growing g.row.F.Denot g.row.S.Denot). length v.groups.listed) c.self.view_is in
-    so_far_end asks c.args.self.now.groups c.loop-asked._asked false c.loop-asked.self.groups (subst (λ b. SoFar asks c.args.self.now.groups c.loop-asked._asked b c.loop-asked.self.groups) c.if-is_registered.false c.loop-asked.invariant.so_far) (omega (arith, long))
+    record {
+      gave = so_far_end rule.asks c.args.self.now.groups c.loop-asked._asked false c.loop-asked.self.groups (subst (λ b. SoFar rule.asks c.args.self.now.groups c.loop-asked._asked b c.loop-asked.self.groups) c.if-is_registered.false so.so_far) (omega (arith, long));
+      leaves = left_end rule.asks rule.asks_to_empty rule.stops registers c.args.self.now.groups c.loop-asked._asked false c.loop-asked.self.groups _ _ (subst (λ b. LeftSoFar rule.asks rule.asks_to_empty rule.stops registers c.args.self.now.groups c.loop-asked._asked b c.loop-asked.self.groups c.args.cx.now c.loop-asked.cx) c.if-is_registered.false so.leaves) (omega (arith, long));
+      passed = so.passes c.if-is_registered.false;
+      limit = so.limit;
+      covered = tt;
+      kept = so.kept;
+      pollable = so.pollable;
+    }
 
-pub returns-in-Some-clause-polled : goal.returns-in-Some-clause-polled
-returns-in-Some-clause-polled g c =
-    let asks = g.R.AskGroup.asks in
+pub returns-in-Some : goal.returns-in-Some
+returns-in-Some g c =
+    let rule = g.R.AskGroup in
+    let so = c.loop-asked.invariant in
     let long = ap (λ (v : Growing g.row.F.Denot g.row.S.Denot). length v.groups.listed) c.self.view_is in
-    so_far_some_left asks c.args.self.now.groups c.loop-asked._asked c.loop-asked.is_registered c.loop-asked.self.groups _ _ _ c.in-Some.is c.loop-asked.invariant.so_far (omega (arith, long)) c.in-Ready.ensures.asked
+    record {
+      gave = so_far_some_left rule.asks c.args.self.now.groups c.loop-asked._asked c.loop-asked.is_registered c.loop-asked.self.groups _ _ _ c.in-Some.is so.so_far (omega (arith, long)) c.in-Ready.ensures.asked;
+      leaves = left_output rule.asks rule.asks_to_empty rule.stops (OnlyRegisters g.S.ReadySource.registers_poll) c.args.self.now.groups c.loop-asked._asked c.loop-asked.is_registered c.loop-asked.self.groups _ _ _ _ (registers_more g.S.ReadySource.registers_poll _ _ _) c.ask_one.ensures.kept _ _ c.in-Some.is so.leaves (omega (arith, long)) c.in-Ready.ensures.asked c.in-Ready.ensures.leaves;
+      passed = tt;
+      limit = c.ask_one.ensures.limit ∙ so.limit;
+      covered = tt;
+      kept = λ fact h. c.ask_one.ensures.kept fact (so.kept fact h);
+      pollable = c.ask_one.ensures.pollable;
+    }
 
 pub loop-asked-preserved : goal.loop-asked-preserved
 loop-asked-preserved g c =
@@ -80,38 +109,3 @@ loop-asked-preserved g c =
         kept = λ fact h. c.ask_one.ensures.kept fact (c.loop-asked.invariant.kept fact h);
       })
     ]
-
-pub returns-in-Some-clause-task : goal.returns-in-Some-clause-task
-returns-in-Some-clause-task g c =
-    let rule = g.R.AskGroup in
-    let long = ap (λ (v : Growing g.row.F.Denot g.row.S.Denot). length v.groups.listed) c.self.view_is in
-    record {
-      covered = tt;
-      passed = tt;
-      leaves = left_output rule.asks rule.asks_to_empty rule.stops (OnlyRegisters g.S.ReadySource.registers_poll) c.args.self.now.groups c.loop-asked._asked c.loop-asked.is_registered c.loop-asked.self.groups _ _ _ _ (registers_more g.S.ReadySource.registers_poll _ _ _) c.ask_one.ensures.kept _ _ c.in-Some.is c.loop-asked.invariant.leaves (omega (arith, long)) c.in-Ready.ensures.asked c.in-Ready.ensures.leaves;
-      kept = λ fact h. c.ask_one.ensures.kept fact (c.loop-asked.invariant.kept fact h);
-    }
-
-pub returns-then-is_registered-clause-task : goal.returns-then-is_registered-clause-task
-returns-then-is_registered-clause-task g c =
-    let rule = g.R.AskGroup in
-    let registers = OnlyRegisters g.S.ReadySource.registers_poll in
-    let long = ap (λ (v : Growing g.row.F.Denot g.row.S.Denot). length v.groups.listed) c.self.view_is in
-    record {
-      covered = c.loop-asked.invariant.covered c.if-is_registered.true;
-      passed = tt;
-      leaves = left_end rule.asks rule.asks_to_empty rule.stops registers c.args.self.now.groups c.loop-asked._asked true c.loop-asked.self.groups _ _ (subst (λ b. LeftSoFar rule.asks rule.asks_to_empty rule.stops registers c.args.self.now.groups c.loop-asked._asked b c.loop-asked.self.groups c.args.cx.now c.loop-asked.cx) c.if-is_registered.true c.loop-asked.invariant.leaves) (omega (arith, long));
-      kept = c.loop-asked.invariant.kept;
-    }
-
-pub returns-else-is_registered-clause-task : goal.returns-else-is_registered-clause-task
-returns-else-is_registered-clause-task g c =
-    let rule = g.R.AskGroup in
-    let registers = OnlyRegisters g.S.ReadySource.registers_poll in
-    let long = ap (λ (v : Growing g.row.F.Denot g.row.S.Denot). length v.groups.listed) c.self.view_is in
-    record {
-      covered = tt;
-      passed = c.loop-asked.invariant.passes c.if-is_registered.false;
-      leaves = left_end rule.asks rule.asks_to_empty rule.stops registers c.args.self.now.groups c.loop-asked._asked false c.loop-asked.self.groups _ _ (subst (λ b. LeftSoFar rule.asks rule.asks_to_empty rule.stops registers c.args.self.now.groups c.loop-asked._asked b c.loop-asked.self.groups c.args.cx.now c.loop-asked.cx) c.if-is_registered.false c.loop-asked.invariant.leaves) (omega (arith, long));
-      kept = c.loop-asked.invariant.kept;
-    }

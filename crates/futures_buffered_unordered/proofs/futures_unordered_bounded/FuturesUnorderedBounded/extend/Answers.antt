@@ -1,6 +1,5 @@
 use Rattle.std.proofs.Common.{◌≡◌, rules, sym, subst, ◌∙◌}
 use Rattle.std.proofs.lemmas.Fn.{FoldsTo-push}
-use Rattle.std.proofs.lemmas.Result.{err_from_is_err_and}
 use Rattle.futures_buffered_core.specs.SlotMap.{IsFull}
 use Rattle.futures_buffered_unordered.specs.Extended.{ExtendsUntil}
 use Rattle.futures_buffered_unordered.specs.FuturesUnorderedBounded.{Bounded, Pushes}

@@ -12,11 +12,11 @@ returns-clause-stream g c =
     let answer = c.poll_with.result in
     let poll = c.poll_with.ensures in
     record {
-      value = value_of polled source.steps old new answer poll.polled poll.set.ends.0 poll.set.count;
-      rest = rest_of polled source.steps old new answer poll.polled poll.set.count;
-      same = same_of polled source.steps old new answer poll.polled poll.set.count;
-      goes = after_item answer poll.set.pollable;
-      again = while_pending answer poll.set.pollable;
-      registered = covered_of source.needs c.poll_with.new.cx answer old.listed new.listed poll.task.covered poll.set.ends.1 poll.set.count;
-      kept = poll.task.kept;
+      value = value_of polled source.steps old new answer poll.groups.gave poll.ends.0 poll.count;
+      rest = rest_of polled source.steps old new answer poll.groups.gave poll.count;
+      same = same_of polled source.steps old new answer poll.groups.gave poll.count;
+      goes = after_item answer poll.groups.pollable;
+      again = while_pending answer poll.groups.pollable;
+      registered = covered_of source.needs c.poll_with.new.cx answer old.listed new.listed poll.groups.covered poll.ends.1 poll.count;
+      kept = poll.groups.kept;
     }
