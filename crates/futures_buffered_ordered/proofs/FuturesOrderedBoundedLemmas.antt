@@ -1,5 +1,5 @@
 -- What holds of an ordered queue over a bounded set: what a push needs, how many names a poll takes, and what may come.
-use Rattle.std.proofs.Common.{◌≡◌, ◌⊎◌, ℕ, ◌+◌, ◌*◌, ◌<◌, ◌≤◌, List, [], ◌∷◌, ◌++◌, length, cond, is_some, Option, Some, None, IfNone, sym, ap, subst, inl, inr, arith, ◌∙◌, add-one}
+use Rattle.std.proofs.Common.{◌≡◌, ℕ, ◌+◌, ◌*◌, ◌<◌, ◌≤◌, List, [], ◌∷◌, ◌++◌, length, cond, is_some, Option, Some, None, IfNone, sym, ap, subst, inl, inr, arith, ◌∙◌, add-one}
 use Rattle.std.specs.List.{FoldsTo}
 use Rattle.std.proofs.lemmas.List.{append_assoc, length-replicate}
 use Rattle.std.proofs.lemmas.List.Folds.{sum_by-replicate}
@@ -14,21 +14,23 @@ use Rattle.futures_buffered_core.specs.SlotMap.{slot_count, held_count, no_slots
 use Rattle.futures_buffered_table.specs.declared.answer.Taken.{Taken}
 use Rattle.futures_buffered_table.specs.declared.answer.Taken.TheVariants.{Slot, Empty, Pause}
 use Rattle.futures_buffered_core.specs.ReadySource.{SourceSteps}
-use Rattle.futures_buffered_unordered.specs.FuturesUnorderedBounded.{Bounded, EndsWaiting, held_in, names_taken}
+use Rattle.futures_buffered_unordered.specs.FuturesUnorderedBounded.{Bounded, held_in}
 use Rattle.futures_buffered_core.specs.declared.ready_source.ReadySource.{Ghosts as ReadySourceOf}
 use Rattle.futures_buffered_unordered.specs.declared.poll_one.PollOne.{Ghosts as PollOneOf}
-use Rattle.futures_buffered_unordered.specs.PollsBounded.{PollsBounded}
-use Rattle.futures_buffered_unordered.proofs.PollsBoundedLemmas.{asks_task_of}
+use Rattle.futures_buffered_unordered.specs.PollsBounded.{EndsPending, PollsBounded}
+use Rattle.futures_buffered_unordered.proofs.PollsBoundedLemmas.{gives_of}
+use Rattle.futures_buffered_unordered.proofs.StreamAnswersLemmas.{covers_fewer}
 use Rattle.futures_buffered_unordered.proofs.FuturesUnorderedBoundedLemmas.{poll_gave, poll_still}
-use Rattle.futures_buffered_ordered.specs.Numbered.{PollsNumbered, held_with}
+use Rattle.futures_buffered_ordered.specs.Numbered.{PollsNumbered, held_with, of_numbered}
 use Rattle.futures_buffered_unordered.specs.Groups.{outputs_in}
-use Rattle.futures_buffered_ordered.specs.OrderedEntries.{SetYields, MayRefuse}
+use Rattle.futures_buffered_ordered.specs.OrderedEntries.{BesideTask, MayRefuse, Ordered, OrderedGives, SetYields, with_task}
 use Rattle.futures_buffered_ordered.specs.OrderedEntriesInvariant.{Numbering}
-use Rattle.futures_buffered_ordered.specs.FuturesOrderedBounded.{OrderedBounded, SetGives, SetIsFull, SetMayGive, SetPends, TakesFewNames, names_of_row}
+use Rattle.futures_buffered_ordered.specs.FuturesOrderedBounded.{OrderedBounded, PollsOrderedBounded, SetGives, SetIsFull, SetMayGive, TakesFewNames, names_of_row, names_taken}
 use Rattle.futures_buffered_ordered.specs.FuturesOrderedBoundedInvariant.{KeepsBoundedQueue}
 use Rattle.futures_buffered_ordered.specs.declared.numbered.Numbered.{Numbered}
 use Rattle.futures_buffered_ordered.proofs.OrderedEntriesInvariantLemmas.{held_by_entries, KeepsNumbers-polled, KeepsNumbers-new}
 use Rattle.futures_buffered_ordered.proofs.NumberedLemmas.{in_slots, numbers_none}
+use Rattle.futures_buffered_ordered.proofs.OrderedEntriesLemmas.{gives_alone}
 
 -- where there are fewer entries than slots, no push is refused
 pub has_room : {F A S : Type 0} (q : Numbering (Bounded (Numbered F) S) A) → KeepsBoundedQueue q → length q.queue.entries < slot_count q.queue.set.slots → MayRefuse SetIsFull q.queue → ⊥
@@ -69,29 +71,19 @@ module _ {R F W A S : Type 0} (rule : PollOneOf R (Numbered F) W (ℕ × A)) (so
   set_fewer (Ready (Some out)) poll = poll.fewer
   set_fewer Pending poll = omega (arith, poll.same)
 
-  pub set_pends : (answer : Poll (Option (ℕ × A))) → PollsBounded rule source old answer new cx left → OnPending answer (SetPends source.steps source.needs left new)
-  set_pends (Ready o) poll = tt
-  set_pends Pending poll =
-      elim (asks_task_of rule source old new Pending cx left poll.gave.1).woken [
-        | inl asked ↦ record { covered = poll.covered; woken = inl asked }
-        | inr waits ↦ record { covered = poll.covered; woken = inr waits.0 }
-      ]
-
--- the task of a pending queue hears of its source
-pub covered_of : {F A S : Type 0} (steps : SourceSteps S) (needs : S → ℕ → Type 0) (cx : Context) (answer : Poll A) (set : Bounded (Numbered F) S) → OnPending answer (SetPends steps needs cx set) → OnPending answer (Covers cx (λ n. (0 < held_in set) × needs set.source n))
-covered_of steps needs cx (Ready o) set pends = tt
-covered_of steps needs cx Pending set pends = (pends.covered.0, λ n waits. pends.covered.1 n waits.1)
+  pub set_covered : (answer : Poll (Option (ℕ × A))) → PollsBounded rule source old answer new cx left → OnPending answer (Covers left (λ n. (0 < held_in new) × source.needs new.source n))
+  set_covered answer poll = covers_fewer answer left (source.needs new.source) _ (λ n waits. waits.1) poll.covered
 
 -- one item more came of all there are
 pub one_came : {X : Type 0} (so_far rest left all : List X) (item : X) → so_far ++ rest ≡ all → rest ≡ item ∷ left → (so_far ++ item ∷ []) ++ left ≡ all
 one_came {X} so_far rest left all item were came = append_assoc so_far (item ∷ []) left ∙ ap (λ (l : List X). so_far ++ l) (sym came) ∙ were
 
 -- no more names come than the limit is
-few_names : (limit : ℕ) (names : List ℕ) (last : Option Taken) → EndsWaiting limit names last → length names ≤ limit
-few_names limit names (Some Empty) ends = omega (arith, ends)
-few_names limit names (Some Pause) ends = omega (arith, ends)
-few_names limit names (Some (Slot i)) ends = absurd ends
-few_names limit names None ends = omega (arith, ends)
+few_names : (limit count : ℕ) (last : Option Taken) (cx left : Context) → EndsPending limit count last cx left → count ≤ limit
+few_names limit count (Some Empty) cx left ends = let few = ends.0 in omega (arith, few)
+few_names limit count (Some Pause) cx left ends = let few = ends.0 in omega (arith, few)
+few_names limit count (Some (Slot i)) cx left ends = absurd ends
+few_names limit count None cx left ends = let few = ends.0 in omega (arith, few)
 
 module _ {F A S : Type 0} (polled : ℕ → F → Poll A → F → Type 0) (steps : SourceSteps S) where
   -- what the set gave it might give, and what it may still give it might give before
@@ -101,33 +93,40 @@ module _ {F A S : Type 0} (polled : ℕ → F → Poll A → F → Type 0) (step
   pub set_still : (old new : Bounded (Numbered F) S) (answer : Poll (Option (ℕ × A))) → SetGives polled steps old answer new → (z : ℕ × A) → SetMayGive polled new z → SetMayGive polled old z
   set_still old new answer h z = poll_still (PollsNumbered polled) steps z old new answer h
 
-  -- a poll that gives an output takes as many names as the limit is at most, and leaves the limit
-  few_of_yield : (old new : Bounded (Numbered F) S) (out : ℕ × A) (h : SetGives polled steps old (Ready (Some out)) new) → names_taken (PollsNumbered polled) steps old (Ready (Some out)) new h ≤ old.limit
-  few_of_yield old new out h = let few = h.1.2.1 in omega (arith, few)
+module _ {R F W A S : Type 0} (rule : PollOneOf R F W A) (source : ReadySourceOf S W) where
+  -- the same, told of the set alone, and of the queue alone
+  pub set_gives_of : (old new : Bounded (Numbered F) S) (answer : Poll (Option (ℕ × A))) (cx left : Context) → PollsBounded (of_numbered rule) source old answer new cx left → SetGives rule.polled source.steps old answer new
+  set_gives_of old new answer cx left poll = gives_of (of_numbered rule) source source.steps.registers (λ a b h. h) old new answer cx left poll
 
-  few_of_pending : (old new : Bounded (Numbered F) S) (h : SetGives polled steps old Pending new) → names_taken (PollsNumbered polled) steps old Pending new h ≤ old.limit
-  few_of_pending old new h = few_names old.limit h.1.0 h.1.1 h.1.2
+  pub queue_gives_of : (old new : OrderedBounded F A S) (answer : Poll (Option A)) (cx left : Context) → PollsOrderedBounded rule source old answer new cx left → OrderedGives (SetGives rule.polled source.steps) held_in old answer new
+  queue_gives_of old new answer cx left poll = gives_alone (PollsBounded (of_numbered rule) source) (SetGives rule.polled source.steps) set_gives_of held_in old new answer cx left poll.gave
 
-  same_limit : (old new : Bounded (Numbered F) S) (out : ℕ × A) → SetGives polled steps old (Ready (Some out)) new → new.limit ≡ old.limit
-  same_limit old new out h = ap (λ (b : Bounded (Numbered F) S). b.limit) h.1.3 ∙ h.1.2.5
+  -- a poll takes as many names as the limit is at most
+  few_of_yield : (old new : Bounded (Numbered F) S) (out : ℕ × A) (cx left : Context) (h : PollsBounded (of_numbered rule) source old (Ready (Some out)) new cx left) → names_taken rule source old (Ready (Some out)) new cx left h ≤ old.limit
+  few_of_yield old new out cx left h = let few = h.gave.1.2.takes.ends.0 in omega (arith, few)
 
-  limit_of_row : (old : OrderedBounded F A S) (row : List (ℕ × A)) (new : OrderedBounded F A S) → FoldsTo (SetYields (SetGives polled steps)) old row new → new.set.limit ≡ old.set.limit
-  limit_of_row old [] new h = ap (λ (q : OrderedBounded F A S). q.set.limit) (sym h)
-  limit_of_row old (out ∷ row) new h = limit_of_row h.0 row new h.2 ∙ same_limit old.set h.0.set out h.1.gave
+  few_of_pending : (old new : Bounded (Numbered F) S) (cx left : Context) (h : PollsBounded (of_numbered rule) source old Pending new cx left) → names_taken rule source old Pending new cx left h ≤ old.limit
+  few_of_pending old new cx left h = let takes = h.gave.1.takes in few_names old.limit (length takes.names) takes.last _ _ takes.ends.1
 
-  few_of_row : (old : OrderedBounded F A S) (row : List (ℕ × A)) (new : OrderedBounded F A S) (h : FoldsTo (SetYields (SetGives polled steps)) old row new) → names_of_row polled steps old row new h ≤ old.set.limit * length row
+  limit_of_row : (old : Ordered (Bounded (Numbered F) S × Context) A) (row : List (ℕ × A)) (new : Ordered (Bounded (Numbered F) S × Context) A) → FoldsTo (SetYields (BesideTask (PollsBounded (of_numbered rule) source))) old row new → new.set.0.limit ≡ old.set.0.limit
+  limit_of_row old [] new h = ap (λ (q : Ordered (Bounded (Numbered F) S × Context) A). q.set.0.limit) (sym h)
+  limit_of_row old (out ∷ row) new h = limit_of_row h.0 row new h.2 ∙ h.1.gave.limit
+
+  few_of_row : (old : Ordered (Bounded (Numbered F) S × Context) A) (row : List (ℕ × A)) (new : Ordered (Bounded (Numbered F) S × Context) A) (h : FoldsTo (SetYields (BesideTask (PollsBounded (of_numbered rule) source))) old row new) → names_of_row rule source old row new h ≤ old.set.0.limit * length row
   few_of_row old [] new h = omega arith
   few_of_row old (out ∷ row) new h =
-      let more : names_of_row polled steps h.0 row new h.2 ≤ old.set.limit * length row = subst (λ limit. names_of_row polled steps h.0 row new h.2 ≤ limit * length row) (same_limit old.set h.0.set out h.1.gave) (few_of_row h.0 row new h.2) in
-      omega (arith, more, few_of_yield old.set h.0.set out h.1.gave, mul-suc old.set.limit (length row))
+      let more : names_of_row rule source h.0 row new h.2 ≤ old.set.0.limit * length row = subst (λ limit. names_of_row rule source h.0 row new h.2 ≤ limit * length row) h.1.gave.limit (few_of_row h.0 row new h.2) in
+      omega (arith, more, few_of_yield old.set.0 h.0.set.0 out old.set.1 h.0.set.1 h.1.gave, mul-suc old.set.0.limit (length row))
 
-  pub takes_few_names : TakesFewNames polled steps
-  takes_few_names old (Ready o) new h =
+  pub takes_few_names : TakesFewNames rule source
+  takes_few_names old (Ready o) new cx left poll =
+      let h = poll.gave in
       let fewer : length h.yielded ≤ held_in old.set = let count = h.count_left in omega (arith, count) in
-      omega (arith, few_of_row old h.yielded h.before h.row, mul-le-mul_left old.set.limit fewer)
-  takes_few_names old Pending new h =
-      let some : 0 < held_in h.before.set = h.last_step.1.0 in
+      omega (arith, few_of_row (with_task old cx) h.yielded h.before h.row, mul-le-mul_left old.set.limit fewer)
+  takes_few_names old Pending new cx left poll =
+      let h = poll.gave in
+      let some : 0 < held_in h.before.set.0 = h.last_step.1.gave.0 in
       let fewer : length h.yielded + 1 ≤ held_in old.set = let count = h.count_left in omega (arith, count, some) in
-      let last : names_taken (PollsNumbered polled) steps h.before.set Pending new.set h.last_step.1 ≤ old.set.limit = subst (λ limit. names_taken (PollsNumbered polled) steps h.before.set Pending new.set h.last_step.1 ≤ limit) (limit_of_row old h.yielded h.before h.row) (few_of_pending h.before.set new.set h.last_step.1) in
+      let last : names_taken rule source h.before.set.0 Pending new.set h.before.set.1 left h.last_step.1 ≤ old.set.limit = subst (λ limit. names_taken rule source h.before.set.0 Pending new.set h.before.set.1 left h.last_step.1 ≤ limit) (limit_of_row (with_task old cx) h.yielded h.before h.row) (few_of_pending h.before.set.0 new.set h.before.set.1 left h.last_step.1) in
       let times : old.set.limit * (length h.yielded + 1) ≡ old.set.limit * length h.yielded + old.set.limit = rw add-one (mul-suc old.set.limit (length h.yielded)) in
-      omega (arith, few_of_row old h.yielded h.before h.row, last, times, mul-le-mul_left old.set.limit fewer)
+      omega (arith, few_of_row (with_task old cx) h.yielded h.before h.row, last, times, mul-le-mul_left old.set.limit fewer)

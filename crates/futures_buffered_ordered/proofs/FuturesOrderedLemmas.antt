@@ -1,23 +1,26 @@
 -- How many futures with a number a set that grows holds, before and after its calls.
-use Rattle.std.proofs.Common.{◌≡◌, ℕ, ◌+◌, ◌<◌, [], Option, Some, ap, inl, inr, arith, ◌∙◌}
+use Rattle.std.proofs.Common.{◌≡◌, ℕ, ◌+◌, [], Option, Some, ap, inl, inr, arith, ◌∙◌}
 use Rattle.std.specs.List.{sum_by}
 use Rattle.std.proofs.lemmas.List.Sums.{sum_by-cons}
-use Rattle.futures.specs.Task.{Covers}
-use Rattle.futures.specs.Poll.{OnPending}
 use Rattle.futures.specs.declared.task.context.Context.{Context}
 use Rattle.futures.specs.declared.task.Poll.{Poll}
-use Rattle.futures.specs.declared.task.Poll.TheVariants.{Ready, Pending}
+use Rattle.futures.specs.declared.task.Poll.TheVariants.{Ready}
 use Rattle.futures_buffered_core.specs.ReadySource.{SourceSteps}
 use Rattle.futures_buffered_unordered.specs.FuturesUnorderedBounded.{Bounded, PollGives, held_in}
 use Rattle.futures_buffered_unordered.specs.Groups.{Groups, GroupsGive}
-use Rattle.futures_buffered_unordered.specs.FuturesUnordered.{AnyNeeds, EachCovered, Growing, IsNewGrowing, held_in_all}
-use Rattle.futures_buffered_unordered.proofs.FuturesUnorderedLemmas.{covered_of, new_holds_none}
+use Rattle.futures_buffered_unordered.specs.FuturesUnordered.{Growing, IsNewGrowing, held_in_all}
+use Rattle.futures_buffered_core.specs.declared.ready_source.ReadySource.{Ghosts as ReadySourceOf}
+use Rattle.futures_buffered_unordered.specs.declared.poll_one.PollOne.{Ghosts as PollOneOf}
+use Rattle.futures_buffered_unordered.specs.PollsGrowing.{PollsGrowing}
+use Rattle.futures_buffered_unordered.proofs.FuturesUnorderedLemmas.{new_holds_none}
 use Rattle.futures_buffered_unordered.proofs.FuturesUnorderedStreamLemmas.{gave, still}
 use Rattle.futures_buffered_unordered.proofs.FuturesUnorderedPollLemmas.{sum_left}
-use Rattle.futures_buffered_ordered.specs.Numbered.{PollsNumbered, held_with, outputs_with}
+use Rattle.futures_buffered_ordered.specs.Numbered.{PollsNumbered, held_with, of_numbered, outputs_with}
+use Rattle.futures_buffered_ordered.specs.OrderedEntries.{OrderedGives}
 use Rattle.futures_buffered_ordered.specs.declared.numbered.Numbered.{Numbered}
 use Rattle.futures_buffered_ordered.proofs.NumberedLemmas.{numbers_polled, numbers_ended, numbers_none, brings_none}
-use Rattle.futures_buffered_ordered.specs.FuturesOrdered.{held_in_groups, held_in_groups_with, GroupsGiveNumbered, GrowingMayGive}
+use Rattle.futures_buffered_ordered.specs.FuturesOrdered.{held_in_groups, held_in_groups_with, GrowingMayGive, OrderedGrowing, PollsOrderedGrowing}
+use Rattle.futures_buffered_ordered.proofs.OrderedEntriesLemmas.{gives_alone}
 
 module _ {F A S : Type 0} (i : ℕ) (polled : ℕ → F → Poll A → F → Type 0) (steps : SourceSteps S) where
   -- one poll of all groups
@@ -35,14 +38,17 @@ module _ {F S : Type 0} (made : ℕ → S → Type 0) (n limit : ℕ) (start : G
   new_held (inr h) = ap (λ (g : Growing (Numbered F) S). held_in_all g.groups.listed) h.1.2 ∙ omega (arith, sum_by-cons held_in h.1.0 [], (new_holds_none made n limit h.1.0 h.1.1).0)
 
 module _ {F A S : Type 0} (polled : ℕ → F → Poll A → F → Type 0) (steps : SourceSteps S) where
+  -- one poll of the groups, told of them alone
+  abbrev pub GroupsAlone : Growing (Numbered F) S → Poll (Option (ℕ × A)) → Growing (Numbered F) S → Type 0
+  GroupsAlone old answer new = GroupsGive (PollGives (PollsNumbered polled) steps) old.groups answer new.groups
+
   -- what the set gave it might give, and what it may still give it might give before
-  pub groups_gave : (old new : Growing (Numbered F) S) (out : ℕ × A) → GroupsGiveNumbered polled steps old (Ready (Some out)) new → GrowingMayGive polled old out
-  groups_gave old new out h = gave (PollsNumbered polled) steps old.groups new.groups out h.gives
+  pub groups_gave : (old new : Growing (Numbered F) S) (out : ℕ × A) → GroupsAlone old (Ready (Some out)) new → GrowingMayGive polled old out
+  groups_gave old new out h = gave (PollsNumbered polled) steps old.groups new.groups out h
 
-  pub groups_still : (old new : Growing (Numbered F) S) (answer : Poll (Option (ℕ × A))) → GroupsGiveNumbered polled steps old answer new → (z : ℕ × A) → GrowingMayGive polled new z → GrowingMayGive polled old z
-  groups_still old new answer h z = still (PollsNumbered polled) steps old.groups new.groups answer h.gives z
+  pub groups_still : (old new : Growing (Numbered F) S) (answer : Poll (Option (ℕ × A))) → GroupsAlone old answer new → (z : ℕ × A) → GrowingMayGive polled new z → GrowingMayGive polled old z
+  groups_still old new answer h z = still (PollsNumbered polled) steps old.groups new.groups answer h z
 
--- a task that is registered with each group, where one holds a future, hears of what any needs
-pub registered_of : {F A S : Type 0} (needs : S → ℕ → Type 0) (cx : Context) (answer : Poll (Option A)) (set : Growing (Numbered F) S) → OnPending answer (EachCovered needs cx set.groups.listed) → OnPending answer (0 < held_in_groups set) → OnPending answer (Covers cx (AnyNeeds needs set.groups.listed))
-registered_of needs cx (Ready o) set covered some = tt
-registered_of {A = A} needs cx Pending set covered some = covered_of needs cx {A = A} Pending set.groups.listed set.groups.listed covered (λ none. absurd (omega (arith, none, some))) (omega arith)
+-- one poll of the queue, told of it alone
+pub queue_gives_of : {R F W A S : Type 0} (rule : PollOneOf R F W A) (source : ReadySourceOf S W) (made : ℕ → S → Type 0) (old new : OrderedGrowing F A S) (answer : Poll (Option A)) (cx left : Context) → PollsOrderedGrowing rule source made old answer new cx left → OrderedGives (GroupsAlone rule.polled source.steps) held_in_groups old answer new
+queue_gives_of rule source made old new answer cx left poll = gives_alone (PollsGrowing (of_numbered rule) source) (GroupsAlone rule.polled source.steps) (λ a b given before after h. h.groups.gave) held_in_groups old new answer cx left poll.gave

@@ -8,7 +8,7 @@ use Rattle.futures.specs.declared.task.Poll.{Poll}
 use Rattle.futures.specs.declared.task.Poll.TheVariants.{Ready, Pending}
 use Rattle.futures.specs.Poll.{IfReady, OnPending}
 use Rattle.futures.specs.Runs.{Runs, After, Within, Chains, Leads, Ends}
-use Rattle.futures_buffered_ordered.specs.OrderedEntries.{Ordered, AddsBack, AddsEachBack, AddsFront, SetYields, LastStep, OrderedGives, GivesWithTask, with_task, InTurn, EntryGives, ComesInOrder, IsUnused, runs_with, starts_running}
+use Rattle.futures_buffered_ordered.specs.OrderedEntries.{Ordered, AddsBack, AddsEachBack, AddsFront, SetYields, LastStep, OrderedGives, BesideTask, with_task, InTurn, EntryGives, ComesInOrder, IsUnused, runs_with, starts_running}
 use Rattle.futures_buffered_ordered.specs.declared.ordered_entries.Entry.{Entry}
 use Rattle.futures_buffered_ordered.specs.declared.ordered_entries.Entry.TheVariants.{Running, Kept}
 use Rattle.futures_buffered_ordered.proofs.OrderedEntriesInvariantLemmas.{entry_with}
@@ -23,34 +23,42 @@ one_entry_more {A = A} pushes old new item added = ap (λ (l : List (Entry A)). 
 pub one_entry_more_before : {F Q A : Type 0} (pushes : Q → F → ℕ → Q → Type 0) (old new : Ordered Q A) (item : F) → AddsFront pushes old item new → length new.entries ≡ length old.entries + 1
 one_entry_more_before {A = A} pushes old new item added = let e = ap (λ (l : List (Entry A)). length l) added.2 in omega (arith, e)
 
--- how a poll ends, by what was popped
-pub last_from : {Q A : Type 0} (gives : Q → Poll (Option (ℕ × A)) → Q → Type 0) (old new : Ordered Q A) (o : Option A) → MatchOption o ((old.entries ≡ []) × (new ≡ old)) (λ x. (old.entries ≡ Kept x ∷ new.entries) × (new.room ≡ old.room)) → new.set ≡ old.set
-    → LastStep gives old (Ready o) new
-last_from gives old new None h same = h
-last_from gives old new (Some x) h same = (h.0, same, h.1)
+-- how a poll ends, by what was popped: the task is left alone
+pub last_from : {Q A : Type 0} (gives : Q → Poll (Option (ℕ × A)) → Q → Context → Context → Type 0) (old new : Ordered Q A) (cx : Context) (o : Option A) → MatchOption o ((old.entries ≡ []) × (new ≡ old)) (λ x. (old.entries ≡ Kept x ∷ new.entries) × (new.room ≡ old.room)) → new.set ≡ old.set
+    → LastStep (BesideTask gives) (with_task old cx) (Ready o) (with_task new cx)
+last_from {Q} {A} gives old new cx None h same = (h.0, ap (λ (q : Ordered Q A). with_task q cx) h.1)
+last_from {Q} {A} gives old new cx (Some x) h same = (h.0, ap (λ (set : Q). (set, cx)) same, h.1)
 
 -- a queue whose set stands beside its task, without the task
 abbrev pub without_task : {Q A : Type 0} → Ordered (Q × Context) A → Ordered Q A
 without_task q = record { set = q.set.0; entries = q.entries; room = q.room }
 
-module _ {Q A : Type 0} (gives : Q → Poll (Option (ℕ × A)) → Q → Type 0) (leaves : Q → Poll (Option (ℕ × A)) → Q → Context → Context → Type 0) where
-  -- what was given is the same without what is said of the task
-  pub row_without : (row : List (ℕ × A)) (old new : Ordered (Q × Context) A) → FoldsTo (SetYields (GivesWithTask gives leaves)) old row new → FoldsTo (SetYields gives) (without_task old) row (without_task new)
-  row_without [] old new same = ap (λ (q : Ordered (Q × Context) A). without_task q) same
-  row_without (out ∷ row) old new h =
+-- What a caller takes from the record of a poll, who speaks of the queue alone: `alone` says of one poll of the set what it says of more.
+module _ {Q A : Type 0} (gives : Q → Poll (Option (ℕ × A)) → Q → Context → Context → Type 0) (alone : Q → Poll (Option (ℕ × A)) → Q → Type 0)
+    (within : (old new : Q) (answer : Poll (Option (ℕ × A))) (cx left : Context) → gives old answer new cx left → alone old answer new) where
+  row_alone : (row : List (ℕ × A)) (old new : Ordered (Q × Context) A) → FoldsTo (SetYields (BesideTask gives)) old row new → FoldsTo (SetYields alone) (without_task old) row (without_task new)
+  row_alone [] old new same = ap (λ (q : Ordered (Q × Context) A). without_task q) same
+  row_alone (out ∷ row) old new h =
       let one = h.1 in (
         without_task h.0,
-        record { front_runs = one.front_runs; gave = one.gave.0; at = one.at; was_running = one.was_running; entries = one.entries; room = one.room },
-        row_without row h.0 new h.2,
+        record { front_runs = one.front_runs; gave = within old.set.0 h.0.set.0 (Ready (Some out)) old.set.1 h.0.set.1 one.gave; at = one.at; was_running = one.was_running; entries = one.entries; room = one.room },
+        row_alone row h.0 new h.2,
       )
 
-  pub pending_without : (old new : Ordered (Q × Context) A) → LastStep (GivesWithTask gives leaves) old Pending new → LastStep gives (without_task old) Pending (without_task new)
-  pending_without old new last = (last.0, last.1.0, last.2, last.3)
+  last_alone : (answer : Poll (Option A)) (old new : Ordered (Q × Context) A) → LastStep (BesideTask gives) old answer new → LastStep alone (without_task old) answer (without_task new)
+  last_alone (Ready None) old new last = (last.0, ap (λ (q : Ordered (Q × Context) A). without_task q) last.1)
+  last_alone (Ready (Some x)) old new last = (last.0, ap (λ (set : Q × Context). set.0) last.1, last.2)
+  last_alone Pending old new last = (last.0, within old.set.0 new.set.0 Pending old.set.1 new.set.1 last.1, last.2, last.3)
 
-  -- a last step that does not poll the set leaves the task
-  pub last_with_task : (old new : Ordered Q A) (cx : Context) (o : Option A) → LastStep gives old (Ready o) new → LastStep (GivesWithTask gives leaves) (with_task old cx) (Ready o) (with_task new cx)
-  last_with_task old new cx None last = (last.0, ap (λ (q : Ordered Q A). with_task q cx) last.1)
-  last_with_task old new cx (Some x) last = (last.0, ap (λ (set : Q). (set, cx)) last.1, last.2)
+  pub gives_alone : (count : Q → ℕ) (old new : Ordered Q A) (answer : Poll (Option A)) (cx left : Context) → OrderedGives (BesideTask gives) (λ set. count set.0) (with_task old cx) answer (with_task new left) → OrderedGives alone count old answer new
+  gives_alone count old new answer cx left h =
+      record {
+        yielded = h.yielded;
+        before = without_task h.before;
+        row = row_alone h.yielded (with_task old cx) h.before h.row;
+        count_left = h.count_left;
+        last_step = last_alone answer h.before (with_task new left) h.last_step;
+      }
 
 module _ {E A : Type 0} (may may' : E → A → Type 0) where
   -- entry by entry, what the new may give the old may give

@@ -1,20 +1,21 @@
 -- What a contract sees of an ordered queue that grows: the words on ordered queues at a set that
 -- grows.
-use Rattle.std.specs.Prelude.{◌≡◌, ℕ, Option}
+use Rattle.std.specs.Prelude.{◌≡◌, ℕ, Option, ⊤}
 use Rattle.std.specs.List.{sum_by}
 use Rattle.futures.specs.declared.task.context.Context.{Context}
 use Rattle.futures.specs.declared.task.Poll.{Poll}
 use Rattle.futures_buffered_table.specs.declared.answer.Woke.{Woke}
-use Rattle.futures_buffered_core.specs.ReadySource.{SourceSteps}
-use Rattle.futures_buffered_unordered.specs.FuturesUnorderedBounded.{AsksInPart, OnlyRegisters}
-use Rattle.futures_buffered_unordered.specs.FuturesUnorderedBounded.{PollAsksToEmpty, PollGives}
-use Rattle.futures_buffered_unordered.specs.Groups.{GroupsGive, GroupsLeaveTask}
-use Rattle.futures_buffered_unordered.specs.FuturesUnordered.{Growing, GrowingPushes, IsNewGrowing}
-use Rattle.futures_buffered_unordered.specs.FuturesUnordered.{EachHeld, held_in_all}
-use Rattle.futures_buffered_unordered.specs.FuturesUnordered.{AnyGroupMayGive}
+use Rattle.futures_buffered_unordered.specs.FuturesUnordered.{AnyGroupMayGive, AnyNeeds, Growing}
+use Rattle.futures_buffered_unordered.specs.FuturesUnordered.{EachHeld, GrowingPushes, IsNewGrowing}
+use Rattle.futures_buffered_unordered.specs.FuturesUnordered.{SetMayRefuse, SetRefuses, held_in_all}
+use Rattle.futures_buffered_core.specs.declared.ready_source.ReadySource.{Ghosts as ReadySourceOf}
+use Rattle.futures_buffered_unordered.specs.declared.poll_one.PollOne.{Ghosts as PollOneOf}
+use Rattle.futures_buffered_unordered.specs.PollsGrowing.{PollsGrowing}
 use Rattle.futures_buffered_unordered.specs.declared.futures_unordered.TheConstants.{FIRST_GROUP}
 use Rattle.futures_buffered_ordered.specs.Numbered.{CanPollFuture, PollsNumbered, held_with}
-use Rattle.futures_buffered_ordered.specs.OrderedEntries.{Ordered, IsNewQueue}
+use Rattle.futures_buffered_ordered.specs.Numbered.{of_numbered}
+use Rattle.futures_buffered_ordered.specs.OrderedEntries.{NumberedSetOf, Ordered, IsNewQueue}
+use Rattle.futures_buffered_ordered.specs.OrderedEntries.{PolledSet, PollsOrdered}
 use Rattle.futures_buffered_ordered.specs.declared.numbered.Numbered.{Numbered}
 
 -- the set that grows of numbered futures, the entries, and how many there is a place for
@@ -55,19 +56,35 @@ module _ {F A S : Type 0} (polled : ℕ → F → Poll A → F → Type 0) where
   abbrev pub GrowingMayGive : Growing (Numbered F) S → ℕ × A → Type 0
   GrowingMayGive set = AnyGroupMayGive (PollsNumbered polled) set.groups.listed
 
-  -- one poll of the set, whose output comes with its number
-  pub record GroupsGiveNumbered (steps : SourceSteps S)
-      (old : Growing (Numbered F) S) (answer : Poll (Option (ℕ × A)))
-      (new : Growing (Numbered F) S) : Type 0 where
-    pub gives : GroupsGive
-        (PollGives (PollsNumbered polled) steps) old.groups answer new.groups
-    pub same_limit : new.limit ≡ old.limit
+-- what the set that grows is to a queue over it
+abbrev pub growing_numbers : {F S W : Type 0} → ReadySourceOf S W → (ℕ → S → Type 0)
+    → NumberedSetOf (Growing (Numbered F) S) F
+growing_numbers source made = record {
+  count = held_in_groups;
+  with_number = held_in_groups_with;
+  pushes = GrowingPushesNumber source.marks made;
+  may_refuse = SetMayRefuse;
+  refuses = SetRefuses;
+  keeps = SameLimit;
+  takes = λ _. ⊤;
+  is_fit = λ _. ⊤;
+}
 
-  -- what it leaves of its task
-  abbrev pub GroupsLeaveTaskNumbered : SourceSteps S → (S → Context → Context → Type 0)
-      → Growing (Numbered F) S → Poll (Option (ℕ × A)) → Growing (Numbered F) S
-      → Context → Context → Type 0
-  GroupsLeaveTaskNumbered steps registers_poll old answer new =
-      GroupsLeaveTask (PollAsksToEmpty (PollsNumbered polled) steps)
-      (AsksInPart (PollsNumbered polled) steps) (OnlyRegisters registers_poll)
-      old.groups answer new.groups
+module _
+    {R F W A S : Type 0}
+    (rule : PollOneOf R F W A)
+    (source : ReadySourceOf S W)
+    (made : ℕ → S → Type 0)
+  where
+    -- how it is polled, where `rule` says how one future is
+    abbrev pub growing_polls : PolledSet (Growing (Numbered F) S) A
+    growing_polls = record {
+      can_poll = EachInProgress rule.can_poll;
+      gives = PollsGrowing (of_numbered rule) source;
+      needs = λ set. AnyNeeds source.needs set.groups.listed;
+    }
+
+    -- One poll of a queue that grows, over the queue and the task.
+    abbrev pub PollsOrderedGrowing : OrderedGrowing F A S → Poll (Option A) → OrderedGrowing F A S
+        → Context → Context → Type 0
+    PollsOrderedGrowing = PollsOrdered (growing_numbers source made) growing_polls

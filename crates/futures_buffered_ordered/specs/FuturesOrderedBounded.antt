@@ -1,7 +1,6 @@
 -- What a contract sees of a bounded ordered queue: the words on ordered queues at a bounded set.
-use Rattle.std.specs.Prelude.{◌≡◌, ◌⊎◌, ℕ, ◌+◌, ◌*◌, ◌≤◌, List, [], ◌∷◌, length, Option, Some}
+use Rattle.std.specs.Prelude.{◌≡◌, ℕ, ◌+◌, ◌*◌, ◌<◌, ◌≤◌, List, [], ◌∷◌, length, Option, Some, None, ⊤}
 use Rattle.std.specs.List.{FoldsTo}
-use Rattle.futures.specs.Task.{Covers}
 use Rattle.futures.specs.declared.task.context.Context.{Context}
 use Rattle.futures.specs.declared.task.Poll.{Poll}
 use Rattle.futures.specs.declared.task.Poll.TheVariants.{Ready, Pending}
@@ -10,12 +9,16 @@ use Rattle.futures_buffered_table.specs.declared.answer.Woke.{Woke}
 use Rattle.futures_buffered_core.specs.ReadySource.{SourceSteps}
 use Rattle.futures_buffered_unordered.specs.Held.{AllHeld, AnyMayGive}
 use Rattle.futures_buffered_unordered.specs.FuturesUnorderedBounded.{Bounded, IsNewSet, Pushes}
-use Rattle.futures_buffered_unordered.specs.FuturesUnorderedBounded.{PollGives, PollLeavesTask}
-use Rattle.futures_buffered_unordered.specs.FuturesUnorderedBounded.{IsWoken, SaidEmpty}
-use Rattle.futures_buffered_unordered.specs.FuturesUnorderedBounded.{held_in, names_taken, slots_in}
-use Rattle.futures_buffered_ordered.specs.Numbered.{CanPollFuture, PollsNumbered}
+use Rattle.futures_buffered_unordered.specs.FuturesUnorderedBounded.{PollGives, held_in, slots_in}
+use Rattle.futures_buffered_core.specs.declared.ready_source.ReadySource.{Ghosts as ReadySourceOf}
+use Rattle.futures_buffered_unordered.specs.declared.poll_one.PollOne.{Ghosts as PollOneOf}
+use Rattle.futures_buffered_unordered.specs.PollsBounded.{PollsBounded}
+use Rattle.futures_buffered_ordered.specs.Numbered.{CanPollFuture, PollsNumbered, held_with}
+use Rattle.futures_buffered_ordered.specs.Numbered.{of_numbered}
 use Rattle.futures_buffered_ordered.specs.OrderedEntries.{Ordered, IsNewQueue, AddsEachBack}
-use Rattle.futures_buffered_ordered.specs.OrderedEntries.{SetYields, LastStep, OrderedGives}
+use Rattle.futures_buffered_ordered.specs.OrderedEntries.{BesideTask, LastStep, NumberedSetOf}
+use Rattle.futures_buffered_ordered.specs.OrderedEntries.{PolledSet, PollsOrdered}
+use Rattle.futures_buffered_ordered.specs.OrderedEntries.{SetYields, with_task}
 use Rattle.futures_buffered_ordered.specs.declared.numbered.Numbered.{Numbered}
 
 -- the set of as many numbered futures as there are slots, the entries, and how many there is a
@@ -53,17 +56,6 @@ module _ {F S : Type 0} where
     -- there are as many slots as before
     pub capacity : slots_in new.set ≡ slots_in old.set
 
-  -- what a pending poll leaves of its task: it hears of the source, and it was asked to poll again
-  -- or no further name came
-  pub record SetPends
-      (steps : SourceSteps S)
-      (needs : S → ℕ → Type 0)
-      (left : Context)
-      (set : Bounded (Numbered F) S)
-      : Type 0 where
-    pub covered : Covers left (needs set.source)
-    pub woken : IsWoken left ⊎ SaidEmpty steps set.source
-
   -- as many futures are in progress as the queue has slots; outputs that are kept do not count
   abbrev pub QueueIsFull : {A : Type 0} → OrderedBounded F A S → Type 0
   QueueIsFull q = SetIsFull q.set
@@ -89,39 +81,74 @@ module _ {F A S : Type 0} (polled : ℕ → F → Poll A → F → Type 0) where
   abbrev pub SetMayGive : Bounded (Numbered F) S → ℕ × A → Type 0
   SetMayGive set = AnyMayGive (PollsNumbered polled) set.slots
 
-  module _ (steps : SourceSteps S) where
-    -- one poll of the set, whose output comes with its number
-    abbrev pub SetGives : Bounded (Numbered F) S → Poll (Option (ℕ × A)) → Bounded (Numbered F) S
-        → Type 0
-    SetGives = PollGives (PollsNumbered polled) steps
+  -- what one poll of the set gives, whose output comes with its number, told of the set alone
+  abbrev pub SetGives : SourceSteps S → Bounded (Numbered F) S → Poll (Option (ℕ × A))
+      → Bounded (Numbered F) S → Type 0
+  SetGives steps = PollGives (PollsNumbered polled) steps
 
-    -- what it leaves of its task
-    abbrev pub SetLeavesTask : (S → Context → Context → Type 0) → Bounded (Numbered F) S
-        → Poll (Option (ℕ × A)) → Bounded (Numbered F) S → Context → Context → Type 0
-    SetLeavesTask = PollLeavesTask (PollsNumbered polled) steps
+-- what the bounded set is to a queue over it
+abbrev pub bounded_numbers : {F S W : Type 0} → ReadySourceOf S W
+    → NumberedSetOf (Bounded (Numbered F) S) F
+bounded_numbers source = record {
+  count = held_in;
+  with_number = held_with;
+  pushes = PushesNumber source.marks;
+  may_refuse = SetIsFull;
+  refuses = SetIsFull;
+  keeps = SameSize;
+  takes = λ _. ⊤;
+  is_fit = λ _. ⊤;
+}
+
+module _
+    {R F W A S : Type 0}
+    (rule : PollOneOf R F W A)
+    (source : ReadySourceOf S W)
+  where
+    -- how it is polled, where `rule` says how one future is
+    abbrev pub bounded_polls : PolledSet (Bounded (Numbered F) S) A
+    bounded_polls = record {
+      can_poll = EachRunning rule.can_poll;
+      gives = PollsBounded (of_numbered rule) source;
+      needs = λ set n. (0 < held_in set) × source.needs set.source n;
+    }
+
+    -- One poll of a bounded queue, over the queue and the task.
+    abbrev pub PollsOrderedBounded : OrderedBounded F A S → Poll (Option A) → OrderedBounded F A S
+        → Context → Context → Type 0
+    PollsOrderedBounded = PollsOrdered (bounded_numbers source) bounded_polls
+
+    -- how many names one poll of the set took
+    abbrev pub names_taken : (old : Bounded (Numbered F) S) (answer : Poll (Option (ℕ × A)))
+        (new : Bounded (Numbered F) S) (cx left : Context)
+        → PollsBounded (of_numbered rule) source old answer new cx left → ℕ
+    names_taken old (Ready None) new cx left poll = 0
+    names_taken old (Ready (Some out)) new cx left poll = length poll.gave.1.2.takes.names + 1
+    names_taken old Pending new cx left poll = length poll.gave.1.takes.names
 
     -- how many names the polls of the set took that gave an output each
-    abbrev pub names_of_row : (old : OrderedBounded F A S) (row : List (ℕ × A))
-        (new : OrderedBounded F A S) → FoldsTo (SetYields SetGives) old row new → ℕ
+    abbrev pub names_of_row : (old : Ordered (Bounded (Numbered F) S × Context) A)
+        (row : List (ℕ × A)) (new : Ordered (Bounded (Numbered F) S × Context) A)
+        → FoldsTo (SetYields (BesideTask (PollsBounded (of_numbered rule) source))) old row new → ℕ
     names_of_row old [] new row = 0
     names_of_row old (out ∷ outs) new row =
-        names_taken (PollsNumbered polled) steps old.set
-        (Ready (Some out)) row.0.set row.1.gave
+        names_taken old.set.0 (Ready (Some out)) row.0.set.0 old.set.1 row.0.set.1 row.1.gave
         + names_of_row row.0 outs new row.2
 
     -- how many names the last step took, where the set was polled
-    abbrev pub names_of_last : (old : OrderedBounded F A S) (answer : Poll (Option A))
-        (new : OrderedBounded F A S) → LastStep SetGives old answer new → ℕ
+    abbrev pub names_of_last : (old : Ordered (Bounded (Numbered F) S × Context) A)
+        (answer : Poll (Option A)) (new : Ordered (Bounded (Numbered F) S × Context) A)
+        → LastStep (BesideTask (PollsBounded (of_numbered rule) source)) old answer new → ℕ
     names_of_last old (Ready _) new step = 0
     names_of_last old Pending new step =
-        names_taken (PollsNumbered polled) steps old.set Pending new.set step.1
+        names_taken old.set.0 Pending new.set.0 old.set.1 new.set.1 step.1
 
--- each poll takes at most as many names as the limit is, for each future that is in progress as it
--- begins
-abbrev pub TakesFewNames : {F A S : Type 0} → (ℕ → F → Poll A → F → Type 0) → SourceSteps S → Type 0
-TakesFewNames {F} {A} {S} polled steps =
-    (old : OrderedBounded F A S) (answer : Poll (Option A)) (new : OrderedBounded F A S)
-    → (poll : OrderedGives (SetGives polled steps) held_in old answer new)
-    → names_of_row polled steps old poll.yielded poll.before poll.row
-    + names_of_last polled steps poll.before answer new poll.last_step
-    ≤ old.set.limit * held_in old.set
+    -- each poll takes at most as many names as the limit is, for each future that is in progress as
+    -- it begins
+    abbrev pub TakesFewNames : Type 0
+    TakesFewNames = (old : OrderedBounded F A S) (answer : Poll (Option A))
+        (new : OrderedBounded F A S) (cx left : Context)
+        → (poll : PollsOrderedBounded old answer new cx left)
+        → names_of_row (with_task old cx) poll.gave.yielded poll.gave.before poll.gave.row
+        + names_of_last poll.gave.before answer (with_task new left) poll.gave.last_step
+        ≤ old.set.limit * held_in old.set

@@ -2,14 +2,16 @@
 -- set carry a number, and what the calls of any set of such futures make of it.
 use Rattle.std.specs.Prelude.{◌≡◌, ℕ, ◌+◌, ◌==◌, cond, Bool, false, Option, Some, None, count_by}
 use Rattle.std.specs.Prelude.{IfNone}
-use Rattle.futures.specs.Task.{Keeps}
+use Rattle.futures.specs.Task.{Covers, Keeps}
 use Rattle.futures.specs.Poll.{IfReady, OnPending}
 use Rattle.futures.specs.declared.task.context.Context.{Context}
 use Rattle.futures.specs.declared.task.Poll.{Poll}
 use Rattle.futures.specs.declared.task.Poll.TheVariants.{Ready, Pending}
 use Rattle.futures_buffered_unordered.specs.FuturesUnorderedBounded.{Bounded}
 use Rattle.futures_buffered_unordered.specs.Groups.{outputs_in}
+use Rattle.futures_buffered_unordered.specs.declared.poll_one.PollOne.{Ghosts as PollOneOf}
 use Rattle.futures_buffered_ordered.specs.declared.numbered.Numbered.{Numbered}
+use Rattle.futures_buffered_ordered.specs.declared.numbered.PollNumbered.{PollNumbered}
 
 -- the future may be polled
 abbrev pub CanPollFuture : {F : Type 0} → (F → Type 0) → Numbered F → Type 0
@@ -22,6 +24,15 @@ PollsNumbered polled slot old Pending new =
     polled slot old.future Pending new.future × (new.number ≡ old.number)
 PollsNumbered polled slot old (Ready (i, x)) new =
     polled slot old.future (Ready x) new.future × (new.number ≡ old.number) × (i ≡ old.number)
+
+-- the rule, for futures that carry a number
+abbrev pub of_numbered : {R F W A : Type 0} → PollOneOf R F W A
+    → PollOneOf (PollNumbered R) (Numbered F) W (ℕ × A)
+of_numbered rule = record {
+  can_poll = CanPollFuture rule.can_poll;
+  polled = PollsNumbered rule.polled;
+  goes_on = λ _. ⊥;
+}
 
 -- whether a slot holds a future with number i
 abbrev pub has_number : {F : Type 0} → ℕ → Option (Numbered F) → Bool
@@ -84,20 +95,15 @@ pub record PollsNumberedSet
   -- this stays of the set
   pub set : keeps old new
 
--- What that poll leaves of its task, which it took from cx to left: `pends` says what a pending one
--- leaves of it, and `made` what each one does.
+-- What that poll leaves of its task, which it took from cx to left: `needs` says where the set waits.
 pub record PollsNumberedTask
     {Q A : Type 0}
-    (pends : Context → Q → Type 0)
-    (made : Q → Poll (Option (ℕ × A)) → Q → Context → Context → Type 0)
-    (old : Q)
+    (needs : Q → ℕ → Type 0)
     (answer : Poll (Option (ℕ × A)))
     (new : Q)
     (cx left : Context)
     : Type 0 where
-  -- the task of a pending set is left so
-  pub waits : OnPending answer (pends left new)
-  -- by each answer, what the poll made of the task
-  pub leaves : made old answer new cx left
+  -- the task of a pending set hears of what it waits for
+  pub covered : OnPending answer (Covers left (needs new))
   -- nothing of the task is lost
   pub kept : Keeps cx left

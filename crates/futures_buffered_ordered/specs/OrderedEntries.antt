@@ -5,7 +5,7 @@ use Rattle.std.specs.Prelude.{◌≡◌, ◌≢◌, ◌⊎◌, ◌↔◌, ℕ, �
 use Rattle.std.specs.Prelude.{[], ◌∷◌, ◌++◌, length, Option, Some, None, count_by, slice_set, Result}
 use Rattle.std.specs.Prelude.{Err, IfErr, OnOk, OnErr, IsErr}
 use Rattle.std.specs.List.{FoldsTo, slice_get}
-use Rattle.futures.specs.Task.{Keeps}
+use Rattle.futures.specs.Task.{Covers, Keeps}
 use Rattle.futures.specs.Poll.{OnPending}
 use Rattle.futures.specs.declared.task.context.Context.{Context}
 use Rattle.futures.specs.declared.task.Poll.{Poll}
@@ -13,6 +13,7 @@ use Rattle.futures.specs.declared.task.Poll.TheVariants.{Ready, Pending}
 use Rattle.futures.specs.Runs.{Runs, Leads, Ends}
 use Rattle.futures_buffered_table.specs.declared.answer.NewFault.{NewFault}
 use Rattle.futures_buffered_table.specs.declared.answer.NewFault.TheVariants.{TooLarge}
+pub use Rattle.futures_buffered_ordered.specs.declared.numbered_set.NumberedSet.{Ghosts as NumberedSetOf}
 use Rattle.futures_buffered_ordered.specs.declared.ordered_entries.Entry.{Entry}
 use Rattle.futures_buffered_ordered.specs.declared.ordered_entries.Entry.TheVariants.{Running, Kept}
 use Rattle.futures_buffered_ordered.specs.declared.ordered_entries.TheConstants.{MAX_LEN}
@@ -94,26 +95,6 @@ module _ {Q A : Type 0} where
   abbrev pub QueueIsAtBound : (Q → Type 0) → Ordered Q A → Type 0
   QueueIsAtBound set_refuses q = (length q.entries ≡ MAX_LEN) ⊎ set_refuses q.set
 
-  -- What one poll, from old to new, leaves of a queue: `count` says how many futures its set holds,
-  -- and `keeps` what stays of the set.
-  pub record PollsQueue
-      {B : Type 0}
-      (can_poll : Q → Type 0)
-      (count : Q → ℕ)
-      (keeps : Q → Q → Type 0)
-      (old : Ordered Q A)
-      (answer : Poll B)
-      (new : Ordered Q A)
-      : Type 0 where
-    -- each future in progress can be polled again
-    pub pollable : can_poll new.set
-    -- a pending queue has a future in progress
-    pub holds : OnPending answer (0 < count new.set)
-    -- this stays of the set
-    pub set : keeps old.set new.set
-    -- there is a place for as many entries as before
-    pub room : new.room ≡ old.room
-
 -- A push from old to new that does not go in hands this back.
 pub record HandsBack
     {F Q A : Type 0}
@@ -130,38 +111,37 @@ pub record HandsBack
   pub may_refuse : MayRefuse set_may_refuse old
 
 -- What a push at an end, from old to new, makes of a queue: `adds` says what it is to go in at this
--- end, and `keeps` what stays of the set in any case.
+-- end, `AddsBack` or `AddsFront`, over the pushes of the set.
 module _
     {F Q A : Type 0}
-    (adds : Ordered Q A → F → Ordered Q A → Type 0)
-    (set_may_refuse set_refuses : Q → Type 0)
-    (keeps : Q → Q → Type 0)
+    (adds : (Q → F → ℕ → Q → Type 0) → Ordered Q A → F → Ordered Q A → Type 0)
+    (numbers : NumberedSetOf Q F)
     (old : Ordered Q A)
     (future : F)
   where
     -- a push that hands the future back where it is refused
     pub record PushesOrHandsBack (result : Result (Unit {0}) F) (new : Ordered Q A) : Type 0 where
       -- the future went in at this end
-      pub pushed : OnOk result (adds old future new)
+      pub pushed : OnOk result (adds numbers.pushes old future new)
       -- or it comes back, and no entry and no future has changed
-      pub back : IfErr result (λ back. HandsBack set_may_refuse old future back new)
+      pub back : IfErr result (λ back. HandsBack numbers.may_refuse old future back new)
       -- it comes back where nothing more goes in
-      pub large : QueueIsAtBound set_refuses old → IsErr result
+      pub large : QueueIsAtBound numbers.refuses old → IsErr result
       -- this stays of the set
-      pub set : keeps old.set new.set
+      pub set : numbers.keeps old.set new.set
 
     -- a push that drops the future where it is refused, and says why
     pub record AddsOrStays (result : Result (Unit {0}) NewFault) (new : Ordered Q A) : Type 0 where
       -- the future went in at this end
-      pub pushed : OnOk result (adds old future new)
+      pub pushed : OnOk result (adds numbers.pushes old future new)
       -- or no entry and no other future has changed
       pub stays : OnErr result (Stays old new)
       -- such a push may be refused
-      pub may_refuse : OnErr result (MayRefuse set_may_refuse old)
+      pub may_refuse : OnErr result (MayRefuse numbers.may_refuse old)
       -- it is `TooLarge` exactly where nothing more goes in
-      pub large : (result ≡ Err TooLarge) ↔ QueueIsAtBound set_refuses old
+      pub large : (result ≡ Err TooLarge) ↔ QueueIsAtBound numbers.refuses old
       -- this stays of the set
-      pub set : keeps old.set new.set
+      pub set : numbers.keeps old.set new.set
 
 module _ {F Q A : Type 0} (pushes : Q → F → ℕ → Q → Type 0) where
   -- the future went into the set, with a number that no entry in progress had
@@ -220,41 +200,59 @@ module _ {Q A : Type 0} (gives : Q → Poll (Option (ℕ × A)) → Q → Type 0
 abbrev pub with_task : {Q A : Type 0} → Ordered Q A → Context → Ordered (Q × Context) A
 with_task q cx = record { set = (q.set, cx); entries = q.entries; room = q.room }
 
+-- a poll of the set that stands beside its task
+abbrev pub BesideTask : {Q A : Type 0}
+    → (Q → Poll (Option (ℕ × A)) → Q → Context → Context → Type 0)
+    → Q × Context → Poll (Option (ℕ × A)) → Q × Context → Type 0
+BesideTask gives old answer new = gives old.0 answer new.0 old.1 new.1
+
+-- how a set of numbered futures is polled
+pub record PolledSet (Q A : Type 0) : Type 1 where
+  -- each future that is held may be polled
+  pub can_poll : Q → Type 0
+  -- one poll, that finds the set and the task, gives an answer and leaves them
+  pub gives : Q → Poll (Option (ℕ × A)) → Q → Context → Context → Type 0
+  -- where a set that is pending waits
+  pub needs : Q → ℕ → Type 0
+
 module _
-    {Q A : Type 0}
-    (gives : Q → Poll (Option (ℕ × A)) → Q → Type 0)
-    (set_leaves : Q → Poll (Option (ℕ × A)) → Q → Context → Context → Type 0)
+    {Q F A : Type 0}
+    (numbers : NumberedSetOf Q F)
+    (polls : PolledSet Q A)
   where
-    -- a poll of the set, and what it leaves of its task
-    abbrev pub GivesWithTask : Q × Context → Poll (Option (ℕ × A)) → Q × Context → Type 0
-    GivesWithTask old answer new =
-        gives old.0 answer new.0 × set_leaves old.0 answer new.0 old.1 new.1
+    -- What one poll leaves of a queue and of the task.
+    pub record LeavesQueue
+        {B : Type 0}
+        (old : Ordered Q A)
+        (answer : Poll B)
+        (new : Ordered Q A)
+        (cx left : Context)
+        : Type 0 where
+      -- this stays of the set, and a place for as many entries
+      pub set : numbers.keeps old.set new.set
+      pub room : new.room ≡ old.room
+      -- a pending queue has a future in progress
+      pub holds : OnPending answer (0 < numbers.count new.set)
+      -- who waits where: the task of a pending queue hears of what its set waits for
+      pub covered : OnPending answer (Covers left (polls.needs new.set))
+      -- nothing of the task is lost
+      pub kept : Keeps cx left
+      -- what may be polled again: each future in progress
+      pub pollable : polls.can_poll new.set
 
-    -- What one poll of a queue leaves of its task: what the polls of its set leave, one after
-    -- another. Where the set is not polled, the task is as it was.
-    abbrev pub OrderedLeavesTask : (Q → ℕ) → Ordered Q A → Poll (Option A) → Ordered Q A
-        → Context → Context → Type 0
-    OrderedLeavesTask count old answer new cx left = OrderedGives GivesWithTask
-        (λ set. count set.0) (with_task old cx) answer (with_task new left)
-
-    -- What one poll leaves of its task, which it took from cx to left: `pends` says what a pending
-    -- poll of the set leaves of it.
-    pub record PollsQueueTask
-        (count : Q → ℕ)
-        (pends : Context → Q → Type 0)
+    -- One poll, which took the queue from old to new and the task from cx to left.
+    pub record PollsOrdered
         (old : Ordered Q A)
         (answer : Poll (Option A))
         (new : Ordered Q A)
         (cx left : Context)
         : Type 0 where
-      -- the task of a pending queue is as the pending set leaves it
-      pub waits : OnPending answer (pends left new.set)
-      -- where the front is not in progress, the task is left alone
-      pub untouched : starts_running old.entries ≡ false → left ≡ cx
-      -- the polls of the set, one after another, made this of the task
-      pub leaves : OrderedLeavesTask count old answer new cx left
-      -- nothing of the task is lost
-      pub kept : Keeps cx left
+      -- what came, and who is woken: polls of the set that each gave an output, which its entry
+      -- keeps, and then the last step
+      pub gave : OrderedGives (BesideTask polls.gives) (λ set. numbers.count set.0)
+          (with_task old cx) answer (with_task new left)
+      -- what stays, who waits where, and what may be polled again
+      pub queue : LeavesQueue old answer new cx left
 
 -- an output of each, in order, and then the end
 abbrev pub InTurn : {E A : Type 0} → (E → A → Type 0) → List E → Runs A

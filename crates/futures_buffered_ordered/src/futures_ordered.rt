@@ -5,10 +5,12 @@ ghost use Rattle.std.specs.Prelude.{◌≡◌, ◌↔◌, ◌≤◌, [], length,
 ghost use Rattle.futures_buffered_core.specs.Drawn.{IsFiniteSource};
 ghost use Rattle.futures_buffered_core.specs.Made.{MakesGroup};
 ghost use Rattle.futures_buffered_core.specs.ReadyShared.{IsNewShared, MarksShared};
-ghost use Rattle.futures_buffered_unordered.specs.FuturesUnordered.{EachCovered, SetMayRefuse, SetRefuses, no_groups};
+ghost use Rattle.futures_buffered_unordered.specs.FuturesUnordered.{AnyNeeds, SetMayRefuse, SetRefuses, no_groups};
+ghost use Rattle.futures_buffered_unordered.specs.PollsGrowing.{PollsGrowing};
 ghost use Rattle.futures_buffered_unordered.specs.Extended.{Extends, MakesGrown};
-ghost use Rattle.futures_buffered_ordered.specs.OrderedEntries.{AddsBack, AddsFront, AddsOrStays, IsLength, OrderedGives, PollsQueue, PollsQueueTask, PushesOrHandsBack, QueueIsAtBound, RefusesOne, without_entries};
-ghost use Rattle.futures_buffered_ordered.specs.FuturesOrdered.{EachInProgress, GrowingPushesNumber, GroupsGiveNumbered, GroupsLeaveTaskNumbered, IsNewGrowingQueue, SameLimit, held_in_groups, held_in_groups_with};
+ghost use Rattle.futures_buffered_ordered.specs.OrderedEntries.{AddsBack, AddsFront, AddsOrStays, IsLength, PushesOrHandsBack, QueueIsAtBound, RefusesOne, without_entries};
+ghost use Rattle.futures_buffered_ordered.specs.FuturesOrdered.{EachInProgress, GrowingPushesNumber, IsNewGrowingQueue, PollsOrderedGrowing, SameLimit, growing_numbers, held_in_groups, held_in_groups_with};
+ghost use Rattle.futures_buffered_ordered.specs.Numbered.{of_numbered};
 
 use crate::numbered::{Numbered, PollNumbered};
 use crate::numbered_set::{NumberedSet, PollNumberedSet};
@@ -74,11 +76,9 @@ impl<T: Drop, S: NewSource, R: PollOne<T, S::Waker>> PollNumberedSet<R>
 
     ghost can_poll = { EachInProgress R.can_poll };
 
-    ghost gives = { GroupsGiveNumbered R.polled S.steps };
+    ghost gives = { PollsGrowing (of_numbered R.PollOne) S.ReadySource };
 
-    ghost pends = { λ left set. EachCovered S.needs left set.groups.listed };
-
-    ghost leaves = { GroupsLeaveTaskNumbered R.polled S.steps S.registers_poll };
+    ghost needs = { λ set. AnyNeeds S.needs set.groups.listed };
 
     fn poll_numbered(
         &mut self,
@@ -141,24 +141,24 @@ impl<T: Drop, A: Drop, S: NewSource> GrowingQueue<T, A, S> {
     ///
     /// The future comes back where the queue has `MAX_LEN` entries, where the set refuses it, and where a request for memory was refused; no entry and no future has changed then. Asks for memory only where there are as many entries as places for them, and where the last group is full. Polls nothing. A caller should count on no wake from it, though one that makes a group may wake the task that waits.
     pub fn push_back(&mut self, future: T) -> Result<(), T>
-        ensures { PushesOrHandsBack (AddsBack (GrowingPushesNumber S.marks S.made))
-            SetMayRefuse SetRefuses SameLimit self.old future result self.new }
+        ensures { PushesOrHandsBack AddsBack (growing_numbers S.ReadySource S.made)
+            self.old future result self.new }
     {
         self.queue.add_back(future)
     }
 
     /// As `push_back`, before all others: its output is the next to be yielded.
     pub fn push_front(&mut self, future: T) -> Result<(), T>
-        ensures { PushesOrHandsBack (AddsFront (GrowingPushesNumber S.marks S.made))
-            SetMayRefuse SetRefuses SameLimit self.old future result self.new }
+        ensures { PushesOrHandsBack AddsFront (growing_numbers S.ReadySource S.made)
+            self.old future result self.new }
     {
         self.queue.add_front(future)
     }
 
     /// As `push_back`, for a caller that has no use for a future that is refused: it is dropped, no entry and no other future has changed, and the error says why. So `?` takes it.
     pub fn add_back(&mut self, future: T) -> Result<(), NewFault>
-        ensures { AddsOrStays (AddsBack (GrowingPushesNumber S.marks S.made))
-            SetMayRefuse SetRefuses SameLimit self.old future result self.new }
+        ensures { AddsOrStays AddsBack (growing_numbers S.ReadySource S.made)
+            self.old future result self.new }
     {
         let Ok(()) = self.push_back(future) else {
             return Err(self.fault());
@@ -168,8 +168,8 @@ impl<T: Drop, A: Drop, S: NewSource> GrowingQueue<T, A, S> {
 
     /// As `add_back`, before all others: its output is the next to be yielded.
     pub fn add_front(&mut self, future: T) -> Result<(), NewFault>
-        ensures { AddsOrStays (AddsFront (GrowingPushesNumber S.marks S.made))
-            SetMayRefuse SetRefuses SameLimit self.old future result self.new }
+        ensures { AddsOrStays AddsFront (growing_numbers S.ReadySource S.made)
+            self.old future result self.new }
     {
         let Ok(()) = self.push_front(future) else {
             return Err(self.fault());
@@ -206,13 +206,7 @@ impl<T: Drop, A: Drop, S: NewSource> GrowingQueue<T, A, S> {
         cx: &mut Context<'_>,
     ) -> Poll<Option<A>>
         requires { EachInProgress R.can_poll self.old.set }
-        ensures polled { OrderedGives (GroupsGiveNumbered R.polled S.steps) held_in_groups
-            self.old result self.new }
-        ensures queue { PollsQueue (EachInProgress R.can_poll) held_in_groups SameLimit
-            self.old result self.new }
-        ensures task { PollsQueueTask (GroupsGiveNumbered R.polled S.steps)
-            (GroupsLeaveTaskNumbered R.polled S.steps S.registers_poll) held_in_groups
-            (λ left set. EachCovered S.needs left set.groups.listed)
+        ensures { PollsOrderedGrowing R.PollOne S.ReadySource S.made
             self.old result self.new cx.old cx.new }
     {
         self.queue.poll_entries(rule, cx)

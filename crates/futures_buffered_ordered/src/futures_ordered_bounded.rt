@@ -8,9 +8,10 @@ ghost use Rattle.futures_buffered_core.specs.ReadyShared.{IsNewShared, MarksShar
 ghost use Rattle.futures_buffered_core.specs.SlotMap.{slot_count};
 ghost use Rattle.futures_buffered_unordered.specs.FuturesUnorderedBounded.{emptied, held_in, slots_in};
 ghost use Rattle.futures_buffered_unordered.specs.Extended.{Extends, MakesFull};
-ghost use Rattle.futures_buffered_ordered.specs.Numbered.{held_with};
-ghost use Rattle.futures_buffered_ordered.specs.OrderedEntries.{AddsBack, AddsFront, IsLength, OrderedGives, PollsQueue, PollsQueueTask, PushesOrHandsBack, RefusesOne, without_entries};
-ghost use Rattle.futures_buffered_ordered.specs.FuturesOrderedBounded.{EachRunning, HoldsInOrder, IsNewBoundedQueue, PushesEntry, PushesNumber, QueueIsFull, SameSize, SetGives, SetIsFull, SetLeavesTask, SetPends, TakesFewNames};
+ghost use Rattle.futures_buffered_unordered.specs.PollsBounded.{PollsBounded};
+ghost use Rattle.futures_buffered_ordered.specs.Numbered.{held_with, of_numbered};
+ghost use Rattle.futures_buffered_ordered.specs.OrderedEntries.{AddsBack, AddsFront, IsLength, PushesOrHandsBack, RefusesOne, without_entries};
+ghost use Rattle.futures_buffered_ordered.specs.FuturesOrderedBounded.{EachRunning, HoldsInOrder, IsNewBoundedQueue, PollsOrderedBounded, PushesEntry, PushesNumber, QueueIsFull, SameSize, SetIsFull, TakesFewNames, bounded_numbers};
 
 use crate::numbered::{Numbered, PollNumbered};
 use crate::numbered_set::{NumberedSet, PollNumberedSet};
@@ -79,11 +80,9 @@ impl<T: Drop, S: ReadySource, R: PollOne<T, S::Waker>> PollNumberedSet<R>
 
     ghost can_poll = { EachRunning R.can_poll };
 
-    ghost gives = { SetGives R.polled S.steps };
+    ghost gives = { PollsBounded (of_numbered R.PollOne) S.ReadySource };
 
-    ghost pends = { SetPends S.steps S.needs };
-
-    ghost leaves = { SetLeavesTask R.polled S.steps S.registers_poll };
+    ghost needs = { λ set n. (0 < held_in set) × S.needs set.source n };
 
     fn poll_numbered(
         &mut self,
@@ -172,8 +171,8 @@ impl<T: Drop, A: Drop, S: ReadySource> BoundedQueue<T, A, S> {
     ///
     /// The future comes back, and no entry has changed, where the queue is full, where it has `MAX_LEN` entries, and where a request for memory was refused. Asks for memory only where there are as many entries as places for them, which are never fewer than the slots: so it succeeds wherever `len` is below `capacity`. Polls nothing, and wakes nobody.
     pub fn try_push_back(&mut self, future: T) -> Result<(), T>
-        ensures push { PushesOrHandsBack (AddsBack (PushesNumber S.marks)) SetIsFull SetIsFull
-            SameSize self.old future result self.new }
+        ensures push { PushesOrHandsBack AddsBack (bounded_numbers S.ReadySource)
+            self.old future result self.new }
         ensures room { length self.old.entries < slot_count self.old.set.slots → IsOk result }
     {
         self.queue.add_back(future)
@@ -181,8 +180,8 @@ impl<T: Drop, A: Drop, S: ReadySource> BoundedQueue<T, A, S> {
 
     /// As `try_push_back`, before all others: its output is the next to be yielded.
     pub fn try_push_front(&mut self, future: T) -> Result<(), T>
-        ensures push { PushesOrHandsBack (AddsFront (PushesNumber S.marks)) SetIsFull SetIsFull
-            SameSize self.old future result self.new }
+        ensures push { PushesOrHandsBack AddsFront (bounded_numbers S.ReadySource)
+            self.old future result self.new }
         ensures room { length self.old.entries < slot_count self.old.set.slots → IsOk result }
     {
         self.queue.add_front(future)
@@ -239,13 +238,8 @@ impl<T: Drop, A: Drop, S: ReadySource> BoundedQueue<T, A, S> {
         cx: &mut Context<'_>,
     ) -> Poll<Option<A>>
         requires { EachRunning R.can_poll self.old.set }
-        ensures polled { OrderedGives (SetGives R.polled S.steps) held_in
-            self.old result self.new }
-        ensures queue { PollsQueue (EachRunning R.can_poll) held_in SameSize
-            self.old result self.new }
-        ensures task { PollsQueueTask (SetGives R.polled S.steps)
-            (SetLeavesTask R.polled S.steps S.registers_poll) held_in
-            (SetPends S.steps S.needs) self.old result self.new cx.old cx.new }
+        ensures { PollsOrderedBounded R.PollOne S.ReadySource
+            self.old result self.new cx.old cx.new }
     {
         self.queue.poll_entries(rule, cx)
     }
@@ -255,7 +249,7 @@ impl<T: Drop, A: Drop, S: ReadySource> BoundedQueue<T, A, S> {
 ///
 /// This is of the words that the contract of a poll says. Nothing is done.
 pub fn polls_take_few_names<T, S: ReadySource, R: PollOne<T, S::Waker>>()
-    ensures { TakesFewNames R.polled S.steps }
+    ensures { TakesFewNames R.PollOne S.ReadySource }
 {}
 
 impl<T: Drop, A: Drop, S: NewSource> BoundedQueue<T, A, S>

@@ -67,14 +67,11 @@ pub trait PollNumberedSet<R>: NumberedSet {
     // Each future that is held may be polled.
     ghost can_poll: { Self → Type 0 };
 
-    // One poll, that finds the set, gives an answer and leaves it.
-    ghost gives: { Self → Poll (Option (ℕ × Self.Output)) → Self → Type 0 };
+    // One poll, that finds the set and the task, gives an answer and leaves them.
+    ghost gives: { Self → Poll (Option (ℕ × Self.Output)) → Self → Context → Context → Type 0 };
 
-    // What a pending poll leaves of the task and the set.
-    ghost pends: { Context → Self → Type 0 };
-
-    // What a poll leaves of its task.
-    ghost leaves: { Self → Poll (Option (ℕ × Self.Output)) → Self → Context → Context → Type 0 };
+    // Where a set that is pending waits.
+    ghost needs: { Self → ℕ → Type 0 };
 
     /// One poll of the set. `Ready(None)` where nothing is held. Takes no memory but what the calls of its sources take.
     fn poll_numbered(
@@ -83,8 +80,8 @@ pub trait PollNumberedSet<R>: NumberedSet {
         cx: &mut Context<'_>,
     ) -> Poll<Option<(usize, Self::Output)>>
         requires { can_poll self.old }
-        ensures gave { gives self.old result self.new }
+        ensures gave { gives self.old result self.new cx.old cx.new }
         ensures set { PollsNumberedSet can_poll Self.count Self.with_number Self.keeps
             self.old result self.new }
-        ensures task { PollsNumberedTask pends leaves self.old result self.new cx.old cx.new };
+        ensures task { PollsNumberedTask needs result self.new cx.old cx.new };
 }

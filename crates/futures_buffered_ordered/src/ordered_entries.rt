@@ -2,12 +2,11 @@
 //!
 //! Pushes add an entry at either end. A poll yields the front alone: an output that comes before its turn is kept in its entry.
 ghost use Rattle.std.specs.Prelude.{◌≡◌, ◌↔◌, ◌<◌, ◌≤◌, ◌+◌, ℕ, [], ◌∷◌, length, true, false, IfOk, IfErr, OnOk, IsOk, IsErr, IsTrue, MatchOption};
-ghost use Rattle.futures.specs.Task.{Keeps};
 ghost use Rattle.futures.specs.Poll.{IfReady, OnPending};
 ghost use Rattle.futures_buffered_core.specs.Drawn.{IsFiniteSource};
 ghost use Rattle.futures_buffered_unordered.specs.Extended.{Extends};
 ghost use Rattle.futures_buffered_ordered.specs.declared.ordered_entries.Entry.TheVariants.{Kept};
-ghost use Rattle.futures_buffered_ordered.specs.OrderedEntries.{AddsBack, AddsFront, GivesWithTask, HandsBack, LastStep, MayRefuse, OrderedGives, PollsQueue, PollsQueueTask, PushesOrHandsBack, QueueIsAtBound, RefusesOne, SetYields, Stays, starts_running, with_task, without_entries};
+ghost use Rattle.futures_buffered_ordered.specs.OrderedEntries.{AddsBack, AddsFront, BesideTask, HandsBack, LastStep, LeavesQueue, MayRefuse, PollsOrdered, PushesOrHandsBack, QueueIsAtBound, RefusesOne, SetYields, Stays, starts_running, with_task, without_entries};
 ghost use Rattle.futures_buffered_ordered.specs.OrderedEntriesInvariant.{AddingKeeps, Admits, CanPollEntries, IsNumbered};
 
 use crate::numbered::Numbered;
@@ -164,7 +163,7 @@ impl<Q: NumberedSet, A: Drop> OrderedEntries<Q, A> {
         requires numbered { IsNumbered Q.with_number Q.count self.old }
         requires held { Q.takes self.old.queue.set }
         requires fit { Q.is_fit future }
-        ensures push { PushesOrHandsBack (AddsBack Q.pushes) Q.may_refuse Q.refuses Q.keeps
+        ensures push { PushesOrHandsBack AddsBack Q.NumberedSet
             self.old.queue future result self.new.queue }
         ensures keeps { AddingKeeps Q.with_number Q.count Q.keeps self.old self.new }
         ensures again { Q.takes self.new.queue.set }
@@ -180,7 +179,7 @@ impl<Q: NumberedSet, A: Drop> OrderedEntries<Q, A> {
         requires numbered { IsNumbered Q.with_number Q.count self.old }
         requires held { Q.takes self.old.queue.set }
         requires fit { Q.is_fit future }
-        ensures push { PushesOrHandsBack (AddsFront Q.pushes) Q.may_refuse Q.refuses Q.keeps
+        ensures push { PushesOrHandsBack AddsFront Q.NumberedSet
             self.old.queue future result self.new.queue }
         ensures keeps { AddingKeeps Q.with_number Q.count Q.keeps self.old self.new }
         ensures again { Q.takes self.new.queue.set }
@@ -237,16 +236,14 @@ impl<Q: NumberedSet, A: Drop> OrderedEntries<Q, A> {
         requires can { CanPollEntries Q.can_poll Q.with_number Q.count self.old }
         requires runs { starts_running self.old.queue.entries ≡ true }
         ensures gave { IfReady result (λ _. (out : ℕ × A)
-            × SetYields (GivesWithTask Q.gives Q.leaves)
+            × SetYields (BesideTask Q.gives)
             (with_task self.old.queue cx.old) out (with_task self.new.queue cx.new)) }
-        ensures waits { OnPending result (LastStep (GivesWithTask Q.gives Q.leaves)
+        ensures waits { OnPending result (LastStep (BesideTask Q.gives)
             (with_task self.old.queue cx.old) Poll.Pending (with_task self.new.queue cx.new)) }
         ensures fewer { IfReady result (λ _.
             Q.count self.new.queue.set + 1 ≡ Q.count self.old.queue.set) }
-        ensures queue { PollsQueue Q.can_poll Q.count Q.keeps
-            self.old.queue result self.new.queue }
-        ensures pends { OnPending result (Q.pends cx.new self.new.queue.set) }
-        ensures kept { Keeps cx.old cx.new }
+        ensures queue { LeavesQueue Q.NumberedSet (record { can_poll = Q.can_poll; gives = Q.gives; needs = Q.needs })
+            self.old.queue result self.new.queue cx.old cx.new }
         ensures numbered { IsNumbered Q.with_number Q.count self.new }
     {
         match self.set.poll_numbered(rule, cx) {
@@ -267,10 +264,7 @@ impl<Q: NumberedSet, A: Drop> OrderedEntries<Q, A> {
     where
         Q: PollNumberedSet<R, Output = A>,
         requires { CanPollEntries Q.can_poll Q.with_number Q.count self.old }
-        ensures polled { OrderedGives Q.gives Q.count self.old.queue result self.new.queue }
-        ensures queue { PollsQueue Q.can_poll Q.count Q.keeps
-            self.old.queue result self.new.queue }
-        ensures task { PollsQueueTask Q.gives Q.leaves Q.count Q.pends
+        ensures polls { PollsOrdered Q.NumberedSet (record { can_poll = Q.can_poll; gives = Q.gives; needs = Q.needs })
             self.old.queue result self.new.queue cx.old cx.new }
         ensures numbered { IsNumbered Q.with_number Q.count self.new }
     {

@@ -1,9 +1,10 @@
 //! The ordered queue that grows as a stream, which says how much is left and whether it has ended.
 ghost use Rattle.std.specs.Prelude.{◌≡◌, length};
 ghost use Rattle.futures_buffered_unordered.specs.StreamAnswers.{StreamAnswers};
-ghost use Rattle.futures_buffered_unordered.specs.FuturesUnordered.{AnyNeeds, EachCovered};
-ghost use Rattle.futures_buffered_ordered.specs.OrderedEntries.{ComesInOrder, OrderedGives, PollsQueue, PollsQueueTask};
-ghost use Rattle.futures_buffered_ordered.specs.FuturesOrdered.{EachInProgress, GroupsGiveNumbered, GroupsLeaveTaskNumbered, GrowingMayGive, SameLimit, held_in_groups};
+ghost use Rattle.futures_buffered_unordered.specs.FuturesUnordered.{AnyNeeds};
+ghost use Rattle.futures_buffered_unordered.specs.PollsBounded.{itself};
+ghost use Rattle.futures_buffered_ordered.specs.OrderedEntries.{ComesInOrder};
+ghost use Rattle.futures_buffered_ordered.specs.FuturesOrdered.{EachInProgress, GrowingMayGive, PollsOrderedGrowing};
 
 use crate::futures_ordered::GrowingQueue;
 use futures::Stream;
@@ -31,16 +32,10 @@ where
     /// One poll, as `poll_with` by the rule that polls the future itself.
     fn poll_next(&mut self, cx: &mut Context<'_>) -> Poll<Option<A>>
         requires { EachInProgress T.can_poll self.old.set }
-        ensures polled { OrderedGives (GroupsGiveNumbered T.polled S.steps) held_in_groups
-            self.old result self.new }
         ensures stream { StreamAnswers ⟦<GrowingQueue<T, A, S> as Stream>⟧
             self.old result self.new cx.old cx.new }
-        ensures queue { PollsQueue (EachInProgress T.can_poll) held_in_groups SameLimit
-            self.old result self.new }
-        ensures task { PollsQueueTask (GroupsGiveNumbered T.polled S.steps)
-            (GroupsLeaveTaskNumbered T.polled S.steps S.registers_poll) held_in_groups
-            (λ left set. EachCovered S.needs left set.groups.listed)
-            self.old result self.new cx.old cx.new }
+        ensures polls { PollsOrderedGrowing (itself T.SlotFuture)
+            S.ReadySource S.made self.old result self.new cx.old cx.new }
     {
         self.poll_with(&PollFuture, cx)
     }

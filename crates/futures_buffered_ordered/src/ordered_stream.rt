@@ -2,8 +2,9 @@
 ghost use Rattle.std.specs.Prelude.{◌<◌, length};
 ghost use Rattle.futures_buffered_unordered.specs.StreamAnswers.{StreamAnswers};
 ghost use Rattle.futures_buffered_unordered.specs.FuturesUnorderedBounded.{held_in};
-ghost use Rattle.futures_buffered_ordered.specs.OrderedEntries.{ComesInOrder, OrderedGives, PollsQueue, PollsQueueTask};
-ghost use Rattle.futures_buffered_ordered.specs.FuturesOrderedBounded.{EachRunning, SameSize, SetGives, SetLeavesTask, SetMayGive, SetPends};
+ghost use Rattle.futures_buffered_unordered.specs.PollsBounded.{itself};
+ghost use Rattle.futures_buffered_ordered.specs.OrderedEntries.{ComesInOrder};
+ghost use Rattle.futures_buffered_ordered.specs.FuturesOrderedBounded.{EachRunning, PollsOrderedBounded, SetMayGive};
 
 use crate::futures_ordered_bounded::BoundedQueue;
 use futures::Stream;
@@ -31,15 +32,10 @@ where
     /// One poll, as `poll_with` by the rule that polls the future itself.
     fn poll_next(&mut self, cx: &mut Context<'_>) -> Poll<Option<A>>
         requires { EachRunning T.can_poll self.old.set }
-        ensures polled { OrderedGives (SetGives T.polled S.steps) held_in
-            self.old result self.new }
         ensures stream { StreamAnswers ⟦<BoundedQueue<T, A, S> as Stream>⟧
             self.old result self.new cx.old cx.new }
-        ensures queue { PollsQueue (EachRunning T.can_poll) held_in SameSize
-            self.old result self.new }
-        ensures task { PollsQueueTask (SetGives T.polled S.steps)
-            (SetLeavesTask T.polled S.steps S.registers_poll) held_in
-            (SetPends S.steps S.needs) self.old result self.new cx.old cx.new }
+        ensures polls { PollsOrderedBounded (itself T.SlotFuture) S.ReadySource
+            self.old result self.new cx.old cx.new }
     {
         self.poll_with(&PollFuture, cx)
     }

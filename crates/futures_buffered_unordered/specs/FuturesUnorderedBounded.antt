@@ -244,13 +244,6 @@ module _
     PollLeavesTask registers_poll old Pending new cx left =
         LeavesTask registers_poll old new cx left
 
-    -- how many names a poll took
-    abbrev pub names_taken : (old : Bounded F S) (answer : Poll (Option A)) (new : Bounded F S)
-        → PollGives old answer new → ℕ
-    names_taken old (Ready None) new poll = 0
-    names_taken old (Ready (Some x)) new poll = length poll.1.2.0 + 1
-    names_taken old Pending new poll = length poll.1.0
-
 -- What one count of names, from old to new, leaves of a set. `continues` says after which outputs
 -- the value may be polled again.
 pub record AsksSet

@@ -1,6 +1,6 @@
 -- What one poll of a bounded set makes of the set and of the task that polls it. A clause names the
--- rule and the source by the ghost members of their types: `R.PollOne S.ReadySource`, or
--- by a quote, `⟦<PollFuture as PollOne<F, S::Waker>>⟧`.
+-- rule and the source by the ghost members of their types: `R.PollOne S.ReadySource`, or, where each
+-- future is polled itself, `(itself F.SlotFuture) S.ReadySource`.
 use Rattle.std.specs.Prelude.{◌≡◌, ℕ, ◌+◌, ◌<◌, List, ◌++◌, map, length, Option, Some, None, OnSome, is_some}
 use Rattle.std.specs.List.{FoldsTo}
 use Rattle.std.specs.Option.{option_to_list}
@@ -13,9 +13,19 @@ use Rattle.futures_buffered_table.specs.declared.answer.Taken.{Taken}
 use Rattle.futures_buffered_table.specs.declared.answer.Taken.TheVariants.{Slot, Empty, Pause}
 pub use Rattle.futures_buffered_core.specs.declared.ready_source.ReadySource.{Ghosts as ReadySourceOf}
 use Rattle.futures_buffered_core.specs.SlotMap.{Slots, value_in}
+use Rattle.futures_buffered_unordered.specs.declared.poll_one.PollFuture.{PollFuture}
 pub use Rattle.futures_buffered_unordered.specs.declared.poll_one.PollOne.{Ghosts as PollOneOf}
+pub use Rattle.futures_buffered_unordered.specs.declared.slot_future.SlotFuture.{Ghosts as SlotFutureOf}
 use Rattle.futures_buffered_unordered.specs.Held.{AllHeld, AllHeldBut, Passes, Yields}
 use Rattle.futures_buffered_unordered.specs.FuturesUnorderedBounded.{Bounded, IsWoken, held_in, slots_in, with_empty_slot, with_source}
+
+-- the rule that polls each future itself
+abbrev pub itself : {F W A : Type 0} → SlotFutureOf F W A → PollOneOf PollFuture F W A
+itself future = record {
+  can_poll = future.can_poll;
+  polled = future.polled;
+  goes_on = λ _. ⊥;
+}
 
 -- the source, where the task is registered already, so that a poll registers nothing
 abbrev pub registered : {S W : Type 0} → ReadySourceOf S W → ReadySourceOf S W

@@ -2,11 +2,11 @@
 ghost use Rattle.std.specs.Prelude.{◌≡◌, ◌<◌};
 ghost use Rattle.futures_buffered_core.specs.SlotMap.{held_count};
 ghost use Rattle.futures_buffered_unordered.specs.Held.{AllHeld, ComesFrom};
-ghost use Rattle.futures_buffered_unordered.specs.PollsBounded.{PollsBounded};
+ghost use Rattle.futures_buffered_unordered.specs.PollsBounded.{PollsBounded, itself};
 
 use crate::fused::{FusedStream, SizeHint};
 use crate::futures_unordered_bounded::FuturesUnorderedBounded;
-use crate::poll_one::{PollFuture, PollOne};
+use crate::poll_one::PollFuture;
 use crate::slot_future::SlotFuture;
 use futures::Stream;
 use futures::task::{Context, Poll};
@@ -27,7 +27,7 @@ impl<F: SlotFuture<S::Waker>, S: ReadySource> Stream for FuturesUnorderedBounded
     /// Takes no memory where the calls of the source take none. Takes at most as many names as the set's limit and polls only what these slots hold, so its time is that of these takings and polls, at any capacity. Holds no lock of the source while it polls a future.
     fn poll_next(&mut self, cx: &mut Context<'_>) -> Poll<Option<F::Output>>
         requires { AllHeld F.can_poll self.old.slots }
-        ensures { PollsBounded ⟦<PollFuture as PollOne<F, S::Waker>>⟧ S.ReadySource
+        ensures { PollsBounded (itself F.SlotFuture) S.ReadySource
             self.old result self.new cx.old cx.new }
     {
         self.poll_with(&PollFuture, cx)

@@ -2,12 +2,13 @@
 ghost use Rattle.std.specs.Prelude.{◌≡◌, ◌↔◌};
 ghost use Rattle.futures_buffered_unordered.specs.StreamAnswers.{StreamAnswers};
 ghost use Rattle.futures_buffered_unordered.specs.FuturesUnordered.{AnyNeeds, EachHeld, held_in_all};
+ghost use Rattle.futures_buffered_unordered.specs.PollsBounded.{itself};
 ghost use Rattle.futures_buffered_unordered.specs.PollsGrowing.{PollsGrowing};
 ghost use Rattle.futures_buffered_unordered.specs.FuturesUnordered.{ComesFromGroups};
 
 use crate::fused::{FusedStream, SizeHint};
 use crate::futures_unordered::FuturesUnordered;
-use crate::poll_one::{PollFuture, PollOne};
+use crate::poll_one::PollFuture;
 use crate::slot_future::SlotFuture;
 use futures::Stream;
 use futures::task::{Context, Poll};
@@ -28,7 +29,7 @@ impl<F: SlotFuture<S::Waker>, S: NewSource> Stream for FuturesUnordered<F, S> {
         requires { EachHeld F.can_poll self.old.groups.listed }
         ensures stream { StreamAnswers ⟦<FuturesUnordered<F, S> as Stream>⟧
             self.old result self.new cx.old cx.new }
-        ensures polls { PollsGrowing ⟦<PollFuture as PollOne<F, S::Waker>>⟧ S.ReadySource
+        ensures polls { PollsGrowing (itself F.SlotFuture) S.ReadySource
             self.old result self.new cx.old cx.new }
     {
         self.poll_with(&PollFuture, cx)

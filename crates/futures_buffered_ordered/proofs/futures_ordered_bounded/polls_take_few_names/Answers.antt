@@ -2,4 +2,4 @@ use Rattle.futures_buffered_ordered.proofs.FuturesOrderedBoundedLemmas.{takes_fe
 use Rattle.futures_buffered_ordered.proofs.futures_ordered_bounded.polls_take_few_names.Goals as goal
 
 pub returns : goal.returns
-returns g c = takes_few_names g.R.PollOne.polled g.S.ReadySource.steps
+returns g c = takes_few_names g.R.PollOne g.S.ReadySource

@@ -4,7 +4,7 @@ use Rattle.std.proofs.lemmas.Option.{slice_get_within}
 use Rattle.futures.specs.declared.task.Poll.TheVariants.{Ready}
 use Rattle.futures_buffered_unordered.specs.Groups.{outputs_in}
 use Rattle.futures_buffered_ordered.specs.Numbered.{one_at, outputs_with}
-use Rattle.futures_buffered_ordered.specs.OrderedEntries.{GivesWithTask, starts_running}
+use Rattle.futures_buffered_ordered.specs.OrderedEntries.{starts_running}
 use Rattle.futures_buffered_ordered.specs.OrderedEntriesInvariant.{IsNumbered, KeepsNumbers, Numbering, place_of}
 use Rattle.futures_buffered_ordered.proofs.OrderedEntriesInvariantLemmas.{stands_at, KeepsNumbers-kept}
 use Rattle.futures_buffered_ordered.proofs.ordered_entries.OrderedEntries.keep_next.Goals as goal
@@ -29,7 +29,7 @@ returns-in-Ready-Some-clause-gave g c =
       (number, c.in-Ready-Some.output),
       record {
         front_runs = runs;
-        gave = subst (λ (o : Option (ℕ × g.row.A.Denot)). GivesWithTask g.Q.PollNumberedSet.gives g.Q.PollNumberedSet.leaves (c.self.inside.set, c.args.cx.now) (Ready o) (c.poll_numbered.new.self, c.poll_numbered.new.cx)) c.in-Ready-Some.field-0-is (c.in-Ready-Some.ensures.gave, c.in-Ready-Some.ensures.task.leaves);
+        gave = subst (λ (o : Option (ℕ × g.row.A.Denot)). g.Q.PollNumberedSet.gives c.self.inside.set (Ready o) c.poll_numbered.new.self c.args.cx.now c.poll_numbered.new.cx) c.in-Ready-Some.field-0-is c.in-Ready-Some.ensures.gave;
         at = place_of c.self.inside.outgoing number;
         was_running = there;
         entries = refl;

@@ -1,7 +1,7 @@
-use Rattle.std.proofs.Common.{◌≡◌, ◌+◌, ℕ, List, length, false}
+use Rattle.std.proofs.Common.{◌≡◌, ◌+◌, ℕ, List, length}
 use Rattle.std.specs.List.{FoldsTo}
 use Rattle.futures.specs.Task.{Keeps}
-use Rattle.futures_buffered_ordered.specs.OrderedEntries.{GivesWithTask, SetYields, starts_running, with_task}
+use Rattle.futures_buffered_ordered.specs.OrderedEntries.{BesideTask, SetYields, with_task}
 use Rattle.futures_buffered_ordered.specs.OrderedEntriesInvariant.{IsNumbered}
 use Rattle.futures_buffered_ordered.proofs.ordered_entries.OrderedEntries.poll_entries.Given as goal
 
@@ -10,12 +10,11 @@ invariant-loop-self g l =
     let set = g.Q.NumberedSet in
     let polls = g.Q.PollNumberedSet in
     record {
-      row : (yielded : List (ℕ × g.row.A.Denot)) × FoldsTo (SetYields (GivesWithTask polls.gives polls.leaves)) (with_task l.fn.self.queue l.fn.cx) yielded (with_task l.self.queue l.cx)
+      row : (yielded : List (ℕ × g.row.A.Denot)) × FoldsTo (SetYields (BesideTask polls.gives)) (with_task l.fn.self.queue l.fn.cx) yielded (with_task l.self.queue l.cx)
           × (length yielded + set.count l.self.queue.set ≡ set.count l.fn.self.queue.set);
       pollable : polls.can_poll l.self.queue.set;
       keeps : set.keeps l.fn.self.queue.set l.self.queue.set;
       same_room : l.self.queue.room ≡ l.fn.self.queue.room;
-      untouched : starts_running l.fn.self.queue.entries ≡ false → (l.self ≡ l.fn.self) × (l.cx ≡ l.fn.cx);
       kept : Keeps l.fn.cx l.cx;
       numbered : IsNumbered set.with_number set.count l.self;
     }

@@ -1,22 +1,26 @@
+use Rattle.futures_buffered_unordered.specs.PollsBounded.{itself}
 use Rattle.futures_buffered_unordered.proofs.StreamAnswersLemmas.{after_item, while_pending}
 use Rattle.futures_buffered_unordered.specs.FuturesUnorderedBounded.{held_in}
 use Rattle.futures_buffered_ordered.specs.FuturesOrderedBounded.{SetGives, SetMayGive}
-use Rattle.futures_buffered_ordered.proofs.FuturesOrderedBoundedLemmas.{covered_of, set_gave, set_still}
+use Rattle.futures_buffered_ordered.proofs.FuturesOrderedBoundedLemmas.{queue_gives_of, set_gave, set_still}
 use Rattle.futures_buffered_ordered.proofs.OrderedEntriesLemmas.{value_of, rest_of, same_of}
 use Rattle.futures_buffered_ordered.proofs.ordered_stream.BoundedQueueStream.poll_next.Goals as goal
 
 pub returns-clause-stream : goal.returns-clause-stream
 returns-clause-stream g c =
     let polled = g.T.SlotFuture.polled in
-    let source = g.S.ReadySource in
+    let steps = g.S.ReadySource.steps in
+    let old = c.args.self.now in
+    let new = c.poll_with.new.self in
     let answer = c.poll_with.result in
     let poll = c.poll_with.ensures in
+    let gives = queue_gives_of (itself g.T.SlotFuture) g.S.ReadySource old new answer c.args.cx.now c.poll_with.new.cx poll in
     record {
-      value = value_of (SetGives polled source.steps) (SetMayGive polled) (set_still polled source.steps) (set_gave polled source.steps) held_in c.args.self.now c.poll_with.new.self answer poll.polled;
-      rest = rest_of (SetGives polled source.steps) (SetMayGive polled) (set_still polled source.steps) (set_gave polled source.steps) held_in c.args.self.now c.poll_with.new.self answer poll.polled;
-      same = same_of (SetGives polled source.steps) (SetMayGive polled) (set_still polled source.steps) (set_gave polled source.steps) held_in c.args.self.now c.poll_with.new.self answer poll.polled;
+      value = value_of (SetGives polled steps) (SetMayGive polled) (set_still polled steps) (set_gave polled steps) held_in old new answer gives;
+      rest = rest_of (SetGives polled steps) (SetMayGive polled) (set_still polled steps) (set_gave polled steps) held_in old new answer gives;
+      same = same_of (SetGives polled steps) (SetMayGive polled) (set_still polled steps) (set_gave polled steps) held_in old new answer gives;
       goes = after_item answer poll.queue.pollable;
       again = while_pending answer poll.queue.pollable;
-      registered = covered_of source.steps source.needs c.poll_with.new.cx answer c.poll_with.new.self.set poll.task.waits;
-      kept = poll.task.kept;
+      registered = poll.queue.covered;
+      kept = poll.queue.kept;
     }
