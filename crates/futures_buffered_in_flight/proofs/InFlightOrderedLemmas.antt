@@ -10,13 +10,13 @@ use Rattle.futures_buffered_core.specs.SlotMap.{Slots, held_count, no_slots}
 use Rattle.futures_buffered_unordered.proofs.StreamAnswersLemmas.{after_item, while_pending}
 use Rattle.futures_buffered_ordered.specs.Numbered.{PollsNumberedSet, PollsNumberedTask}
 use Rattle.futures_buffered_ordered.specs.declared.numbered.Numbered.{Numbered}
-use Rattle.futures_buffered_ordered.specs.OrderedEntries.{AddsBack, AddsFront, IsUnused, MayRefuse, PollsQueue, PollsQueueTask}
+use Rattle.futures_buffered_ordered.specs.OrderedEntries.{AddsBack, AddsFront, IsUnused, MayRefuse, PollsOrdered}
 use Rattle.futures_buffered_ordered.specs.OrderedEntriesInvariant.{AddingKeeps, IsNumbered, Numbering}
 use Rattle.futures_buffered_ordered.proofs.OrderedEntriesInvariantLemmas.{held_by_entries, new_is_numbered}
-use Rattle.futures_buffered_ordered.proofs.OrderedEntriesLemmas.{as_many_of, comes_before, comes_behind, empty_of, fewer_of, no_more_of, one_entry_more, one_entry_more_before, rest_of, same_of, unused_none, value_of}
+use Rattle.futures_buffered_ordered.proofs.OrderedEntriesLemmas.{as_many_of, comes_before, comes_behind, empty_of, fewer_of, gives_alone, no_more_of, one_entry_more, one_entry_more_before, rest_of, same_of, unused_none, value_of}
 use Rattle.futures_buffered_in_flight.specs.InFlight.{FutureOf}
-use Rattle.futures_buffered_in_flight.specs.InFlightQueue.{Queued, CanPollQueue, IsNewQueued, NumberGives, PollsNumber, PollsQueuedTask, QueuesNumber, SameRoom, IsAtItsBound, has_tag, numbered_with, tagged_with, queued_count, queued_room, queued_with}
-use Rattle.futures_buffered_in_flight.specs.InFlightOrdered.{AnswersInTurn, FlightLeavesTask, GivesInTurn, KeepsInOrder, LeavesInOrder, OrderedInFlight, OrderedPends, PushesBack, PushesFront, ordered_count, ordered_room}
+use Rattle.futures_buffered_in_flight.specs.InFlightQueue.{Queued, CanPollQueue, IsNewQueued, NumberGives, PollsNumber, PollsQueuedTask, QueuedWaitsAt, QueuesNumber, SameRoom, IsAtItsBound, has_tag, numbered_with, tagged_with, queued_count, queued_room, queued_with}
+use Rattle.futures_buffered_in_flight.specs.InFlightOrdered.{AnswersInTurn, GivesInTurn, KeepsInOrder, LeavesInOrder, OrderedInFlight, PollsByNumber, PollsInTurn, PushesBack, PushesFront, flying_numbers, flying_polls, ordered_count, ordered_room}
 use Rattle.futures_buffered_in_flight.specs.declared.in_flight.Place.{Place}
 use Rattle.futures_buffered_in_flight.proofs.InFlightQueueLemmas.{number_counts}
 
@@ -98,11 +98,21 @@ module _ {F A : Type 0} (future : FutureOf F A) where
         again = added.1.pushed.again;
       }
 
-  module _ (old new : Numbering (Queued F) A) (answer : Poll (Option A)) (keeps : KeepsInOrder old) (polled : GivesInTurn future old.queue answer new.queue) (left : PollsQueue (CanPollQueue future) queued_count SameRoom old.queue answer new.queue) where
+  -- one poll, told of the queue alone
+  alone : (old new : OrderedInFlight F A) (answer : Poll (Option A)) (cx after : Context) → PollsOrdered (flying_numbers future) (flying_polls future) old answer new cx after → GivesInTurn future old answer new
+  alone old new answer cx after poll = gives_alone (PollsByNumber future) (PollsNumber future) (λ a b given before later h. h.gave) queued_count old new answer cx after poll.gave
+
+  pub gives_in_turn : (old new : OrderedInFlight F A) (answer : Poll (Option A)) (cx after : Context) → PollsInTurn future old answer new cx after → GivesInTurn future old answer new
+  gives_in_turn old new answer cx after poll = alone old new answer cx after poll.polls
+
+  module _ (old new : Numbering (Queued F) A) (answer : Poll (Option A)) (keeps : KeepsInOrder old) (cx after : Context) (poll : PollsOrdered (flying_numbers future) (flying_polls future) old.queue answer new.queue cx after) where
+    polled : GivesInTurn future old.queue answer new.queue
+    polled = alone old.queue new.queue answer cx after poll
+
     pub polled_keeps : IsNumbered queued_with queued_count new → KeepsInOrder new
     polled_keeps numbered =
-        let same = left.set in
-        let room = left.room in
+        let same = poll.queue.set in
+        let room = poll.queue.room in
         let fewer = no_more_of (PollsNumber future) queued_count old.queue new.queue answer polled in
         record {
           numbered = numbered;
@@ -114,7 +124,7 @@ module _ {F A : Type 0} (future : FutureOf F A) where
 
     pub leaves_in_order : LeavesInOrder old.queue answer new.queue
     leaves_in_order =
-        let same = left.set in
+        let same = poll.queue.set in
         let fewer = no_more_of (PollsNumber future) queued_count old.queue new.queue answer polled in
         record {
           empty = empty_of (PollsNumber future) queued_count old.queue new.queue answer polled;
@@ -125,18 +135,18 @@ module _ {F A : Type 0} (future : FutureOf F A) where
           bound = omega (arith, same, fewer, keeps.bound);
         }
 
-    pub answers_in_turn : (cx after : Context) → PollsQueueTask (PollsNumber future) FlightLeavesTask queued_count OrderedPends old.queue answer new.queue cx after → AnswersInTurn future old.queue answer new.queue cx after
-    answers_in_turn cx after task =
+    pub answers_in_turn : AnswersInTurn future old.queue answer new.queue cx after
+    answers_in_turn =
         record {
           value = value_of (PollsNumber future) (NumberGives future) still gave queued_count old.queue new.queue answer polled;
           rest = rest_of (PollsNumber future) (NumberGives future) still gave queued_count old.queue new.queue answer polled;
           same = same_of (PollsNumber future) (NumberGives future) still gave queued_count old.queue new.queue answer polled;
-          goes = after_item answer left.pollable;
-          again = while_pending answer left.pollable;
-          registered = task.waits;
-          kept = task.kept;
+          goes = after_item answer poll.queue.pollable;
+          again = while_pending answer poll.queue.pollable;
+          registered = poll.queue.covered;
+          kept = poll.queue.kept;
         }
 
 -- and of what it leaves of the task
-pub polls_task : {F A : Type 0} (old new : Queued F) (answer : Poll (Option (ℕ × A))) (cx left : Context) → PollsQueuedTask answer new cx left → PollsNumberedTask OrderedPends FlightLeavesTask old answer new cx left
-polls_task old new answer cx left p = record { waits = p.registered; leaves = p; kept = p.kept }
+pub polls_task : {F A : Type 0} (new : Queued F) (answer : Poll (Option (ℕ × A))) (cx left : Context) → PollsQueuedTask answer new cx left → PollsNumberedTask QueuedWaitsAt answer new cx left
+polls_task new answer cx left p = record { covered = p.registered; kept = p.kept }

@@ -4,7 +4,7 @@ use Rattle.futures.specs.declared.task.Poll.TheVariants.{Ready, Pending}
 use Rattle.futures.specs.declared.task.context.Context.{Context}
 use Rattle.futures_buffered_core.specs.SlotMap.{Slots, value_in, held_count, with_slot_freed}
 use Rattle.futures_buffered_in_flight.specs.InFlight.{FutureOf, Flights, CameInFlight, GivesByKey, PollsInFlight, RunsGiveNoMore, LeavesCancelled, EndsOneAtMost}
-use Rattle.futures_buffered_in_flight.specs.InFlightOrdered.{AnswersInTurn, CameInTurn, CanPollOrdered, GivesInTurn, LeavesInOrder, OrderedInFlight, ordered_count}
+use Rattle.futures_buffered_in_flight.specs.InFlightOrdered.{AnswersInTurn, CameInTurn, CanPollOrdered, OrderedInFlight, PollsInTurn, ordered_count}
 use Rattle.futures_buffered_in_flight.specs.declared.in_flight.Came.{Came}
 use Rattle.futures_buffered_ordered.specs.OrderedEntries.{starts_running}
 use Rattle.futures_buffered_ordered.specs.declared.ordered_entries.Entry.{Entry}
@@ -44,27 +44,30 @@ some_held [] runs = cc
 some_held (e ∷ es) runs = omega arith
 
 module _ {F A : Type 0} (future : FutureOf F A) where
-  pub came_in_turn_at_once : (old new : OrderedInFlight F A) (came : Option A) (cx left : Context) → CanPollOrdered future old → LeavesInOrder old (Ready came) new → AnswersInTurn future old (Ready came) new cx left → CameInTurn future old came new
-  came_in_turn_at_once old new None cx left can queue stream =
+  pub came_in_turn_at_once : (old new : OrderedInFlight F A) (came : Option A) (cx left : Context) → CanPollOrdered future old → PollsInTurn future old (Ready came) new cx left → AnswersInTurn future old (Ready came) new cx left → CameInTurn future old came new
+  came_in_turn_at_once old new None cx left can poll stream =
+      let queue = poll.counts in
       record { gave = stream.value; rest = tt; empty = queue.empty; fewer = tt; same_room = queue.same_room; again = subst (CanPollOrdered future) (sym queue.empty.1) can }
-  came_in_turn_at_once old new (Some x) cx left can queue stream =
-      record { gave = stream.value; rest = stream.rest; empty = tt; fewer = queue.fewer; same_room = queue.same_room; again = stream.goes }
+  came_in_turn_at_once old new (Some x) cx left can poll stream =
+      record { gave = stream.value; rest = stream.rest; empty = tt; fewer = poll.counts.fewer; same_room = poll.counts.same_room; again = stream.goes }
 
   -- a queue that was pending held something
-  held_before : (old mid : OrderedInFlight F A) → GivesInTurn future old Pending mid → LeavesInOrder old Pending mid → 0 < ordered_count mid
-  held_before old mid polled queue = subst (λ (es : List (Entry A)). 0 < length es) (sym polled.last_step.2) (some_held polled.before.entries polled.last_step.0)
+  held_before : (old mid : OrderedInFlight F A) (cx left : Context) → PollsInTurn future old Pending mid cx left → 0 < ordered_count mid
+  held_before old mid cx left poll =
+      let polled = poll.polls.gave in
+      subst (λ (es : List (Entry A)). 0 < length es) (sym polled.last_step.2) (some_held polled.before.entries polled.last_step.0)
 
   -- what may come after a pending poll might come before
-  pub came_in_turn_later : (old mid new : OrderedInFlight F A) (came : Option A) (cx left : Context) → GivesInTurn future old Pending mid → LeavesInOrder old Pending mid → AnswersInTurn future old Pending mid cx left → CameInTurn future mid came new
+  pub came_in_turn_later : (old mid new : OrderedInFlight F A) (came : Option A) (cx left : Context) → PollsInTurn future old Pending mid cx left → AnswersInTurn future old Pending mid cx left → CameInTurn future mid came new
       → CameInTurn future old came new
-  came_in_turn_later old mid new None cx left polled queue stream c =
-      absurd (let some = held_before old mid polled queue in let none = c.empty.0 in omega (arith, some, none))
-  came_in_turn_later old mid new (Some x) cx left polled queue stream c =
+  came_in_turn_later old mid new None cx left poll stream c =
+      absurd (let some = held_before old mid cx left poll in let none = c.empty.0 in omega (arith, some, none))
+  came_in_turn_later old mid new (Some x) cx left poll stream c =
       record {
         gave = stream.same [] (Some x) c.gave;
         rest = λ xs last h. stream.same (x ∷ xs) last (c.rest xs last h);
         empty = tt;
-        fewer = c.fewer ∙ queue.same_count;
-        same_room = c.same_room ∙ queue.same_room;
+        fewer = c.fewer ∙ poll.counts.same_count;
+        same_room = c.same_room ∙ poll.counts.same_room;
         again = c.again;
       }

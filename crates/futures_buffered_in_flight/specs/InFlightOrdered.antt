@@ -4,16 +4,17 @@ use Rattle.std.specs.Prelude.{◌≡◌, ◌↔◌, ◌+◌, ◌<◌, ◌≤◌,
 use Rattle.std.specs.Prelude.{OnSome, Result, IfErr, IsErr, OnOk}
 use Rattle.futures.specs.Poll.{IfReady, OnPending}
 use Rattle.futures.specs.Runs.{Runs, After, Within, Leads, Chains, Ends}
-use Rattle.futures.specs.Task.{Covers}
 use Rattle.futures.specs.declared.task.Poll.{Poll}
 use Rattle.futures.specs.declared.task.context.Context.{Context}
 use Rattle.futures_buffered_unordered.specs.StreamAnswers.{StreamAnswers, stream_of}
 use Rattle.futures_buffered_ordered.specs.OrderedEntries.{Ordered, AddsBack, AddsFront}
 use Rattle.futures_buffered_ordered.specs.OrderedEntries.{ComesInOrder, IsNewQueue, OrderedGives}
-use Rattle.futures_buffered_ordered.specs.OrderedEntries.{OrderedLeavesTask}
+use Rattle.futures_buffered_ordered.specs.OrderedEntries.{PolledSet, PollsOrdered}
+use Rattle.futures_buffered_ordered.specs.declared.numbered_set.NumberedSet.{Ghosts as NumberedSetOf}
 use Rattle.futures_buffered_ordered.specs.OrderedEntriesInvariant.{IsNumbered, Numbering}
 use Rattle.futures_buffered_in_flight.specs.InFlight.{FutureOf}
-use Rattle.futures_buffered_in_flight.specs.InFlightQueue.{Queued, CanPollQueue, IsNewQueued}
+use Rattle.futures_buffered_in_flight.specs.InFlightQueue.{Queued, CanPollQueue, IsAtItsBound}
+use Rattle.futures_buffered_in_flight.specs.InFlightQueue.{IsNewQueued, SameRoom}
 use Rattle.futures_buffered_in_flight.specs.InFlightQueue.{NumberGives, PollsNumber, QueuesNumber}
 use Rattle.futures_buffered_in_flight.specs.InFlightQueue.{PollsQueuedTask, QueuedWaitsAt}
 use Rattle.futures_buffered_in_flight.specs.InFlightQueue.{queued_count, queued_room, queued_with}
@@ -65,15 +66,6 @@ pub record LeavesInOrder {F A : Type 0} (old : OrderedInFlight F A) (answer : Po
   pub same_room : ordered_room new ≡ ordered_room old
   pub some : 0 < ordered_room new
   pub bound : ordered_count new ≤ ordered_room new
-
--- a pending poll leaves the task with what the futures wait for
-abbrev pub OrderedPends : {F : Type 0} → Context → Queued F → Type 0
-OrderedPends left set = Covers left (QueuedWaitsAt set)
-
--- what a poll of the futures leaves of the task
-abbrev pub FlightLeavesTask : {F A : Type 0}
-    → Queued F → Poll (Option A) → Queued F → Context → Context → Type 0
-FlightLeavesTask old answer new cx left = PollsQueuedTask answer new cx left
 
 -- an output of one more comes behind all that comes
 abbrev pub ComesLast : {A : Type 0} → (A → Type 0) → Runs A → Runs A
@@ -137,15 +129,52 @@ module _ {F A : Type 0} (future : FutureOf F A) where
     -- the queue may be polled
     pub again : CanPollOrdered new
 
-  -- one poll: polls of the futures, each of whose outputs is kept in the entry of its number, and
-  -- then the front
+  -- one poll of the futures, over them and the task: an output comes with the number of its future
+  pub record PollsByNumber
+      (old : Queued F)
+      (answer : Poll (Option (ℕ × A)))
+      (new : Queued F)
+      (cx left : Context)
+      : Type 0 where
+    pub gave : PollsNumber future old answer new
+    pub task : PollsQueuedTask answer new cx left
+
+  -- what the futures are to the queue over them, and how they are polled
+  abbrev pub flying_numbers : NumberedSetOf (Queued F) F
+  flying_numbers = record {
+    count = queued_count;
+    with_number = queued_with;
+    pushes = QueuesNumber future;
+    may_refuse = IsAtItsBound;
+    refuses = IsAtItsBound;
+    keeps = SameRoom;
+    takes = CanPollQueue future;
+    is_fit = future.can_poll;
+  }
+
+  abbrev pub flying_polls : PolledSet (Queued F) A
+  flying_polls = record {
+    can_poll = CanPollQueue future;
+    gives = PollsByNumber;
+    needs = QueuedWaitsAt;
+  }
+
+  -- One poll, which took the queue from old to new and the task from cx to left.
+  pub record PollsInTurn
+      (old : OrderedInFlight F A)
+      (answer : Poll (Option A))
+      (new : OrderedInFlight F A)
+      (cx left : Context)
+      : Type 0 where
+    -- the futures were polled, each output was kept in the entry of its number, and then came the
+    -- front
+    pub polls : PollsOrdered flying_numbers flying_polls old answer new cx left
+    -- how many are left
+    pub counts : LeavesInOrder old answer new
+
+  -- the same, told of the queue alone
   abbrev pub GivesInTurn : OrderedInFlight F A → Poll (Option A) → OrderedInFlight F A → Type 0
   GivesInTurn = OrderedGives (PollsNumber future) queued_count
-
-  -- what it leaves of the task: what the polls of the futures leave, one after another
-  abbrev pub LeavesInTurn : OrderedInFlight F A → Poll (Option A) → OrderedInFlight F A
-      → Context → Context → Type 0
-  LeavesInTurn = OrderedLeavesTask (PollsNumber future) FlightLeavesTask queued_count
 
   -- what a stream promises of one poll
   abbrev pub AnswersInTurn : OrderedInFlight F A → Poll (Option A) → OrderedInFlight F A

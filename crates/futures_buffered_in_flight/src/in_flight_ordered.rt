@@ -3,7 +3,7 @@ ghost use Rattle.std.specs.Prelude.{◌≡◌, ◌↔◌, ◌<◌, ◌≤◌, If
 ghost use Rattle.futures_buffered_core.specs.Drawn.{IsFiniteSource};
 ghost use Rattle.futures_buffered_core.specs.Made.{MakesSlots};
 ghost use Rattle.futures_buffered_unordered.specs.Extended.{EachDrawn, Extends};
-ghost use Rattle.futures_buffered_in_flight.specs.InFlightOrdered.{AnswersInTurn, CanPollOrdered, GivesInTurn, IsNewInOrder, LeavesInOrder, LeavesInTurn, OrderedIsFull, PushesBack, PushesFront, PushesOrComesBack, RefusesFull, ordered_count, ordered_room};
+ghost use Rattle.futures_buffered_in_flight.specs.InFlightOrdered.{AnswersInTurn, CanPollOrdered, IsNewInOrder, OrderedIsFull, PollsInTurn, PushesBack, PushesFront, PushesOrComesBack, RefusesFull, ordered_count, ordered_room};
 
 use crate::in_flight_queue::InFlightQueue;
 use futures::Future;
@@ -66,18 +66,16 @@ impl<F: Future<Output: Drop>> NumberedSet for InFlightQueue<F> {
 }
 
 impl<F: Future<Output: Drop>> PollNumberedSet<PollFuture> for InFlightQueue<F> {
-    ghost use Rattle.futures_buffered_in_flight.specs.InFlightQueue.{CanPollQueue, PollsNumber};
-    ghost use Rattle.futures_buffered_in_flight.specs.InFlightOrdered.{FlightLeavesTask, OrderedPends};
+    ghost use Rattle.futures_buffered_in_flight.specs.InFlightQueue.{CanPollQueue, QueuedWaitsAt};
+    ghost use Rattle.futures_buffered_in_flight.specs.InFlightOrdered.{PollsByNumber};
 
     type Output = F::Output;
 
     ghost can_poll = { CanPollQueue F.Future };
 
-    ghost gives = { PollsNumber F.Future };
+    ghost gives = { PollsByNumber F.Future };
 
-    ghost pends = { OrderedPends };
-
-    ghost leaves = { FlightLeavesTask };
+    ghost needs = { QueuedWaitsAt };
 
     #[tactic(auto, using(crate::proofs::InFlightOrderedLemmas::polls_set, crate::proofs::InFlightOrderedLemmas::polls_task))]
     fn poll_numbered(
@@ -241,10 +239,8 @@ impl<F: Future<Output = A>, A: Drop> InFlightOrdered<F, A> {
     /// A front whose output is kept leaves with it, and no future is polled. Else the futures are polled, and each output that comes is kept, until the front's has come. Futures that wait for memory go into flight first, and where memory is still refused the task is woken at once.
     pub fn poll_output(&mut self, cx: &mut Context<'_>) -> Poll<Option<A>>
         requires { CanPollOrdered F.Future self.old }
-        ensures polled { GivesInTurn F.Future self.old result self.new }
-        ensures queue { LeavesInOrder self.old result self.new }
+        ensures polls { PollsInTurn F.Future self.old result self.new cx.old cx.new }
         ensures stream { AnswersInTurn F.Future self.old result self.new cx.old cx.new }
-        ensures leaves { LeavesInTurn F.Future self.old result self.new cx.old cx.new }
     {
         self.queue.poll_entries(&PollFuture, cx)
     }

@@ -1,5 +1,5 @@
 //! The ordered queue as a stream, which says how much is left and whether it has ended.
-ghost use Rattle.futures_buffered_in_flight.specs.InFlightOrdered.{AnswersInTurn, CanPollOrdered, ComesOfEach, GivesInTurn, LeavesInOrder, LeavesInTurn, OrderedWaitsAt, ordered_count};
+ghost use Rattle.futures_buffered_in_flight.specs.InFlightOrdered.{AnswersInTurn, CanPollOrdered, ComesOfEach, OrderedWaitsAt, PollsInTurn, ordered_count};
 
 use crate::in_flight_ordered::InFlightOrdered;
 use futures::task::{Context, Poll};
@@ -19,10 +19,8 @@ impl<F: Future<Output = A>, A: Drop> Stream for InFlightOrdered<F, A> {
     /// One poll, as `poll_output`.
     fn poll_next(&mut self, cx: &mut Context<'_>) -> Poll<Option<A>>
         requires { CanPollOrdered F.Future self.old }
-        ensures polled { GivesInTurn F.Future self.old result self.new }
-        ensures queue { LeavesInOrder self.old result self.new }
+        ensures polls { PollsInTurn F.Future self.old result self.new cx.old cx.new }
         ensures stream { AnswersInTurn F.Future self.old result self.new cx.old cx.new }
-        ensures leaves { LeavesInTurn F.Future self.old result self.new cx.old cx.new }
     {
         self.poll_output(cx)
     }
