@@ -10,7 +10,8 @@ use Rattle.futures_buffered_unordered.specs.FuturesUnorderedBounded.{Bounded, Ho
 use Rattle.futures_buffered_unordered.specs.PollsBounded.{RegistersAndTakes}
 use Rattle.futures_buffered_joins.specs.Joining.{Places}
 use Rattle.futures_buffered_joins.specs.Outputs.{WaitsOrCame}
-use Rattle.futures_buffered_joins.specs.Join.{Fails, Fills, JoinRuleOf, PollsPending, ReadySourceOf, SlotFutureOf, itself}
+use Rattle.futures_buffered_joins.specs.Join.{Fails, Fills, JoinRuleOf, PollsPending, ReadySourceOf, SlotFutureOf}
+use Rattle.futures_buffered_unordered.specs.PollsBounded.{itself}
 use Rattle.futures_buffered_joins.proofs.OutputsLemmas.{none_from, below_from_some}
 
 module _ {F W R O A E B S : Type 0} (future : SlotFutureOf F W O) (rule : JoinRuleOf R O A E B) (source : ReadySourceOf S W) where

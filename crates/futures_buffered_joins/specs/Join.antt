@@ -12,18 +12,12 @@ pub use Rattle.futures_buffered_core.specs.declared.ready_source.ReadySource.{Gh
 use Rattle.futures_buffered_unordered.specs.Held.{AllHeld}
 use Rattle.futures_buffered_unordered.specs.FuturesUnorderedBounded.{Bounded, held_in}
 use Rattle.futures_buffered_unordered.specs.FuturesUnorderedBounded.{with_empty_slot}
-use Rattle.futures_buffered_unordered.specs.PollsBounded.{RegistersAndTakes}
-use Rattle.futures_buffered_unordered.specs.declared.poll_one.PollFuture.{PollFuture}
+use Rattle.futures_buffered_unordered.specs.PollsBounded.{RegistersAndTakes, itself}
 pub use Rattle.futures_buffered_unordered.specs.declared.slot_future.SlotFuture.{Ghosts as SlotFutureOf}
-pub use Rattle.futures_buffered_unordered.specs.declared.poll_one.PollOne.{Ghosts as PollOneOf}
 use Rattle.futures_buffered_joins.specs.Joining.{Places, IsNewJoin, CameByPlace, JoinMayGive}
 use Rattle.futures_buffered_joins.specs.JoinRule.{Outcome}
 pub use Rattle.futures_buffered_joins.specs.declared.join_rule.JoinRule.{Ghosts as JoinRuleOf}
 use Rattle.futures_buffered_joins.specs.Outputs.{output_in}
-
--- the rule of a set that polls each future itself
-abbrev pub itself : {F W O : Type 0} → SlotFutureOf F W O → PollOneOf PollFuture F W O
-itself future = record { can_poll = future.can_poll; polled = future.polled; goes_on = λ _. ⊥ }
 
 -- the answer of a poll, as `seen` shows what it is ready with
 abbrev pub as_seen : {B C : Type 0} → (B → C) → Poll B → Poll C

@@ -2,7 +2,7 @@
 use Rattle.std.proofs.Common.{◌≡◌, ◌+◌, ◌⊎◌, inl, inr, ℕ, List, [], ◌∷◌, length, Option, Some, None, sym, ap, ◌∙◌, arith}
 use Rattle.std.specs.List.{FoldsTo}
 use Rattle.futures.specs.Runs.{After, Within, ItemsWhere}
-use Rattle.futures.specs.Queued.{IsEmptySet, set_places}
+use Rattle.futures.specs.Queued.{IsEmptySet}
 use Rattle.futures.specs.Merged.{AnyYields}
 use Rattle.futures.specs.declared.task.Poll.{Poll}
 use Rattle.futures.specs.declared.task.Poll.TheVariants.{Ready, Pending}

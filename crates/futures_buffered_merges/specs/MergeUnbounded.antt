@@ -1,18 +1,24 @@
 -- What may come from a merge that grows, and what its streams give over many polls.
-use Rattle.std.specs.Prelude.{◌≡◌, ℕ, List, [], ◌∷◌, ◌++◌, map, Option, Some, None, ◌⊎◌}
+use Rattle.std.specs.Prelude.{◌≡◌, ◌↔◌, ℕ, List, [], ◌∷◌, ◌++◌, map, Option, Some, None, ◌⊎◌}
 use Rattle.std.specs.List.{FoldsTo, AllByRecursion}
+use Rattle.futures.specs.declared.task.context.Context.{Context}
 use Rattle.futures.specs.declared.task.Poll.{Poll}
+use Rattle.futures.specs.declared.task.Poll.TheVariants.{Ready}
 use Rattle.futures.specs.Runs.{Runs, ItemsWhere, seconds}
 use Rattle.futures_buffered_core.specs.SlotMap.{Slots, value_in}
 use Rattle.futures_buffered_table.specs.declared.answer.Woke.{Woke}
 use Rattle.futures_buffered_core.specs.ReadySource.{SourceSteps}
-use Rattle.futures_buffered_unordered.specs.FuturesUnorderedBounded.{Bounded}
+use Rattle.futures_buffered_core.specs.declared.ready_source.ReadySource.{Ghosts as ReadySourceOf}
+use Rattle.futures_buffered_unordered.specs.declared.ask_group.AskGroup.{Ghosts as AskGroupOf}
+use Rattle.futures_buffered_unordered.specs.FuturesUnorderedBounded.{Bounded, OnlyRegisters}
 use Rattle.futures_buffered_unordered.specs.Interleaves.{Interleaves}
 use Rattle.futures_buffered_unordered.specs.Groups.{AnyOf, Groups, GroupsGive}
-use Rattle.futures_buffered_unordered.specs.FuturesUnordered.{Growing, GrowingPushes}
+use Rattle.futures_buffered_unordered.specs.FuturesUnordered.{Growing, GrowingPushes, held_in_all}
+use Rattle.futures_buffered_unordered.specs.PollsGrowing.{PollsGroups}
 use Rattle.futures_buffered_unordered.specs.declared.futures_unordered.TheConstants.{FIRST_GROUP}
 use Rattle.futures_buffered_merges.specs.SlotStream.{items_in}
-use Rattle.futures_buffered_merges.specs.Merging.{MergeGives}
+use Rattle.futures_buffered_merges.specs.declared.slot_stream.SlotStream.{Ghosts as SlotStreamOf}
+use Rattle.futures_buffered_merges.specs.Merging.{MergeAsksToEmpty, MergeGives, MergeStops}
 use Rattle.futures_buffered_merges.specs.MergeBounded.{StreamsGave, ComesFromStreams}
 use Rattle.futures_buffered_merges.specs.MergeBounded.{SlotsGaveInTurn, MergeEvent, answered}
 use Rattle.futures_buffered_merges.specs.MergeBounded.{pushed, answers_of, streams_of}
@@ -92,3 +98,30 @@ module _
         → (added : List (Slots F)) × AllByRecursion HoldsNone added
         × GroupsGaveInTurn polled (slots_of_each old.groups.listed ++ added)
         (items_in (answers_of events)) (streams_of events) (slots_of_each new.groups.listed)
+
+module _
+    {St W A S : Type 0}
+    (stream : SlotStreamOf St W A)
+    (source : ReadySourceOf S W)
+  where
+    -- how a merge asks a group: as a bounded merge is polled; the end may register the task
+    abbrev pub as_merge : AskGroupOf (Unit {0}) St S A (Unit {0}) W
+    as_merge = record {
+      can_poll = stream.can_poll;
+      asks = MergeGives stream.polled source.steps source.marks;
+      asks_to_empty = MergeAsksToEmpty stream.polled source.steps source.marks;
+      stops = MergeStops stream.polled source.steps source.marks;
+      passes = OnlyRegisters source.registers_poll;
+    }
+
+    -- One poll of a merge that grows, which took it from old to new and the task from cx to left.
+    pub record PollsMergeUnbounded
+        (old : Growing St S)
+        (answer : Poll (Option A))
+        (new : Growing St S)
+        (cx left : Context)
+        : Type 0 where
+      -- the groups were asked in turn, and left the task
+      pub groups : PollsGroups as_merge source old answer new cx left
+      -- the end comes exactly where no stream is left
+      pub ends : (answer ≡ Ready None) ↔ (held_in_all new.groups.listed ≡ 0)

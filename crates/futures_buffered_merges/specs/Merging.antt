@@ -10,10 +10,12 @@ use Rattle.futures.specs.declared.task.Poll.TheVariants.{Ready, Pending}
 use Rattle.futures_buffered_core.specs.SlotMap.{held_count, slot_count}
 use Rattle.futures_buffered_table.specs.declared.answer.Woke.{Woke}
 use Rattle.futures_buffered_core.specs.ReadySource.{SourceSteps}
+use Rattle.futures_buffered_core.specs.declared.ready_source.ReadySource.{Ghosts as ReadySourceOf}
+pub use Rattle.futures_buffered_merges.specs.declared.slot_stream.SlotStream.{Ghosts as SlotStreamOf}
 use Rattle.futures_buffered_unordered.specs.FuturesUnorderedBounded.{Bounded, AsksUntil, MarksSlot}
 use Rattle.futures_buffered_unordered.specs.FuturesUnorderedBounded.{AsksInPart, AsksToEmpty}
 use Rattle.futures_buffered_unordered.specs.FuturesUnorderedBounded.{IsWoken, OnlyRegisters}
-use Rattle.futures_buffered_unordered.specs.FuturesUnorderedBounded.{SaidEmpty}
+use Rattle.futures_buffered_unordered.specs.FuturesUnorderedBounded.{SaidEmpty, held_in, slots_in}
 use Rattle.futures_buffered_unordered.specs.FuturesUnorderedBounded.{with_empty_slot, with_source}
 use Rattle.futures_buffered_unordered.specs.Groups.{GroupLeavesTask}
 use Rattle.futures_buffered_unordered.specs.Held.{AllHeld}
@@ -163,3 +165,40 @@ pub record PollsStreams
   -- the number of slots and the limit stay
   pub capacity : slot_count new.slots ≡ slot_count old.slots
   pub limit : new.limit ≡ old.limit
+
+-- One poll of a merge, which took it from old to new and the task from cx to left. A clause names
+-- streams and source by the ghost members of their types: `St.SlotStream S.ReadySource`.
+pub record PollsMerge
+    {St W A S : Type 0}
+    (stream : SlotStreamOf St W A)
+    (source : ReadySourceOf S W)
+    (old : Bounded St S)
+    (answer : Poll (Option A))
+    (new : Bounded St S)
+    (cx left : Context)
+    : Type 0 where
+  -- what came: counts of names that each ended a stream, and then the last count
+  pub gave : MergeGives stream.polled source.steps source.marks old answer new
+  -- who is woken: where no further name came the task was registered, and else it was asked to poll
+  -- again
+  pub leaves : GroupLeavesTask (MergeAsksToEmpty stream.polled source.steps source.marks)
+      (MergeStops stream.polled source.steps source.marks) (OnlyRegisters source.registers_poll)
+      old answer new cx left
+  -- a poll that is ready only registered it, and where no stream was held it left it alone
+  pub only_registered : IfReady answer (λ _. OnlyRegisters source.registers_poll cx left)
+  pub untouched : held_in old ≡ 0 → left ≡ cx
+  -- what stays: no stream comes; after an item and where it is pending one is held, and after the
+  -- end none
+  pub fewer : held_in new ≤ held_in old
+  pub item : IfReady answer (λ o. OnSome o (0 < held_in new))
+  pub pending : OnPending answer (0 < held_in new)
+  pub ends : IfReady answer (λ o. IfNone o (held_in new ≡ 0))
+  -- the number of slots and the limit stay
+  pub capacity : slots_in new ≡ slots_in old
+  pub limit : new.limit ≡ old.limit
+  -- who waits where: the task of a pending merge hears of its source
+  pub covered : OnPending answer (Covers left (source.needs new.source))
+  -- nothing of the task is lost
+  pub kept : Keeps cx left
+  -- what may be polled again: each stream that is held
+  pub pollable : AllHeld stream.can_poll new.slots

@@ -6,11 +6,10 @@ ghost use Rattle.futures_buffered_core.specs.Drawn.{IsFiniteSource};
 ghost use Rattle.futures_buffered_core.specs.ReadyShared.{IsNewShared, MarksShared};
 ghost use Rattle.futures_buffered_unordered.specs.StreamAnswers.{StreamAnswers};
 ghost use Rattle.futures_buffered_unordered.specs.FuturesUnorderedBounded.{OnlyRegisters};
-ghost use Rattle.futures_buffered_unordered.specs.Groups.{GroupsGive};
-ghost use Rattle.futures_buffered_unordered.specs.FuturesUnordered.{EachHeld, AnyNeeds, GrowingPushes, IsAtBound, PollsGroupsTask, PushesOrStays, no_groups, held_in_all, capacity_of, SetRefuses, SetMayRefuse};
+ghost use Rattle.futures_buffered_unordered.specs.FuturesUnordered.{EachHeld, AnyNeeds, GrowingPushes, IsAtBound, PushesOrStays, no_groups, held_in_all, capacity_of, SetRefuses, SetMayRefuse};
 ghost use Rattle.futures_buffered_unordered.specs.Extended.{Extends, MakesExtended};
 ghost use Rattle.futures_buffered_merges.specs.Merging.{MergeAsksToEmpty, MergeGives, MergeStops};
-ghost use Rattle.futures_buffered_merges.specs.MergeUnbounded.{ItemsComeFromGroups, KeepsOrderInGroups, KeepsOrderInGroupsWithPushes};
+ghost use Rattle.futures_buffered_merges.specs.MergeUnbounded.{ItemsComeFromGroups, KeepsOrderInGroups, KeepsOrderInGroupsWithPushes, PollsMergeUnbounded};
 
 use crate::merge_of::{MergeOf, StreamSet};
 use crate::merging::poll_streams;
@@ -193,17 +192,10 @@ impl<St: SlotStream<S::Waker>, S: NewSource> Stream for MergeUnbounded<St, S> {
     /// A stream that gives an item stays, and its slot is marked. A stream that ends is dropped. A group that is asked and holds nothing any more is dropped, unless it is the last. `Ready(None)` where no stream is held any more. A group that is asked registers the task, at each of its counts, until one is pending. Takes no memory but what the calls of the source take. Takes time in proportion to the number of groups, to the names taken and to the slots of groups that are dropped, besides the polls.
     fn poll_next(&mut self, cx: &mut Context<'_>) -> Poll<Option<St::Item>>
         requires { EachHeld St.can_poll self.old.groups.listed }
-        ensures polled { GroupsGive (MergeGives St.polled S.steps S.marks)
-            self.old.groups result self.new.groups }
-        ensures ends { (result ≡ Poll.Ready None) ↔ (held_in_all self.new.groups.listed ≡ 0) }
-        ensures limit { self.new.limit ≡ self.old.limit }
+        ensures polls { PollsMergeUnbounded St.SlotStream S.ReadySource
+            self.old result self.new cx.old cx.new }
         ensures stream { StreamAnswers ⟦<MergeUnbounded<St, S> as Stream>⟧
             self.old result self.new cx.old cx.new }
-        ensures pollable { EachHeld St.can_poll self.new.groups.listed }
-        ensures task { PollsGroupsTask (MergeAsksToEmpty St.polled S.steps S.marks)
-            (MergeStops St.polled S.steps S.marks) S.needs (OnlyRegisters S.registers_poll)
-            (OnlyRegisters S.registers_poll)
-            self.old.groups result self.new.groups cx.old cx.new }
     {
         self.set.poll_groups(&AsMerge, cx)
     }

@@ -1,4 +1,3 @@
-use Rattle.std.proofs.Common.{rules}
 use Rattle.futures_buffered_merges.proofs.InFlightMergeLemmas.{holds_all}
 use Rattle.futures_buffered_merges.proofs.in_flight_merge.growing_foreign_merge.Goals as goal
 

@@ -2,7 +2,7 @@ use Rattle.std.proofs.Common.{refl, sym, arith}
 use Rattle.std.proofs.lemmas.Grind.{common_steps}
 use Rattle.futures_buffered_unordered.proofs.HeldLemmas.{some_from_end}
 use Rattle.futures_buffered_unordered.proofs.PollsBoundedLemmas.{takes_held}
-use Rattle.futures_buffered_joins.specs.Join.{itself}
+use Rattle.futures_buffered_unordered.specs.PollsBounded.{itself}
 use Rattle.futures_buffered_joins.proofs.JoiningLemmas.{fills_place, fails_place, waits_place}
 use Rattle.futures_buffered_joins.proofs.joining.Joining.fill_one.Goals as goal
 

@@ -5,11 +5,32 @@ use Rattle.futures_buffered_unordered.proofs.StreamAnswersLemmas.{after_item, wh
 use Rattle.futures_buffered_merges.proofs.MergeBoundedLemmas.{value_of, rest_of, same_of}
 use Rattle.futures_buffered_merges.proofs.merge_bounded.MergeBoundedStream.poll_next.Goals as goal
 
+pub returns-clause-polls : goal.returns-clause-polls
+returns-clause-polls g c =
+    let source = g.S.ReadySource in
+    let poll = c.poll_streams.ensures in
+    let streams = poll.streams in
+    let task = polls_told g.St.SlotStream.polled source.steps source.marks source.needs (RegistersUnless source.registers_poll _) (OnlyRegisters source.registers_poll) _ _ _ _ _ (λ registers. registers.only_registers) poll.task in
+    rw (← c.self.view_is) (record {
+      gave = poll.polled;
+      leaves = task.leaves;
+      only_registered = task.only_registered;
+      untouched = task.untouched;
+      fewer = streams.fewer;
+      item = streams.item;
+      pending = streams.pending;
+      ends = streams.ends;
+      capacity = streams.capacity;
+      limit = streams.limit;
+      covered = task.covered;
+      kept = task.kept;
+      pollable = streams.pollable;
+    })
+
 pub returns-clause-stream : goal.returns-clause-stream
 returns-clause-stream g c =
     let polled = g.St.SlotStream.polled in
     let source = g.S.ReadySource in
-    let old = c.args.self.now in
     let new = c.poll_streams.new.set in
     let answer = c.poll_streams.result in
     let poll = c.poll_streams.ensures in
@@ -22,8 +43,3 @@ returns-clause-stream g c =
       registered = covers_fewer answer c.poll_streams.new.cx (source.needs new.source) _ (λ n waits. waits.1) poll.task.covered;
       kept = poll.task.kept;
     })
-
-pub returns-clause-task : goal.returns-clause-task
-returns-clause-task g c =
-    let source = g.S.ReadySource in
-    rw (← c.self.view_is) (polls_told g.St.SlotStream.polled source.steps source.marks source.needs (RegistersUnless source.registers_poll _) (OnlyRegisters source.registers_poll) _ _ _ _ _ (λ registers. registers.only_registers) c.poll_streams.ensures.task)
