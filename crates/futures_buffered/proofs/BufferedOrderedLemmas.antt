@@ -15,11 +15,13 @@ use Rattle.futures_buffered_core.proofs.SlotMapLemmas.{value_within}
 use Rattle.futures_buffered_table.specs.declared.answer.Woke.{Woke}
 use Rattle.futures_buffered_core.specs.ReadySource.{SourceSteps}
 use Rattle.futures_buffered_unordered.specs.Held.{MayGive}
-use Rattle.futures_buffered_unordered.specs.FuturesUnorderedBounded.{Bounded, held_in}
+use Rattle.futures_buffered_unordered.specs.FuturesUnorderedBounded.{held_in}
 use Rattle.futures_buffered_unordered.proofs.HeldLemmas.{AllHeld-push, value_inserted, value_inserted_other}
 use Rattle.futures_buffered_ordered.specs.Numbered.{CanPollFuture, PollsNumbered, held_with}
 use Rattle.futures_buffered_ordered.specs.OrderedEntries.{AddsBack, ComesInOrder, EachHasOne, EntryGives, InTurn, IsUnused, OrderedGives, SetYields, runs_with, starts_running}
-use Rattle.futures_buffered_ordered.specs.FuturesOrderedBounded.{EachRunning, OrderedBounded, PushesNumber, SetGives, SetMayGive, SetPends}
+use Rattle.futures_buffered_ordered.specs.FuturesOrderedBounded.{EachRunning, OrderedBounded, PollsOrderedBounded, PushesNumber, SetGives, SetMayGive}
+use Rattle.futures_buffered_core.specs.declared.ready_source.ReadySource.{Ghosts as ReadySourceOf}
+use Rattle.futures_buffered_unordered.specs.declared.poll_one.PollOne.{Ghosts as PollOneOf}
 use Rattle.futures_buffered_ordered.specs.declared.numbered.Numbered.{Numbered}
 use Rattle.futures_buffered_ordered.specs.declared.ordered_entries.Entry.{Entry}
 use Rattle.futures_buffered_ordered.specs.declared.ordered_entries.Entry.TheVariants.{Running, Kept}
@@ -214,6 +216,6 @@ module _ {F A S : Type 0} (polled : ℕ → F → Poll A → F → Type 0) (step
   same_polled old new Pending h = pending_len old new h
 
 -- the task of a pending queue hears of the source of its set
-pub waits_covered : {F B S : Type 0} (steps : SourceSteps S) (needs : S → ℕ → Type 0) (left : Context) (answer : Poll B) (set : Bounded (Numbered F) S) → OnPending answer (SetPends steps needs left set) → OnPending answer (Covers left (needs set.source))
-waits_covered steps needs left (Ready x) set h = tt
-waits_covered steps needs left Pending set h = h.covered
+pub waits_covered : {R F W A S : Type 0} (rule : PollOneOf R F W A) (source : ReadySourceOf S W) (old new : OrderedBounded F A S) (answer : Poll (Option A)) (cx left : Context) → PollsOrderedBounded rule source old answer new cx left → OnPending answer (Covers left (source.needs new.set.source))
+waits_covered rule source old new (Ready x) cx left h = tt
+waits_covered rule source old new Pending cx left h = h.gave.last_step.1.covered

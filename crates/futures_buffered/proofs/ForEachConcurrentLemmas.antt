@@ -10,7 +10,7 @@ use Rattle.futures.specs.declared.task.Poll.TheVariants.{Ready, Pending}
 use Rattle.futures.specs.Runs.{After, Calls, Within, firsts}
 use Rattle.futures_buffered_unordered.specs.FuturesUnorderedBounded.{Bounded, IsWoken, Pushes, held_in, slots_in}
 use Rattle.futures_buffered_unordered.specs.PollsBounded.{PollsBounded}
-use Rattle.futures_buffered_joins.specs.Join.{itself}
+use Rattle.futures_buffered_unordered.specs.PollsBounded.{itself}
 use Rattle.futures_buffered.specs.Buffer.{HasNoTurn, PollsStream, StreamOf}
 use Rattle.futures_buffered.specs.ForEachConcurrent.{ForEach, DrawAndPoll, TurnGives, EndsAfter, ForEachCall, DrawsOnce, ReadySourceOf, SlotFutureOf, drew_one, gave_one, goes_on, CanForEach, ForEachGives}
 use Rattle.futures_buffered_unordered.proofs.HeldLemmas.{AllHeld-push}

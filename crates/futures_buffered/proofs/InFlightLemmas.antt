@@ -11,7 +11,8 @@ use Rattle.futures_buffered_unordered.specs.StreamAnswers.{StreamAnswers, stream
 use Rattle.futures_buffered_unordered.proofs.HeldGivesLemmas.{Gathers-Within, Gathers-After}
 use Rattle.futures_buffered_in_flight.specs.InFlight.{FutureOf}
 use Rattle.futures_buffered_ordered.specs.declared.numbered.Numbered.{Numbered}
-use Rattle.futures_buffered_in_flight.specs.InFlightOrdered.{CanPollOrdered, ComesOfEach, LeavesInOrder, OrderedInFlight, PushesBack, ordered_count, ordered_room}
+use Rattle.futures_buffered_in_flight.specs.InFlightOrdered.{CanPollOrdered, ComesOfEach, GivesInTurn, OrderedInFlight, PollsInTurn, PushesBack, ordered_count, ordered_room}
+use Rattle.futures_buffered_in_flight.proofs.InFlightOrderedLemmas.{gives_in_turn}
 use Rattle.futures_buffered_in_flight.specs.InFlightQueue.{Queued, SomeOf, AnyQueuedGives, NumberGives, CanPollQueue, ComesFromQueue, HoldsWithinRoom, PollsQueued, PollsQueuedTask, PushesQueued, QueuedWaitsAt, queued_count, queued_room}
 use Rattle.futures_buffered.specs.FutureQueue.{AddsOutput, PollLeavesQueue, PushLeavesQueue}
 
@@ -102,5 +103,10 @@ module _ {F A : Type 0} (future : FutureOf F A) where
         again = λ can fit. p.again;
       }
 
-pub poll_leaves_ordered : {F A : Type 0} (old new : OrderedInFlight F A) (answer : Poll (Option A)) → LeavesInOrder old answer new → PollLeavesQueue ordered_count ordered_room old answer new
-poll_leaves_ordered old new answer p = record { empty = p.empty; fewer = p.fewer; same_count = p.same_count; same_room = p.same_room; some = p.some; bound = p.bound }
+pub poll_leaves_ordered : {F A : Type 0} (future : FutureOf F A) (old new : OrderedInFlight F A) (answer : Poll (Option A)) (cx left : Context) → PollsInTurn future old answer new cx left → PollLeavesQueue ordered_count ordered_room old answer new
+poll_leaves_ordered future old new answer cx left poll =
+    let p = poll.counts in
+    record { empty = p.empty; fewer = p.fewer; same_count = p.same_count; same_room = p.same_room; some = p.some; bound = p.bound }
+
+pub poll_gives_ordered : {F A : Type 0} (future : FutureOf F A) (old new : OrderedInFlight F A) (answer : Poll (Option A)) (cx left : Context) → PollsInTurn future old answer new cx left → GivesInTurn future old answer new
+poll_gives_ordered future old new answer cx left poll = gives_in_turn future old new answer cx left poll

@@ -19,7 +19,7 @@ use Rattle.futures_buffered_unordered.specs.FuturesUnorderedBounded.{Bounded, Is
 use Rattle.futures_buffered_unordered.specs.FuturesUnorderedBounded.{held_in, slots_in}
 use Rattle.futures_buffered_unordered.specs.PollsBounded.{PollsBounded}
 pub use Rattle.futures_buffered_unordered.specs.declared.slot_future.SlotFuture.{Ghosts as SlotFutureOf}
-use Rattle.futures_buffered_joins.specs.Join.{itself}
+use Rattle.futures_buffered_unordered.specs.PollsBounded.{itself}
 use Rattle.futures_buffered.specs.Buffer.{Buffering, StreamOf, buffer_code, Ahead, AsksStream}
 use Rattle.futures_buffered.specs.Buffer.{HasNoTurn, PollsStream, WaitsAt}
 use Rattle.futures_buffered.specs.BufferUnordered.{IsNewUnordered, SetWaitsAt}

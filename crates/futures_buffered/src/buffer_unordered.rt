@@ -1,7 +1,8 @@
 //! Some futures of a stream at a time, whose outputs come as they finish.
 ghost use Rattle.std.specs.Prelude.{false};
 ghost use Rattle.futures_buffered_unordered.specs.Held.{AllHeld, ComesFrom};
-ghost use Rattle.futures_buffered_unordered.specs.FuturesUnorderedBounded.{Pushes, PollGives, PollLeavesTask, IsNewSet, held_in, slots_in};
+ghost use Rattle.futures_buffered_unordered.specs.FuturesUnorderedBounded.{Pushes, PollGives, IsNewSet, held_in, slots_in};
+ghost use Rattle.futures_buffered_unordered.specs.PollsBounded.{PollsBounded, itself};
 ghost use Rattle.futures_buffered.specs.FutureQueue.{OnlyPushes};
 ghost use Rattle.futures_buffered.specs.BufferUnordered.{LosesNothing, MayGiveInSlot, SetWaitsAt};
 
@@ -60,7 +61,7 @@ impl<F: SlotFuture<S::Waker>, S: ReadySource> FutureQueue<F> for CompletionQueue
 
     ghost polls = { PollGives F.polled S.steps };
 
-    ghost leaves = { PollLeavesTask F.polled S.steps S.registers_poll };
+    ghost leaves = { PollsBounded (itself F.SlotFuture) S.ReadySource };
 
     ghost is_fit = { F.can_poll };
 

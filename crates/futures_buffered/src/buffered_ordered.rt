@@ -1,8 +1,9 @@
 //! Some futures of a stream at a time, whose outputs come in the order of the items.
 ghost use Rattle.std.specs.Prelude.{true};
 ghost use Rattle.futures_buffered_unordered.specs.FuturesUnorderedBounded.{held_in};
-ghost use Rattle.futures_buffered_ordered.specs.OrderedEntries.{AddsBack, ComesInOrder, OrderedGives, OrderedLeavesTask};
-ghost use Rattle.futures_buffered_ordered.specs.FuturesOrderedBounded.{EachRunning, IsNewBoundedQueue, PushesNumber, SetGives, SetLeavesTask, SetMayGive};
+ghost use Rattle.futures_buffered_unordered.specs.PollsBounded.{itself};
+ghost use Rattle.futures_buffered_ordered.specs.OrderedEntries.{AddsBack, ComesInOrder, OrderedGives};
+ghost use Rattle.futures_buffered_ordered.specs.FuturesOrderedBounded.{EachRunning, IsNewBoundedQueue, PollsOrderedBounded, PushesNumber, SetGives, SetMayGive};
 ghost use Rattle.futures_buffered.specs.FutureQueue.{OnlyPushes};
 ghost use Rattle.futures_buffered.specs.BufferUnordered.{MayGiveInSlot};
 ghost use Rattle.futures_buffered.specs.BufferedOrdered.{GivesInOrder, QueueWaitsAt, queue_len, queue_slots};
@@ -67,8 +68,7 @@ where
 
     ghost polls = { OrderedGives (SetGives F.polled S.steps) held_in };
 
-    ghost leaves = { OrderedLeavesTask (SetGives F.polled S.steps)
-        (SetLeavesTask F.polled S.steps S.registers_poll) held_in };
+    ghost leaves = { PollsOrderedBounded (itself F.SlotFuture) S.ReadySource };
 
     ghost is_fit = { F.can_poll };
 

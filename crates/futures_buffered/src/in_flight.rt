@@ -1,5 +1,5 @@
 //! Futures of the kit in plain sight, as what a buffer holds.
-ghost use Rattle.futures_buffered_in_flight.specs.InFlightOrdered.{CanPollOrdered, ComesOfEach, GivesInTurn, LeavesInTurn, OrderedWaitsAt, PushesBack, ordered_count, ordered_room};
+ghost use Rattle.futures_buffered_in_flight.specs.InFlightOrdered.{CanPollOrdered, ComesOfEach, GivesInTurn, OrderedWaitsAt, PollsInTurn, PushesBack, ordered_count, ordered_room};
 ghost use Rattle.futures_buffered_in_flight.specs.InFlightQueue.{CanPollQueue, ComesFromQueue, PollsQueued, PollsQueuedTask, PushesQueued, QueuedWaitsAt, queued_count, queued_room};
 ghost use Rattle.futures_buffered.specs.FutureQueue.{OnlyPushes};
 
@@ -70,7 +70,7 @@ impl<F: Future<Output = A>, A: Drop> FutureQueue<F> for InFlightOrdered<F, A> {
 
     ghost polls = { GivesInTurn F.Future };
 
-    ghost leaves = { LeavesInTurn F.Future };
+    ghost leaves = { PollsInTurn F.Future };
 
     ghost is_fit = { F.can_poll };
 
@@ -98,7 +98,7 @@ impl<F: Future<Output = A>, A: Drop> FutureQueue<F> for InFlightOrdered<F, A> {
         None
     }
 
-    #[tactic(auto, using(crate::proofs::InFlightLemmas::poll_leaves_ordered))]
+    #[tactic(auto, using(crate::proofs::InFlightLemmas::poll_leaves_ordered, crate::proofs::InFlightLemmas::poll_gives_ordered))]
     fn poll_output(&mut self, cx: &mut Context<'_>) -> Poll<Option<A>> {
         InFlightOrdered::poll_output(self, cx)
     }

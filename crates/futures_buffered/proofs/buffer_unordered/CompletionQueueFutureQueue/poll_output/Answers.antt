@@ -1,6 +1,6 @@
 use Rattle.std.proofs.Common.{rules, is_some}
 use Rattle.std.proofs.lemmas.List.Sums.{count_by-le-length}
-use Rattle.futures_buffered_unordered.proofs.PollsBoundedLemmas.{answers_as_stream, gives_of, task_of}
+use Rattle.futures_buffered_unordered.proofs.PollsBoundedLemmas.{answers_as_stream, gives_of}
 use Rattle.futures_buffered.proofs.BufferUnorderedLemmas.{empty_polled}
 use Rattle.futures_buffered.proofs.buffer_unordered.CompletionQueueFutureQueue.poll_output.Goals as goal
 
@@ -38,6 +38,4 @@ returns-clause-stream g c =
     })
 
 pub returns-clause-leaves : goal.returns-clause-leaves
-returns-clause-leaves g c =
-    let source = g.S.ReadySource in
-    rw (← c.self.view_is) (task_of _ source source.steps.registers (λ a b h. h) _ _ _ _ _ c.poll_next.ensures)
+returns-clause-leaves g c = rw (← c.self.view_is) c.poll_next.ensures
