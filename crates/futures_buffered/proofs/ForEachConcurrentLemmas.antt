@@ -12,7 +12,7 @@ use Rattle.futures_buffered_unordered.specs.FuturesUnorderedBounded.{Bounded, Is
 use Rattle.futures_buffered_unordered.specs.PollsBounded.{PollsBounded}
 use Rattle.futures_buffered_unordered.specs.PollsBounded.{itself}
 use Rattle.futures_buffered.specs.Buffer.{HasNoTurn, PollsStream, StreamOf}
-use Rattle.futures_buffered.specs.ForEachConcurrent.{ForEach, DrawAndPoll, TurnGives, EndsAfter, ForEachCall, DrawsOnce, ReadySourceOf, SlotFutureOf, drew_one, gave_one, goes_on, CanForEach, ForEachGives}
+use Rattle.futures_buffered.specs.ForEachConcurrent.{ForEach, DrawAndPoll, TurnGives, EndsAfter, ForEachCall, DrawsOnce, ReadySourceOf, SlotFutureOf, drew_one, gave_one, moves_on, CanForEach, ForEachGives}
 use Rattle.futures_buffered_unordered.proofs.HeldLemmas.{AllHeld-push}
 
 module _ {St X Fn F W S : Type 0} (stream : StreamOf St X) (closure : Mut Fn (X × Unit {0}) F) (future : SlotFutureOf F W (Unit {0})) (source : ReadySourceOf S W) where
@@ -49,17 +49,17 @@ pub item_ends : {St X Fn Q : Type 0} (stream : StreamOf St X) (old : ForEach St 
     → ForEachGives stream (record { buffer = record { stream = Some left; queue = q2 }; closure = f1 }) tt → ForEachGives stream old tt
 item_ends stream old s left x q q2 f f1 is rest gives = rw is (x ∷ gives.0, rest gives.0 None gives.1)
 
-pub goes_if_drew : {X A : Type 0} (asked : Option (Poll (Option X))) (answer : Poll (Option A)) → drew_one asked ≡ true → goes_on {X = X} {A = A} (asked, answer) ≡ true
+pub goes_if_drew : {X A : Type 0} (asked : Option (Poll (Option X))) (answer : Poll (Option A)) → drew_one asked ≡ true → moves_on {X = X} {A = A} (asked, answer) ≡ true
 goes_if_drew asked answer e = rw e refl
 
-pub goes_if_gave : {X A : Type 0} (asked : Option (Poll (Option X))) (answer : Poll (Option A)) (x : A) → answer ≡ Ready (Some x) → goes_on {X = X} {A = A} (asked, answer) ≡ true
+pub goes_if_gave : {X A : Type 0} (asked : Option (Poll (Option X))) (answer : Poll (Option A)) (x : A) → answer ≡ Ready (Some x) → moves_on {X = X} {A = A} (asked, answer) ≡ true
 goes_if_gave asked answer x e = rw e (or_true (drew_one asked))
   where
     or_true : (b : Bool) → (b || true) ≡ true
     or_true true = refl
     or_true false = refl
 
-pub stops : {X A : Type 0} (asked : Option (Poll (Option X))) (answer : Poll (Option A)) → drew_one asked ≡ false → gave_one answer ≡ false → goes_on {X = X} {A = A} (asked, answer) ≡ false
+pub stops : {X A : Type 0} (asked : Option (Poll (Option X))) (answer : Poll (Option A)) → drew_one asked ≡ false → gave_one answer ≡ false → moves_on {X = X} {A = A} (asked, answer) ≡ false
 stops asked answer e k = rw (e, k) refl
 
 module _ {St X Fn F W S : Type 0} (stream : StreamOf St X) (closure : Mut Fn (X × Unit {0}) F) (future : SlotFutureOf F W (Unit {0})) (source : ReadySourceOf S W) where
@@ -82,18 +82,18 @@ module _ {St X Fn F W S : Type 0} (stream : StreamOf St X) (closure : Mut Fn (X 
   }
 
   pub last_call : (old now new : ForEach St Fn (Bounded F S)) (cx now_cx after : Context) (done : List (DrawAndPoll X (Unit {0}))) (last : DrawAndPoll X (Unit {0})) (answer : Poll (Unit {0})) → FoldsTo (TurnGives stream closure future source) (old, cx) done (now, now_cx) → TurnGives stream closure future source (now, now_cx) last (new, after)
-      → AllByRecursion (λ turn. goes_on turn ≡ true) done → length done < old.buffer.queue.limit → EndsAfter stream closure future source old.buffer.queue.limit (length done) last after answer new after → ForEachCall stream closure future source old answer new cx after
+      → AllByRecursion (λ turn. moves_on turn ≡ true) done → length done < old.buffer.queue.limit → EndsAfter stream closure future source old.buffer.queue.limit (length done) last after answer new after → ForEachCall stream closure future source old answer new cx after
   last_call old now new cx now_cx after done last answer row turn went_on below ends =
       record { turns = done; last = last; after = after; row = FoldsTo-push (TurnGives stream closure future source) (old, cx) done (now, now_cx) last (new, after) row turn; went_on = went_on; at_most = below; ends = ends }
 
-  split_last : (turn : DrawAndPoll X (Unit {0})) (turns : List (DrawAndPoll X (Unit {0}))) → AllByRecursion (λ turn. goes_on turn ≡ true) (turn ∷ turns)
-      → (init : List (DrawAndPoll X (Unit {0}))) × (last : DrawAndPoll X (Unit {0})) × ((turn ∷ turns) ≡ init ++ last ∷ []) × AllByRecursion (λ turn. goes_on turn ≡ true) init × (goes_on last ≡ true) × (length init + 1 ≡ length (turn ∷ turns))
+  split_last : (turn : DrawAndPoll X (Unit {0})) (turns : List (DrawAndPoll X (Unit {0}))) → AllByRecursion (λ turn. moves_on turn ≡ true) (turn ∷ turns)
+      → (init : List (DrawAndPoll X (Unit {0}))) × (last : DrawAndPoll X (Unit {0})) × ((turn ∷ turns) ≡ init ++ last ∷ []) × AllByRecursion (λ turn. moves_on turn ≡ true) init × (moves_on last ≡ true) × (length init + 1 ≡ length (turn ∷ turns))
   split_last turn [] all = ([], turn, refl, tt, all.0, refl)
   split_last turn (next_turn ∷ turns) all =
       let more = split_last next_turn turns all.1 in
       (turn ∷ more.0, more.1, ap (λ (l : List (DrawAndPoll X (Unit {0}))). turn ∷ l) more.2, (all.0, more.3), more.4, omega (arith, more.5))
 
-  pub full_call : (old new : ForEach St Fn (Bounded F S)) (cx after left : Context) (done : List (DrawAndPoll X (Unit {0}))) (answer : Poll (Unit {0})) → FoldsTo (TurnGives stream closure future source) (old, cx) done (new, after) → AllByRecursion (λ turn. goes_on turn ≡ true) done → length done ≡ old.buffer.queue.limit → 0 < old.buffer.queue.limit → answer ≡ Pending → IsWoken left
+  pub full_call : (old new : ForEach St Fn (Bounded F S)) (cx after left : Context) (done : List (DrawAndPoll X (Unit {0}))) (answer : Poll (Unit {0})) → FoldsTo (TurnGives stream closure future source) (old, cx) done (new, after) → AllByRecursion (λ turn. moves_on turn ≡ true) done → length done ≡ old.buffer.queue.limit → 0 < old.buffer.queue.limit → answer ≡ Pending → IsWoken left
       → ForEachCall stream closure future source old answer new cx left
   full_call old new cx after left [] answer row all full some is wakes = absurd (omega (arith, full))
   full_call old new cx after left (turn ∷ turns) answer row all full some is wakes =

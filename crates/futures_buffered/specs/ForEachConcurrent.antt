@@ -69,8 +69,8 @@ gave_one (Ready None) = false
 gave_one (Ready (Some x)) = true
 
 -- another turn follows, if one is left
-abbrev pub goes_on : {X A : Type 0} → DrawAndPoll X A → Bool
-goes_on turn = drew_one turn.0 || gave_one turn.1
+abbrev pub moves_on : {X A : Type 0} → DrawAndPoll X A → Bool
+moves_on turn = drew_one turn.0 || gave_one turn.1
 
 -- it may end, where its stream may
 abbrev pub ForEachGives : {St X Fn Q : Type 0} → StreamOf St X → ForEach St Fn Q → Unit {0} → Type 0
@@ -182,10 +182,10 @@ module _
     abbrev pub EndsAfter : ℕ → ℕ → DrawAndPoll X (Unit {0}) → Context
         → Poll (Unit {0}) → ForEach St Fn (Bounded F S) → Context → Type 0
     EndsAfter limit done last after (Ready _) new left =
-        (goes_on last ≡ false) × HasEnded last new × (left ≡ after)
+        (moves_on last ≡ false) × HasEnded last new × (left ≡ after)
     EndsAfter limit done last after Pending new left =
-        ((goes_on last ≡ false) × (HasEnded last new → ⊥) × (left ≡ after))
-        ⊎ ((goes_on last ≡ true) × (done + 1 ≡ limit) × IsWoken left)
+        ((moves_on last ≡ false) × (HasEnded last new → ⊥) × (left ≡ after))
+        ⊎ ((moves_on last ≡ true) × (done + 1 ≡ limit) × IsWoken left)
 
     -- One call, which took a for-each from old to new and the task from cx to left: some turns, each
     -- of which drew an item or gave an output, and the last one.
@@ -199,6 +199,6 @@ module _
       pub last : DrawAndPoll X (Unit {0})
       pub after : Context
       pub row : FoldsTo TurnGives (old, cx) (turns ++ last ∷ []) (new, after)
-      pub went_on : AllByRecursion (λ turn. goes_on turn ≡ true) turns
+      pub went_on : AllByRecursion (λ turn. moves_on turn ≡ true) turns
       pub at_most : length turns < old.buffer.queue.limit
       pub ends : EndsAfter old.buffer.queue.limit (length turns) last after answer new left

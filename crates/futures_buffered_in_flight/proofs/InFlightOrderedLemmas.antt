@@ -16,7 +16,7 @@ use Rattle.futures_buffered_ordered.proofs.OrderedEntriesInvariantLemmas.{held_b
 use Rattle.futures_buffered_ordered.proofs.OrderedEntriesLemmas.{as_many_of, comes_before, comes_behind, empty_of, fewer_of, gives_alone, no_more_of, one_entry_more, one_entry_more_before, rest_of, same_of, unused_none, value_of}
 use Rattle.futures_buffered_in_flight.specs.InFlight.{FutureOf}
 use Rattle.futures_buffered_in_flight.specs.InFlightQueue.{Queued, CanPollQueue, IsNewQueued, NumberGives, PollsNumber, PollsQueuedTask, QueuedWaitsAt, QueuesNumber, SameRoom, IsAtItsBound, has_tag, numbered_with, tagged_with, queued_count, queued_room, queued_with}
-use Rattle.futures_buffered_in_flight.specs.InFlightOrdered.{AnswersInTurn, GivesInTurn, KeepsInOrder, LeavesInOrder, OrderedInFlight, PollsByNumber, PollsInTurn, PushesBack, PushesFront, flying_numbers, flying_polls, ordered_count, ordered_room}
+use Rattle.futures_buffered_in_flight.specs.InFlightOrdered.{AnswersInTurn, GivesInTurn, KeepsInOrder, LeavesInOrder, OrderedInFlight, PollsByNumber, PollsInTurn, PushesBack, PushesFront, flying_polls, ordered_count, ordered_room}
 use Rattle.futures_buffered_in_flight.specs.declared.in_flight.Place.{Place}
 use Rattle.futures_buffered_in_flight.proofs.InFlightQueueLemmas.{number_counts}
 
@@ -99,13 +99,13 @@ module _ {F A : Type 0} (future : FutureOf F A) where
       }
 
   -- one poll, told of the queue alone
-  alone : (old new : OrderedInFlight F A) (answer : Poll (Option A)) (cx after : Context) → PollsOrdered (flying_numbers future) (flying_polls future) old answer new cx after → GivesInTurn future old answer new
+  alone : (old new : OrderedInFlight F A) (answer : Poll (Option A)) (cx after : Context) → PollsOrdered (flying_polls future) old answer new cx after → GivesInTurn future old answer new
   alone old new answer cx after poll = gives_alone (PollsByNumber future) (PollsNumber future) (λ a b given before later h. h.gave) queued_count old new answer cx after poll.gave
 
   pub gives_in_turn : (old new : OrderedInFlight F A) (answer : Poll (Option A)) (cx after : Context) → PollsInTurn future old answer new cx after → GivesInTurn future old answer new
   gives_in_turn old new answer cx after poll = alone old new answer cx after poll.polls
 
-  module _ (old new : Numbering (Queued F) A) (answer : Poll (Option A)) (keeps : KeepsInOrder old) (cx after : Context) (poll : PollsOrdered (flying_numbers future) (flying_polls future) old.queue answer new.queue cx after) where
+  module _ (old new : Numbering (Queued F) A) (answer : Poll (Option A)) (keeps : KeepsInOrder old) (cx after : Context) (poll : PollsOrdered (flying_polls future) old.queue answer new.queue cx after) where
     polled : GivesInTurn future old.queue answer new.queue
     polled = alone old.queue new.queue answer cx after poll
 

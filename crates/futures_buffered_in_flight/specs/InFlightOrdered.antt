@@ -10,11 +10,10 @@ use Rattle.futures_buffered_unordered.specs.StreamAnswers.{StreamAnswers, stream
 use Rattle.futures_buffered_ordered.specs.OrderedEntries.{Ordered, AddsBack, AddsFront}
 use Rattle.futures_buffered_ordered.specs.OrderedEntries.{ComesInOrder, IsNewQueue, OrderedGives}
 use Rattle.futures_buffered_ordered.specs.OrderedEntries.{PolledSet, PollsOrdered}
-use Rattle.futures_buffered_ordered.specs.declared.numbered_set.NumberedSet.{Ghosts as NumberedSetOf}
 use Rattle.futures_buffered_ordered.specs.OrderedEntriesInvariant.{IsNumbered, Numbering}
 use Rattle.futures_buffered_in_flight.specs.InFlight.{FutureOf}
-use Rattle.futures_buffered_in_flight.specs.InFlightQueue.{Queued, CanPollQueue, IsAtItsBound}
-use Rattle.futures_buffered_in_flight.specs.InFlightQueue.{IsNewQueued, SameRoom}
+use Rattle.futures_buffered_in_flight.specs.InFlightQueue.{Queued, CanPollQueue, IsNewQueued}
+use Rattle.futures_buffered_in_flight.specs.InFlightQueue.{SameRoom}
 use Rattle.futures_buffered_in_flight.specs.InFlightQueue.{NumberGives, PollsNumber, QueuesNumber}
 use Rattle.futures_buffered_in_flight.specs.InFlightQueue.{PollsQueuedTask, QueuedWaitsAt}
 use Rattle.futures_buffered_in_flight.specs.InFlightQueue.{queued_count, queued_room, queued_with}
@@ -139,21 +138,11 @@ module _ {F A : Type 0} (future : FutureOf F A) where
     pub gave : PollsNumber future old answer new
     pub task : PollsQueuedTask answer new cx left
 
-  -- what the futures are to the queue over them, and how they are polled
-  abbrev pub flying_numbers : NumberedSetOf (Queued F) F
-  flying_numbers = record {
-    count = queued_count;
-    with_number = queued_with;
-    pushes = QueuesNumber future;
-    may_refuse = IsAtItsBound;
-    refuses = IsAtItsBound;
-    keeps = SameRoom;
-    takes = CanPollQueue future;
-    is_fit = future.can_poll;
-  }
-
+  -- how the futures in flight are polled
   abbrev pub flying_polls : PolledSet (Queued F) A
   flying_polls = record {
+    count = queued_count;
+    keeps = SameRoom;
     can_poll = CanPollQueue future;
     gives = PollsByNumber;
     needs = QueuedWaitsAt;
@@ -168,7 +157,7 @@ module _ {F A : Type 0} (future : FutureOf F A) where
       : Type 0 where
     -- the futures were polled, each output was kept in the entry of its number, and then came the
     -- front
-    pub polls : PollsOrdered flying_numbers flying_polls old answer new cx left
+    pub polls : PollsOrdered flying_polls old answer new cx left
     -- how many are left
     pub counts : LeavesInOrder old answer new
 

@@ -168,7 +168,7 @@ pub record PollsStreams
 
 -- One poll of a merge, which took it from old to new and the task from cx to left. A clause names
 -- streams and source by the ghost members of their types: `St.SlotStream S.ReadySource`.
-pub record PollsMerge
+pub record PollsMergeBounded
     {St W A S : Type 0}
     (stream : SlotStreamOf St W A)
     (source : ReadySourceOf S W)

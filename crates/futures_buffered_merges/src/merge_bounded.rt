@@ -9,7 +9,7 @@ ghost use Rattle.futures_buffered_unordered.specs.StreamAnswers.{StreamAnswers};
 ghost use Rattle.futures_buffered_unordered.specs.Held.{AllHeld};
 ghost use Rattle.futures_buffered_unordered.specs.FuturesUnorderedBounded.{HoldsEach, Pushes, PushesIfRoom, PushesOne, emptied, held_in, slots_in};
 ghost use Rattle.futures_buffered_unordered.specs.Extended.{Extends, MakesFull};
-ghost use Rattle.futures_buffered_merges.specs.Merging.{PollsMerge};
+ghost use Rattle.futures_buffered_merges.specs.Merging.{PollsMergeBounded};
 ghost use Rattle.futures_buffered_merges.specs.MergeBounded.{KeepsOrder, KeepsOrderWithPushes, ComesFromStreams};
 
 use crate::merge_of::{MergeOf, StreamSet};
@@ -168,7 +168,7 @@ impl<St: SlotStream<S::Waker>, S: ReadySource> Stream for MergeBounded<St, S> {
     /// A stream that gives an item stays, and its slot is marked. A stream that ends is dropped, and where another is still held a new count begins. `Ready(None)` where no stream is held, at first or any more. `Pending` where no further name came or a count reached the limit; where the source paused and at the limit the task is woken at once. Takes no memory but what the calls of the source take, and time in proportion to the names taken, besides the polls.
     fn poll_next(&mut self, cx: &mut Context<'_>) -> Poll<Option<St::Item>>
         requires { AllHeld St.can_poll self.old.slots }
-        ensures polls { PollsMerge St.SlotStream S.ReadySource
+        ensures polls { PollsMergeBounded St.SlotStream S.ReadySource
             self.old result self.new cx.old cx.new }
         ensures stream { StreamAnswers ⟦<MergeBounded<St, S> as Stream>⟧
             self.old result self.new cx.old cx.new }

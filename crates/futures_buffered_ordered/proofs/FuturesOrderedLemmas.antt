@@ -50,5 +50,5 @@ module _ {F A S : Type 0} (polled : ℕ → F → Poll A → F → Type 0) (step
   groups_still old new answer h z = still (PollsNumbered polled) steps old.groups new.groups answer h z
 
 -- one poll of the queue, told of it alone
-pub queue_gives_of : {R F W A S : Type 0} (rule : PollOneOf R F W A) (source : ReadySourceOf S W) (made : ℕ → S → Type 0) (old new : OrderedGrowing F A S) (answer : Poll (Option A)) (cx left : Context) → PollsOrderedGrowing rule source made old answer new cx left → OrderedGives (GroupsAlone rule.polled source.steps) held_in_groups old answer new
-queue_gives_of rule source made old new answer cx left poll = gives_alone (PollsGrowing (of_numbered rule) source) (GroupsAlone rule.polled source.steps) (λ a b given before after h. h.groups.gave) held_in_groups old new answer cx left poll.gave
+pub queue_gives_of : {R F W A S : Type 0} (rule : PollOneOf R F W A) (source : ReadySourceOf S W) (old new : OrderedGrowing F A S) (answer : Poll (Option A)) (cx left : Context) → PollsOrderedGrowing rule source old answer new cx left → OrderedGives (GroupsAlone rule.polled source.steps) held_in_groups old answer new
+queue_gives_of rule source old new answer cx left poll = gives_alone (PollsGrowing (of_numbered rule) source) (GroupsAlone rule.polled source.steps) (λ a b given before after h. h.groups.gave) held_in_groups old new answer cx left poll.gave

@@ -74,11 +74,12 @@ module _
     {R F W A S : Type 0}
     (rule : PollOneOf R F W A)
     (source : ReadySourceOf S W)
-    (made : ℕ → S → Type 0)
   where
     -- how it is polled, where `rule` says how one future is
     abbrev pub growing_polls : PolledSet (Growing (Numbered F) S) A
     growing_polls = record {
+      count = held_in_groups;
+      keeps = SameLimit;
       can_poll = EachInProgress rule.can_poll;
       gives = PollsGrowing (of_numbered rule) source;
       needs = λ set. AnyNeeds source.needs set.groups.listed;
@@ -87,4 +88,4 @@ module _
     -- One poll of a queue that grows, over the queue and the task.
     abbrev pub PollsOrderedGrowing : OrderedGrowing F A S → Poll (Option A) → OrderedGrowing F A S
         → Context → Context → Type 0
-    PollsOrderedGrowing = PollsOrdered (growing_numbers source made) growing_polls
+    PollsOrderedGrowing = PollsOrdered growing_polls

@@ -108,6 +108,8 @@ module _
     -- how it is polled, where `rule` says how one future is
     abbrev pub bounded_polls : PolledSet (Bounded (Numbered F) S) A
     bounded_polls = record {
+      count = held_in;
+      keeps = SameSize;
       can_poll = EachRunning rule.can_poll;
       gives = PollsBounded (of_numbered rule) source;
       needs = λ set n. (0 < held_in set) × source.needs set.source n;
@@ -116,7 +118,7 @@ module _
     -- One poll of a bounded queue, over the queue and the task.
     abbrev pub PollsOrderedBounded : OrderedBounded F A S → Poll (Option A) → OrderedBounded F A S
         → Context → Context → Type 0
-    PollsOrderedBounded = PollsOrdered (bounded_numbers source) bounded_polls
+    PollsOrderedBounded = PollsOrdered bounded_polls
 
     -- how many names one poll of the set took
     abbrev pub names_taken : (old : Bounded (Numbered F) S) (answer : Poll (Option (ℕ × A)))

@@ -208,6 +208,10 @@ BesideTask gives old answer new = gives old.0 answer new.0 old.1 new.1
 
 -- how a set of numbered futures is polled
 pub record PolledSet (Q A : Type 0) : Type 1 where
+  -- how many futures are held
+  pub count : Q → ℕ
+  -- what a poll keeps of it
+  pub keeps : Q → Q → Type 0
   -- each future that is held may be polled
   pub can_poll : Q → Type 0
   -- one poll, that finds the set and the task, gives an answer and leaves them
@@ -215,44 +219,40 @@ pub record PolledSet (Q A : Type 0) : Type 1 where
   -- where a set that is pending waits
   pub needs : Q → ℕ → Type 0
 
-module _
-    {Q F A : Type 0}
-    (numbers : NumberedSetOf Q F)
-    (polls : PolledSet Q A)
-  where
-    -- What one poll leaves of a queue and of the task.
-    pub record LeavesQueue
-        {B : Type 0}
-        (old : Ordered Q A)
-        (answer : Poll B)
-        (new : Ordered Q A)
-        (cx left : Context)
-        : Type 0 where
-      -- this stays of the set, and a place for as many entries
-      pub set : numbers.keeps old.set new.set
-      pub room : new.room ≡ old.room
-      -- a pending queue has a future in progress
-      pub holds : OnPending answer (0 < numbers.count new.set)
-      -- who waits where: the task of a pending queue hears of what its set waits for
-      pub covered : OnPending answer (Covers left (polls.needs new.set))
-      -- nothing of the task is lost
-      pub kept : Keeps cx left
-      -- what may be polled again: each future in progress
-      pub pollable : polls.can_poll new.set
+module _ {Q A : Type 0} (polls : PolledSet Q A) where
+  -- What one poll leaves of a queue and of the task.
+  pub record LeavesQueue
+      {B : Type 0}
+      (old : Ordered Q A)
+      (answer : Poll B)
+      (new : Ordered Q A)
+      (cx left : Context)
+      : Type 0 where
+    -- this stays of the set, and a place for as many entries
+    pub set : polls.keeps old.set new.set
+    pub room : new.room ≡ old.room
+    -- a pending queue has a future in progress
+    pub holds : OnPending answer (0 < polls.count new.set)
+    -- who waits where: the task of a pending queue hears of what its set waits for
+    pub covered : OnPending answer (Covers left (polls.needs new.set))
+    -- nothing of the task is lost
+    pub kept : Keeps cx left
+    -- what may be polled again: each future in progress
+    pub pollable : polls.can_poll new.set
 
-    -- One poll, which took the queue from old to new and the task from cx to left.
-    pub record PollsOrdered
-        (old : Ordered Q A)
-        (answer : Poll (Option A))
-        (new : Ordered Q A)
-        (cx left : Context)
-        : Type 0 where
-      -- what came, and who is woken: polls of the set that each gave an output, which its entry
-      -- keeps, and then the last step
-      pub gave : OrderedGives (BesideTask polls.gives) (λ set. numbers.count set.0)
-          (with_task old cx) answer (with_task new left)
-      -- what stays, who waits where, and what may be polled again
-      pub queue : LeavesQueue old answer new cx left
+  -- One poll, which took the queue from old to new and the task from cx to left.
+  pub record PollsOrdered
+      (old : Ordered Q A)
+      (answer : Poll (Option A))
+      (new : Ordered Q A)
+      (cx left : Context)
+      : Type 0 where
+    -- what came, and who is woken: polls of the set that each gave an output, which its entry
+    -- keeps, and then the last step
+    pub gave : OrderedGives (BesideTask polls.gives) (λ set. polls.count set.0)
+        (with_task old cx) answer (with_task new left)
+    -- what stays, who waits where, and what may be polled again
+    pub queue : LeavesQueue old answer new cx left
 
 -- an output of each, in order, and then the end
 abbrev pub InTurn : {E A : Type 0} → (E → A → Type 0) → List E → Runs A

@@ -206,7 +206,7 @@ impl<T: Drop, A: Drop, S: NewSource> GrowingQueue<T, A, S> {
         cx: &mut Context<'_>,
     ) -> Poll<Option<A>>
         requires { EachInProgress R.can_poll self.old.set }
-        ensures { PollsOrderedGrowing R.PollOne S.ReadySource S.made
+        ensures { PollsOrderedGrowing R.PollOne S.ReadySource
             self.old result self.new cx.old cx.new }
     {
         self.queue.poll_entries(rule, cx)

@@ -242,7 +242,13 @@ impl<Q: NumberedSet, A: Drop> OrderedEntries<Q, A> {
             (with_task self.old.queue cx.old) Poll.Pending (with_task self.new.queue cx.new)) }
         ensures fewer { IfReady result (λ _.
             Q.count self.new.queue.set + 1 ≡ Q.count self.old.queue.set) }
-        ensures queue { LeavesQueue Q.NumberedSet (record { can_poll = Q.can_poll; gives = Q.gives; needs = Q.needs })
+        ensures queue { LeavesQueue (record {
+          count = Q.count;
+          keeps = Q.keeps;
+          can_poll = Q.can_poll;
+          gives = Q.gives;
+          needs = Q.needs;
+        })
             self.old.queue result self.new.queue cx.old cx.new }
         ensures numbered { IsNumbered Q.with_number Q.count self.new }
     {
@@ -264,7 +270,13 @@ impl<Q: NumberedSet, A: Drop> OrderedEntries<Q, A> {
     where
         Q: PollNumberedSet<R, Output = A>,
         requires { CanPollEntries Q.can_poll Q.with_number Q.count self.old }
-        ensures polls { PollsOrdered Q.NumberedSet (record { can_poll = Q.can_poll; gives = Q.gives; needs = Q.needs })
+        ensures polls { PollsOrdered (record {
+          count = Q.count;
+          keeps = Q.keeps;
+          can_poll = Q.can_poll;
+          gives = Q.gives;
+          needs = Q.needs;
+        })
             self.old.queue result self.new.queue cx.old cx.new }
         ensures numbered { IsNumbered Q.with_number Q.count self.new }
     {

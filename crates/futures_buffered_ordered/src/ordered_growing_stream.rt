@@ -34,8 +34,8 @@ where
         requires { EachInProgress T.can_poll self.old.set }
         ensures stream { StreamAnswers ⟦<GrowingQueue<T, A, S> as Stream>⟧
             self.old result self.new cx.old cx.new }
-        ensures polls { PollsOrderedGrowing (itself T.SlotFuture)
-            S.ReadySource S.made self.old result self.new cx.old cx.new }
+        ensures polls { PollsOrderedGrowing (itself T.SlotFuture) S.ReadySource
+            self.old result self.new cx.old cx.new }
     {
         self.poll_with(&PollFuture, cx)
     }

@@ -5,7 +5,7 @@ use Rattle.std.proofs.lemmas.Fn.{FoldsTo-push}
 use Rattle.std.proofs.lemmas.List.{length_push}
 use Rattle.futures.proofs.SentLemmas.{AllByRecursion-push}
 use Rattle.futures_buffered_unordered.specs.FuturesUnorderedBounded.{Bounded, held_in, slots_in}
-use Rattle.futures_buffered.specs.ForEachConcurrent.{ForEach, TurnGives, goes_on, gave_one}
+use Rattle.futures_buffered.specs.ForEachConcurrent.{ForEach, TurnGives, moves_on, gave_one}
 use Rattle.futures_buffered.proofs.ForEachConcurrentLemmas.{none_drew, some_not_none, goes_if_drew, goes_if_gave, stops, turn_of, last_call, full_call}
 use Rattle.futures_buffered.proofs.for_each_concurrent.ForEachConcurrentFuture.poll.Goals.{in-Ready-Some, in-Ready-None-2+else-not-drew, in-Ready-None+else-is_none, in-Pending-1}
 use Rattle.futures_buffered.proofs.for_each_concurrent.ForEachConcurrentFuture.poll.Goals as goal
@@ -19,14 +19,14 @@ turns-preserved g c =
     let polled = c.poll_next.ensures in
     let drew = c.draw-drew.ensures.drew in
     let turn = turn_of g.St.Stream g.F.FnMut g.Fut.SlotFuture g.S.ReadySource c.turns.self c.draw-drew.new.self c.self.inside.stream c.self.inside.queue c.poll_next.new.self c.self.inside.closure drew.0 c.poll_next.result c.turns.cx c.draw-drew.new.cx c.poll_next.new.cx (sym c.self.view_is) drew.2 polled c.draw-drew.ensures.task.kept c.draw-drew.ensures.task.no_turn in
-    let goes : goes_on (drew.0, c.poll_next.result) ≡ true = elim c.match-poll_next.branch [
+    let goes : moves_on (drew.0, c.poll_next.result) ≡ true = elim c.match-poll_next.branch [
       | in-Ready-Some w ↦ goes_if_gave drew.0 c.poll_next.result tt (let e = w.in-Ready-Some.is in let k = w.in-Ready-Some.field-0-is in search rules)
       | in-Ready-None-2+else-not-drew w ↦ goes_if_drew drew.0 c.poll_next.result (drew.1 ∙ (let e = w.if-not-drew.false in search rules))
     ] in
     record {
       done = so.done ++ (drew.0, c.poll_next.result) ∷ [];
       row = FoldsTo-push (TurnGives g.St.Stream g.F.FnMut g.Fut.SlotFuture g.S.ReadySource) (c.args.self.now, c.args.cx.now) so.done (c.turns.self, c.turns.cx) _ _ so.row turn;
-      went_on = AllByRecursion-push (λ turn. goes_on turn ≡ true) so.done (drew.0, c.poll_next.result) goes so.went_on;
+      went_on = AllByRecursion-push (λ turn. moves_on turn ≡ true) so.done (drew.0, c.poll_next.result) goes so.went_on;
       count = omega (arith, length_push so.done (drew.0, c.poll_next.result), so.count);
       capacity = polled.capacity ∙ (ap (λ (b : ForEach g.row.St.Denot g.row.F.Denot (Bounded g.row.Fut.Denot g.row.S.Denot)). slots_in b.buffer.queue) c.self.view_is ∙ (c.draw-drew.ensures.leaves.capacity ∙ so.capacity));
       limit = polled.limit ∙ (ap (λ (b : ForEach g.row.St.Denot g.row.F.Denot (Bounded g.row.Fut.Denot g.row.S.Denot)). b.buffer.queue.limit) c.self.view_is ∙ (c.draw-drew.ensures.leaves.limit ∙ so.limit));

@@ -13,7 +13,7 @@ returns-clause-stream g c =
     let new = c.poll_with.new.self in
     let answer = c.poll_with.result in
     let poll = c.poll_with.ensures in
-    let gives = queue_gives_of (itself g.T.SlotFuture) g.S.ReadySource g.S.NewSource.made old new answer c.args.cx.now c.poll_with.new.cx poll in
+    let gives = queue_gives_of (itself g.T.SlotFuture) g.S.ReadySource old new answer c.args.cx.now c.poll_with.new.cx poll in
     record {
       value = value_of (GroupsAlone polled steps) (GrowingMayGive polled) (groups_still polled steps) (groups_gave polled steps) held_in_groups old new answer gives;
       rest = rest_of (GroupsAlone polled steps) (GrowingMayGive polled) (groups_still polled steps) (groups_gave polled steps) held_in_groups old new answer gives;
