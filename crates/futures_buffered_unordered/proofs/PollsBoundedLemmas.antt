@@ -14,7 +14,8 @@ use Rattle.futures_buffered_table.specs.declared.answer.Taken.{Taken}
 use Rattle.futures_buffered_table.specs.declared.answer.Taken.TheVariants.{Slot, Empty, Pause}
 use Rattle.futures_buffered_unordered.specs.StreamAnswers.{StreamAnswers}
 use Rattle.futures_buffered_unordered.specs.Held.{AllHeld, ComesFrom, EndsWith, Passes}
-use Rattle.futures_buffered_unordered.specs.FuturesUnorderedBounded.{Bounded, Asks, AsksSet, AsksSetTask, AsksUntil, EndsWaiting, IsWoken, LeavesTask, PollGives, PollLeavesTask, SaidEmpty, with_source}
+use Rattle.futures_buffered_unordered.specs.FuturesUnorderedBounded.{Bounded, Asks, AsksSet, AsksSetTask, AsksUntil, EndsWaiting, IsWoken, LeavesTask, PollGives, SaidEmpty, with_source}
+use Rattle.futures_buffered_core.specs.ReadySource.{SourceSteps}
 use Rattle.futures_buffered_unordered.specs.PollsBounded.{EndsPending, Ends, PollOneOf, PollsBounded, ReadySourceOf, RegistersAndTakes, TakesNames}
 use Rattle.futures_buffered_unordered.proofs.HeldLemmas.{AllHeld-with, AllHeldBut-with, count-with, same-with, value_in-with_value, passes_free, passes_pending}
 use Rattle.futures_buffered_unordered.proofs.StreamAnswersLemmas.{after_item, while_pending, covers_fewer}
@@ -170,6 +171,12 @@ takes_after {R} {F} {W} {A} {S} rule source registers before old new answer cx l
     same_end : (a : Poll (ℕ × A)) → Ends rule source old.limit (length it.names) it.last it.passed a new.slots cx left → Ends rule (registered_by source registers) old.limit (length it.names) it.last it.passed a new.slots cx left
     same_end (Ready x) h = h
     same_end Pending h = h
+
+-- What a poll leaves of its task, by its answer: the end leaves it as it was, an output as the registration did, and Pending as a pending poll does.
+abbrev pub PollLeavesTask : {F A S : Type 0} → (ℕ → F → Poll A → F → Type 0) → SourceSteps S → (S → Context → Context → Type 0) → Bounded F S → Poll (Option A) → Bounded F S → Context → Context → Type 0
+PollLeavesTask polled steps registers_poll old (Ready None) new cx left = left ≡ cx
+PollLeavesTask polled steps registers_poll old (Ready (Some x)) new cx left = registers_poll old.source cx left
+PollLeavesTask polled steps registers_poll old Pending new cx left = LeavesTask polled steps registers_poll old new cx left
 
 -- What a caller takes from the record of a poll, who speaks of the value alone: the relation of
 -- values, by any registration that this one may be.

@@ -234,16 +234,6 @@ module _
     PollAsksToEmpty old (Ready o) new = PollGives old (Ready o) new
     PollAsksToEmpty old Pending new = (0 < held_count old.slots) × AsksToEmpty old new
 
-    -- What a poll leaves of its task, by its answer: the end leaves it as it was, an output as the
-    -- registration did, and Pending as a pending poll does.
-    abbrev pub PollLeavesTask : (S → Context → Context → Type 0)
-        → Bounded F S → Poll (Option A) → Bounded F S → Context → Context → Type 0
-    PollLeavesTask registers_poll old (Ready None) new cx left = left ≡ cx
-    PollLeavesTask registers_poll old (Ready (Some x)) new cx left =
-        registers_poll old.source cx left
-    PollLeavesTask registers_poll old Pending new cx left =
-        LeavesTask registers_poll old new cx left
-
 -- What one count of names, from old to new, leaves of a set. `continues` says after which outputs
 -- the value may be polled again.
 pub record AsksSet
