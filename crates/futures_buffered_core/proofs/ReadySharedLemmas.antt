@@ -5,6 +5,7 @@ use Rattle.futures_buffered_table.specs.declared.answer.Taken.TheVariants.{Slot,
 use Rattle.futures_buffered_table.specs.Taking.{CallsAtStub}
 use Rattle.futures_buffered_table.specs.declared.view.AtomicStep.{AtomicStep}
 use Rattle.futures_buffered_core.specs.ReadyCore.{IsNameBelow}
+use Rattle.futures_buffered_core.specs.WakerPlace.{Poller, GivesUp}
 use Rattle.futures_buffered_core.specs.ReadyShared.{WakerOfShared, LendsFirst, lent_slot, waker_at}
 
 -- a taking that names only slots below n
@@ -13,12 +14,13 @@ name_below n (Slot i) below = below i refl
 name_below n Empty below = tt
 name_below n Pause below = tt
 
--- what a taking calls, where a call leaves it as it was, is as it was
-pub stays : (n : ℕ) (made : List AtomicStep) (taken : Taken) (head before after : ℕ) → CallsAtStub (λ _ (old new : ℕ). new ≡ old) n made taken head before after → after ≡ before
-stays n made (Slot i) head before after same = same
-stays n made Empty head before after same = same
-stays n made Pause head before after (inl here) = here.1
-stays n made Pause head before after (inr there) = there.1
+-- the poller waits after a taking where it waited before
+pub stays : {O : Type 0} (n : ℕ) (made : List AtomicStep) (taken : Taken) (head : ℕ) (before after : Poller O) →
+    CallsAtStub (λ _ (old new : Poller O). GivesUp old new) n made taken head before after → after.awaits ≡ before.awaits
+stays n made (Slot i) head before after same = ap (λ (p : Poller _). p.awaits) same
+stays n made Empty head before after left = left.0
+stays n made Pause head before after (inl here) = here.1.0
+stays n made Pause head before after (inr there) = ap (λ (p : Poller _). p.awaits) there.1
 
 -- the waker that is lent at first is of slot 0
 pub first_lent : (capacity awaited : ℕ) (lent : Option WakerOfShared) → LendsFirst capacity awaited lent → lent_slot lent ≡ 0

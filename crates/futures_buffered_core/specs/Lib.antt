@@ -30,3 +30,4 @@ pub mod SlotMapLends
 pub mod SlotMapIterMut
 pub mod Drawn
 pub mod Made
+pub mod WakerPlace

@@ -1,21 +1,23 @@
 //! Where a fresh wake finds the waker of the task.
 //!
-//! A wake puts its slot into the list first, and looks here then. One word says that a waker is kept here, that none is, or that somebody has the place. Nobody waits: wakes and the poller each try a compare-exchange of the word once. No wake is lost by that, in whatever order the steps come.
+//! A wake puts its slot into the list first, and looks here then. One word says that a waker is kept here, that none is, or that somebody has the place. Nobody waits. A wake reads the word, tries one compare-exchange where a waker is kept, and stores that none is once it has taken that out. A poller reads the word too. Where none is kept and no other source puts wakers in here, it writes its waker and stores that one is kept: until then no other call changes the word. Else it tries one compare-exchange, and stores behind it. No wake is lost by that, in whatever order the steps come.
 //!
 //! - The poller puts its waker in before it reads the tail that lets it answer `Empty`. A wake whose slot went into the tail before that read makes the poller answer `Pause`, after which the task polls again. A wake whose slot went in later finds the waker, unless another wake took it out in between: that one wakes the task.
 //! - A wake that finds another wake at the place leaves the task to it. That one wakes the task.
-//! - A wake that finds the poller at the place, or no waker, leaves its slot to the poller, which reads the tail later, or to the wake that took the waker.
+//! - A wake that finds the poller at the place, or no waker, also while the poller writes its own, leaves its slot to the poller, which reads the tail later, or to the wake that took the waker.
 //! - A poller that is to put its waker in and finds a wake at the place wakes the task itself.
 //!
 //! Every step is sequentially consistent, so all of them stand in one order.
-ghost use Rattle.std.specs.Prelude.{◌≡◌, ◌⊎◌, ℕ, IfOk, IfSome};
+ghost use Rattle.std.specs.Prelude.{◌≡◌, ◌⊎◌, ℕ, true, Option, None, IfOk, IsSomeAnd};
 ghost use Rattle.std.specs.Arc.{arc_value};
-ghost use Rattle.futures.specs.Task.{Hears, IsArmed, Keeps};
+ghost use Rattle.futures.specs.Task.{Hears, IsArmed, Keeps, Wakes};
+ghost use Rattle.futures_buffered_core.specs.WakerPlace.{IsNewPoller, PutsOrMeets, GivesUp, TakesBack};
+ghost use Rattle.futures_buffered_place.specs.History.{TakesOut, no_history, seated};
 ghost use Rattle.futures_buffered_table.specs.Waking.{IsWake};
 ghost use Rattle.futures_buffered_table.specs.declared.answer.Woke.TheVariants.{Fresh};
 
-use counted_slot::{Claim, Counted, FREE, Fits, PRESENT, TAKEN};
 use futures::task::{Context, Poll, Source, Waker};
+use futures_buffered_place::place::{Place, Put, PutSeat, TakeSeat};
 use futures_buffered_table::ready_table::{BeforeEmpty, StepsMade, WakeSeat};
 use std::alloc::{AllocError, Global};
 use std::marker::Model;
@@ -33,95 +35,57 @@ impl OuterWaker for Waker {
     }
 }
 
-// The waker that is kept, if one is.
-#[derive(Drop)]
-struct Kept<O>(Option<O>);
-
-impl<O> Fits for Kept<O> {
-    ghost use Rattle.std.specs.Prelude.{⊤};
-
-    type Tag = ();
-
-    ghost fits = { λ _ _. ⊤ };
-}
-
-/// What sources that stand beside one another share with all their wakers. No call waits, and none takes memory.
+/// What sources that stand beside one another share with all their wakers. No call waits, and none but `new` takes memory.
 #[derive(Drop)]
 pub struct WakerPlace<O> {
     source: Source,
-    // Its word is `PRESENT` where a waker is kept, `FREE` where none is, and `TAKEN` while somebody has the place.
-    kept: Counted<Kept<O>>,
+    kept: Place<O>,
 }
 
 impl<O> Model for WakerPlace<O> {
-    ghost use Rattle.std.specs.Prelude.{ℕ};
+    ghost use Rattle.futures_buffered_core.specs.WakerPlace.{Awaited, awaited_code};
 
-    ghost Value = { ℕ };
+    ghost Value = { Awaited };
 
-    ghost view = { λ place. place.source.id };
+    ghost coded = { awaited_code };
+
+    ghost view = { λ place. record { source = place.source.id; place = place.kept } };
 }
 
 impl<O: OuterWaker> WakerPlace<O> {
-    /// Keeps no waker at first.
-    pub fn new() -> WakerPlace<O> {
-        WakerPlace {
-            source: Source::new(),
-            kept: Counted::new(Kept(None), &()),
-        }
+    /// Keeps no waker at first. Gives the seat that puts in.
+    pub fn new(alloc: Global) -> Result<(WakerPlace<O>, PutSeat<O>), AllocError>
+        ensures { IfOk result (λ r. r.1 ≡ seated r.0.place no_history) }
+    {
+        let (kept, seat) = Place::new(alloc)?;
+        let source = Source::new();
+        Ok((WakerPlace { source, kept }, seat))
     }
 
     /// Takes out the waker that is kept and wakes it, unless another call is at the place. Of many wakes after one registration one takes it out, and those that come later pay for a load.
     ///
-    /// The seat shows that a fresh wake has put its slot into the list: no wake looks here earlier.
-    pub fn wake(&self, _made: &WakeSeat)
+    /// The seat shows that a fresh wake has put its slot into the list: no wake looks here earlier. The seat that it gives shows that it took out the waker, or found none or another call at the place.
+    pub fn wake(&self, _made: &WakeSeat) -> TakeSeat<O>
         requires { (slot : ℕ) × IsWake slot _made.now.steps Fresh }
+        ensures place { result.place ≡ self.now.place }
+        ensures looked { (outer : Option O) × TakesOut no_history outer result.did }
     {
-        if let Some(outer) = self.take_out() {
+        let (taken, seat) = self.kept.take_anew();
+        if let Some(outer) = taken {
             outer.wake_outer();
         }
-    }
-
-    // The waker that is kept, unless another call is at the place.
-    fn take_out(&self) -> Option<O> {
-        if self.kept.load() != PRESENT {
-            return None;
-        }
-        let claim = self.take_place(PRESENT)?;
-        let Kept(outer) = claim.put(Kept(None), FREE);
-        outer
-    }
-
-    // The place, where its word is still the one that was seen.
-    fn take_place(&self, seen: u64) -> Option<Claim<'_, Kept<O>>>
-        requires { (seen ≡ FREE) ⊎ (seen ≡ PRESENT) }
-        ensures { IfSome result (λ claim. claim.right ≡ 2) }
-    {
-        let (found, claim) = self.kept.turn(seen, TAKEN);
-        if found != seen {
-            claim.done();
-            return None;
-        }
-        Some(claim)
-    }
-
-    // The same, whichever of the two it is. None where another call is at the place.
-    fn take_any_place(&self) -> Option<Claim<'_, Kept<O>>>
-        ensures { IfSome result (λ claim. claim.right ≡ 2) }
-    {
-        let seen = self.kept.load();
-        if seen != FREE && seen != PRESENT {
-            return None;
-        }
-        self.take_place(seen)
+        seat
     }
 
     /// Keeps a waker in place of the one before, which is let go once this call has left the place. Where another call is there, it wakes the waker at once.
-    pub fn put_in(&self, outer: O) {
-        match self.take_any_place() {
-            Some(claim) => {
-                let _before = claim.put(Kept(Some(outer)), PRESENT);
-            }
-            None => outer.wake_outer(),
+    pub fn put_in(&self, seat: &mut PutSeat<O>, outer: O)
+        requires { seat.old.place ≡ self.now.place }
+        ensures place { seat.new.place ≡ seat.old.place }
+        ensures put { PutsOrMeets outer seat.old.did seat.new.did }
+    {
+        match self.kept.put_in(seat, outer) {
+            Put::Kept(_before) => {}
+            Put::Busy(outer) => outer.wake_outer(),
         }
     }
 }
@@ -131,72 +95,99 @@ impl<O: OuterWaker> WakerPlace<O> {
 /// The task's waker is kept here from its registration on, and is put into the shared place only before the poller can answer `Empty`. So a poll that ends with an output puts nothing there, and nobody wakes a task that polls again by itself. Where the poller has none, a registration takes back the waker that the place keeps.
 ///
 /// A poll that asks sources beside one another asks the one that registered first. One of them that still has the waker of an earlier poll puts it in as well, and the waker that it replaces wakes the task.
+///
+/// A contract sees at which place it waits, the waker that it has, and those that it put in and took back.
 #[derive(Drop)]
 pub struct PollerWaker<O> {
     shared: Arc<WakerPlace<O>>,
+    seat: PutSeat<O>,
     own: Option<O>,
 }
 
 impl<O> Model for PollerWaker<O> {
-    ghost use Rattle.std.specs.Prelude.{ℕ};
+    ghost use Rattle.std.specs.Prelude.{◌≡◌};
     ghost use Rattle.std.specs.Arc.{arc_value};
+    ghost use Rattle.futures_buffered_core.specs.WakerPlace.{Poller, poller_code};
 
-    ghost Value = { ℕ };
+    ghost Value = { Poller O };
 
-    ghost view = { λ place. arc_value place.shared };
+    ghost coded = { poller_code O.code };
+
+    ghost view = { λ p. record { awaits = arc_value p.shared; did = p.seat.did; own = p.own } };
+
+    ghost invariant = { λ p. p.seat.place ≡ (arc_value p.shared).place };
 }
 
 impl<O: OuterWaker> PollerWaker<O> {
     /// Makes the side of a source with a place of its own. It takes memory for the place.
-    pub fn alone(alloc: Global) -> Result<PollerWaker<O>, AllocError> {
+    pub fn alone(alloc: Global) -> Result<PollerWaker<O>, AllocError>
+        ensures { IfOk result (IsNewPoller None no_history) }
+    {
+        let (place, seat) = WakerPlace::new(alloc)?;
+        let shared = Arc::new(alloc, place)?;
         Ok(PollerWaker {
-            shared: Arc::new(alloc, WakerPlace::new())?,
+            shared,
+            seat,
             own: None,
         })
     }
 
     /// Makes the side of a source beside this one. What is kept here goes to the place that both share, as by `put_in`.
     pub fn beside(&mut self) -> Result<PollerWaker<O>, AllocError>
-        ensures shared { IfOk result (λ place. place ≡ self.old) }
-        ensures same { self.new ≡ self.old }
+        ensures shared { IfOk result (λ place. place.awaits ≡ self.old.awaits) }
+        ensures new { IfOk result (IsNewPoller None no_history) }
+        ensures same { self.new.awaits ≡ self.old.awaits }
     {
         let shared = self.shared()?;
         self.give_up_own();
-        Ok(PollerWaker { shared, own: None })
+        let seat = self.seat.beside(&self.shared.kept);
+        Ok(PollerWaker {
+            shared,
+            seat,
+            own: None,
+        })
     }
 
     /// Returns the place in which wakes look.
     pub fn shared(&self) -> Result<Arc<WakerPlace<O>>, AllocError>
-        ensures { IfOk result (λ shared. arc_value shared ≡ self.now) }
+        ensures { IfOk result (λ shared. arc_value shared ≡ self.now.awaits) }
     {
         Arc::try_clone(&self.shared)
     }
 
     /// Keeps a waker in the shared place, as [`WakerPlace::put_in`] does.
-    pub fn put_in(&self, outer: O) {
-        self.shared.put_in(outer);
+    pub fn put_in(&mut self, outer: O)
+        ensures same { self.new.awaits ≡ self.old.awaits }
+        ensures own { self.new.own ≡ self.old.own }
+        ensures put { PutsOrMeets outer self.old.did self.new.did }
+    {
+        self.shared.put_in(&mut self.seat, outer);
     }
 }
 
 impl PollerWaker<Waker> {
     /// Keeps the task's waker here, and takes back the one that the place keeps, where none is here. One of another task is let go, which wakes that task.
+    ///
+    /// Where no waker can be made, the task is woken.
     pub fn register(&mut self, cx: &mut Context<'_>)
-        ensures same { self.new ≡ self.old }
+        ensures same { self.new.awaits ≡ self.old.awaits }
         ensures armed { IsArmed cx.new }
-        ensures heard { Hears cx.new self.old }
+        ensures heard { Hears cx.new self.old.awaits.source }
         ensures kept { Keeps cx.old cx.new }
+        ensures own { (cx.new.lacks_waker ≡ true) ⊎ IsSomeAnd self.new.own (λ waker. Wakes waker cx.old) }
+        ensures back { TakesBack self.old.own self.old.did self.new.did }
     {
         if self.own.is_none() {
-            self.own = self.shared.take_out();
+            self.own = self.shared.kept.take_out(&mut self.seat);
         }
         let _: Poll<()> = cx.register(&self.shared.source, &mut self.own);
     }
 }
 
 impl<O: OuterWaker> BeforeEmpty for PollerWaker<O> {
-    ghost use Rattle.std.specs.Prelude.{◌≡◌};
+    ghost use Rattle.futures_buffered_core.specs.WakerPlace.{GivesUp};
 
-    ghost leaves = { λ _ old new. new ≡ old };
+    ghost leaves = { λ _ old new. GivesUp old new };
 
     #[inline(always)]
     fn before_empty(&mut self, _made: &StepsMade<'_>) {
@@ -210,10 +201,10 @@ impl<O: OuterWaker> PollerWaker<O> {
     // Puts the waker, if one is kept here, where wakes find it, as by `put_in`.
     #[inline(never)]
     pub(crate) fn give_up_own(&mut self)
-        ensures { self.new ≡ self.old }
+        ensures { GivesUp self.old self.new }
     {
         if let Some(outer) = self.own.take() {
-            self.shared.put_in(outer);
+            self.put_in(outer);
         }
     }
 }

@@ -4,11 +4,11 @@
 //!
 //! | Step here | Step of the code |
 //! |---|---|
-//! | `Looks`, `Tries`, `Inside`, then `Wakes` | `WakerPlace::wake`: in `take_out` the load of the word, the compare-exchange, and the store of `put`; then `wake_outer` |
-//! | `GoBack`, and `AtPlace` from `TakesBack` | `PollerWaker::register`, where the poller keeps no waker: in `take_out` the compare-exchange, and the store of `put`. Where the word says that none is kept, or the exchange is lost, nothing changes |
+//! | `Looks`, `Tries`, `Inside`, then `Wakes` | `WakerPlace::wake`: in `take_anew` the load of the word, the compare-exchange, and the store of `empty`; then `wake_outer` |
+//! | `GoBack`, and `AtPlace` from `TakesBack` | `PollerWaker::register`, where the poller keeps no waker: in `take_out` the compare-exchange, and the store of `empty`. Where the word says that none is kept, or the exchange is lost, nothing changes |
 //! | `KeepOwn` | `Context::register`, which leaves the task's waker with the poller that registers |
 //! | `Lacks` | `Context::register` that can make no waker, and has the task woken |
-//! | `LayOut`, and `AtPlace` from `LaysOut` | `before_empty` of the source that registered, between the link read and the tail read of a taking: `WakerPlace::put_in`, with its compare-exchange and the store of `put`. A poll of groups asks that source first |
+//! | `LayOut`, and `AtPlace` from `LaysOut` | `before_empty` of the source that registered, between the link read and the tail read of a taking: `WakerPlace::put_in`, with its compare-exchange, where it makes one, and the store of `fill`. Where it makes none, no wake's step falls between the two: the word still says that none is kept until the store, and a wake that reads it leaves the place as one that finds the poller there does. A poll of groups asks that source first |
 //! | `LayOut` that finds a wake at the place, `Misses` | `put_in` that finds the place taken, or loses the exchange, and wakes its waker; or a source beside this one that registered and answers `Pause` or stops at its limit: its waker stays with it, and the task is woken |
 //! | `BesideGoes`, `BesidePuts`, `BesideMisses` | `before_empty` of a source beside this one that did not register, where a waker of an earlier poll is with it: `put_in`, which lets go the waker that it replaces, and so wakes the task; or finds the place taken or loses the exchange, and wakes its own |
 //! | `Stop` | a poll that ends with its task woken: by an output, after which the task polls again by itself, or at its limit |

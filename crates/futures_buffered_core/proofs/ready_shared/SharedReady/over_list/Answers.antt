@@ -17,4 +17,4 @@ pub returns : goal.returns
 returns g c =
     let capacity = ap (λ w. w.list.capacity) c.in_ok-wakes.ensures.ok in
     let lent = first_lent _ _ _ c.in_ok-lent.ensures in
-    λ k. record { capacity = capacity k; awaited = c.args.task; lent = lent k; head = c.args.poll.head; taken = c.args.poll.steps; marked = c.args.marks.steps }
+    λ k. record { capacity = capacity k; awaited = c.args.task.awaits.source; lent = lent k; head = c.args.poll.head; taken = c.args.poll.steps; marked = c.args.marks.steps }

@@ -24,6 +24,6 @@ returns g c =
       (
         did.0,
         subst (λ (x : ℕ × ℕ × ℕ). IsTaking x.0 x.1 did.0 c.take_with-taken.result x.2) (λ k. (size k, head k, left k)) did.2,
-        lent ∙ (λ k. record { capacity = (view k).capacity; awaited = (place ∙ ap (λ (v : Shared). v.awaited) view) k; lent = lent_after (view k).lent c.take_with-taken.result; head = left k; taken = steps k; marked = (view k).marked }),
+        lent ∙ (λ k. record { capacity = (view k).capacity; awaited = (ap (λ a. a.source) place ∙ ap (λ (v : Shared). v.awaited) view) k; lent = lent_after (view k).lent c.take_with-taken.result; head = left k; taken = steps k; marked = (view k).marked }),
       ),
     )
