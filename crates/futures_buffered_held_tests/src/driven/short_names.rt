@@ -1,8 +1,6 @@
 //! What the short names of queues of the kit's futures make. What those of sets make is in `drops` and `nested`.
-use crate::same::assert_same;
-use futures::StreamExt;
+use crate::same::{assert_same, next_of};
 use futures::channel::oneshot::{Receiver, channel};
-use futures::executor::block_on;
 use futures_buffered::{Foreign, foreign_queue, growing_foreign_queue};
 use std::alloc::{AllocError, Global};
 use std::test::Fail;
@@ -18,7 +16,7 @@ fn sent(alloc: Global, value: u64) -> Result<Foreign<Receiver<u64>>, AllocError>
 fn a_queue(rt: HostRuntime) -> Result<(), Fail> {
     let mut queue = foreign_queue(rt.alloc(), 2)?;
     let _taken = queue.try_push_back(sent(rt.alloc(), 1)?).is_ok();
-    assert_same(&rt, block_on(&rt, queue.next())?, Some(Ok(1)));
+    assert_same(&rt, next_of(&rt, &mut queue)?, Some(Ok(1)));
     Ok(())
 }
 
@@ -26,6 +24,6 @@ fn a_queue(rt: HostRuntime) -> Result<(), Fail> {
 fn a_growing_queue(rt: HostRuntime) -> Result<(), Fail> {
     let mut queue = growing_foreign_queue(rt.alloc(), 0)?;
     queue.add_back(sent(rt.alloc(), 2)?)?;
-    assert_same(&rt, block_on(&rt, queue.next())?, Some(Ok(2)));
+    assert_same(&rt, next_of(&rt, &mut queue)?, Some(Ok(2)));
     Ok(())
 }
