@@ -9,7 +9,7 @@
 //!   wakes.
 //! - `queues_..`, `joins_..`, `merges_..`: the same of queues, joins and merges; 2,000 kept outputs, and what `extend` leaves of its
 //!   iterator.
-//! - `feed`: a stream that another thread feeds.
+//! - `feed`, `ends`: a stream that another thread feeds, and what is run to its end.
 //! - `same`: assertions as calls.
 #![tactic(auto)]
 
@@ -25,6 +25,8 @@ mod counted;
 mod dropped_source;
 #[cfg(test)]
 mod each_wake;
+#[cfg(test)]
+mod ends;
 #[cfg(test)]
 mod feed;
 #[cfg(test)]

@@ -1,7 +1,6 @@
 // Ten million wakes from eight threads.
+use crate::ends::counted;
 use crate::same::assert_same;
-use futures::StreamExt;
-use futures::executor::block_on;
 use futures::task::Poll;
 use futures::test::MockTask;
 use futures_buffered_core::ready_shared::{SharedReady, SharedWaker};
@@ -216,18 +215,14 @@ fn new_tower(alloc: Global, task: &MockTask) -> Result<Tower, Fail> {
     Ok(Tower { set, bells })
 }
 
-fn count_of<R: Wait + RandomSource + AllocGlobal>(rt: &R, set: Set) -> Result<usize, Fail> {
-    Ok(block_on(rt, set.count())?)
-}
-
 // How many outputs the set gives while the threads run.
 fn count_and_join<R>(rt: &R, set: Set, started: Vec<thread::JoinHandle<()>>) -> Result<usize, Fail>
 where
     R: Threads + Wait + RandomSource + AllocGlobal,
 {
-    let outputs = count_of(rt, set);
+    let outputs = counted(rt, set);
     join_all(rt, started);
-    outputs
+    Ok(outputs?)
 }
 
 // How many outputs the set gives while each thread rings all bells.

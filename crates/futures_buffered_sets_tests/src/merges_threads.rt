@@ -1,15 +1,14 @@
 // Merges that run while another thread feeds their streams.
+use crate::ends::ended_beside;
 use crate::feed::{Fed, Feeder, feed};
 use crate::same::assert_same;
 use futures::StreamExt;
-use futures::executor::block_on;
 use futures_buffered_core::ready_shared::SharedReady;
 use futures_buffered_sets::merge_bounded::MergeBounded;
 use futures_buffered_sets::merge_unbounded::MergeUnbounded;
 use std::alloc::{AllocError, Global};
 use std::sync::Wait;
 use std::test::Fail;
-use std::thread;
 use test_support::keep::keep;
 use test_support::sums::count_and_sum;
 
@@ -56,10 +55,8 @@ fn a_bounded_merge_while_a_thread_wakes(rt: HostRuntime) -> Result<(), Fail> {
         rt.alloc(),
         streams,
     )?;
-    let child = thread::spawn(&rt, move || give_all(&feeders))?;
-    let items = block_on(&rt, merge.collect(rt.alloc()));
-    child.join(&rt);
-    assert_same(&rt, count_and_sum(items??.as_slice()), (4, 15));
+    let items = ended_beside(&rt, merge.collect(rt.alloc()), move || give_all(&feeders))??;
+    assert_same(&rt, count_and_sum(items.as_slice()), (4, 15));
     Ok(())
 }
 
@@ -70,9 +67,7 @@ fn a_growing_merge_while_a_thread_wakes(rt: HostRuntime) -> Result<(), Fail> {
         rt.alloc(),
         streams,
     )?;
-    let child = thread::spawn(&rt, move || give_all(&feeders))?;
-    let items = block_on(&rt, merge.collect(rt.alloc()));
-    child.join(&rt);
-    assert_same(&rt, count_and_sum(items??.as_slice()), (4, 15));
+    let items = ended_beside(&rt, merge.collect(rt.alloc()), move || give_all(&feeders))??;
+    assert_same(&rt, count_and_sum(items.as_slice()), (4, 15));
     Ok(())
 }

@@ -1,10 +1,8 @@
-// A queue whose outputs are collected under `block_on`.
-use futures::StreamExt;
-use futures::executor::block_on;
+// A queue whose outputs are collected.
+use crate::ends::collected;
 use futures_buffered_core::ready_shared::SharedReady;
 use futures_buffered_sets::futures_ordered::FuturesOrdered;
-use std::alloc::{AllocGlobal, Global};
-use std::random::RandomSource;
+use std::alloc::Global;
 use std::sync::Wait;
 use std::test::Fail;
 use test_support::cells::{Cells, new_cells};
@@ -35,19 +33,12 @@ fn send_from_the_last<R: Wait + Drop>(senders: &[Sender<u64, R>]) {
     }
 }
 
-fn collected<R>(rt: &R, queue: Queue<R>) -> Result<Vec<u64>, Fail>
-where
-    R: Wait + RandomSource + AllocGlobal + Drop,
-{
-    Ok(block_on(rt, queue.collect(rt.alloc()))??)
-}
-
 #[test]
 fn collects_in_order(rt: HostRuntime) -> Result<(), Fail> {
     let Cells { senders, receivers } = new_cells(&rt, rt.alloc(), 4)?;
     let queue = queue_of(rt.alloc(), receivers)?;
     send_from_the_last(senders.as_slice());
-    let outputs = collected(&rt, queue)?;
+    let outputs = collected(&rt, queue)??;
     assert!(rt; outputs.as_slice() == [3, 2, 1, 0].as_slice());
     Ok(())
 }

@@ -1,4 +1,5 @@
 // Sets that move to another thread, or are woken from one.
+use crate::ends::{collected, counted};
 use crate::same::assert_same;
 use crate::yields::Yield;
 use futures::executor::block_on;
@@ -13,6 +14,7 @@ use std::test::Fail;
 use std::thread::{self, JoinHandle, Threads};
 use test_support::cells::{Cells, new_cells, send_each};
 use test_support::receiver::{Receiver, Sender};
+use test_support::sums::count_and_sum;
 use test_support::timed::{Timed, ready};
 
 type Shared<F> = FuturesUnorderedBounded<F, SharedReady>;
@@ -27,13 +29,6 @@ fn new_timed(alloc: Global) -> Result<Shared<Timed>, Fail> {
 // Whether futures that are ready with 1 and 2 were put in.
 fn takes_two(set: &mut Shared<Timed>) -> bool {
     set.try_push(ready(1)).is_ok() && set.try_push(ready(2)).is_ok()
-}
-
-fn collected<R>(rt: &R, set: Shared<Timed>) -> Outputs<u64>
-where
-    R: Wait + RandomSource + AllocGlobal,
-{
-    block_on(rt, set.collect(rt.alloc()))
 }
 
 fn collecting<R>(rt: R, set: Shared<Timed>) -> Result<JoinHandle<Outputs<u64>>, Fail>
@@ -64,13 +59,6 @@ fn new_yielding(alloc: Global) -> Result<Shared<Yield>, Fail> {
 
 fn takes_two_yields(set: &mut Shared<Yield>) -> bool {
     set.try_push(Yield::new()).is_ok() && set.try_push(Yield::new()).is_ok()
-}
-
-fn counted<R>(rt: &R, set: Shared<Yield>) -> io::Result<usize>
-where
-    R: Wait + RandomSource + AllocGlobal,
-{
-    block_on(rt, set.count())
 }
 
 fn counting<R>(rt: R, set: Shared<Yield>) -> Result<JoinHandle<io::Result<usize>>, Fail>
@@ -159,20 +147,12 @@ fn next_and_fold_while_a_thread_wakes(rt: HostRuntime) -> Result<(), Fail> {
     Ok(())
 }
 
-fn sum(outputs: &[u64]) -> u64 {
-    let mut sum = 0u64;
-    for output in outputs {
-        sum = sum.saturating_add(*output);
-    }
-    sum
-}
-
-fn sum_of<R>(rt: &R, set: Shared<Receiver<u64, R>>) -> Result<u64, Fail>
+fn sum_of<R>(rt: &R, set: Shared<Receiver<u64, R>>) -> Result<(usize, u64), Fail>
 where
     R: Wait + RandomSource + AllocGlobal + Drop,
 {
-    let outputs = block_on(rt, set.collect(rt.alloc()))??;
-    Ok(sum(outputs.as_slice()))
+    let outputs = collected(rt, set)??;
+    Ok(count_and_sum(outputs.as_slice()))
 }
 
 #[test]
@@ -180,6 +160,6 @@ fn collect_while_a_thread_wakes(rt: HostRuntime) -> Result<(), Fail> {
     let Sent { set, child } = new_sent(&rt, rt.alloc(), [5, 6, 7, 8])?;
     let outputs = sum_of(&rt, set)?;
     child.join(&rt);
-    assert_same(&rt, outputs, 26);
+    assert_same(&rt, outputs, (4, 26));
     Ok(())
 }
