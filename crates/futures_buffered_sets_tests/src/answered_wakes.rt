@@ -13,6 +13,7 @@ use std::sync::{Arc, Mutex};
 use std::test::Fail;
 use std::thread::{self, JoinHandle, Threads, yield_now};
 use std::time::{Clock, Instant};
+use test_support::counter::new_counter;
 use test_support::polling::poll_set;
 
 // How long the threads ask.
@@ -58,10 +59,6 @@ fn keep_waker(seat: &Seat, waker: &SharedWaker) {
 }
 
 type Set = FuturesUnorderedBounded<Answers, SharedReady>;
-
-fn new_word(alloc: Global) -> Result<Arc<AtomicU64>, AllocError> {
-    Ok(Arc::new(alloc, AtomicU64::new(0))?)
-}
 
 fn new_seat(alloc: Global) -> Result<Arc<Seat>, AllocError> {
     let seat = Seat {
@@ -197,7 +194,7 @@ fn answer_and_join<R: Threads + Clock>(
     set: &mut Set,
     seat: &Arc<Seat>,
 ) -> Result<bool, Fail> {
-    let stop = new_word(alloc)?;
+    let stop = new_counter(alloc)?;
     let thread = start(rt, seat, &stop)?;
     let answered = answer_in_time(rt, task, set, seat);
     stop.store(1, SeqCst);

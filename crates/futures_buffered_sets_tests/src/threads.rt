@@ -22,13 +22,13 @@ type Shared<F> = FuturesUnorderedBounded<F, SharedReady>;
 // What the futures of a set gave, where there was memory for it.
 type Outputs<T> = io::Result<Result<Vec<T>, AllocError>>;
 
-fn new_timed(alloc: Global) -> Result<Shared<Timed>, Fail> {
+fn new_pair<F: Drop>(alloc: Global) -> Result<Shared<F>, Fail> {
     Ok(FuturesUnorderedBounded::new(alloc, 2)?)
 }
 
-// Whether futures that are ready with 1 and 2 were put in.
-fn takes_two(set: &mut Shared<Timed>) -> bool {
-    set.try_push(ready(1)).is_ok() && set.try_push(ready(2)).is_ok()
+// Whether these two were put in.
+fn takes_two<F: Drop>(set: &mut Shared<F>, one: F, two: F) -> bool {
+    set.try_push(one).is_ok() && set.try_push(two).is_ok()
 }
 
 fn collecting<R>(rt: R, set: Shared<Timed>) -> Result<JoinHandle<Outputs<u64>>, Fail>
@@ -45,20 +45,12 @@ fn outputs_of<R: Threads>(rt: &R, child: JoinHandle<Outputs<u64>>) -> Result<Vec
 
 #[test]
 fn a_set_is_polled_on_another_thread(rt: HostRuntime) -> Result<(), Fail> {
-    let mut set = new_timed(rt.alloc())?;
-    assert!(rt; takes_two(&mut set));
+    let mut set = new_pair(rt.alloc())?;
+    assert!(rt; takes_two(&mut set, ready(1), ready(2)));
     let child = collecting(rt, set)?;
     let outputs = outputs_of(&rt, child)?;
     assert_same(&rt, outputs.as_slice(), [1, 2].as_slice());
     Ok(())
-}
-
-fn new_yielding(alloc: Global) -> Result<Shared<Yield>, Fail> {
-    Ok(FuturesUnorderedBounded::new(alloc, 2)?)
-}
-
-fn takes_two_yields(set: &mut Shared<Yield>) -> bool {
-    set.try_push(Yield::new()).is_ok() && set.try_push(Yield::new()).is_ok()
 }
 
 fn counting<R>(rt: R, set: Shared<Yield>) -> Result<JoinHandle<io::Result<usize>>, Fail>
@@ -70,8 +62,8 @@ where
 
 #[test]
 fn a_set_that_yields_is_polled_on_another_thread(rt: HostRuntime) -> Result<(), Fail> {
-    let mut set = new_yielding(rt.alloc())?;
-    assert!(rt; takes_two_yields(&mut set));
+    let mut set = new_pair(rt.alloc())?;
+    assert!(rt; takes_two(&mut set, Yield::new(), Yield::new()));
     let child = counting(rt, set)?;
     assert_same(&rt, child.join(&rt)?, 2);
     Ok(())
