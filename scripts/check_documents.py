@@ -15,13 +15,14 @@ version and the same logic of the kit, and `rt version`, where there is one, end
 
 The last line is 'N names, M paths, L blocks and K contracts, F faults', and the status is 0 where there is none.
 """
-import pathlib
 import re
 import shutil
 import subprocess
 import sys
 
-ROOT = pathlib.Path(__file__).resolve().parent.parent
+sys.dont_write_bytecode = True
+from repository import ROOT, clauses_in
+
 AT_THE_TOP = ["README.md", "CALLING.md", "CONTRIBUTING.md", "CHANGELOG.md"]
 DOCUMENTS = [*(ROOT / name for name in AT_THE_TOP), *sorted((ROOT / "docs").glob("*.md")), *sorted((ROOT / "crates").glob("*/README.md"))]
 SOURCES = {".rt", ".rs", ".antt", ".calls", ".edit", ".py", ".sh", ".txt", ""}
@@ -106,12 +107,10 @@ def flat(text):
 
 def clauses_of(text):
     """Each clause of a contract, as a line `ensures name: text`."""
-    for found in re.finditer(r"\b(requires|ensures)( \w+)? \{", text):
-        end, depth = found.end(), 1
-        while depth:
-            depth += {"{": 1, "}": -1}.get(text[end], 0)
-            end += 1
-        yield f"{found[1]}{found[2] or ''}: {flat(text[found.end() : end - 1])}"
+    for clause in clauses_in(text):
+        found = re.fullmatch(r"((?:requires|ensures)(?: \w+)?) \{(.*)", clause)
+        if found:
+            yield f"{found[1]}: {flat(found[2])}"
 
 
 def contracts_of(sources):

@@ -10,36 +10,18 @@ gate tries here. The licence lies with CRATE. The line of each crate in FOLDER/c
 stands or else at the end; each that was not there before is printed.
 """
 import pathlib
-import re
 import shutil
 import sys
 
-ROOT = pathlib.Path(__file__).resolve().parent.parent
+sys.dont_write_bytecode = True
+from repository import LISTED, ROOT, name_of, with_those_below
+
 PARTS = ("src", "specs", "proofs")
-
-
-def name_of(line):
-    """The crate that a line of a crates.txt lists, or nothing where it lists none."""
-    found = re.match(r"[\w-]+", line.partition("#")[0].strip())
-    return found[0] if found else None
 
 
 def lines_in(file):
     """The lines of a crates.txt, or none where it is not there."""
     return file.read_text(encoding="utf-8").splitlines() if file.exists() else []
-
-
-def listed_in(file):
-    """The line of each crate that a crates.txt lists, by the crate's name."""
-    return {name_of(line): line.partition("#")[0].strip() for line in lines_in(file) if name_of(line)}
-
-
-def with_those_below(crate, lines):
-    """The crate and each that it needs, the lowest first."""
-    found = []
-    for needed in lines[crate].partition(":")[2].split():
-        found += [name for name in with_those_below(needed, lines) if name not in found] if needed in lines else []
-    return [*found, crate]
 
 
 def copy_crate(crate, to):
@@ -59,19 +41,19 @@ def list_crates(file, wanted):
     return added
 
 
-def copy_crates(folder, crate, lines):
+def copy_crates(folder, crate):
     """Copies the crate and those below it, and prints their lines that were not there."""
-    crates = with_those_below(crate, lines)
+    crates = with_those_below([crate])
     for name in crates:
         copy_crate(name, folder / "crates" / name)
     shutil.copy(ROOT / "LICENSE", folder / "crates" / crate / "LICENSE")
-    for line in list_crates(folder / "crates.txt", {name: lines[name] for name in crates}):
+    for line in list_crates(folder / "crates.txt", {name: LISTED[name] for name in crates}):
         print(line)
 
 
-def what_is_wrong(folder, crate, lines):
+def what_is_wrong(folder, crate):
     """Why nothing can be copied, and what to do, or nothing where it can."""
-    if crate not in lines:
+    if crate not in LISTED:
         return f"crates.txt lists no crate {crate}: name one that it lists"
     if folder.exists() and not folder.is_dir():
         return f"{folder} is no folder: name the top of the repository that is to have the copy"
@@ -87,13 +69,12 @@ def main():
     if len(sys.argv) not in (2, 3) or sys.argv[1].startswith("-"):
         sys.exit("usage: scripts/copy_crates.py FOLDER [CRATE]")
     folder, crate = pathlib.Path(sys.argv[1]), (sys.argv[2:] or ["futures_buffered"])[0]
-    lines = listed_in(ROOT / "crates.txt")
-    wrong = what_is_wrong(folder, crate, lines)
+    wrong = what_is_wrong(folder, crate)
     if wrong:
         sys.exit(wrong)
     try:
         lines_in(folder / "crates.txt")
-        copy_crates(folder, crate, lines)
+        copy_crates(folder, crate)
     except (OSError, UnicodeDecodeError) as error:
         sys.exit(f"{folder} cannot have the copy: {error}")
 

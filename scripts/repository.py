@@ -1,0 +1,57 @@
+"""What several scripts read of this repository: the crates that its crates.txt lists, and the clauses of its sources.
+
+    python3 scripts/repository.py     prints the crates, one in each line
+"""
+import pathlib
+import re
+
+ROOT = pathlib.Path(__file__).resolve().parent.parent
+
+
+def name_of(line):
+    """The crate that a line of a crates.txt lists, or nothing where it lists none."""
+    found = re.match(r"[\w-]+", line.partition("#")[0].strip())
+    return found[0] if found else None
+
+
+def listed_in(text):
+    """The line of each crate that a crates.txt lists, without its comment, by the crate's name."""
+    return {name_of(line): line.partition("#")[0].strip() for line in text.splitlines() if name_of(line)}
+
+
+# The line of each crate of this repository.
+LISTED = listed_in((ROOT / "crates.txt").read_text(encoding="utf-8"))
+
+
+def needs_of(crate):
+    """The crates of this repository that a crate needs."""
+    return [name for name in LISTED[crate].partition(":")[2].split() if name in LISTED]
+
+
+def with_those_below(crates):
+    """These crates and each that they need, the lowest first."""
+    found = []
+    for crate in crates:
+        found += [name for name in (*with_those_below(needs_of(crate)), crate) if name not in found]
+    return found
+
+
+def end_of_clause(text, start):
+    """Where the braces that open behind this place are closed, and of an item that ends with a semicolon, that."""
+    depth = 0
+    for place in range(start, len(text)):
+        depth += (text[place] == "{") - (text[place] == "}")
+        if depth == 0 and (text[place] == ";" or (text[place] == "}" and not text.startswith("ghost", start))):
+            return place
+    return len(text)
+
+
+def clauses_in(text):
+    """Each clause of a source, in one line and without comments: what stands in `requires`, `ensures` and `ghost` items."""
+    text = re.sub(r"//[^\n]*", "", text)
+    for found in re.finditer(r"\b(requires|ensures|ghost)\b", text):
+        yield " ".join(text[found.start() : end_of_clause(text, found.start())].split())
+
+
+if __name__ == "__main__":
+    print("\n".join(LISTED))
