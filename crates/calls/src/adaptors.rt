@@ -3,24 +3,23 @@ ghost use Rattle.std.specs.Prelude.{◌<◌, ◌≤◌};
 ghost use Rattle.calls.specs.declared.values.TryUnitFuture.{TryUnitFuture};
 ghost use Rattle.calls.specs.declared.values.UnitFuture.{UnitFuture};
 
-use crate::answer::{Answer, Reply, of_debug, of_end, of_hint, of_output, of_result, of_try_end};
+use crate::answer::{Answer, Given, Reply, of_debug, of_end, of_hint, of_next, of_try_end};
 use crate::command::Query;
 use crate::lines::run_made;
 use crate::session::{Options, Session};
 use crate::shared_world::SharedWorld;
 use crate::source::{FutureSource, TryFutureSource};
 use crate::subject::{Call, Subject};
-use crate::values::{NumberFuture, TryFuture, TryUnitFuture, UnitFuture};
+use crate::values::{NumberFuture, Output, TryFuture, TryUnitFuture, UnitFuture};
 use futures::stream::TryStreamExt;
 use futures::task::Context;
 use futures::{Future, Stream};
-use futures_buffered::buffer_unordered::BufferUnordered;
-use futures_buffered::buffered_ordered::BufferedOrdered;
 use futures_buffered::for_each_concurrent::ForEachConcurrent;
-use futures_buffered::try_buffer_unordered::TryBufferUnordered;
-use futures_buffered::try_buffered_ordered::TryBufferedOrdered;
+use futures_buffered::try_buffer::TryQueue;
 use futures_buffered::try_for_each_concurrent::TryForEachConcurrent;
-use futures_buffered::{Buffer, BufferedTryStreamExt, FutureQueue, NewQueue};
+use futures_buffered::{
+    Buffer, BufferedTryStreamExt, CompletionQueue, FutureQueue, NewQueue, OrderedQueue,
+};
 use futures_buffered_core::ready_core::NewFault;
 use futures_buffered_core::ready_shared::SharedReady;
 use futures_buffered_sets::futures_unordered_bounded::POLL_LIMIT;
@@ -77,14 +76,70 @@ fn new_buffer<St: Drop, Q: NewQueue<Env = (), Source = SharedReady>>(
     }
 }
 
-impl Subject for BufferUnordered<FutureSource<NumberFuture>, SharedReady> {
+impl<St: Stream + SizeHint, Q: FutureQueue<St::Item>> Subject for Buffer<St, Q>
+where
+    Q::Output: Given,
+{
+    ghost can_poll = { (buffer : Self) → ⟦<Buffer<St, Q> as Stream>⟧.can_poll buffer };
+
     fn poll(&mut self, cx: &mut Context<'_>, _outputs: &mut Vec<u64>) -> Answer {
-        of_output(self.poll_next(cx))
+        of_next(self.poll_next(cx))
     }
 
     fn call(&mut self, call: Call<'_>, _world: &SharedWorld, text: &mut String) -> Reply {
         ask_buffer(self, call, text)
     }
+}
+
+// Begins a buffer over this source.
+fn run_over<St, Q>(
+    session: &mut Session,
+    source: St,
+    n: usize,
+    lines: &[&str],
+) -> Result<usize, NewFault>
+where
+    St: Stream + SizeHint,
+    Q: FutureQueue<St::Item> + NewQueue<Env = (), Source = SharedReady>,
+    Q::Output: Given,
+    requires some { 0 < n }
+    requires polls { ⟦<Buffer<St, Q> as Subject>⟧.can_poll }
+{
+    let made: Result<Buffer<St, Q>, NewFault> = new_buffer(&session.options, source, n);
+    run_made(session, made, lines)
+}
+
+// Begins a buffer of futures.
+fn run_futures<Q>(
+    session: &mut Session,
+    numbers: &[usize],
+    lines: &[&str],
+) -> Result<usize, NewFault>
+where
+    Q: FutureQueue<NumberFuture, Output = Output> + NewQueue<Env = (), Source = SharedReady>,
+    requires { ⟦<Buffer<FutureSource<NumberFuture>, Q> as Subject>⟧.can_poll }
+{
+    let n = size_of(numbers);
+    if n == 0 {
+        return Ok(0);
+    }
+    let source = FutureSource::new(&session.world, session.options.hint)?;
+    run_over::<FutureSource<NumberFuture>, Q>(session, source, n, lines)
+}
+
+// Begins a buffer of futures that may fail.
+fn run_tries<Q>(session: &mut Session, numbers: &[usize], lines: &[&str]) -> Result<usize, NewFault>
+where
+    Q: FutureQueue<TryFuture, Output = Result<Output, u64>>
+        + NewQueue<Env = (), Source = SharedReady>,
+    requires { ⟦<Buffer<TryFutureSource<TryFuture>, TryQueue<Q>> as Subject>⟧.can_poll }
+{
+    let n = size_of(numbers);
+    if n == 0 {
+        return Ok(0);
+    }
+    let source = TryFutureSource::new(&session.world, session.options.hint)?;
+    run_over::<TryFutureSource<TryFuture>, TryQueue<Q>>(session, source, n, lines)
 }
 
 pub fn run_buffer(
@@ -92,27 +147,7 @@ pub fn run_buffer(
     numbers: &[usize],
     lines: &[&str],
 ) -> Result<usize, NewFault> {
-    let n = size_of(numbers);
-    if n == 0 {
-        return Ok(0);
-    }
-    let source: FutureSource<NumberFuture> = FutureSource::new(
-        &session.world,
-        session.options.hint,
-    )?;
-    let made: Result<BufferUnordered<FutureSource<NumberFuture>, SharedReady>, NewFault> =
-        new_buffer(&session.options, source, n);
-    run_made(session, made, lines)
-}
-
-impl Subject for BufferedOrdered<FutureSource<NumberFuture>, SharedReady> {
-    fn poll(&mut self, cx: &mut Context<'_>, _outputs: &mut Vec<u64>) -> Answer {
-        of_output(self.poll_next(cx))
-    }
-
-    fn call(&mut self, call: Call<'_>, _world: &SharedWorld, text: &mut String) -> Reply {
-        ask_buffer(self, call, text)
-    }
+    run_futures::<CompletionQueue<NumberFuture, SharedReady>>(session, numbers, lines)
 }
 
 pub fn run_ordered_buffer(
@@ -120,27 +155,7 @@ pub fn run_ordered_buffer(
     numbers: &[usize],
     lines: &[&str],
 ) -> Result<usize, NewFault> {
-    let n = size_of(numbers);
-    if n == 0 {
-        return Ok(0);
-    }
-    let source: FutureSource<NumberFuture> = FutureSource::new(
-        &session.world,
-        session.options.hint,
-    )?;
-    let made: Result<BufferedOrdered<FutureSource<NumberFuture>, SharedReady>, NewFault> =
-        new_buffer(&session.options, source, n);
-    run_made(session, made, lines)
-}
-
-impl Subject for TryBufferUnordered<TryFutureSource<TryFuture>, TryFuture, SharedReady> {
-    fn poll(&mut self, cx: &mut Context<'_>, _outputs: &mut Vec<u64>) -> Answer {
-        of_result(self.poll_next(cx))
-    }
-
-    fn call(&mut self, call: Call<'_>, _world: &SharedWorld, text: &mut String) -> Reply {
-        ask_buffer(self, call, text)
-    }
+    run_futures::<OrderedQueue<NumberFuture, Output, SharedReady>>(session, numbers, lines)
 }
 
 pub fn run_try_buffer(
@@ -148,29 +163,7 @@ pub fn run_try_buffer(
     numbers: &[usize],
     lines: &[&str],
 ) -> Result<usize, NewFault> {
-    let n = size_of(numbers);
-    if n == 0 {
-        return Ok(0);
-    }
-    let source: TryFutureSource<TryFuture> = TryFutureSource::new(
-        &session.world,
-        session.options.hint,
-    )?;
-    let made: Result<
-        TryBufferUnordered<TryFutureSource<TryFuture>, TryFuture, SharedReady>,
-        NewFault,
-    > = new_buffer(&session.options, source, n);
-    run_made(session, made, lines)
-}
-
-impl Subject for TryBufferedOrdered<TryFutureSource<TryFuture>, TryFuture, SharedReady> {
-    fn poll(&mut self, cx: &mut Context<'_>, _outputs: &mut Vec<u64>) -> Answer {
-        of_result(self.poll_next(cx))
-    }
-
-    fn call(&mut self, call: Call<'_>, _world: &SharedWorld, text: &mut String) -> Reply {
-        ask_buffer(self, call, text)
-    }
+    run_tries::<CompletionQueue<TryFuture, SharedReady>>(session, numbers, lines)
 }
 
 pub fn run_try_ordered_buffer(
@@ -178,19 +171,7 @@ pub fn run_try_ordered_buffer(
     numbers: &[usize],
     lines: &[&str],
 ) -> Result<usize, NewFault> {
-    let n = size_of(numbers);
-    if n == 0 {
-        return Ok(0);
-    }
-    let source: TryFutureSource<TryFuture> = TryFutureSource::new(
-        &session.world,
-        session.options.hint,
-    )?;
-    let made: Result<
-        TryBufferedOrdered<TryFutureSource<TryFuture>, TryFuture, SharedReady>,
-        NewFault,
-    > = new_buffer(&session.options, source, n);
-    run_made(session, made, lines)
+    run_tries::<OrderedQueue<TryFuture, Result<Output, u64>, SharedReady>>(session, numbers, lines)
 }
 
 impl<F: FnMut(UnitFuture) -> UnitFuture + Drop> Subject

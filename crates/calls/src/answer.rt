@@ -39,31 +39,39 @@ pub enum Reply {
     Written,
 }
 
-/// The answer of a merge.
-pub fn of_item(polled: Poll<Option<u64>>) -> Answer {
-    match polled {
-        Poll::Pending => Answer::Pending,
-        Poll::Ready(None) => Answer::None,
-        Poll::Ready(Some(number)) => Answer::Some(number),
+/// What a poll of a set, a queue, a merge or a buffer gives.
+pub trait Given: Drop {
+    /// The answer with it.
+    fn given(self) -> Answer;
+}
+
+impl Given for u64 {
+    fn given(self) -> Answer {
+        Answer::Some(self)
     }
 }
 
-/// The answer of a set, a queue or a buffer.
-pub fn of_output(polled: Poll<Option<Output>>) -> Answer {
-    match polled {
-        Poll::Pending => Answer::Pending,
-        Poll::Ready(None) => Answer::None,
-        Poll::Ready(Some(output)) => Answer::Some(output.into_number()),
+impl Given for Output {
+    fn given(self) -> Answer {
+        Answer::Some(self.into_number())
     }
 }
 
-/// The answer of a buffer whose futures may fail.
-pub fn of_result(polled: Poll<Option<Result<Output, u64>>>) -> Answer {
+impl Given for Result<Output, u64> {
+    fn given(self) -> Answer {
+        match self {
+            Ok(output) => Answer::SomeOk(output.into_number()),
+            Err(error) => Answer::SomeError(error),
+        }
+    }
+}
+
+/// The answer of what gives one after another.
+pub fn of_next<T: Given>(polled: Poll<Option<T>>) -> Answer {
     match polled {
         Poll::Pending => Answer::Pending,
         Poll::Ready(None) => Answer::None,
-        Poll::Ready(Some(Ok(output))) => Answer::SomeOk(output.into_number()),
-        Poll::Ready(Some(Err(error))) => Answer::SomeError(error),
+        Poll::Ready(Some(given)) => given.given(),
     }
 }
 

@@ -1,7 +1,5 @@
 //! What holds futures and streams of the kit: a set and a queue over `Driven`, and the source itself; and joins, a merge and a buffer of them in plain sight.
-use crate::answer::{
-    Answer, Reply, of_debug, of_growth, of_item, of_output, of_outputs, of_results,
-};
+use crate::answer::{Answer, Reply, of_debug, of_growth, of_next, of_outputs, of_results};
 use crate::command::{End, Query};
 use crate::lines::run_made;
 use crate::session::Session;
@@ -28,7 +26,7 @@ use std::marker::Model;
 
 impl Subject for FuturesUnordered<Foreign<KitFuture>, Driven<KitFuture>> {
     fn poll(&mut self, cx: &mut Context<'_>, _outputs: &mut Vec<u64>) -> Answer {
-        of_output(self.poll_next(cx))
+        of_next(self.poll_next(cx))
     }
 
     fn call(&mut self, call: Call<'_>, world: &SharedWorld, _text: &mut String) -> Reply {
@@ -61,7 +59,7 @@ pub fn run_set(
 
 impl Subject for FuturesOrdered<Foreign<KitFuture>, Driven<KitFuture>> {
     fn poll(&mut self, cx: &mut Context<'_>, _outputs: &mut Vec<u64>) -> Answer {
-        of_output(self.poll_next(cx))
+        of_next(self.poll_next(cx))
     }
 
     fn call(&mut self, call: Call<'_>, world: &SharedWorld, _text: &mut String) -> Reply {
@@ -168,7 +166,7 @@ impl Model for KitMerge {
 
 impl Subject for KitMerge {
     fn poll(&mut self, cx: &mut Context<'_>, _outputs: &mut Vec<u64>) -> Answer {
-        of_item(self.merge.poll_next(cx))
+        of_next(self.merge.poll_next(cx))
     }
 
     fn call(&mut self, call: Call<'_>, world: &SharedWorld, _text: &mut String) -> Reply {
@@ -216,7 +214,7 @@ impl Subject for KitBuffer {
         if let Poll::Ready(None) = &polled {
             self.buffer = None;
         }
-        of_output(polled)
+        of_next(polled)
     }
 
     fn call(&mut self, _call: Call<'_>, _world: &SharedWorld, _text: &mut String) -> Reply {

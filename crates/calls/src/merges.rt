@@ -1,5 +1,5 @@
 //! Merges of streams.
-use crate::answer::{Answer, Reply, of_debug, of_growth, of_hint, of_item, of_push};
+use crate::answer::{Answer, Reply, of_debug, of_growth, of_hint, of_next, of_push};
 use crate::command::Query;
 use crate::lines::run_made;
 use crate::session::{Options, Session};
@@ -14,7 +14,7 @@ use futures_buffered_sets::{FusedStream, MergeBounded, MergeUnbounded, SizeHint}
 
 impl Subject for MergeBounded<NumberStream, SharedReady> {
     fn poll(&mut self, cx: &mut Context<'_>, _outputs: &mut Vec<u64>) -> Answer {
-        of_item(self.poll_next(cx))
+        of_next(self.poll_next(cx))
     }
 
     fn call(&mut self, call: Call<'_>, world: &SharedWorld, text: &mut String) -> Reply {
@@ -42,7 +42,7 @@ impl Subject for MergeBounded<NumberStream, SharedReady> {
 
 impl Subject for MergeUnbounded<NumberStream, SharedReady> {
     fn poll(&mut self, cx: &mut Context<'_>, _outputs: &mut Vec<u64>) -> Answer {
-        of_item(self.poll_next(cx))
+        of_next(self.poll_next(cx))
     }
 
     fn call(&mut self, call: Call<'_>, world: &SharedWorld, text: &mut String) -> Reply {

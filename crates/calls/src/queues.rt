@@ -1,5 +1,5 @@
 //! Ordered queues of futures.
-use crate::answer::{Answer, Reply, of_debug, of_growth, of_hint, of_listed, of_output};
+use crate::answer::{Answer, Reply, of_debug, of_growth, of_hint, of_listed, of_next};
 use crate::command::{End, Query};
 use crate::lines::run_made;
 use crate::session::{Options, Session};
@@ -18,7 +18,7 @@ type GrowingQueue = FuturesOrdered<NumberFuture, SharedReady>;
 
 impl Subject for FuturesOrderedBounded<NumberFuture, SharedReady> {
     fn poll(&mut self, cx: &mut Context<'_>, _outputs: &mut Vec<u64>) -> Answer {
-        of_output(self.poll_next(cx))
+        of_next(self.poll_next(cx))
     }
 
     fn call(&mut self, call: Call<'_>, world: &SharedWorld, text: &mut String) -> Reply {
@@ -59,7 +59,7 @@ impl Subject for FuturesOrderedBounded<NumberFuture, SharedReady> {
 
 impl Subject for FuturesOrdered<NumberFuture, SharedReady> {
     fn poll(&mut self, cx: &mut Context<'_>, _outputs: &mut Vec<u64>) -> Answer {
-        of_output(self.poll_next(cx))
+        of_next(self.poll_next(cx))
     }
 
     fn call(&mut self, call: Call<'_>, world: &SharedWorld, text: &mut String) -> Reply {

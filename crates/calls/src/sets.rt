@@ -1,5 +1,5 @@
 //! Sets of futures.
-use crate::answer::{Answer, Reply, of_debug, of_growth, of_hint, of_output, of_push};
+use crate::answer::{Answer, Reply, of_debug, of_growth, of_hint, of_next, of_push};
 use crate::command::{End, Query};
 use crate::lines::run_made;
 use crate::session::{Options, Session};
@@ -18,7 +18,7 @@ type GrowingSet = FuturesUnordered<NumberFuture, SharedReady>;
 
 impl Subject for FuturesUnorderedBounded<NumberFuture, SharedReady> {
     fn poll(&mut self, cx: &mut Context<'_>, _outputs: &mut Vec<u64>) -> Answer {
-        of_output(self.poll_next(cx))
+        of_next(self.poll_next(cx))
     }
 
     fn call(&mut self, call: Call<'_>, world: &SharedWorld, text: &mut String) -> Reply {
@@ -96,7 +96,7 @@ pub fn run_set_of(session: &mut Session, ids: &[usize], lines: &[&str]) -> Resul
 
 impl Subject for FuturesUnordered<NumberFuture, SharedReady> {
     fn poll(&mut self, cx: &mut Context<'_>, _outputs: &mut Vec<u64>) -> Answer {
-        of_output(self.poll_next(cx))
+        of_next(self.poll_next(cx))
     }
 
     fn call(&mut self, call: Call<'_>, world: &SharedWorld, text: &mut String) -> Reply {
