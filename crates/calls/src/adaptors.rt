@@ -22,8 +22,9 @@ use futures_buffered::{
 };
 use futures_buffered_core::ready_core::NewFault;
 use futures_buffered_core::ready_shared::SharedReady;
+use futures_buffered_core::ready_source::ReadySource;
 use futures_buffered_sets::futures_unordered_bounded::POLL_LIMIT;
-use futures_buffered_sets::{FusedFuture, FusedStream, SizeHint};
+use futures_buffered_sets::{FusedFuture, FusedStream, SizeHint, SlotFuture};
 
 fn limit_of(options: &Options) -> usize
     ensures { 1 ≤ result }
@@ -39,24 +40,6 @@ fn size_of(numbers: &[usize]) -> usize {
     match numbers.first() {
         Some(n) => *n,
         None => 0,
-    }
-}
-
-// What a buffer replies, over whatever queue it is.
-fn ask_buffer<St: Stream + SizeHint, Q: FutureQueue<St::Item>>(
-    buffer: &Buffer<St, Q>,
-    call: Call<'_>,
-    text: &mut String,
-) -> Reply {
-    match call {
-        Call::Ask(Query::SizeHint) => of_hint(buffer.size_hint()),
-        Call::Ask(Query::Len) => Reply::Number(buffer.len()),
-        Call::Ask(Query::IsEmpty) => Reply::Is(buffer.is_empty()),
-        Call::Ask(Query::Capacity) => Reply::Number(buffer.capacity()),
-        Call::Ask(Query::HasStream) => Reply::Is(buffer.stream().is_some()),
-        Call::Ask(Query::IsTerminated) => Reply::Is(buffer.is_terminated()),
-        Call::Ask(Query::Debug) => of_debug(write!(text, "{buffer:?}")),
-        _ => Reply::Nothing,
     }
 }
 
@@ -87,7 +70,16 @@ where
     }
 
     fn call(&mut self, call: Call<'_>, _world: &SharedWorld, text: &mut String) -> Reply {
-        ask_buffer(self, call, text)
+        match call {
+            Call::Ask(Query::SizeHint) => of_hint(self.size_hint()),
+            Call::Ask(Query::Len) => Reply::Number(self.len()),
+            Call::Ask(Query::IsEmpty) => Reply::Is(self.is_empty()),
+            Call::Ask(Query::Capacity) => Reply::Number(self.capacity()),
+            Call::Ask(Query::HasStream) => Reply::Is(self.stream().is_some()),
+            Call::Ask(Query::IsTerminated) => Reply::Is(self.is_terminated()),
+            Call::Ask(Query::Debug) => of_debug(write!(text, "{self:?}")),
+            _ => Reply::Nothing,
+        }
     }
 }
 
@@ -174,9 +166,12 @@ pub fn run_try_ordered_buffer(
     run_tries::<OrderedQueue<TryFuture, Result<Output, u64>, SharedReady>>(session, numbers, lines)
 }
 
-impl<F: FnMut(UnitFuture) -> UnitFuture + Drop> Subject
-    for ForEachConcurrent<FutureSource<UnitFuture>, F, UnitFuture, SharedReady> {
-    ghost can_poll = { (closure : F) (item : UnitFuture) → F.pre closure item };
+impl<St: Stream, F, Fut, S: ReadySource> Subject for ForEachConcurrent<St, F, Fut, S>
+where
+    F: FnMut(St::Item) -> Fut + Drop,
+    Fut: SlotFuture<S::Waker, Output = ()>,
+{
+    ghost can_poll = { (for_each : Self) → ⟦<ForEachConcurrent<St, F, Fut, S> as Future>⟧.can_poll for_each };
 
     fn poll(&mut self, cx: &mut Context<'_>, _outputs: &mut Vec<u64>) -> Answer {
         of_end(Future::poll(self, cx))

@@ -1,6 +1,6 @@
 //! What holds futures and streams of the kit: a set and a queue over `Driven`, and the source itself; and joins, a merge and a buffer of them in plain sight.
 use crate::answer::{Answer, Reply, of_debug, of_growth, of_next, of_outputs, of_results};
-use crate::command::{End, Query};
+use crate::command::Query;
 use crate::lines::run_made;
 use crate::session::Session;
 use crate::shared_world::SharedWorld;
@@ -19,28 +19,10 @@ use futures_buffered::{
 };
 use futures_buffered_core::ready_core::NewFault;
 use futures_buffered_core::ready_source::{NewSource, ReadySource};
-use futures_buffered_held::{Driven, Foreign, GrowingForeignQueue, GrowingForeignSet};
+use futures_buffered_held::{Driven, GrowingForeignQueue, GrowingForeignSet};
 use futures_buffered_sets::{FuturesOrdered, FuturesUnordered};
 use std::alloc::Global;
 use std::marker::Model;
-
-impl Subject for FuturesUnordered<Foreign<KitFuture>, Driven<KitFuture>> {
-    fn poll(&mut self, cx: &mut Context<'_>, _outputs: &mut Vec<u64>) -> Answer {
-        of_next(self.poll_next(cx))
-    }
-
-    fn call(&mut self, call: Call<'_>, world: &SharedWorld, _text: &mut String) -> Reply {
-        match call {
-            Call::Push(End::Any, id) => match new_value(world, id) {
-                Some(value) => of_growth(self.push(value)),
-                None => Reply::Nothing,
-            },
-            Call::Ask(Query::Len) => Reply::Number(self.len()),
-            Call::Ask(Query::Capacity) => Reply::Number(self.capacity()),
-            _ => Reply::Nothing,
-        }
-    }
-}
 
 /// Begins a growing set, whose first group has as many slots as the line says.
 pub fn run_set(
@@ -55,23 +37,6 @@ pub fn run_set(
         n,
     );
     run_made(session, made, lines)
-}
-
-impl Subject for FuturesOrdered<Foreign<KitFuture>, Driven<KitFuture>> {
-    fn poll(&mut self, cx: &mut Context<'_>, _outputs: &mut Vec<u64>) -> Answer {
-        of_next(self.poll_next(cx))
-    }
-
-    fn call(&mut self, call: Call<'_>, world: &SharedWorld, _text: &mut String) -> Reply {
-        match call {
-            Call::Push(End::Back, id) => match new_value(world, id) {
-                Some(value) => of_growth(self.push_back(value)),
-                None => Reply::Nothing,
-            },
-            Call::Ask(Query::Len) => Reply::Number(self.len()),
-            _ => Reply::Nothing,
-        }
-    }
 }
 
 /// Begins a growing queue, whose first group has as many slots as the line says.

@@ -5,14 +5,19 @@ use crate::lines::run_made;
 use crate::session::{Options, Session};
 use crate::shared_world::SharedWorld;
 use crate::subject::{Call, Subject};
-use crate::values::{NumberFuture, TryFuture, new_values};
+use crate::values::{NumberFuture, Output, TryFuture, new_values};
 use futures::Future;
 use futures::task::Context;
 use futures_buffered_core::ready_core::NewFault;
 use futures_buffered_core::ready_shared::SharedReady;
-use futures_buffered_sets::{FusedFuture, JoinAll, TryJoinAll, join_all, try_join_all};
+use futures_buffered_core::ready_source::ReadySource;
+use futures_buffered_sets::{
+    FusedFuture, JoinAll, SlotFuture, TryJoinAll, join_all, try_join_all,
+};
 
-impl Subject for JoinAll<NumberFuture, SharedReady> {
+impl<F: SlotFuture<S::Waker, Output = Output>, S: ReadySource> Subject for JoinAll<F, S> {
+    ghost can_poll = { (future : F) → F.can_poll future };
+
     fn poll(&mut self, cx: &mut Context<'_>, outputs: &mut Vec<u64>) -> Answer {
         of_outputs(Future::poll(self, cx), outputs)
     }
@@ -26,7 +31,12 @@ impl Subject for JoinAll<NumberFuture, SharedReady> {
     }
 }
 
-impl Subject for TryJoinAll<TryFuture, SharedReady> {
+impl<F, S: ReadySource> Subject for TryJoinAll<F, S>
+where
+    F: SlotFuture<S::Waker, Output = Result<Output, u64>>,
+{
+    ghost can_poll = { (future : F) → F.can_poll future };
+
     fn poll(&mut self, cx: &mut Context<'_>, outputs: &mut Vec<u64>) -> Answer {
         of_results(Future::poll(self, cx), outputs)
     }

@@ -1,18 +1,24 @@
 //! Merges of streams.
-use crate::answer::{Answer, Reply, of_debug, of_growth, of_hint, of_next, of_push};
+use crate::answer::{Answer, Given, Reply, of_debug, of_growth, of_hint, of_next, of_push};
 use crate::command::Query;
 use crate::lines::run_made;
 use crate::session::{Options, Session};
 use crate::shared_world::SharedWorld;
 use crate::subject::{Call, Subject};
-use crate::values::{NumberStream, new_value, new_values};
+use crate::values::{NumberStream, Scripted, new_value, new_values};
 use futures::Stream;
 use futures::task::Context;
 use futures_buffered_core::ready_core::NewFault;
 use futures_buffered_core::ready_shared::SharedReady;
-use futures_buffered_sets::{FusedStream, MergeBounded, MergeUnbounded, SizeHint};
+use futures_buffered_core::ready_source::{NewSource, ReadySource};
+use futures_buffered_sets::{FusedStream, MergeBounded, MergeUnbounded, SizeHint, SlotStream};
 
-impl Subject for MergeBounded<NumberStream, SharedReady> {
+impl<St: Scripted + SlotStream<S::Waker>, S: ReadySource> Subject for MergeBounded<St, S>
+where
+    St::Item: Given,
+{
+    ghost can_poll = { (stream : St) → St.can_poll stream };
+
     fn poll(&mut self, cx: &mut Context<'_>, _outputs: &mut Vec<u64>) -> Answer {
         of_next(self.poll_next(cx))
     }
@@ -40,7 +46,12 @@ impl Subject for MergeBounded<NumberStream, SharedReady> {
     }
 }
 
-impl Subject for MergeUnbounded<NumberStream, SharedReady> {
+impl<St: Scripted + SlotStream<S::Waker>, S: NewSource> Subject for MergeUnbounded<St, S>
+where
+    St::Item: Given,
+{
+    ghost can_poll = { (stream : St) → St.can_poll stream };
+
     fn poll(&mut self, cx: &mut Context<'_>, _outputs: &mut Vec<u64>) -> Answer {
         of_next(self.poll_next(cx))
     }

@@ -1,22 +1,30 @@
 //! Ordered queues of futures.
-use crate::answer::{Answer, Reply, of_debug, of_growth, of_hint, of_listed, of_next};
+use crate::answer::{Answer, Given, Reply, of_debug, of_growth, of_hint, of_listed, of_next};
 use crate::command::{End, Query};
 use crate::lines::run_made;
 use crate::session::{Options, Session};
 use crate::shared_world::SharedWorld;
 use crate::subject::{Call, Subject};
-use crate::values::{NumberFuture, new_value, new_values};
+use crate::values::{NumberFuture, Scripted, new_value, new_values};
 use futures::Stream;
 use futures::task::Context;
 use futures_buffered_core::ready_core::NewFault;
 use futures_buffered_core::ready_shared::SharedReady;
-use futures_buffered_sets::{FusedStream, FuturesOrdered, FuturesOrderedBounded, SizeHint};
+use futures_buffered_core::ready_source::{NewSource, ReadySource};
+use futures_buffered_sets::{
+    FusedStream, FuturesOrdered, FuturesOrderedBounded, SizeHint, SlotFuture,
+};
 
 type Queue = FuturesOrderedBounded<NumberFuture, SharedReady>;
 
 type GrowingQueue = FuturesOrdered<NumberFuture, SharedReady>;
 
-impl Subject for FuturesOrderedBounded<NumberFuture, SharedReady> {
+impl<F: Scripted + SlotFuture<S::Waker>, S: ReadySource> Subject for FuturesOrderedBounded<F, S>
+where
+    F::Output: Given,
+{
+    ghost can_poll = { (future : F) → F.can_poll future };
+
     fn poll(&mut self, cx: &mut Context<'_>, _outputs: &mut Vec<u64>) -> Answer {
         of_next(self.poll_next(cx))
     }
@@ -57,7 +65,12 @@ impl Subject for FuturesOrderedBounded<NumberFuture, SharedReady> {
     }
 }
 
-impl Subject for FuturesOrdered<NumberFuture, SharedReady> {
+impl<F: Scripted + SlotFuture<S::Waker>, S: NewSource> Subject for FuturesOrdered<F, S>
+where
+    F::Output: Given,
+{
+    ghost can_poll = { (future : F) → F.can_poll future };
+
     fn poll(&mut self, cx: &mut Context<'_>, _outputs: &mut Vec<u64>) -> Answer {
         of_next(self.poll_next(cx))
     }

@@ -1,22 +1,30 @@
 //! Sets of futures.
-use crate::answer::{Answer, Reply, of_debug, of_growth, of_hint, of_next, of_push};
+use crate::answer::{Answer, Given, Reply, of_debug, of_growth, of_hint, of_next, of_push};
 use crate::command::{End, Query};
 use crate::lines::run_made;
 use crate::session::{Options, Session};
 use crate::shared_world::SharedWorld;
 use crate::subject::{Call, Subject};
-use crate::values::{NumberFuture, new_value, new_values};
+use crate::values::{NumberFuture, Scripted, new_value, new_values};
 use futures::Stream;
 use futures::task::Context;
 use futures_buffered_core::ready_core::NewFault;
 use futures_buffered_core::ready_shared::SharedReady;
-use futures_buffered_sets::{FusedStream, FuturesUnordered, FuturesUnorderedBounded, SizeHint};
+use futures_buffered_core::ready_source::{NewSource, ReadySource};
+use futures_buffered_sets::{
+    FusedStream, FuturesUnordered, FuturesUnorderedBounded, SizeHint, SlotFuture,
+};
 
 type Set = FuturesUnorderedBounded<NumberFuture, SharedReady>;
 
 type GrowingSet = FuturesUnordered<NumberFuture, SharedReady>;
 
-impl Subject for FuturesUnorderedBounded<NumberFuture, SharedReady> {
+impl<F: Scripted + SlotFuture<S::Waker>, S: ReadySource> Subject for FuturesUnorderedBounded<F, S>
+where
+    F::Output: Given,
+{
+    ghost can_poll = { (future : F) → F.can_poll future };
+
     fn poll(&mut self, cx: &mut Context<'_>, _outputs: &mut Vec<u64>) -> Answer {
         of_next(self.poll_next(cx))
     }
@@ -94,7 +102,12 @@ pub fn run_set_of(session: &mut Session, ids: &[usize], lines: &[&str]) -> Resul
     run_made(session, made, lines)
 }
 
-impl Subject for FuturesUnordered<NumberFuture, SharedReady> {
+impl<F: Scripted + SlotFuture<S::Waker>, S: NewSource> Subject for FuturesUnordered<F, S>
+where
+    F::Output: Given,
+{
+    ghost can_poll = { (future : F) → F.can_poll future };
+
     fn poll(&mut self, cx: &mut Context<'_>, _outputs: &mut Vec<u64>) -> Answer {
         of_next(self.poll_next(cx))
     }
