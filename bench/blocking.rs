@@ -91,7 +91,8 @@ fn add_channels(
     Ok(())
 }
 
-/// One thread pushes a receiver into an empty set, tells another, and waits for the output by `block_on`; the other sends at once: the time of one round, in tenths of a nanosecond.
+/// One thread pushes a receiver into an empty set, tells another, and waits for the output by `block_on`; the other
+/// sends at once: the time of one round, in tenths of a nanosecond.
 pub fn handed_over<R>(rt: &R) -> io::Result<u128>
 where
     R: Clock + RandomSource + AllocGlobal + Threads + Wait + Sync,

@@ -1,4 +1,5 @@
-//! Channels in a merge, from sending to item: those of the kit in the kit's own merge and in a merge of this library that holds the kit's streams, and those of this library in one over the shared source.
+//! Channels in a merge, from sending to item: those of the kit in the kit's own merge and in a merge of this library
+//! that holds the kit's streams, and those of this library in one over the shared source.
 use crate::items::Items;
 use crate::report::Workload;
 use futures::Stream;
@@ -102,7 +103,8 @@ impl Channel for spsc::Sender<u64> {
     }
 }
 
-/// A merge of channels. A round sends so many values through each, one behind another, takes them, and polls until the merge waits.
+/// A merge of channels. A round sends so many values through each, one behind another, takes them, and polls until the
+/// merge waits.
 #[derive(Drop)]
 pub struct Channels<C: Channel> {
     merge: C::Merge,

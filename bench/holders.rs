@@ -147,7 +147,8 @@ impl<H: Holder<Yields>> Workload for Refilled<H> {
     }
 }
 
-/// What is filled and drained. A round adds so many futures, of which the first wakes itself once and the others are ready, and polls so often.
+/// What is filled and drained. A round adds so many futures, of which the first wakes itself once and the others are
+/// ready, and polls so often.
 #[derive(Drop)]
 pub struct Drained<H>(pub H, pub usize);
 

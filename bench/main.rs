@@ -1,4 +1,5 @@
-//! What calls of the ready list, of shared sources, of sets, of queues and of adaptors cost: run it with the argument `ns`.
+//! What calls of the ready list, of shared sources, of sets, of queues and of adaptors cost: run it with the argument
+//! `ns`.
 #![tactic(auto)]
 
 mod adaptors;

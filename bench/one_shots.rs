@@ -1,4 +1,5 @@
-//! One-shots, from channel to output: those of the kit in the kit's own set, in flight and in a set over the source that has futures of the kit polled, and those of this library in a set over the shared source.
+//! One-shots, from channel to output: those of the kit in the kit's own set, in flight and in a set over the source
+//! that has futures of the kit polled, and those of this library in a set over the shared source.
 use crate::holders::{Holder, Set, poll_often};
 use crate::report::Workload;
 use futures::channel::oneshot as kit;
@@ -103,7 +104,8 @@ impl Holder<oneshot::Receiver<u64>> for Set<oneshot::Receiver<u64>> {
     }
 }
 
-/// A set of one-shots. A round makes as many as there are slots, lets each be polled, sends to all, and takes their outputs.
+/// A set of one-shots. A round makes as many as there are slots, lets each be polled, sends to all, and takes their
+/// outputs.
 #[derive(Drop)]
 pub struct OneShots<H, C: Channel> {
     alloc: Global,

@@ -18,7 +18,8 @@ pub fn keep<T: Drop>(row: &mut Vec<T>, item: T) -> Result<(), AllocError> {
     Ok(())
 }
 
-/// A list and its seats. Each call wakes a slot that is not marked and takes it, slot after slot; or wakes one that is marked.
+/// A list and its seats. Each call wakes a slot that is not marked and takes it, slot after slot; or wakes one that is
+/// marked.
 #[derive(Drop)]
 pub struct Listed {
     list: ReadyList,

@@ -142,7 +142,8 @@ impl Holder<Kept<Waker>> for KitSet<Kept<Waker>> {
     }
 }
 
-/// Each call wakes one of the futures and polls the set. Where futures end, a random one is woken, and another takes its place; else the next in turn.
+/// Each call wakes one of the futures and polls the set. Where futures end, a random one is woken, and another takes
+/// its place; else the next in turn.
 #[derive(Drop)]
 pub struct Woken<H, W: Drop> {
     holder: H,

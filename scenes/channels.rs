@@ -42,7 +42,8 @@ fn sleep_until_named<R: Wait>(rt: &R, slots: &mut Slots, slot: usize) {
     }
 }
 
-// Receives until so many items came or the stream ends, at the slots 0 and 1 in turn where it moves. Returns how many came, where they came in order.
+// Receives until so many items came or the stream ends, at the slots 0 and 1 in turn where it moves. Returns how many
+// came, where they came in order.
 fn receive<R: Wait>(
     rt: &R,
     slots: &mut Slots,
@@ -113,7 +114,8 @@ pub fn sender_finishes<R: Threads + Wait + AllocGlobal>(
     wanted(came, items)
 }
 
-/// The same where the sender stays: no wake of its going makes up for one that was lost. Where the receiver moves, its second waker is that of another slot.
+/// The same where the sender stays: no wake of its going makes up for one that was lost. Where the receiver moves, its
+/// second waker is that of another slot.
 pub fn sender_stays<R: Threads + Wait + AllocGlobal>(
     rt: &R,
     places: usize,
@@ -153,7 +155,8 @@ pub fn receiver_goes<R: Threads + Wait + AllocGlobal>(
     wanted(came, most)
 }
 
-/// The sender looks whether the receiver is gone, until it is; the receiver has polled and goes. Afterwards a sending is refused.
+/// The sender looks whether the receiver is gone, until it is; the receiver has polled and goes. Afterwards a sending
+/// is refused.
 pub fn sender_looks<R: Threads + Wait + AllocGlobal>(
     rt: &R,
     places: usize,

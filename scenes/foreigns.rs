@@ -101,7 +101,8 @@ where
     }
 }
 
-/// The set is cleared after so many polls, while the sendings are under way, and a future more is put in: of that alone an output comes.
+/// The set is cleared after so many polls, while the sendings are under way, and a future more is put in: of that alone
+/// an output comes.
 pub fn cleared<R>(rt: &R, count: usize, polls: usize) -> Result<(), anyhow::Error>
 where
     R: Threads + Wait + RandomSource + AllocGlobal,
@@ -144,7 +145,9 @@ where
     wanted(came, 5, 5)
 }
 
-/// Two sets whose sources stand beside one another, so that each polls the futures of both. A thread polls each, by a task of its own. The first number was sent before, and the second too, or as `late` says once the first came: each comes once, to its own set.
+/// Two sets whose sources stand beside one another, so that each polls the futures of both. A thread polls each, by a
+/// task of its own. The first number was sent before, and the second too, or as `late` says once the first came: each
+/// comes once, to its own set.
 pub fn beside<R>(rt: &R, late: usize) -> Result<(), anyhow::Error>
 where
     R: Threads + Wait + RandomSource + AllocGlobal,

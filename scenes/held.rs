@@ -61,7 +61,8 @@ fn is_right<H: Holder>(count: usize, came: usize) -> bool {
     }
 }
 
-/// A thread for each future wakes it so often, and makes some wakes more when it is done. The task polls until all has ended: each output comes once.
+/// A thread for each future wakes it so often, and makes some wakes more when it is done. The task polls until all has
+/// ended: each output comes once.
 pub fn polled<H: Holder, R>(
     rt: &R,
     count: usize,
@@ -100,7 +101,8 @@ where
     Ok(())
 }
 
-/// One task has polled, and another goes on while a wake is under way: all outputs come to it, and the first task is woken, since nobody keeps its waker.
+/// One task has polled, and another goes on while a wake is under way: all outputs come to it, and the first task is
+/// woken, since nobody keeps its waker.
 pub fn moved<H: Holder, R>(rt: &R, count: usize, wakes: usize) -> Result<(), anyhow::Error>
 where
     R: Threads + Wait + RandomSource + AllocGlobal,
@@ -181,7 +183,8 @@ where
     Ok(())
 }
 
-/// A future has given its output, and its waker still wakes, while another future stands in its slot: that gives its own output, after its own wake.
+/// A future has given its output, and its waker still wakes, while another future stands in its slot: that gives its
+/// own output, after its own wake.
 pub fn replaced<H: Holder, R>(rt: &R, late: usize) -> Result<(), anyhow::Error>
 where
     R: Threads + Wait + RandomSource + AllocGlobal,
@@ -206,7 +209,8 @@ where
     Ok(())
 }
 
-/// Of two futures a thread wakes the first alone, and the second is woken once the output of the first has come: no wake of the second makes up for one of the first that is lost.
+/// Of two futures a thread wakes the first alone, and the second is woken once the output of the first has come: no
+/// wake of the second makes up for one of the first that is lost.
 pub fn one_by_one<H: Holder, R>(rt: &R, wakes: usize) -> Result<(), anyhow::Error>
 where
     R: Threads + Wait + RandomSource + AllocGlobal,
@@ -234,7 +238,8 @@ where
     Ok(())
 }
 
-/// A future is pushed while a wake of the one before it is under way. In what grows it makes a second group, beside the first.
+/// A future is pushed while a wake of the one before it is under way. In what grows it makes a second group, beside the
+/// first.
 pub fn grown<H: Holder, R>(rt: &R) -> Result<(), anyhow::Error>
 where
     R: Threads + Wait + RandomSource + AllocGlobal,

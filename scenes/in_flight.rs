@@ -44,7 +44,8 @@ where
     }
 }
 
-/// The set is cleared after so many polls, while the sendings are under way, and a future more is put in: of that alone an output comes.
+/// The set is cleared after so many polls, while the sendings are under way, and a future more is put in: of that alone
+/// an output comes.
 pub fn cleared<R>(rt: &R, count: usize, polls: usize) -> Result<(), anyhow::Error>
 where
     R: Threads + Wait + RandomSource + AllocGlobal,
@@ -64,7 +65,8 @@ where
     wanted(came, 5, 5)
 }
 
-/// One of two is cancelled after so many polls, while both sendings are under way: it comes before that or not at all, and the other comes once.
+/// One of two is cancelled after so many polls, while both sendings are under way: it comes before that or not at all,
+/// and the other comes once.
 pub fn cancelled<R>(rt: &R, polls: usize) -> Result<(), anyhow::Error>
 where
     R: Threads + Wait + RandomSource + AllocGlobal,

@@ -100,7 +100,8 @@ where
     Ok(())
 }
 
-/// A thread for each future wakes it, and the future of one number fails: the join answers its error, and drops the others while their wakes may be under way.
+/// A thread for each future wakes it, and the future of one number fails: the join answers its error, and drops the
+/// others while their wakes may be under way.
 pub fn try_join<R>(rt: &R, count: usize, fails: usize) -> Result<(), anyhow::Error>
 where
     R: Threads + Wait + RandomSource + AllocGlobal,

@@ -1,6 +1,8 @@
-//! `scenes SCENE WORD..`: one small program of few threads, which `scripts/interleavings` runs in every order of its atomic steps.
+//! `scenes SCENE WORD..`: one small program of few threads, which `scripts/interleavings` runs in every order of its
+//! atomic steps.
 //!
-//! A scene ends with status 0 where what must hold at its end holds, and does not end where a wake is lost. `scenes.txt` lists them, each with the promise that it shows and its bounds.
+//! A scene ends with status 0 where what must hold at its end holds, and does not end where a wake is lost.
+//! `scenes.txt` lists them, each with the promise that it shows and its bounds.
 #![tactic(auto)]
 
 mod awaited;

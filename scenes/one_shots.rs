@@ -13,7 +13,8 @@ const VALUE: u64 = 7;
 
 type Answer = Result<Box<u64>, Canceled>;
 
-// So many polls, the last of them with the waker of slot `last`, and those before with that of slot 0. Returns the answer, if one came.
+// So many polls, the last of them with the waker of slot `last`, and those before with that of slot 0. Returns the
+// answer, if one came.
 fn poll_often(
     slots: &Slots,
     receiver: &mut Receiver<Box<u64>>,
@@ -70,7 +71,8 @@ fn is_value(answer: &Answer) -> bool {
     }
 }
 
-/// The sender sends while the receiver is polled, the last time with the waker of slot `last`: the value comes, and that slot is woken.
+/// The sender sends while the receiver is polled, the last time with the waker of slot `last`: the value comes, and
+/// that slot is woken.
 pub fn sent<R: Threads + Wait + AllocGlobal>(
     rt: &R,
     polls: usize,
@@ -123,7 +125,8 @@ pub fn sender_goes<R: Threads + Wait + AllocGlobal>(
     Ok(())
 }
 
-/// The receiver goes while the sender sends: the value came, or comes back, or is dropped with what both share. Nothing is left.
+/// The receiver goes while the sender sends: the value came, or comes back, or is dropped with what both share. Nothing
+/// is left.
 pub fn receiver_goes<R: Threads + Wait + AllocGlobal>(
     rt: &R,
     polls: usize,

@@ -9,7 +9,8 @@ use std::alloc::{AllocGlobal, Global};
 use std::sync::{Arc, Wait};
 use std::thread::{self, JoinHandle, Threads, yield_now};
 
-/// Threads wake the slots of a source, in turn, each so often. Whoever takes sleeps where nothing is marked, and gets to know of the last wake of each slot.
+/// Threads wake the slots of a source, in turn, each so often. Whoever takes sleeps where nothing is marked, and gets
+/// to know of the last wake of each slot.
 pub fn wakes<R>(rt: &R, slots: usize, threads: usize, wakes: usize) -> Result<(), anyhow::Error>
 where
     R: Threads + Wait + AllocGlobal,
@@ -82,7 +83,8 @@ fn wake_both(list: &ReadyList, mut seat: WakeSeat, first: usize) -> (WakeSeat, u
     (seat, fresh)
 }
 
-// Makes so many takings, of which none may say Empty while a mark is there for sure, and returns how many slots they named.
+// Makes so many takings, of which none may say Empty while a mark is there for sure, and returns how many slots they
+// named.
 fn take_often(
     list: &ReadyList,
     poll: &mut futures_buffered_table::ready_table::PollSeat,
@@ -97,7 +99,9 @@ fn take_often(
     named
 }
 
-/// Three seats over two slots: two threads wake both slots, in opposite orders, and the poller takes so often meanwhile. Afterwards as many slots are named as there were fresh wakes, and then none: no mark is lost, and none is there twice.
+/// Three seats over two slots: two threads wake both slots, in opposite orders, and the poller takes so often
+/// meanwhile. Afterwards as many slots are named as there were fresh wakes, and then none: no mark is lost, and none is
+/// there twice.
 pub fn seats<R>(rt: &R, takings: usize) -> Result<(), anyhow::Error>
 where
     R: Threads + Wait + AllocGlobal,

@@ -64,7 +64,8 @@ impl Tally {
         true
     }
 
-    /// Takes until nothing is named, where the source's first slot is the one after `before`. Returns whether it paused.
+    /// Takes until nothing is named, where the source's first slot is the one after `before`. Returns whether it
+    /// paused.
     pub fn take_all<O: OuterWaker>(&mut self, source: &mut SharedReady<O>, before: usize) -> bool {
         for _ in 0..u64::MAX {
             match source.take() {

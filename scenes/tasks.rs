@@ -22,7 +22,8 @@ pub fn wait_for<R: Wait>(rt: &R, task: &MockTask) {
     }
 }
 
-/// Polls until the stream ends, and sleeps behind each pending poll. Returns what came, a digit for each number: one more than the number.
+/// Polls until the stream ends, and sleeps behind each pending poll. Returns what came, a digit for each number: one
+/// more than the number.
 pub fn drain<R: Wait, St: Stream<Item = usize>>(rt: &R, task: &MockTask, stream: &mut St) -> usize {
     let mut came = 0usize;
     for _ in rt.forever() {
@@ -70,7 +71,8 @@ fn poll_until_known<R: Wait>(rt: &R, task: &MockTask, source: &mut SharedReady, 
     }
 }
 
-/// Threads wake the slots of a source, in turn, each so often. The task that polls it gets to know of the last wake of each slot.
+/// Threads wake the slots of a source, in turn, each so often. The task that polls it gets to know of the last wake of
+/// each slot.
 pub fn task<R>(rt: &R, slots: usize, threads: usize, wakes: usize) -> Result<(), anyhow::Error>
 where
     R: Threads + Wait + RandomSource + AllocGlobal,
@@ -91,7 +93,8 @@ where
     Ok(())
 }
 
-/// One task has polled the source, and another polls it while wakes are under way. The other is woken, and the first too, since nobody keeps its waker then.
+/// One task has polled the source, and another polls it while wakes are under way. The other is woken, and the first
+/// too, since nobody keeps its waker then.
 pub fn other_task<R>(rt: &R, wakes: usize) -> Result<(), anyhow::Error>
 where
     R: Threads + Wait + RandomSource + AllocGlobal,
@@ -138,7 +141,8 @@ fn poll_to_a_name(task: &MockTask, source: &mut SharedReady) {
     });
 }
 
-/// A source is made beside another while wakes of that are under way. Then one task polls both, and registers with the first alone: it gets to know of the last wake of each. With `earlier` the second keeps the waker of an earlier poll.
+/// A source is made beside another while wakes of that are under way. Then one task polls both, and registers with the
+/// first alone: it gets to know of the last wake of each. With `earlier` the second keeps the waker of an earlier poll.
 pub fn sibling<R>(rt: &R, wakes: usize, earlier: usize) -> Result<(), anyhow::Error>
 where
     R: Threads + Wait + RandomSource + AllocGlobal,

@@ -1,4 +1,5 @@
-//! `crawl START`: the pages that links lead to from the page `START`, in the order of their names, with those marked that are missing. Each page is read once, by one of four threads, and at most eight are under way at a time.
+//! `crawl START`: the pages that links lead to from the page `START`, in the order of their names, with those marked
+//! that are missing. Each page is read once, by one of four threads, and at most eight are under way at a time.
 #![tactic(auto)]
 
 use anyhow::bail;

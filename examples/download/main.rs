@@ -1,4 +1,5 @@
-//! `download PORT DOCUMENTS LIMIT`: gets numbered documents from a server on this machine, each over a connection of its own, with at most LIMIT of them in flight, and prints a line for each, in the order of their numbers.
+//! `download PORT DOCUMENTS LIMIT`: gets numbered documents from a server on this machine, each over a connection of
+//! its own, with at most LIMIT of them in flight, and prints a line for each, in the order of their numbers.
 #![tactic(auto)]
 
 mod download;

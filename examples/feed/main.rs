@@ -1,4 +1,6 @@
-//! `feed FOLDER`: reads the files of a folder, each by a thread that sends its lines through a channel of its own, and merges the channels into one stream. It prints how many lines came of each file and the stamp of the last, and the number of all lines.
+//! `feed FOLDER`: reads the files of a folder, each by a thread that sends its lines through a channel of its own, and
+//! merges the channels into one stream. It prints how many lines came of each file and the stamp of the last, and the
+//! number of all lines.
 #![tactic(auto)]
 
 use anyhow::bail;

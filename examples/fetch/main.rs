@@ -1,4 +1,6 @@
-//! `fetch LIST`: gets the documents that a list names from a server, at most four under way at a time, and prints a line for each in the order of the list. The server is a thread of this program, and each document comes through a pipe of its own.
+//! `fetch LIST`: gets the documents that a list names from a server, at most four under way at a time, and prints a
+//! line for each in the order of the list. The server is a thread of this program, and each document comes through a
+//! pipe of its own.
 #![tactic(auto)]
 
 use anyhow::bail;

@@ -1,4 +1,6 @@
-//! `fill_and_clear PORT LIMIT`: four times, it fills a set with LIMIT requests that the server keeps waiting, lets them run for a moment, and clears the set. Before and after each `clear` it asks the server how many requests that has in hand.
+//! `fill_and_clear PORT LIMIT`: four times, it fills a set with LIMIT requests that the server keeps waiting, lets them
+//! run for a moment, and clears the set. Before and after each `clear` it asks the server how many requests that has in
+//! hand.
 #![tactic(auto)]
 
 mod download;

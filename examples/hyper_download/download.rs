@@ -32,7 +32,8 @@ enum Stage<C, I> {
     Done,
 }
 
-/// Sends a request over a new connection, and is ready with the document that the server answers. `C` is the future that connects, and `I` what it connects by.
+/// Sends a request over a new connection, and is ready with the document that the server answers. `C` is the future
+/// that connects, and `I` what it connects by.
 #[derive(Drop)]
 pub struct Download<C, I> {
     alloc: Global,
@@ -154,7 +155,9 @@ impl<C: Future<Output = io::Result<I>>, I: AsyncRead + AsyncWrite> Download<C, I
     }
 }
 
-// The contract of `hyper`'s connection follows each byte that is read and written, and so it asks, at each poll, that the connection is as `handshake` or its last poll left it (`CanRun`). The download hands that on to whoever polls it: a set polls it only where this holds, and each poll leaves it so.
+// The contract of `hyper`'s connection follows each byte that is read and written, and so it asks, at each poll, that
+// the connection is as `handshake` or its last poll left it (`CanRun`). The download hands that on to whoever polls it:
+// a set polls it only where this holds, and each poll leaves it so.
 impl<C, I> Future for Download<C, I>
 where
     C: Future<Output = io::Result<I>>,

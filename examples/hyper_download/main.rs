@@ -1,4 +1,6 @@
-//! `hyper_download PORT DOCUMENTS LIMIT`: gets numbered documents from a server on this machine over `hyper`, each over a connection of its own, with at most LIMIT of them in flight, and prints a line for each, in the order of their numbers.
+//! `hyper_download PORT DOCUMENTS LIMIT`: gets numbered documents from a server on this machine over `hyper`, each over
+//! a connection of its own, with at most LIMIT of them in flight, and prints a line for each, in the order of their
+//! numbers.
 #![tactic(auto)]
 
 mod download;

@@ -5,7 +5,8 @@ use std::rt::Files;
 use std::thread::{JoinHandle, Threads};
 use std::{fs, io, thread};
 
-/// Counts the lines of a file, on a thread that its first poll starts. It is ready with their number. A drop waits for the thread.
+/// Counts the lines of a file, on a thread that its first poll starts. It is ready with their number. A drop waits for
+/// the thread.
 pub struct Counting<T: Threads + Drop> {
     threads: T,
     // Of a known type: what a thread is given may not rest on a bound.

@@ -1,4 +1,6 @@
-//! `jobs LIST N`: the number of words and of lines in the files that a list names, at most `N` files under way at a time. Four threads count the words, and answer through one-shots of the kit; a thread of each file's own counts its lines, and wakes the slot of its future. A file that cannot be read is named, and stops no other.
+//! `jobs LIST N`: the number of words and of lines in the files that a list names, at most `N` files under way at a
+//! time. Four threads count the words, and answer through one-shots of the kit; a thread of each file's own counts its
+//! lines, and wakes the slot of its future. A file that cannot be read is named, and stops no other.
 #![tactic(auto)]
 
 ghost use Rattle.std.specs.Prelude.{◌<◌, IfOk};

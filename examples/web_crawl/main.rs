@@ -1,4 +1,7 @@
-//! `web_crawl PORT START LIMIT MILLISECONDS`: gets the page `START` from a server on this machine, and each page to which links lead from there, once, with at most LIMIT requests in flight. It stops at the first page that fails, or that does not come within so many milliseconds. At the end it asks the server how many requests that has still in hand.
+//! `web_crawl PORT START LIMIT MILLISECONDS`: gets the page `START` from a server on this machine, and each page to
+//! which links lead from there, once, with at most LIMIT requests in flight. It stops at the first page that fails, or
+//! that does not come within so many milliseconds. At the end it asks the server how many requests that has still in
+//! hand.
 #![tactic(auto)]
 
 mod download;

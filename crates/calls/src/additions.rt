@@ -1,4 +1,5 @@
-//! What an object is given and asked besides polls. Where memory is refused to a call, the object must be as before and the values must be back; then the call is made once more.
+//! What an object is given and asked besides polls. Where memory is refused to a call, the object must be as before and
+//! the values must be back; then the call is made once more.
 use crate::answer::{Reply, append_reply};
 use crate::command::{End, Query};
 use crate::numbers::{number, push_numbers};

@@ -142,7 +142,8 @@ pub fn of_growth<T: Drop>(pushed: Result<(), T>) -> Reply {
     }
 }
 
-/// The reply of an object of so many slots whose list of entries grows. It refuses where it is full, and where there is no memory for the list.
+/// The reply of an object of so many slots whose list of entries grows. It refuses where it is full, and where there is
+/// no memory for the list.
 pub fn of_listed<T: Drop>(pushed: Result<(), T>, is_full: bool) -> Reply {
     match of_push(pushed) {
         Reply::Full if !is_full => Reply::Refused,

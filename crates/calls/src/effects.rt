@@ -101,7 +101,8 @@ fn append_outputs(text: &mut Text, outputs: &[u64]) {
     }
 }
 
-/// Appends what was dropped: the numbers of values, which stand in rising order, the source behind them, and the outputs.
+/// Appends what was dropped: the numbers of values, which stand in rising order, the source behind them, and the
+/// outputs.
 pub fn append_dropped(text: &mut Text, values: &[u64], outputs: &[u64]) {
     match values.split_first() {
         None if outputs.is_empty() => text.append_word("-"),

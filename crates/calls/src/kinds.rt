@@ -12,7 +12,8 @@ use crate::session::Session;
 use crate::sets::{run_growing_set, run_growing_set_of, run_set, run_set_of};
 use futures_buffered_core::ready_core::NewFault;
 
-/// Begins an object with the numbers of the first line, and makes the calls of its lines. How many lines that took, 0 where the numbers name no such object.
+/// Begins an object with the numbers of the first line, and makes the calls of its lines. How many lines that took, 0
+/// where the numbers name no such object.
 pub fn run_kind(
     session: &mut Session,
     kind: Kind,

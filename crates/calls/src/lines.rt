@@ -107,7 +107,8 @@ impl Session {
     }
 }
 
-/// Makes the calls of the object that the first of these lines begins, up to its end, and drops it. How many lines that took.
+/// Makes the calls of the object that the first of these lines begins, up to its end, and drops it. How many lines that
+/// took.
 pub fn run_made<O: Subject>(
     session: &mut Session,
     made: Result<O, NewFault>,

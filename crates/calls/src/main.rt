@@ -1,6 +1,9 @@
-//! Goes through files of tests: each line is a call of a set, a queue, a join, a merge or an adaptor, with the reply that is wanted.
+//! Goes through files of tests: each line is a call of a set, a queue, a join, a merge or an adaptor, with the reply
+//! that is wanted.
 //!
-//! The words of the command line name the files. Each reply that differs is printed, with file, line and test, and behind them a line of counts for each file. The status is 1 where a reply differs, else 3 where a request for memory that a call made was refused, else 0; and 4 where a file could not be gone through.
+//! The words of the command line name the files. Each reply that differs is printed, with file, line and test, and
+//! behind them a line of counts for each file. The status is 1 where a reply differs, else 3 where a request for memory
+//! that a call made was refused, else 0; and 4 where a file could not be gone through.
 #![tactic(auto)]
 
 mod adaptors;

@@ -1,4 +1,5 @@
-//! What values and session share: the steps of each value, the wakers and senders that were kept, and what one call did.
+//! What values and session share: the steps of each value, the wakers and senders that were kept, and what one call
+//! did.
 use crate::effects::{Event, append_dropped};
 use crate::memory;
 use crate::step::Step;

@@ -26,7 +26,8 @@ impl WakeCount {
     }
 }
 
-/// Wakes that were made: as many as its value says. They come from a waker that made them, or from others that are added up.
+/// Wakes that were made: as many as its value says. They come from a waker that made them, or from others that are
+/// added up.
 #[derive(Drop)]
 pub struct MadeWakes {
     wakes: u64,

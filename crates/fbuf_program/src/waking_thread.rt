@@ -29,7 +29,8 @@ impl Model for WakingThread {
 }
 
 impl WakingThread {
-    /// A thread that calls the closure, which makes so many wakes. `None` where no thread can be made: the closure is dropped.
+    /// A thread that calls the closure, which makes so many wakes. `None` where no thread can be made: the closure is
+    /// dropped.
     pub fn start<R, F>(rt: &R, wakes: usize, run: F) -> Option<WakingThread>
     where
         R: Threads,

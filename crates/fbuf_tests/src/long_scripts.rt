@@ -128,14 +128,16 @@ where
     Ok(())
 }
 
-// A write in the midst fails, before, at and after the end of a part: every byte taken until then is one of the replies, in their order.
+// A write in the midst fails, before, at and after the end of a part: every byte taken until then is one of the
+// replies, in their order.
 #[test]
 fn writes_a_beginning_of_long_replies(rt: HostRuntime) -> Result<(), Fail> {
     let long = new_long(rt.alloc())?;
     assert_beginnings(&rt, &long)
 }
 
-// So many writes take whatever they are given, and the next fails: whole lines were written, and of the last part no line more than it needs.
+// So many writes take whatever they are given, and the next fails: whole lines were written, and of the last part no
+// line more than it needs.
 fn assert_parts<H>(rt: &H, long: &Long, writes: usize) -> Result<(), Fail>
 where
     H: Abort + RandomSource + AllocGlobal,

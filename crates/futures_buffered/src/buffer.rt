@@ -3,7 +3,9 @@ ghost use Rattle.std.specs.Prelude.{◌≡◌, ◌<◌, ◌≤◌, ◌↔◌, Li
 ghost use Rattle.std.specs.declared.ops.ControlFlow.TheVariants.{Break};
 ghost use Rattle.futures_buffered_core.specs.Made.{MakesSlots};
 ghost use Rattle.futures_buffered_unordered.specs.StreamAnswers.{StreamAnswers};
-ghost use Rattle.futures_buffered.specs.Buffer.{PollsStream, DrawsAll, DrawsUpToOne, DrawsBuffer, DrawsTask, PollsBuffer, IsNewBuffer, CanDraw, WaitsAt, BufferGives, handed_back, hint_with, hint_ahead};
+ghost use Rattle.futures_buffered.specs.Buffer.{PollsStream, DrawsAll, DrawsUpToOne, DrawsBuffer, DrawsTask};
+ghost use Rattle.futures_buffered.specs.Buffer.{PollsBuffer, IsNewBuffer, CanDraw, WaitsAt, BufferGives, handed_back};
+ghost use Rattle.futures_buffered.specs.Buffer.{hint_with, hint_ahead};
 
 use crate::future_queue::{FutureQueue, NewQueue};
 use futures::Stream;
@@ -19,7 +21,9 @@ use std::ops::ControlFlow;
 
 /// Futures of a stream, at most as many at a time as its queue has room for.
 ///
-/// A contract sees the stream, or nothing once it has ended, and what it sees of the queue. A poll takes no memory but what the stream, the futures and the source's calls take. A stream that ended is dropped at once. Calls that poll nothing take the same time at any number held.
+/// A contract sees the stream, or nothing once it has ended, and what it sees of the queue. A poll takes no memory but
+/// what the stream, the futures and the source's calls take. A stream that ended is dropped at once. Calls that poll
+/// nothing take the same time at any number held.
 #[derive(Drop)]
 pub struct Buffer<St: Drop, Q: Drop> {
     stream: Option<St>,
@@ -51,7 +55,7 @@ impl<St: Drop, Q: Drop> Buffer<St, Q> {
 impl<St: Drop, Q: NewQueue> Buffer<St, Q> {
     /// Over this stream, with at most `n` held at a time and a queue made for them. Nothing is polled.
     ///
-    /// Takes time and memory in proportion to `n`. The stream is dropped where it is refused: `TooLarge` where `n` is above `MAX_CAPACITY`, and `Memory` where a request for memory was refused.
+    /// Takes time and memory in proportion to `n`. The stream is dropped where it is refused.
     pub fn over(env: &Q::Env, alloc: Global, stream: St, n: usize) -> Result<Self, NewFault>
         requires { 0 < n }
         ensures { MakesSlots n (IsNewBuffer (Q.made n POLL_LIMIT) stream) result }
@@ -120,7 +124,8 @@ impl<St: Stream, Q: FutureQueue<St::Item>> Buffer<St, Q> {
         self.stream.as_ref()
     }
 
-    // Draws one item, if the stream has not ended, there is room, and an item comes. Breaks where none was drawn, and where its push handed back an answer.
+    // Draws one item, if the stream has not ended, there is room, and an item comes. Breaks where none was drawn, and
+    // where its push handed back an answer.
     fn draw_one(&mut self, cx: &mut Context<'_>) -> ControlFlow<Option<Q::Output>>
         requires { CanDraw St.can_poll St.yields Q.is_fit Q.can_poll self.old }
         ensures draws { DrawsUpToOne (PollsStream St.yields) Q.count (Q.room self.old.queue)
@@ -153,7 +158,8 @@ impl<St: Stream, Q: FutureQueue<St::Item>> Buffer<St, Q> {
         }
     }
 
-    // Draws while the stream has not ended, there is room, and an item comes, up to the first push that hands back an answer, which it returns.
+    // Draws while the stream has not ended, there is room, and an item comes, up to the first push that hands back an
+    // answer, which it returns.
     fn fill(&mut self, cx: &mut Context<'_>) -> Option<Q::Output>
         requires { CanDraw St.can_poll St.yields Q.is_fit Q.can_poll self.old }
         ensures draws { (drawn : List St.Item) × DrawsAll (PollsStream St.yields)
@@ -182,9 +188,13 @@ impl<St: Stream, Q: FutureQueue<St::Item>> Stream for Buffer<St, Q> {
 
     ghost yields = { BufferGives St.yields Q.gives Q.count Q.yields Q.in_order };
 
-    /// Draws items while there is room, the stream has not ended, and an item comes at once; then polls the queue once. Where a push hands back an answer, that is the answer instead: what was drawn stays held, and the stream goes on. `Ready(None)` where the stream has ended and nothing is held, and then again.
+    /// Draws items while there is room, the stream has not ended, and an item comes at once; then polls the queue once.
+    /// Where a push hands back an answer, that is the answer instead: what was drawn stays held, and the stream goes
+    /// on. `Ready(None)` where the stream has ended and nothing is held, and then again.
     ///
-    /// Takes no memory but what the stream, the futures and the source's calls take, and waits for nobody where these do not. Takes time in proportion to the items drawn and the names that one poll of the queue takes, besides the polls.
+    /// Takes no memory but what the stream, the futures and the source's calls take, and waits for nobody where these
+    /// do not. Takes time in proportion to the items drawn and the names that one poll of the queue takes, besides the
+    /// polls.
     fn poll_next(&mut self, cx: &mut Context<'_>) -> Poll<Option<Q::Output>>
         requires { CanDraw St.can_poll St.yields Q.is_fit Q.can_poll self.old }
         ensures polls { PollsBuffer St.Stream Q.FutureQueue

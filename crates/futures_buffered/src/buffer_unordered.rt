@@ -1,7 +1,8 @@
 //! Some futures of a stream at a time, whose outputs come as they finish.
 ghost use Rattle.std.specs.Prelude.{false};
 ghost use Rattle.futures_buffered_unordered.specs.Held.{AllHeld, ComesFrom};
-ghost use Rattle.futures_buffered_unordered.specs.FuturesUnorderedBounded.{Pushes, PollGives, IsNewSet, held_in, slots_in};
+ghost use Rattle.futures_buffered_unordered.specs.FuturesUnorderedBounded.{Pushes, PollGives, IsNewSet, held_in};
+ghost use Rattle.futures_buffered_unordered.specs.FuturesUnorderedBounded.{slots_in};
 ghost use Rattle.futures_buffered_unordered.specs.PollsBounded.{PollsBounded, itself};
 ghost use Rattle.futures_buffered.specs.FutureQueue.{OnlyPushes};
 ghost use Rattle.futures_buffered.specs.BufferUnordered.{LosesNothing, MayGiveInSlot, SetWaitsAt};
@@ -96,9 +97,10 @@ impl<F: SlotFuture<S::Waker>, S: ReadySource> FutureQueue<F> for CompletionQueue
 /// Futures of a stream, at most as many at a time as its set has slots, whose outputs come as they finish.
 pub type BufferUnordered<St, S> = Buffer<St, CompletionQueue<<St as Stream>::Item, S>>;
 
-/// After any calls of one buffer that held nothing at first, each item drawn either gave one of the outputs given, or is held still: no output is of two items or of none, and no item is lost.
+/// After any calls of one buffer that held nothing at first, each item drawn either gave one of the outputs given, or
+/// is held still: no output is of two items or of none, and no item is lost.
 ///
-/// This is of the words that a poll's contract says of each call. Nothing is done.
+/// A law of the relations in the contract of a poll. Its body is empty.
 pub fn calls_lose_nothing<St: Stream, S: ReadySource>()
 where
     St::Item: SlotFuture<S::Waker>,

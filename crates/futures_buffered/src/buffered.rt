@@ -1,6 +1,8 @@
 //! Adaptors of a stream of futures, as methods of the stream.
 //!
-//! Each stands on its type's `over`, with a shared source, so that what it holds is woken from any thread; or, where its name begins with `foreign`, holds the kit's futures in plain sight, in an `InFlightQueue` or an `InFlightOrdered`.
+//! Each stands on its type's `over`, with a shared source, so that what it holds is woken from any thread; or, where
+//! its name begins with `foreign`, holds the kit's futures in plain sight, in an `InFlightQueue` or an
+//! `InFlightOrdered`.
 ghost use Rattle.std.specs.Prelude.{◌<◌, IfOk};
 ghost use Rattle.futures_buffered_core.specs.Made.{MakesSlots};
 ghost use Rattle.futures_buffered_core.specs.ReadyShared.{IsNewShared};
@@ -29,9 +31,10 @@ use std::alloc::Global;
 
 /// Adaptors that keep some futures of a stream in progress.
 pub trait BufferedStreamExt: Stream + Sized {
-    /// The outputs of this stream's futures in the order of the stream, with at most `n` held at a time: in progress, or done and waiting for their turn. Nothing is polled.
+    /// The outputs of this stream's futures in the order of the stream, with at most `n` held at a time: in progress,
+    /// or done and waiting for their turn. Nothing is polled.
     ///
-    /// Takes time and memory in proportion to `n`. The stream is dropped where it is refused: `TooLarge` where `n` is above `MAX_CAPACITY`, and `Memory` where a request for memory was refused.
+    /// Takes time and memory in proportion to `n`. The stream is dropped where it is refused.
     final fn buffered_ordered(
         self,
         alloc: Global,
@@ -47,7 +50,7 @@ pub trait BufferedStreamExt: Stream + Sized {
 
     /// The outputs of this stream's futures as they finish, with at most `n` in progress at a time. Nothing is polled.
     ///
-    /// Takes time and memory in proportion to `n`. The stream is dropped where it is refused: `TooLarge` where `n` is above `MAX_CAPACITY`, and `Memory` where a request for memory was refused.
+    /// Takes time and memory in proportion to `n`. The stream is dropped where it is refused.
     final fn buffered_unordered(
         self,
         alloc: Global,
@@ -61,9 +64,12 @@ pub trait BufferedStreamExt: Stream + Sized {
         BufferUnordered::over(&(), alloc, self, n)
     }
 
-    /// As `buffered_ordered`, of a stream of futures of the kit, which stand in a queue of their own. A future may contain closures.
+    /// As `buffered_ordered`, of a stream of futures of the kit, which stand in a queue of their own. A future may
+    /// contain closures.
     ///
-    /// Takes time and memory in proportion to `n`. It refuses as `buffered_ordered` does. A poll takes the memory that the kit's set takes for each future, and does without where that is refused: the future waits, and the task is woken.
+    /// Takes time and memory in proportion to `n`. It refuses as `buffered_ordered` does. A poll takes the memory that
+    /// the kit's set takes for each future, and does without where that is refused: the future waits, and the task is
+    /// woken.
     final fn foreign_buffered_ordered(
         self,
         alloc: Global,
@@ -79,9 +85,12 @@ pub trait BufferedStreamExt: Stream + Sized {
         Ok(Buffer::with_queue(self, queue))
     }
 
-    /// As `buffered_unordered`, of a stream of futures of the kit, which stand in a set of their own. A future may contain closures.
+    /// As `buffered_unordered`, of a stream of futures of the kit, which stand in a set of their own. A future may
+    /// contain closures.
     ///
-    /// Takes time and memory in proportion to `n`. It refuses as `buffered_unordered` does. A poll takes the memory that the kit's set takes for each future, and does without where that is refused: the future waits, and the task is woken.
+    /// Takes time and memory in proportion to `n`. It refuses as `buffered_unordered` does. A poll takes the memory
+    /// that the kit's set takes for each future, and does without where that is refused: the future waits, and the task
+    /// is woken.
     final fn foreign_buffered_unordered(
         self,
         alloc: Global,
@@ -97,11 +106,13 @@ pub trait BufferedStreamExt: Stream + Sized {
         Ok(Buffer::with_queue(self, queue))
     }
 
-    /// Calls `f` with each item of this stream, once and in order, and runs the futures that it makes, at most `limit` at a time. Nothing is polled.
+    /// Calls `f` with each item of this stream, once and in order, and runs the futures that it makes, at most `limit`
+    /// at a time. Nothing is polled.
     ///
-    /// `futures::StreamExt` has a method of this name too. Where both traits are in scope it is called by its path: `BufferedStreamExt::for_each_concurrent(stream, alloc, limit, f)`.
+    /// `futures::StreamExt` has a method of this name too. Where both traits are in scope it is called by its path:
+    /// `BufferedStreamExt::for_each_concurrent(stream, alloc, limit, f)`.
     ///
-    /// Takes time and memory in proportion to `limit`. Stream and closure are dropped where they are refused: `TooLarge` where `limit` is above `MAX_CAPACITY`, and `Memory` where a request for memory was refused.
+    /// Takes time and memory in proportion to `limit`. Stream and closure are dropped where they are refused.
     final fn for_each_concurrent<Fut, F>(
         self,
         alloc: Global,
@@ -117,9 +128,12 @@ pub trait BufferedStreamExt: Stream + Sized {
         ForEachConcurrent::over(&(), alloc, self, limit, f)
     }
 
-    /// As `for_each_concurrent`, where `f` makes futures of the kit, which stand in a set of their own. A future may contain closures.
+    /// As `for_each_concurrent`, where `f` makes futures of the kit, which stand in a set of their own. A future may
+    /// contain closures.
     ///
-    /// Takes time and memory in proportion to `limit`. It refuses as `for_each_concurrent` does. A poll takes the memory that the kit's set takes for each future, and does without where that is refused: the future waits, and the task is woken.
+    /// Takes time and memory in proportion to `limit`. It refuses as `for_each_concurrent` does. A poll takes the
+    /// memory that the kit's set takes for each future, and does without where that is refused: the future waits, and
+    /// the task is woken.
     final fn foreign_for_each_concurrent<Fut, F>(
         self,
         alloc: Global,

@@ -3,7 +3,9 @@ ghost use Rattle.std.specs.Prelude.{true};
 ghost use Rattle.futures_buffered_unordered.specs.FuturesUnorderedBounded.{held_in};
 ghost use Rattle.futures_buffered_unordered.specs.PollsBounded.{itself};
 ghost use Rattle.futures_buffered_ordered.specs.OrderedEntries.{AddsBack, ComesInOrder, OrderedGives};
-ghost use Rattle.futures_buffered_ordered.specs.FuturesOrderedBounded.{EachRunning, IsNewBoundedQueue, PollsOrderedBounded, PushesNumber, SetGives, SetMayGive};
+ghost use Rattle.futures_buffered_ordered.specs.FuturesOrderedBounded.{EachRunning, IsNewBoundedQueue};
+ghost use Rattle.futures_buffered_ordered.specs.FuturesOrderedBounded.{PollsOrderedBounded, PushesNumber, SetGives};
+ghost use Rattle.futures_buffered_ordered.specs.FuturesOrderedBounded.{SetMayGive};
 ghost use Rattle.futures_buffered.specs.FutureQueue.{OnlyPushes};
 ghost use Rattle.futures_buffered.specs.BufferUnordered.{MayGiveInSlot};
 ghost use Rattle.futures_buffered.specs.BufferedOrdered.{GivesInOrder, QueueWaitsAt, queue_len, queue_slots};
@@ -19,7 +21,8 @@ use futures_buffered_unordered::SlotFuture;
 use std::alloc::Global;
 use std::marker::Model;
 
-/// A bounded ordered queue of one slot at least, and with no more entries than slots, as what a buffer holds: an output that waits for its turn counts as held. A contract sees what it sees of the queue.
+/// A bounded ordered queue of one slot at least, and with no more entries than slots, as what a buffer holds: an output
+/// that waits for its turn counts as held. A contract sees what it sees of the queue.
 #[derive(Drop)]
 pub struct OrderedQueue<F: Drop, A: Drop, S: ReadySource> {
     queue: BoundedQueue<F, A, S>,
@@ -101,7 +104,8 @@ where
     }
 }
 
-/// Futures of a stream, whose outputs come in the order in which the stream gave the futures. At most as many as there are slots are held at a time, where an output that waits for its turn counts as held.
+/// Futures of a stream, whose outputs come in the order in which the stream gave the futures. At most as many as there
+/// are slots are held at a time, where an output that waits for its turn counts as held.
 pub type BufferedOrdered<St, S> = Buffer<
     St,
     OrderedQueue<
@@ -111,9 +115,10 @@ pub type BufferedOrdered<St, S> = Buffer<
     >,
 >;
 
-/// After any calls of one buffer that held nothing at first, the outputs given so far are those of the first items drawn, in the order in which these were drawn, and the other items are held still, in that order.
+/// After any calls of one buffer that held nothing at first, the outputs given so far are those of the first items
+/// drawn, in the order in which these were drawn, and the other items are held still, in that order.
 ///
-/// This is of the words that a poll's contract says of each call. Nothing is done.
+/// A law of the relations in the contract of a poll. Its body is empty.
 pub fn calls_give_in_order<St: Stream, S: ReadySource>()
 where
     St::Item: SlotFuture<S::Waker>,

@@ -3,7 +3,8 @@ ghost use Rattle.std.specs.Prelude.{◌≡◌, ◌<◌, ◌≤◌, IfSome, IfNon
 ghost use Rattle.futures.specs.Task.{Keeps};
 ghost use Rattle.futures_buffered_core.specs.Made.{MakesSlots};
 ghost use Rattle.futures_buffered.specs.Buffer.{PollsBuffer, buffer_of};
-ghost use Rattle.futures_buffered.specs.Drain.{CanDrain, DrainGives, DrainTurn, DrainWaitsAt, GoingLeavesDrain, IsDrained, IsNewDrain, LeavesDrain, PollsDrain};
+ghost use Rattle.futures_buffered.specs.Drain.{CanDrain, DrainGives, DrainTurn, DrainWaitsAt, GoingLeavesDrain};
+ghost use Rattle.futures_buffered.specs.Drain.{IsDrained, IsNewDrain, LeavesDrain, PollsDrain};
 
 use crate::buffer::Buffer;
 use crate::drain_output::DrainOutput;
@@ -19,7 +20,9 @@ use std::marker::Model;
 
 /// Polls a buffer to its end, or to the first output that ends it.
 ///
-/// A contract sees the buffer, or nothing once the drain was ready, and how many turns one poll takes. A poll takes no memory but what the stream, the futures and the source's calls take. Where the drain is ready the buffer is dropped at once, with what it holds. Calls that poll nothing take the same time at any number held.
+/// A contract sees the buffer, or nothing once the drain was ready, and how many turns one poll takes. A poll takes no
+/// memory but what the stream, the futures and the source's calls take. Where the drain is ready the buffer is dropped
+/// at once, with what it holds. Calls that poll nothing take the same time at any number held.
 #[derive(Drop)]
 pub struct Drain<St: Drop, Q: Drop> {
     buffer: Option<Buffer<St, Q>>,
@@ -64,7 +67,7 @@ impl<St: Drop, Q: Drop> Drain<St, Q> {
 impl<St: Drop, Q: NewQueue> Drain<St, Q> {
     /// Over this stream, with at most `n` held at a time and a queue made for them. Nothing is polled.
     ///
-    /// Takes time and memory in proportion to `n`. The stream is dropped where it is refused: `TooLarge` where `n` is above `MAX_CAPACITY`, and `Memory` where a request for memory was refused.
+    /// Takes time and memory in proportion to `n`. The stream is dropped where it is refused.
     pub fn over(env: &Q::Env, alloc: Global, stream: St, n: usize) -> Result<Self, NewFault>
         requires { 0 < n }
         ensures { MakesSlots n (IsNewDrain (Q.made n POLL_LIMIT) POLL_LIMIT stream) result }
@@ -72,7 +75,8 @@ impl<St: Drop, Q: NewQueue> Drain<St, Q> {
         Self::over_limit(env, alloc, stream, n, POLL_LIMIT)
     }
 
-    /// As `over`, where one poll takes at most `limit` turns, and its polls of the queue's set at most as many names each.
+    /// As `over`, where one poll takes at most `limit` turns, and its polls of the queue's set at most as many names
+    /// each.
     pub fn over_limit(
         env: &Q::Env,
         alloc: Global,
@@ -139,9 +143,14 @@ where
 
     ghost gives = { DrainGives Q.Output.DrainOutput (buffer_of St.Stream Q.FutureQueue) };
 
-    /// At most as many turns as the limit is, each of which polls the buffer once. Another follows after an output that ends nothing. `Ready` with the first output that ends it, of a push or of a future, or, where the stream has ended and nothing is held, with what it is ready with at its end: what is held is dropped then, and a later poll answers that again and polls nothing. At the limit the task is woken at once.
+    /// At most as many turns as the limit is, each of which polls the buffer once. Another follows after an output that
+    /// ends nothing. `Ready` with the first output that ends it, of a push or of a future, or, where the stream has
+    /// ended and nothing is held, with what it is ready with at its end: what is held is dropped then, and a later poll
+    /// answers that again and polls nothing. At the limit the task is woken at once.
     ///
-    /// Takes no memory but what the stream, the futures and the source's calls take, and waits for nobody where these do not. Takes time in proportion to the turns, the items drawn, and the names that the turns' polls of the set take, besides the polls.
+    /// Takes no memory but what the stream, the futures and the source's calls take, and waits for nobody where these
+    /// do not. Takes time in proportion to the turns, the items drawn, and the names that the turns' polls of the set
+    /// take, besides the polls.
     fn poll(&mut self, cx: &mut Context<'_>) -> Poll<Q::Output>
         requires { CanDrain (buffer_of St.Stream Q.FutureQueue) self.old }
         ensures { PollsDrain St.Stream Q.FutureQueue Q.Output.DrainOutput

@@ -8,7 +8,8 @@ ghost use Rattle.futures_buffered_core.specs.Made.{MakesSlots};
 ghost use Rattle.futures_buffered_core.specs.ReadyShared.{IsNewShared};
 ghost use Rattle.futures_buffered_unordered.specs.FuturesUnorderedBounded.{held_in, slots_in};
 ghost use Rattle.futures_buffered.specs.Buffer.{PollsStream, DrawsTask};
-ghost use Rattle.futures_buffered.specs.ForEachConcurrent.{IsNewForEach, IsDone, DrawsOnce, ForEachCall, CanForEach, ForEachGives, ForEachWaitsAt, LeavesForEach, drew_one};
+ghost use Rattle.futures_buffered.specs.ForEachConcurrent.{IsNewForEach, IsDone, DrawsOnce, ForEachCall, CanForEach};
+ghost use Rattle.futures_buffered.specs.ForEachConcurrent.{ForEachGives, ForEachWaitsAt, LeavesForEach, drew_one};
 
 use crate::drain::Drain;
 use futures::stream::Map;
@@ -24,9 +25,12 @@ use std::alloc::Global;
 use std::fmt;
 use std::marker::Model;
 
-/// Gives each item of a stream to a closure, once and in order, and runs the futures that it makes, at most as many at a time as its set has slots.
+/// Gives each item of a stream to a closure, once and in order, and runs the futures that it makes, at most as many at
+/// a time as its set has slots.
 ///
-/// A contract sees the stream, or nothing once it has ended, what it sees of the set, and the closure. A poll takes no memory but what the stream, the closure, the futures and the source's calls take. A stream that ended is dropped at once. Calls that poll nothing take the same time at any number held.
+/// A contract sees the stream, or nothing once it has ended, what it sees of the set, and the closure. A poll takes no
+/// memory but what the stream, the closure, the futures and the source's calls take. A stream that ended is dropped at
+/// once. Calls that poll nothing take the same time at any number held.
 #[derive(Drop)]
 pub struct ForEachConcurrent<St: Drop, F: Drop, Fut: Drop, S: ReadySource> {
     stream: Option<St>,
@@ -52,7 +56,8 @@ impl<St: Drop, F: Drop, Fut: Drop, S: ReadySource> Model for ForEachConcurrent<S
     ghost invariant = { λ s. (0 < slots_in s.queue) × (1 ≤ s.queue.limit) };
 }
 
-/// Gives each item of a stream to a closure, once and in order, and runs the futures of the kit that it makes, in plain sight, at most as many at a time as its queue has room for.
+/// Gives each item of a stream to a closure, once and in order, and runs the futures of the kit that it makes, in plain
+/// sight, at most as many at a time as its queue has room for.
 ///
 /// The stream with the closure is the kit's `Map`. A `Buffer` draws from it, and a `Drain` polls that to its end.
 pub type ForeignForEachConcurrent<St, F, Fut> = Drain<Map<St, F>, InFlightQueue<Fut>>;
@@ -60,7 +65,7 @@ pub type ForeignForEachConcurrent<St, F, Fut> = Drain<Map<St, F>, InFlightQueue<
 impl<St: Drop, F: Drop, Fut: Drop, S: ReadySource> ForEachConcurrent<St, F, Fut, S> {
     /// Over this stream and closure, with at most `n` futures at a time and a source made for them. Nothing is polled.
     ///
-    /// Takes time and memory in proportion to `n`. Stream and closure are dropped where they are refused: `TooLarge` where `n` is above `MAX_CAPACITY`, and `Memory` where a request for memory was refused.
+    /// Takes time and memory in proportion to `n`. Stream and closure are dropped where they are refused.
     pub fn over(
         env: &S::Env,
         alloc: Global,
@@ -161,7 +166,8 @@ impl<
         self.queue.limit()
     }
 
-    // Draws at most one item, gives it to the closure, and pushes the future that comes of it. Says whether one was drawn.
+    // Draws at most one item, gives it to the closure, and pushes the future that comes of it. Says whether one was
+    // drawn.
     fn draw(&mut self, cx: &mut Context<'_>) -> bool
         requires { CanForEach St.Stream F.FnMut Fut.SlotFuture self.old }
         ensures drew { (asked : Option (Poll (Option St.Item))) × (drew_one asked ≡ result)
@@ -206,9 +212,14 @@ impl<
 
     ghost gives = { ForEachGives St.Stream };
 
-    /// At most as many turns as the limit is. A turn draws at most one item, where there is room, calls the closure with it, holds the future that comes of it, and polls the set once. Another follows where an item was drawn or a future was done. `Ready` where the stream has ended and nothing is held, and then again; at the limit the task is woken at once.
+    /// At most as many turns as the limit is. A turn draws at most one item, where there is room, calls the closure
+    /// with it, holds the future that comes of it, and polls the set once. Another follows where an item was drawn or a
+    /// future was done. `Ready` where the stream has ended and nothing is held, and then again; at the limit the task
+    /// is woken at once.
     ///
-    /// Takes no memory but what the stream, the closure, the futures and the source's calls take, and waits for nobody where these do not. Takes time in proportion to the turns and the names that their polls of the set take, besides the polls and the closure's calls.
+    /// Takes no memory but what the stream, the closure, the futures and the source's calls take, and waits for nobody
+    /// where these do not. Takes time in proportion to the turns and the names that their polls of the set take,
+    /// besides the polls and the closure's calls.
     fn poll(&mut self, cx: &mut Context<'_>) -> Poll<()>
         requires { CanForEach St.Stream F.FnMut Fut.SlotFuture self.old }
         ensures called { ForEachCall St.Stream F.FnMut Fut.SlotFuture S.ReadySource

@@ -1,6 +1,8 @@
 //! What a buffer holds: futures, of each of which one output comes.
 //!
-//! A buffer is written once, for any such queue. `CompletionQueue` and `InFlightQueue` are such, whose outputs come as the futures finish, `OrderedQueue` is one that keeps the order of the pushes, and `TryQueue` makes of either one to which errors can be given as well.
+//! A buffer is written once, for any such queue. `CompletionQueue` and `InFlightQueue` are such, whose outputs come as
+//! the futures finish, `OrderedQueue` is one that keeps the order of the pushes, and `TryQueue` makes of either one to
+//! which errors can be given as well.
 ghost use Rattle.std.specs.Prelude.{◌≡◌, ◌<◌, ◌≤◌, ℕ, Bool, List, Option};
 ghost use Rattle.futures_buffered_core.specs.Made.{MakesSlots};
 ghost use Rattle.futures_buffered_unordered.specs.StreamAnswers.{StreamAnswers, stream_of};
@@ -13,7 +15,9 @@ use std::alloc::Global;
 
 /// Holds some futures at a time, and gives an output of each.
 ///
-/// Beside the calls an impl states what they may do: relations between what it holds before, the answer, and what it holds after. A push adds one output to those that may come, in the place that `in_order` says, or hands one back at once.
+/// Beside the calls an impl states what they may do: relations between what it holds before, the answer, and what it
+/// holds after. A push adds one output to those that may come, in the place that `in_order` says, or hands one back at
+/// once.
 pub trait FutureQueue<I>: Drop {
     ghost use Rattle.futures.specs.declared.task.Poll.{Poll};
     ghost use Rattle.futures.specs.declared.task.context.Context.{Context};
@@ -54,16 +58,18 @@ pub trait FutureQueue<I>: Drop {
     // The places of a task's wakes at which a pending poll waits, by their names.
     ghost needs: { Self → ℕ → Type 0 };
 
-    /// How many are held. Takes the same time at any number.
+    /// How many are held.
     fn len(&self) -> usize
         ensures value { result ≡ count self.now }
         ensures bound { count self.now ≤ room self.now };
 
-    /// How many can be held, which never changes. Takes the same time at any number.
+    /// How many can be held, which never changes.
     fn capacity(&self) -> usize
         ensures { result ≡ room self.now };
 
-    /// Adds the item's future, so that a later poll polls it; or hands back an answer at once, and changes nothing. Polls nothing, and wakes nobody. No item is refused: a queue whose push takes memory does without where that is refused.
+    /// Adds the item's future, so that a later poll polls it; or hands back an answer at once, and changes nothing.
+    /// Polls nothing, and wakes nobody. No item is refused: a queue whose push takes memory does without where that is
+    /// refused.
     fn push(&mut self, item: I) -> Option<Self::Output>
         requires room { count self.old < room self.old }
         requires held { can_poll self.old }
@@ -72,7 +78,8 @@ pub trait FutureQueue<I>: Drop {
         ensures queue { PushLeavesQueue count room in_order yields gives is_fit can_poll
             self.old item result self.new };
 
-    /// One poll. `Ready(None)` where nothing is held. Takes no memory but what the futures and the calls of a source take.
+    /// One poll. `Ready(None)` where nothing is held. Takes no memory but what the futures and the calls of a source
+    /// take.
     fn poll_output(&mut self, cx: &mut Context<'_>) -> Poll<Option<Self::Output>>
         requires { can_poll self.old }
         ensures polled { polls self.old result self.new }
@@ -100,7 +107,7 @@ pub trait NewQueue: Drop {
 
     /// An empty queue that can hold `n`. One poll of its set takes at most `limit` names.
     ///
-    /// Takes time and memory in proportion to `n`. `TooLarge` where `n` is above `MAX_CAPACITY`, and `Memory` where a request for memory was refused.
+    /// Takes time and memory in proportion to `n`.
     fn make(env: &Self::Env, alloc: Global, n: usize, limit: usize) -> Result<Self, NewFault>
         requires room { 0 < n }
         requires some { 1 ≤ limit }

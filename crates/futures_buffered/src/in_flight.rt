@@ -1,6 +1,10 @@
 //! Futures of the kit in plain sight, as what a buffer holds.
-ghost use Rattle.futures_buffered_in_flight.specs.InFlightOrdered.{CanPollOrdered, ComesOfEach, GivesInTurn, OrderedWaitsAt, PollsInTurn, PushesBack, ordered_count, ordered_room};
-ghost use Rattle.futures_buffered_in_flight.specs.InFlightQueue.{CanPollQueue, ComesFromQueue, PollsQueued, PollsQueuedTask, PushesQueued, QueuedWaitsAt, queued_count, queued_room};
+ghost use Rattle.futures_buffered_in_flight.specs.InFlightOrdered.{CanPollOrdered, ComesOfEach, GivesInTurn};
+ghost use Rattle.futures_buffered_in_flight.specs.InFlightOrdered.{OrderedWaitsAt, PollsInTurn, PushesBack};
+ghost use Rattle.futures_buffered_in_flight.specs.InFlightOrdered.{ordered_count, ordered_room};
+ghost use Rattle.futures_buffered_in_flight.specs.InFlightQueue.{CanPollQueue, ComesFromQueue, PollsQueued};
+ghost use Rattle.futures_buffered_in_flight.specs.InFlightQueue.{PollsQueuedTask, PushesQueued, QueuedWaitsAt};
+ghost use Rattle.futures_buffered_in_flight.specs.InFlightQueue.{queued_count, queued_room};
 ghost use Rattle.futures_buffered.specs.FutureQueue.{OnlyPushes};
 
 use crate::buffer::Buffer;
@@ -104,13 +108,15 @@ impl<F: Future<Output = A>, A: Drop> FutureQueue<F> for InFlightOrdered<F, A> {
     }
 }
 
-/// Futures of the kit of a stream, at most as many at a time as its queue has room for, whose outputs come as they finish.
+/// Futures of the kit of a stream, at most as many at a time as its queue has room for, whose outputs come as they
+/// finish.
 pub type ForeignBufferUnordered<St> = Buffer<St, InFlightQueue<<St as Stream>::Item>>;
 
 /// The same of a stream that gives errors as well.
 pub type ForeignTryBufferUnordered<St, F> = TryBuffer<St, InFlightQueue<F>>;
 
-/// Futures of the kit of a stream, whose outputs come in the order in which the stream gave the futures. At most as many as its queue has room for are held at a time, where an output that waits for its turn counts as held.
+/// Futures of the kit of a stream, whose outputs come in the order in which the stream gave the futures. At most as
+/// many as its queue has room for are held at a time, where an output that waits for its turn counts as held.
 pub type ForeignBufferedOrdered<St> = Buffer<
     St,
     InFlightOrdered<<St as Stream>::Item, <<St as Stream>::Item as Future>::Output>,

@@ -22,7 +22,8 @@ use std::alloc::Global;
 
 /// Sets, queues, joins and merges of what an iterator gives, where it ends.
 pub trait IterExt: IntoIterator + Sized {
-    /// A set of these futures without a free slot, whose outputs come as they finish. It is `FuturesUnorderedBounded::from_iter`, and refuses as that does. A freed slot can be pushed into.
+    /// A set of these futures without a free slot, whose outputs come as they finish. It is
+    /// `FuturesUnorderedBounded::from_iter`, and refuses as that does. A freed slot can be pushed into.
     ///
     /// Takes time and memory in proportion to the number of futures.
     final fn into_unordered_stream(
@@ -38,7 +39,8 @@ pub trait IterExt: IntoIterator + Sized {
         FuturesUnorderedBounded::from_iter(alloc, self)
     }
 
-    /// A set of these futures that grows, whose outputs come as they finish. It is `FuturesUnordered::from_iter`, and refuses as that does.
+    /// A set of these futures that grows, whose outputs come as they finish. It is `FuturesUnordered::from_iter`, and
+    /// refuses as that does.
     ///
     /// Takes time and memory in proportion to the number of futures.
     final fn into_unordered_stream_unbounded(
@@ -55,7 +57,8 @@ pub trait IterExt: IntoIterator + Sized {
         FuturesUnordered::from_iter(alloc, self)
     }
 
-    /// A full queue of these futures, whose outputs come in their order. It is `FuturesOrderedBounded::from_iter`, and refuses as that does. A freed slot can be pushed into.
+    /// A full queue of these futures, whose outputs come in their order. It is `FuturesOrderedBounded::from_iter`, and
+    /// refuses as that does. A freed slot can be pushed into.
     ///
     /// Takes time and memory in proportion to the number of futures.
     final fn into_ordered_stream(
@@ -71,7 +74,8 @@ pub trait IterExt: IntoIterator + Sized {
         FuturesOrderedBounded::from_iter(alloc, self)
     }
 
-    /// A queue of these futures that grows, whose outputs come in their order. It is `FuturesOrdered::from_iter`, and refuses as that does.
+    /// A queue of these futures that grows, whose outputs come in their order. It is `FuturesOrdered::from_iter`, and
+    /// refuses as that does.
     ///
     /// Takes time and memory in proportion to the number of futures.
     final fn into_ordered_stream_unbounded(
@@ -88,7 +92,8 @@ pub trait IterExt: IntoIterator + Sized {
         FuturesOrdered::from_iter(alloc, self)
     }
 
-    /// A join of these futures, ready with all outputs, each at its future's place. It is the function `join_all`, and refuses as that does.
+    /// A join of these futures, ready with all outputs, each at its future's place. It is the function `join_all`, and
+    /// refuses as that does.
     ///
     /// Takes time and memory in proportion to the number of futures.
     final fn join_all(self, alloc: Global) -> Result<JoinAll<Self::Item, SharedReady>, NewFault>
@@ -101,7 +106,8 @@ pub trait IterExt: IntoIterator + Sized {
         futures_buffered_joins::join::join_all(alloc, self)
     }
 
-    /// A join of these futures, which may fail: ready with all outputs, each at its future's place, or with the first error that comes. It is the function `try_join_all`, and refuses as that does.
+    /// A join of these futures, which may fail: ready with all outputs, each at its future's place, or with the first
+    /// error that comes. It is the function `try_join_all`, and refuses as that does.
     ///
     /// Takes time and memory in proportion to the number of futures.
     final fn try_join_all<T, E>(
@@ -118,7 +124,8 @@ pub trait IterExt: IntoIterator + Sized {
         futures_buffered_joins::try_join::try_join_all(alloc, self)
     }
 
-    /// A merge of these streams without a free slot. It is `MergeBounded::from_iter`, and refuses as that does. A stream that ends leaves its slot to a push.
+    /// A merge of these streams without a free slot. It is `MergeBounded::from_iter`, and refuses as that does. A
+    /// stream that ends leaves its slot to a push.
     ///
     /// Takes time and memory in proportion to the number of streams.
     final fn merge(self, alloc: Global) -> Result<MergeBounded<Self::Item, SharedReady>, NewFault>

@@ -1,20 +1,28 @@
-//! Adaptors that draw futures from a stream and keep some of them in progress, over the sets of `futures_buffered_sets`.
+//! Adaptors that draw futures from a stream and keep some of them in progress, over the sets of
+//! `futures_buffered_sets`.
 //!
-//! Everything here is found under its own module, and what is named most often by its name alone as well. It gives out what a user names of the crates below, so that a user depends on this one alone.
+//! Everything here is found under its own module, and what is named most often by its name alone as well. It gives out
+//! what a user names of the crates below, so that a user depends on this one alone.
 //!
 //! In the order in which to read them:
 //!
 //! - `future_queue`: `FutureQueue`, what an adaptor holds, and `NewQueue`.
 //! - `buffer`: `Buffer`, the adaptor over any such queue.
 //! - `buffer_unordered`: `BufferUnordered`, whose outputs come as the futures finish.
-//! - `in_flight`: `InFlightQueue` and `InFlightOrdered` of the crate below, futures of the kit in plain sight, as such queues.
+//! - `in_flight`: `InFlightQueue` and `InFlightOrdered` of the crate below, futures of the kit in plain sight, as such
+//!   queues.
 //! - `buffered_ordered`: `BufferedOrdered`, whose outputs come in the order of the futures.
-//! - `drain`: `Drain`, which polls a buffer to its end, or to the first output that ends it; `drain_output` says of which outputs.
-//! - `for_each_concurrent`: `ForEachConcurrent`, which makes its futures of the items by a closure, and `ForeignForEachConcurrent`, a `Drain` of such futures in plain sight.
+//! - `drain`: `Drain`, which polls a buffer to its end, or to the first output that ends it; `drain_output` says of
+//!   which outputs.
+//! - `for_each_concurrent`: `ForEachConcurrent`, which makes its futures of the items by a closure, and
+//!   `ForeignForEachConcurrent`, a `Drain` of such futures in plain sight.
 //! - `buffered`: `BufferedStreamExt`, these adaptors as methods of a stream.
-//! - `try_buffer`: `TryBuffer`, a `Buffer` over a stream that gives errors as well, and `TryQueue`, which it is made of.
-//! - `try_buffer_unordered` and `try_buffered_ordered`: `TryBufferUnordered` and `TryBufferedOrdered`, whose stream gives errors as well.
-//! - `try_for_each_concurrent`: `TryForEachConcurrent`, as `ForEachConcurrent`, over such a stream, and `TryDrain`, the `Drain` that it is made of.
+//! - `try_buffer`: `TryBuffer`, a `Buffer` over a stream that gives errors as well, and `TryQueue`, which it is made
+//!   of.
+//! - `try_buffer_unordered` and `try_buffered_ordered`: `TryBufferUnordered` and `TryBufferedOrdered`, whose stream
+//!   gives errors as well.
+//! - `try_for_each_concurrent`: `TryForEachConcurrent`, as `ForEachConcurrent`, over such a stream, and `TryDrain`, the
+//!   `Drain` that it is made of.
 //! - `try_buffered`: `BufferedTryStreamExt`, these as methods of a stream.
 //! - `iter_ext`: `IterExt`, the constructors of sets, queues, joins and merges as methods of what gives the items.
 #![tactic(auto)]

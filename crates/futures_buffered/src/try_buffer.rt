@@ -9,7 +9,8 @@ use futures_buffered_core::ready_core::NewFault;
 use std::alloc::Global;
 use std::marker::Model;
 
-/// A queue to which futures and errors are given. A future goes into the queue inside, and an error is handed back at once and changes nothing. A contract sees what it sees of the queue inside.
+/// A queue to which futures and errors are given. A future goes into the queue inside, and an error is handed back at
+/// once and changes nothing. A contract sees what it sees of the queue inside.
 #[derive(Drop)]
 pub struct TryQueue<Q: Drop> {
     queue: Q,
@@ -97,5 +98,6 @@ where
     }
 }
 
-/// Futures of a stream that gives errors as well, at most as many at a time as its queue has room for. An error of the stream comes as soon as it is met, before what is held, and ends nothing.
+/// Futures of a stream that gives errors as well, at most as many at a time as its queue has room for. An error of the
+/// stream comes as soon as it is met, before what is held, and ends nothing.
 pub type TryBuffer<St, Q> = Buffer<St, TryQueue<Q>>;

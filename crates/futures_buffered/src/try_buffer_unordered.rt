@@ -7,12 +7,14 @@ use futures::Stream;
 use futures_buffered_core::ready_source::ReadySource;
 use futures_buffered_unordered::SlotFuture;
 
-/// Futures of a stream that gives errors as well, at most as many at a time as its set has slots, whose outputs come as they finish. An error of the stream comes as soon as it is met, and ends nothing.
+/// Futures of a stream that gives errors as well, at most as many at a time as its set has slots, whose outputs come as
+/// they finish. An error of the stream comes as soon as it is met, and ends nothing.
 pub type TryBufferUnordered<St, F, S> = TryBuffer<St, CompletionQueue<F, S>>;
 
-/// After any calls of one such buffer that held nothing at first, each future drawn either gave one of the outputs given, or is held still. What else was given are errors, between the outputs.
+/// After any calls of one such buffer that held nothing at first, each future drawn either gave one of the outputs
+/// given, or is held still. What else was given are errors, between the outputs.
 ///
-/// This is of the words that a poll's contract says of each call. Nothing is done.
+/// A law of the relations in the contract of a poll. Its body is empty.
 pub fn try_calls_lose_nothing<St, F, T, E, S: ReadySource>()
 where
     St: Stream<Item = Result<F, E>>,

@@ -1,6 +1,8 @@
 //! Adaptors of a stream of futures and errors, as methods of the stream.
 //!
-//! Each stands on its type's `over`, with a shared source, so that what it holds is woken from any thread; or, where its name begins with `foreign`, holds the kit's futures in plain sight, in an `InFlightQueue` or an `InFlightOrdered`.
+//! Each stands on its type's `over`, with a shared source, so that what it holds is woken from any thread; or, where
+//! its name begins with `foreign`, holds the kit's futures in plain sight, in an `InFlightQueue` or an
+//! `InFlightOrdered`.
 ghost use Rattle.futures_buffered_unordered.specs.FuturesUnorderedBounded.{IsNewSet};
 ghost use Rattle.std.specs.Prelude.{◌<◌, IfOk};
 ghost use Rattle.futures_buffered_core.specs.Made.{MakesSlots};
@@ -30,9 +32,10 @@ use std::alloc::Global;
 
 /// Adaptors that keep some futures of a stream in progress, where the stream gives errors as well.
 pub trait BufferedTryStreamExt: Stream + Sized {
-    /// The outputs of this stream's futures in the order of the stream, with at most `n` held at a time: in progress, or done and waiting for their turn. Each error of the stream comes as soon as it is met. Nothing is polled.
+    /// The outputs of this stream's futures in the order of the stream, with at most `n` held at a time: in progress,
+    /// or done and waiting for their turn. Each error of the stream comes as soon as it is met. Nothing is polled.
     ///
-    /// Takes time and memory in proportion to `n`. The stream is dropped where it is refused: `TooLarge` where `n` is above `MAX_CAPACITY`, and `Memory` where a request for memory was refused.
+    /// Takes time and memory in proportion to `n`. The stream is dropped where it is refused.
     final fn try_buffered_ordered<F, T, E>(
         self,
         alloc: Global,
@@ -49,9 +52,10 @@ pub trait BufferedTryStreamExt: Stream + Sized {
         TryBufferedOrdered::over(&(), alloc, self, n)
     }
 
-    /// The outputs of this stream's futures as they finish, with at most `n` in progress at a time, and each error of the stream as soon as it is met. Nothing is polled.
+    /// The outputs of this stream's futures as they finish, with at most `n` in progress at a time, and each error of
+    /// the stream as soon as it is met. Nothing is polled.
     ///
-    /// Takes time and memory in proportion to `n`. The stream is dropped where it is refused: `TooLarge` where `n` is above `MAX_CAPACITY`, and `Memory` where a request for memory was refused.
+    /// Takes time and memory in proportion to `n`. The stream is dropped where it is refused.
     final fn try_buffered_unordered<F, T, E>(
         self,
         alloc: Global,
@@ -66,9 +70,12 @@ pub trait BufferedTryStreamExt: Stream + Sized {
         TryBufferUnordered::over(&(), alloc, self, n)
     }
 
-    /// As `try_buffered_ordered`, of a stream of futures of the kit and errors. The futures stand in a queue of their own, and may contain closures.
+    /// As `try_buffered_ordered`, of a stream of futures of the kit and errors. The futures stand in a queue of their
+    /// own, and may contain closures.
     ///
-    /// Takes time and memory in proportion to `n`. It refuses as `try_buffered_ordered` does. A poll takes the memory that the kit's set takes for each future, and does without where that is refused: the future waits, and the task is woken.
+    /// Takes time and memory in proportion to `n`. It refuses as `try_buffered_ordered` does. A poll takes the memory
+    /// that the kit's set takes for each future, and does without where that is refused: the future waits, and the task
+    /// is woken.
     final fn foreign_try_buffered_ordered<F, T, E>(
         self,
         alloc: Global,
@@ -87,9 +94,12 @@ pub trait BufferedTryStreamExt: Stream + Sized {
         Ok(Buffer::with_queue(self, TryQueue::over(queue)))
     }
 
-    /// As `try_buffered_unordered`, of a stream of futures of the kit and errors. The futures stand in a set of their own, and may contain closures.
+    /// As `try_buffered_unordered`, of a stream of futures of the kit and errors. The futures stand in a set of their
+    /// own, and may contain closures.
     ///
-    /// Takes time and memory in proportion to `n`. It refuses as `try_buffered_unordered` does. A poll takes the memory that the kit's set takes for each future, and does without where that is refused: the future waits, and the task is woken.
+    /// Takes time and memory in proportion to `n`. It refuses as `try_buffered_unordered` does. A poll takes the memory
+    /// that the kit's set takes for each future, and does without where that is refused: the future waits, and the task
+    /// is woken.
     final fn foreign_try_buffered_unordered<F, T, E>(
         self,
         alloc: Global,
@@ -108,11 +118,13 @@ pub trait BufferedTryStreamExt: Stream + Sized {
         Ok(Buffer::with_queue(self, TryQueue::over(queue)))
     }
 
-    /// Calls `f` with each `Ok` item of this stream, once and in order, and runs the futures that it makes, at most `limit` at a time, up to the first error, of the stream or of a future. Nothing is polled.
+    /// Calls `f` with each `Ok` item of this stream, once and in order, and runs the futures that it makes, at most
+    /// `limit` at a time, up to the first error, of the stream or of a future. Nothing is polled.
     ///
-    /// `futures::TryStreamExt` has a method of this name too. Where both traits are in scope it is called by its path: `BufferedTryStreamExt::try_for_each_concurrent(stream, alloc, limit, f)`.
+    /// `futures::TryStreamExt` has a method of this name too. Where both traits are in scope it is called by its path:
+    /// `BufferedTryStreamExt::try_for_each_concurrent(stream, alloc, limit, f)`.
     ///
-    /// Takes time and memory in proportion to `limit`. Stream and closure are dropped where they are refused: `TooLarge` where `limit` is above `MAX_CAPACITY`, and `Memory` where a request for memory was refused.
+    /// Takes time and memory in proportion to `limit`. Stream and closure are dropped where they are refused.
     final fn try_for_each_concurrent<T, E, Fut, F>(
         self,
         alloc: Global,
@@ -131,9 +143,12 @@ pub trait BufferedTryStreamExt: Stream + Sized {
         TryForEachConcurrent::over(&(), alloc, self.map_ok(f), limit)
     }
 
-    /// As `try_for_each_concurrent`, where `f` makes futures of the kit, which stand in a set of their own. A future may contain closures.
+    /// As `try_for_each_concurrent`, where `f` makes futures of the kit, which stand in a set of their own. A future
+    /// may contain closures.
     ///
-    /// Takes time and memory in proportion to `limit`. It refuses as `try_for_each_concurrent` does. A poll takes the memory that the kit's set takes for each future, and does without where that is refused: the future waits, and the task is woken.
+    /// Takes time and memory in proportion to `limit`. It refuses as `try_for_each_concurrent` does. A poll takes the
+    /// memory that the kit's set takes for each future, and does without where that is refused: the future waits, and
+    /// the task is woken.
     final fn foreign_try_for_each_concurrent<T, E, Fut, F>(
         self,
         alloc: Global,

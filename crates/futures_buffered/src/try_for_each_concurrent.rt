@@ -1,6 +1,8 @@
-//! A closure called with each item of a stream that gives errors as well, up to the first error, and some of the futures that it makes at a time.
+//! A closure called with each item of a stream that gives errors as well, up to the first error, and some of the
+//! futures that it makes at a time.
 //!
-//! The stream with the closure is the kit's `MapOk`. A `TryBuffer` draws from it, and a `TryDrain` polls that to its end.
+//! The stream with the closure is the kit's `MapOk`. A `TryBuffer` draws from it, and a `TryDrain` polls that to its
+//! end.
 use crate::buffer_unordered::CompletionQueue;
 use crate::drain::Drain;
 use crate::try_buffer::TryQueue;
@@ -10,7 +12,8 @@ use futures_buffered_in_flight::InFlightQueue;
 /// Polls a buffer that gives `Ok(())` and errors, to its end or to the first error.
 pub type TryDrain<St, Q> = Drain<St, Q>;
 
-/// Gives each `Ok` item of a stream to a closure, once and in order, and runs the futures that it makes, at most as many at a time as its set has slots, up to the first error.
+/// Gives each `Ok` item of a stream to a closure, once and in order, and runs the futures that it makes, at most as
+/// many at a time as its set has slots, up to the first error.
 pub type TryForEachConcurrent<St, F, Fut, S> = TryDrain<
     MapOk<St, F>,
     TryQueue<CompletionQueue<Fut, S>>,

@@ -9,7 +9,8 @@ pub record Awaited : Type 0 where
   pub place : PlaceId
 
 abbrev pub awaited_code : Coded Awaited
-awaited_code = code_by (ℕ × PlaceId) (coded× coded_ℕ place_id_code) (λ a. (a.source, a.place)) (λ p. record { source = p.0; place = p.1 }) (λ _. refl)
+awaited_code = code_by (ℕ × PlaceId) (coded× coded_ℕ place_id_code)
+    (λ a. (a.source, a.place)) (λ p. record { source = p.0; place = p.1 }) (λ _. refl)
 
 -- the poller's side: where it waits, the wakers that it put in and took back there, and the one that it has
 pub record Poller (O : Type 0) : Type 0 where
@@ -18,7 +19,8 @@ pub record Poller (O : Type 0) : Type 0 where
   pub own : Option O
 
 abbrev pub poller_code : {O : Type 0} → Coded O → Coded (Poller O)
-poller_code {O} code = code_by (Awaited × (History O × Option O)) (coded× awaited_code (coded× (history_code code) (coded_option code)))
+poller_code {O} code = code_by (Awaited × (History O × Option O))
+    (coded× awaited_code (coded× (history_code code) (coded_option code)))
     (λ p. (p.awaits, (p.did, p.own))) (λ p. record { awaits = p.0; did = p.1.0; own = p.1.1 }) (λ _. refl)
 
 module _ {O : Type 0} where
@@ -28,7 +30,8 @@ module _ {O : Type 0} where
 
   -- the waker was put in, and the one before was taken out; or another call was at the place, and the waker is woken
   abbrev pub PutsOrMeets : O → History O → History O → Type 0
-  PutsOrMeets x old new = ((before : Option O) × (new ≡ record old { put = old.put ++ x ∷ []; taken = and_taken old.taken before }))
+  PutsOrMeets x old new =
+      ((before : Option O) × (new ≡ record old { put = old.put ++ x ∷ []; taken = and_taken old.taken before }))
       ⊎ (new ≡ record old { busy = old.busy + 1 })
 
   -- the waker that it has, if it has one, is put in

@@ -24,9 +24,11 @@ impl SlotWaker for NoopWaker {
     fn wake(&self) {}
 }
 
-/// A ready core under one caller. Its wakers do nothing, so a slot is marked by its set alone, and no mark wakes the task that it keeps. That is woken where another task registers, and where the source is dropped.
+/// A ready core under one caller. Its wakers do nothing, so a slot is marked by its set alone, and no mark wakes the
+/// task that it keeps. That is woken where another task registers, and where the source is dropped.
 ///
-/// A contract sees what it sees of the core: the capacity, and the marked slots by their oldest unserved marks. Marks and takings are those of the core, and a registration changes nothing of it.
+/// A contract sees what it sees of the core: the capacity, and the marked slots by their oldest unserved marks. Marks
+/// and takings are those of the core, and a registration changes nothing of it.
 #[derive(Drop)]
 pub struct CoreSource {
     core: ReadyCore,

@@ -1,13 +1,17 @@
-//! The ground that the sets of futures stand on: which slots are marked and which one is named next, and fixed slots that hold values.
+//! The ground that the sets of futures stand on: which slots are marked and which one is named next, and fixed slots
+//! that hold values.
 //!
 //! In the order in which to read them:
 //!
-//! - `ready_core`: marks and takings as plain data. `ReadyCore` names the slot whose unserved mark is oldest; `run` does a whole list of events.
+//! - `ready_core`: marks and takings as plain data. `ReadyCore` names the slot whose unserved mark is oldest; `run`
+//!   does a whole list of events.
 //! - `ready_source`: the traits by which a set asks for names.
-//! - `core_source` and `script_source`: two sources for one caller, `CoreSource` over a core and `ScriptSource` over a list of answers.
+//! - `core_source` and `script_source`: two sources for one caller, `CoreSource` over a core and `ScriptSource` over a
+//!   list of answers.
 //! - `waker_place`: where a source keeps the waker of its task, and where a fresh wake of a slot finds it.
 //! - `ready_shared`: `SharedReady`, a source whose wakers are woken from any thread, over a list of atomic words.
-//! - `ready_table`: the same list by single atomic steps, under every schedule of wakers and one poller. `StepMachine` makes the steps one at a time.
+//! - `ready_table`: the same list by single atomic steps, under every schedule of wakers and one poller. `StepMachine`
+//!   makes the steps one at a time.
 //! - `slot_map`: `PinSlotMap`, a fixed number of slots, each of which holds a value or is free.
 #![tactic(auto)]
 

@@ -1,6 +1,8 @@
 //! Which slots are marked, and which one is named next.
 //!
-//! Events are marks and takings. A mark of a slot is unserved until a taking names that slot. A taking names the slot whose unserved mark is oldest. Nothing here waits, and after construction nothing takes memory but `run`, for its replies.
+//! Events are marks and takings. A mark of a slot is unserved until a taking names that slot. A taking names the slot
+//! whose unserved mark is oldest. Nothing here waits, and after construction nothing takes memory but `run`, for its
+//! replies.
 ghost use Rattle.std.specs.Prelude.{◌≡◌, ◌+◌, ◌<◌, [], ℕ, List, ◌++◌, length, slice_set, OnOk, OnErr, nat_eq, vec_len};
 ghost use Rattle.std.specs.List.{IsDistinct};
 ghost use Rattle.futures_buffered_core.specs.ReadyCore.{MarkGives, TakeGives, IsNameBelow};
@@ -35,7 +37,9 @@ pub enum Reply {
 
 /// Slots with at most one unserved mark each that counts, in the order in which these marks were made.
 ///
-/// A contract sees the capacity and the list of marked slots, oldest unserved mark first. The marked slots stand in a row of links, as in a `ReadyList`, and one entry more than there are slots, the stub, takes the head's place where no slot is marked.
+/// A contract sees the capacity and the list of marked slots, oldest unserved mark first. The marked slots stand in a
+/// row of links, as in a `ReadyList`, and one entry more than there are slots, the stub, takes the head's place where
+/// no slot is marked. Each call but `new` takes the same time at any capacity, and no memory.
 #[derive(Drop)]
 pub struct ReadyCore {
     marks: Vec<bool>,
@@ -81,7 +85,7 @@ fn put_last(links: &mut Vec<usize>, tail: &mut usize, entry: usize)
 impl ReadyCore {
     /// A core of `cap` slots, none of which is marked.
     ///
-    /// Takes time and memory in proportion to `cap`: `cap` marks and `cap + 1` links, so that no later call takes any. `TooLarge` where `cap` is above `MAX_CAPACITY`, and `Memory` where a request for memory was refused.
+    /// Takes time and memory in proportion to `cap`: `cap` marks and `cap + 1` links, so that no later call takes any.
     pub fn new(alloc: Global, cap: usize) -> Result<Self, NewFault>
         ensures { MakesSlots cap (λ core. core ≡ record { capacity = cap; marked = [] }) result }
     {
@@ -98,7 +102,7 @@ impl ReadyCore {
         })
     }
 
-    /// The number of slots. Takes the same time at any capacity.
+    /// The number of slots.
     pub fn capacity(&self) -> usize
         ensures value { result ≡ self.now.capacity }
         ensures once { IsDistinct nat_eq self.now.marked }
@@ -107,8 +111,6 @@ impl ReadyCore {
     }
 
     /// Marks a slot. A slot that is marked already keeps its place.
-    ///
-    /// Takes the same time at any capacity, and no memory.
     pub fn mark(&mut self, i: usize) -> Woke
         requires { i < self.old.capacity }
         ensures marked { MarkGives self.old.marked i result self.new.marked }
@@ -122,9 +124,8 @@ impl ReadyCore {
         Woke::Already
     }
 
-    /// Names the slot whose unserved mark is oldest, and unmarks it. `Empty` where no slot is marked, and never `Pause`.
-    ///
-    /// Takes the same time at any capacity, and no memory.
+    /// Names the slot whose unserved mark is oldest, and unmarks it. `Empty` where no slot is marked, and never
+    /// `Pause`.
     pub fn take(&mut self) -> Taken
         ensures taken { TakeGives self.old.marked result self.new.marked }
         ensures below { IsNameBelow self.old.capacity result }
@@ -162,14 +163,16 @@ pub enum RunFault {
     /// A request for memory was refused.
     #[error("out of memory")]
     Memory,
-    /// The position of the first entry that names a slot not below the capacity. This is tested before any memory is asked for.
+    /// The position of the first entry that names a slot not below the capacity. This is tested before any memory is
+    /// asked for.
     #[error("the entry at {0} names a slot that is not there")]
     Event(usize),
 }
 
 /// Does the events in order, and appends a reply for each to `out`.
 ///
-/// All slots are tested first, and room for all replies is made next: only then is the first event done, so a fault changes nothing. Each event takes the same time at any capacity; the memory is that of the replies.
+/// All slots are tested first, and room for all replies is made next: only then is the first event done, so a fault
+/// changes nothing. Each event takes the same time at any capacity; the memory is that of the replies.
 pub fn run(core: &mut ReadyCore, events: &[Event], out: &mut Vec<Reply>) -> Result<(), RunFault>
     // The marks and namings of the events, after one mark of each slot that stands at the start, decide each reply.
     ensures right { OnOk result ((replies : List Reply) × (out.new.items ≡ out.old.items ++ replies)

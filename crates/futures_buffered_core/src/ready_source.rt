@@ -1,6 +1,7 @@
 //! What a set asks for names: marks, takings, and the task's waker.
 //!
-//! A source has a content of its own, of which a contract knows only what the source's relations say. `CoreSource` is a ready core under one caller, and `ScriptSource` gives a list of answers; both have exact relations.
+//! A source has a content of its own, of which a contract knows only what the source's relations say. `CoreSource` is a
+//! ready core under one caller, and `ScriptSource` gives a list of answers; both have exact relations.
 ghost use Rattle.std.specs.Prelude.{◌≡◌, ◌<◌, ℕ, IfOk};
 ghost use Rattle.futures.specs.Task.{Covers, Keeps};
 ghost use Rattle.futures.specs.declared.task.context.Context.{Context};
@@ -15,7 +16,8 @@ pub use crate::script_source::ScriptSource;
 use futures::task::Context;
 use std::alloc::Global;
 
-/// What a set sees of a slot's waker: which slot it wakes, and no call that wakes it. So a set can hand a waker on, and cannot use it.
+/// What a set sees of a slot's waker: which slot it wakes, and no call that wakes it. So a set can hand a waker on, and
+/// cannot use it.
 pub trait SlotHandle {
     // The slots of which it is a waker: the one that a wake marks. A waker that does nothing is one of each slot.
     ghost wakes: { Self → ℕ → Type 0 };
@@ -23,13 +25,15 @@ pub trait SlotHandle {
 
 /// Wakes one slot, any number of times, also once the set that it came from is gone.
 pub trait SlotWaker: SlotHandle {
-    /// Marks the slot, unless it is a waker that does nothing. Where that mark is fresh and the task's waker is kept for wakes, takes that out and wakes the task.
+    /// Marks the slot, unless it is a waker that does nothing. Where that mark is fresh and the task's waker is kept
+    /// for wakes, takes that out and wakes the task.
     fn wake(&self);
 }
 
 /// Names slots that were marked.
 ///
-/// Beside the calls a source states what they may do: relations between its content before, the answer, and its content after. Each named slot is below the capacity, and the capacity stays: these are laws below.
+/// Beside the calls a source states what they may do: relations between its content before, the answer, and its content
+/// after. Each named slot is below the capacity, and the capacity stays: these are laws below.
 pub trait ReadySource: Drop {
     /// What wakes one slot.
     type Waker: SlotHandle;
@@ -49,7 +53,7 @@ pub trait ReadySource: Drop {
     // The places of a task's wakes at which a registration waits, by their names.
     ghost needs: { Self → ℕ → Type 0 };
 
-    /// The number of slots. Takes the same time at any capacity.
+    /// The number of slots.
     fn capacity(&self) -> usize
         ensures { result ≡ slots self.now };
 
@@ -62,19 +66,22 @@ pub trait ReadySource: Drop {
     fn take(&mut self) -> Taken
         ensures { steps.takes self.old result self.new };
 
-    /// Lends the waker of the slot that it named last. The waker is of that slot until a taking names another; a copy is for good. Takes no memory.
+    /// Lends the waker of the slot that it named last. The waker is of that slot until a taking names another; a copy
+    /// is for good. Takes no memory.
     fn waker(&self, i: usize) -> &Self::Waker
         requires { IsNamed steps.takes self.now i }
         ensures { Self.Waker.wakes result.now i };
 
-    /// Keeps the waker of the task that polls in place of the one kept before, or polls what the source waits for with `cx`.
+    /// Keeps the waker of the task that polls in place of the one kept before, or polls what the source waits for with
+    /// `cx`.
     fn register(&mut self, cx: &mut Context<'_>)
         ensures registered { steps.registers self.old self.new }
         ensures poll { registers_poll self.old cx.old cx.new }
         ensures covered { Covers cx.new (needs self.old) }
         ensures kept { Keeps cx.old cx.new };
 
-    /// Is told that the set has let go what all its slots held, and drops what it keeps for that. A source that keeps nothing of it does nothing. Takes no memory.
+    /// Is told that the set has let go what all its slots held, and drops what it keeps for that. A source that keeps
+    /// nothing of it does nothing. Takes no memory.
     ///
     /// A slot that was marked stays marked.
     fn let_all_go(&mut self)
@@ -93,13 +100,16 @@ pub trait NewSource: ReadySource {
     // What a new source of this capacity may be.
     ghost made: { ℕ → Self → Type 0 };
 
-    /// A source of `cap` slots. Takes time and memory in proportion to `cap`, so that no later mark takes any. Whether a taking does the source says.
+    /// A source of `cap` slots. Takes time and memory in proportion to `cap`, so that no later mark takes any. Whether
+    /// a taking does the source says.
     fn make(env: &Self::Env, alloc: Global, cap: usize) -> Result<Self, NewFault>
         ensures { MakesSlots cap (made cap) result };
 
-    /// A source of `cap` slots beside this one, which waits at the same places of a task's wakes. So in one poll that asks both, one registration covers both, where the source that registers is asked first.
+    /// A source of `cap` slots beside this one, which waits at the same places of a task's wakes. So in one poll that
+    /// asks both, one registration covers both, where the source that registers is asked first.
     ///
-    /// Takes time and memory as `make` does. Where it is refused this source's content stays as it was; the task's waker may be kept at another place from then on.
+    /// Takes time and memory as `make` does. Where it is refused this source's content stays as it was; the task's
+    /// waker may be kept at another place from then on.
     fn make_sibling(&mut self, alloc: Global, cap: usize) -> Result<Self, NewFault>
         ensures source { MakesSlots cap (made cap) result }
         ensures beside { IfOk result (WaitsAlike Self.needs self.old) }

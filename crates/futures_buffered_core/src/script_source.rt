@@ -14,7 +14,9 @@ use std::alloc::Global;
 use std::marker::Model;
 use std::vec;
 
-/// Gives the answers of a list in order, and then `Empty` for good: for a test of what a set does with the names that it gets. Its wakers do nothing, and no call wakes the task that it keeps but a registration of another. That task is woken too where the source is dropped.
+/// Gives the answers of a list in order, and then `Empty` for good: for a test of what a set does with the names that
+/// it gets. Its wakers do nothing, and no call wakes the task that it keeps but a registration of another. That task is
+/// woken too where the source is dropped.
 ///
 /// A contract sees the capacity and the answers that are left.
 #[derive(Drop)]
@@ -43,9 +45,11 @@ impl Model for ScriptSource {
 }
 
 impl ScriptSource {
-    /// A source of `cap` slots with these answers to give. `cap` can be any number. Takes time in proportion to the answers.
+    /// A source of `cap` slots with these answers to give. `cap` can be any number. Takes time in proportion to the
+    /// answers.
     ///
-    /// `RunFault::Event` has the position of the first answer that names a slot not below `cap`. No memory is asked for, so `RunFault::Memory` never comes.
+    /// `RunFault::Event` has the position of the first answer that names a slot not below `cap`. No memory is asked
+    /// for, so `RunFault::Memory` never comes.
     pub fn new(_alloc: Global, cap: usize, answers: Vec<Taken>) -> Result<Self, RunFault>
         ensures ok { IfOk result (λ s. s ≡ record { capacity = cap; left = answers.items }) }
         ensures named { OnOk result

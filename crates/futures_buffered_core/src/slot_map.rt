@@ -1,7 +1,9 @@
 //! Fixed slots that hold values.
 //!
-//! A value goes into the first free slot and stays there until it is removed. For a new map the free slots are 0, 1, 2 and so on; a slot that a removal frees is the first to be used again. No call but the constructors takes memory.
-ghost use Rattle.std.specs.Prelude.{◌≡◌, ◌≢◌, ◌+◌, ◌<◌, ◌≤◌, [], IfOk, IfErr, OnOk, MatchOption, IfSome, IfNone, ℕ, ◌^◌, List, IsTrue, ◌↔◌, ◌==◌, replicate, is_some, IsSome};
+//! A value goes into the first free slot and stays there until it is removed. For a new map the free slots are 0, 1, 2
+//! and so on; a slot that a removal frees is the first to be used again. No call but the constructors takes memory.
+ghost use Rattle.std.specs.Prelude.{◌≡◌, ◌≢◌, ◌+◌, ◌<◌, ◌≤◌, [], IfOk, IfErr, OnOk, MatchOption, IfSome, IfNone, ℕ};
+ghost use Rattle.std.specs.Prelude.{◌^◌, List, IsTrue, ◌↔◌, ◌==◌, replicate, is_some, IsSome};
 ghost use Rattle.std.specs.List.{range_with_len};
 ghost use Rattle.std.specs.VecDeque.{deque_capacity};
 ghost use Rattle.std.specs.Option.{option_copied_mut};
@@ -9,7 +11,8 @@ ghost use Rattle.std.specs.Option.Follows.{option_follows_value};
 ghost use Rattle.std.specs.Borrow.{sem};
 ghost use Rattle.futures_buffered_core.specs.Made.{MakesSlots};
 ghost use Rattle.futures_buffered_core.specs.Drawn.{Draws, IsFiniteSource, RefusesTooMany};
-ghost use Rattle.futures_buffered_core.specs.SlotMap.{value_in, held_count, slot_count, no_slots, all_slots, with_slot_freed, IsFull, Inserts, IsFirstHeld, NoneHeldFrom};
+ghost use Rattle.futures_buffered_core.specs.SlotMap.{value_in, held_count, slot_count, no_slots, all_slots};
+ghost use Rattle.futures_buffered_core.specs.SlotMap.{with_slot_freed, IsFull, Inserts, IsFirstHeld, NoneHeldFrom};
 
 use crate::ready_core::{MAX_CAPACITY, NewFault};
 use std::alloc::{AllocError, Global};
@@ -18,7 +21,8 @@ use std::marker::Model;
 
 /// Values in slots whose number never changes.
 ///
-/// A contract sees what each slot holds, and the list of free slots in the order in which they will be used.
+/// A contract sees what each slot holds, and the list of free slots in the order in which they will be used. Calls on
+/// one slot, and those that ask how much is held, take the same time at any capacity, besides what they call and drop.
 #[derive(Drop)]
 pub struct PinSlotMap<F> {
     places: Vec<Option<F>>,
@@ -82,7 +86,7 @@ impl<F: Drop> PinSlotMap<F> {
 
     /// A map of `capacity` free slots.
     ///
-    /// Takes time and memory in proportion to `capacity`. `TooLarge` where it is above `MAX_CAPACITY`, and `Memory` where a request for memory was refused.
+    /// Takes time and memory in proportion to `capacity`.
     pub fn new(alloc: Global, capacity: usize) -> Result<Self, NewFault>
         ensures { MakesSlots capacity (λ m. m ≡ no_slots capacity) result }
     {
@@ -96,7 +100,7 @@ impl<F: Drop> PinSlotMap<F> {
 
     /// A map without a free slot, which has item k in slot k, and as many slots as there are items.
     ///
-    /// Takes time and memory in proportion to that number. Where it is refused, the items that came are dropped: `TooLarge` where one more than `MAX_CAPACITY` came, and `Memory` where a request for memory was refused.
+    /// Takes time and memory in proportion to that number. Where it is refused, the items that came are dropped.
     pub fn from_iter<I: IntoIterator<Item = F>>(alloc: Global, iter: I) -> Result<Self, NewFault>
         requires { IsFiniteSource I.IntoIterator I.IntoIter.Iterator iter }
         ensures full { IfOk result (λ m. (items : List F)
@@ -117,21 +121,21 @@ impl<F: Drop> PinSlotMap<F> {
         Ok(PinSlotMap { places, free })
     }
 
-    /// The number of slots, free or not. Takes the same time at any capacity.
+    /// The number of slots, free or not.
     pub fn capacity(&self) -> usize
         ensures { result ≡ slot_count self.now }
     {
         self.places.len()
     }
 
-    /// The number of values held. Takes the same time at any capacity.
+    /// The number of values held.
     pub fn len(&self) -> usize
         ensures { result ≡ held_count self.now }
     {
         self.capacity() - self.free.len()
     }
 
-    /// Whether no value is held. Takes the same time at any capacity.
+    /// Whether no value is held.
     pub fn is_empty(&self) -> bool
         ensures { IsTrue result ↔ (held_count self.now ≡ 0) }
     {
@@ -140,7 +144,7 @@ impl<F: Drop> PinSlotMap<F> {
 
     /// Puts what `f` makes of `arg` into the first free slot, and answers which one that is.
     ///
-    /// A full map hands `arg` back and does not call `f`. Takes the same time at any capacity, besides the call of `f`.
+    /// A full map hands `arg` back and does not call `f`.
     pub fn insert_with<Arg, G: FnOnce(Arg) -> F>(&mut self, arg: Arg, f: G) -> Result<usize, Arg>
     where
         G: Drop,
@@ -159,8 +163,6 @@ impl<F: Drop> PinSlotMap<F> {
     }
 
     /// Drops the value of a slot, which is then the first free one. A slot that is free or not there changes nothing.
-    ///
-    /// Takes the same time at any capacity, besides the drop of the value.
     pub fn remove(&mut self, key: usize)
         ensures slots { MatchOption (value_in self.old key) (self.new ≡ self.old)
             (λ _. self.new ≡ with_slot_freed self.old key) }
@@ -186,7 +188,7 @@ impl<F: Drop> PinSlotMap<F> {
         }
     }
 
-    /// The value of a slot, for writing. `None` where the slot is free or not there. Takes the same time at any capacity.
+    /// The value of a slot, for writing. `None` where the slot is free or not there.
     pub fn get(&mut self, key: usize) -> Option<&mut F>
         ensures* writes_back { sem 𝓛 (lends_slot F.row self.entry key result) }
         ensures value { option_copied_mut result ≡ value_in self.old key }
@@ -240,7 +242,8 @@ impl<F: Drop> PinSlotMap<F> {
 
 /// The held values of a map by rising slot, each lent for writing until the next one is asked for.
 ///
-/// It is no `Iterator` of std, since an item is lent by the iterator and not by the map: that way the map stays whole between two items. After as many items as the map holds it answers `None`.
+/// It is no `Iterator` of std, since an item is lent by the iterator and not by the map: that way the map stays whole
+/// between two items. After as many items as the map holds it answers `None`.
 #[derive(Drop)]
 pub struct SlotMapIterMut<'a, F> {
     map: &'a mut PinSlotMap<F>,
@@ -251,7 +254,8 @@ pub struct SlotMapIterMut<'a, F> {
 impl<'a, F: Drop> SlotMapIterMut<'a, F> {
     ghost use Rattle.futures_buffered_core.specs.SlotMapIterMut.{iter_slots, iter_from, lends_next};
 
-    /// The value of the first slot, of those not passed yet, that holds one. `None` once there is no such slot, and from then on.
+    /// The value of the first slot, of those not passed yet, that holds one. `None` once there is no such slot, and
+    /// from then on.
     ///
     /// Takes no memory, and time in proportion to the slots that it passes.
     pub fn next(&mut self) -> Option<&mut F>

@@ -1,10 +1,18 @@
 //! Where a fresh wake finds the waker of the task.
 //!
-//! A wake puts its slot into the list first, and looks here then. One word says that a waker is kept here, that none is, or that somebody has the place. Nobody waits. A wake reads the word, tries one compare-exchange where a waker is kept, and stores that none is once it has taken that out. A poller reads the word too. Where none is kept and no other source puts wakers in here, it writes its waker and stores that one is kept: until then no other call changes the word. Else it tries one compare-exchange, and stores behind it. No wake is lost by that, in whatever order the steps come.
+//! A wake puts its slot into the list first, and looks here then. One word says that a waker is kept here, that none
+//! is, or that somebody has the place. Nobody waits. A wake reads the word, tries one compare-exchange where a waker is
+//! kept, and stores that none is once it has taken that out. A poller reads the word too. Where none is kept and no
+//! other source puts wakers in here, it writes its waker and stores that one is kept: until then no other call changes
+//! the word. Else it tries one compare-exchange, and stores behind it. No wake is lost by that, in whatever order the
+//! steps come.
 //!
-//! - The poller puts its waker in before it reads the tail that lets it answer `Empty`. A wake whose slot went into the tail before that read makes the poller answer `Pause`, after which the task polls again. A wake whose slot went in later finds the waker, unless another wake took it out in between: that one wakes the task.
+//! - The poller puts its waker in before it reads the tail that lets it answer `Empty`. A wake whose slot went into the
+//!   tail before that read makes the poller answer `Pause`, after which the task polls again. A wake whose slot went in
+//!   later finds the waker, unless another wake took it out in between: that one wakes the task.
 //! - A wake that finds another wake at the place leaves the task to it. That one wakes the task.
-//! - A wake that finds the poller at the place, or no waker, also while the poller writes its own, leaves its slot to the poller, which reads the tail later, or to the wake that took the waker.
+//! - A wake that finds the poller at the place, or no waker, also while the poller writes its own, leaves its slot to
+//!   the poller, which reads the tail later, or to the wake that took the waker.
 //! - A poller that is to put its waker in and finds a wake at the place wakes the task itself.
 //!
 //! Every step is sequentially consistent, so all of them stand in one order.
@@ -35,7 +43,8 @@ impl OuterWaker for Waker {
     }
 }
 
-/// What sources that stand beside one another share with all their wakers. No call waits, and none but `new` takes memory.
+/// What sources that stand beside one another share with all their wakers. No call waits, and none but `new` takes
+/// memory.
 #[derive(Drop)]
 pub struct WakerPlace<O> {
     source: Source,
@@ -62,9 +71,11 @@ impl<O: OuterWaker> WakerPlace<O> {
         Ok((WakerPlace { source, kept }, seat))
     }
 
-    /// Takes out the waker that is kept and wakes it, unless another call is at the place. Of many wakes after one registration one takes it out, and those that come later pay for a load.
+    /// Takes out the waker that is kept and wakes it, unless another call is at the place. Of many wakes after one
+    /// registration one takes it out, and those that come later pay for a load.
     ///
-    /// The seat shows that a fresh wake has put its slot into the list: no wake looks here earlier. The seat that it gives shows that it took out the waker, or found none or another call at the place.
+    /// The seat shows that a fresh wake has put its slot into the list: no wake looks here earlier. The seat that it
+    /// gives shows that it took out the waker, or found none or another call at the place.
     pub fn wake(&self, _made: &WakeSeat) -> TakeSeat<O>
         requires { (slot : ℕ) × IsWake slot _made.now.steps Fresh }
         ensures place { result.place ≡ self.now.place }
@@ -77,7 +88,8 @@ impl<O: OuterWaker> WakerPlace<O> {
         seat
     }
 
-    /// Keeps a waker in place of the one before, which is let go once this call has left the place. Where another call is there, it wakes the waker at once.
+    /// Keeps a waker in place of the one before, which is let go once this call has left the place. Where another call
+    /// is there, it wakes the waker at once.
     pub fn put_in(&self, seat: &mut PutSeat<O>, outer: O)
         requires { seat.old.place ≡ self.now.place }
         ensures place { seat.new.place ≡ seat.old.place }
@@ -92,9 +104,12 @@ impl<O: OuterWaker> WakerPlace<O> {
 
 /// The poller's side.
 ///
-/// The task's waker is kept here from its registration on, and is put into the shared place only before the poller can answer `Empty`. So a poll that ends with an output puts nothing there, and nobody wakes a task that polls again by itself. Where the poller has none, a registration takes back the waker that the place keeps.
+/// The task's waker is kept here from its registration on, and is put into the shared place only before the poller can
+/// answer `Empty`. So a poll that ends with an output puts nothing there, and nobody wakes a task that polls again by
+/// itself. Where the poller has none, a registration takes back the waker that the place keeps.
 ///
-/// A poll that asks sources beside one another asks the one that registered first. One of them that still has the waker of an earlier poll puts it in as well, and the waker that it replaces wakes the task.
+/// A poll that asks sources beside one another asks the one that registered first. One of them that still has the waker
+/// of an earlier poll puts it in as well, and the waker that it replaces wakes the task.
 ///
 /// A contract sees at which place it waits, the waker that it has, and those that it put in and took back.
 #[derive(Drop)]
@@ -166,7 +181,8 @@ impl<O: OuterWaker> PollerWaker<O> {
 }
 
 impl PollerWaker<Waker> {
-    /// Keeps the task's waker here, and takes back the one that the place keeps, where none is here. One of another task is let go, which wakes that task.
+    /// Keeps the task's waker here, and takes back the one that the place keeps, where none is here. One of another
+    /// task is let go, which wakes that task.
     ///
     /// Where no waker can be made, the task is woken.
     pub fn register(&mut self, cx: &mut Context<'_>)

@@ -1,4 +1,5 @@
-// Two threads make a wake each in one round after another, and the next round begins once both slots are named. So no later wake stands in for one that was lost: whoever takes is woken, or the test fails.
+// Two threads make a wake each in one round after another, and the next round begins once both slots are named. So no
+// later wake stands in for one that was lost: whoever takes is woken, or the test fails.
 use crate::same::assert_same;
 use crate::slots::waker_of;
 use futures_buffered_core::ready_core::Taken;
@@ -25,7 +26,8 @@ struct Seat {
     named: AtomicU64,
 }
 
-// A seat for each of two slots, the round in which the threads wake, whether the outer waker was woken, and whether the threads have to stop.
+// A seat for each of two slots, the round in which the threads wake, whether the outer waker was woken, and whether the
+// threads have to stop.
 #[derive(Drop)]
 struct Shared {
     first: Seat,
@@ -169,7 +171,8 @@ fn is_over<C: Clock>(clock: &C, start: &Instant) -> bool {
     }
 }
 
-// Puts an outer waker in and takes all, whenever the one before was woken, until both slots are named: whether each was woken.
+// Puts an outer waker in and takes all, whenever the one before was woken, until both slots are named: whether each was
+// woken.
 fn answer_round(
     source: &mut SharedReady<Says>,
     shared: &Arc<Shared>,

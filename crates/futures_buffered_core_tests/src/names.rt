@@ -1,4 +1,5 @@
-//! What names marked slots, a source or a list, is asked the same: once for each of many slots, and against a plain list.
+//! What names marked slots, a source or a list, is asked the same: once for each of many slots, and against a plain
+//! list.
 use crate::same::assert_same;
 use crate::slots::mark;
 use crate::table::alone::Alone;
@@ -141,7 +142,8 @@ fn answers_alike<N: Names>(
     marks_alike(names, plain, slot)
 }
 
-/// Whether 20,000 marks and takings, now more of the one and now of the other, are answered as by a list of the marked slots, oldest mark first.
+/// Whether 20,000 marks and takings, now more of the one and now of the other, are answered as by a list of the marked
+/// slots, oldest mark first.
 pub fn is_as_plain<N: Names>(names: &mut N, plain: &mut Vec<usize>) -> Result<bool, AllocError> {
     let mut number = 1u64;
     for turn in 0..20_000u64 {

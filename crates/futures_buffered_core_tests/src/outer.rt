@@ -11,7 +11,8 @@ use std::thread::{self, JoinHandle, Threads, yield_now};
 
 const TURNS: u64 = 10_000_000;
 
-/// How often outer wakers were woken, and how often dropped; whether one has asked, which is 2 once it has the answer, and the answer.
+/// How often outer wakers were woken, and how often dropped; whether one has asked, which is 2 once it has the answer,
+/// and the answer.
 #[derive(Drop)]
 pub struct Counts {
     pub wakes: AtomicU64,

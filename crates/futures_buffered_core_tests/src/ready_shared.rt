@@ -73,7 +73,8 @@ fn a_fresh_wake_takes_the_outer_waker(rt: HostRuntime) -> Result<(), Fail> {
     Ok(())
 }
 
-// Two slots are woken while the outer waker is at its wake, by a thread that it waits for. No wake waits for another, and none is lost.
+// Two slots are woken while the outer waker is at its wake, by a thread that it waits for. No wake waits for another,
+// and none is lost.
 #[test]
 fn two_slots_are_woken_from_inside_the_outer_wake(rt: HostRuntime) -> Result<(), Fail> {
     let counts = Counts::new(rt.alloc())?;
@@ -168,7 +169,8 @@ fn replaces<R: Threads>(
     Ok(put?)
 }
 
-// The first is dropped once the place is free again and the second lies there: a slot that its drop has woken finds the second.
+// The first is dropped once the place is free again and the second lies there: a slot that its drop has woken finds the
+// second.
 #[test]
 fn the_drop_of_an_outer_waker_wakes_a_slot(rt: HostRuntime) -> Result<(), Fail> {
     let first = Counts::new(rt.alloc())?;

@@ -56,7 +56,8 @@ fn are_woken(one: &MockTask, two: &MockTask) -> (bool, bool) {
     (one.is_woken(), two.is_woken())
 }
 
-// A waker of a task wakes it when it is dropped. So one that was kept in no source, or by a plain yield, would show at once, and one that is kept in place of the waker of another task lets that go. No taking lets it go.
+// A waker of a task wakes it when it is dropped. So one that was kept in no source, or by a plain yield, would show at
+// once, and one that is kept in place of the waker of another task lets that go. No taking lets it go.
 fn keeps_the_last<S: ReadySource>(
     rt: &impl Abort,
     one: &MockTask,

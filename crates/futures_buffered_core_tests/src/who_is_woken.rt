@@ -28,7 +28,8 @@ fn is_woken_by(task: &MockTask, source: &SharedReady, slot: usize) -> bool {
     task.is_woken()
 }
 
-// A poll that ends with a name leaves the task's waker with the poller, where no wake finds it: that task polls again by itself.
+// A poll that ends with a name leaves the task's waker with the poller, where no wake finds it: that task polls again
+// by itself.
 #[test]
 fn a_wake_after_a_name_wakes_nobody(rt: HostRuntime) -> Result<(), Fail> {
     let task = MockTask::new(&rt)?;
@@ -59,7 +60,8 @@ fn poll_nothing(task: &MockTask) {
     task.enter(|_cx| ());
 }
 
-// A second task that is given a name takes the place of the first, which is woken by that. Wakes find the second once its poll finds nothing.
+// A second task that is given a name takes the place of the first, which is woken by that. Wakes find the second once
+// its poll finds nothing.
 #[test]
 fn a_second_task_that_is_given_a_name_takes_the_place(rt: HostRuntime) -> Result<(), Fail> {
     let one = MockTask::new(&rt)?;
@@ -111,7 +113,8 @@ fn a_second_task_takes_the_place_with_the_poller(rt: HostRuntime) -> Result<(), 
     Ok(())
 }
 
-// The task's waker is with the poller of the first source as the second is made, and a wake of the second finds it. The making wakes nobody.
+// The task's waker is with the poller of the first source as the second is made, and a wake of the second finds it. The
+// making wakes nobody.
 #[test]
 fn a_source_made_beside_finds_the_task_that_waits(rt: HostRuntime) -> Result<(), Fail> {
     let task = MockTask::new(&rt)?;
@@ -130,7 +133,8 @@ fn a_source_made_beside_finds_the_task_that_waits(rt: HostRuntime) -> Result<(),
     Ok(())
 }
 
-// Registers at one source and asks it, and then the other, which have nothing. A wake of either then finds the task, and the next one does not.
+// Registers at one source and asks it, and then the other, which have nothing. A wake of either then finds the task,
+// and the next one does not.
 fn try_pair(
     rt: &impl Abort,
     task: &MockTask,
@@ -188,7 +192,8 @@ fn a_wake_beside_finds_the_task_once_its_poll_found_nothing(rt: HostRuntime) -> 
     Ok(())
 }
 
-// The waker of an earlier poll lies with one source as the other's is put in. Where it is put in too, the one that it replaces wakes the task, once.
+// The waker of an earlier poll lies with one source as the other's is put in. Where it is put in too, the one that it
+// replaces wakes the task, once.
 #[test]
 fn an_earlier_waker_that_comes_later_wakes_the_task(rt: HostRuntime) -> Result<(), Fail> {
     let task = MockTask::new(&rt)?;
@@ -241,7 +246,8 @@ fn waker_of(task: &MockTask) -> Option<Waker> {
     kept
 }
 
-// The waker of a task that is registered lies where wakes find it before its poll finds nothing, in place of one that was handed in.
+// The waker of a task that is registered lies where wakes find it before its poll finds nothing, in place of one that
+// was handed in.
 #[test]
 fn a_task_that_waits_takes_the_place_of_what_was_handed_in(rt: HostRuntime) -> Result<(), Fail> {
     let one = MockTask::new(&rt)?;

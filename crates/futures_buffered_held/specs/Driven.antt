@@ -15,7 +15,8 @@ NamesFirst [] Pause new = new ≡ []
 
 -- one taking
 abbrev pub TakesOrCollects : Standing → Taken → Standing → Type 0
-TakesOrCollects old taken new = (new.capacity ≡ old.capacity) × IsNameBelow old.capacity taken × NamesFirst old.marked taken new.marked
+TakesOrCollects old taken new = (new.capacity ≡ old.capacity) × IsNameBelow old.capacity taken
+    × NamesFirst old.marked taken new.marked
 
 -- the laws of such a source, at which a registration changes nothing
 abbrev pub driven_laws : SourceLaws Marks (only_takes TakesOrCollects) WaitsNowhere (λ s. s.capacity)

@@ -17,8 +17,9 @@ HandsOverOrGives gives None answer new = IfReady answer (SomeGives gives) × (ne
 abbrev pub SomeYields : {S A : Type 0} → (S → List A → Option A → Type 0) → Option A → Type 0
 SomeYields {S} yields o = (stream : S) × yields stream [] o
 
--- one poll: what is there is handed over; after that, an answer is one that some stream of the type may give, and with an
--- item there is something to hand over again
-abbrev pub HandsOverOrYields : {N S A : Type 0} → (S → List A → Option A → Type 0) → Option N → Poll (Option A) → Option N → Type 0
+-- one poll: what is there is handed over; after that, an answer is one that some stream of the type may give, and with
+-- an item there is something to hand over again
+abbrev pub HandsOverOrYields : {N S A : Type 0} → (S → List A → Option A → Type 0)
+    → Option N → Poll (Option A) → Option N → Type 0
 HandsOverOrYields yields (Some next) answer new = (answer ≡ Pending) × (new ≡ None)
 HandsOverOrYields yields None answer new = IfReady answer (SomeYields yields)

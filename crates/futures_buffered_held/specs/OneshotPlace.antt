@@ -8,7 +8,8 @@ use Rattle.atomic_table.specs.Table.{State, Me, rest}
 use Rattle.futures_buffered_held.specs.declared.oneshot_place.Left.{Left}
 use Rattle.futures_buffered_held.specs.declared.oneshot_place.Left.TheVariants.{Value}
 use Rattle.futures_buffered_held.specs.declared.oneshot_place.View.{View}
-use Rattle.futures_buffered_held.specs.declared.oneshot_place.View.TheVariants.{Spent, Both, Sender, Writing, Sent, Waiting, Idle, Got, Compared}
+use Rattle.futures_buffered_held.specs.declared.oneshot_place.View.TheVariants.{Spent, Both, Sender, Writing, Sent}
+use Rattle.futures_buffered_held.specs.declared.oneshot_place.View.TheVariants.{Waiting, Idle, Got, Compared}
 
 module _ {T : Type 0} where
   -- what the seat of a sender knows that is done with this
@@ -92,7 +93,8 @@ module _ {T W : Type 0} where
   sent_from [] = Spent
   sent_from (x ∷ xs) = sent_view (value_of x.1)
 
-  -- the sender is done. Where the receiver is gone, the seat has still what it was to send, and where it waits, the seat has the place of the waker
+  -- the sender is done. Where the receiver is gone, the seat has still what it was to send, and where it waits, the seat
+  -- has the place of the waker
   abbrev pub finished : Me (Left T W) (View T) → ℕ → Me (Left T W) (View T) → Type 0
   finished m found n = (found ≡ 3 → n ≡ (Spent, m.1))
       × (found ≡ 1 → (y : Left T W) × (n ≡ (sent_from m.1, (1, y) ∷ rest m.1)))
@@ -102,8 +104,9 @@ module _ {T W : Type 0} where
   abbrev pub opened : Me (Left T W) (View T) → Me (Left T W) (View T) → Type 0
   opened m n = (y : Left T W) × (n ≡ (Got (value_of y), (0, y) ∷ m.1))
 
-  -- What a look at the word tells a seat, by what the seat knows. A sender takes the place of the value. A receiver that
-  -- waits does so where the sender is done. One with a receipt compares what it received with what the receipt says.
+  -- What a look at the word tells a seat, by what the seat knows. A sender takes the place of the value. A receiver
+  -- that waits does so where the sender is done. One with a receipt compares what it received with what the receipt
+  -- says.
   abbrev pub looked : Me (Left T W) (View T) → ℕ → Me (Left T W) (View T) → Type 0
   looked (Sender, held) found n = (y : Left T W) × (n ≡ (Writing, (0, y) ∷ held))
   looked (Waiting, held) found n = (found ≡ 2 → opened (Waiting, held) n) × (found ≢ 2 → n ≡ (Waiting, held))

@@ -1,9 +1,12 @@
--- What the calls of a channel make of its two ends. A contract sees the ends of the ring, in the words of `rtrb`: what was sent and received, and what each end knows.
+-- What the calls of a channel make of its two ends. A contract sees the ends of the ring, in the words of `rtrb`: what
+-- was sent and received, and what each end knows.
 use Rattle.std.specs.Prelude.{◌≡◌, ◌+◌, ◌≤◌, ℕ, List, [], ◌∷◌, ◌++◌, Option, Some, None, Result, Ok, Err}
 use mathlib.Core.List.{IsPrefix}
 use Rattle.rtrb.specs.declared.producer.Producer.{Producer}
 use Rattle.rtrb.specs.declared.consumer.Consumer.{Consumer}
-pub use Rattle.rtrb.specs.Ring.{sent, known_free, producer_capacity, received, known_items, consumer_capacity, all_sent, IsPair, Finishes, IsFinishedOf, SameProducer, SameConsumer, ProducerLooked, ConsumerLooked}
+pub use Rattle.rtrb.specs.Ring.{sent, known_free, producer_capacity, received, known_items, consumer_capacity, all_sent}
+pub use Rattle.rtrb.specs.Ring.{IsPair, Finishes, IsFinishedOf}
+pub use Rattle.rtrb.specs.Ring.{SameProducer, SameConsumer, ProducerLooked, ConsumerLooked}
 use Rattle.rtrb.specs.Fifo.{Allowed}
 use Rattle.futures.specs.declared.task.Poll.{Poll}
 use Rattle.futures.specs.declared.task.Poll.TheVariants.{Ready, Pending}
@@ -23,7 +26,8 @@ module _ {T A P : Type 0} where
     pub room : known_free sender ≡ capacity
     pub capacities : (producer_capacity sender ≡ capacity) × (consumer_capacity receiver ≡ capacity)
 
-  -- one sending: the value is sent behind those before it, or comes back, and is refused as full only where no place is known to be free
+  -- one sending: the value is sent behind those before it, or comes back, and is refused as full only where no place is
+  -- known to be free
   abbrev pub Sends : Producer T A P → T → Result (Unit {0}) (TrySendError T) → Producer T A P → Type 0
   Sends old value (Ok done) new = (sent new ≡ sent old ++ value ∷ []) × (known_free old ≤ known_free new + 1)
   Sends old value (Err (Full back)) new = (back ≡ value) × (sent new ≡ sent old) × (known_free old ≡ 0)
@@ -35,7 +39,8 @@ module _ {T A P : Type 0} where
   FindsNone old new = ConsumerLooked old new × (known_items new ≡ [])
 
   -- these values came, in order: behind those that came before, and those that are known to come next first
-  pub record ComesThrough (allows : List T → T → Type 0) (old : Consumer T A P) (values : List T) (new : Consumer T A P) : Type 0 where
+  pub record ComesThrough (allows : List T → T → Type 0) (old : Consumer T A P) (values : List T)
+      (new : Consumer T A P) : Type 0 where
     pub same : SameConsumer old new
     pub next : received new ≡ received old ++ values
     pub first : IsPrefix (known_items old) (values ++ known_items new)

@@ -25,7 +25,8 @@ struct Place<F: Future<Output: Drop>> {
     output: Option<Given<F>>,
 }
 
-/// The futures that one source handed over, and the outputs that it did not ask for yet, one at most for each slot. After it is made only `start` takes memory.
+/// The futures that one source handed over, and the outputs that it did not ask for yet, one at most for each slot.
+/// After it is made only `start` takes memory.
 #[derive(Drop)]
 pub(crate) struct Desk<F: Future<Output: Drop>> {
     source: u64,
@@ -73,7 +74,8 @@ impl<F: Future<Output: Drop>> Desk<F> {
         self.source == source
     }
 
-    /// Takes a future over, or hands it back where memory lacks. From then on its output is waited for, and of no other of its slot. The next drive polls it, behind those that were woken before.
+    /// Takes a future over, or hands it back where memory lacks. From then on its output is waited for, and of no other
+    /// of its slot. The next drive polls it, behind those that were woken before.
     pub(crate) fn start(&mut self, ticket: Ticket, future: Held<F>) -> Result<(), Held<F>> {
         self.running.push(ticket, future)?;
         if let Some(place) = self.places.get_mut(ticket.slot) {
@@ -83,7 +85,8 @@ impl<F: Future<Output: Drop>> Desk<F> {
         Ok(())
     }
 
-    /// Drops each future that was taken over, and each output that waits. A slot whose output waited may still be named, and finds none.
+    /// Drops each future that was taken over, and each output that waits. A slot whose output waited may still be
+    /// named, and finds none.
     pub(crate) fn let_go(&mut self) {
         self.running.let_go();
         for place in &mut self.places {
@@ -106,7 +109,9 @@ impl<F: Future<Output: Drop>> Desk<F> {
         }
     }
 
-    /// Polls futures that were woken, until the kit's set is pending or as many gave an output as ran at first, and keeps the outputs. One that wakes itself may be polled again. After 128 polls without an output the kit's set is pending, and has the task woken where more are left. Whether any runs still.
+    /// Polls futures that were woken, until the kit's set is pending or as many gave an output as ran at first, and
+    /// keeps the outputs. One that wakes itself may be polled again. After 128 polls without an output the kit's set is
+    /// pending, and has the task woken where more are left. Whether any runs still.
     pub(crate) fn drive(&mut self, cx: &mut Context<'_>) -> bool
         ensures covered { result ≡ true → Covers cx.new (λ _. ⊥) }
         ensures kept { Keeps cx.old cx.new }

@@ -21,11 +21,21 @@ use std::sync::{Arc, Mutex};
 
 /// A source that has the futures polled for which `Foreign`s stand, and names the slots whose outputs have come.
 ///
-/// A contract sees the capacity and the marked slots, oldest mark first, as of a ready core. A taking that finds no slot marked looks for outputs: it marks the slots of those that came, and takes over what was handed to its mailboxes. It names the oldest slot that it marked. Where it marked none it answers `Pause` if a future lay in a mailbox, since that was not polled yet, and else `Empty`. Taking one over asks for the memory of a push into the kit's set, and where there is none yet for that of the set; where that is refused the future waits in its mailbox, and is asked for again, at the latest by the next taking.
+/// A contract sees the capacity and the marked slots, oldest mark first, as of a ready core. A taking that finds no
+/// slot marked looks for outputs: it marks the slots of those that came, and takes over what was handed to its
+/// mailboxes. It names the oldest slot that it marked. Where it marked none it answers `Pause` if a future lay in a
+/// mailbox, since that was not polled yet, and else `Empty`. Taking one over asks for the memory of a push into the
+/// kit's set, and where there is none yet for that of the set; where that is refused the future waits in its mailbox,
+/// and is asked for again, at the latest by the next taking.
 ///
-/// The futures of a source stand in a `FuturesUnordered` of the kit of its own, made as the first is taken over. A registration with any of the sources beside one another polls the sets of all with the task's context: those futures that were woken. They lie under a lock that is only tried: a call that finds another thread there answers as where nothing came, and has the task polled again.
+/// The futures of a source stand in a `FuturesUnordered` of the kit of its own, made as the first is taken over. A
+/// registration with any of the sources beside one another polls the sets of all with the task's context: those futures
+/// that were woken. They lie under a lock that is only tried: a call that finds another thread there answers as where
+/// nothing came, and has the task polled again.
 ///
-/// Once all is let go, by `clear` of what holds the slots, no future that was handed over runs; nor does one of a source that is dropped, unless another thread is at the lock at that moment: then they go as the last source of those beside it is dropped.
+/// Once all is let go, by `clear` of what holds the slots, no future that was handed over runs; nor does one of a
+/// source that is dropped, unless another thread is at the lock at that moment: then they go as the last source of
+/// those beside it is dropped.
 pub struct Driven<F: Future<Output: Drop>> {
     // The slots to name.
     names: ReadyCore,
@@ -194,7 +204,8 @@ impl<F: Future<Output: Drop>> Driven<F> {
         })
     }
 
-    // A source of `cap` slots beside those of this driver. Its desk comes last, so that a refusal leaves nothing with the driver.
+    // A source of `cap` slots beside those of this driver. Its desk comes last, so that a refusal leaves nothing with
+    // the driver.
     fn over(driver: &Arc<Mutex<Driver<F>>>, alloc: Global, cap: usize) -> Result<Self, NewFault>
         ensures { MakesSlots cap (IsNewDriven cap) result }
     {
@@ -233,7 +244,8 @@ impl<F: Future<Output: Drop>> Driven<F> {
     fn take_name(&mut self) -> Option<usize>
         ensures capacity { self.new.capacity ≡ self.old.capacity }
         ensures named { IfNone result ((self.old.marked ≡ []) × (self.new.marked ≡ [])) }
-        ensures first { IfSome result (λ slot. (slot < self.old.capacity) × (self.old.marked ≡ slot ∷ self.new.marked)) }
+        ensures first { IfSome result (λ slot. (slot < self.old.capacity)
+            × (self.old.marked ≡ slot ∷ self.new.marked)) }
     {
         match self.names.take() {
             Taken::Slot(slot) => {
@@ -265,7 +277,8 @@ impl<F: Future<Output: Drop>> Drop for Driven<F> {
     }
 }
 
-/// Prints how many slots there are, and how many sources stand beside one another, this one among them: each has a desk. `None` where another thread is with them.
+/// Prints how many slots there are, and how many sources stand beside one another, this one among them: each has a
+/// desk. `None` where another thread is with them.
 impl<F: Future<Output: Drop>> fmt::Debug for Driven<F> {
     fn fmt<W: fmt::Write>(&self, f: &mut fmt::Formatter<W>) -> fmt::Result {
         f.debug_struct("Driven")
@@ -321,7 +334,8 @@ impl<F: Future<Output: Drop>> ReadySource for Driven<F> {
         &self.mailboxes[i]
     }
 
-    /// Polls futures of this source and of those beside it that were woken, at most 128 of each one after another without an output; where more are left, the task is woken. Where another thread polls them, the task yields.
+    /// Polls futures of this source and of those beside it that were woken, at most 128 of each one after another
+    /// without an output; where more are left, the task is woken. Where another thread polls them, the task yields.
     fn register(&mut self, cx: &mut Context<'_>) {
         match self.driver.try_lock() {
             Some(mut driver) => {
@@ -334,7 +348,9 @@ impl<F: Future<Output: Drop>> ReadySource for Driven<F> {
         }
     }
 
-    /// Drops the futures that were handed over, and their outputs. A `Foreign` that is left gives nothing any more. Where another thread is with the futures of this source, they go at the next registration or taking that finds nobody there.
+    /// Drops the futures that were handed over, and their outputs. A `Foreign` that is left gives nothing any more.
+    /// Where another thread is with the futures of this source, they go at the next registration or taking that finds
+    /// nobody there.
     fn let_all_go(&mut self) {
         for mailbox in &self.mailboxes {
             mailbox.let_go();

@@ -8,11 +8,16 @@ use futures::task::Poll;
 use futures_buffered_unordered::slot_future::SlotFuture;
 use std::marker::Model;
 
-/// Stands for a future in a set, queue, join or adaptor over `Driven`. Its first poll hands the future over to the source, and a later one gives the output that has come.
+/// Stands for a future in a set, queue, join or adaptor over `Driven`. Its first poll hands the future over to the
+/// source, and a later one gives the output that has come.
 ///
-/// A contract sees the future, until it is handed over. After that an output is one that some future of the type may give. That it is the output of this very future is tested: a cell's content is in no contract.
+/// A contract sees the future, until it is handed over. After that an output is one that some future of the type may
+/// give. That it is the output of this very future is tested: a cell's content is in no contract.
 ///
-/// A `Foreign` that is dropped before its first poll drops its future. After that its future ends where its set, queue or merge is cleared or dropped. A `Foreign` that is dropped alone, as by a value of a slot that goes on without it, does not end it: it is polled on, while the set is, until it is done. Its output then lies in the slot until that hands over another future, and is dropped at once where it has.
+/// A `Foreign` that is dropped before its first poll drops its future. After that its future ends where its set, queue
+/// or merge is cleared or dropped. A `Foreign` that is dropped alone, as by a value of a slot that goes on without it,
+/// does not end it: it is polled on, while the set is, until it is done. Its output then lies in the slot until that
+/// hands over another future, and is dropped at once where it has.
 #[derive(Drop)]
 pub struct Foreign<F: Future<Output: Drop>> {
     future: Option<Held<F>>,

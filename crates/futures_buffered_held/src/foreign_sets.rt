@@ -34,7 +34,7 @@ pub type GrowingForeignQueue<F, T = Foreign<F>> = FuturesOrdered<T, Driven<F>>;
 
 /// An empty set of `cap` slots.
 ///
-/// Takes time and memory in proportion to `cap`. `TooLarge` where `cap` is above `MAX_CAPACITY`, and `Memory` where a request for memory was refused.
+/// Takes time and memory in proportion to `cap`.
 pub fn foreign_set<F: Future<Output: Drop>, T: Drop>(
     alloc: Global,
     cap: usize,

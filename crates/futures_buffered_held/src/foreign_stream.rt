@@ -11,9 +11,11 @@ use futures_buffered_merges::slot_stream::SlotStream;
 use futures_buffered_unordered::slot_future::SlotFuture;
 use std::marker::Model;
 
-/// Stands for a stream in a merge over `Driven`. Its stream is handed over for each item, and comes back with it. So each item costs one poll of the task more.
+/// Stands for a stream in a merge over `Driven`. Its stream is handed over for each item, and comes back with it. So
+/// each item costs one poll of the task more.
 ///
-/// A contract sees the future for the next item, until that is handed over. After that an answer is one that some stream of the type may yield.
+/// A contract sees the future for the next item, until that is handed over. After that an answer is one that some
+/// stream of the type may yield.
 #[derive(Drop)]
 pub struct ForeignStream<St: Stream<Item: Drop>> {
     next: Foreign<StreamFuture<St>>,

@@ -14,7 +14,8 @@ pub fn ready<T>(value: T) -> Ready<T>
     Ready { value: Some(value) }
 }
 
-/// A future that calls this closure at each poll. The closure is one that may be called at any waker, and again after each call.
+/// A future that calls this closure at each poll. The closure is one that may be called at any waker, and again after
+/// each call.
 pub fn poll_fn<C>(call: C) -> PollFn<C>
     ensures { result ≡ call }
 {

@@ -1,4 +1,5 @@
-//! What a slot can hold: futures and streams that are polled with the waker of their slot, and stand-ins for futures and streams of the kit's `futures`.
+//! What a slot can hold: futures and streams that are polled with the waker of their slot, and stand-ins for futures
+//! and streams of the kit's `futures`.
 //!
 //! Held as they are, in the order in which to read them:
 //!
@@ -12,10 +13,14 @@
 //! - `oneshot`: a channel for one value, whose `Receiver` is a future. No call of it waits.
 //! - `spsc`: a bounded channel from one sender, whose `Receiver` is a stream. No call of it waits.
 //!
-//! Futures of the kit: a set, queue, join or adaptor over `Driven` holds `Foreign`s, each of which stands for one future, and hands it over when it is polled first. `Driven`, the source of the set, has it polled with the task's own context, and names the slot once the output has come. So only futures that were woken are polled, and an output wakes nobody. In the order in which to read them:
+//! Futures of the kit: a set, queue, join or adaptor over `Driven` holds `Foreign`s, each of which stands for one
+//! future, and hands it over when it is polled first. `Driven`, the source of the set, has it polled with the task's
+//! own context, and names the slot once the output has come. So only futures that were woken are polled, and an output
+//! wakes nobody. In the order in which to read them:
 //!
 //! - `held`: `Held`, a future that may be polled, and `Given`, an output with the fact that a future may give it.
-//! - `mailbox`: `Mailbox`, by which a slot hands its future over and gets the output back, and `Ticket`, which says whose output it is.
+//! - `mailbox`: `Mailbox`, by which a slot hands its future over and gets the output back, and `Ticket`, which says
+//!   whose output it is.
 //! - `foreign`: `Foreign`, what a set holds in place of a future.
 //! - `foreign_stream`: `ForeignStream`, what a merge holds in place of a stream.
 //! - `running`: the futures that one source handed over, in a set of the kit.

@@ -27,9 +27,11 @@ impl Ticket {
     }
 }
 
-/// The place of one slot between a set and its source. It takes the part of the slot's waker: what the slot holds is polled with it.
+/// The place of one slot between a set and its source. It takes the part of the slot's waker: what the slot holds is
+/// polled with it.
 ///
-/// An output is left under the ticket of its future, so that what a slot held before gives nothing to what it holds now. A contract sees the numbers of the source and of the slot.
+/// An output is left under the ticket of its future, so that what a slot held before gives nothing to what it holds
+/// now. A contract sees the numbers of the source and of the slot.
 #[derive(Drop)]
 pub struct Mailbox<F: Future<Output: Drop>> {
     source: u64,

@@ -3,7 +3,8 @@ use futures::task::Poll;
 use futures_buffered_unordered::slot_future::{SlotFuture, SlotHandle};
 use std::marker::Model;
 
-/// Gives what its closure makes of the output of its future, which is dropped before the call. Polled again, it stays pending.
+/// Gives what its closure makes of the output of its future, which is dropped before the call. Polled again, it stays
+/// pending.
 ///
 /// A contract sees the future and the closure, until the output comes.
 #[derive(Drop)]

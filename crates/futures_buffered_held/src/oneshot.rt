@@ -1,8 +1,12 @@
 //! A channel for one value.
 //!
-//! Sender and receiver share one word, a place for a value and one for a waker. The word says from the start that the receiver waits, and each of its pending polls leaves its waker. A sender leaves its value, and says that it is done by one swap of the word: by what it finds there it is given the waker, or its value back where the receiver is gone. So no call waits for the other, and no wake is lost, in whatever order the steps come:
+//! Sender and receiver share one word, a place for a value and one for a waker. The word says from the start that the
+//! receiver waits, and each of its pending polls leaves its waker. A sender leaves its value, and says that it is done
+//! by one swap of the word: by what it finds there it is given the waker, or its value back where the receiver is gone.
+//! So no call waits for the other, and no wake is lost, in whatever order the steps come:
 //!
-//! - A receiver takes its waker back before it puts another in. A sender that is done meanwhile finds none, and wakes nobody: the receiver finds that it is done when it says that it waits again.
+//! - A receiver takes its waker back before it puts another in. A sender that is done meanwhile finds none, and wakes
+//!   nobody: the receiver finds that it is done when it says that it waits again.
 //! - A sender that finds a waker wakes it.
 //!
 //! Every step is sequentially consistent, so all of them stand in one order.
@@ -50,7 +54,9 @@ impl<T: Drop> Model for Sender<T> {
 
 /// A future for the value that is sent, or for the word that its sender is gone. No call waits for the sender.
 ///
-/// A poll takes no memory. It leaves a second waker of its slot. Where there are as many wakers of the set as can be counted, it marks its slot instead, and is polled again until the value is there. Polled again after its answer came, it is `Canceled`.
+/// A poll takes no memory. It leaves a second waker of its slot. Where there are as many wakers of the set as can be
+/// counted, it marks its slot instead, and is polled again until the value is there. Polled again after its answer
+/// came, it is `Canceled`.
 ///
 /// A contract sees which one-shot it is of, and what it answered.
 pub struct Receiver<T: Drop> {
@@ -106,7 +112,8 @@ impl<T: Drop> Model for Receipt<T> {
 #[error("the sender of a one-shot left before it sent a value")]
 pub struct Canceled;
 
-/// A channel for one value, whose receiver a set over `SharedReady` holds. It takes memory for what both ends share, by four requests of which one is given back at once, and no call of the two takes any.
+/// A channel for one value, whose receiver a set over `SharedReady` holds. It takes memory for what both ends share, by
+/// four requests of which one is given back at once, and no call of the two takes any.
 pub fn channel<T: Drop>(alloc: Global) -> Result<(Sender<T>, Receiver<T>), AllocError>
     ensures { IfOk result (λ ends. ends.1 ≡ unanswered ends.0) }
 {
@@ -133,7 +140,8 @@ fn wake(waker: Option<SharedWaker>) {
 }
 
 impl<T: Drop> Sender<T> {
-    /// Sends the value. Where the receiver has left a waker, its slot is woken once. Where the receiver is gone, the value comes back.
+    /// Sends the value. Where the receiver has left a waker, its slot is woken once. Where the receiver is gone, the
+    /// value comes back.
     pub fn send(self, value: T) -> Result<(), T>
         ensures back { IfErr result (λ back. back ≡ value) }
     {

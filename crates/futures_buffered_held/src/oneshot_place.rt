@@ -118,7 +118,8 @@ impl<T: Drop, W: Drop> Place<T, W> {
         shared.swap::<Finish>(seat, 0, DONE)
     }
 
-    /// Sends the value. Where the receiver waits, its waker comes, and is to be woken. Where the receiver is gone, the value comes back.
+    /// Sends the value. Where the receiver waits, its waker comes, and is to be woken. Where the receiver is gone, the
+    /// value comes back.
     pub fn send(&self, seat: &mut Seat<T, W>, value: T) -> Result<Option<W>, T>
         requires { (seat.old.table_id ≡ self.now) × (seat.old.me ≡ (Sender, [])) }
         ensures same { seat.new.table_id ≡ seat.old.table_id }

@@ -1,14 +1,19 @@
 //! A bounded channel from one sender to one receiver, whose receiver a merge holds.
 //!
-//! Its values go through the ring of `rtrb`, and a sending wakes the slot of the receiver where that waits (`spsc_place`). No call waits for the other end, and only the constructors take memory.
+//! Its values go through the ring of `rtrb`, and a sending wakes the slot of the receiver where that waits
+//! (`spsc_place`). No call waits for the other end, and only the constructors take memory.
 //!
-//! A sender that finds no room gets its value back, and nobody tells it when there is room again: who receives can wake it, as by a one-shot or a channel that goes the other way.
+//! A sender that finds no room gets its value back, and nobody tells it when there is room again: who receives can wake
+//! it, as by a one-shot or a channel that goes the other way.
 ghost use Rattle.std.specs.Prelude.{◌≡◌, ◌++◌, length, IfSome};
 ghost use Rattle.std.specs.declared.alloc.Global.{Global};
 ghost use Rattle.rtrb.specs.declared.consumer.Consumer.{Consumer};
 ghost use Rattle.rtrb.specs.declared.producer.Producer.{Producer};
 ghost use Rattle.futures_buffered_core.specs.Made.{MakesSlots};
-ghost use Rattle.futures_buffered_held.specs.Spsc.{IsNewChannel, Sends, ReceivesNext, KeepsSendingOrder, poll_of, sent, received, known_items, producer_capacity, consumer_capacity, all_sent, IsPair, Finishes, IsFinishedOf, SameProducer, ProducerLooked, ConsumerLooked};
+ghost use Rattle.futures_buffered_held.specs.Spsc.{IsNewChannel, Sends, ReceivesNext, KeepsSendingOrder, poll_of, sent};
+ghost use Rattle.futures_buffered_held.specs.Spsc.{received, known_items, producer_capacity, consumer_capacity};
+ghost use Rattle.futures_buffered_held.specs.Spsc.{all_sent, IsPair, Finishes, IsFinishedOf, SameProducer};
+ghost use Rattle.futures_buffered_held.specs.Spsc.{ProducerLooked, ConsumerLooked};
 
 use crate::spsc_place::WaitingPlace;
 use futures::task::Poll;
@@ -27,7 +32,8 @@ type Waiting = Arc<WaitingPlace<SharedWaker>>;
 
 /// The end that sends. It can move to another thread.
 ///
-/// A contract sees the producer of the ring: the values that were sent, in order, and how many places are known to be free.
+/// A contract sees the producer of the ring: the values that were sent, in order, and how many places are known to be
+/// free.
 pub struct Sender<T: Drop, P: Protocol<T> = AnyItems> {
     ring: Producer<T, Global, P>,
     waiting: Waiting,
@@ -41,7 +47,8 @@ impl<T: Drop, P: Protocol<T>> Model for Sender<T, P> {
 
 /// The end that receives, as a stream for a merge. It can move to another thread.
 ///
-/// A poll takes no memory. Where nothing is there it leaves a second waker of its slot. Where there are as many wakers of the merge as can be counted, it marks its slot instead, and is polled again until a value is there.
+/// A poll takes no memory. Where nothing is there it leaves a second waker of its slot. Where there are as many wakers
+/// of the merge as can be counted, it marks its slot instead, and is polled again until a value is there.
 ///
 /// A contract sees the consumer of the ring: the values that came, in order, and those that are known to come next.
 pub struct Receiver<T: Drop, P: Protocol<T> = AnyItems> {
@@ -79,7 +86,8 @@ pub enum TryRecvError {
 
 /// A channel with room for `capacity` values. With none, each sending is refused.
 ///
-/// Takes time and memory in proportion to `capacity`, by three requests. `TooLarge` where `capacity` is above `MAX_CAPACITY`, and `Memory` where a request was refused.
+/// Takes time and memory in proportion to `capacity`, by three requests. `TooLarge` where `capacity` is above
+/// `MAX_CAPACITY`, and `Memory` where a request was refused.
 pub fn channel<T: Drop>(
     alloc: Global,
     capacity: usize,
@@ -89,7 +97,8 @@ pub fn channel<T: Drop>(
     with_protocol::<T, AnyItems>(alloc, capacity)
 }
 
-/// As `channel`, where each value that is sent is one that `P` allows after those before it. So whoever receives it knows that.
+/// As `channel`, where each value that is sent is one that `P` allows after those before it. So whoever receives it
+/// knows that.
 pub fn with_protocol<T: Drop, P: Protocol<T>>(
     alloc: Global,
     capacity: usize,
@@ -176,7 +185,8 @@ impl<T: Drop, P: Protocol<T>> Drop for Sender<T, P> {
 }
 
 impl<T: Drop, P: Protocol<T>> Receiver<T, P> {
-    // Looks whether the sender is gone before it looks for a value, so that a value that was sent before that comes first.
+    // Looks whether the sender is gone before it looks for a value, so that a value that was sent before that comes
+    // first.
     fn next(&mut self) -> Poll<Option<T>>
         ensures { ReceivesNext P.allows self.old result self.new }
     {
@@ -206,7 +216,8 @@ impl<T: Drop, P: Protocol<T>> Receiver<T, P> {
         self.ring.capacity()
     }
 
-    /// Shows to whoever has both ends that what came and what is to come are all that was sent, in order. Returns how many are to come.
+    /// Shows to whoever has both ends that what came and what is to come are all that was sent, in order. Returns how
+    /// many are to come.
     pub fn compare(&mut self, sender: &mut Sender<T, P>) -> usize
         requires { IsPair sender.old self.old }
         ensures same { ConsumerLooked self.old self.new × ProducerLooked sender.old sender.new }
@@ -266,9 +277,10 @@ impl<T: Drop, P: Protocol<T>> SlotStream<SharedWaker> for Receiver<T, P> {
     }
 }
 
-/// What polls of one receiver give, in a merge or without one, are the values that came since: behind those that came before, in the order in which they were sent, and those first that a comparison showed to come next.
+/// What polls of one receiver give, in a merge or without one, are the values that came since: behind those that came
+/// before, in the order in which they were sent, and those first that a comparison showed to come next.
 ///
-/// This is of the words that a poll's contract says. Nothing is done.
+/// A law of the relation in the contract of a poll. Its body is empty.
 pub fn polls_keep_sending_order<T: Drop, P: Protocol<T>>()
     ensures { KeepsSendingOrder T Global P P.allows }
 {}

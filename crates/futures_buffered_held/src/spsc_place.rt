@@ -1,9 +1,13 @@
 //! Where the receiver of a channel leaves the waker of its slot, and its sender finds it.
 //!
-//! A lock has the waker, and both ends only try it, so no call waits. A flag says that there is a waker to look for. A sender puts its value into the ring first, or goes, and looks here then. A receiver leaves its waker first, and looks into the ring then. No wake is lost by that, in whatever order the steps come:
+//! A lock has the waker, and both ends only try it, so no call waits. A flag says that there is a waker to look for. A
+//! sender puts its value into the ring first, or goes, and looks here then. A receiver leaves its waker first, and
+//! looks into the ring then. No wake is lost by that, in whatever order the steps come:
 //!
-//! - A sender that finds no flag, or the lock held, came before the receiver had left its waker: that finds the value, or that the sender is gone.
-//! - A receiver that finds the lock held came while its sender took out the waker before: it wakes its own slot, and is polled again.
+//! - A sender that finds no flag, or the lock held, came before the receiver had left its waker: that finds the value,
+//!   or that the sender is gone.
+//! - A receiver that finds the lock held came while its sender took out the waker before: it wakes its own slot, and is
+//!   polled again.
 //!
 //! Every step is sequentially consistent, so all of them stand in one order.
 use futures_buffered_unordered::slot_future::SlotWaker;
@@ -26,7 +30,8 @@ impl<W: SlotWaker + Drop> WaitingPlace<W> {
         }
     }
 
-    /// Leaves the waker in place of the one before, which is let go. Where the sender is at the place, it wakes the slot instead.
+    /// Leaves the waker in place of the one before, which is let go. Where the sender is at the place, it wakes the
+    /// slot instead.
     pub(crate) fn leave(&self, waker: W) {
         let _before = match self.waker.try_lock() {
             Some(mut place) => {

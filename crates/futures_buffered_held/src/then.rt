@@ -14,7 +14,8 @@ pub enum Then<F, B, C> {
     Gone,
 }
 
-/// Gives the output of its second future, which is polled in the same call in which the first one is ready. The first is dropped before the closure is called. Polled again, it is what the second future is.
+/// Gives the output of its second future, which is polled in the same call in which the first one is ready. The first
+/// is dropped before the closure is called. Polled again, it is what the second future is.
 impl<
     W: SlotHandle,
     B: SlotFuture<W>,
@@ -28,7 +29,8 @@ impl<
     type Output = B::Output;
 
     ghost can_poll = { elim [
-      | First future change ↦ F.can_poll future × C.IsAlwaysCallable change × ((x : _) (second : _) → C.post change x second → B.can_poll second)
+      | First future change ↦ F.can_poll future × C.IsAlwaysCallable change
+          × ((x : _) (second : _) → C.post change x second → B.can_poll second)
       | Second second ↦ B.can_poll second
       | Gone ↦ ⊤
     ] };

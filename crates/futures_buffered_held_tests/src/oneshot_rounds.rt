@@ -1,4 +1,6 @@
-//! A send and a poll meet in one round after another, each time at a new one-shot. Once both are over, either the value came, or the slot is marked and the value comes at the next poll: so no later wake stands in for one that was lost. And a sender looks for its receiver while that is polled.
+//! A send and a poll meet in one round after another, each time at a new one-shot. Once both are over, either the value
+//! came, or the slot is marked and the value comes at the next poll: so no later wake stands in for one that was lost.
+//! And a sender looks for its receiver while that is polled.
 use crate::rounds::{Rounds, new_rounds, pause, takes, wait_for};
 use crate::same::assert_same;
 use futures::task::Poll;

@@ -1,4 +1,5 @@
-//! Which waker a one-shot wakes, what it says of its receiver, what a receipt shows, and what is dropped. What else it answers stands in `one_shots.calls`.
+//! Which waker a one-shot wakes, what it says of its receiver, what a receipt shows, and what is dropped. What else it
+//! answers stands in `one_shots.calls`.
 ghost use Rattle.std.specs.Prelude.{◌≡◌, IfOk, IfSome};
 
 use crate::rounds::name_of;
@@ -47,7 +48,8 @@ fn a_receiver_that_moved_to_another_source(rt: HostRuntime) -> Result<(), Fail> 
     Ok(())
 }
 
-// A value that does not come is dropped with the receiver, whoever keeps the receipt, and one that is handed back by whoever has it.
+// A value that does not come is dropped with the receiver, whoever keeps the receipt, and one that is handed back by
+// whoever has it.
 #[test]
 fn a_value_that_does_not_come(rt: HostRuntime) -> Result<(), Fail> {
     let drops = new_counter(rt.alloc())?;

@@ -1,4 +1,5 @@
-//! A channel from one sender: what comes and in which order, whom a sending wakes, what is refused, and what is dropped.
+//! A channel from one sender: what comes and in which order, whom a sending wakes, what is refused, and what is
+//! dropped.
 use crate::rounds::name_of;
 use crate::same::assert_same;
 use futures::task::Poll;
@@ -114,7 +115,8 @@ fn a_sender_that_is_gone(rt: HostRuntime) -> Result<(), Fail> {
     Ok(())
 }
 
-// One sending after a pending poll wakes, and those behind it do not. `try_recv` and a poll that gives a value leave no waker, and neither `try_recv` nor `is_closed` takes one away.
+// One sending after a pending poll wakes, and those behind it do not. `try_recv` and a poll that gives a value leave no
+// waker, and neither `try_recv` nor `is_closed` takes one away.
 #[test]
 fn the_waker_of_the_last_poll_is_woken_once(rt: HostRuntime) -> Result<(), Fail> {
     let mut source: SharedReady = SharedReady::new(rt.alloc(), 2)?;
@@ -158,7 +160,8 @@ fn a_sender_that_goes_wakes_the_slot(rt: HostRuntime) -> Result<(), Fail> {
     Ok(())
 }
 
-// Nobody wakes for a receiver that is gone, and nothing keeps its waker: the task's waker goes with the source, and wakes as it is dropped.
+// Nobody wakes for a receiver that is gone, and nothing keeps its waker: the task's waker goes with the source, and
+// wakes as it is dropped.
 #[test]
 fn a_receiver_that_goes_while_it_waits(rt: HostRuntime) -> Result<(), Fail> {
     let task = MockTask::new(&rt)?;

@@ -1,6 +1,9 @@
-//! Channels whose senders are on threads: a sending and a going meet a poll in one round after another, each at a new channel, and a sending meets a receiver that moves to another slot. Many values that go through a merge stand in the guide.
+//! Channels whose senders are on threads: a sending and a going meet a poll in one round after another, each at a new
+//! channel, and a sending meets a receiver that moves to another slot. Many values that go through a merge stand in the
+//! guide.
 //!
-//! Once a round is over, either its answer came, or the slot is marked and the answer comes at the next poll: so no later wake stands in for one that was lost.
+//! Once a round is over, either its answer came, or the slot is marked and the answer comes at the next poll: so no
+//! later wake stands in for one that was lost.
 use crate::rounds::{Rounds, new_rounds, pause, takes, turn_over, wait_for};
 use crate::same::assert_same;
 use futures::task::Poll;
@@ -146,7 +149,8 @@ fn send_often(rounds: &Rounds, sender: Sender<u64>) {
     }
 }
 
-// Two rounds: polls at slot 0 until the first value comes, and then at slot 1. Whether that waits, and is woken by the second.
+// Two rounds: polls at slot 0 until the first value comes, and then at slot 1. Whether that waits, and is woken by the
+// second.
 fn moves(
     source: &mut SharedReady,
     rounds: &Rounds,

@@ -9,7 +9,10 @@ ghost use Rattle.futures_buffered_core.specs.Drawn.{IsFiniteSource};
 ghost use Rattle.futures_buffered_core.specs.Made.{MakesSlots};
 ghost use Rattle.futures_buffered_core.specs.SlotMap.{held_count, slot_count, value_in, no_slots, with_slot_freed};
 ghost use Rattle.futures_buffered_unordered.specs.Extended.{EachDrawn, Extends};
-ghost use Rattle.futures_buffered_in_flight.specs.InFlight.{CanPollAll, Cancels, EndsOneAtMost, GivesWithKey, HasNoRoom, IsNewInFlight, PollsInFlight, WentIn, PushesInFlight, CameBack, FlightsWaitAt, run_count, runs_in};
+ghost use Rattle.futures_buffered_in_flight.specs.InFlight.{CanPollAll, Cancels, EndsOneAtMost, GivesWithKey};
+ghost use Rattle.futures_buffered_in_flight.specs.InFlight.{HasNoRoom, IsNewInFlight, PollsInFlight, WentIn};
+ghost use Rattle.futures_buffered_in_flight.specs.InFlight.{PushesInFlight, CameBack, FlightsWaitAt, run_count};
+ghost use Rattle.futures_buffered_in_flight.specs.InFlight.{runs_in};
 
 use crate::run::{Key, Run, Stop};
 use futures::channel::oneshot::{Sender, channel};
@@ -38,7 +41,9 @@ pub struct Came<A> {
 
 /// Futures of the kit, as many at a time as there are slots.
 ///
-/// A contract sees what each slot holds, and the kit's set of the futures. A future that was cancelled leaves its slot at once. Where it has not ended yet it takes up room until it has. Calls that ask how much is held take the same time at any capacity.
+/// A contract sees what each slot holds, and the kit's set of the futures. A future that was cancelled leaves its slot
+/// at once. Where it has not ended yet it takes up room until it has. Calls that ask how much is held take the same
+/// time at any capacity.
 #[derive(Drop)]
 pub struct InFlight<F> {
     slots: PinSlotMap<Place>,
@@ -86,7 +91,8 @@ impl<F: Drop> InFlight<F> {
         self.slots.capacity()
     }
 
-    /// Whether each push is refused: the futures held, with those that were cancelled and have not ended, are as many as the slots.
+    /// Whether each push is refused: the futures held, with those that were cancelled and have not ended, are as many
+    /// as the slots.
     pub fn is_full(&self) -> bool
         ensures { IsTrue result ↔ HasNoRoom self.now }
     {
@@ -155,7 +161,7 @@ impl<F: Drop> InFlight<F> {
 impl<F: Future<Output: Drop>> InFlight<F> {
     /// A set of `n` free slots.
     ///
-    /// Takes time and memory in proportion to `n`. `TooLarge` where it is above `MAX_CAPACITY`, and `Memory` where a request for memory was refused.
+    /// Takes time and memory in proportion to `n`.
     #[tactic(auto, using(crate::proofs::InFlightLemmas::none_can_poll))]
     pub fn new(alloc: Global, n: usize) -> Result<Self, NewFault>
         ensures made { MakesSlots n (IsNewInFlight n) result }
@@ -247,7 +253,8 @@ impl<F: Future<Output: Drop>> InFlight<F> {
         }
     }
 
-    /// Adds the future, so that a later poll polls it, and answers its key. It comes back, and the set is as it was, where there is no room, where memory is refused, and after 2^64 - 1 pushes.
+    /// Adds the future, so that a later poll polls it, and answers its key. It comes back, and the set is as it was,
+    /// where there is no room, where memory is refused, and after 2^64 - 1 pushes.
     ///
     /// Takes the memory that the kit's set takes for a future, and the same time at any capacity.
     pub fn try_push(&mut self, future: F) -> Result<Key, F>
@@ -289,7 +296,8 @@ impl<F: Future<Output: Drop>> InFlight<F> {
         Ok(key)
     }
 
-    /// Pushes each item, in order, as `try_push` does. The first that is refused comes back; those before it stay, and the iterator is asked for no further one.
+    /// Pushes each item, in order, as `try_push` does. The first that is refused comes back; those before it stay, and
+    /// the iterator is asked for no further one.
     pub fn extend<I: IntoIterator<Item = F>>(&mut self, iter: I) -> Result<(), F>
         requires finite { IsFiniteSource I.IntoIterator I.IntoIter.Iterator iter }
         requires held { CanPollAll F.Future self.old }
@@ -347,7 +355,9 @@ impl<F: Future<Output: Drop>> InFlight<F> {
 
     /// One poll: an output with the key of its future, or the end, exactly where nothing is held.
     ///
-    /// At the end the futures that were cancelled are dropped. Takes no memory but what the futures take, and what the kit's set takes at its first poll of a task. It polls those futures that were pushed or woken since they were polled.
+    /// At the end the futures that were cancelled are dropped. Takes no memory but what the futures take, and what the
+    /// kit's set takes at its first poll of a task. It polls those futures that were pushed or woken since they were
+    /// polled.
     pub fn poll_next_keyed(&mut self, cx: &mut Context<'_>) -> Poll<Option<Came<F::Output>>>
         requires { CanPollAll F.Future self.old }
         ensures { PollsInFlight F.Future self.old result self.new cx.old cx.new }
@@ -375,9 +385,12 @@ impl<F: Future<Output: Drop>> InFlight<F> {
         cx.yield_now()
     }
 
-    /// Cancels the future of this key, so that no output of it comes, and answers its tag. `None` where no future has this key: its output came, or it was cancelled.
+    /// Cancels the future of this key, so that no output of it comes, and answers its tag. `None` where no future has
+    /// this key: its output came, or it was cancelled.
     ///
-    /// Its slot is free at once. It takes up room until it has ended: in this call where no other future is held; at the next poll where it came by `try_push_abortable`; and else once it is done, or by a poll that gives the end, or by `clear`. Takes the same time at any capacity, besides the drops.
+    /// Its slot is free at once. It takes up room until it has ended: in this call where no other future is held; at
+    /// the next poll where it came by `try_push_abortable`; and else once it is done, or by a poll that gives the end,
+    /// or by `clear`. Takes the same time at any capacity, besides the drops.
     pub fn cancel(&mut self, key: Key) -> Option<usize>
         requires { CanPollAll F.Future self.old }
         ensures none { IfNone result (self.new ≡ self.old) }

@@ -3,7 +3,10 @@ ghost use Rattle.std.specs.Prelude.{◌≡◌, ◌↔◌, ◌<◌, ◌≤◌, If
 ghost use Rattle.futures_buffered_core.specs.Drawn.{IsFiniteSource};
 ghost use Rattle.futures_buffered_core.specs.Made.{MakesSlots};
 ghost use Rattle.futures_buffered_unordered.specs.Extended.{EachDrawn, Extends};
-ghost use Rattle.futures_buffered_in_flight.specs.InFlightOrdered.{AnswersInTurn, CanPollOrdered, IsNewInOrder, OrderedIsFull, PollsInTurn, PushesBack, PushesFront, PushesOrComesBack, RefusesFull, ordered_count, ordered_room};
+ghost use Rattle.futures_buffered_in_flight.specs.InFlightOrdered.{AnswersInTurn, CanPollOrdered, IsNewInOrder};
+ghost use Rattle.futures_buffered_in_flight.specs.InFlightOrdered.{OrderedIsFull, PollsInTurn, PushesBack, PushesFront};
+ghost use Rattle.futures_buffered_in_flight.specs.InFlightOrdered.{PushesOrComesBack, RefusesFull, ordered_count};
+ghost use Rattle.futures_buffered_in_flight.specs.InFlightOrdered.{ordered_room};
 
 use crate::in_flight_queue::InFlightQueue;
 use futures::Future;
@@ -19,7 +22,8 @@ use std::marker::Model;
 impl<F: Future<Output: Drop>> NumberedSet for InFlightQueue<F> {
     ghost use Rattle.std.proofs.Common.{◌≡◌, OnOk, OnErr, IfErr, IsErr, refl, ◌∙◌};
     ghost use Rattle.futures_buffered_ordered.specs.Numbered.{PushesInto};
-    ghost use Rattle.futures_buffered_in_flight.specs.InFlightQueue.{CanPollQueue, QueuesNumber, IsAtItsBound, SameRoom, queued_count, queued_with};
+    ghost use Rattle.futures_buffered_in_flight.specs.InFlightQueue.{CanPollQueue, QueuesNumber, IsAtItsBound};
+    ghost use Rattle.futures_buffered_in_flight.specs.InFlightQueue.{SameRoom, queued_count, queued_with};
 
     type Future = F;
 
@@ -89,7 +93,10 @@ impl<F: Future<Output: Drop>> PollNumberedSet<PollFuture> for InFlightQueue<F> {
 
 /// Futures in flight, as many as there is room for, one at least, whose outputs come in the order of the pushes.
 ///
-/// Pushes add at both ends. An output that comes before its turn is kept, and counts as held until it is yielded. A push takes each future where there is room, as that of `InFlightQueue` does: memory is no reason to refuse it. A contract sees the futures in flight, each with a number, and the entries from the front to the back, where one in progress has the number of its future. Calls that ask how much is held take the same time at any number.
+/// Pushes add at both ends. An output that comes before its turn is kept, and counts as held until it is yielded. A
+/// push takes each future where there is room, as that of `InFlightQueue` does: memory is no reason to refuse it. A
+/// contract sees the futures in flight, each with a number, and the entries from the front to the back, where one in
+/// progress has the number of its future. Calls that ask how much is held take the same time at any number.
 #[derive(Drop)]
 pub struct InFlightOrdered<F: Drop, A: Drop> {
     queue: OrderedEntries<InFlightQueue<F>, A>,
@@ -139,7 +146,7 @@ impl<F: Drop, A: Drop> InFlightOrdered<F, A> {
 impl<F: Future<Output = A>, A: Drop> InFlightOrdered<F, A> {
     /// A queue with room for `n`, and nothing held.
     ///
-    /// Takes time and memory in proportion to `n`. `TooLarge` where `n` is above `MAX_CAPACITY`, and `Memory` where a request for memory was refused.
+    /// Takes time and memory in proportion to `n`.
     pub fn new(alloc: Global, n: usize) -> Result<Self, NewFault>
         requires { 0 < n }
         ensures made { MakesSlots n (IsNewInOrder n) result }
@@ -150,7 +157,8 @@ impl<F: Future<Output = A>, A: Drop> InFlightOrdered<F, A> {
         Ok(InFlightOrdered { queue })
     }
 
-    /// Adds the future behind all others, so that a later poll polls it. It comes back, and nothing has changed, exactly where as many are held as can be (`is_full`).
+    /// Adds the future behind all others, so that a later poll polls it. It comes back, and nothing has changed,
+    /// exactly where as many are held as can be (`is_full`).
     ///
     /// Takes the memory that the kit's set takes for a future, and does without where that is refused.
     pub fn try_push_back(&mut self, future: F) -> Result<(), F>
@@ -206,7 +214,8 @@ impl<F: Future<Output = A>, A: Drop> InFlightOrdered<F, A> {
         }
     }
 
-    /// Adds each item at the back, in order, as `try_push_back` does. The first that is refused comes back; those before it stay, and the iterator is asked for no further one.
+    /// Adds each item at the back, in order, as `try_push_back` does. The first that is refused comes back; those
+    /// before it stay, and the iterator is asked for no further one.
     pub fn extend<I: IntoIterator<Item = F>>(&mut self, iter: I) -> Result<(), F>
         requires finite { IsFiniteSource I.IntoIterator I.IntoIter.Iterator iter }
         requires held { CanPollOrdered F.Future self.old }
@@ -224,7 +233,8 @@ impl<F: Future<Output = A>, A: Drop> InFlightOrdered<F, A> {
         Ok(())
     }
 
-    /// Drops each future that is in progress, and each output that waits for its turn, in this call. Takes no memory, and time in proportion to the capacity, besides the drops.
+    /// Drops each future that is in progress, and each output that waits for its turn, in this call. Takes no memory,
+    /// and time in proportion to the capacity, besides the drops.
     pub fn clear(&mut self)
         ensures none { IsNewInOrder (ordered_room self.old) self.new }
         ensures same_room { ordered_room self.new ≡ ordered_room self.old }
@@ -236,7 +246,9 @@ impl<F: Future<Output = A>, A: Drop> InFlightOrdered<F, A> {
 
     /// One poll: the output of the front, or the end, exactly where nothing is held.
     ///
-    /// A front whose output is kept leaves with it, and no future is polled. Else the futures are polled, and each output that comes is kept, until the front's has come. Futures that wait for memory go into flight first, and where memory is still refused the task is woken at once.
+    /// A front whose output is kept leaves with it, and no future is polled. Else the futures are polled, and each
+    /// output that comes is kept, until the front's has come. Futures that wait for memory go into flight first, and
+    /// where memory is still refused the task is woken at once.
     pub fn poll_output(&mut self, cx: &mut Context<'_>) -> Poll<Option<A>>
         requires { CanPollOrdered F.Future self.old }
         ensures polls { PollsInTurn F.Future self.old result self.new cx.old cx.new }

@@ -1,5 +1,6 @@
 //! The ordered queue as a stream, which says how much is left and whether it has ended.
-ghost use Rattle.futures_buffered_in_flight.specs.InFlightOrdered.{AnswersInTurn, CanPollOrdered, ComesOfEach, OrderedWaitsAt, PollsInTurn, ordered_count};
+ghost use Rattle.futures_buffered_in_flight.specs.InFlightOrdered.{AnswersInTurn, CanPollOrdered, ComesOfEach};
+ghost use Rattle.futures_buffered_in_flight.specs.InFlightOrdered.{OrderedWaitsAt, PollsInTurn, ordered_count};
 
 use crate::in_flight_ordered::InFlightOrdered;
 use futures::task::{Context, Poll};

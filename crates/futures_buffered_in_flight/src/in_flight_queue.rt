@@ -3,7 +3,10 @@ ghost use Rattle.std.specs.Prelude.{◌≡◌, ◌<◌, ◌≤◌, ◌+◌, ◌�
 ghost use Rattle.futures.specs.Poll.{OnPending};
 ghost use Rattle.futures.specs.Task.{Covers, Keeps};
 ghost use Rattle.futures_buffered_core.specs.Made.{MakesSlots};
-ghost use Rattle.futures_buffered_in_flight.specs.InFlightQueue.{CanPollQueue, HoldsWithinRoom, IsNewQueued, PollsNumber, PollsQueued, PollsQueuedTask, QueuesNumber, PushesQueued, Starts, queued_count, queued_room};
+ghost use Rattle.futures_buffered_in_flight.specs.InFlightQueue.{CanPollQueue, HoldsWithinRoom, IsNewQueued};
+ghost use Rattle.futures_buffered_in_flight.specs.InFlightQueue.{PollsNumber, PollsQueued, PollsQueuedTask};
+ghost use Rattle.futures_buffered_in_flight.specs.InFlightQueue.{QueuesNumber, PushesQueued, Starts, queued_count};
+ghost use Rattle.futures_buffered_in_flight.specs.InFlightQueue.{queued_room};
 
 use crate::in_flight::InFlight;
 use futures::Future;
@@ -16,7 +19,9 @@ use std::marker::Model;
 
 /// Futures in flight, as many as there is room for, one at least.
 ///
-/// A push takes each future where there is room. One for which memory is refused waits in a place that was made with the queue, is held like the others, and goes into flight at the next poll for which there is memory. These places are written to at no other time. Calls that ask how much is held take the same time at any number.
+/// A push takes each future where there is room. One for which memory is refused waits in a place that was made with
+/// the queue, is held like the others, and goes into flight at the next poll for which there is memory. These places
+/// are written to at no other time. Calls that ask how much is held take the same time at any number.
 #[derive(Drop)]
 pub struct InFlightQueue<F> {
     // Each future has its number as its tag.
@@ -66,7 +71,7 @@ impl<F: Drop> InFlightQueue<F> {
 impl<F: Future<Output: Drop>> InFlightQueue<F> {
     /// A queue with room for `n` futures, and none.
     ///
-    /// Takes time and memory in proportion to `n`. `TooLarge` where `n` is above `MAX_CAPACITY`, and `Memory` where a request for memory was refused.
+    /// Takes time and memory in proportion to `n`.
     pub fn new(alloc: Global, n: usize) -> Result<Self, NewFault>
         requires { 0 < n }
         ensures made { MakesSlots n (IsNewQueued n) result }
@@ -77,7 +82,8 @@ impl<F: Future<Output: Drop>> InFlightQueue<F> {
         Ok(InFlightQueue { set, waiting })
     }
 
-    /// Adds the future, so that a later poll polls it. Takes the memory that the kit's set takes for a future, and does without where that is refused.
+    /// Adds the future, so that a later poll polls it. Takes the memory that the kit's set takes for a future, and does
+    /// without where that is refused.
     #[tactic(auto, using(crate::proofs::InFlightQueueLemmas::pushed_any))]
     pub fn push(&mut self, future: F)
         requires room { queued_count self.old < queued_room self.old }

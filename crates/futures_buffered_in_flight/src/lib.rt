@@ -1,12 +1,16 @@
 //! Sets that hold futures of the kit's `futures` as they are, in plain sight.
 //!
-//! No lock and no cell stands between a set and its futures, and no type has a bound, so that a future may contain closures. What a poll asks of the futures stands in `requires`, as in the kit's own sets.
+//! No lock and no cell stands between a set and its futures, and no type has a bound, so that a future may contain
+//! closures. What a poll asks of the futures stands in `requires`, as in the kit's own sets.
 //!
 //! - `run`: `Key`, which names one push, and `Run`, a future whose output comes with its key.
-//! - `in_flight`: `InFlight`, at most n futures, told apart by their keys, each of which can be cancelled; `in_flight_stream` is the same set as a stream.
+//! - `in_flight`: `InFlight`, at most n futures, told apart by their keys, each of which can be cancelled;
+//!   `in_flight_stream` is the same set as a stream.
 //! - `in_flight_queue`: `InFlightQueue`, the set as what an adaptor holds: a push never hands a future back.
-//! - `in_flight_ordered`: `InFlightOrdered`, a queue with pushes at both ends, whose outputs come from the front; `in_flight_ordered_stream` is the same queue as a stream.
-//! - `waiting`: `Waiting`, which holds a set or an ordered queue while a task waits for its next output, and gives it back.
+//! - `in_flight_ordered`: `InFlightOrdered`, a queue with pushes at both ends, whose outputs come from the front;
+//!   `in_flight_ordered_stream` is the same queue as a stream.
+//! - `waiting`: `Waiting`, which holds a set or an ordered queue while a task waits for its next output, and gives it
+//!   back.
 #![tactic(auto)]
 
 pub mod in_flight;

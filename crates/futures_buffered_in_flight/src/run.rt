@@ -6,14 +6,16 @@ use futures::Future;
 use futures::channel::oneshot::Receiver;
 use futures::task::{Context, Poll};
 
-/// Where a future stands, and the number of its push. No two pushes of a set have one number, so a key is never used twice.
+/// Where a future stands, and the number of its push. No two pushes of a set have one number, so a key is never used
+/// twice.
 #[derive(Clone, Copy, PartialEq, Eq)]
 pub struct Key {
     pub slot: usize,
     pub push: u64,
 }
 
-/// What ends a run from outside: it is ready once its sender is dropped, and never before. In a box, so that each run is small.
+/// What ends a run from outside: it is ready once its sender is dropped, and never before. In a box, so that each run
+/// is small.
 pub type Stop = Box<Receiver<()>>;
 
 /// A future on its way. Its output comes with its key, and `None` in place of an output where it was stopped.

@@ -13,7 +13,8 @@ use std::io;
 use std::random::RandomSource;
 use std::sync::Wait;
 
-/// Waits for the next output of a set or a queue, or its end, and gives that back with it, so that all that is known of it is known still.
+/// Waits for the next output of a set or a queue, or its end, and gives that back with it, so that all that is known of
+/// it is known still.
 #[derive(Drop)]
 pub struct Waiting<S> {
     // None once it was given back.
@@ -51,7 +52,8 @@ impl<F: Future<Output: Drop>> InFlight<F> {
         Waiting { held: Some(self) }
     }
 
-    /// Blocks the thread until the next output comes, or the end, and gives the set back. The set is dropped where the thread cannot wait.
+    /// Blocks the thread until the next output comes, or the end, and gives the set back. The set is dropped where the
+    /// thread cannot wait.
     pub fn wait<R>(self, rt: &R) -> io::Result<(Option<Came<F::Output>>, InFlight<F>)>
     where
         R: Wait + RandomSource + AllocGlobal,
@@ -86,14 +88,16 @@ impl<F: Future<Output = A>, A: Drop> Future for Waiting<InFlightOrdered<F, A>> {
 }
 
 impl<F: Future<Output = A>, A: Drop> InFlightOrdered<F, A> {
-    /// The queue, as a future that is ready with the output of the front, or with `None` where nothing is held, and with the queue.
+    /// The queue, as a future that is ready with the output of the front, or with `None` where nothing is held, and
+    /// with the queue.
     pub fn into_next(self) -> Waiting<Self>
         ensures { result.held ≡ Some self }
     {
         Waiting { held: Some(self) }
     }
 
-    /// Blocks the thread until the output of the front comes, or the end, and gives the queue back. The queue is dropped where the thread cannot wait.
+    /// Blocks the thread until the output of the front comes, or the end, and gives the queue back. The queue is
+    /// dropped where the thread cannot wait.
     pub fn wait<R>(self, rt: &R) -> io::Result<(Option<A>, InFlightOrdered<F, A>)>
     where
         R: Wait + RandomSource + AllocGlobal,

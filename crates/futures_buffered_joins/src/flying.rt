@@ -8,7 +8,8 @@ ghost use Rattle.futures_buffered_table.specs.declared.answer.TheConstants.{MAX_
 ghost use Rattle.futures_buffered_unordered.specs.Extended.{EachDrawn, MakesFull};
 ghost use Rattle.futures_buffered_in_flight.specs.InFlight.{CanPollAll, IsNewInFlight, FlightsWaitAt};
 ghost use Rattle.futures_buffered_joins.specs.JoiningFills.{FillsOrFails};
-ghost use Rattle.futures_buffered_joins.specs.InFlightJoin.{FillsPlace, FillsRest, FliesInOrder, IsNewFlying, SomeMayFail, WaitsOn, flying_size};
+ghost use Rattle.futures_buffered_joins.specs.InFlightJoin.{FillsPlace, FillsRest, FliesInOrder, IsNewFlying};
+ghost use Rattle.futures_buffered_joins.specs.InFlightJoin.{SomeMayFail, WaitsOn, flying_size};
 ghost use Rattle.futures_buffered_joins.specs.Outputs.{WaitsOrCame};
 
 use crate::join_rule::JoinRule;

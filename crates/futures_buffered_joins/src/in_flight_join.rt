@@ -2,7 +2,8 @@
 ghost use Rattle.std.specs.Prelude.{◌≡◌, None, IfOk};
 ghost use Rattle.futures_buffered_core.specs.Drawn.{IsFiniteSource};
 ghost use Rattle.futures_buffered_unordered.specs.Extended.{EachDrawn};
-ghost use Rattle.futures_buffered_joins.specs.InFlightJoin.{CanPollFlying, FliesByPlace, FlyingMayGive, FlyingWaitsAt, MakesFlying, PollsFlying};
+ghost use Rattle.futures_buffered_joins.specs.InFlightJoin.{CanPollFlying, FliesByPlace, FlyingMayGive, FlyingWaitsAt};
+ghost use Rattle.futures_buffered_joins.specs.InFlightJoin.{MakesFlying, PollsFlying};
 
 use crate::flying::Flying;
 use crate::join::AllOutputs;
@@ -17,9 +18,13 @@ use std::alloc::Global;
 use std::fmt;
 use std::marker::{Model, PhantomData};
 
-/// All of some futures of the kit by a rule `R`: ready once each of them is done, with what is kept of their outputs, each at its future's place, or as soon as an output ends it.
+/// All of some futures of the kit by a rule `R`: ready once each of them is done, with what is kept of their outputs,
+/// each at its future's place, or as soon as an output ends it.
 ///
-/// It holds the futures beside one another, with no lock and no cell between, and no type has a bound, so that a future may contain closures. A contract sees the places, or nothing once the join has ended: a set of the futures that are waited for, each in the slot of its place, and the outputs that have come. Once the join has ended, early too, it holds nothing, and further polls give what shows an empty vector.
+/// It holds the futures beside one another, with no lock and no cell between, and no type has a bound, so that a future
+/// may contain closures. A contract sees the places, or nothing once the join has ended: a set of the futures that are
+/// waited for, each in the slot of its place, and the outputs that have come. Once the join has ended, early too, it
+/// holds nothing, and further polls give what shows an empty vector.
 #[derive(Drop)]
 pub struct InFlightJoin<R, F, A> {
     flying: Option<Flying<F, A>>,
@@ -54,7 +59,8 @@ where
 {
     /// A join of these futures, in their order. Nothing is polled, and the join may be.
     ///
-    /// Takes time and memory in proportion to their number, all that the join ever needs but what the futures take, and what the kit's set takes at its first poll of a task. Where it is refused, the futures that came are dropped: `TooLarge` where one more than `MAX_CAPACITY` came, and `Memory` where a request for memory was refused.
+    /// Takes time and memory in proportion to their number, all that the join ever needs but what the futures take, and
+    /// what the kit's set takes at its first poll of a task. Where it is refused, the futures that came are dropped.
     pub fn over<I: IntoIterator<Item = F>>(alloc: Global, iter: I) -> Result<Self, NewFault>
         requires finite { IsFiniteSource I.IntoIterator I.IntoIter.Iterator iter }
         requires fit { EachDrawn I.IntoIterator I.IntoIter.Iterator iter F.can_poll }
@@ -84,9 +90,13 @@ where
 
     ghost gives = { λ join answer. FlyingMayGive F.Future R.JoinRule join (R.seen answer) };
 
-    /// Polls the futures that were woken, each output filling its place, until nothing more has come, no future is left or an output ends the join. With no future left it is ready with all outputs; at an error it is ready with that error, and the other futures and all outputs are dropped in this call. In both cases it holds nothing more, and later polls give no outputs, and poll nothing.
+    /// Polls the futures that were woken, each output filling its place, until nothing more has come, no future is left
+    /// or an output ends the join. With no future left it is ready with all outputs; at an error it is ready with that
+    /// error, and the other futures and all outputs are dropped in this call. In both cases it holds nothing more, and
+    /// later polls give no outputs, and poll nothing.
     ///
-    /// Takes no memory but what the futures take, and what the kit's set takes at its first poll of a task. Takes time in proportion to the futures that it polls, and at the end to the number of places, besides the polls.
+    /// Takes no memory but what the futures take, and what the kit's set takes at its first poll of a task. Takes time
+    /// in proportion to the futures that it polls, and at the end to the number of places, besides the polls.
     fn poll(&mut self, cx: &mut Context<'_>) -> Poll<R::Answer>
         requires { CanPollFlying F.Future self.old }
         ensures join { PollsFlying F.Future R.JoinRule self.old result self.new cx.old cx.new }
@@ -106,7 +116,7 @@ where
     }
 }
 
-/// Whether the join has ended. Takes the same time at any number of futures.
+/// Whether the join has ended.
 impl<R, F, A> FusedFuture for InFlightJoin<R, F, A>
 where
     F: Future<Output: Drop>,
@@ -133,9 +143,10 @@ impl<R: JoinName, F: Future<Output: Drop>, A: Drop> fmt::Debug for InFlightJoin<
     }
 }
 
-/// Of a join over these items, after any pending polls: the vector that it is ready with has as many outputs as there were items, and the output at place k is one that item k may give.
+/// Of a join over these items, after any pending polls: the vector that it is ready with has as many outputs as there
+/// were items, and the output at place k is one that item k may give.
 ///
-/// This is of the words that the contracts of `over` and of a poll say. Nothing is done.
+/// A law of the relations in the contracts of `over` and of a poll. Its body is empty.
 pub fn outputs_come_by_place<R, F, A>()
 where
     F: Future,
@@ -143,7 +154,8 @@ where
     ensures { FliesByPlace F.Future R.JoinRule }
 {}
 
-/// A join of these futures of the kit, in their order, which is ready with all outputs. It is `InFlightJoin::over`, and refuses as that does.
+/// A join of these futures of the kit, in their order, which is ready with all outputs. It is `InFlightJoin::over`, and
+/// refuses as that does.
 pub fn foreign_join_all<I: IntoIterator<Item: Future<Output: Drop>>>(
     alloc: Global,
     iter: I,
@@ -156,7 +168,8 @@ pub fn foreign_join_all<I: IntoIterator<Item: Future<Output: Drop>>>(
     ForeignJoin::over(alloc, iter)
 }
 
-/// As `foreign_join_all`, of futures that may fail: it is ready as soon as one gives an error, and drops the others then.
+/// As `foreign_join_all`, of futures that may fail: it is ready as soon as one gives an error, and drops the others
+/// then.
 pub fn foreign_try_join_all<F, A, E, I>(
     alloc: Global,
     iter: I,

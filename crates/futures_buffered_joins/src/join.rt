@@ -13,10 +13,12 @@ use futures_buffered_unordered::SlotFuture;
 use futures_buffered_unordered::futures_unordered_bounded::POLL_LIMIT;
 use std::alloc::Global;
 
-/// The rule of `join_all`: every output is kept, and none ends the join early. It has no values, and so it is also the error, which never comes.
+/// The rule of `join_all`: every output is kept, and none ends the join early. It has no values, and so it is also the
+/// error, which never comes.
 pub enum AllOutputs {}
 
-/// All of some futures: ready once each of them is done, with their outputs, each at its future's place. A join that has ended gives an empty vector.
+/// All of some futures: ready once each of them is done, with their outputs, each at its future's place. A join that
+/// has ended gives an empty vector.
 pub type Join<F, A, S> = JoinBy<AllOutputs, F, A, S>;
 
 /// The join with the outputs of its futures. It is the name that a caller writes.
@@ -55,7 +57,8 @@ impl JoinName for AllOutputs {
     }
 }
 
-/// A join of these futures, in their order, which are woken from any thread. It is `JoinAll::over` with a shared source, and refuses as that does.
+/// A join of these futures, in their order, which are woken from any thread. It is `JoinAll::over` with a shared
+/// source, and refuses as that does.
 pub fn join_all<I: IntoIterator>(
     alloc: Global,
     iter: I,

@@ -18,9 +18,12 @@ use std::alloc::Global;
 use std::fmt;
 use std::marker::{Model, PhantomData};
 
-/// All of some futures by a rule `R`: ready once each of them is done, with what is kept of their outputs, each at its future's place, or as soon as an output ends it.
+/// All of some futures by a rule `R`: ready once each of them is done, with what is kept of their outputs, each at its
+/// future's place, or as soon as an output ends it.
 ///
-/// A contract sees the places, or nothing once the join has ended: a set of the futures that are waited for, each in the slot of its place, and the outputs that have come. A poll takes no memory but what the calls of the source take. Once the join has ended, early too, it holds nothing, and further polls give what shows an empty vector.
+/// A contract sees the places, or nothing once the join has ended: a set of the futures that are waited for, each in
+/// the slot of its place, and the outputs that have come. A poll takes no memory but what the calls of the source take.
+/// Once the join has ended, early too, it holds nothing, and further polls give what shows an empty vector.
 #[derive(Drop)]
 pub struct JoinBy<R, F: Drop, A: Drop, S: ReadySource> {
     joining: Option<Joining<F, A, S>>,
@@ -50,7 +53,8 @@ where
 {
     /// A join of these futures, in their order, over a source made for them. Nothing is polled.
     ///
-    /// Takes time and memory in proportion to their number, all that the join ever needs but what the calls of the source take. Where it is refused, the futures that came are dropped: `TooLarge` where one more than `MAX_CAPACITY` came, and `Memory` where a request for memory was refused.
+    /// Takes time and memory in proportion to their number, all that the join ever needs but what the calls of the
+    /// source take. Where it is refused, the futures that came are dropped.
     pub fn over<I: IntoIterator<Item = F>>(
         env: &S::Env,
         alloc: Global,
@@ -84,9 +88,14 @@ where
 
     ghost gives = { λ join answer. JoinMayGive F.polled R.output_of join (R.seen answer) };
 
-    /// Polls the set of the futures again and again, each output filling its place, until that is Pending, no future is left or an output ends the join. With no future left it is ready with all outputs; at an error it is ready with that error, and the other futures and all outputs are dropped in this call. In both cases it holds nothing more: its source is dropped, which may wake the task, and later polls give no outputs, and poll nothing.
+    /// Polls the set of the futures again and again, each output filling its place, until that is Pending, no future is
+    /// left or an output ends the join. With no future left it is ready with all outputs; at an error it is ready with
+    /// that error, and the other futures and all outputs are dropped in this call. In both cases it holds nothing more:
+    /// its source is dropped, which may wake the task, and later polls give no outputs, and poll nothing.
     ///
-    /// Takes no memory but what the calls of the source take, and waits for nobody where they do not. Takes time in proportion to the names that its polls of the set take, and at the end to the number of places, besides the polls.
+    /// Takes no memory but what the calls of the source take, and waits for nobody where they do not. Takes time in
+    /// proportion to the names that its polls of the set take, and at the end to the number of places, besides the
+    /// polls.
     fn poll(&mut self, cx: &mut Context<'_>) -> Poll<R::Answer>
         requires { IfSome self.old (λ places. AllHeld F.can_poll places.set.slots) }
         ensures { PollsJoin F.SlotFuture R.JoinRule S.ReadySource
@@ -106,7 +115,7 @@ where
     }
 }
 
-/// Whether the join has ended. Takes the same time at any number of futures.
+/// Whether the join has ended.
 impl<R, F, O, A, S> FusedFuture for JoinBy<R, F, A, S>
 where
     R: JoinRule<O, Kept = A>,
@@ -136,9 +145,10 @@ impl<R: JoinName, F: Drop, A: Drop, S: ReadySource> fmt::Debug for JoinBy<R, F, 
     }
 }
 
-/// Of a join over these items, after any pending polls: the vector that it is ready with has as many outputs as there were items, and the output at place k is one that item k may give.
+/// Of a join over these items, after any pending polls: the vector that it is ready with has as many outputs as there
+/// were items, and the output at place k is one that item k may give.
 ///
-/// This is of the words that the contracts of `over` and of a poll say. Nothing is done.
+/// A law of the relations in the contracts of `over` and of a poll. Its body is empty.
 pub fn outputs_come_by_place<R, F, O, S: NewSource>()
 where
     R: JoinRule<O>,

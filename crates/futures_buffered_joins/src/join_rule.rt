@@ -1,7 +1,9 @@
-//! By what rule a join goes: what is kept of each output, which output ends the join at once, and what the join is ready with.
+//! By what rule a join goes: what is kept of each output, which output ends the join at once, and what the join is
+//! ready with.
 ghost use Rattle.std.specs.Prelude.{◌≡◌};
 
-/// A rule of joins whose futures give outputs `O`: what a join keeps of an output, which output ends it at once, and what it is ready with.
+/// A rule of joins whose futures give outputs `O`: what a join keeps of an output, which output ends it at once, and
+/// what it is ready with.
 pub trait JoinRule<O> {
     ghost use Rattle.std.specs.Prelude.{Result};
     ghost use Rattle.futures_buffered_joins.specs.JoinRule.{Outcome, shown_by_result};

@@ -8,7 +8,8 @@
 //! - `join_by`: the type of both, by a rule.
 //! - `joining`: what a join keeps until it ends, a set of the futures and the outputs that have come.
 //! - `outputs`: the outputs that have come, each at its place.
-//! - `in_flight_join`: `foreign_join_all` and `foreign_try_join_all`, by the same rules, of futures of the kit in plain sight.
+//! - `in_flight_join`: `foreign_join_all` and `foreign_try_join_all`, by the same rules, of futures of the kit in plain
+//!   sight.
 //! - `flying`: what such a join keeps until it ends.
 #![tactic(auto)]
 

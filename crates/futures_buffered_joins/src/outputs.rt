@@ -1,11 +1,13 @@
 //! The outputs of a join that have come, each at its place.
-ghost use Rattle.std.specs.Prelude.{◌≡◌, ◌<◌, Some, None, IsSome, IfOk, length, map, replicate, slice_index_or, slice_set};
+ghost use Rattle.std.specs.Prelude.{◌≡◌, ◌<◌, Some, None, IsSome, IfOk, length, map, replicate, slice_index_or};
+ghost use Rattle.std.specs.Prelude.{slice_set};
 
 use futures_buffered_core::slot_map::empty_places;
 use std::alloc::{AllocError, Global};
 use std::marker::Model;
 
-/// At each place the output that has come, or nothing. Room for the vector that is given at the end was taken at the beginning.
+/// At each place the output that has come, or nothing. Room for the vector that is given at the end was taken at the
+/// beginning.
 #[derive(Drop)]
 pub struct Outputs<A> {
     places: Vec<Option<A>>,

@@ -17,7 +17,8 @@ use std::alloc::Global;
 /// The rule of `try_join_all`: what an output has in `Ok` is kept, and one in `Err` ends the join.
 pub enum UntilError {}
 
-/// All of some futures that may fail: ready once each of them is done, with their outputs, each at its future's place, or as soon as one gives an error. A join that has ended, by an error too, gives `Ok` of an empty vector.
+/// All of some futures that may fail: ready once each of them is done, with their outputs, each at its future's place,
+/// or as soon as one gives an error. A join that has ended, by an error too, gives `Ok` of an empty vector.
 pub type TryJoin<F, T, S> = JoinBy<UntilError, F, T, S>;
 
 /// The join with the values that its futures give where they succeed. It is the name that a caller writes.
@@ -57,7 +58,8 @@ impl JoinName for UntilError {
     }
 }
 
-/// A join of these futures, in their order, which are woken from any thread. It is `TryJoinAll::over` with a shared source, and refuses as that does.
+/// A join of these futures, in their order, which are woken from any thread. It is `TryJoinAll::over` with a shared
+/// source, and refuses as that does.
 pub fn try_join_all<I: IntoIterator, T, E>(
     alloc: Global,
     iter: I,

@@ -226,4 +226,5 @@ NoneBeside (BesideHas before) = ⊥
 abbrev pub NoWakeIsLost : Type 0
 NoWakeIsLost = (n : ℕ) (events : List Event) → Legal n (at_first n) events →
     let s = run n (at_first n) events in
-    AllRest s → NoneBeside s.place → s.turn ≡ Parked → s.woken ≡ false → (slot : ℕ) → slot < n → mark s.list.words slot ≡ 0
+    AllRest s → NoneBeside s.place → s.turn ≡ Parked → s.woken ≡ false →
+    (slot : ℕ) → slot < n → mark s.list.words slot ≡ 0

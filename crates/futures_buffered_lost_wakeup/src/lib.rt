@@ -1,6 +1,12 @@
 //! That no wake is lost, as a law over every order of the steps of any wakes and of one poller.
 //!
-//! The ready list is the one of `futures_buffered_table`, step by step. What its wakes and its poller do at the place of the task's waker is defined here, a step for each atomic step of `waker_place` in `futures_buffered_core`, so that a reader can lay the two side by side. Of sources that stand beside one another the scene has the list of one, and the steps at the place of all: a poll may register with another of them, which then lays the waker out in this one's stead. Two things are left out: what `beside` and `set_outer` put in between polls, and the loads with which the poller's calls begin. Nothing ties the two but this reading and the tests; the steps of the list are tied to the code by contracts.
+//! The ready list is the one of `futures_buffered_table`, step by step. What its wakes and its poller do at the place
+//! of the task's waker is defined here, a step for each atomic step of `waker_place` in `futures_buffered_core`, so
+//! that a reader can lay the two side by side. Of sources that stand beside one another the scene has the list of one,
+//! and the steps at the place of all: a poll may register with another of them, which then lays the waker out in this
+//! one's stead. Two things are left out: what `beside` and `set_outer` put in between polls, and the loads with which
+//! the poller's calls begin. Nothing ties the two but this reading and the tests; the steps of the list are tied to the
+//! code by contracts.
 //!
 //! | Step here | Step of the code |
 //! |---|---|
@@ -18,9 +24,11 @@
 
 ghost use Rattle.futures_buffered_lost_wakeup.specs.LostWake.{NoWakeIsLost};
 
-/// In every order of steps: where each wake has ended and the task is not woken, and no poll is under way, of this source or of one beside it, no slot is marked.
+/// In every order of steps: where each wake has ended and the task is not woken, and no poll is under way, of this
+/// source or of one beside it, no slot is marked.
 ///
-/// So where a slot is marked, a wake or a poll is under way, or the task is to poll again. That it polls again after a mark by hand, as a push makes one, the law takes for granted: nothing wakes it.
+/// So where a slot is marked, a wake or a poll is under way, or the task is to poll again. That it polls again after a
+/// mark by hand, as a push makes one, the law takes for granted: nothing wakes it.
 pub fn no_wake_is_lost()
     ensures { NoWakeIsLost }
 {}

@@ -8,7 +8,10 @@ ghost use Rattle.futures_buffered_core.specs.Drawn.{IsFiniteSource};
 ghost use Rattle.futures_buffered_unordered.specs.Extended.{EachDrawn, Extends, HoldsAllOf};
 ghost use Rattle.futures_buffered_unordered.specs.StreamAnswers.{StreamAnswers};
 ghost use Rattle.futures_buffered_merges.specs.WithEnd.{MayAnswer};
-ghost use Rattle.futures_buffered_merges.specs.InFlightMerge.{AnswersNoMore, AnyAnswers, CanPollStreams, ComesFromMerged, HoldsStreams, IsNewMerge, PollsMerge, StreamWentIn, PushesStream, StreamCameBack, MergedWaitsAt, stream_count};
+ghost use Rattle.futures_buffered_merges.specs.InFlightMerge.{AnswersNoMore, AnyAnswers, CanPollStreams};
+ghost use Rattle.futures_buffered_merges.specs.InFlightMerge.{ComesFromMerged, HoldsStreams, IsNewMerge, PollsMerge};
+ghost use Rattle.futures_buffered_merges.specs.InFlightMerge.{StreamWentIn, PushesStream, StreamCameBack};
+ghost use Rattle.futures_buffered_merges.specs.InFlightMerge.{MergedWaitsAt, stream_count};
 
 use crate::with_end::WithEnd;
 use futures::Stream;
@@ -22,7 +25,8 @@ use std::marker::Model;
 
 /// Streams of the kit that are polled as one, `capacity` of them at most.
 ///
-/// A contract sees how many streams are held, and the kit's set of them. A stream is held from its push until the poll in which it gives its end. Calls that ask how much is held take the same time at any number.
+/// A contract sees how many streams are held, and the kit's set of them. A stream is held from its push until the poll
+/// in which it gives its end. Calls that ask how much is held take the same time at any number.
 #[derive(Drop)]
 pub struct InFlightMerge<St> {
     // None before the first push and after `clear`.
@@ -92,7 +96,8 @@ impl<St: Stream<Item: Drop>> InFlightMerge<St> {
         Self::new(alloc, usize::MAX)
     }
 
-    /// Drops each stream, in this call. Takes no memory, and time in proportion to the number of streams, besides the drops.
+    /// Drops each stream, in this call. Takes no memory, and time in proportion to the number of streams, besides the
+    /// drops.
     pub fn clear(&mut self)
         ensures none { IsNewMerge self.old.limit self.new }
         ensures can_poll { CanPollStreams St.Stream self.new }
@@ -140,9 +145,13 @@ impl<St: Stream<Item: Drop>> InFlightMerge<St> {
         }
     }
 
-    /// Adds the stream, so that a later poll polls it. It comes back where there is no room, and where memory is refused.
+    /// Adds the stream, so that a later poll polls it. It comes back where there is no room, and where memory is
+    /// refused.
     ///
-    /// Takes the memory that the kit's set takes for a stream, and the same time at any number of streams. Where memory is refused as many streams are held as before, and nothing may come that might not have come before or from this stream: the kit says no more of a push that it refuses. Polls nothing, and wakes nobody: who pushes sees to it that the merge is polled afterwards.
+    /// Takes the memory that the kit's set takes for a stream, and the same time at any number of streams. Where memory
+    /// is refused as many streams are held as before, and nothing may come that might not have come before or from this
+    /// stream: the kit says no more of a push that it refuses. Polls nothing, and wakes nobody: who pushes sees to it
+    /// that the merge is polled afterwards.
     pub fn try_push(&mut self, stream: St) -> Result<(), St>
         requires held { CanPollStreams St.Stream self.old }
         requires new { St.can_poll stream }
@@ -205,7 +214,8 @@ impl<St: Stream<Item: Drop>> InFlightMerge<St> {
         cx.yield_now()
     }
 
-    /// Pushes each item, in order, as `try_push` does. The first that is refused comes back; those before it stay, and the iterator is asked for no further one.
+    /// Pushes each item, in order, as `try_push` does. The first that is refused comes back; those before it stay, and
+    /// the iterator is asked for no further one.
     pub fn extend<I: IntoIterator<Item = St>>(&mut self, iter: I) -> Result<(), St>
         requires finite { IsFiniteSource I.IntoIterator I.IntoIter.Iterator iter }
         requires held { CanPollStreams St.Stream self.old }
@@ -235,7 +245,10 @@ impl<St: Stream<Item: Drop>> Stream for InFlightMerge<St> {
 
     /// One poll: an item of one of the streams, or the end, exactly where nothing is held any more.
     ///
-    /// It polls those streams that were pushed or woken since they were polled. A stream that gives an item stays, and is polled again behind those that were woken before. One stream at most ends in a poll: where others are held then, the task polls again at once. Takes no memory but what the streams take, and what the kit's set takes at its first poll of a task; where it is refused that, the task polls again until there is some.
+    /// It polls those streams that were pushed or woken since they were polled. A stream that gives an item stays, and
+    /// is polled again behind those that were woken before. One stream at most ends in a poll: where others are held
+    /// then, the task polls again at once. Takes no memory but what the streams take, and what the kit's set takes at
+    /// its first poll of a task; where it is refused that, the task polls again until there is some.
     fn poll_next(&mut self, cx: &mut Context<'_>) -> Poll<Option<St::Item>>
         requires { CanPollStreams St.Stream self.old }
         ensures polled { PollsMerge St.Stream self.old result self.new cx.old cx.new }
@@ -281,7 +294,8 @@ pub type GrowingForeignMerge<St> = InFlightMerge<St>;
 
 /// A merge without a limit, of the streams that this iterator gives, in its order.
 ///
-/// Takes time and memory in proportion to their number. `Memory` where a request for memory was refused, and then the streams that came are dropped.
+/// Takes time and memory in proportion to their number. `Memory` where a request for memory was refused, and then the
+/// streams that came are dropped.
 pub fn growing_foreign_merge<St: Stream<Item: Drop>, I: IntoIterator<Item = St>>(
     alloc: Global,
     iter: I,
@@ -299,7 +313,8 @@ pub fn growing_foreign_merge<St: Stream<Item: Drop>, I: IntoIterator<Item = St>>
     }
 }
 
-/// As `growing_foreign_merge`, with room for as many streams as came, so that no further one can be pushed before one of them has ended.
+/// As `growing_foreign_merge`, with room for as many streams as came, so that no further one can be pushed before one
+/// of them has ended.
 pub fn foreign_merge<St: Stream<Item: Drop>, I: IntoIterator<Item = St>>(
     alloc: Global,
     iter: I,

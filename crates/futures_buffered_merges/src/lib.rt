@@ -2,7 +2,8 @@
 //!
 //! In the order in which to read them:
 //!
-//! - `slot_stream`: `SlotStream`, what a merge holds: a stream that is polled with the waker of its slot; and `PollStream`, the rule that polls it.
+//! - `slot_stream`: `SlotStream`, what a merge holds: a stream that is polled with the waker of its slot; and
+//!   `PollStream`, the rule that polls it.
 //! - `merging`: one poll of the streams that a set holds.
 //! - `merge_of`: `MergeOf`, the type of both merges, by the set in which the streams are held.
 //! - `merge_bounded`: `MergeBounded`, as many streams as it has slots.
@@ -11,7 +12,8 @@
 //! Of streams of the kit, which no slot holds:
 //!
 //! - `with_end`: `WithEnd`, a stream whose end can be counted.
-//! - `in_flight_merge`: `InFlightMerge`, such streams in the kit's own set, in plain sight; `foreign_merge` and `growing_foreign_merge` make it of an iterator.
+//! - `in_flight_merge`: `InFlightMerge`, such streams in the kit's own set, in plain sight; `foreign_merge` and
+//!   `growing_foreign_merge` make it of an iterator.
 //! - `waiting_merge`: `WaitingMerge`, which holds a merge while a task waits for its next item, and gives it back.
 #![tactic(auto)]
 

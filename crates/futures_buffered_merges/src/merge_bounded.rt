@@ -1,13 +1,16 @@
 //! As many streams as it has slots, polled as one.
 //!
-//! Each stream stands in a slot, and a poll asks the source which slots to poll, as a set of futures does. A stream that gives an item stays, and its slot is marked, so that a later poll polls it again behind the others that were marked before. A stream that ends leaves its slot to the next push.
+//! Each stream stands in a slot, and a poll asks the source which slots to poll, as a set of futures does. A stream
+//! that gives an item stays, and its slot is marked, so that a later poll polls it again behind the others that were
+//! marked before. A stream that ends leaves its slot to the next push.
 ghost use Rattle.std.specs.Prelude.{◌≡◌, ◌<◌, ◌≤◌, ◌↔◌, IsTrue};
 ghost use Rattle.futures_buffered_core.specs.Drawn.{IsFiniteSource};
 ghost use Rattle.futures_buffered_core.specs.ReadyShared.{IsNewShared, MarksShared};
 ghost use Rattle.futures_buffered_core.specs.SlotMap.{held_count, slot_count, IsFull};
 ghost use Rattle.futures_buffered_unordered.specs.StreamAnswers.{StreamAnswers};
 ghost use Rattle.futures_buffered_unordered.specs.Held.{AllHeld};
-ghost use Rattle.futures_buffered_unordered.specs.FuturesUnorderedBounded.{HoldsEach, Pushes, PushesIfRoom, PushesOne, emptied, held_in, slots_in};
+ghost use Rattle.futures_buffered_unordered.specs.FuturesUnorderedBounded.{HoldsEach, Pushes, PushesIfRoom, PushesOne};
+ghost use Rattle.futures_buffered_unordered.specs.FuturesUnorderedBounded.{emptied, held_in, slots_in};
 ghost use Rattle.futures_buffered_unordered.specs.Extended.{Extends, MakesFull};
 ghost use Rattle.futures_buffered_merges.specs.Merging.{PollsMergeBounded};
 ghost use Rattle.futures_buffered_merges.specs.MergeBounded.{KeepsOrder, KeepsOrderWithPushes, ComesFromStreams};
@@ -26,7 +29,9 @@ use std::alloc::Global;
 
 /// Streams in slots, over a source that names the slots to poll.
 ///
-/// A contract sees what each slot holds and which slots are free, the content of the source, and the limit of names of one count. Once the merge is made its calls take no memory but what those of the source take, and they wait for nobody where those of the source do not.
+/// A contract sees what each slot holds and which slots are free, the content of the source, and the limit of names of
+/// one count. Once the merge is made its calls take no memory but what those of the source take, and they wait for
+/// nobody where those of the source do not.
 pub type MergeBounded<St, S> = MergeOf<FuturesUnorderedBounded<St, S>>;
 
 /// The same merge, by its short name.
@@ -45,9 +50,10 @@ impl<St: Drop, S: ReadySource> StreamSet for FuturesUnorderedBounded<St, S> {
 }
 
 impl<St: Drop, S: NewSource> MergeBounded<St, S> {
-    /// A merge without a free slot, which holds item k in slot k, each marked, in this order. It has as many slots as there are items, and a source made for it.
+    /// A merge without a free slot, which holds item k in slot k, each marked, in this order. It has as many slots as
+    /// there are items, and a source made for it.
     ///
-    /// Takes time and memory in proportion to that number. Where it is refused, the streams that came are dropped: `TooLarge` where one more than `MAX_CAPACITY` came, and `Memory` where a request for memory was refused.
+    /// Takes time and memory in proportion to that number. Where it is refused, the streams that came are dropped.
     pub fn over<I: IntoIterator<Item = St>>(
         env: &S::Env,
         alloc: Global,
@@ -92,9 +98,10 @@ impl<St: Drop, S: ReadySource> MergeBounded<St, S> {
         self.set.is_full()
     }
 
-    /// Puts the stream into the first free slot and marks that slot, so that a later poll polls it. A full merge hands the stream back.
+    /// Puts the stream into the first free slot and marks that slot, so that a later poll polls it. A full merge hands
+    /// the stream back.
     ///
-    /// Takes the same time at any capacity. Polls nothing, and wakes nobody: who pushes sees to it that the merge is polled afterwards.
+    /// Polls nothing, and wakes nobody: who pushes sees to it that the merge is polled afterwards.
     pub fn try_push(&mut self, stream: St) -> Result<(), St>
         ensures { PushesIfRoom S.marks self.old stream result self.new }
     {
@@ -109,7 +116,8 @@ impl<St: Drop, S: ReadySource> MergeBounded<St, S> {
         self.set.push(stream);
     }
 
-    /// Pushes each item, in order, as `try_push` does. The first for which there is no free slot comes back; those before it stay, and the iterator is asked for no further one.
+    /// Pushes each item, in order, as `try_push` does. The first for which there is no free slot comes back; those
+    /// before it stay, and the iterator is asked for no further one.
     pub fn extend<I: IntoIterator<Item = St>>(&mut self, iter: I) -> Result<(), St>
         requires { IsFiniteSource I.IntoIterator I.IntoIter.Iterator iter }
         ensures extends { Extends I.IntoIterator I.IntoIter.Iterator iter (Pushes S.marks)
@@ -121,7 +129,8 @@ impl<St: Drop, S: ReadySource> MergeBounded<St, S> {
 
     /// Drops each stream that is held. Each slot is free then, and slot 0 is the first to be used again.
     ///
-    /// A slot that was marked stays marked. Takes no memory, and time in proportion to the capacity, besides the drops. Wakes nobody itself; what is dropped may.
+    /// A slot that was marked stays marked. Takes no memory, and time in proportion to the capacity, besides the drops.
+    /// Wakes nobody itself; what is dropped may.
     pub fn clear(&mut self)
         ensures { self.new ≡ emptied self.old }
     {
@@ -130,7 +139,8 @@ impl<St: Drop, S: ReadySource> MergeBounded<St, S> {
 }
 
 impl<St: Drop> MergeBounded<St, SharedReady> {
-    /// A merge without a free slot, which holds item k in slot k, each marked, in this order, and whose streams are woken from any thread. It is `over` with a shared source, and refuses as `over` does.
+    /// A merge without a free slot, which holds item k in slot k, each marked, in this order, and whose streams are
+    /// woken from any thread. It is `over` with a shared source, and refuses as `over` does.
     pub fn from_iter<I: IntoIterator<Item = St>>(alloc: Global, iter: I) -> Result<Self, NewFault>
         requires { IsFiniteSource I.IntoIterator I.IntoIter.Iterator iter }
         ensures { MakesFull I.IntoIterator I.IntoIter.Iterator iter slots_in
@@ -163,9 +173,14 @@ impl<St: SlotStream<S::Waker>, S: ReadySource> Stream for MergeBounded<St, S> {
 
     ghost yields = { λ merge. ComesFromStreams St.polled merge.slots };
 
-    /// One poll: names are taken, in counts that each begin with a registration of the task, and the streams named are polled.
+    /// One poll: names are taken, in counts that each begin with a registration of the task, and the streams named are
+    /// polled.
     ///
-    /// A stream that gives an item stays, and its slot is marked. A stream that ends is dropped, and where another is still held a new count begins. `Ready(None)` where no stream is held, at first or any more. `Pending` where no further name came or a count reached the limit; where the source paused and at the limit the task is woken at once. Takes no memory but what the calls of the source take, and time in proportion to the names taken, besides the polls.
+    /// A stream that gives an item stays, and its slot is marked. A stream that ends is dropped, and where another is
+    /// still held a new count begins. `Ready(None)` where no stream is held, at first or any more. `Pending` where no
+    /// further name came or a count reached the limit; where the source paused and at the limit the task is woken at
+    /// once. Takes no memory but what the calls of the source take, and time in proportion to the names taken, besides
+    /// the polls.
     fn poll_next(&mut self, cx: &mut Context<'_>) -> Poll<Option<St::Item>>
         requires { AllHeld St.can_poll self.old.slots }
         ensures polls { PollsMergeBounded St.SlotStream S.ReadySource
@@ -189,16 +204,19 @@ impl<St: SlotStream<S::Waker>, S: ReadySource> FusedStream for MergeBounded<St, 
     }
 }
 
-/// After any polls of one merge the items that were given are those of the streams that it held at first: the items of each in its order, none lost and none twice. A stream that is still held is as its polls left it, and one that is not gave all of its items and then its end.
+/// After any polls of one merge the items that were given are those of the streams that it held at first: the items of
+/// each in its order, none lost and none twice. A stream that is still held is as its polls left it, and one that is
+/// not gave all of its items and then its end.
 ///
-/// This is of the words that a poll's contract says of each poll. Nothing is done.
+/// A law of the relation in the contract of a poll. Its body is empty.
 pub fn polls_keep_order<St: SlotStream<S::Waker>, S: ReadySource>()
     ensures { KeepsOrder St.polled S.steps S.marks }
 {}
 
-/// The same, with pushes between the polls: the items beside a slot are those of the streams that it held one after another, of each in its order, and each of these but the last gave its end before the next came.
+/// The same, with pushes between the polls: the items beside a slot are those of the streams that it held one after
+/// another, of each in its order, and each of these but the last gave its end before the next came.
 ///
-/// This is of the words that the contracts of a push and of a poll say. Nothing is done.
+/// A law of the relations in the contracts of a push and of a poll. Its body is empty.
 pub fn polls_and_pushes_keep_order<St: SlotStream<S::Waker>, S: ReadySource>()
     ensures { KeepsOrderWithPushes St.polled S.steps S.marks }
 {}

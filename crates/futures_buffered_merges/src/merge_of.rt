@@ -20,9 +20,11 @@ pub trait StreamSet: Drop {
     fn merge_name() -> &'static str;
 }
 
-/// Streams that are polled as one, held in a set `G`: as many as that has slots (`MergeBounded`), or any number (`MergeUnbounded`).
+/// Streams that are polled as one, held in a set `G`: as many as that has slots (`MergeBounded`), or any number
+/// (`MergeUnbounded`).
 ///
-/// A contract sees what it sees of the set. Calls that ask how much is held take the same time at any capacity.
+/// A contract sees what it sees of the set. A push, but for one that makes a group, and calls that ask how much is held
+/// take the same time at any capacity.
 #[derive(Drop)]
 pub struct MergeOf<G: Drop> {
     pub(crate) set: G,

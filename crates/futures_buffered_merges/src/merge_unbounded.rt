@@ -1,15 +1,20 @@
 //! Streams in groups of slots, polled as one: a merge that grows.
 //!
-//! Each group is a set of as many streams as it has slots, and is asked as a bounded merge is polled. A group that holds a stream registers the task as it is asked, until one is pending: its registration does for the groups after it.
+//! Each group is a set of as many streams as it has slots, and is asked as a bounded merge is polled. A group that
+//! holds a stream registers the task as it is asked, until one is pending: its registration does for the groups after
+//! it.
 ghost use Rattle.std.specs.Prelude.{◌≡◌, ◌↔◌, ◌≤◌, Err, IsTrue, IsErr, IfErr};
 ghost use Rattle.futures_buffered_core.specs.Drawn.{IsFiniteSource};
 ghost use Rattle.futures_buffered_core.specs.ReadyShared.{IsNewShared, MarksShared};
 ghost use Rattle.futures_buffered_unordered.specs.StreamAnswers.{StreamAnswers};
 ghost use Rattle.futures_buffered_unordered.specs.FuturesUnorderedBounded.{OnlyRegisters};
-ghost use Rattle.futures_buffered_unordered.specs.FuturesUnordered.{EachHeld, AnyNeeds, GrowingPushes, IsAtBound, PushesOrStays, no_groups, held_in_all, capacity_of, SetRefuses, SetMayRefuse};
+ghost use Rattle.futures_buffered_unordered.specs.FuturesUnordered.{EachHeld, AnyNeeds, GrowingPushes, IsAtBound};
+ghost use Rattle.futures_buffered_unordered.specs.FuturesUnordered.{PushesOrStays, no_groups, held_in_all, capacity_of};
+ghost use Rattle.futures_buffered_unordered.specs.FuturesUnordered.{SetRefuses, SetMayRefuse};
 ghost use Rattle.futures_buffered_unordered.specs.Extended.{Extends, MakesExtended};
 ghost use Rattle.futures_buffered_merges.specs.Merging.{MergeAsksToEmpty, MergeGives, MergeStops};
-ghost use Rattle.futures_buffered_merges.specs.MergeUnbounded.{ItemsComeFromGroups, KeepsOrderInGroups, KeepsOrderInGroupsWithPushes, PollsMergeUnbounded};
+ghost use Rattle.futures_buffered_merges.specs.MergeUnbounded.{ItemsComeFromGroups, KeepsOrderInGroups};
+ghost use Rattle.futures_buffered_merges.specs.MergeUnbounded.{KeepsOrderInGroupsWithPushes, PollsMergeUnbounded};
 
 use crate::merge_of::{MergeOf, StreamSet};
 use crate::merging::poll_streams;
@@ -27,7 +32,10 @@ use std::alloc::Global;
 
 /// Streams in groups of slots.
 ///
-/// A contract sees the groups, each with what its slots hold, the content of its source and its limit; the place where the next poll begins; and the limit of names of one count. Only a push that makes a group, a constructor that pushes, and the calls of the source take memory. The calls wait for nobody where those of the source do not, and those that ask how much is held or fits take the same time at any number of groups.
+/// A contract sees the groups, each with what its slots hold, the content of its source and its limit; the place where
+/// the next poll begins; and the limit of names of one count. Only a push that makes a group, a constructor that
+/// pushes, and the calls of the source take memory. The calls wait for nobody where those of the source do not, and
+/// those that ask how much is held or fits take the same time at any number of groups.
 pub type MergeUnbounded<St, S> = MergeOf<FuturesUnordered<St, S>>;
 
 impl<St: Drop, S: NewSource> StreamSet for FuturesUnordered<St, S> {
@@ -89,7 +97,8 @@ impl<St: Drop, S: NewSource> MergeUnbounded<St, S> {
 
     /// A merge of these streams, pushed in order, over sources that are made by `env`, which it keeps.
     ///
-    /// Takes time and memory in proportion to their number. Where it is refused, the streams that came are dropped: `TooLarge` where a group would be too large or more than `MAX_HELD` came, and `Memory` where a request for memory was refused.
+    /// Takes time and memory in proportion to their number. Where it is refused, the streams that came are dropped:
+    /// `TooLarge` where a group would be too large or more than `MAX_HELD` came.
     pub fn over<I: IntoIterator<Item = St>>(
         env: S::Env,
         alloc: Global,
@@ -123,18 +132,25 @@ impl<St: Drop, S: NewSource> MergeUnbounded<St, S> {
         Ok(merge)
     }
 
-    /// How many streams it has room for: of several groups, what they hold and the free places of the last one; of one, its slots; without groups, 0.
+    /// How many streams it has room for: of several groups, what they hold and the free places of the last one; of one,
+    /// its slots; without groups, 0.
     pub fn capacity(&self) -> usize
         ensures { result ≡ capacity_of self.now.groups.listed }
     {
         self.set.capacity()
     }
 
-    /// Puts the stream into the last group. Where that is full, or there is none, a group is made behind it: of twice as many slots, or of `FIRST_GROUP`.
+    /// Puts the stream into the last group. Where that is full, or there is none, a group is made behind it: of twice
+    /// as many slots, or of `FIRST_GROUP`.
     ///
-    /// The stream comes back, and nothing has changed, where `MAX_HELD` streams are held, where the new group would have more than `MAX_CAPACITY` slots, and where a request for memory was refused. Takes the same time at any capacity where the last group has a free place, and then no memory; else time and memory in proportion to the new group.
+    /// The stream comes back, and nothing has changed, where `MAX_HELD` streams are held, where the new group would
+    /// have more than `MAX_CAPACITY` slots, and where a request for memory was refused. Takes the same time at any
+    /// capacity where the last group has a free place, and then no memory; else time and memory in proportion to the
+    /// new group.
     ///
-    /// Polls nothing, and a caller counts on no wake: who pushes sees to it that the merge is polled afterwards. Only a push that makes a group may wake a task that waits, where a wake stands at the place of the task's waker at that moment.
+    /// Polls nothing, and a caller counts on no wake: who pushes sees to it that the merge is polled afterwards. Only a
+    /// push that makes a group may wake a task that waits, where a wake stands at the place of the task's waker at that
+    /// moment.
     pub fn push(&mut self, stream: St) -> Result<(), St>
         ensures push { PushesOrStays S.marks S.made self.old stream result self.new }
         ensures back { IfErr result (λ back. back ≡ stream) }
@@ -143,7 +159,8 @@ impl<St: Drop, S: NewSource> MergeUnbounded<St, S> {
         self.set.push(stream)
     }
 
-    /// As `push`, for a caller that has no use for a stream that is refused: it is dropped, nothing else has changed, and the error says why. So `?` takes it.
+    /// As `push`, for a caller that has no use for a stream that is refused: it is dropped, nothing else has changed,
+    /// and the error says why. So `?` takes it.
     pub fn add(&mut self, stream: St) -> Result<(), NewFault>
         ensures push { PushesOrStays S.marks S.made self.old stream result self.new }
         ensures large { (result ≡ Err NewFault.TooLarge) ↔ IsAtBound self.old.groups.listed }
@@ -151,7 +168,8 @@ impl<St: Drop, S: NewSource> MergeUnbounded<St, S> {
         self.set.add(stream)
     }
 
-    /// Pushes each item, in order, as `push` does. The first that is refused comes back; those before it stay, and the iterator is asked for no further one.
+    /// Pushes each item, in order, as `push` does. The first that is refused comes back; those before it stay, and the
+    /// iterator is asked for no further one.
     pub fn extend<I: IntoIterator<Item = St>>(&mut self, iter: I) -> Result<(), St>
         requires { IsFiniteSource I.IntoIterator I.IntoIter.Iterator iter }
         ensures { Extends I.IntoIterator I.IntoIter.Iterator iter
@@ -170,7 +188,8 @@ impl<St: Drop, S: NewSource> MergeUnbounded<St, S> {
 
     /// Drops each stream that is held, with the groups. The limit stays, and later sources are made as before.
     ///
-    /// Takes time in proportion to the slots of all groups, and no memory. Wakes a task that waits, as that of `FuturesUnordered` does.
+    /// Takes time in proportion to the slots of all groups, and no memory. Wakes a task that waits, as that of
+    /// `FuturesUnordered` does.
     pub fn clear(&mut self)
         ensures { self.new ≡ no_groups self.old.limit }
     {
@@ -189,7 +208,11 @@ impl<St: SlotStream<S::Waker>, S: NewSource> Stream for MergeUnbounded<St, S> {
 
     /// One poll: each group that stands as the poll begins is asked once, in turn, until one gives an item.
     ///
-    /// A stream that gives an item stays, and its slot is marked. A stream that ends is dropped. A group that is asked and holds nothing any more is dropped, unless it is the last. `Ready(None)` where no stream is held any more. A group that is asked registers the task, at each of its counts, until one is pending. Takes no memory but what the calls of the source take. Takes time in proportion to the number of groups, to the names taken and to the slots of groups that are dropped, besides the polls.
+    /// A stream that gives an item stays, and its slot is marked. A stream that ends is dropped. A group that is asked
+    /// and holds nothing any more is dropped, unless it is the last. `Ready(None)` where no stream is held any more. A
+    /// group that is asked registers the task, at each of its counts, until one is pending. Takes no memory but what
+    /// the calls of the source take. Takes time in proportion to the number of groups, to the names taken and to the
+    /// slots of groups that are dropped, besides the polls.
     fn poll_next(&mut self, cx: &mut Context<'_>) -> Poll<Option<St::Item>>
         requires { EachHeld St.can_poll self.old.groups.listed }
         ensures polls { PollsMergeUnbounded St.SlotStream S.ReadySource
@@ -212,16 +235,20 @@ impl<St: SlotStream<S::Waker>, S: NewSource> FusedStream for MergeUnbounded<St, 
     }
 }
 
-/// After any polls of one merge the items that were given are those of the streams that it held at first: the items of each in its order, none lost and none twice. A group that has left holds no stream, and a stream that is still held is as its polls left it.
+/// After any polls of one merge the items that were given are those of the streams that it held at first: the items of
+/// each in its order, none lost and none twice. A group that has left holds no stream, and a stream that is still held
+/// is as its polls left it.
 ///
-/// This is of the words that a poll's contract says of each poll. Nothing is done.
+/// A law of the relation in the contract of a poll. Its body is empty.
 pub fn polls_keep_order<St: SlotStream<S::Waker>, S: NewSource>()
     ensures { KeepsOrderInGroups St.polled S.steps S.marks }
 {}
 
-/// The same, with pushes between the polls: the items are those of the streams that were held at first or pushed, none lost and none twice. The items of a slot are those of the streams that it held one after another, of each in its order, and each of these but the last gave its end before the next came.
+/// The same, with pushes between the polls: the items are those of the streams that were held at first or pushed, none
+/// lost and none twice. The items of a slot are those of the streams that it held one after another, of each in its
+/// order, and each of these but the last gave its end before the next came.
 ///
-/// This is of the words that the contracts of a push and of a poll say. Nothing is done.
+/// A law of the relations in the contracts of a push and of a poll. Its body is empty.
 pub fn polls_and_pushes_keep_order<St: SlotStream<S::Waker>, S: NewSource>()
     ensures { KeepsOrderInGroupsWithPushes St.polled S.steps S.marks S.made }
 {}
@@ -242,7 +269,8 @@ impl<St: Drop> MergeUnbounded<St, SharedReady> {
         Self::without_groups((), alloc, limit)
     }
 
-    /// A merge of these streams, pushed in order, whatever the iterator says of their number. It is `over` with shared sources, and refuses as `over` does.
+    /// A merge of these streams, pushed in order, whatever the iterator says of their number. It is `over` with shared
+    /// sources, and refuses as `over` does.
     pub fn from_iter<I: IntoIterator<Item = St>>(alloc: Global, iter: I) -> Result<Self, NewFault>
         requires { IsFiniteSource I.IntoIterator I.IntoIter.Iterator iter }
         ensures { MakesExtended I.IntoIterator I.IntoIter.Iterator iter

@@ -4,7 +4,8 @@ ghost use Rattle.futures.specs.Poll.{IfReady};
 ghost use Rattle.futures.specs.Task.{Covers};
 ghost use Rattle.futures_buffered_core.specs.SlotMap.{held_count};
 ghost use Rattle.futures_buffered_unordered.specs.FuturesUnorderedBounded.{AsksSet, AsksSetTask, AsksUntil, LeavesTask};
-ghost use Rattle.futures_buffered_merges.specs.Merging.{CanAsk, CountGives, MergeGives, PollsStreams, PollsStreamsTask, RegistersUnless};
+ghost use Rattle.futures_buffered_merges.specs.Merging.{CanAsk, CountGives, MergeGives, PollsStreams, PollsStreamsTask};
+ghost use Rattle.futures_buffered_merges.specs.Merging.{RegistersUnless};
 
 use crate::slot_stream::{PollStream, SlotStream};
 use futures::task::{Context, Poll};
@@ -62,7 +63,9 @@ fn poll_count<St: SlotStream<S::Waker>, S: ReadySource>(
     }
 }
 
-// One poll. Each count begins with a registration of the task, or none does, where the task is registered with a group beside this one: a further registration would hold the place of its waker, and a wake of a slot of that group would find it taken.
+// One poll. Each count begins with a registration of the task, or none does, where the task is registered with a group
+// beside this one: a further registration would hold the place of its waker, and a wake of a slot of that group would
+// find it taken.
 pub(crate) fn poll_streams<St: SlotStream<S::Waker>, S: ReadySource>(
     set: &mut FuturesUnorderedBounded<St, S>,
     cx: &mut Context<'_>,

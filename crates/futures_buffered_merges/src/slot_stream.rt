@@ -7,7 +7,11 @@ use futures_buffered_unordered::poll_one::PollOne;
 
 /// A stream that is polled with the waker `W` of its slot, in place of a task's context.
 ///
-/// A merge polls it when its slot is named, so a pending stream arranges for that waker to be woken, or is polled no more. The source lends that waker for this poll alone, as to a `SlotFuture`. An impl says by `can_poll` which values may be polled, by default all, and by `polled` what a poll with the waker of a slot may answer and leave, by default anything. After an item, and after a pending answer, it may be polled again. One that keeps its waker, or wakes it, asks for a `W: SlotWaker`.
+/// A merge polls it when its slot is named, so a pending stream arranges for that waker to be woken, or is polled no
+/// more. The source lends that waker for this poll alone, as to a `SlotFuture`. An impl says by `can_poll` which values
+/// may be polled, by default all, and by `polled` what a poll with the waker of a slot may answer and leave, by default
+/// anything. After an item, and after a pending answer, it may be polled again. One that keeps its waker, or wakes it,
+/// asks for a `W: SlotWaker`.
 pub trait SlotStream<W: SlotHandle>: Drop {
     ghost use Rattle.std.specs.Prelude.{⊤, Option, OnSome};
     ghost use Rattle.futures.specs.Poll.{IfReady, OnPending};

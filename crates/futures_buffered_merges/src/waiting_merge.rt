@@ -11,7 +11,8 @@ use std::io;
 use std::random::RandomSource;
 use std::sync::Wait;
 
-/// Waits for the next item of a merge, or its end, and gives the merge back with it, so that all that is known of the merge is known still.
+/// Waits for the next item of a merge, or its end, and gives the merge back with it, so that all that is known of the
+/// merge is known still.
 #[derive(Drop)]
 pub struct WaitingMerge<St> {
     merge: Option<InFlightMerge<St>>,
@@ -41,14 +42,16 @@ impl<St: Stream<Item: Drop>> Future for WaitingMerge<St> {
 }
 
 impl<St: Stream<Item: Drop>> InFlightMerge<St> {
-    /// The merge, as a future that is ready with its next item, or with `None` where nothing is held any more, and with the merge.
+    /// The merge, as a future that is ready with its next item, or with `None` where nothing is held any more, and with
+    /// the merge.
     pub fn into_next(self) -> WaitingMerge<St>
         ensures { result.merge ≡ Some self }
     {
         WaitingMerge { merge: Some(self) }
     }
 
-    /// Blocks the thread until the next item comes, or the end, and gives the merge back. The merge is dropped where the thread cannot wait.
+    /// Blocks the thread until the next item comes, or the end, and gives the merge back. The merge is dropped where
+    /// the thread cannot wait.
     pub fn wait<R>(self, rt: &R) -> io::Result<(Option<St::Item>, InFlightMerge<St>)>
     where
         R: Wait + RandomSource + AllocGlobal,

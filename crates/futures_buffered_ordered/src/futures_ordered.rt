@@ -1,6 +1,7 @@
 //! A queue of any number of futures in progress, which yields outputs in the order of its entries.
 //!
-//! The futures stand in a set that grows by groups. Each has an entry in a list, to which pushes add at either end. A poll yields the front alone: an output that comes before its turn is kept in its entry.
+//! The futures stand in a set that grows by groups. Each has an entry in a list, to which pushes add at either end. A
+//! poll yields the front alone: an output that comes before its turn is kept in its entry.
 ghost use Rattle.std.specs.Prelude.{◌≡◌, ◌↔◌, ◌≤◌, [], length, IsTrue};
 ghost use Rattle.futures_buffered_core.specs.Drawn.{IsFiniteSource};
 ghost use Rattle.futures_buffered_core.specs.Made.{MakesGroup};
@@ -8,8 +9,12 @@ ghost use Rattle.futures_buffered_core.specs.ReadyShared.{IsNewShared, MarksShar
 ghost use Rattle.futures_buffered_unordered.specs.FuturesUnordered.{AnyNeeds, SetMayRefuse, SetRefuses, no_groups};
 ghost use Rattle.futures_buffered_unordered.specs.PollsGrowing.{PollsGrowing};
 ghost use Rattle.futures_buffered_unordered.specs.Extended.{Extends, MakesGrown};
-ghost use Rattle.futures_buffered_ordered.specs.OrderedEntries.{AddsBack, AddsFront, AddsOrStays, IsLength, PushesOrHandsBack, QueueIsAtBound, RefusesOne, without_entries};
-ghost use Rattle.futures_buffered_ordered.specs.FuturesOrdered.{EachInProgress, GrowingPushesNumber, IsNewGrowingQueue, PollsOrderedGrowing, SameLimit, growing_numbers, held_in_groups, held_in_groups_with};
+ghost use Rattle.futures_buffered_ordered.specs.OrderedEntries.{AddsBack, AddsFront, AddsOrStays, IsLength};
+ghost use Rattle.futures_buffered_ordered.specs.OrderedEntries.{PushesOrHandsBack, QueueIsAtBound, RefusesOne};
+ghost use Rattle.futures_buffered_ordered.specs.OrderedEntries.{without_entries};
+ghost use Rattle.futures_buffered_ordered.specs.FuturesOrdered.{EachInProgress, GrowingPushesNumber, IsNewGrowingQueue};
+ghost use Rattle.futures_buffered_ordered.specs.FuturesOrdered.{PollsOrderedGrowing, SameLimit, growing_numbers};
+ghost use Rattle.futures_buffered_ordered.specs.FuturesOrdered.{held_in_groups, held_in_groups_with};
 ghost use Rattle.futures_buffered_ordered.specs.Numbered.{of_numbered};
 
 use crate::numbered::{Numbered, PollNumbered};
@@ -31,7 +36,8 @@ impl<T: Drop, S: NewSource> NumberedSet for FuturesUnordered<Numbered<T>, S> {
     ghost use Rattle.std.specs.Prelude.{⊤};
     ghost use Rattle.futures_buffered_ordered.specs.Numbered.{PushesInto};
     ghost use Rattle.futures_buffered_unordered.specs.FuturesUnordered.{SetMayRefuse, SetRefuses};
-    ghost use Rattle.futures_buffered_ordered.specs.FuturesOrdered.{GrowingPushesNumber, SameLimit, held_in_groups, held_in_groups_with};
+    ghost use Rattle.futures_buffered_ordered.specs.FuturesOrdered.{GrowingPushesNumber, SameLimit, held_in_groups};
+    ghost use Rattle.futures_buffered_ordered.specs.FuturesOrdered.{held_in_groups_with};
 
     type Future = T;
 
@@ -91,7 +97,12 @@ impl<T: Drop, S: NewSource, R: PollOne<T, S::Waker>> PollNumberedSet<R>
 
 /// Any number of futures, whose outputs come in the order of a list, with additions at both ends.
 ///
-/// A contract sees the set that holds the futures in progress, each with a number, the entries from the front to the back, where one in progress has the number of its future, and how many entries there is a place for. Of a number it says no more than which entry and which future have it. A push, the keeping of an output and its yielding take the same time at any length; where a push finds as many entries as there is room for, the list grows, and where the last group is full, the set does, which over many pushes is the same time for each. The calls wait for nobody where those of the source do not.
+/// A contract sees the set that holds the futures in progress, each with a number, the entries from the front to the
+/// back, where one in progress has the number of its future, and how many entries there is a place for. Of a number it
+/// says no more than which entry and which future have it. A push, the keeping of an output, its yielding, and calls
+/// that ask how much is held take the same time at any length and any number of groups; where a push finds as many
+/// entries as there is room for, the list grows, and where the last group is full, the set does, which over many pushes
+/// is the same time for each. The calls wait for nobody where those of the source do not.
 #[derive(Drop)]
 pub struct GrowingQueue<T: Drop, A: Drop, S: NewSource> {
     queue: OrderedEntries<FuturesUnordered<Numbered<T>, S>, A>,
@@ -106,7 +117,8 @@ pub type FuturesOrdered<T, S> = GrowingQueue<
 
 impl<T: Drop, A: Drop, S: NewSource> Model for GrowingQueue<T, A, S> {
     ghost use Rattle.futures_buffered_ordered.specs.OrderedEntriesInvariant.{IsNumbered};
-    ghost use Rattle.futures_buffered_ordered.specs.FuturesOrdered.{OrderedGrowing, held_in_groups, held_in_groups_with};
+    ghost use Rattle.futures_buffered_ordered.specs.FuturesOrdered.{OrderedGrowing, held_in_groups};
+    ghost use Rattle.futures_buffered_ordered.specs.FuturesOrdered.{held_in_groups_with};
 
     ghost Value = { OrderedGrowing T A S };
 
@@ -116,14 +128,14 @@ impl<T: Drop, A: Drop, S: NewSource> Model for GrowingQueue<T, A, S> {
 }
 
 impl<T: Drop, A: Drop, S: NewSource> GrowingQueue<T, A, S> {
-    /// The number of entries, in progress and kept. Takes the same time at any length.
+    /// The number of entries, in progress and kept.
     pub fn len(&self) -> usize
         ensures { IsLength held_in_groups_with held_in_groups self.now result }
     {
         self.queue.len()
     }
 
-    /// Whether there is no entry. Takes the same time at any length.
+    /// Whether there is no entry.
     pub fn is_empty(&self) -> bool
         ensures { IsTrue result ↔ (length self.now.entries ≡ 0) }
     {
@@ -137,9 +149,13 @@ impl<T: Drop, A: Drop, S: NewSource> GrowingQueue<T, A, S> {
         self.queue.set.limit()
     }
 
-    /// Adds the future behind all others, in progress. It goes into the set as its `push` does, so that a later poll polls it.
+    /// Adds the future behind all others, in progress. It goes into the set as its `push` does, so that a later poll
+    /// polls it.
     ///
-    /// The future comes back where the queue has `MAX_LEN` entries, where the set refuses it, and where a request for memory was refused; no entry and no future has changed then. Asks for memory only where there are as many entries as places for them, and where the last group is full. Polls nothing. A caller should count on no wake from it, though one that makes a group may wake the task that waits.
+    /// The future comes back where the queue has `MAX_LEN` entries, where the set refuses it, and where a request for
+    /// memory was refused; no entry and no future has changed then. Asks for memory only where there are as many
+    /// entries as places for them, and where the last group is full. Polls nothing. A caller should count on no wake
+    /// from it, though one that makes a group may wake the task that waits.
     pub fn push_back(&mut self, future: T) -> Result<(), T>
         ensures { PushesOrHandsBack AddsBack (growing_numbers S.ReadySource S.made)
             self.old future result self.new }
@@ -155,7 +171,8 @@ impl<T: Drop, A: Drop, S: NewSource> GrowingQueue<T, A, S> {
         self.queue.add_front(future)
     }
 
-    /// As `push_back`, for a caller that has no use for a future that is refused: it is dropped, no entry and no other future has changed, and the error says why. So `?` takes it.
+    /// As `push_back`, for a caller that has no use for a future that is refused: it is dropped, no entry and no other
+    /// future has changed, and the error says why. So `?` takes it.
     pub fn add_back(&mut self, future: T) -> Result<(), NewFault>
         ensures { AddsOrStays AddsBack (growing_numbers S.ReadySource S.made)
             self.old future result self.new }
@@ -177,7 +194,8 @@ impl<T: Drop, A: Drop, S: NewSource> GrowingQueue<T, A, S> {
         Ok(())
     }
 
-    /// Adds each item at the back, in order, as `push_back` does. The first that is refused comes back; those before it stay, and the iterator is asked for no further one.
+    /// Adds each item at the back, in order, as `push_back` does. The first that is refused comes back; those before it
+    /// stay, and the iterator is asked for no further one.
     pub fn extend<I: IntoIterator<Item = T>>(&mut self, iter: I) -> Result<(), T>
         requires { IsFiniteSource I.IntoIterator I.IntoIter.Iterator iter }
         ensures { Extends I.IntoIterator I.IntoIter.Iterator iter
@@ -189,7 +207,8 @@ impl<T: Drop, A: Drop, S: NewSource> GrowingQueue<T, A, S> {
 
     /// Drops each entry: the future that is in progress, with the groups, or the output that is kept.
     ///
-    /// There is a place for as many entries as before. Takes no memory, and time in proportion to the slots of the groups and the entries, besides the drops. Wakes a task that waits, as that of `FuturesUnordered` does.
+    /// There is a place for as many entries as before. Takes no memory, and time in proportion to the slots of the
+    /// groups and the entries, besides the drops. Wakes a task that waits, as that of `FuturesUnordered` does.
     pub fn clear(&mut self)
         ensures { self.new ≡ without_entries (no_groups self.old.set.limit) self.old }
     {
@@ -199,7 +218,10 @@ impl<T: Drop, A: Drop, S: NewSource> GrowingQueue<T, A, S> {
 
     /// One poll of the queue, where `rule` says how one held future is polled.
     ///
-    /// `Ready(None)` where there is no entry. A front whose output is kept leaves with it, and the set is not asked. Else the set is polled again and again: each output that it gives is kept in its entry, until the front's has come and is yielded, or the set answers `Pending`. Takes no memory but what the calls of the source take. Takes the time of the set's polls, of which there is at most one more than outputs came.
+    /// `Ready(None)` where there is no entry. A front whose output is kept leaves with it, and the set is not asked.
+    /// Else the set is polled again and again: each output that it gives is kept in its entry, until the front's has
+    /// come and is yielded, or the set answers `Pending`. Takes no memory but what the calls of the source take. Takes
+    /// the time of the set's polls, of which there is at most one more than outputs came.
     pub fn poll_with<R: PollOne<T, S::Waker, Output = A>>(
         &mut self,
         rule: &R,
@@ -212,9 +234,8 @@ impl<T: Drop, A: Drop, S: NewSource> GrowingQueue<T, A, S> {
         self.queue.poll_entries(rule, cx)
     }
 
-    /// Whether nothing more goes in: the queue has `MAX_LEN` entries, or its set is at its bound. A push is refused then, and else only where a request for memory is.
-    ///
-    /// Takes the same time at any length and any number of groups.
+    /// Whether nothing more goes in: the queue has `MAX_LEN` entries, or its set is at its bound. A push is refused
+    /// then, and else only where a request for memory is.
     pub fn is_at_bound(&self) -> bool
         ensures { IsTrue result ↔ QueueIsAtBound SetRefuses self.now }
     {
@@ -234,16 +255,18 @@ impl<T: Drop, A: Drop, S: NewSource> GrowingQueue<T, A, S> {
 }
 
 impl<T: SlotFuture<S::Waker, Output = A>, A: Drop, S: NewSource> GrowingQueue<T, A, S> {
-    /// An empty queue over sources that are made by `env`, which it keeps. It has one group of `n` slots, or none where `n` is 0, and a place for `n` entries.
+    /// An empty queue over sources that are made by `env`, which it keeps. It has one group of `n` slots, or none where
+    /// `n` is 0, and a place for `n` entries.
     ///
-    /// Takes time and memory in proportion to `n`. `TooLarge` where `n` is above `MAX_CAPACITY`, and `Memory` where a request for memory was refused.
+    /// Takes time and memory in proportion to `n`.
     pub fn over(env: S::Env, alloc: Global, n: usize) -> Result<Self, NewFault>
         ensures { MakesGroup n (IsNewGrowingQueue S.made n POLL_LIMIT) result }
     {
         Self::over_limit(env, alloc, n, POLL_LIMIT)
     }
 
-    /// As `over`, where one poll of the set takes at most `limit` names from each group, also from those that are made later.
+    /// As `over`, where one poll of the set takes at most `limit` names from each group, also from those that are made
+    /// later.
     pub fn over_limit(env: S::Env, alloc: Global, n: usize, limit: usize) -> Result<Self, NewFault>
         requires { 1 ≤ limit }
         ensures { MakesGroup n (IsNewGrowingQueue S.made n limit) result }
@@ -265,14 +288,16 @@ impl<T: SlotFuture<SharedWaker, Output = A>, A: Drop> GrowingQueue<T, A, SharedR
         }
     }
 
-    /// An empty queue with one group of `n` slots, or none where `n` is 0, and a place for `n` entries, whose futures are woken from any thread. It is `over` with shared sources, and refuses as `over` does.
+    /// An empty queue with one group of `n` slots, or none where `n` is 0, and a place for `n` entries, whose futures
+    /// are woken from any thread. It is `over` with shared sources, and refuses as `over` does.
     pub fn with_capacity(alloc: Global, n: usize) -> Result<Self, NewFault>
         ensures { MakesGroup n (IsNewGrowingQueue IsNewShared n POLL_LIMIT) result }
     {
         Self::over((), alloc, n)
     }
 
-    /// As `with_capacity`, where one poll of the set takes at most `limit` names from each group, also from those that are made later.
+    /// As `with_capacity`, where one poll of the set takes at most `limit` names from each group, also from those that
+    /// are made later.
     pub fn with_limit(alloc: Global, n: usize, limit: usize) -> Result<Self, NewFault>
         requires { 1 ≤ limit }
         ensures { MakesGroup n (IsNewGrowingQueue IsNewShared n limit) result }
@@ -280,9 +305,12 @@ impl<T: SlotFuture<SharedWaker, Output = A>, A: Drop> GrowingQueue<T, A, SharedR
         Self::over_limit((), alloc, n, limit)
     }
 
-    /// A queue of the items, each added at the back, in order. Its first group has as many slots as the iterator says that it has items at least, and not fewer than `FIRST_GROUP`.
+    /// A queue of the items, each added at the back, in order. Its first group has as many slots as the iterator says
+    /// that it has items at least, and not fewer than `FIRST_GROUP`.
     ///
-    /// Takes time and memory in proportion to the number of items and to that first number. Where it is refused, the items that came are dropped: `TooLarge` where that number or a later group is too large, or more than `MAX_LEN` came, and `Memory` where a request for memory was refused.
+    /// Takes time and memory in proportion to the number of items and to that first number. Where it is refused, the
+    /// items that came are dropped: `TooLarge` where that number or a later group is too large, or more than `MAX_LEN`
+    /// came.
     pub fn from_iter<I: IntoIterator<Item = T>>(alloc: Global, iter: I) -> Result<Self, NewFault>
         requires { IsFiniteSource I.IntoIterator I.IntoIter.Iterator iter }
         ensures { MakesGrown I.IntoIterator I.IntoIter.Iterator iter

@@ -1,6 +1,7 @@
 //! A queue of as many futures in progress as it has slots, which yields outputs in the order of its entries.
 //!
-//! The futures stand in a bounded set. Each has an entry in a list, to which pushes add at either end. A poll yields the front alone: an output that comes before its turn is kept in its entry.
+//! The futures stand in a bounded set. Each has an entry in a list, to which pushes add at either end. A poll yields
+//! the front alone: an output that comes before its turn is kept in its entry.
 ghost use Rattle.std.specs.Prelude.{◌≡◌, ◌↔◌, ◌<◌, ◌≤◌, length, IsOk, IsTrue};
 ghost use Rattle.futures_buffered_core.specs.Drawn.{IsFiniteSource};
 ghost use Rattle.futures_buffered_core.specs.Made.{MakesSlots};
@@ -10,8 +11,12 @@ ghost use Rattle.futures_buffered_unordered.specs.FuturesUnorderedBounded.{empti
 ghost use Rattle.futures_buffered_unordered.specs.Extended.{Extends, MakesFull};
 ghost use Rattle.futures_buffered_unordered.specs.PollsBounded.{PollsBounded};
 ghost use Rattle.futures_buffered_ordered.specs.Numbered.{held_with, of_numbered};
-ghost use Rattle.futures_buffered_ordered.specs.OrderedEntries.{AddsBack, AddsFront, IsLength, PushesOrHandsBack, RefusesOne, without_entries};
-ghost use Rattle.futures_buffered_ordered.specs.FuturesOrderedBounded.{EachRunning, HoldsInOrder, IsNewBoundedQueue, PollsOrderedBounded, PushesEntry, PushesNumber, QueueIsFull, SameSize, SetIsFull, TakesFewNames, bounded_numbers};
+ghost use Rattle.futures_buffered_ordered.specs.OrderedEntries.{AddsBack, AddsFront, IsLength, PushesOrHandsBack};
+ghost use Rattle.futures_buffered_ordered.specs.OrderedEntries.{RefusesOne, without_entries};
+ghost use Rattle.futures_buffered_ordered.specs.FuturesOrderedBounded.{EachRunning, HoldsInOrder, IsNewBoundedQueue};
+ghost use Rattle.futures_buffered_ordered.specs.FuturesOrderedBounded.{PollsOrderedBounded, PushesEntry, PushesNumber};
+ghost use Rattle.futures_buffered_ordered.specs.FuturesOrderedBounded.{QueueIsFull, SameSize, SetIsFull, TakesFewNames};
+ghost use Rattle.futures_buffered_ordered.specs.FuturesOrderedBounded.{bounded_numbers};
 
 use crate::numbered::{Numbered, PollNumbered};
 use crate::numbered_set::{NumberedSet, PollNumberedSet};
@@ -95,7 +100,12 @@ impl<T: Drop, S: ReadySource, R: PollOne<T, S::Waker>> PollNumberedSet<R>
 
 /// Futures whose outputs come in the order of a list, with additions at both ends.
 ///
-/// A contract sees the set that holds the futures in progress, each with a number, the entries from the front to the back, where one in progress has the number of its future, and how many entries there is a place for. Outputs that are kept take no slot, so `len` may pass `capacity`. A push, the keeping of an output and its yielding take the same time at any length; where a push finds as many entries as there is room for, the list grows, which over many pushes is the same time for each. The calls wait for nobody where those of the source do not.
+/// A contract sees the set that holds the futures in progress, each with a number, the entries from the front to the
+/// back, where one in progress has the number of its future, and how many entries there is a place for. Outputs that
+/// are kept take no slot, so `len` may pass `capacity`. A push, the keeping of an output, its yielding, and calls that
+/// ask how much is held take the same time at any length; where a push finds as many entries as there is room for, the
+/// list grows, which over many pushes is the same time for each. The calls wait for nobody where those of the source do
+/// not.
 #[derive(Drop)]
 pub struct BoundedQueue<T: Drop, A: Drop, S: ReadySource> {
     queue: OrderedEntries<FuturesUnorderedBounded<Numbered<T>, S>, A>,
@@ -120,21 +130,21 @@ impl<T: Drop, A: Drop, S: ReadySource> Model for BoundedQueue<T, A, S> {
 }
 
 impl<T: Drop, A: Drop, S: ReadySource> BoundedQueue<T, A, S> {
-    /// The number of entries, in progress and kept. Takes the same time at any length.
+    /// The number of entries, in progress and kept.
     pub fn len(&self) -> usize
         ensures { IsLength held_with held_in self.now result }
     {
         self.queue.len()
     }
 
-    /// Whether there is no entry. Takes the same time at any length.
+    /// Whether there is no entry.
     pub fn is_empty(&self) -> bool
         ensures { IsTrue result ↔ (length self.now.entries ≡ 0) }
     {
         self.queue.is_empty()
     }
 
-    /// The number of slots, which never changes. Takes the same time at any length.
+    /// The number of slots, which never changes.
     pub fn capacity(&self) -> usize
         ensures { result ≡ slot_count self.now.set.slots }
     {
@@ -148,7 +158,7 @@ impl<T: Drop, A: Drop, S: ReadySource> BoundedQueue<T, A, S> {
         self.queue.set.limit()
     }
 
-    /// Whether each slot holds a future in progress. Kept outputs do not count. Takes the same time at any length.
+    /// Whether each slot holds a future in progress. Kept outputs do not count.
     pub fn is_full(&self) -> bool
         ensures { IsTrue result ↔ QueueIsFull self.now }
     {
@@ -167,9 +177,13 @@ impl<T: Drop, A: Drop, S: ReadySource> BoundedQueue<T, A, S> {
         self.queue.set.mark_slot(i)
     }
 
-    /// Adds the future behind all others, in progress. It goes into a slot, which is marked, so that a later poll polls it.
+    /// Adds the future behind all others, in progress. It goes into a slot, which is marked, so that a later poll polls
+    /// it.
     ///
-    /// The future comes back, and no entry has changed, where the queue is full, where it has `MAX_LEN` entries, and where a request for memory was refused. Asks for memory only where there are as many entries as places for them, which are never fewer than the slots: so it succeeds wherever `len` is below `capacity`. Polls nothing, and wakes nobody.
+    /// The future comes back, and no entry has changed, where the queue is full, where it has `MAX_LEN` entries, and
+    /// where a request for memory was refused. Asks for memory only where there are as many entries as places for them,
+    /// which are never fewer than the slots: so it succeeds wherever `len` is below `capacity`. Polls nothing, and
+    /// wakes nobody.
     pub fn try_push_back(&mut self, future: T) -> Result<(), T>
         ensures push { PushesOrHandsBack AddsBack (bounded_numbers S.ReadySource)
             self.old future result self.new }
@@ -209,7 +223,8 @@ impl<T: Drop, A: Drop, S: ReadySource> BoundedQueue<T, A, S> {
         }
     }
 
-    /// Adds each item at the back, in order, as `try_push_back` does. The first that is refused comes back; those before it stay, and the iterator is asked for no further one.
+    /// Adds each item at the back, in order, as `try_push_back` does. The first that is refused comes back; those
+    /// before it stay, and the iterator is asked for no further one.
     pub fn extend<I: IntoIterator<Item = T>>(&mut self, iter: I) -> Result<(), T>
         requires { IsFiniteSource I.IntoIterator I.IntoIter.Iterator iter }
         ensures extends { Extends I.IntoIterator I.IntoIter.Iterator iter
@@ -219,9 +234,12 @@ impl<T: Drop, A: Drop, S: ReadySource> BoundedQueue<T, A, S> {
         self.queue.extend(iter)
     }
 
-    /// Drops each entry: the future that is in progress, or the output that is kept. Each slot is free then, and slot 0 is the first to be used again.
+    /// Drops each entry: the future that is in progress, or the output that is kept. Each slot is free then, and slot 0
+    /// is the first to be used again.
     ///
-    /// A slot that was marked stays marked, as with `clear` of the set. There is a place for as many entries as before. Takes no memory, and time in proportion to the capacity and the entries, besides the drops. Wakes nobody itself; what is dropped may.
+    /// A slot that was marked stays marked, as with `clear` of the set. There is a place for as many entries as before.
+    /// Takes no memory, and time in proportion to the capacity and the entries, besides the drops. Wakes nobody itself;
+    /// what is dropped may.
     pub fn clear(&mut self)
         ensures { self.new ≡ without_entries (emptied self.old.set) self.old }
     {
@@ -231,7 +249,10 @@ impl<T: Drop, A: Drop, S: ReadySource> BoundedQueue<T, A, S> {
 
     /// One poll of the queue, where `rule` says how one held future is polled.
     ///
-    /// `Ready(None)` where there is no entry. A front whose output is kept leaves with it, and the source is not asked. Else the set is polled again and again: each output that it gives is kept in its entry, until the front's has come and is yielded, or the set answers `Pending`. Takes no memory but what the calls of the source take. Takes at most `limit` names for each future in progress, and the time of the polls of what these hold.
+    /// `Ready(None)` where there is no entry. A front whose output is kept leaves with it, and the source is not asked.
+    /// Else the set is polled again and again: each output that it gives is kept in its entry, until the front's has
+    /// come and is yielded, or the set answers `Pending`. Takes no memory but what the calls of the source take. Takes
+    /// at most `limit` names for each future in progress, and the time of the polls of what these hold.
     pub fn poll_with<R: PollOne<T, S::Waker, Output = A>>(
         &mut self,
         rule: &R,
@@ -247,7 +268,7 @@ impl<T: Drop, A: Drop, S: ReadySource> BoundedQueue<T, A, S> {
 
 /// Each poll of a queue takes at most `limit` names for each future that is in progress as it begins.
 ///
-/// This is of the words that the contract of a poll says. Nothing is done.
+/// A law of the relation in the contract of a poll. Its body is empty.
 pub fn polls_take_few_names<T, S: ReadySource, R: PollOne<T, S::Waker>>()
     ensures { TakesFewNames R.PollOne S.ReadySource }
 {}
@@ -258,7 +279,7 @@ where
 {
     /// An empty queue of `n` slots over a source made for it.
     ///
-    /// Takes time and memory in proportion to `n`: the slots, the source, and a place for `n` entries. `TooLarge` where `n` is above `MAX_CAPACITY`, and `Memory` where a request for memory was refused.
+    /// Takes time and memory in proportion to `n`: the slots, the source, and a place for `n` entries.
     pub fn over(env: &S::Env, alloc: Global, n: usize) -> Result<Self, NewFault>
         ensures { MakesSlots n (IsNewBoundedQueue S.made n POLL_LIMIT) result }
     {
@@ -296,7 +317,8 @@ where
 }
 
 impl<T: SlotFuture<SharedWaker, Output = A>, A: Drop> BoundedQueue<T, A, SharedReady> {
-    /// An empty queue of `n` slots, whose futures are woken from any thread. It is `over` with a shared source, and refuses as `over` does.
+    /// An empty queue of `n` slots, whose futures are woken from any thread. It is `over` with a shared source, and
+    /// refuses as `over` does.
     pub fn new(alloc: Global, n: usize) -> Result<Self, NewFault>
         ensures { MakesSlots n (IsNewBoundedQueue IsNewShared n POLL_LIMIT) result }
     {
@@ -313,7 +335,7 @@ impl<T: SlotFuture<SharedWaker, Output = A>, A: Drop> BoundedQueue<T, A, SharedR
 
     /// A full queue of the items, each added at the back, in order. It has as many slots as there are items.
     ///
-    /// Takes time and memory in proportion to that number. Where it is refused, the items that came are dropped: `TooLarge` where one more than `MAX_CAPACITY` came, and `Memory` where a request for memory was refused.
+    /// Takes time and memory in proportion to that number. Where it is refused, the items that came are dropped.
     pub fn from_iter<I: IntoIterator<Item = T>>(alloc: Global, iter: I) -> Result<Self, NewFault>
         requires { IsFiniteSource I.IntoIterator I.IntoIter.Iterator iter }
         ensures { MakesFull I.IntoIterator I.IntoIter.Iterator iter (λ q. slots_in q.set)

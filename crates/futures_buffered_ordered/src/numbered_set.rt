@@ -36,7 +36,7 @@ pub trait NumberedSet: Drop {
     // The futures that may be pushed.
     ghost is_fit: { Self.Future → Type 0 };
 
-    /// Whether it refuses each push, whether there is memory or not. Takes the same time at any number of futures.
+    /// Whether it refuses each push, whether there is memory or not.
     fn refuses_all(&self) -> bool
         ensures { IsTrue result ↔ refuses self.now };
 
@@ -73,7 +73,8 @@ pub trait PollNumberedSet<R>: NumberedSet {
     // Where a set that is pending waits.
     ghost needs: { Self → ℕ → Type 0 };
 
-    /// One poll of the set. `Ready(None)` where nothing is held. Takes no memory but what the calls of its sources take.
+    /// One poll of the set. `Ready(None)` where nothing is held. Takes no memory but what the calls of its sources
+    /// take.
     fn poll_numbered(
         &mut self,
         rule: &R,

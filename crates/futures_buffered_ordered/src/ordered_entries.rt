@@ -1,13 +1,20 @@
 //! The entries of an ordered queue, over any set that takes a number with each future.
 //!
-//! Pushes add an entry at either end. A poll yields the front alone: an output that comes before its turn is kept in its entry.
-ghost use Rattle.std.specs.Prelude.{◌≡◌, ◌↔◌, ◌<◌, ◌≤◌, ◌+◌, ℕ, [], ◌∷◌, length, true, false, IfOk, IfErr, OnOk, IsOk, IsErr, IsTrue, MatchOption};
+//! Pushes add an entry at either end. A poll yields the front alone: an output that comes before its turn is kept in
+//! its entry.
+ghost use Rattle.std.specs.Prelude.{◌≡◌, ◌↔◌, ◌<◌, ◌≤◌, ◌+◌, ℕ, [], ◌∷◌, length, true, false, IfOk, IfErr, OnOk, IsOk};
+ghost use Rattle.std.specs.Prelude.{IsErr, IsTrue, MatchOption};
 ghost use Rattle.futures.specs.Poll.{IfReady, OnPending};
 ghost use Rattle.futures_buffered_core.specs.Drawn.{IsFiniteSource};
 ghost use Rattle.futures_buffered_unordered.specs.Extended.{Extends};
 ghost use Rattle.futures_buffered_ordered.specs.declared.ordered_entries.Entry.TheVariants.{Kept};
-ghost use Rattle.futures_buffered_ordered.specs.OrderedEntries.{AddsBack, AddsFront, BesideTask, HandsBack, LastStep, LeavesQueue, MayRefuse, PollsOrdered, PushesOrHandsBack, QueueIsAtBound, RefusesOne, SetYields, Stays, starts_running, with_task, without_entries};
-ghost use Rattle.futures_buffered_ordered.specs.OrderedEntriesInvariant.{AddingKeeps, Admits, CanPollEntries, IsNumbered};
+ghost use Rattle.futures_buffered_ordered.specs.OrderedEntries.{AddsBack, AddsFront, BesideTask, HandsBack, LastStep};
+ghost use Rattle.futures_buffered_ordered.specs.OrderedEntries.{LeavesQueue, MayRefuse, PollsOrdered};
+ghost use Rattle.futures_buffered_ordered.specs.OrderedEntries.{PushesOrHandsBack, QueueIsAtBound, RefusesOne};
+ghost use Rattle.futures_buffered_ordered.specs.OrderedEntries.{SetYields, Stays, starts_running, with_task};
+ghost use Rattle.futures_buffered_ordered.specs.OrderedEntries.{without_entries};
+ghost use Rattle.futures_buffered_ordered.specs.OrderedEntriesInvariant.{AddingKeeps, Admits, CanPollEntries};
+ghost use Rattle.futures_buffered_ordered.specs.OrderedEntriesInvariant.{IsNumbered};
 
 use crate::numbered::Numbered;
 use crate::numbered_set::{NumberedSet, PollNumberedSet};
@@ -30,13 +37,16 @@ pub enum Entry<A> {
 
 /// A set of numbered futures and the list of entries over it.
 ///
-/// A contract sees the set, the entries from the front to the back, how many there is a place for, and the number of the front. It is what the queues are made of. Pushes and polls ask that the numbers are in order, and leave them so; they are where a new one stands over a set that holds nothing.
+/// A contract sees the set, the entries from the front to the back, how many there is a place for, and the number of
+/// the front. It is what the queues are made of. Pushes and polls ask that the numbers are in order, and leave them so;
+/// they are where a new one stands over a set that holds nothing.
 #[derive(Drop)]
 pub struct OrderedEntries<Q: Drop, A: Drop> {
     /// The set that holds the futures in progress.
     pub set: Q,
     entries: VecDeque<Entry<A>>,
-    // The number of the front. Numbers rise by one from entry to entry, and wrap: only their differences count, and there are fewer entries than half the numbers, so none ever changes.
+    // The number of the front. Numbers rise by one from entry to entry, and wrap: only their differences count, and
+    // there are fewer entries than half the numbers, so none ever changes.
     outgoing: usize,
 }
 
@@ -86,21 +96,22 @@ impl<Q: Drop, A: Drop> OrderedEntries<Q, A> {
         })
     }
 
-    /// The number of entries, in progress and kept. Takes the same time at any length.
+    /// The number of entries, in progress and kept.
     pub fn len(&self) -> usize
         ensures { result ≡ length self.now.queue.entries }
     {
         self.entries.len()
     }
 
-    /// Whether there is no entry. Takes the same time at any length.
+    /// Whether there is no entry.
     pub fn is_empty(&self) -> bool
         ensures { IsTrue result ↔ (length self.now.queue.entries ≡ 0) }
     {
         self.entries.is_empty()
     }
 
-    /// Drops each entry, with the output that it keeps. The set stays, so the caller has to take out what is in progress. There is a place for as many entries as before. Takes no memory.
+    /// Drops each entry, with the output that it keeps. The set stays, so the caller has to take out what is in
+    /// progress. There is a place for as many entries as before. Takes no memory.
     pub fn drop_entries(&mut self)
         ensures queue { self.new.queue ≡ without_entries self.old.queue.set self.old.queue }
         ensures first { self.new.outgoing ≡ 0 }
@@ -120,7 +131,8 @@ impl<Q: Drop, A: Drop> OrderedEntries<Q, A> {
 }
 
 impl<Q: NumberedSet, A: Drop> OrderedEntries<Q, A> {
-    // Makes a place for one entry more, and says whether there is one. Asks for no memory where the set would refuse all the same.
+    // Makes a place for one entry more, and says whether there is one. Asks for no memory where the set would refuse
+    // all the same.
     fn reserve_entry(&mut self) -> bool
         ensures stays { Stays self.old.queue self.new.queue }
         ensures same { self.new.outgoing ≡ self.old.outgoing }
@@ -135,7 +147,8 @@ impl<Q: NumberedSet, A: Drop> OrderedEntries<Q, A> {
         self.entries.reserve(1).is_ok()
     }
 
-    // Makes a place for one entry more, and puts the future into the set with this number. The entry is still to come. Where either is refused, the future comes back.
+    // Makes a place for one entry more, and puts the future into the set with this number. The entry is still to come.
+    // Where either is refused, the future comes back.
     fn admit(&mut self, future: Q::Future, number: usize) -> Result<(), Q::Future>
         requires held { Q.takes self.old.queue.set }
         requires fit { Q.is_fit future }
@@ -158,7 +171,9 @@ impl<Q: NumberedSet, A: Drop> OrderedEntries<Q, A> {
 
     /// Adds the future behind all others, in progress, with the next number.
     ///
-    /// The future comes back where the queue has `MAX_LEN` entries, where the set refuses it, and where a request for memory was refused; no entry and no future has changed then. Asks for memory only where there are as many entries as places for them, and where the set does.
+    /// The future comes back where the queue has `MAX_LEN` entries, where the set refuses it, and where a request for
+    /// memory was refused; no entry and no future has changed then. Asks for memory only where there are as many
+    /// entries as places for them, and where the set does.
     pub fn add_back(&mut self, future: Q::Future) -> Result<(), Q::Future>
         requires numbered { IsNumbered Q.with_number Q.count self.old }
         requires held { Q.takes self.old.queue.set }
@@ -192,7 +207,8 @@ impl<Q: NumberedSet, A: Drop> OrderedEntries<Q, A> {
     }
 
     #[tactic(auto, using(crate::proofs::OrderedEntriesLemmas::adds_one_more))]
-    /// Adds each item at the back, in order, as `add_back` does. The first that is refused comes back; those before it stay, and the iterator is asked for no further one.
+    /// Adds each item at the back, in order, as `add_back` does. The first that is refused comes back; those before it
+    /// stay, and the iterator is asked for no further one.
     pub fn extend<I: IntoIterator<Item = Q::Future>>(&mut self, iter: I) -> Result<(), Q::Future>
         requires finite { IsFiniteSource I.IntoIterator I.IntoIter.Iterator iter }
         requires numbered { IsNumbered Q.with_number Q.count self.old }
@@ -265,7 +281,10 @@ impl<Q: NumberedSet, A: Drop> OrderedEntries<Q, A> {
 
     /// One poll of the queue, where `rule` says how one held future is polled.
     ///
-    /// `Ready(None)` where there is no entry. A front whose output is kept leaves with it, and the set is not asked. Else the set is polled again and again: each output that it gives is kept in its entry, until the front's has come and is yielded, or the set answers `Pending`. Takes no memory but what the set's polls take, and their time: there is at most one more of them than outputs came.
+    /// `Ready(None)` where there is no entry. A front whose output is kept leaves with it, and the set is not asked.
+    /// Else the set is polled again and again: each output that it gives is kept in its entry, until the front's has
+    /// come and is yielded, or the set answers `Pending`. Takes no memory but what the set's polls take, and their
+    /// time: there is at most one more of them than outputs came.
     pub fn poll_entries<R>(&mut self, rule: &R, cx: &mut Context<'_>) -> Poll<Option<A>>
     where
         Q: PollNumberedSet<R, Output = A>,

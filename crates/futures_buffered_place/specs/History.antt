@@ -13,10 +13,12 @@ PlaceId = TableId
 abbrev pub place_id_code : Coded PlaceId
 place_id_code = table_id_coded
 
--- the values that a seat put in and those that it took out, each in order; how often it found another seat at the place, and how often it found none kept
+-- what a seat did
 pub record History (O : Type 0) : Type 0 where
+  -- the values that it put in, and those that it took out, each in order
   pub put : List O
   pub taken : List O
+  -- how often it found another seat at the place, and how often it found none kept
   pub busy : ℕ
   pub empty : ℕ
 
@@ -26,8 +28,10 @@ pub record Seated (O : Type 0) : Type 0 where
   pub did : History O
 
 abbrev pub history_code : {O : Type 0} → Coded O → Coded (History O)
-history_code {O} code = code_by (List O × (List O × (ℕ × ℕ))) (coded× (coded_list code) (coded× (coded_list code) (coded× coded_ℕ coded_ℕ)))
-    (λ h. (h.put, (h.taken, (h.busy, h.empty)))) (λ p. record { put = p.0; taken = p.1.0; busy = p.1.1.0; empty = p.1.1.1 }) (λ _. refl)
+history_code {O} code = code_by (List O × (List O × (ℕ × ℕ)))
+    (coded× (coded_list code) (coded× (coded_list code) (coded× coded_ℕ coded_ℕ)))
+    (λ h. (h.put, (h.taken, (h.busy, h.empty))))
+    (λ p. record { put = p.0; taken = p.1.0; busy = p.1.1.0; empty = p.1.1.1 }) (λ _. refl)
 
 abbrev pub seated_code : {O : Type 0} → Coded O → Coded (Seated O)
 seated_code {O} code = code_by (PlaceId × History O) (coded× place_id_code (history_code code))

@@ -40,7 +40,8 @@ abbrev pub taken_by : Hand → ℕ
 taken_by Taken = 1
 taken_by _ = 0
 
--- what the place is between two steps: it keeps nothing; the only poller has the slot, and the word says so to nobody; it keeps a value; a seat has the slot, and the word says so
+-- what the place is between two steps: it keeps nothing; the only poller has the slot, and the word says so to nobody;
+-- it keeps a value; a seat has the slot, and the word says so
 pub data Stage (O : Type 0) : Type 0 where
   vacant : Stage O
   filling : Stage O
@@ -74,40 +75,49 @@ module _ {O : Type 0} where
 
   -- how the place and what all seats know keep themselves
   pub record KeepsPlace (stage : Stage O) (views : List (View O)) : Type 0 where
+    -- at most one seat is the only poller, and then no poller is beside it
     pub one_alone : total (λ (v : View O). alone_by v.right) views ≤ 1
-    pub none_beside : 0 < total (λ (v : View O). alone_by v.right) views → total (λ (v : View O). beside_by v.right) views ≡ 0
+    pub none_beside : 0 < total (λ (v : View O). alone_by v.right) views
+        → total (λ (v : View O). beside_by v.right) views ≡ 0
+    -- no other seat has the slot unseen
     pub by_alone : (j : ℕ) (v : View O) → get_elem? views j ≡ some v → filling_by v.hand ≤ alone_by v.right
+    -- a seat has the slot exactly where the stage says so
     pub filled : total (λ (v : View O). filling_by v.hand) views ≡ filling_count stage
     pub lends : total (λ (v : View O). taken_by v.hand) views ≡ lent_count stage
     -- what was put in is what was taken out and what is kept, however the values are weighed
-    pub balanced : (weight : O → ℕ) → total (λ (v : View O). total weight v.put) views ≡ total (λ (v : View O). total weight v.taken) views + kept_weight weight stage
+    pub balanced : (weight : O → ℕ) → total (λ (v : View O). total weight v.put) views
+        ≡ total (λ (v : View O). total weight v.taken) views + kept_weight weight stage
 
   abbrev pub laid : Stage O → List (View O) → State (Option O) (View O)
   laid stage views = record { words = word_of stage ∷ []; homes = home_of stage ∷ []; views = views }
 
   abbrev pub HoldsPlace : State (Option O) (View O) → Type 0
-  HoldsPlace s = (stage : Stage O) × (s.words ≡ word_of stage ∷ []) × (s.homes ≡ home_of stage ∷ []) × KeepsPlace stage s.views
+  HoldsPlace s = (stage : Stage O) × (s.words ≡ word_of stage ∷ []) × (s.homes ≡ home_of stage ∷ [])
+      × KeepsPlace stage s.views
 
+  -- a poller that stands alone, and did nothing yet
   abbrev pub first_poller : View O
   first_poller = record { right = Alone; hand = Nothing; put = []; taken = []; busy = 0; empty = 0 }
 
+  -- the seat's next view: with the slot in its hand or not; behind a value that it takes out, or puts in; where another seat
+  -- is at the place; where none is kept
   abbrev pub in_hand : View O → Hand → View O
-  in_hand v hand = record { right = v.right; hand = hand; put = v.put; taken = v.taken; busy = v.busy; empty = v.empty }
+  in_hand v hand = record v { hand = hand }
 
   abbrev pub takes_next : View O → O → View O
-  takes_next v x = record { right = v.right; hand = Taken; put = v.put; taken = v.taken ++ x ∷ []; busy = v.busy; empty = v.empty }
+  takes_next v x = record v { hand = Taken; taken = v.taken ++ x ∷ [] }
 
   abbrev pub puts_next : View O → O → View O
-  puts_next v x = record { right = v.right; hand = Nothing; put = v.put ++ x ∷ []; taken = v.taken; busy = v.busy; empty = v.empty }
+  puts_next v x = record v { hand = Nothing; put = v.put ++ x ∷ [] }
 
   abbrev pub leaves_next : View O → View O
   leaves_next v = in_hand v Nothing
 
   abbrev pub busy_next : View O → View O
-  busy_next v = record { right = v.right; hand = v.hand; put = v.put; taken = v.taken; busy = v.busy + 1; empty = v.empty }
+  busy_next v = record v { busy = v.busy + 1 }
 
   abbrev pub empty_next : View O → View O
-  empty_next v = record { right = v.right; hand = v.hand; put = v.put; taken = v.taken; busy = v.busy; empty = v.empty + 1 }
+  empty_next v = record v { empty = v.empty + 1 }
 
   -- the only poller after it has read the word
   abbrev pub alone_looks : View O → ℕ → Me (Option O) (View O)
@@ -151,14 +161,14 @@ module _ {O : Type 0} where
 
   -- a seat that is made to take out
   abbrev pub new_taker : View O
-  new_taker = record { right = Wakes; hand = Nothing; put = []; taken = []; busy = 0; empty = 0 }
+  new_taker = record first_poller { right = Wakes }
 
   -- a poller that gets another beside it, and that other
   abbrev pub beside_of : View O → View O
-  beside_of v = record { right = Beside; hand = v.hand; put = v.put; taken = v.taken; busy = v.busy; empty = v.empty }
+  beside_of v = record v { right = Beside }
 
   abbrev pub new_beside : View O
-  new_beside = record { right = Beside; hand = Nothing; put = []; taken = []; busy = 0; empty = 0 }
+  new_beside = beside_of first_poller
 
   -- the seat is one of this place and has no slot of it
   abbrev pub Rests : TableId → Seat (Option O) (View O) → Type 0
@@ -169,7 +179,8 @@ module _ {O : Type 0} where
 
   -- it has the slot
   abbrev pub HasSlot : TableId → Seat (Option O) (View O) → Type 0
-  HasSlot table seat = (seat.table_id ≡ table) × ((before : Option O) × (seat.me.1 ≡ (0, before) ∷ [])) × (seat.me.0.hand ≢ Nothing)
+  HasSlot table seat = (seat.table_id ≡ table) × ((before : Option O) × (seat.me.1 ≡ (0, before) ∷ []))
+      × (seat.me.0.hand ≢ Nothing)
 
   -- the same seat, with this view and these slots
   abbrev pub Goes : Seat (Option O) (View O) → Me (Option O) (View O) → Seat (Option O) (View O) → Type 0
@@ -177,7 +188,8 @@ module _ {O : Type 0} where
 
   -- a seat has put the value in, and taken out the one before; or found another at the place
   abbrev pub puts_or_meets : View O → O → Put O → View O
-  puts_or_meets v x (Kept before) = record { right = v.right; hand = Nothing; put = v.put ++ x ∷ []; taken = and_taken v.taken before; busy = v.busy; empty = v.empty }
+  puts_or_meets v x (Kept before) =
+      record v { hand = Nothing; put = v.put ++ x ∷ []; taken = and_taken v.taken before }
   puts_or_meets v x (Busy same) = busy_next v
 
   -- where it was not put in, the value comes back
@@ -187,16 +199,19 @@ module _ {O : Type 0} where
 
   -- a seat has taken the value out; or found none kept, or another at the place
   abbrev pub TakesOrMeets : View O → Option O → View O → Type 0
-  TakesOrMeets v (Some x) w = w ≡ record { right = v.right; hand = Nothing; put = v.put; taken = v.taken ++ x ∷ []; busy = v.busy; empty = v.empty }
+  TakesOrMeets v (Some x) w = w ≡ record v { hand = Nothing; taken = v.taken ++ x ∷ [] }
   TakesOrMeets v None w = (w ≡ empty_next v) ⊎ (w ≡ busy_next v)
 
-  -- in every state that the rule allows, what was put in, of all seats together, is what was taken out and what is kept, however the values are weighed
+  -- the weight of what is kept
   abbrev pub kept_at_home : (O → ℕ) → List (maybe.Option (Option O)) → ℕ
   kept_at_home weight [] = 0
   kept_at_home weight (none ∷ homes) = kept_at_home weight homes
   kept_at_home weight (some None ∷ homes) = kept_at_home weight homes
   kept_at_home weight (some (Some x) ∷ homes) = weight x + kept_at_home weight homes
 
+-- in every state that the rule allows, what was put in, of all seats together, is what was taken out and what is kept,
+-- however the values are weighed
 abbrev pub RuleLosesNone : Type 0 → Type 0
 RuleLosesNone O = (s : State (Option O) (View O)) → HoldsPlace s → (weight : O → ℕ) →
-    total (λ (v : View O). total weight v.put) s.views ≡ total (λ (v : View O). total weight v.taken) s.views + kept_at_home weight s.homes
+    total (λ (v : View O). total weight v.put) s.views
+    ≡ total (λ (v : View O). total weight v.taken) s.views + kept_at_home weight s.homes

@@ -1,15 +1,19 @@
 //! Sets of futures that are polled by name: a poll asks a source which slots were woken, and polls what these hold.
 //!
-//! Everything here is found under its own module, and the types and the functions that make joins by their names alone as well.
+//! Everything here is found under its own module, and the types and the functions that make joins by their names alone
+//! as well.
 //!
 //! In the order in which to read them:
 //!
-//! - `slot_future`: `SlotFuture`, what a set holds: a future that is polled with the waker of its slot; `SlotWaker` wakes a slot.
+//! - `slot_future`: `SlotFuture`, what a set holds: a future that is polled with the waker of its slot; `SlotWaker`
+//!   wakes a slot.
 //! - `poll_one`: `PollOne`, the rule by which one held value is polled, and `PollFuture`, the rule for `SlotFuture`s.
-//! - `fused`: the traits `FusedStream`, `FusedFuture` and `SizeHint`, by which a type says whether it has ended and how much is left.
+//! - `fused`: the traits `FusedStream`, `FusedFuture` and `SizeHint`, by which a type says whether it has ended and how
+//!   much is left.
 //! - `futures_unordered_bounded`: `FuturesUnorderedBounded`, as many futures as it has slots, yielded as they finish.
 //! - `futures_unordered`: `FuturesUnordered`, any number of futures, in groups of slots.
-//! - `futures_ordered_bounded`: `FuturesOrderedBounded`, as many futures in progress as it has slots, yielded in the order of a list.
+//! - `futures_ordered_bounded`: `FuturesOrderedBounded`, as many futures in progress as it has slots, yielded in the
+//!   order of a list.
 //! - `futures_ordered`: `FuturesOrdered`, the same for any number of futures.
 //! - `join`: `join_all` and `JoinAll`, all of some futures, whose outputs come together.
 //! - `try_join`: `try_join_all` and `TryJoinAll`, the same where futures may fail.

@@ -1,4 +1,5 @@
-// Sets over `CoreSource`, and one beside another: each constructor that takes a source, at more slots than two bytes can count.
+// Sets over `CoreSource`, and one beside another: each constructor that takes a source, at more slots than two bytes
+// can count.
 use crate::same::assert_same;
 use futures::test::MockTask;
 use futures_buffered_core::ready_core::{NewFault, Woke};

@@ -33,7 +33,8 @@ struct Held<R: Wait + Clone + Drop> {
     wakers: Vec<SharedWaker>,
 }
 
-// What a poll shows: whether the task was woken before it, whether it is pending, how many polls of futures were made by then, and the
+// What a poll shows: whether the task was woken before it, whether it is pending, how many polls of futures were made
+// by then, and the
 // slot of the waker that was kept last.
 type Seen = (bool, bool, u64, Option<usize>);
 

@@ -43,7 +43,8 @@ pub fn feed<R: Clone + Drop>(env: &R, alloc: Global) -> Result<(Feeder<R>, Fed<R
 }
 
 impl<R: Wait + Drop> Feeder<R> {
-    /// Gives one value, and wakes the stream once the lock of the cell is let go. A value that was not taken yet stays, and this one is dropped.
+    /// Gives one value, and wakes the stream once the lock of the cell is let go. A value that was not taken yet stays,
+    /// and this one is dropped.
     pub fn give(&self, value: u64) {
         let waker = {
             let mut guard = self.cell.lock(&self.rt);

@@ -1,13 +1,17 @@
-//! Tests of sets, ordered queues, joins and merges that files of calls cannot say. What each call answers and whom it wakes stands in
+//! Tests of sets, ordered queues, joins and merges that files of calls cannot say. What each call answers and whom it
+//! wakes stands in
 //! the files of `calls/data`. No crate stands on this one.
 //!
-//! - `core_sources`, `sources`: sets over sources of one caller and of the tests' own, at 70,000 slots; what is dropped with a set.
+//! - `core_sources`, `sources`: sets over sources of one caller and of the tests' own, at 70,000 slots; what is dropped
+//!   with a set.
 //! - `first_group`, `items`: items that are not drawn.
 //! - `slots`, `closures`: the slot that a poll names, and futures that contain a closure.
 //! - `each_wake`: each of 70,000 slots, woken alone.
-//! - `threads`, `answered_wakes`, `many_wakes`: sets on other threads, a thread whose wakes are each answered, and ten million
+//! - `threads`, `answered_wakes`, `many_wakes`: sets on other threads, a thread whose wakes are each answered, and ten
+//!   million
 //!   wakes.
-//! - `queues_..`, `joins_..`, `merges_..`: the same of queues, joins and merges; 2,000 kept outputs, and what `extend` leaves of its
+//! - `queues_..`, `joins_..`, `merges_..`: the same of queues, joins and merges; 2,000 kept outputs, and what `extend`
+//!   leaves of its
 //!   iterator.
 //! - `feed`, `ends`: a stream that another thread feeds, and what is run to its end.
 //! - `same`: assertions as calls.

@@ -149,7 +149,8 @@ fn push_all(merge: &mut BarrenMerge, stream: Barren, count: usize) -> bool {
     true
 }
 
-// So many that end, and one that waits, behind those of the first group: the answer of a poll, and the registrations by then.
+// So many that end, and one that waits, behind those of the first group: the answer of a poll, and the registrations by
+// then.
 fn registrations_with<R: Abort>(
     rt: &R,
     task: &MockTask,
@@ -163,7 +164,8 @@ fn registrations_with<R: Abort>(
     sources.registrations.load(SeqCst)
 }
 
-// A second registration would hold the place of the task's waker, and a wake of a slot of the first group would leave that slot to nobody. A push that makes a group registers nothing, and wakes nobody.
+// A second registration would hold the place of the task's waker, and a wake of a slot of the first group would leave
+// that slot to nobody. A push that makes a group registers nothing, and wakes nobody.
 #[test]
 fn a_poll_of_two_groups_registers_once(rt: HostRuntime) -> Result<(), Fail> {
     let task = MockTask::new(&rt)?;

@@ -14,7 +14,8 @@ pub enum Taken {
     Slot(usize),
     /// There is no slot to name. Over a list of atomic words one may be marked that its waker has not put in yet.
     Empty,
-    /// There may be a slot to name soon: ask again later. A list answers it where it met a mark that was half made, and a `ReadyCore` never.
+    /// There may be a slot to name soon: ask again later. A list answers it where it met a mark that was half made, and
+    /// a `ReadyCore` never.
     Pause,
 }
 
@@ -27,13 +28,14 @@ pub enum Woke {
     Already,
 }
 
-/// Why nothing was made.
+/// Why nothing was made. A constructor whose docs say no more is refused for these two reasons alone.
 #[derive(Clone, Copy, Debug, PartialEq, Eq, Error)]
 pub enum NewFault {
     /// A request for memory was refused, or what was asked for could not be made just now, as the call's docs say.
     #[error("out of memory")]
     Memory,
-    /// More slots, items or entries than there can be. A capacity that is given is tested before any memory is asked for.
+    /// More slots, items or entries than there can be: more than `MAX_CAPACITY`, where the call's docs name no other
+    /// number. A capacity that is given is tested before any memory is asked for.
     #[error("the capacity is too large: at most 4611686018427387903 slots")]
     TooLarge,
 }

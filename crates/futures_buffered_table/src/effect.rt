@@ -1,6 +1,7 @@
 //! What one step does, by the role of the seat that makes it.
 ghost use Rattle.std.specs.Prelude.{◌≡◌, ◌<◌, ◌≤◌, ◌^◌};
-ghost use Rattle.futures_buffered_table.specs.Effect.{InRange, after_slot_read, word_of_role, put_by_role, next_role, reply_of_role};
+ghost use Rattle.futures_buffered_table.specs.Effect.{InRange, after_slot_read, word_of_role, put_by_role, next_role};
+ghost use Rattle.futures_buffered_table.specs.Effect.{reply_of_role};
 
 use crate::answer::{Taken, Woke};
 use crate::step::StepReply;

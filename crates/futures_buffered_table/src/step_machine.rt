@@ -70,7 +70,8 @@ fn seat_and_slot(capacity: usize, roles: &[Role], step: Step) -> Option<(usize, 
 }
 
 impl StepMachine {
-    ghost use Rattle.futures_buffered_table.specs.StepMachine.{CanMake, IsLedTo, IsNew, LeadsOn, MakesStep, PlacesSlots};
+    ghost use Rattle.futures_buffered_table.specs.StepMachine.{CanMake, IsLedTo, IsNew, LeadsOn, MakesStep};
+    ghost use Rattle.futures_buffered_table.specs.StepMachine.{PlacesSlots};
     ghost use Rattle.futures_buffered_table.specs.Answer.{RefusesTooLarge};
 
     /// A machine for an empty list of so many slots.

@@ -2,11 +2,15 @@
 ghost use Rattle.std.specs.Prelude.{◌≡◌, ◌≢◌, ℕ, ◌+◌, ◌<◌, ◌≤◌, List, [], ◌∷◌, ◌++◌};
 ghost use Rattle.futures_buffered_table.specs.declared.answer.Taken.TheVariants.{Empty, Pause, Slot};
 ghost use Rattle.futures_buffered_table.specs.declared.view.AtomicStep.{AtomicStep};
-ghost use Rattle.futures_buffered_table.specs.declared.view.AtomicStep.TheVariants.{LinkClear, TailSwap, LinkWrite, LinkRead, TailRead, Unmark};
-ghost use Rattle.futures_buffered_table.specs.declared.view.Phase.TheVariants.{Start, AtStub, Moved, NoNext, Last, StubCleared, StubPut, StubLinked, InHand};
+ghost use Rattle.futures_buffered_table.specs.declared.view.AtomicStep.TheVariants.{LinkClear, TailSwap, LinkWrite};
+ghost use Rattle.futures_buffered_table.specs.declared.view.AtomicStep.TheVariants.{LinkRead, TailRead, Unmark};
+ghost use Rattle.futures_buffered_table.specs.declared.view.Phase.TheVariants.{Start, AtStub, Moved, NoNext, Last};
+ghost use Rattle.futures_buffered_table.specs.declared.view.Phase.TheVariants.{StubCleared, StubPut, StubLinked};
+ghost use Rattle.futures_buffered_table.specs.declared.view.Phase.TheVariants.{InHand};
 ghost use Rattle.futures_buffered_table.specs.declared.view.Role.TheVariants.{Polls};
 ghost use Rattle.futures_buffered_table.specs.Effect.{next_role};
-ghost use Rattle.futures_buffered_table.specs.Taking.{CallsAtStub, IsAtLast, IsFromSlot, IsTaking, ReadsSlot, TakesFromSlot};
+ghost use Rattle.futures_buffered_table.specs.Taking.{CallsAtStub, IsAtLast, IsFromSlot, IsTaking, ReadsSlot};
+ghost use Rattle.futures_buffered_table.specs.Taking.{TakesFromSlot};
 
 use crate::answer::Taken;
 use crate::ready_list::{PollSeat, ReadyList};
@@ -38,7 +42,8 @@ impl<'s> Model for StepsMade<'s> {
 /// Pause. One whose tail swap comes after it finds what the call left, if it was left under a lock
 /// or by a sequentially consistent step, and is looked for after the wake.
 pub trait BeforeEmpty {
-    // What a call leaves, of what it found, where the seat has made these steps. It says nothing unless an `impl` writes it.
+    // What a call leaves, of what it found, where the seat has made these steps. It says nothing unless an `impl`
+    // writes it.
     ghost leaves: { List AtomicStep → Self → Self → Type 0 } = { λ _ _ _. Unit {0} };
 
     /// Returns before the tail is read. Its time, memory and locks are the taking's too.

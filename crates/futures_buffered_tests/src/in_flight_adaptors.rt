@@ -1,4 +1,5 @@
-//! What holds futures of the kit in plain sight: the buffers, of futures that a thread completes, the for-eaches, and a join.
+//! What holds futures of the kit in plain sight: the buffers, of futures that a thread completes, the for-eaches, and a
+//! join.
 use crate::same::assert_same;
 use futures::channel::oneshot::{Canceled, Receiver, Sender, channel};
 use futures::executor::block_on;

@@ -1,4 +1,5 @@
-//! Which items and ends a merge of the kit's streams gives, whom it wakes, and which streams it drops and when: each is seen by its sender.
+//! Which items and ends a merge of the kit's streams gives, whom it wakes, and which streams it drops and when: each is
+//! seen by its sender.
 ghost use Rattle.futures_buffered.specs.InFlightMerge.{CanPollStreams};
 
 use crate::same::assert_same;

@@ -17,7 +17,8 @@ use Rattle.futures_buffered_unordered.specs.declared.poll_one.PollFuture.{PollFu
 pub use Rattle.futures_buffered_unordered.specs.declared.poll_one.PollOne.{Ghosts as PollOneOf}
 pub use Rattle.futures_buffered_unordered.specs.declared.slot_future.SlotFuture.{Ghosts as SlotFutureOf}
 use Rattle.futures_buffered_unordered.specs.Held.{AllHeld, AllHeldBut, Passes, Yields}
-use Rattle.futures_buffered_unordered.specs.FuturesUnorderedBounded.{Bounded, IsWoken, held_in, slots_in, with_empty_slot, with_source}
+use Rattle.futures_buffered_unordered.specs.FuturesUnorderedBounded.{Bounded, IsWoken, held_in, slots_in}
+use Rattle.futures_buffered_unordered.specs.FuturesUnorderedBounded.{with_empty_slot, with_source}
 
 -- the rule that polls each future itself
 abbrev pub itself : {F W A : Type 0} → SlotFutureOf F W A → PollOneOf PollFuture F W A

@@ -3,7 +3,8 @@
 //! A set that grows and a merge that grows differ in that alone.
 ghost use Rattle.std.specs.Prelude.{◌≡◌, IsTrue};
 ghost use Rattle.futures.specs.Task.{Covers};
-ghost use Rattle.futures_buffered_unordered.specs.FuturesUnorderedBounded.{AsksInPart, OnlyRegisters, PollAsksToEmpty, PollGives};
+ghost use Rattle.futures_buffered_unordered.specs.FuturesUnorderedBounded.{AsksInPart, OnlyRegisters, PollAsksToEmpty};
+ghost use Rattle.futures_buffered_unordered.specs.FuturesUnorderedBounded.{PollGives};
 ghost use Rattle.futures_buffered_unordered.specs.Held.{AllHeld};
 ghost use Rattle.futures_buffered_unordered.specs.FuturesUnordered.{PollsGroupTask};
 ghost use Rattle.futures_buffered_unordered.specs.FuturesUnorderedInvariant.{KeepsGroup};
@@ -15,7 +16,8 @@ use futures_buffered_core::ready_source::NewSource;
 
 /// How a poll asks one group.
 ///
-/// An impl says by `can_poll` which values may be polled, and by `asks` what a group may answer and be left as. A group that answers the end holds nothing, and a pending one holds a value.
+/// An impl says by `can_poll` which values may be polled, and by `asks` what a group may answer and be left as. A group
+/// that answers the end holds nothing, and a pending one holds a value.
 pub trait AskGroup<F: Drop, S: NewSource> {
     ghost use Rattle.futures.specs.declared.task.Poll.{Poll};
     ghost use Rattle.futures.specs.declared.task.context.Context.{Context};
@@ -40,7 +42,8 @@ pub trait AskGroup<F: Drop, S: NewSource> {
     // What a group that answers the end leaves of the task.
     ghost passes: { Context → Context → Type 0 };
 
-    /// One poll of a group. Where the group holds a value it registers the task, unless that is registered with a group beside it.
+    /// One poll of a group. Where the group holds a value it registers the task, unless that is registered with a group
+    /// beside it.
     fn ask(
         &self,
         group: &mut FuturesUnorderedBounded<F, S>,

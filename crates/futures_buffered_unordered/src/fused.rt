@@ -25,7 +25,8 @@ pub trait FusedFuture: Future {
 
 /// What bounds the number of items that are left, as `size_hint` of an iterator does.
 pub trait SizeHint {
-    // The least and the greatest number of items that are left. `None` says that no greatest is known. By default nothing is known.
+    // The least and the greatest number of items that are left. `None` says that no greatest is known. By default
+    // nothing is known.
     ghost items_left: { Self → ℕ × Option ℕ } = { λ _. (0, None) };
 
     /// The least and the greatest number of items that are left.

@@ -1,7 +1,10 @@
 //! A set of futures that grows by groups of slots, yielded as they finish.
 //!
-//! Each group is a bounded set. A push goes into the last group, and makes one of twice its slots where it is full. A poll asks each group in turn, from the place where the poll before ended, until one gives an output. How one group is asked, `AskGroup` says. One registration of the task does for all groups.
-ghost use Rattle.std.specs.Prelude.{◌≡◌, ◌↔◌, ◌<◌, ◌≤◌, ◌+◌, ◌++◌, length, take, drop, IsTrue, Err, OnOk, OnErr, IsErr, IfOk, IfErr, IfNone};
+//! Each group is a bounded set. A push goes into the last group, and makes one of twice its slots where it is full. A
+//! poll asks each group in turn, from the place where the poll before ended, until one gives an output. How one group
+//! is asked, `AskGroup` says. One registration of the task does for all groups.
+ghost use Rattle.std.specs.Prelude.{◌≡◌, ◌↔◌, ◌<◌, ◌≤◌, ◌+◌, ◌++◌, length, take, drop, IsTrue, Err, OnOk, OnErr, IsErr};
+ghost use Rattle.std.specs.Prelude.{IfOk, IfErr, IfNone};
 ghost use Rattle.std.specs.List.{All};
 ghost use Rattle.futures.specs.Poll.{IfReady, OnPending};
 ghost use Rattle.futures.specs.Task.{Keeps};
@@ -12,7 +15,11 @@ ghost use Rattle.futures_buffered_core.specs.ReadyShared.{IsNewShared, MarksShar
 ghost use Rattle.futures_buffered_core.specs.ReadySource.{WaitsAlike};
 ghost use Rattle.futures_buffered_unordered.specs.FuturesUnorderedBounded.{IsNewSet, OnlyRegisters};
 ghost use Rattle.futures_buffered_unordered.specs.GroupsStep.{AsksOne, OneLeavesTask, next_place};
-ghost use Rattle.futures_buffered_unordered.specs.FuturesUnordered.{EachHeld, EachCovered, Growing, GrowingPushes, IsAtBound, IsNewGrowing, LastIsFull, PushesEach, PushesOrStays, no_groups, held_in_all, capacity_of, next_capacity, spare_places, SetRefuses, SetMayRefuse};
+ghost use Rattle.futures_buffered_unordered.specs.FuturesUnordered.{EachHeld, EachCovered, Growing, GrowingPushes};
+ghost use Rattle.futures_buffered_unordered.specs.FuturesUnordered.{IsAtBound, IsNewGrowing, LastIsFull, PushesEach};
+ghost use Rattle.futures_buffered_unordered.specs.FuturesUnordered.{PushesOrStays, no_groups, held_in_all, capacity_of};
+ghost use Rattle.futures_buffered_unordered.specs.FuturesUnordered.{next_capacity, spare_places, SetRefuses};
+ghost use Rattle.futures_buffered_unordered.specs.FuturesUnordered.{SetMayRefuse};
 ghost use Rattle.futures_buffered_unordered.specs.FuturesUnorderedInvariant.{AddsGroup, PushesLast};
 ghost use Rattle.futures_buffered_unordered.specs.PollsGrowing.{PollsGroups, PollsGrowing};
 ghost use Rattle.futures_buffered_unordered.specs.Extended.{Extends, HoldsAllOf, MakesGrown, StopsAtBound};
@@ -37,7 +44,10 @@ const _: () = prove!(FIRST_GROUP == 32);
 
 /// Futures in groups of slots, or streams.
 ///
-/// A contract sees the groups, each a bounded set, the place where the next poll begins, and the limit of names that one poll takes from each group. Only the calls that make a set and a push that makes a group take memory, besides what the calls of a source take, and no call waits for anybody where those do not. A merge that grows is made of one too.
+/// A contract sees the groups, each a bounded set, the place where the next poll begins, and the limit of names that
+/// one poll takes from each group. Only the calls that make a set and a push that makes a group take memory, besides
+/// what the calls of a source take, and no call waits for anybody where those do not. Calls that ask how much is held
+/// or fits take the same time at any number of groups. A merge that grows is made of one too.
 #[derive(Drop)]
 pub struct FuturesUnordered<F: Drop, S: NewSource> {
     groups: Vec<FuturesUnorderedBounded<F, S>>,
@@ -96,9 +106,10 @@ impl<F: Drop, S: NewSource> FuturesUnordered<F, S> {
         }
     }
 
-    /// An empty set over sources that are made by `env`, which it keeps. It has one group of `n` slots, or none where `n` is 0.
+    /// An empty set over sources that are made by `env`, which it keeps. It has one group of `n` slots, or none where
+    /// `n` is 0.
     ///
-    /// Takes time and memory in proportion to `n`. `TooLarge` where `n` is above `MAX_CAPACITY`, and `Memory` where a request for memory was refused.
+    /// Takes time and memory in proportion to `n`.
     pub fn over(env: S::Env, alloc: Global, n: usize) -> Result<Self, NewFault>
         ensures { MakesGroup n (IsNewGrowing S.made n POLL_LIMIT) result }
     {
@@ -117,14 +128,14 @@ impl<F: Drop, S: NewSource> FuturesUnordered<F, S> {
         Ok(groups)
     }
 
-    /// The number of values held. Takes the same time at any number of groups.
+    /// The number of values held.
     pub fn len(&self) -> usize
         ensures { result ≡ held_in_all self.now.groups.listed }
     {
         self.held
     }
 
-    /// Whether no value is held. Takes the same time at any number of groups.
+    /// Whether no value is held.
     pub fn is_empty(&self) -> bool
         ensures { IsTrue result ↔ (held_in_all self.now.groups.listed ≡ 0) }
     {
@@ -138,9 +149,8 @@ impl<F: Drop, S: NewSource> FuturesUnordered<F, S> {
         self.limit
     }
 
-    /// How many values there is room for: of several groups, what they hold and the free places of the last one; of one, its slots; without groups, 0.
-    ///
-    /// Takes the same time at any number of groups.
+    /// How many values there is room for: of several groups, what they hold and the free places of the last one; of
+    /// one, its slots; without groups, 0.
     pub fn capacity(&self) -> usize
         ensures { result ≡ capacity_of self.now.groups.listed }
     {
@@ -226,18 +236,22 @@ impl<F: Drop, S: NewSource> FuturesUnordered<F, S> {
         &self.groups
     }
 
-    /// Whether nothing more goes in: `MAX_HELD` are held, or the group that a push would make has more than `MAX_CAPACITY` slots. A push is refused then, and else only where a request for memory is.
-    ///
-    /// Takes the same time at any number of groups.
+    /// Whether nothing more goes in: `MAX_HELD` are held, or the group that a push would make has more than
+    /// `MAX_CAPACITY` slots. A push is refused then, and else only where a request for memory is.
     pub fn is_at_bound(&self) -> bool
         ensures { IsTrue result ↔ IsAtBound self.now.groups.listed }
     {
         self.held == MAX_HELD || (self.spare_places() == 0 && self.next_capacity() > MAX_CAPACITY)
     }
 
-    /// Puts the value into the last group. Where that is full, or there is none, a group is made behind it: of twice as many slots, or of `FIRST_GROUP`.
+    /// Puts the value into the last group. Where that is full, or there is none, a group is made behind it: of twice as
+    /// many slots, or of `FIRST_GROUP`.
     ///
-    /// The value comes back, and nothing has changed, where `MAX_HELD` values are held, where the new group would have more than `MAX_CAPACITY` slots, and where a request for memory was refused. Takes the same time at any capacity where the last group has a free place, and then no memory; else time and memory in proportion to the new group. Polls nothing. Count on no wake from it: a task that waits is woken only where a group is made while a wake is at the place of its waker.
+    /// The value comes back, and nothing has changed, where `MAX_HELD` values are held, where the new group would have
+    /// more than `MAX_CAPACITY` slots, and where a request for memory was refused. Takes the same time at any capacity
+    /// where the last group has a free place, and then no memory; else time and memory in proportion to the new group.
+    /// Polls nothing. Count on no wake from it: a task that waits is woken only where a group is made while a wake is
+    /// at the place of its waker.
     pub fn push(&mut self, value: F) -> Result<(), F>
         ensures push { PushesOrStays S.marks S.made self.old value result self.new }
         ensures back { IfErr result (λ back. back ≡ value) }
@@ -256,7 +270,8 @@ impl<F: Drop, S: NewSource> FuturesUnordered<F, S> {
         Ok(())
     }
 
-    /// As `push`, for a caller that has no use for a value that is refused: it is dropped, nothing else has changed, and the error says why. So `?` takes it.
+    /// As `push`, for a caller that has no use for a value that is refused: it is dropped, nothing else has changed,
+    /// and the error says why. So `?` takes it.
     pub fn add(&mut self, value: F) -> Result<(), NewFault>
         ensures push { PushesOrStays S.marks S.made self.old value result self.new }
         ensures large { (result ≡ Err NewFault.TooLarge) ↔ IsAtBound self.old.groups.listed }
@@ -271,7 +286,8 @@ impl<F: Drop, S: NewSource> FuturesUnordered<F, S> {
         })
     }
 
-    /// Pushes each item, in order, as `push` does. The first that is refused comes back; those before it stay, and the iterator is asked for no further one.
+    /// Pushes each item, in order, as `push` does. The first that is refused comes back; those before it stay, and the
+    /// iterator is asked for no further one.
     pub fn extend<I: IntoIterator<Item = F>>(&mut self, iter: I) -> Result<(), F>
         requires { IsFiniteSource I.IntoIterator I.IntoIter.Iterator iter }
         ensures { Extends I.IntoIterator I.IntoIter.Iterator iter
@@ -301,9 +317,11 @@ impl<F: Drop, S: NewSource> FuturesUnordered<F, S> {
         Ok(())
     }
 
-    /// Drops each value that is held, with the groups. A later push makes a group as the first push of a new set does, over a source of the same environment.
+    /// Drops each value that is held, with the groups. A later push makes a group as the first push of a new set does,
+    /// over a source of the same environment.
     ///
-    /// Takes time in proportion to their slots, and no memory. A task that waits is woken, unless a waker of a slot is kept elsewhere: the sources go, and with them its waker.
+    /// Takes time in proportion to their slots, and no memory. A task that waits is woken, unless a waker of a slot is
+    /// kept elsewhere: the sources go, and with them its waker.
     pub fn clear(&mut self)
         ensures { self.new ≡ no_groups self.old.limit }
     {
@@ -325,7 +343,8 @@ impl<F: Drop, S: NewSource> FuturesUnordered<F, S> {
         }
     }
 
-    // Asks the group at the place, and goes on to the next where it gave no output. A group that has ended leaves, unless it is the last.
+    // Asks the group at the place, and goes on to the next where it gave no output. A group that has ended leaves,
+    // unless it is the last.
     fn ask_one<R: AskGroup<F, S>>(
         &mut self,
         rule: &R,
@@ -369,9 +388,12 @@ impl<F: Drop, S: NewSource> FuturesUnordered<F, S> {
         answer
     }
 
-    /// One poll, where `rule` says how a group is asked: each group that stands as the poll begins is asked once, in turn, until one gives an output.
+    /// One poll, where `rule` says how a group is asked: each group that stands as the poll begins is asked once, in
+    /// turn, until one gives an output.
     ///
-    /// `Ready(None)` where each group answered the end. A group that answered the end is dropped, unless it is the last. Takes no memory, and time in proportion to the number of groups and to the slots of those that are dropped, besides what asking them takes.
+    /// `Ready(None)` where each group answered the end. A group that answered the end is dropped, unless it is the
+    /// last. Takes no memory, and time in proportion to the number of groups and to the slots of those that are
+    /// dropped, besides what asking them takes.
     pub fn poll_groups<R: AskGroup<F, S>>(
         &mut self,
         rule: &R,
@@ -401,7 +423,10 @@ impl<F: Drop, S: NewSource> FuturesUnordered<F, S> {
 
     /// One poll of the set, where `rule` says how one held value is polled.
     ///
-    /// `Ready(None)` where nothing is held. Else each group that stands as the poll begins is asked once, in turn, until one gives an output. A group that is asked and holds nothing is dropped, unless it is the last. Registers the task once, and takes no memory where the calls of the sources take none. Takes time in proportion to the number of groups, to the names taken and to the slots of groups that are dropped, besides the polls.
+    /// `Ready(None)` where nothing is held. Else each group that stands as the poll begins is asked once, in turn,
+    /// until one gives an output. A group that is asked and holds nothing is dropped, unless it is the last. Registers
+    /// the task once, and takes no memory where the calls of the sources take none. Takes time in proportion to the
+    /// number of groups, to the names taken and to the slots of groups that are dropped, besides the polls.
     pub fn poll_with<R: PollOne<F, S::Waker>>(
         &mut self,
         rule: &R,
@@ -423,14 +448,16 @@ impl<F: Drop> FuturesUnordered<F, SharedReady> {
         Self::without_groups((), alloc, POLL_LIMIT)
     }
 
-    /// An empty set with one group of `n` slots, or none where `n` is 0, whose values are woken from any thread. It is `over` with shared sources, and refuses as `over` does.
+    /// An empty set with one group of `n` slots, or none where `n` is 0, whose values are woken from any thread. It is
+    /// `over` with shared sources, and refuses as `over` does.
     pub fn with_capacity(alloc: Global, n: usize) -> Result<Self, NewFault>
         ensures { MakesGroup n (IsNewGrowing IsNewShared n POLL_LIMIT) result }
     {
         Self::with_limit(alloc, n, POLL_LIMIT)
     }
 
-    /// As `with_capacity`, where one poll takes at most `limit` names from each group, also from those that are made later.
+    /// As `with_capacity`, where one poll takes at most `limit` names from each group, also from those that are made
+    /// later.
     pub fn with_limit(alloc: Global, n: usize, limit: usize) -> Result<Self, NewFault>
         requires { 1 ≤ limit }
         ensures { MakesGroup n (IsNewGrowing IsNewShared n limit) result }
@@ -438,9 +465,12 @@ impl<F: Drop> FuturesUnordered<F, SharedReady> {
         Self::over_limit((), alloc, n, limit)
     }
 
-    /// A set that holds the items, pushed in order. Its first group has as many slots as the iterator says that it has items at least, and not fewer than `FIRST_GROUP`.
+    /// A set that holds the items, pushed in order. Its first group has as many slots as the iterator says that it has
+    /// items at least, and not fewer than `FIRST_GROUP`.
     ///
-    /// Takes time and memory in proportion to the number of items and to that first number. Where it is refused, the items that came are dropped: `TooLarge` where that number or a later group is too large, or more than `MAX_HELD` came, and `Memory` where a request for memory was refused.
+    /// Takes time and memory in proportion to the number of items and to that first number. Where it is refused, the
+    /// items that came are dropped: `TooLarge` where that number or a later group is too large, or more than `MAX_HELD`
+    /// came.
     pub fn from_iter<I: IntoIterator<Item = F>>(alloc: Global, iter: I) -> Result<Self, NewFault>
         requires { IsFiniteSource I.IntoIterator I.IntoIter.Iterator iter }
         ensures { MakesGrown I.IntoIterator I.IntoIter.Iterator iter FIRST_GROUP

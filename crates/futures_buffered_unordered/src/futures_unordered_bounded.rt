@@ -1,6 +1,8 @@
 //! A set of as many futures as it has slots, yielded as they finish.
 //!
-//! Each future stands in a slot. A push marks its slot, and a future's waker marks it again. A poll takes the names of marked slots from the set's source, at most as many as its limit, and polls what these slots hold until one is ready. A slot that nobody marked costs nothing.
+//! Each future stands in a slot. A push marks its slot, and a future's waker marks it again. A poll takes the names of
+//! marked slots from the set's source, at most as many as its limit, and polls what these slots hold until one is
+//! ready. A slot that nobody marked costs nothing.
 ghost use Rattle.std.specs.Prelude.{◌≡◌, ◌<◌, ◌≤◌, ◌+◌, ◌==◌, ◌↔◌, IfOk, IsSome, IsTrue};
 ghost use Rattle.futures.specs.Task.{Covers};
 ghost use Rattle.futures_buffered_core.specs.Drawn.{IsFiniteSource};
@@ -9,8 +11,11 @@ ghost use Rattle.futures_buffered_core.specs.ReadyShared.{IsNewShared, MarksShar
 ghost use Rattle.futures_buffered_core.specs.ReadySource.{WaitsAlike};
 ghost use Rattle.futures_buffered_core.specs.SlotMap.{value_in, held_count, slot_count, no_slots, IsFull};
 ghost use Rattle.futures_buffered_unordered.specs.Held.{AllHeld};
-ghost use Rattle.futures_buffered_unordered.specs.FuturesUnorderedBounded.{HoldsEach, IsNewSet, Pushes, PushesIfRoom, PushesOne, emptied, slots_in, with_empty_slot};
-ghost use Rattle.futures_buffered_unordered.specs.PollsBounded.{PollsBounded, RegistersAndTakes, TakesNames, registered};
+ghost use Rattle.futures_buffered_unordered.specs.FuturesUnorderedBounded.{HoldsEach, IsNewSet, Pushes, PushesIfRoom};
+ghost use Rattle.futures_buffered_unordered.specs.FuturesUnorderedBounded.{PushesOne, emptied, slots_in};
+ghost use Rattle.futures_buffered_unordered.specs.FuturesUnorderedBounded.{with_empty_slot};
+ghost use Rattle.futures_buffered_unordered.specs.PollsBounded.{PollsBounded, RegistersAndTakes, TakesNames};
+ghost use Rattle.futures_buffered_unordered.specs.PollsBounded.{registered};
 ghost use Rattle.futures_buffered_unordered.specs.Extended.{Extends, MakesFull};
 
 use crate::poll_one::PollOne;
@@ -29,7 +34,10 @@ const _: () = prove!(POLL_LIMIT == 61);
 
 /// Futures in slots, over a source that names the slots to poll.
 ///
-/// A contract sees what each slot holds and which slots are free, the content of the source, and the limit of names of one poll. Once the set is made, its calls but `make_sibling` take no memory, and none waits for anybody, where those of the source do neither, as those of `CoreSource` and `SharedReady`.
+/// A contract sees what each slot holds and which slots are free, the content of the source, and the limit of names of
+/// one poll. Once the set is made, its calls but `make_sibling` take no memory, and none waits for anybody, where those
+/// of the source do neither, as those of `CoreSource` and `SharedReady`. A push, and calls that ask how much is held,
+/// take the same time at any capacity.
 #[derive(Drop)]
 pub struct FuturesUnorderedBounded<F: Drop, S: ReadySource> {
     slots: PinSlotMap<F>,
@@ -55,7 +63,7 @@ impl<F: Drop, S: ReadySource> Model for FuturesUnorderedBounded<F, S> {
 impl<F: Drop, S: ReadySource> FuturesUnorderedBounded<F, S> {
     /// An empty set over this source, with as many slots as the source has.
     ///
-    /// Takes time and memory in proportion to that number. `TooLarge` where it is above `MAX_CAPACITY`, and `Memory` where a request for memory was refused. The source is dropped where the set is refused.
+    /// Takes time and memory in proportion to that number. The source is dropped where the set is refused.
     pub fn with_source(alloc: Global, source: S) -> Result<Self, NewFault>
         ensures { MakesSlots (S.slots source) (λ set. set
             ≡ record { slots = no_slots (S.slots source); source = source; limit = POLL_LIMIT }) result }
@@ -81,7 +89,8 @@ impl<F: Drop, S: ReadySource> FuturesUnorderedBounded<F, S> {
 impl<F: Drop, S: NewSource> FuturesUnorderedBounded<F, S> {
     /// An empty set of `cap` slots over a source made for it, where one poll takes at most `limit` names.
     ///
-    /// Takes time and memory in proportion to `cap`, and refuses as `with_source` does. Of the source a contract says what `S.made` says of a new one.
+    /// Takes time and memory in proportion to `cap`, and refuses as `with_source` does. Of the source a contract says
+    /// what `S.made` says of a new one.
     pub fn with_new_source(
         env: &S::Env,
         alloc: Global,
@@ -95,7 +104,8 @@ impl<F: Drop, S: NewSource> FuturesUnorderedBounded<F, S> {
         Self::with_source_limit(alloc, source, limit)
     }
 
-    /// An empty set of `cap` slots beside this one, with the same limit: a task that registers with either set is woken by the futures of both. It is public for sets that grow.
+    /// An empty set of `cap` slots beside this one, with the same limit: a task that registers with either set is woken
+    /// by the futures of both. It is public for sets that grow.
     ///
     /// Takes time and memory, and refuses, as `with_new_source` does. This set stays as it is.
     pub fn make_sibling(&mut self, alloc: Global, cap: usize) -> Result<Self, NewFault>
@@ -112,9 +122,10 @@ impl<F: Drop, S: NewSource> FuturesUnorderedBounded<F, S> {
         })
     }
 
-    /// A set without a free slot, which holds item k in slot k, each marked, in this order. It has as many slots as there are items, and a source made for it.
+    /// A set without a free slot, which holds item k in slot k, each marked, in this order. It has as many slots as
+    /// there are items, and a source made for it.
     ///
-    /// Takes time and memory in proportion to that number. Where it is refused, the items that came are dropped: `TooLarge` where one more than `MAX_CAPACITY` came, and `Memory` where a request for memory was refused.
+    /// Takes time and memory in proportion to that number. Where it is refused, the items that came are dropped.
     pub fn over<I: IntoIterator<Item = F>>(
         env: &S::Env,
         alloc: Global,
@@ -153,28 +164,28 @@ impl<F: Drop, S: NewSource> FuturesUnorderedBounded<F, S> {
 }
 
 impl<F: Drop, S: ReadySource> FuturesUnorderedBounded<F, S> {
-    /// The number of futures held. Takes the same time at any capacity.
+    /// The number of futures held.
     pub fn len(&self) -> usize
         ensures { result ≡ held_count self.now.slots }
     {
         self.slots.len()
     }
 
-    /// Whether no future is held. Takes the same time at any capacity.
+    /// Whether no future is held.
     pub fn is_empty(&self) -> bool
         ensures { IsTrue result ↔ (held_count self.now.slots ≡ 0) }
     {
         self.slots.is_empty()
     }
 
-    /// Whether no slot is free. Takes the same time at any capacity.
+    /// Whether no slot is free.
     pub fn is_full(&self) -> bool
         ensures { IsTrue result ↔ (slot_count self.now.slots ≤ held_count self.now.slots) }
     {
         self.slots.len() >= self.slots.capacity()
     }
 
-    /// The number of slots, which never changes. Takes the same time at any capacity.
+    /// The number of slots, which never changes.
     pub fn capacity(&self) -> usize
         ensures value { result ≡ slot_count self.now.slots }
         ensures source { result ≡ S.slots self.now.source }
@@ -190,9 +201,10 @@ impl<F: Drop, S: ReadySource> FuturesUnorderedBounded<F, S> {
         self.limit
     }
 
-    /// Puts the value into the first free slot and marks that slot, so that a later poll polls it. A full set hands the value back.
+    /// Puts the value into the first free slot and marks that slot, so that a later poll polls it. A full set hands the
+    /// value back.
     ///
-    /// Takes the same time at any capacity. Polls nothing, and wakes nobody: who pushes sees to it that the set is polled afterwards.
+    /// Polls nothing, and wakes nobody: who pushes sees to it that the set is polled afterwards.
     pub fn try_push(&mut self, value: F) -> Result<(), F>
         ensures { PushesIfRoom S.marks self.old value result self.new }
     {
@@ -212,7 +224,8 @@ impl<F: Drop, S: ReadySource> FuturesUnorderedBounded<F, S> {
         }
     }
 
-    /// Pushes each item, in order, as `try_push` does. The first for which there is no free slot comes back; those before it stay, and the iterator is asked for no further one.
+    /// Pushes each item, in order, as `try_push` does. The first for which there is no free slot comes back; those
+    /// before it stay, and the iterator is asked for no further one.
     pub fn extend<I: IntoIterator<Item = F>>(&mut self, iter: I) -> Result<(), F>
         requires { IsFiniteSource I.IntoIterator I.IntoIter.Iterator iter }
         ensures extends { Extends I.IntoIterator I.IntoIter.Iterator iter (Pushes S.marks)
@@ -237,9 +250,11 @@ impl<F: Drop, S: ReadySource> FuturesUnorderedBounded<F, S> {
         self.source.mark(i)
     }
 
-    /// Registers the task, takes at most as many names as one poll may, and polls the values named until one is ready. No slot is emptied: the answer says which slot is done.
+    /// Registers the task, takes at most as many names as one poll may, and polls the values named until one is ready.
+    /// No slot is emptied: the answer says which slot is done.
     ///
-    /// `Pending` wakes the task at once where the source paused, or where the limit was reached. Takes time in proportion to the names taken, besides the polls.
+    /// `Pending` wakes the task at once where the source paused, or where the limit was reached. Takes time in
+    /// proportion to the names taken, besides the polls.
     #[inline(always)]
     pub fn poll_first<R: PollOne<F, S::Waker>>(
         &mut self,
@@ -254,7 +269,8 @@ impl<F: Drop, S: ReadySource> FuturesUnorderedBounded<F, S> {
         self.poll_first_registered(rule, cx)
     }
 
-    /// As `poll_first`, for a task that is registered already, with this set or with one beside it. Registers nothing. It is public for merges that grow.
+    /// As `poll_first`, for a task that is registered already, with this set or with one beside it. Registers nothing.
+    /// It is public for merges that grow.
     #[inline(always)]
     pub fn poll_first_registered<R: PollOne<F, S::Waker>>(
         &mut self,
@@ -281,7 +297,7 @@ impl<F: Drop, S: ReadySource> FuturesUnorderedBounded<F, S> {
         cx.yield_now()
     }
 
-    /// Drops the value of a slot, which is then the first free one. Takes the same time at any capacity, besides the drop.
+    /// Drops the value of a slot, which is then the first free one.
     pub fn empty_slot(&mut self, i: usize)
         requires { IsSome (value_in self.old.slots i) }
         ensures emptied { self.new ≡ with_empty_slot self.old i }
@@ -298,9 +314,12 @@ impl<F: Drop, S: ReadySource> FuturesUnorderedBounded<F, S> {
         self.source.let_all_go();
     }
 
-    /// Drops each future that is held, and what the source keeps for them. Each slot is free then, and slot 0 is the first to be used again.
+    /// Drops each future that is held, and what the source keeps for them. Each slot is free then, and slot 0 is the
+    /// first to be used again.
     ///
-    /// A slot that was marked stays marked, so a later poll may be given its name, and polls what it holds by then. Takes no memory, and time in proportion to the capacity, besides the drops. Wakes nobody itself; what is dropped may.
+    /// A slot that was marked stays marked, so a later poll may be given its name, and polls what it holds by then.
+    /// Takes no memory, and time in proportion to the capacity, besides the drops. Wakes nobody itself; what is dropped
+    /// may.
     pub fn clear(&mut self)
         ensures { self.new ≡ emptied self.old }
     {
@@ -310,7 +329,11 @@ impl<F: Drop, S: ReadySource> FuturesUnorderedBounded<F, S> {
 
     /// One poll of the set, where `rule` says how one held value is polled.
     ///
-    /// `Ready(None)` where nothing is held, and then nothing was asked. Else names are taken from the source and the values named are polled, in that order, until one is ready: it is yielded, and its slot is freed. `Pending` where no further name came or the limit was reached; where the source paused and at the limit the task is woken at once. Takes no memory where the calls of the source take none, and time in proportion to the names taken, besides the polls.
+    /// `Ready(None)` where nothing is held, and then nothing was asked. Else names are taken from the source and the
+    /// values named are polled, in that order, until one is ready: it is yielded, and its slot is freed. `Pending`
+    /// where no further name came or the limit was reached; where the source paused and at the limit the task is woken
+    /// at once. Takes no memory where the calls of the source take none, and time in proportion to the names taken,
+    /// besides the polls.
     pub fn poll_with<R: PollOne<F, S::Waker>>(
         &mut self,
         rule: &R,
@@ -332,7 +355,8 @@ impl<F: Drop, S: ReadySource> FuturesUnorderedBounded<F, S> {
         }
     }
 
-    /// As `poll_with`, for a task that is registered already, with this set or with one beside it. Registers nothing. It is public for sets that grow.
+    /// As `poll_with`, for a task that is registered already, with this set or with one beside it. Registers nothing.
+    /// It is public for sets that grow.
     #[inline(always)]
     pub fn poll_registered<R: PollOne<F, S::Waker>>(
         &mut self,
@@ -360,7 +384,7 @@ impl<F: Drop, S: ReadySource> FuturesUnorderedBounded<F, S> {
 impl<F: Drop> FuturesUnorderedBounded<F, SharedReady> {
     /// An empty set whose values are woken from any thread.
     ///
-    /// Takes time and memory in proportion to `cap`, all that the set ever needs. `TooLarge` where `cap` is above `MAX_CAPACITY`, and `Memory` where a request for memory was refused.
+    /// Takes time and memory in proportion to `cap`, all that the set ever needs.
     pub fn new(alloc: Global, cap: usize) -> Result<Self, NewFault>
         ensures { MakesSlots cap (IsNewSet IsNewShared cap POLL_LIMIT) result }
     {
@@ -375,7 +399,8 @@ impl<F: Drop> FuturesUnorderedBounded<F, SharedReady> {
         Self::with_new_source(&(), alloc, cap, limit)
     }
 
-    /// A set without a free slot, which holds item k in slot k, each marked, in this order, and whose values are woken from any thread. It is `over` with a shared source, and refuses as `over` does.
+    /// A set without a free slot, which holds item k in slot k, each marked, in this order, and whose values are woken
+    /// from any thread. It is `over` with a shared source, and refuses as `over` does.
     pub fn from_iter<I: IntoIterator<Item = F>>(alloc: Global, iter: I) -> Result<Self, NewFault>
         requires { IsFiniteSource I.IntoIterator I.IntoIter.Iterator iter }
         ensures { MakesFull I.IntoIterator I.IntoIter.Iterator iter slots_in

@@ -4,10 +4,13 @@
 //!
 //! - `slot_future`: `SlotFuture`, what a set holds: a future that is polled with the waker of its slot.
 //! - `poll_one`: `PollOne`, the rule by which one held value is polled, and `PollFuture`, the rule for `SlotFuture`s.
-//! - `fused`: the traits `FusedStream`, `FusedFuture` and `SizeHint`, by which a type says whether it has ended and how much is left.
-//! - `futures_unordered_bounded`: `FuturesUnorderedBounded`, as many futures as it has slots, yielded as they finish; `bounded_stream` is the same set as a stream.
+//! - `fused`: the traits `FusedStream`, `FusedFuture` and `SizeHint`, by which a type says whether it has ended and how
+//!   much is left.
+//! - `futures_unordered_bounded`: `FuturesUnorderedBounded`, as many futures as it has slots, yielded as they finish;
+//!   `bounded_stream` is the same set as a stream.
 //! - `ask_group`: `AskGroup`, how a poll asks one of several groups.
-//! - `futures_unordered`: `FuturesUnordered`, any number of futures in groups of slots, each made twice as large as the last one, yielded as they finish; `growing_stream` is the same set as a stream.
+//! - `futures_unordered`: `FuturesUnordered`, any number of futures in groups of slots, each made twice as large as the
+//!   last one, yielded as they finish; `growing_stream` is the same set as a stream.
 #![tactic(auto)]
 
 pub mod ask_group;

@@ -1,6 +1,7 @@
 //! The rule by which one held value is polled.
 //!
-//! A set's poll is written once, for any such rule: the rule for `SlotFuture`s is one of them, and a caller can bring another.
+//! A set's poll is written once, for any such rule: the rule for `SlotFuture`s is one of them, and a caller can bring
+//! another.
 ghost use Rattle.std.specs.Prelude.{ℕ};
 
 use crate::slot_future::SlotFuture;
@@ -9,7 +10,9 @@ use futures_buffered_core::ready_source::SlotHandle;
 
 /// A rule that polls held values of a type `F`, each with the waker `W` of its slot.
 ///
-/// An impl says by `can_poll` which values may be polled, and by `polled` what a poll with the waker of a slot may answer and leave. A value that a pending poll leaves may be polled again, and by `goes_on` an impl says after which outputs it may be, by default none.
+/// An impl says by `can_poll` which values may be polled, and by `polled` what a poll with the waker of a slot may
+/// answer and leave. A value that a pending poll leaves may be polled again, and by `goes_on` an impl says after which
+/// outputs it may be, by default none.
 pub trait PollOne<F, W: SlotHandle> {
     ghost use Rattle.futures.specs.Poll.{IfReady, OnPending};
     ghost use Rattle.futures.specs.declared.task.Poll.{Poll};

@@ -6,7 +6,11 @@ pub use futures_buffered_core::ready_source::{SlotHandle, SlotWaker};
 
 /// A future that is polled with the waker `W` of its slot, in place of a task's context.
 ///
-/// A set polls it when its slot is named, so a pending future arranges for that waker to be woken, or is polled no more. The source lends that waker for this poll alone: who keeps it keeps a copy, which is of the same slot for good. An impl says by `can_poll` which values may be polled, by default all, and by `polled` what a poll with the waker of a slot may answer and leave, by default anything. One that keeps its waker, or wakes it, asks for a `W: SlotWaker`.
+/// A set polls it when its slot is named, so a pending future arranges for that waker to be woken, or is polled no
+/// more. The source lends that waker for this poll alone: who keeps it keeps a copy, which is of the same slot for
+/// good. An impl says by `can_poll` which values may be polled, by default all, and by `polled` what a poll with the
+/// waker of a slot may answer and leave, by default anything. One that keeps its waker, or wakes it, asks for a `W:
+/// SlotWaker`.
 pub trait SlotFuture<W: SlotHandle>: Drop {
     ghost use Rattle.std.specs.Prelude.{⊤};
     ghost use Rattle.futures.specs.Poll.{OnPending};

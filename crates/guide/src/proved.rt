@@ -1,4 +1,5 @@
-//! What a caller can prove: for each family a short function with a contract of its own, in words that `futures_buffered` gives out.
+//! What a caller can prove: for each family a short function with a contract of its own, in words that
+//! `futures_buffered` gives out.
 //!
 //! In the order in which to read them:
 //!

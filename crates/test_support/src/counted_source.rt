@@ -1,4 +1,5 @@
-//! A source whose drops and registrations are counted, that is made only as often as a test allows, and that leaves the task's waker to the test.
+//! A source whose drops and registrations are counted, that is made only as often as a test allows, and that leaves the
+//! task's waker to the test.
 ghost use Rattle.std.specs.Prelude.{◌<◌};
 ghost use Rattle.futures_buffered_core.specs.ReadyCore.{Marks, Takes, core_laws};
 ghost use Rattle.futures_buffered_core.specs.ReadySource.{WaitsNowhere, never_waits, only_takes};
@@ -14,7 +15,8 @@ use std::marker::Model;
 use std::sync::atomic::Ordering::SeqCst;
 use std::sync::{Arc, Mutex};
 
-/// What a test sees of its sources. A source that is dropped wakes nobody while this is kept, since the task's waker stays here.
+/// What a test sees of its sources. A source that is dropped wakes nobody while this is kept, since the task's waker
+/// stays here.
 #[derive(Drop)]
 pub struct SourceLog {
     pub drops: Counter,

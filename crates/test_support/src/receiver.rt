@@ -43,7 +43,8 @@ pub fn one_shot<T: Drop, R: Clone + Drop>(
 }
 
 impl<T: Drop, R: Wait + Drop> Sender<T, R> {
-    /// Sends the value, and wakes the receiver once the lock of the cell is let go. A value sent before and not taken is dropped.
+    /// Sends the value, and wakes the receiver once the lock of the cell is let go. A value sent before and not taken
+    /// is dropped.
     pub fn send(&self, value: T) {
         let waker = {
             let mut guard = self.cell.lock(&self.rt);

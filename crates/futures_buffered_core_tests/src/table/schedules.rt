@@ -1,4 +1,5 @@
-// Long schedules on a machine, made by one call too, and which are refused. What each step answers is compared with a slow model by
+// Long schedules on a machine, made by one call too, and which are refused. What each step answers is compared with a
+// slow model by
 // `scripts/compare_with_model.py`, over scripts of `fbuf`.
 use crate::names::next_number;
 use crate::same::assert_same;
@@ -67,7 +68,8 @@ impl Schedule {
         Ok(number)
     }
 
-    // Makes the steps that were made by one call, and wants the same replies. With one more, of a seat that is idle, that call refuses.
+    // Makes the steps that were made by one call, and wants the same replies. With one more, of a seat that is idle,
+    // that call refuses.
     fn repeats(&mut self, rt: &impl Abort, alloc: Global) -> Result<(), AllocError> {
         match steps(alloc, 3, self.made.as_slice()) {
             Ok(all) => assert!(rt; all == self.replies),

@@ -84,8 +84,10 @@ fn wakers_and_poller<R: Threads + Sync>(
     ((WakeSeat, Counted), (WakeSeat, Counted)),
     (PollSeat, [u64; 8]),
 )
-    requires { (one.list ≡ list.now.list) × (two.list ≡ list.now.list) × (poll.list ≡ list.now.list) × (list.now.capacity ≡ 8) }
-    ensures { (result.0.0.0.list ≡ list.now.list) × (result.0.1.0.list ≡ list.now.list) × (result.1.0.list ≡ list.now.list) }
+    requires { (one.list ≡ list.now.list) × (two.list ≡ list.now.list) × (poll.list ≡ list.now.list)
+        × (list.now.capacity ≡ 8) }
+    ensures { (result.0.0.0.list ≡ list.now.list) × (result.0.1.0.list ≡ list.now.list)
+        × (result.1.0.list ≡ list.now.list) }
 {
     thread::join(rt, || two_wakers(rt, list, one, two), || takes(list, poll))
 }

@@ -74,7 +74,8 @@ fn begin(source: &mut Source, door: &Arc<Door>) -> Result<Taken, AllocError>
     Ok(source.take())
 }
 
-// What the source beside says meanwhile: whether its registration wakes the task, what it names, and why it makes no source more.
+// What the source beside says meanwhile: whether its registration wakes the task, what it names, and why it makes no
+// source more.
 type Said = (bool, Taken, Option<NewFault>);
 
 // Asks the source beside, and then lets the poll end.

@@ -80,7 +80,8 @@ fn in_flight(senders: &[Sender<u64>]) -> usize {
         .count()
 }
 
-// A bounded set that is cleared keeps its source, which ends what was polled. So there are never more in flight than it holds.
+// A bounded set that is cleared keeps its source, which ends what was polled. So there are never more in flight than it
+// holds.
 #[test]
 fn what_was_polled_before_a_clear(rt: HostRuntime) -> Result<(), Fail> {
     let task = MockTask::new(&rt)?;

@@ -1,4 +1,5 @@
-//! Sources beside one another, futures of the kit that are polled at their slots, and the senders that complete these. A test writes each step beside what is seen then.
+//! Sources beside one another, futures of the kit that are polled at their slots, and the senders that complete these.
+//! A test writes each step beside what is seen then.
 use crate::driven::receivers::{Counted, Receivers, Sender};
 use futures::task::Poll;
 use futures::test::MockTask;
@@ -17,7 +18,8 @@ pub type Source = Driven<Counted>;
 pub enum Step {
     /// Polls a future at a slot of a source, which are named behind it: the source first.
     Poll(usize, usize, usize),
-    /// The same, once the slot was marked and a name was taken. Where the future is pending, a name is taken behind the poll.
+    /// The same, once the slot was marked and a name was taken. Where the future is pending, a name is taken behind the
+    /// poll.
     Begin(usize, usize, usize),
     /// Hands so many other futures over in turn, at slot 0 of source 0. Their senders are gone.
     HandOver(usize),
@@ -244,7 +246,8 @@ impl Scene {
         }
     }
 
-    /// Takes the steps in order. The number of the first at which something else is seen than stands beside it, and what that is.
+    /// Takes the steps in order. The number of the first at which something else is seen than stands beside it, and
+    /// what that is.
     pub fn first_difference(&mut self, steps: &[(Step, Seen)]) -> Option<(usize, Option<Seen>)> {
         for (at, (step, wanted)) in steps.iter().enumerate() {
             let seen = self.act(*step);

@@ -150,7 +150,8 @@ fn a_source_that_left(rt: HostRuntime) -> Result<(), Fail> {
     Ok(())
 }
 
-// Each that goes takes its desk along, in whichever place that stands. No two have one number: what a future of the later one gives does not come to the first.
+// Each that goes takes its desk along, in whichever place that stands. No two have one number: what a future of the
+// later one gives does not come to the first.
 #[test]
 fn a_source_that_comes_after_255_others(rt: HostRuntime) -> Result<(), Fail> {
     let mut scene = Scene::new(MockTask::new(&rt)?, rt.alloc(), 1, 2)?;
@@ -175,7 +176,8 @@ fn a_source_that_comes_after_255_others(rt: HostRuntime) -> Result<(), Fail> {
     Ok(())
 }
 
-// Of the four futures of the source beside one runs, one was not taken over, one has its output at the desk, and one has it in its mailbox. All end with the source's content, and that of source 0 stays.
+// Of the four futures of the source beside one runs, one was not taken over, one has its output at the desk, and one
+// has it in its mailbox. All end with the source's content, and that of source 0 stays.
 #[test]
 fn a_source_that_lets_all_go(rt: HostRuntime) -> Result<(), Fail> {
     let mut scene = Scene::new(MockTask::new(&rt)?, rt.alloc(), 1, 6)?;
