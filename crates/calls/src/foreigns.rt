@@ -1,4 +1,5 @@
-//! What holds futures and streams of the kit: a set and a queue over `Driven`, and the source itself; and joins, a merge and a buffer of them in plain sight.
+//! What holds futures and streams of the kit: a set and a queue over `Driven`, and the source itself; and joins, a
+//! merge and a buffer of them in plain sight.
 use crate::answer::{Answer, Reply, of_debug, of_growth, of_next, of_outputs, of_results};
 use crate::command::Query;
 use crate::lines::run_made;
@@ -153,7 +154,8 @@ pub fn run_merge(session: &mut Session, ids: &[usize], lines: &[&str]) -> Result
     run_made(session, Ok(KitMerge { merge }), lines)
 }
 
-/// An adaptor of a stream of the kit's futures. No clause says that it may be polled after its end, so it is dropped there.
+/// An adaptor of a stream of the kit's futures. No clause says that it may be polled after its end, so it is dropped
+/// there.
 #[derive(Drop)]
 struct KitBuffer {
     buffer: Option<ForeignBufferedOrdered<FutureSource<KitFuture>>>,

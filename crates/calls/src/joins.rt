@@ -11,9 +11,7 @@ use futures::task::Context;
 use futures_buffered_core::ready_core::NewFault;
 use futures_buffered_core::ready_shared::SharedReady;
 use futures_buffered_core::ready_source::ReadySource;
-use futures_buffered_sets::{
-    FusedFuture, JoinAll, SlotFuture, TryJoinAll, join_all, try_join_all,
-};
+use futures_buffered_sets::{FusedFuture, JoinAll, SlotFuture, TryJoinAll, join_all, try_join_all};
 
 impl<F: SlotFuture<S::Waker, Output = Output>, S: ReadySource> Subject for JoinAll<F, S> {
     ghost can_poll = { (future : F) → F.can_poll future };

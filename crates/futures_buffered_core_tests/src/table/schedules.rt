@@ -1,6 +1,6 @@
 // Long schedules on a machine, made by one call too, and which are refused. What each step answers is compared with a
 // slow model by
-// `scripts/compare_with_model.py`, over scripts of `fbuf`.
+// `scripts/compare_with_model`, over scripts of `fbuf`.
 use crate::names::next_number;
 use crate::same::assert_same;
 use futures_buffered_table::answer::MAX_CAPACITY;
