@@ -1,5 +1,5 @@
 //! Constructors of sets, queues, joins and merges as methods of what gives the items.
-ghost use Rattle.futures_buffered_core.specs.Drawn.{IsFiniteSource};
+ghost use Rattle.futures_buffered_core.specs.Drawn.{IsFiniteSource, items_of};
 ghost use Rattle.futures_buffered_core.specs.ReadyShared.{IsNewShared, MarksShared};
 ghost use Rattle.futures_buffered_unordered.specs.FuturesUnorderedBounded.{HoldsEach, slots_in};
 ghost use Rattle.futures_buffered_unordered.specs.FuturesUnordered.{IsNewGrowing, no_groups, SetRefuses, GrowingPushes};
@@ -32,8 +32,8 @@ pub trait IterExt: IntoIterator + Sized {
     ) -> Result<FuturesUnorderedBounded<Self::Item, SharedReady>, NewFault>
     where
         Self::Item: SlotFuture<SharedWaker>,
-        requires { IsFiniteSource Self.IntoIterator Self.IntoIter.Iterator self }
-        ensures { MakesFull Self.IntoIterator Self.IntoIter.Iterator self slots_in
+        requires { IsFiniteSource (items_of Self.IntoIterator Self.IntoIter.Iterator self) }
+        ensures { MakesFull (items_of Self.IntoIterator Self.IntoIter.Iterator self) slots_in
             (HoldsEach IsNewShared MarksShared POLL_LIMIT) result }
     {
         FuturesUnorderedBounded::from_iter(alloc, self)
@@ -49,8 +49,8 @@ pub trait IterExt: IntoIterator + Sized {
     ) -> Result<FuturesUnordered<Self::Item, SharedReady>, NewFault>
     where
         Self::Item: SlotFuture<SharedWaker>,
-        requires { IsFiniteSource Self.IntoIterator Self.IntoIter.Iterator self }
-        ensures { MakesGrown Self.IntoIterator Self.IntoIter.Iterator self FIRST_GROUP
+        requires { IsFiniteSource (items_of Self.IntoIterator Self.IntoIter.Iterator self) }
+        ensures { MakesGrown (items_of Self.IntoIterator Self.IntoIter.Iterator self) FIRST_GROUP
             (λ n. IsNewGrowing IsNewShared n POLL_LIMIT)
             (GrowingPushes MarksShared IsNewShared FIRST_GROUP) SetRefuses result }
     {
@@ -67,8 +67,8 @@ pub trait IterExt: IntoIterator + Sized {
     ) -> Result<FuturesOrderedBounded<Self::Item, SharedReady>, NewFault>
     where
         Self::Item: SlotFuture<SharedWaker, Output: Drop>,
-        requires { IsFiniteSource Self.IntoIterator Self.IntoIter.Iterator self }
-        ensures { MakesFull Self.IntoIterator Self.IntoIter.Iterator self queue_slots
+        requires { IsFiniteSource (items_of Self.IntoIterator Self.IntoIter.Iterator self) }
+        ensures { MakesFull (items_of Self.IntoIterator Self.IntoIter.Iterator self) queue_slots
             (HoldsInOrder IsNewShared MarksShared POLL_LIMIT) result }
     {
         FuturesOrderedBounded::from_iter(alloc, self)
@@ -84,8 +84,8 @@ pub trait IterExt: IntoIterator + Sized {
     ) -> Result<FuturesOrdered<Self::Item, SharedReady>, NewFault>
     where
         Self::Item: SlotFuture<SharedWaker, Output: Drop>,
-        requires { IsFiniteSource Self.IntoIterator Self.IntoIter.Iterator self }
-        ensures { MakesGrown Self.IntoIterator Self.IntoIter.Iterator self FIRST_GROUP
+        requires { IsFiniteSource (items_of Self.IntoIterator Self.IntoIter.Iterator self) }
+        ensures { MakesGrown (items_of Self.IntoIterator Self.IntoIter.Iterator self) FIRST_GROUP
             (λ n. IsNewGrowingQueue IsNewShared n POLL_LIMIT)
             (AddsBack (GrowingPushesNumber MarksShared IsNewShared)) (QueueIsAtBound SetRefuses) result }
     {
@@ -99,8 +99,8 @@ pub trait IterExt: IntoIterator + Sized {
     final fn join_all(self, alloc: Global) -> Result<JoinAll<Self::Item, SharedReady>, NewFault>
     where
         Self::Item: SlotFuture<SharedWaker, Output: Drop>,
-        requires { IsFiniteSource Self.IntoIterator Self.IntoIter.Iterator self }
-        ensures { MakesJoin Self.IntoIterator Self.IntoIter.Iterator self IsNewShared MarksShared
+        requires { IsFiniteSource (items_of Self.IntoIterator Self.IntoIter.Iterator self) }
+        ensures { MakesJoin (items_of Self.IntoIterator Self.IntoIter.Iterator self) IsNewShared MarksShared
             POLL_LIMIT result }
     {
         futures_buffered_joins::join::join_all(alloc, self)
@@ -117,8 +117,8 @@ pub trait IterExt: IntoIterator + Sized {
     where
         Self::Item: SlotFuture<SharedWaker, Output = Result<T, E>>,
         T: Drop,
-        requires { IsFiniteSource Self.IntoIterator Self.IntoIter.Iterator self }
-        ensures { MakesJoin Self.IntoIterator Self.IntoIter.Iterator self IsNewShared MarksShared
+        requires { IsFiniteSource (items_of Self.IntoIterator Self.IntoIter.Iterator self) }
+        ensures { MakesJoin (items_of Self.IntoIterator Self.IntoIter.Iterator self) IsNewShared MarksShared
             POLL_LIMIT result }
     {
         futures_buffered_joins::try_join::try_join_all(alloc, self)
@@ -131,8 +131,8 @@ pub trait IterExt: IntoIterator + Sized {
     final fn merge(self, alloc: Global) -> Result<MergeBounded<Self::Item, SharedReady>, NewFault>
     where
         Self::Item: SlotStream<SharedWaker>,
-        requires { IsFiniteSource Self.IntoIterator Self.IntoIter.Iterator self }
-        ensures { MakesFull Self.IntoIterator Self.IntoIter.Iterator self slots_in
+        requires { IsFiniteSource (items_of Self.IntoIterator Self.IntoIter.Iterator self) }
+        ensures { MakesFull (items_of Self.IntoIterator Self.IntoIter.Iterator self) slots_in
             (HoldsEach IsNewShared MarksShared POLL_LIMIT) result }
     {
         MergeBounded::from_iter(alloc, self)
@@ -147,8 +147,8 @@ pub trait IterExt: IntoIterator + Sized {
     ) -> Result<MergeUnbounded<Self::Item, SharedReady>, NewFault>
     where
         Self::Item: SlotStream<SharedWaker>,
-        requires { IsFiniteSource Self.IntoIterator Self.IntoIter.Iterator self }
-        ensures { MakesExtended Self.IntoIterator Self.IntoIter.Iterator self
+        requires { IsFiniteSource (items_of Self.IntoIterator Self.IntoIter.Iterator self) }
+        ensures { MakesExtended (items_of Self.IntoIterator Self.IntoIter.Iterator self)
             (GrowingPushes MarksShared IsNewShared FIRST_GROUP) SetRefuses (no_groups POLL_LIMIT)
             result }
     {

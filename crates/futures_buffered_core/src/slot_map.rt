@@ -10,7 +10,7 @@ ghost use Rattle.std.specs.Option.{option_copied_mut};
 ghost use Rattle.std.specs.Option.Follows.{option_follows_value};
 ghost use Rattle.std.specs.Borrow.{sem};
 ghost use Rattle.futures_buffered_core.specs.Made.{MakesSlots};
-ghost use Rattle.futures_buffered_core.specs.Drawn.{Draws, IsFiniteSource, RefusesTooMany};
+ghost use Rattle.futures_buffered_core.specs.Drawn.{Draws, IsFiniteSource, RefusesTooMany, items_of};
 ghost use Rattle.futures_buffered_core.specs.SlotMap.{value_in, held_count, slot_count, no_slots, all_slots};
 ghost use Rattle.futures_buffered_core.specs.SlotMap.{with_slot_freed, IsFull, Inserts, IsFirstHeld, NoneHeldFrom};
 
@@ -102,11 +102,11 @@ impl<F: Drop> PinSlotMap<F> {
     ///
     /// Takes time and memory in proportion to that number. Where it is refused, the items that came are dropped.
     pub fn from_iter<I: IntoIterator<Item = F>>(alloc: Global, iter: I) -> Result<Self, NewFault>
-        requires { IsFiniteSource I.IntoIterator I.IntoIter.Iterator iter }
+        requires { IsFiniteSource (items_of I.IntoIterator I.IntoIter.Iterator iter) }
         ensures full { IfOk result (λ m. (items : List F)
-            × Draws I.IntoIterator I.IntoIter.Iterator iter items × (m ≡ all_slots items)) }
+            × Draws (items_of I.IntoIterator I.IntoIter.Iterator iter) items × (m ≡ all_slots items)) }
         ensures fits { IfOk result (λ m. slot_count m ≤ MAX_CAPACITY) }
-        ensures large { RefusesTooMany I.IntoIterator I.IntoIter.Iterator iter result }
+        ensures large { RefusesTooMany (items_of I.IntoIterator I.IntoIter.Iterator iter) result }
     {
         let mut places = Vec::new(alloc);
         for item in iter {

@@ -5,7 +5,7 @@ ghost use Rattle.std.specs.Prelude.{◌≡◌, ◌+◌, ◌↔◌, ◌⊎◌, If
 ghost use Rattle.futures.specs.Poll.{IfReady, OnPending};
 ghost use Rattle.futures.specs.Task.{Covers, Keeps};
 ghost use Rattle.futures.specs.Queued.{AllPollable, AnyGives, GivesNoMore};
-ghost use Rattle.futures_buffered_core.specs.Drawn.{IsFiniteSource};
+ghost use Rattle.futures_buffered_core.specs.Drawn.{IsFiniteSource, items_of};
 ghost use Rattle.futures_buffered_core.specs.Made.{MakesSlots};
 ghost use Rattle.futures_buffered_core.specs.SlotMap.{held_count, slot_count, value_in, no_slots, with_slot_freed};
 ghost use Rattle.futures_buffered_unordered.specs.Extended.{EachDrawn, Extends};
@@ -299,10 +299,10 @@ impl<F: Future<Output: Drop>> InFlight<F> {
     /// Pushes each item, in order, as `try_push` does. The first that is refused comes back; those before it stay, and
     /// the iterator is asked for no further one.
     pub fn extend<I: IntoIterator<Item = F>>(&mut self, iter: I) -> Result<(), F>
-        requires finite { IsFiniteSource I.IntoIterator I.IntoIter.Iterator iter }
+        requires finite { IsFiniteSource (items_of I.IntoIterator I.IntoIter.Iterator iter) }
         requires held { CanPollAll F.Future self.old }
-        requires each { EachDrawn I.IntoIterator I.IntoIter.Iterator iter F.can_poll }
-        ensures extends { Extends I.IntoIterator I.IntoIter.Iterator iter
+        requires each { EachDrawn (items_of I.IntoIterator I.IntoIter.Iterator iter) F.can_poll }
+        ensures extends { Extends (items_of I.IntoIterator I.IntoIter.Iterator iter)
             (WentIn F.Future) (CameBack F.Future) self.old result self.new }
         ensures capacity { slot_count self.new.slots ≡ slot_count self.old.slots }
         ensures again { CanPollAll F.Future self.new }

@@ -1,6 +1,6 @@
 //! Futures of the kit in flight, in a queue whose outputs come in the order of the pushes.
 ghost use Rattle.std.specs.Prelude.{◌≡◌, ◌↔◌, ◌<◌, ◌≤◌, IfOk, IsTrue};
-ghost use Rattle.futures_buffered_core.specs.Drawn.{IsFiniteSource};
+ghost use Rattle.futures_buffered_core.specs.Drawn.{IsFiniteSource, items_of};
 ghost use Rattle.futures_buffered_core.specs.Made.{MakesSlots};
 ghost use Rattle.futures_buffered_unordered.specs.Extended.{EachDrawn, Extends};
 ghost use Rattle.futures_buffered_in_flight.specs.InFlightOrdered.{AnswersInTurn, CanPollOrdered, IsNewInOrder};
@@ -217,10 +217,10 @@ impl<F: Future<Output = A>, A: Drop> InFlightOrdered<F, A> {
     /// Adds each item at the back, in order, as `try_push_back` does. The first that is refused comes back; those
     /// before it stay, and the iterator is asked for no further one.
     pub fn extend<I: IntoIterator<Item = F>>(&mut self, iter: I) -> Result<(), F>
-        requires finite { IsFiniteSource I.IntoIterator I.IntoIter.Iterator iter }
+        requires finite { IsFiniteSource (items_of I.IntoIterator I.IntoIter.Iterator iter) }
         requires held { CanPollOrdered F.Future self.old }
-        requires each { EachDrawn I.IntoIterator I.IntoIter.Iterator iter F.can_poll }
-        ensures extends { Extends I.IntoIterator I.IntoIter.Iterator iter
+        requires each { EachDrawn (items_of I.IntoIterator I.IntoIter.Iterator iter) F.can_poll }
+        ensures extends { Extends (items_of I.IntoIterator I.IntoIter.Iterator iter)
             (PushesBack F.Future) RefusesFull self.old result self.new }
         ensures same_room { ordered_room self.new ≡ ordered_room self.old }
         ensures again { CanPollOrdered F.Future self.new }

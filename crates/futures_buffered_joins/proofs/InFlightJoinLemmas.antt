@@ -7,7 +7,7 @@ use Rattle.std.proofs.lemmas.List.{get_or-set_same, get_or-set_other, get_or-rep
 use Rattle.std.proofs.lemmas.List.Sums.{sum_by-cons, count_by-le-length}
 use Rattle.std.proofs.lemmas.Option.{slice_get_within}
 use Rattle.std.proofs.lemmas.Bool.{cases_eq}
-use Rattle.futures_buffered_core.specs.Drawn.{SourceOf, IteratorOf, Draws}
+use Rattle.futures_buffered_core.specs.Drawn.{Items, Draws}
 use Rattle.futures_buffered_core.specs.SlotMap.{Slots, value_in, held_count, slot_count, with_slot_freed}
 use Rattle.futures_buffered_unordered.specs.Extended.{EachDrawn}
 use Rattle.futures_buffered_unordered.proofs.HeldGivesLemmas.{value_in-with_slot_freed, value_in-with_slot_freed_other, None-Some}
@@ -46,8 +46,8 @@ all_drawn steps P it (x ∷ items) drains each (suc k) d below =
     all_drawn steps P first.0 items (drains.0, (drains.1.0, first.2, drains.1.2)) (λ xs y rest more. each (x ∷ xs) y rest (more.0, (first.0, first.1, more.1), more.2)) k d (omega arith)
 
 -- so each of them is as each item is that may come
-pub fit_drawn : {U F I : Type 0} (by : SourceOf U F I) (gives : IteratorOf I F) (source : U) (P : F → Type 0) (items : List F) → EachDrawn by gives source P → Draws by gives source items → All P items
-fit_drawn by gives source P items each draws = all_drawn gives.next_gives P draws.0 items draws.2 (λ xs x rest more. each draws.0 draws.1 xs x rest more)
+pub fit_drawn : {U F I : Type 0} (from : Items U F I) (P : F → Type 0) (items : List F) → EachDrawn from P → Draws from items → All P items
+fit_drawn from P items each draws = all_drawn from.gives.next_gives P draws.0 items draws.2 (λ xs x rest more. each draws.0 draws.1 xs x rest more)
 
 get_push_last : {F : Type 0} (xs : List F) (f : F) → slice_get (xs ++ f ∷ []) (length xs) ≡ Some f
 get_push_last [] f = refl

@@ -6,7 +6,7 @@ use Rattle.futures.specs.Poll.{IfReady, OnPending}
 use Rattle.futures.specs.Task.{Covers, Keeps}
 use Rattle.futures.specs.declared.task.Poll.{Poll}
 use Rattle.futures.specs.declared.task.context.Context.{Context}
-use Rattle.futures_buffered_core.specs.Drawn.{SourceOf, IteratorOf}
+use Rattle.futures_buffered_core.specs.Drawn.{Items}
 use Rattle.futures_buffered_core.specs.SlotMap.{held_count, slot_count}
 use Rattle.futures_buffered_table.specs.declared.answer.NewFault.{NewFault}
 use Rattle.futures_buffered_unordered.specs.Extended.{MakesFull}
@@ -55,9 +55,9 @@ module _ {F O : Type 0} (future : FutureOf F O) where
 
   -- What a constructor of a join makes of what an iterator gives, or why it makes nothing. It makes
   -- a join that has a place for each item.
-  abbrev pub MakesFlying : {A U I : Type 0} → SourceOf U F I → IteratorOf I F → U
-      → Result (Option (Flying F A)) NewFault → Type 0
-  MakesFlying by gives source = MakesFull by gives source flying_places
+  abbrev pub MakesFlying : {A U I : Type 0} → Items U F I → Result (Option (Flying F A)) NewFault
+      → Type 0
+  MakesFlying from = MakesFull from flying_places
       (λ items join. IsSomeAnd join (IsNewFlying items))
 
 module _ {F R O A E B : Type 0} (future : FutureOf F O) (rule : JoinRuleOf R O A E B) where

@@ -1,6 +1,6 @@
 -- What a join is made of.
 use Rattle.std.specs.Prelude.{ℕ, Option, Some, None, IsSomeAnd, Result}
-use Rattle.futures_buffered_core.specs.Drawn.{SourceOf, IteratorOf}
+use Rattle.futures_buffered_core.specs.Drawn.{Items}
 use Rattle.futures_buffered_table.specs.declared.answer.NewFault.{NewFault}
 use Rattle.futures_buffered_table.specs.declared.answer.Woke.{Woke}
 use Rattle.futures_buffered_unordered.specs.Extended.{MakesFull}
@@ -13,8 +13,8 @@ join_places (Some places) = places_in places
 
 -- What a constructor of a join makes of what an iterator gives, or why it makes nothing. It makes a
 -- join that has a place for each item: the item waits there, and no output has come.
-abbrev pub MakesJoin : {U F I A S : Type 0} → SourceOf U F I → IteratorOf I F → U
+abbrev pub MakesJoin : {U F I A S : Type 0} → Items U F I
     → (ℕ → S → Type 0) → (S → ℕ → Woke → S → Type 0) → ℕ
     → Result (Option (Places F A S)) NewFault → Type 0
-MakesJoin by gives source made marks limit = MakesFull by gives source join_places
+MakesJoin from made marks limit = MakesFull from join_places
     (λ items join. IsSomeAnd join (IsNewJoin made marks limit items))

@@ -2,7 +2,7 @@
 ghost use Rattle.std.specs.Prelude.{◌≡◌, ◌<◌, ◌≤◌, ◌+◌, All, IfOk, OnOk, map, Some, vec_len};
 ghost use Rattle.futures.specs.Poll.{OnPending};
 ghost use Rattle.futures.specs.Task.{Covers, Keeps};
-ghost use Rattle.futures_buffered_core.specs.Drawn.{Draws, IsFiniteSource, RefusesTooMany};
+ghost use Rattle.futures_buffered_core.specs.Drawn.{Draws, IsFiniteSource, RefusesTooMany, items_of};
 ghost use Rattle.futures_buffered_core.specs.SlotMap.{held_count};
 ghost use Rattle.futures_buffered_table.specs.declared.answer.TheConstants.{MAX_CAPACITY};
 ghost use Rattle.futures_buffered_unordered.specs.Extended.{EachDrawn, MakesFull};
@@ -38,11 +38,11 @@ impl<F, A> Model for Flying<F, A> {
 
 // What an iterator gives, at most as many as there may be slots.
 fn draw<F: Drop, I: IntoIterator<Item = F>>(alloc: Global, iter: I) -> Result<Vec<F>, NewFault>
-    requires { IsFiniteSource I.IntoIterator I.IntoIter.Iterator iter }
+    requires { IsFiniteSource (items_of I.IntoIterator I.IntoIter.Iterator iter) }
     ensures drawn { IfOk result (λ drawn.
-        Draws I.IntoIterator I.IntoIter.Iterator iter drawn.items) }
+        Draws (items_of I.IntoIterator I.IntoIter.Iterator iter) drawn.items) }
     ensures fits { IfOk result (λ drawn. vec_len drawn ≤ MAX_CAPACITY) }
-    ensures large { RefusesTooMany I.IntoIterator I.IntoIter.Iterator iter result }
+    ensures large { RefusesTooMany (items_of I.IntoIterator I.IntoIter.Iterator iter) result }
 {
     let mut drawn = Vec::new(alloc);
     for item in iter {
@@ -79,9 +79,9 @@ impl<F: Future<Output: Drop>, A: Drop> Flying<F, A> {
     // Item k is in flight at place k.
 
     pub(crate) fn over<I: IntoIterator<Item = F>>(alloc: Global, iter: I) -> Result<Self, NewFault>
-        requires finite { IsFiniteSource I.IntoIterator I.IntoIter.Iterator iter }
-        requires fit { EachDrawn I.IntoIterator I.IntoIter.Iterator iter F.can_poll }
-        ensures made { MakesFull I.IntoIterator I.IntoIter.Iterator iter flying_size
+        requires finite { IsFiniteSource (items_of I.IntoIterator I.IntoIter.Iterator iter) }
+        requires fit { EachDrawn (items_of I.IntoIterator I.IntoIter.Iterator iter) F.can_poll }
+        ensures made { MakesFull (items_of I.IntoIterator I.IntoIter.Iterator iter) flying_size
             (IsNewFlying F.Future) result }
         ensures places { IfOk result (λ new. WaitsOrCame new.set.slots new.outputs) }
         ensures can_poll { IfOk result (λ new. CanPollAll F.Future new.set) }

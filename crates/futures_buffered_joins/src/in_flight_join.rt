@@ -1,6 +1,6 @@
 //! Joins of the kit's futures, which a join holds as they are, in plain sight.
 ghost use Rattle.std.specs.Prelude.{◌≡◌, None, IfOk};
-ghost use Rattle.futures_buffered_core.specs.Drawn.{IsFiniteSource};
+ghost use Rattle.futures_buffered_core.specs.Drawn.{IsFiniteSource, items_of};
 ghost use Rattle.futures_buffered_unordered.specs.Extended.{EachDrawn};
 ghost use Rattle.futures_buffered_joins.specs.InFlightJoin.{CanPollFlying, FliesByPlace, FlyingMayGive, FlyingWaitsAt};
 ghost use Rattle.futures_buffered_joins.specs.InFlightJoin.{MakesFlying, PollsFlying};
@@ -62,9 +62,9 @@ where
     /// Takes time and memory in proportion to their number, all that the join ever needs but what the futures take, and
     /// what the kit's set takes at its first poll of a task. Where it is refused, the futures that came are dropped.
     pub fn over<I: IntoIterator<Item = F>>(alloc: Global, iter: I) -> Result<Self, NewFault>
-        requires finite { IsFiniteSource I.IntoIterator I.IntoIter.Iterator iter }
-        requires fit { EachDrawn I.IntoIterator I.IntoIter.Iterator iter F.can_poll }
-        ensures made { MakesFlying F.Future I.IntoIterator I.IntoIter.Iterator iter result }
+        requires finite { IsFiniteSource (items_of I.IntoIterator I.IntoIter.Iterator iter) }
+        requires fit { EachDrawn (items_of I.IntoIterator I.IntoIter.Iterator iter) F.can_poll }
+        ensures made { MakesFlying F.Future (items_of I.IntoIterator I.IntoIter.Iterator iter) result }
         ensures can_poll { IfOk result (CanPollFlying F.Future) }
     {
         let flying = Flying::over(alloc, iter)?;
@@ -160,9 +160,9 @@ pub fn foreign_join_all<I: IntoIterator<Item: Future<Output: Drop>>>(
     alloc: Global,
     iter: I,
 ) -> Result<ForeignJoin<I::Item>, NewFault>
-    requires finite { IsFiniteSource I.IntoIterator I.IntoIter.Iterator iter }
-    requires fit { EachDrawn I.IntoIterator I.IntoIter.Iterator iter I.Item.can_poll }
-    ensures made { MakesFlying I.Item.Future I.IntoIterator I.IntoIter.Iterator iter result }
+    requires finite { IsFiniteSource (items_of I.IntoIterator I.IntoIter.Iterator iter) }
+    requires fit { EachDrawn (items_of I.IntoIterator I.IntoIter.Iterator iter) I.Item.can_poll }
+    ensures made { MakesFlying I.Item.Future (items_of I.IntoIterator I.IntoIter.Iterator iter) result }
     ensures can_poll { IfOk result (CanPollFlying I.Item.Future) }
 {
     ForeignJoin::over(alloc, iter)
@@ -179,9 +179,9 @@ where
     A: Drop,
     E: Drop,
     I: IntoIterator<Item = F>,
-    requires finite { IsFiniteSource I.IntoIterator I.IntoIter.Iterator iter }
-    requires fit { EachDrawn I.IntoIterator I.IntoIter.Iterator iter F.can_poll }
-    ensures made { MakesFlying F.Future I.IntoIterator I.IntoIter.Iterator iter result }
+    requires finite { IsFiniteSource (items_of I.IntoIterator I.IntoIter.Iterator iter) }
+    requires fit { EachDrawn (items_of I.IntoIterator I.IntoIter.Iterator iter) F.can_poll }
+    ensures made { MakesFlying F.Future (items_of I.IntoIterator I.IntoIter.Iterator iter) result }
     ensures can_poll { IfOk result (CanPollFlying F.Future) }
 {
     ForeignTryJoin::over(alloc, iter)

@@ -1,6 +1,6 @@
 //! All of some futures, whose outputs come together.
 ghost use Rattle.std.specs.Prelude.{◌≡◌};
-ghost use Rattle.futures_buffered_core.specs.Drawn.{IsFiniteSource};
+ghost use Rattle.futures_buffered_core.specs.Drawn.{IsFiniteSource, items_of};
 ghost use Rattle.futures_buffered_core.specs.ReadyShared.{IsNewShared, MarksShared};
 ghost use Rattle.futures_buffered_joins.specs.JoinMade.{MakesJoin};
 
@@ -66,8 +66,8 @@ pub fn join_all<I: IntoIterator>(
 where
     I::Item: SlotFuture<SharedWaker>,
     <I::Item as SlotFuture<SharedWaker>>::Output: Drop,
-    requires { IsFiniteSource I.IntoIterator I.IntoIter.Iterator iter }
-    ensures { MakesJoin I.IntoIterator I.IntoIter.Iterator iter
+    requires { IsFiniteSource (items_of I.IntoIterator I.IntoIter.Iterator iter) }
+    ensures { MakesJoin (items_of I.IntoIterator I.IntoIter.Iterator iter)
         IsNewShared MarksShared POLL_LIMIT result }
 {
     Join::over(&(), alloc, iter)

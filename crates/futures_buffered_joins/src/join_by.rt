@@ -1,6 +1,6 @@
 //! A join by a rule: what is kept of each output, which output ends the join at once, and what the join is ready with.
 ghost use Rattle.std.specs.Prelude.{None, IfSome, IsSomeAnd};
-ghost use Rattle.futures_buffered_core.specs.Drawn.{IsFiniteSource};
+ghost use Rattle.futures_buffered_core.specs.Drawn.{IsFiniteSource, items_of};
 ghost use Rattle.futures_buffered_unordered.specs.Held.{AllHeld};
 ghost use Rattle.futures_buffered_joins.specs.Joining.{JoinMayGive, Places};
 ghost use Rattle.futures_buffered_joins.specs.JoinMade.{MakesJoin};
@@ -60,8 +60,8 @@ where
         alloc: Global,
         iter: I,
     ) -> Result<Self, NewFault>
-        requires { IsFiniteSource I.IntoIterator I.IntoIter.Iterator iter }
-        ensures { MakesJoin I.IntoIterator I.IntoIter.Iterator iter
+        requires { IsFiniteSource (items_of I.IntoIterator I.IntoIter.Iterator iter) }
+        ensures { MakesJoin (items_of I.IntoIterator I.IntoIter.Iterator iter)
             S.made S.marks POLL_LIMIT result }
     {
         let joining = Joining::over(env, alloc, iter)?;

@@ -2,7 +2,7 @@
 ghost use Rattle.std.specs.Prelude.{◌≡◌, ◌<◌, ◌+◌, Some, IsSome, IsTrue, ◌↔◌, map, slice_set};
 ghost use Rattle.futures.specs.Poll.{OnPending};
 ghost use Rattle.futures.specs.Task.{Keeps};
-ghost use Rattle.futures_buffered_core.specs.Drawn.{IsFiniteSource};
+ghost use Rattle.futures_buffered_core.specs.Drawn.{IsFiniteSource, items_of};
 ghost use Rattle.futures_buffered_core.specs.SlotMap.{value_in, held_count};
 ghost use Rattle.futures_buffered_unordered.specs.Held.{AllHeld};
 ghost use Rattle.futures_buffered_unordered.specs.FuturesUnorderedBounded.{with_empty_slot};
@@ -50,8 +50,8 @@ impl<F: Drop, A: Drop, S: NewSource> Joining<F, A, S> {
         alloc: Global,
         iter: I,
     ) -> Result<Self, NewFault>
-        requires { IsFiniteSource I.IntoIterator I.IntoIter.Iterator iter }
-        ensures { MakesFull I.IntoIterator I.IntoIter.Iterator iter places_in
+        requires { IsFiniteSource (items_of I.IntoIterator I.IntoIter.Iterator iter) }
+        ensures { MakesFull (items_of I.IntoIterator I.IntoIter.Iterator iter) places_in
             (IsNewJoin S.made S.marks POLL_LIMIT) result }
     {
         let set = FuturesUnorderedBounded::over(env, alloc, iter)?;

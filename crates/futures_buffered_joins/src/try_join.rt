@@ -1,6 +1,6 @@
 //! All of some futures that may fail, whose outputs come together, or the first error.
 ghost use Rattle.std.specs.Prelude.{◌≡◌};
-ghost use Rattle.futures_buffered_core.specs.Drawn.{IsFiniteSource};
+ghost use Rattle.futures_buffered_core.specs.Drawn.{IsFiniteSource, items_of};
 ghost use Rattle.futures_buffered_core.specs.ReadyShared.{IsNewShared, MarksShared};
 ghost use Rattle.futures_buffered_joins.specs.JoinMade.{MakesJoin};
 
@@ -67,8 +67,8 @@ pub fn try_join_all<I: IntoIterator, T, E>(
 where
     I::Item: SlotFuture<SharedWaker, Output = Result<T, E>>,
     T: Drop,
-    requires { IsFiniteSource I.IntoIterator I.IntoIter.Iterator iter }
-    ensures { MakesJoin I.IntoIterator I.IntoIter.Iterator iter
+    requires { IsFiniteSource (items_of I.IntoIterator I.IntoIter.Iterator iter) }
+    ensures { MakesJoin (items_of I.IntoIterator I.IntoIter.Iterator iter)
         IsNewShared MarksShared POLL_LIMIT result }
 {
     TryJoin::over(&(), alloc, iter)

@@ -4,7 +4,7 @@
 ghost use Rattle.std.specs.Prelude.{◌≡◌, ◌+◌, ◌^◌, ◌-◌, ◌≤◌, ◌↔◌, ◌⊎◌, IfErr, IfOk, OnOk, IfSome, IsTrue};
 ghost use Rattle.futures.specs.Poll.{IfReady, OnPending};
 ghost use Rattle.futures.specs.Task.{Covers, Keeps};
-ghost use Rattle.futures_buffered_core.specs.Drawn.{IsFiniteSource};
+ghost use Rattle.futures_buffered_core.specs.Drawn.{IsFiniteSource, items_of};
 ghost use Rattle.futures_buffered_unordered.specs.Extended.{EachDrawn, Extends, HoldsAllOf};
 ghost use Rattle.futures_buffered_unordered.specs.StreamAnswers.{StreamAnswers};
 ghost use Rattle.futures_buffered_merges.specs.WithEnd.{MayAnswer};
@@ -217,10 +217,10 @@ impl<St: Stream<Item: Drop>> InFlightMerge<St> {
     /// Pushes each item, in order, as `try_push` does. The first that is refused comes back; those before it stay, and
     /// the iterator is asked for no further one.
     pub fn extend<I: IntoIterator<Item = St>>(&mut self, iter: I) -> Result<(), St>
-        requires finite { IsFiniteSource I.IntoIterator I.IntoIter.Iterator iter }
+        requires finite { IsFiniteSource (items_of I.IntoIterator I.IntoIter.Iterator iter) }
         requires held { CanPollStreams St.Stream self.old }
-        requires each { EachDrawn I.IntoIterator I.IntoIter.Iterator iter St.can_poll }
-        ensures extends { Extends I.IntoIterator I.IntoIter.Iterator iter
+        requires each { EachDrawn (items_of I.IntoIterator I.IntoIter.Iterator iter) St.can_poll }
+        ensures extends { Extends (items_of I.IntoIterator I.IntoIter.Iterator iter)
             (StreamWentIn St.Stream) (StreamCameBack St.Stream) self.old result self.new }
         ensures same_limit { self.new.limit ≡ self.old.limit }
         ensures again { CanPollStreams St.Stream self.new }
@@ -300,10 +300,10 @@ pub fn growing_foreign_merge<St: Stream<Item: Drop>, I: IntoIterator<Item = St>>
     alloc: Global,
     iter: I,
 ) -> Result<GrowingForeignMerge<St>, NewFault>
-    requires finite { IsFiniteSource I.IntoIterator I.IntoIter.Iterator iter }
-    requires each { EachDrawn I.IntoIterator I.IntoIter.Iterator iter St.can_poll }
+    requires finite { IsFiniteSource (items_of I.IntoIterator I.IntoIter.Iterator iter) }
+    requires each { EachDrawn (items_of I.IntoIterator I.IntoIter.Iterator iter) St.can_poll }
     ensures holds { IfOk result
-        (HoldsAllOf I.IntoIterator I.IntoIter.Iterator iter (HoldsStreams St.Stream)) }
+        (HoldsAllOf (items_of I.IntoIterator I.IntoIter.Iterator iter) (HoldsStreams St.Stream)) }
     ensures limit { IfOk result (λ merge. merge.limit ≡ 2 ^ 64 - 1) }
 {
     let mut merge = InFlightMerge::growing(alloc);
@@ -319,10 +319,10 @@ pub fn foreign_merge<St: Stream<Item: Drop>, I: IntoIterator<Item = St>>(
     alloc: Global,
     iter: I,
 ) -> Result<ForeignMerge<St>, NewFault>
-    requires finite { IsFiniteSource I.IntoIterator I.IntoIter.Iterator iter }
-    requires each { EachDrawn I.IntoIterator I.IntoIter.Iterator iter St.can_poll }
+    requires finite { IsFiniteSource (items_of I.IntoIterator I.IntoIter.Iterator iter) }
+    requires each { EachDrawn (items_of I.IntoIterator I.IntoIter.Iterator iter) St.can_poll }
     ensures holds { IfOk result
-        (HoldsAllOf I.IntoIterator I.IntoIter.Iterator iter (HoldsStreams St.Stream)) }
+        (HoldsAllOf (items_of I.IntoIterator I.IntoIter.Iterator iter) (HoldsStreams St.Stream)) }
     ensures limit { IfOk result (λ merge. merge.limit ≡ merge.held) }
 {
     let mut merge = growing_foreign_merge(alloc, iter)?;

@@ -4,7 +4,7 @@
 //! that gives an item stays, and its slot is marked, so that a later poll polls it again behind the others that were
 //! marked before. A stream that ends leaves its slot to the next push.
 ghost use Rattle.std.specs.Prelude.{◌≡◌, ◌<◌, ◌≤◌, ◌↔◌, IsTrue};
-ghost use Rattle.futures_buffered_core.specs.Drawn.{IsFiniteSource};
+ghost use Rattle.futures_buffered_core.specs.Drawn.{IsFiniteSource, items_of};
 ghost use Rattle.futures_buffered_core.specs.ReadyShared.{IsNewShared, MarksShared};
 ghost use Rattle.futures_buffered_core.specs.SlotMap.{held_count, slot_count, IsFull};
 ghost use Rattle.futures_buffered_unordered.specs.StreamAnswers.{StreamAnswers};
@@ -59,8 +59,8 @@ impl<St: Drop, S: NewSource> MergeBounded<St, S> {
         alloc: Global,
         iter: I,
     ) -> Result<Self, NewFault>
-        requires { IsFiniteSource I.IntoIterator I.IntoIter.Iterator iter }
-        ensures { MakesFull I.IntoIterator I.IntoIter.Iterator iter slots_in
+        requires { IsFiniteSource (items_of I.IntoIterator I.IntoIter.Iterator iter) }
+        ensures { MakesFull (items_of I.IntoIterator I.IntoIter.Iterator iter) slots_in
             (HoldsEach S.made S.marks POLL_LIMIT) result }
     {
         Self::over_limit(env, alloc, iter, POLL_LIMIT)
@@ -73,9 +73,9 @@ impl<St: Drop, S: NewSource> MergeBounded<St, S> {
         iter: I,
         limit: usize,
     ) -> Result<Self, NewFault>
-        requires finite { IsFiniteSource I.IntoIterator I.IntoIter.Iterator iter }
+        requires finite { IsFiniteSource (items_of I.IntoIterator I.IntoIter.Iterator iter) }
         requires some { 1 ≤ limit }
-        ensures { MakesFull I.IntoIterator I.IntoIter.Iterator iter slots_in
+        ensures { MakesFull (items_of I.IntoIterator I.IntoIter.Iterator iter) slots_in
             (HoldsEach S.made S.marks limit) result }
     {
         let set = FuturesUnorderedBounded::over_limit(env, alloc, iter, limit)?;
@@ -119,8 +119,8 @@ impl<St: Drop, S: ReadySource> MergeBounded<St, S> {
     /// Pushes each item, in order, as `try_push` does. The first for which there is no free slot comes back; those
     /// before it stay, and the iterator is asked for no further one.
     pub fn extend<I: IntoIterator<Item = St>>(&mut self, iter: I) -> Result<(), St>
-        requires { IsFiniteSource I.IntoIterator I.IntoIter.Iterator iter }
-        ensures extends { Extends I.IntoIterator I.IntoIter.Iterator iter (Pushes S.marks)
+        requires { IsFiniteSource (items_of I.IntoIterator I.IntoIter.Iterator iter) }
+        ensures extends { Extends (items_of I.IntoIterator I.IntoIter.Iterator iter) (Pushes S.marks)
             (λ stopped new. IsFull stopped.slots × (new ≡ stopped)) self.old result self.new }
         ensures capacity { slot_count self.new.slots ≡ slot_count self.old.slots }
     {
@@ -142,8 +142,8 @@ impl<St: Drop> MergeBounded<St, SharedReady> {
     /// A merge without a free slot, which holds item k in slot k, each marked, in this order, and whose streams are
     /// woken from any thread. It is `over` with a shared source, and refuses as `over` does.
     pub fn from_iter<I: IntoIterator<Item = St>>(alloc: Global, iter: I) -> Result<Self, NewFault>
-        requires { IsFiniteSource I.IntoIterator I.IntoIter.Iterator iter }
-        ensures { MakesFull I.IntoIterator I.IntoIter.Iterator iter slots_in
+        requires { IsFiniteSource (items_of I.IntoIterator I.IntoIter.Iterator iter) }
+        ensures { MakesFull (items_of I.IntoIterator I.IntoIter.Iterator iter) slots_in
             (HoldsEach IsNewShared MarksShared POLL_LIMIT) result }
     {
         Self::with_limit(alloc, iter, POLL_LIMIT)
@@ -155,9 +155,9 @@ impl<St: Drop> MergeBounded<St, SharedReady> {
         iter: I,
         limit: usize,
     ) -> Result<Self, NewFault>
-        requires finite { IsFiniteSource I.IntoIterator I.IntoIter.Iterator iter }
+        requires finite { IsFiniteSource (items_of I.IntoIterator I.IntoIter.Iterator iter) }
         requires some { 1 ≤ limit }
-        ensures { MakesFull I.IntoIterator I.IntoIter.Iterator iter slots_in
+        ensures { MakesFull (items_of I.IntoIterator I.IntoIter.Iterator iter) slots_in
             (HoldsEach IsNewShared MarksShared limit) result }
     {
         Self::over_limit(&(), alloc, iter, limit)

@@ -4,7 +4,7 @@
 //! holds a stream registers the task as it is asked, until one is pending: its registration does for the groups after
 //! it.
 ghost use Rattle.std.specs.Prelude.{◌≡◌, ◌↔◌, ◌≤◌, Err, IsTrue, IsErr, IfErr};
-ghost use Rattle.futures_buffered_core.specs.Drawn.{IsFiniteSource};
+ghost use Rattle.futures_buffered_core.specs.Drawn.{IsFiniteSource, items_of};
 ghost use Rattle.futures_buffered_core.specs.ReadyShared.{IsNewShared, MarksShared};
 ghost use Rattle.futures_buffered_unordered.specs.StreamAnswers.{StreamAnswers};
 ghost use Rattle.futures_buffered_unordered.specs.FuturesUnorderedBounded.{OnlyRegisters};
@@ -104,8 +104,8 @@ impl<St: Drop, S: NewSource> MergeUnbounded<St, S> {
         alloc: Global,
         iter: I,
     ) -> Result<Self, NewFault>
-        requires { IsFiniteSource I.IntoIterator I.IntoIter.Iterator iter }
-        ensures { MakesExtended I.IntoIterator I.IntoIter.Iterator iter
+        requires { IsFiniteSource (items_of I.IntoIterator I.IntoIter.Iterator iter) }
+        ensures { MakesExtended (items_of I.IntoIterator I.IntoIter.Iterator iter)
             (GrowingPushes S.marks S.made FIRST_GROUP) SetRefuses (no_groups POLL_LIMIT) result }
     {
         Self::over_limit(env, alloc, iter, POLL_LIMIT)
@@ -118,9 +118,9 @@ impl<St: Drop, S: NewSource> MergeUnbounded<St, S> {
         iter: I,
         limit: usize,
     ) -> Result<Self, NewFault>
-        requires finite { IsFiniteSource I.IntoIterator I.IntoIter.Iterator iter }
+        requires finite { IsFiniteSource (items_of I.IntoIterator I.IntoIter.Iterator iter) }
         requires some { 1 ≤ limit }
-        ensures { MakesExtended I.IntoIterator I.IntoIter.Iterator iter
+        ensures { MakesExtended (items_of I.IntoIterator I.IntoIter.Iterator iter)
             (GrowingPushes S.marks S.made FIRST_GROUP) SetRefuses (no_groups limit) result }
     {
         let mut merge = Self::without_groups(env, alloc, limit);
@@ -171,8 +171,8 @@ impl<St: Drop, S: NewSource> MergeUnbounded<St, S> {
     /// Pushes each item, in order, as `push` does. The first that is refused comes back; those before it stay, and the
     /// iterator is asked for no further one.
     pub fn extend<I: IntoIterator<Item = St>>(&mut self, iter: I) -> Result<(), St>
-        requires { IsFiniteSource I.IntoIterator I.IntoIter.Iterator iter }
-        ensures { Extends I.IntoIterator I.IntoIter.Iterator iter
+        requires { IsFiniteSource (items_of I.IntoIterator I.IntoIter.Iterator iter) }
+        ensures { Extends (items_of I.IntoIterator I.IntoIter.Iterator iter)
             (GrowingPushes S.marks S.made FIRST_GROUP)
             (λ stopped new. SetMayRefuse stopped × (new ≡ stopped)) self.old result self.new }
     {
@@ -272,8 +272,8 @@ impl<St: Drop> MergeUnbounded<St, SharedReady> {
     /// A merge of these streams, pushed in order, whatever the iterator says of their number. It is `over` with shared
     /// sources, and refuses as `over` does.
     pub fn from_iter<I: IntoIterator<Item = St>>(alloc: Global, iter: I) -> Result<Self, NewFault>
-        requires { IsFiniteSource I.IntoIterator I.IntoIter.Iterator iter }
-        ensures { MakesExtended I.IntoIterator I.IntoIter.Iterator iter
+        requires { IsFiniteSource (items_of I.IntoIterator I.IntoIter.Iterator iter) }
+        ensures { MakesExtended (items_of I.IntoIterator I.IntoIter.Iterator iter)
             (GrowingPushes MarksShared IsNewShared FIRST_GROUP) SetRefuses
             (no_groups POLL_LIMIT) result }
     {

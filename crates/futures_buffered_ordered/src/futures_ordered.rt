@@ -3,7 +3,7 @@
 //! The futures stand in a set that grows by groups. Each has an entry in a list, to which pushes add at either end. A
 //! poll yields the front alone: an output that comes before its turn is kept in its entry.
 ghost use Rattle.std.specs.Prelude.{◌≡◌, ◌↔◌, ◌≤◌, [], length, IsTrue};
-ghost use Rattle.futures_buffered_core.specs.Drawn.{IsFiniteSource};
+ghost use Rattle.futures_buffered_core.specs.Drawn.{IsFiniteSource, items_of};
 ghost use Rattle.futures_buffered_core.specs.Made.{MakesGroup};
 ghost use Rattle.futures_buffered_core.specs.ReadyShared.{IsNewShared, MarksShared};
 ghost use Rattle.futures_buffered_unordered.specs.FuturesUnordered.{AnyNeeds, SetMayRefuse, SetRefuses, no_groups};
@@ -197,8 +197,8 @@ impl<T: Drop, A: Drop, S: NewSource> GrowingQueue<T, A, S> {
     /// Adds each item at the back, in order, as `push_back` does. The first that is refused comes back; those before it
     /// stay, and the iterator is asked for no further one.
     pub fn extend<I: IntoIterator<Item = T>>(&mut self, iter: I) -> Result<(), T>
-        requires { IsFiniteSource I.IntoIterator I.IntoIter.Iterator iter }
-        ensures { Extends I.IntoIterator I.IntoIter.Iterator iter
+        requires { IsFiniteSource (items_of I.IntoIterator I.IntoIter.Iterator iter) }
+        ensures { Extends (items_of I.IntoIterator I.IntoIter.Iterator iter)
             (AddsBack (GrowingPushesNumber S.marks S.made)) (RefusesOne SetMayRefuse)
             self.old result self.new }
     {
@@ -312,8 +312,8 @@ impl<T: SlotFuture<SharedWaker, Output = A>, A: Drop> GrowingQueue<T, A, SharedR
     /// items that came are dropped: `TooLarge` where that number or a later group is too large, or more than `MAX_LEN`
     /// came.
     pub fn from_iter<I: IntoIterator<Item = T>>(alloc: Global, iter: I) -> Result<Self, NewFault>
-        requires { IsFiniteSource I.IntoIterator I.IntoIter.Iterator iter }
-        ensures { MakesGrown I.IntoIterator I.IntoIter.Iterator iter
+        requires { IsFiniteSource (items_of I.IntoIterator I.IntoIter.Iterator iter) }
+        ensures { MakesGrown (items_of I.IntoIterator I.IntoIter.Iterator iter)
             FIRST_GROUP (λ n. IsNewGrowingQueue IsNewShared n POLL_LIMIT)
             (AddsBack (GrowingPushesNumber MarksShared IsNewShared)) (QueueIsAtBound SetRefuses) result }
     {

@@ -3,7 +3,7 @@
 //! The futures stand in a bounded set. Each has an entry in a list, to which pushes add at either end. A poll yields
 //! the front alone: an output that comes before its turn is kept in its entry.
 ghost use Rattle.std.specs.Prelude.{◌≡◌, ◌↔◌, ◌<◌, ◌≤◌, length, IsOk, IsTrue};
-ghost use Rattle.futures_buffered_core.specs.Drawn.{IsFiniteSource};
+ghost use Rattle.futures_buffered_core.specs.Drawn.{IsFiniteSource, items_of};
 ghost use Rattle.futures_buffered_core.specs.Made.{MakesSlots};
 ghost use Rattle.futures_buffered_core.specs.ReadyShared.{IsNewShared, MarksShared};
 ghost use Rattle.futures_buffered_core.specs.SlotMap.{slot_count};
@@ -226,8 +226,8 @@ impl<T: Drop, A: Drop, S: ReadySource> BoundedQueue<T, A, S> {
     /// Adds each item at the back, in order, as `try_push_back` does. The first that is refused comes back; those
     /// before it stay, and the iterator is asked for no further one.
     pub fn extend<I: IntoIterator<Item = T>>(&mut self, iter: I) -> Result<(), T>
-        requires { IsFiniteSource I.IntoIterator I.IntoIter.Iterator iter }
-        ensures extends { Extends I.IntoIterator I.IntoIter.Iterator iter
+        requires { IsFiniteSource (items_of I.IntoIterator I.IntoIter.Iterator iter) }
+        ensures extends { Extends (items_of I.IntoIterator I.IntoIter.Iterator iter)
             (AddsBack (PushesNumber S.marks)) (RefusesOne SetIsFull) self.old result self.new }
         ensures capacity { slot_count self.new.set.slots ≡ slot_count self.old.set.slots }
     {
@@ -301,8 +301,8 @@ where
 fn drawn<I: IntoIterator>(alloc: Global, iter: I) -> Result<Vec<I::Item>, NewFault>
 where
     I::Item: Drop,
-    requires { IsFiniteSource I.IntoIterator I.IntoIter.Iterator iter }
-    ensures { MakesFull I.IntoIterator I.IntoIter.Iterator iter (λ made. length made.items)
+    requires { IsFiniteSource (items_of I.IntoIterator I.IntoIter.Iterator iter) }
+    ensures { MakesFull (items_of I.IntoIterator I.IntoIter.Iterator iter) (λ made. length made.items)
         (λ came made. made.items ≡ came) result }
 {
     let mut items = Vec::new(alloc);
@@ -337,8 +337,8 @@ impl<T: SlotFuture<SharedWaker, Output = A>, A: Drop> BoundedQueue<T, A, SharedR
     ///
     /// Takes time and memory in proportion to that number. Where it is refused, the items that came are dropped.
     pub fn from_iter<I: IntoIterator<Item = T>>(alloc: Global, iter: I) -> Result<Self, NewFault>
-        requires { IsFiniteSource I.IntoIterator I.IntoIter.Iterator iter }
-        ensures { MakesFull I.IntoIterator I.IntoIter.Iterator iter (λ q. slots_in q.set)
+        requires { IsFiniteSource (items_of I.IntoIterator I.IntoIter.Iterator iter) }
+        ensures { MakesFull (items_of I.IntoIterator I.IntoIter.Iterator iter) (λ q. slots_in q.set)
             (HoldsInOrder IsNewShared MarksShared POLL_LIMIT) result }
     {
         let items = drawn(alloc, iter)?;

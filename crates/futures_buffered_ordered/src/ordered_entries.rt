@@ -5,7 +5,7 @@
 ghost use Rattle.std.specs.Prelude.{◌≡◌, ◌↔◌, ◌<◌, ◌≤◌, ◌+◌, ℕ, [], ◌∷◌, length, true, false, IfOk, IfErr, OnOk, IsOk};
 ghost use Rattle.std.specs.Prelude.{IsErr, IsTrue, MatchOption};
 ghost use Rattle.futures.specs.Poll.{IfReady, OnPending};
-ghost use Rattle.futures_buffered_core.specs.Drawn.{IsFiniteSource};
+ghost use Rattle.futures_buffered_core.specs.Drawn.{IsFiniteSource, items_of};
 ghost use Rattle.futures_buffered_unordered.specs.Extended.{Extends};
 ghost use Rattle.futures_buffered_ordered.specs.declared.ordered_entries.Entry.TheVariants.{Kept};
 ghost use Rattle.futures_buffered_ordered.specs.OrderedEntries.{AddsBack, AddsFront, BesideTask, HandsBack, LastStep};
@@ -210,11 +210,11 @@ impl<Q: NumberedSet, A: Drop> OrderedEntries<Q, A> {
     /// Adds each item at the back, in order, as `add_back` does. The first that is refused comes back; those before it
     /// stay, and the iterator is asked for no further one.
     pub fn extend<I: IntoIterator<Item = Q::Future>>(&mut self, iter: I) -> Result<(), Q::Future>
-        requires finite { IsFiniteSource I.IntoIterator I.IntoIter.Iterator iter }
+        requires finite { IsFiniteSource (items_of I.IntoIterator I.IntoIter.Iterator iter) }
         requires numbered { IsNumbered Q.with_number Q.count self.old }
         requires held { Q.takes self.old.queue.set }
         requires fit { (future : Q.Future) → Q.is_fit future }
-        ensures extends { Extends I.IntoIterator I.IntoIter.Iterator iter (AddsBack Q.pushes)
+        ensures extends { Extends (items_of I.IntoIterator I.IntoIter.Iterator iter) (AddsBack Q.pushes)
             (RefusesOne Q.may_refuse) self.old.queue result self.new.queue }
         ensures keeps { AddingKeeps Q.with_number Q.count Q.keeps self.old self.new }
     {

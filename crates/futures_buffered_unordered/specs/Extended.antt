@@ -3,23 +3,21 @@ use Rattle.std.specs.Prelude.{◌≡◌, ◌<◌, ◌≤◌, ◌⊎◌, ℕ, Lis
 use Rattle.std.specs.Prelude.{OnOk, max}
 use Rattle.std.specs.Iterator.{YieldsThen}
 use Rattle.std.specs.List.{FoldsTo}
-use Rattle.futures_buffered_core.specs.Drawn.{SourceOf, IteratorOf, Draws, DrawsAndOne, SaysAtLeast}
-use Rattle.futures_buffered_core.specs.Drawn.{RefusesTooMany}
+use Rattle.futures_buffered_core.specs.Drawn.{Items, Draws, DrawsAndOne, SaysAtLeast, RefusesTooMany}
 use Rattle.futures_buffered_table.specs.declared.answer.NewFault.{NewFault}
 use Rattle.futures_buffered_table.specs.declared.answer.NewFault.TheVariants.{TooLarge}
 use Rattle.futures_buffered_table.specs.declared.answer.TheConstants.{MAX_CAPACITY}
 
--- P holds of each item that may come from a source
-abbrev pub EachDrawn : {U F I : Type 0} → SourceOf U F I → IteratorOf I F → U → (F → Type 0)
-    → Type 0
-EachDrawn {F = F} {I = I} by gives source P = (it : I) → by.into_iter_gives source it
+-- P holds of each item that may come
+abbrev pub EachDrawn : {U F I : Type 0} → Items U F I → (F → Type 0) → Type 0
+EachDrawn {F = F} {I = I} from P = (it : I) → from.by.into_iter_gives from.source it
     → (items : List F) (more : F) (rest : I)
-    → YieldsThen gives.next_gives it items (Some more) rest → P more
+    → YieldsThen from.gives.next_gives it items (Some more) rest → P more
 
-module _ {U F I X : Type 0} (by : SourceOf U F I) (gives : IteratorOf I F) (source : U) where
+module _ {U F I X : Type 0} (from : Items U F I) where
   -- what holds all items that came
   abbrev pub HoldsAllOf : (List F → X → Type 0) → X → Type 0
-  HoldsAllOf holds new = (items : List F) × Draws by gives source items × holds items new
+  HoldsAllOf holds new = (items : List F) × Draws from items × holds items new
 
   -- What a constructor makes that gives each item a slot, or why it makes nothing.
   pub record MakesFull
@@ -32,7 +30,7 @@ module _ {U F I X : Type 0} (by : SourceOf U F I) (gives : IteratorOf I F) (sour
     -- it has no more slots than there may be
     pub fits : IfOk result (λ made. slots made ≤ MAX_CAPACITY)
     -- it is `TooLarge` only where more came
-    pub large : RefusesTooMany by gives source result
+    pub large : RefusesTooMany from result
 
   -- These items came and went in. The next one came, was refused, and had to go back. No further
   -- one was asked for.
@@ -46,8 +44,8 @@ module _ {U F I X : Type 0} (by : SourceOf U F I) (gives : IteratorOf I F) (sour
     pub items : List F
     pub it : I
     pub rest : I
-    pub begins : by.into_iter_gives source it
-    pub came : YieldsThen gives.next_gives it items (Some back) rest
+    pub begins : from.by.into_iter_gives from.source it
+    pub came : YieldsThen from.gives.next_gives it items (Some back) rest
     pub stopped : X
     pub added : FoldsTo adds old items stopped
     pub refused : refuses stopped new
@@ -55,7 +53,7 @@ module _ {U F I X : Type 0} (by : SourceOf U F I) (gives : IteratorOf I F) (sour
   -- These items went into what begins so, in order. One more came, and nothing more went in.
   abbrev pub StopsAtBound : (X → F → X → Type 0) → (X → Type 0) → X → Type 0
   StopsAtBound adds is_at_bound start = (items : List F) × (stopped : X)
-      × DrawsAndOne by gives source items
+      × DrawsAndOne from items
       × FoldsTo adds start items stopped
       × is_at_bound stopped
 
@@ -89,15 +87,15 @@ module _ {U F I X : Type 0} (by : SourceOf U F I) (gives : IteratorOf I F) (sour
     -- for no fewer than the first number, and then took in all that came
     abbrev pub GrowsByAllOf : X → Type 0
     GrowsByAllOf new = (items : List F) × (least : ℕ) × ((start : X)
-        × Draws by gives source items
-        × SaysAtLeast by gives source least
+        × Draws from items
+        × SaysAtLeast from least
         × starts (max least first) start
         × FoldsTo adds start items new)
 
     -- it could not begin with so much room, or not all that came went in
     abbrev pub Outgrows : (X → Type 0) → Type 0
     Outgrows is_at_bound = (least : ℕ)
-        × SaysAtLeast by gives source least
+        × SaysAtLeast from least
         × ((MAX_CAPACITY < max least first) ⊎ ((start : X)
         × starts (max least first) start
         × StopsAtBound adds is_at_bound start))

@@ -8,7 +8,7 @@ ghost use Rattle.std.specs.Prelude.{IfOk, IfErr, IfNone};
 ghost use Rattle.std.specs.List.{All};
 ghost use Rattle.futures.specs.Poll.{IfReady, OnPending};
 ghost use Rattle.futures.specs.Task.{Keeps};
-ghost use Rattle.futures_buffered_core.specs.Drawn.{IsFiniteSource};
+ghost use Rattle.futures_buffered_core.specs.Drawn.{IsFiniteSource, items_of};
 ghost use Rattle.futures_buffered_core.specs.Answer.{RefusesTooLarge};
 ghost use Rattle.futures_buffered_core.specs.Made.{MakesGroup, MakesSlots};
 ghost use Rattle.futures_buffered_core.specs.ReadyShared.{IsNewShared, MarksShared};
@@ -289,8 +289,8 @@ impl<F: Drop, S: NewSource> FuturesUnordered<F, S> {
     /// Pushes each item, in order, as `push` does. The first that is refused comes back; those before it stay, and the
     /// iterator is asked for no further one.
     pub fn extend<I: IntoIterator<Item = F>>(&mut self, iter: I) -> Result<(), F>
-        requires { IsFiniteSource I.IntoIterator I.IntoIter.Iterator iter }
-        ensures { Extends I.IntoIterator I.IntoIter.Iterator iter
+        requires { IsFiniteSource (items_of I.IntoIterator I.IntoIter.Iterator iter) }
+        ensures { Extends (items_of I.IntoIterator I.IntoIter.Iterator iter)
             (GrowingPushes S.marks S.made FIRST_GROUP)
             (λ stopped new. SetMayRefuse stopped × (new ≡ stopped)) self.old result self.new }
     {
@@ -304,11 +304,11 @@ impl<F: Drop, S: NewSource> FuturesUnordered<F, S> {
 
     // Adds each item, in order, up to the first that is refused.
     fn add_each<I: IntoIterator<Item = F>>(&mut self, iter: I) -> Result<(), NewFault>
-        requires { IsFiniteSource I.IntoIterator I.IntoIter.Iterator iter }
-        ensures all { OnOk result (HoldsAllOf I.IntoIterator I.IntoIter.Iterator iter
+        requires { IsFiniteSource (items_of I.IntoIterator I.IntoIter.Iterator iter) }
+        ensures all { OnOk result (HoldsAllOf (items_of I.IntoIterator I.IntoIter.Iterator iter)
             (PushesEach S.marks S.made self.old) self.new) }
         ensures large { result ≡ Err NewFault.TooLarge
-            → StopsAtBound I.IntoIterator I.IntoIter.Iterator iter
+            → StopsAtBound (items_of I.IntoIterator I.IntoIter.Iterator iter)
             (GrowingPushes S.marks S.made FIRST_GROUP) SetRefuses self.old }
     {
         for item in iter {
@@ -472,8 +472,8 @@ impl<F: Drop> FuturesUnordered<F, SharedReady> {
     /// items that came are dropped: `TooLarge` where that number or a later group is too large, or more than `MAX_HELD`
     /// came.
     pub fn from_iter<I: IntoIterator<Item = F>>(alloc: Global, iter: I) -> Result<Self, NewFault>
-        requires { IsFiniteSource I.IntoIterator I.IntoIter.Iterator iter }
-        ensures { MakesGrown I.IntoIterator I.IntoIter.Iterator iter FIRST_GROUP
+        requires { IsFiniteSource (items_of I.IntoIterator I.IntoIter.Iterator iter) }
+        ensures { MakesGrown (items_of I.IntoIterator I.IntoIter.Iterator iter) FIRST_GROUP
             (λ n. IsNewGrowing IsNewShared n POLL_LIMIT)
             (GrowingPushes MarksShared IsNewShared FIRST_GROUP) SetRefuses result }
     {

@@ -5,7 +5,7 @@
 //! ready. A slot that nobody marked costs nothing.
 ghost use Rattle.std.specs.Prelude.{◌≡◌, ◌<◌, ◌≤◌, ◌+◌, ◌==◌, ◌↔◌, IfOk, IsSome, IsTrue};
 ghost use Rattle.futures.specs.Task.{Covers};
-ghost use Rattle.futures_buffered_core.specs.Drawn.{IsFiniteSource};
+ghost use Rattle.futures_buffered_core.specs.Drawn.{IsFiniteSource, items_of};
 ghost use Rattle.futures_buffered_core.specs.Made.{MakesSlots};
 ghost use Rattle.futures_buffered_core.specs.ReadyShared.{IsNewShared, MarksShared};
 ghost use Rattle.futures_buffered_core.specs.ReadySource.{WaitsAlike};
@@ -131,8 +131,8 @@ impl<F: Drop, S: NewSource> FuturesUnorderedBounded<F, S> {
         alloc: Global,
         iter: I,
     ) -> Result<Self, NewFault>
-        requires { IsFiniteSource I.IntoIterator I.IntoIter.Iterator iter }
-        ensures { MakesFull I.IntoIterator I.IntoIter.Iterator iter slots_in
+        requires { IsFiniteSource (items_of I.IntoIterator I.IntoIter.Iterator iter) }
+        ensures { MakesFull (items_of I.IntoIterator I.IntoIter.Iterator iter) slots_in
             (HoldsEach S.made S.marks POLL_LIMIT) result }
     {
         Self::over_limit(env, alloc, iter, POLL_LIMIT)
@@ -145,9 +145,9 @@ impl<F: Drop, S: NewSource> FuturesUnorderedBounded<F, S> {
         iter: I,
         limit: usize,
     ) -> Result<Self, NewFault>
-        requires finite { IsFiniteSource I.IntoIterator I.IntoIter.Iterator iter }
+        requires finite { IsFiniteSource (items_of I.IntoIterator I.IntoIter.Iterator iter) }
         requires some { 1 ≤ limit }
-        ensures { MakesFull I.IntoIterator I.IntoIter.Iterator iter slots_in
+        ensures { MakesFull (items_of I.IntoIterator I.IntoIter.Iterator iter) slots_in
             (HoldsEach S.made S.marks limit) result }
     {
         let slots = PinSlotMap::from_iter(alloc, iter)?;
@@ -227,8 +227,8 @@ impl<F: Drop, S: ReadySource> FuturesUnorderedBounded<F, S> {
     /// Pushes each item, in order, as `try_push` does. The first for which there is no free slot comes back; those
     /// before it stay, and the iterator is asked for no further one.
     pub fn extend<I: IntoIterator<Item = F>>(&mut self, iter: I) -> Result<(), F>
-        requires { IsFiniteSource I.IntoIterator I.IntoIter.Iterator iter }
-        ensures extends { Extends I.IntoIterator I.IntoIter.Iterator iter (Pushes S.marks)
+        requires { IsFiniteSource (items_of I.IntoIterator I.IntoIter.Iterator iter) }
+        ensures extends { Extends (items_of I.IntoIterator I.IntoIter.Iterator iter) (Pushes S.marks)
             (λ stopped new. IsFull stopped.slots × (new ≡ stopped)) self.old result self.new }
         ensures capacity { slot_count self.new.slots ≡ slot_count self.old.slots }
     {
@@ -402,8 +402,8 @@ impl<F: Drop> FuturesUnorderedBounded<F, SharedReady> {
     /// A set without a free slot, which holds item k in slot k, each marked, in this order, and whose values are woken
     /// from any thread. It is `over` with a shared source, and refuses as `over` does.
     pub fn from_iter<I: IntoIterator<Item = F>>(alloc: Global, iter: I) -> Result<Self, NewFault>
-        requires { IsFiniteSource I.IntoIterator I.IntoIter.Iterator iter }
-        ensures { MakesFull I.IntoIterator I.IntoIter.Iterator iter slots_in
+        requires { IsFiniteSource (items_of I.IntoIterator I.IntoIter.Iterator iter) }
+        ensures { MakesFull (items_of I.IntoIterator I.IntoIter.Iterator iter) slots_in
             (HoldsEach IsNewShared MarksShared POLL_LIMIT) result }
     {
         Self::over(&(), alloc, iter)

@@ -1,3 +1,4 @@
+use Rattle.futures_buffered_core.specs.Drawn.{items_of}
 use Rattle.std.proofs.Common.{◌≡◌, ◌≤◌, rules, ap, None, length, replicate, ◌∙◌, arith}
 use Rattle.std.proofs.lemmas.List.{length-replicate}
 use Rattle.futures_buffered_table.specs.declared.answer.TheConstants.{MAX_CAPACITY}
@@ -5,7 +6,7 @@ use Rattle.futures_buffered_joins.proofs.InFlightJoinLemmas.{fit_drawn, all_wait
 use Rattle.futures_buffered_joins.proofs.flying.Flying.over.Goals as goal
 
 pub push_all-requires-clause-fit : goal.push_all-requires-clause-fit
-push_all-requires-clause-fit g c = fit_drawn g.I.IntoIterator g.I.IntoIter.Iterator c.args.iter g.F.Future.can_poll c.in_ok-futures.futures.items c.requires.fit c.in_ok-futures.ensures.drawn
+push_all-requires-clause-fit g c = fit_drawn (items_of g.I.IntoIterator g.I.IntoIter.Iterator c.args.iter) g.F.Future.can_poll c.in_ok-futures.futures.items c.requires.fit c.in_ok-futures.ensures.drawn
 
 pub returns-clause-made : goal.returns-clause-made
 returns-clause-made g c =

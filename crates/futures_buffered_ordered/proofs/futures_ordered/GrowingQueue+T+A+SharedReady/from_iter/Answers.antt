@@ -1,6 +1,6 @@
 use Rattle.std.proofs.Common.{◌<◌, rules, max, inl, inr}
 use Rattle.futures_buffered_table.specs.declared.answer.TheConstants.{MAX_CAPACITY}
-use Rattle.futures_buffered_core.specs.Drawn.{Draws, DrawsAndOne, SaysAtLeast}
+use Rattle.futures_buffered_core.specs.Drawn.{Draws, DrawsAndOne, SaysAtLeast, items_of}
 use Rattle.futures_buffered_core.specs.ReadyShared.{MarksShared, IsNewShared}
 use Rattle.futures_buffered_unordered.specs.FuturesUnordered.{SetRefuses}
 use Rattle.futures_buffered_ordered.specs.FuturesOrdered.{GrowingPushesNumber, IsNewGrowingQueue}
@@ -14,8 +14,8 @@ loop-item-preserved g c = (search rules, search rules, adds_one_more (GrowingPus
 pub returns : goal.returns
 returns g c =
     let least = c.size_hint-least.result.0 in
-    let draws : Draws g.I.IntoIterator g.I.IntoIter.Iterator c.args.iter c.loop-item.yielded = search rules in
-    let says : SaysAtLeast g.I.IntoIterator g.I.IntoIter.Iterator c.args.iter least = search rules in
+    let draws : Draws (items_of g.I.IntoIterator g.I.IntoIter.Iterator c.args.iter) c.loop-item.yielded = search rules in
+    let says : SaysAtLeast (items_of g.I.IntoIterator g.I.IntoIter.Iterator c.args.iter) least = search rules in
     let start : IsNewGrowingQueue IsNewShared (max least 32) 61 c.in_ok-queue.queue = search rules in
     record {
       holds = (c.loop-item.yielded, least, (c.in_ok-queue.queue, draws, says, start, c.loop-item.invariant.2));
@@ -25,7 +25,7 @@ returns g c =
 pub returns-in_err-queue : goal.returns-in_err-queue
 returns-in_err-queue g c =
     let least = c.size_hint-least.result.0 in
-    let says : SaysAtLeast g.I.IntoIterator g.I.IntoIter.Iterator c.args.iter least = search rules in
+    let says : SaysAtLeast (items_of g.I.IntoIterator g.I.IntoIter.Iterator c.args.iter) least = search rules in
     record {
       holds = search rules;
       large = λ e.
@@ -36,8 +36,8 @@ returns-in_err-queue g c =
 pub returns-in_err-add_back : goal.returns-in_err-add_back
 returns-in_err-add_back g c =
     let least = c.size_hint-least.result.0 in
-    let draws : DrawsAndOne g.I.IntoIterator g.I.IntoIter.Iterator c.args.iter c.loop-item.yielded = search rules in
-    let says : SaysAtLeast g.I.IntoIterator g.I.IntoIter.Iterator c.args.iter least = search rules in
+    let draws : DrawsAndOne (items_of g.I.IntoIterator g.I.IntoIter.Iterator c.args.iter) c.loop-item.yielded = search rules in
+    let says : SaysAtLeast (items_of g.I.IntoIterator g.I.IntoIter.Iterator c.args.iter) least = search rules in
     let start : IsNewGrowingQueue IsNewShared (max least 32) 61 c.in_ok-queue.queue = search rules in
     record {
       holds = search rules;

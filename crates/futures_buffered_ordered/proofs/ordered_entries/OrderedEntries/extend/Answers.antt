@@ -1,3 +1,4 @@
+use Rattle.futures_buffered_core.specs.Drawn.{items_of}
 use Rattle.std.proofs.Common.{rules}
 use Rattle.futures_buffered_unordered.specs.Extended.{ExtendsUntil}
 use Rattle.futures_buffered_ordered.specs.OrderedEntries.{AddsBack, RefusesOne}
@@ -6,7 +7,7 @@ use Rattle.futures_buffered_ordered.proofs.ordered_entries.OrderedEntries.extend
 pub returns-in_err-add_back-clause-extends : goal.returns-in_err-add_back-clause-extends
 returns-in_err-add_back-clause-extends g c =
     let back = c.in_err-add_back.ensures.push.back in
-    let stops : ExtendsUntil g.I.IntoIterator g.I.IntoIter.Iterator c.args.iter (AddsBack g.Q.NumberedSet.pushes) (RefusesOne g.Q.NumberedSet.may_refuse) c.args.self.now.queue c.in-Some.item c.add_back.new.self.queue = record {
+    let stops : ExtendsUntil (items_of g.I.IntoIterator g.I.IntoIter.Iterator c.args.iter) (AddsBack g.Q.NumberedSet.pushes) (RefusesOne g.Q.NumberedSet.may_refuse) c.args.self.now.queue c.in-Some.item c.add_back.new.self.queue = record {
       items = c.loop-item.yielded;
       it = c.into_iter-item-iterator.result;
       rest = c.next.new.self;

@@ -1,7 +1,7 @@
 use Rattle.std.proofs.Common.{◌≡◌, ◌<◌, Err, rules, subst, inl, inr}
 use Rattle.futures_buffered_table.specs.declared.answer.NewFault.TheVariants.{TooLarge}
 use Rattle.futures_buffered_table.specs.declared.answer.TheConstants.{MAX_CAPACITY}
-use Rattle.futures_buffered_core.specs.Drawn.{SaysAtLeast}
+use Rattle.futures_buffered_core.specs.Drawn.{SaysAtLeast, items_of}
 use Rattle.futures_buffered_core.specs.ReadyShared.{IsNewShared}
 use Rattle.futures_buffered_unordered.specs.FuturesUnordered.{IsNewGrowing}
 use Rattle.futures_buffered_unordered.proofs.ExtendedLemmas.{draws_of, draws_and_one_of}
@@ -9,7 +9,7 @@ use Rattle.futures_buffered_unordered.proofs.futures_unordered.FuturesUnordered+
 
 pub returns-in_err-set : goal.returns-in_err-set
 returns-in_err-set g c =
-    let says : SaysAtLeast g.I.IntoIterator g.I.IntoIter.Iterator c.args.iter c.size_hint-least.result.0 = search rules in
+    let says : SaysAtLeast (items_of g.I.IntoIterator g.I.IntoIter.Iterator c.args.iter) c.size_hint-least.result.0 = search rules in
     record {
       holds = search rules;
       large = λ e.
@@ -20,9 +20,9 @@ returns-in_err-set g c =
 pub returns : goal.returns
 returns g c =
     let all = c.in_ok-add_each.ensures.all in
-    let says : SaysAtLeast g.I.IntoIterator g.I.IntoIter.Iterator c.args.iter c.size_hint-least.result.0 = search rules in
+    let says : SaysAtLeast (items_of g.I.IntoIterator g.I.IntoIter.Iterator c.args.iter) c.size_hint-least.result.0 = search rules in
     let start = subst (λ n. IsNewGrowing IsNewShared n 61 c.in_ok-set.set) c.max.ensures c.in_ok-set.ensures.made in
-    let draws = draws_of g.I.IntoIterator g.I.IntoIter.Iterator c.args.iter c.into_iter-iter.result c.into_iter-iter.ensures.into_iter_gives all.0 all.1.0 all.1.1 all.1.2 in
+    let draws = draws_of (items_of g.I.IntoIterator g.I.IntoIter.Iterator c.args.iter) c.into_iter-iter.result c.into_iter-iter.ensures.into_iter_gives all.0 all.1.0 all.1.1 all.1.2 in
     record {
       holds = (all.0, c.size_hint-least.result.0, (c.in_ok-set.set, draws, says, start, all.2));
       large = search rules;
@@ -30,13 +30,13 @@ returns g c =
 
 pub returns-in_err-add_each : goal.returns-in_err-add_each
 returns-in_err-add_each g c =
-    let says : SaysAtLeast g.I.IntoIterator g.I.IntoIter.Iterator c.args.iter c.size_hint-least.result.0 = search rules in
+    let says : SaysAtLeast (items_of g.I.IntoIterator g.I.IntoIter.Iterator c.args.iter) c.size_hint-least.result.0 = search rules in
     let start = subst (λ n. IsNewGrowing IsNewShared n 61 c.in_ok-set.set) c.max.ensures c.in_ok-set.ensures.made in
     record {
       holds = search rules;
       large = λ e.
           let refused : c.add_each.result ≡ Err TooLarge = search rules in
           let stops = c.add_each.ensures.large refused in
-          let draws = draws_and_one_of g.I.IntoIterator g.I.IntoIter.Iterator c.args.iter c.into_iter-iter.result c.into_iter-iter.ensures.into_iter_gives stops.0 stops.2.0 stops.2.1 stops.2.2 stops.2.3 stops.2.4 in
+          let draws = draws_and_one_of (items_of g.I.IntoIterator g.I.IntoIter.Iterator c.args.iter) c.into_iter-iter.result c.into_iter-iter.ensures.into_iter_gives stops.0 stops.2.0 stops.2.1 stops.2.2 stops.2.3 stops.2.4 in
           (c.size_hint-least.result.0, says, inr (c.in_ok-set.set, start, (stops.0, stops.1, draws, stops.3, stops.4)));
     }

@@ -1,3 +1,4 @@
+use Rattle.futures_buffered_core.specs.Drawn.{items_of}
 use Rattle.std.proofs.Common.{◌≡◌, rules}
 use Rattle.std.proofs.lemmas.Fn.{FoldsTo-push}
 use Rattle.futures_buffered_unordered.specs.Extended.{ExtendsUntil}
@@ -10,7 +11,7 @@ loop-item-preserved g c = (search rules, search rules, FoldsTo-push (GrowingPush
 pub returns-in-Err : goal.returns-in-Err
 returns-in-Err g c =
     let source = g.S.ReadySource in
-    let stops : ExtendsUntil g.I.IntoIterator g.I.IntoIter.Iterator c.args.iter (GrowingPushes source.marks g.S.NewSource.made 32) (λ (stopped new : Growing g.row.F.Denot g.row.S.Denot). SetMayRefuse stopped × (new ≡ stopped)) c.args.self.now c.in-Some.item c.push.new.self = record {
+    let stops : ExtendsUntil (items_of g.I.IntoIterator g.I.IntoIter.Iterator c.args.iter) (GrowingPushes source.marks g.S.NewSource.made 32) (λ (stopped new : Growing g.row.F.Denot g.row.S.Denot). SetMayRefuse stopped × (new ≡ stopped)) c.args.self.now c.in-Some.item c.push.new.self = record {
       items = c.loop-item.yielded;
       it = c.into_iter-item-iterator.result;
       rest = c.next.new.self;

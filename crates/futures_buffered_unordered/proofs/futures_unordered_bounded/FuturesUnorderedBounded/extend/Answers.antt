@@ -1,3 +1,4 @@
+use Rattle.futures_buffered_core.specs.Drawn.{items_of}
 use Rattle.std.proofs.Common.{◌≡◌, rules, sym, subst, ◌∙◌}
 use Rattle.std.proofs.lemmas.Fn.{FoldsTo-push}
 use Rattle.futures_buffered_core.specs.SlotMap.{IsFull}
@@ -11,7 +12,7 @@ loop-item-preserved g c = (search rules, search rules, FoldsTo-push (Pushes g.S.
 pub returns-in-Err-clause-extends : goal.returns-in-Err-clause-extends
 returns-in-Err-clause-extends g c =
     let full = c.in-Err.ensures.full in
-    let Stops = λ (back : g.row.F.Denot). ExtendsUntil g.I.IntoIterator g.I.IntoIter.Iterator c.args.iter (Pushes g.S.ReadySource.marks) (λ (stopped new : Bounded g.row.F.Denot g.row.S.Denot). IsFull stopped.slots × (new ≡ stopped)) c.args.self.now back c.try_push.new.self in
+    let Stops = λ (back : g.row.F.Denot). ExtendsUntil (items_of g.I.IntoIterator g.I.IntoIter.Iterator c.args.iter) (Pushes g.S.ReadySource.marks) (λ (stopped new : Bounded g.row.F.Denot g.row.S.Denot). IsFull stopped.slots × (new ≡ stopped)) c.args.self.now back c.try_push.new.self in
     let stops : Stops c.in-Some.item = record {
       items = c.loop-item.yielded;
       it = c.into_iter-item-iterator.result;
