@@ -14,8 +14,10 @@ use Rattle.futures_buffered_table.specs.declared.answer.Woke.{Woke}
 use Rattle.futures_buffered_core.specs.ReadySource.{SourceSteps}
 use Rattle.futures_buffered_unordered.specs.Held.{Passes, Yields}
 use Rattle.futures_buffered_unordered.specs.FuturesUnorderedBounded.{Bounded, Pushes, PollGives, held_in}
+use Rattle.futures_buffered_core.specs.declared.ready_source.ReadySource.{Ghosts as ReadySourceOf}
+use Rattle.futures_buffered_unordered.specs.declared.slot_future.SlotFuture.{Ghosts as SlotFutureOf}
 use Rattle.futures_buffered.specs.FutureQueue.{OnlyPushes}
-use Rattle.futures_buffered.specs.Buffer.{Accounts, PollsStream, output_of}
+use Rattle.futures_buffered.specs.Buffer.{StreamOf, Accounts, PollsStream, output_of}
 use Rattle.futures_buffered.specs.BufferUnordered.{PendsTo, WaitsInSlot, MayGiveInSlot, LosesNothing, TryLosesNothing, held_values}
 use Rattle.futures_buffered.specs.TryBuffer.{PushesOk}
 use Rattle.futures_buffered.proofs.BufferAccountLemmas.{many_calls}
@@ -193,15 +195,15 @@ module _ {F A S : Type 0} (polled : ℕ → F → Poll A → F → Type 0) (mark
   account : (drawn : List F) (outputs : List A) (set : Bounded F S) → So drawn outputs set → Accounts IsPermutation (MayGiveInSlot polled) (WaitsInSlot polled) drawn outputs (held_values set.slots)
   account drawn outputs set so = record { gone = so.gone; kept = somes so.origins; all = so.all; gave = so.gave; became = kept_came polled polled (λ f g w. w) so.origins set.slots.places so.came }
 
-pub loses_nothing : {St F A S : Type 0} (yields : St → Runs F) (polled : ℕ → F → Poll A → F → Type 0) (steps : SourceSteps S) (marks : S → ℕ → Woke → S → Type 0) → LosesNothing yields polled steps marks
-loses_nothing yields polled steps marks n old new calls empty ran =
-    account polled marks _ _ new.queue
-    (many_calls (PollsStream yields) held_in n (OnlyPushes (Pushes marks)) (PollGives polled steps) (So polled marks) (set_drew polled marks) (λ drawn outputs before after f x so never. absurd never) (gave_one polled steps)
-    calls [] [] old new (start polled marks old.queue empty) ran)
+pub loses_nothing : {St F A S W : Type 0} (stream : StreamOf St F) (future : SlotFutureOf F W A) (source : ReadySourceOf S W) → LosesNothing stream future source
+loses_nothing stream future source n old new calls empty ran =
+    account future.polled source.marks _ _ new.queue
+    (many_calls (PollsStream stream.yields) held_in n (OnlyPushes (Pushes source.marks)) (PollGives future.polled source.steps) (So future.polled source.marks) (set_drew future.polled source.marks) (λ drawn outputs before after f x so never. absurd never) (gave_one future.polled source.steps)
+    calls [] [] old new (start future.polled source.marks old.queue empty) ran)
 
 -- the same where the stream gives errors as well
-pub try_loses_nothing : {St F T E S : Type 0} (yields : St → Runs (Result F E)) (polled : ℕ → F → Poll (Result T E) → F → Type 0) (steps : SourceSteps S) (marks : S → ℕ → Woke → S → Type 0) → TryLosesNothing yields polled steps marks
-try_loses_nothing yields polled steps marks n old new calls empty ran =
-    let so = many_calls (PollsStream yields) held_in n (PushesOk (OnlyPushes (Pushes marks))) (PollGives polled steps) (AmongErrors (So polled marks)) (ok_drew (So polled marks) (Pushes marks) (set_drew polled marks)) (error_handed (So polled marks) (Pushes marks)) (queue_gave (So polled marks) (PollGives polled steps) (gave_one polled steps))
-    calls [] [] old new ([], start polled marks old.queue empty, ([], (refl, refl))) ran in
-    (so.0, so.2, account polled marks _ _ new.queue so.1)
+pub try_loses_nothing : {St F T E S W : Type 0} (stream : StreamOf St (Result F E)) (future : SlotFutureOf F W (Result T E)) (source : ReadySourceOf S W) → TryLosesNothing stream future source
+try_loses_nothing stream future source n old new calls empty ran =
+    let so = many_calls (PollsStream stream.yields) held_in n (PushesOk (OnlyPushes (Pushes source.marks))) (PollGives future.polled source.steps) (AmongErrors (So future.polled source.marks)) (ok_drew (So future.polled source.marks) (Pushes source.marks) (set_drew future.polled source.marks)) (error_handed (So future.polled source.marks) (Pushes source.marks)) (queue_gave (So future.polled source.marks) (PollGives future.polled source.steps) (gave_one future.polled source.steps))
+    calls [] [] old new ([], start future.polled source.marks old.queue empty, ([], (refl, refl))) ran in
+    (so.0, so.2, account future.polled source.marks _ _ new.queue so.1)

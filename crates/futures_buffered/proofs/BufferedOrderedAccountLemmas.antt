@@ -25,8 +25,10 @@ use Rattle.futures_buffered_ordered.specs.declared.ordered_entries.Entry.{Entry}
 use Rattle.futures_buffered_ordered.specs.declared.ordered_entries.Entry.TheVariants.{Running, Kept}
 use Rattle.futures_buffered_ordered.proofs.NumberedLemmas.{count-names, in_slots, none_held, numbers_inserted, numbers_polled}
 use Rattle.futures_buffered_ordered.proofs.OrderedEntriesInvariantLemmas.{runs-set}
+use Rattle.futures_buffered_core.specs.declared.ready_source.ReadySource.{Ghosts as ReadySourceOf}
+use Rattle.futures_buffered_unordered.specs.declared.slot_future.SlotFuture.{Ghosts as SlotFutureOf}
 use Rattle.futures_buffered.specs.FutureQueue.{OnlyPushes}
-use Rattle.futures_buffered.specs.Buffer.{Accounts, PollsStream, output_of}
+use Rattle.futures_buffered.specs.Buffer.{StreamOf, Accounts, PollsStream, output_of}
 use Rattle.futures_buffered.specs.BufferUnordered.{PendsTo, MayGiveInSlot}
 use Rattle.futures_buffered.specs.BufferedOrdered.{BecomesEntry, GivesInOrder, TryGivesInOrder, queue_len}
 use Rattle.futures_buffered.specs.TryBuffer.{PushesOk}
@@ -310,15 +312,15 @@ start polled queue empty none_in =
 account : {F A S : Type 0} (polled : ℕ → F → Poll A → F → Type 0) (drawn : List F) (outputs : List A) (queue : OrderedBounded F A S) → SoFar polled drawn outputs queue → Accounts (λ drawn items. drawn ≡ items) (MayGiveInSlot polled) (BecomesEntry polled queue.set.slots) drawn outputs queue.entries
 account polled drawn outputs queue so = record { gone = so.gone; kept = so.kept; all = so.all; gave = so.gave; became = so.came }
 
-pub gives_in_order : {St F A S : Type 0} (yields : St → Runs F) (polled : ℕ → F → Poll A → F → Type 0) (steps : SourceSteps S) (marks : S → ℕ → Woke → S → Type 0) → GivesInOrder yields polled steps marks
-gives_in_order yields polled steps marks n old new calls empty none_in ran =
-    account polled _ _ new.queue
-    (many_calls (PollsStream yields) queue_len n (OnlyPushes (AddsBack (PushesNumber marks))) (OrderedGives (SetGives polled steps) held_in) (SoFar polled) (drew polled marks) (λ drawn outputs before after f x so never. absurd never) (one_poll polled steps)
-    calls [] [] old new (start polled old.queue empty none_in) ran)
+pub gives_in_order : {St F A S W : Type 0} (stream : StreamOf St F) (future : SlotFutureOf F W A) (source : ReadySourceOf S W) → GivesInOrder stream future source
+gives_in_order stream future source n old new calls empty none_in ran =
+    account future.polled _ _ new.queue
+    (many_calls (PollsStream stream.yields) queue_len n (OnlyPushes (AddsBack (PushesNumber source.marks))) (OrderedGives (SetGives future.polled source.steps) held_in) (SoFar future.polled) (drew future.polled source.marks) (λ drawn outputs before after f x so never. absurd never) (one_poll future.polled source.steps)
+    calls [] [] old new (start future.polled old.queue empty none_in) ran)
 
 -- the same where the stream gives errors as well
-pub try_gives_in_order : {St F T E S : Type 0} (yields : St → Runs (Result F E)) (polled : ℕ → F → Poll (Result T E) → F → Type 0) (steps : SourceSteps S) (marks : S → ℕ → Woke → S → Type 0) → TryGivesInOrder yields polled steps marks
-try_gives_in_order yields polled steps marks n old new calls empty none_in ran =
-    let so = many_calls (PollsStream yields) queue_len n (PushesOk (OnlyPushes (AddsBack (PushesNumber marks)))) (OrderedGives (SetGives polled steps) held_in) (AmongErrors (SoFar polled)) (ok_drew (SoFar polled) (AddsBack (PushesNumber marks)) (drew polled marks)) (error_handed (SoFar polled) (AddsBack (PushesNumber marks))) (queue_gave (SoFar polled) (OrderedGives (SetGives polled steps) held_in) (one_poll polled steps))
-    calls [] [] old new ([], start polled old.queue empty none_in, ([], (refl, refl))) ran in
-    (so.0, so.2, account polled _ _ new.queue so.1)
+pub try_gives_in_order : {St F T E S W : Type 0} (stream : StreamOf St (Result F E)) (future : SlotFutureOf F W (Result T E)) (source : ReadySourceOf S W) → TryGivesInOrder stream future source
+try_gives_in_order stream future source n old new calls empty none_in ran =
+    let so = many_calls (PollsStream stream.yields) queue_len n (PushesOk (OnlyPushes (AddsBack (PushesNumber source.marks)))) (OrderedGives (SetGives future.polled source.steps) held_in) (AmongErrors (SoFar future.polled)) (ok_drew (SoFar future.polled) (AddsBack (PushesNumber source.marks)) (drew future.polled source.marks)) (error_handed (SoFar future.polled) (AddsBack (PushesNumber source.marks))) (queue_gave (SoFar future.polled) (OrderedGives (SetGives future.polled source.steps) held_in) (one_poll future.polled source.steps))
+    calls [] [] old new ([], start future.polled old.queue empty none_in, ([], (refl, refl))) ran in
+    (so.0, so.2, account future.polled _ _ new.queue so.1)

@@ -314,3 +314,24 @@ buffer_of stream queue = stream_of
     (CanDraw stream.can_poll stream.yields queue.is_fit queue.can_poll)
     (WaitsAt stream.needs queue.needs queue.count queue.room)
     (BufferGives stream.yields queue.gives queue.count queue.yields queue.in_order)
+
+-- What drawing makes of a buffer and of its task, by the ghost members of stream and queue.
+module _ {St X A Q : Type 0} (stream : StreamOf St X) (queue : FutureQueueOf Q X A) where
+  -- one draw
+  abbrev pub DrawsOne : Buffering St Q → ControlFlow (Option A) (Unit {0}) → Buffering St Q → Type 0
+  DrawsOne old result new = DrawsUpToOne (PollsStream stream.yields) queue.count
+      (queue.room old.queue) queue.pushes old result new
+
+  -- all draws of one call
+  abbrev pub Fills : Buffering St Q → Option A → Buffering St Q → Type 0
+  Fills old given new = (drawn : List X) × DrawsAll (PollsStream stream.yields) queue.count
+      (queue.room old.queue) queue.pushes old drawn given new
+
+  -- what they leave of the buffer
+  abbrev pub LeavesBuffer : Buffering St Q → Option A → Buffering St Q → Type 0
+  LeavesBuffer = DrawsBuffer queue.count queue.room (buffer_of stream queue).can_poll
+      (buffer_of stream queue).yields
+
+  -- and of the task, where drawing stopped because no item came, or for another reason
+  abbrev pub LeavesTask : Type 0 → Buffering St Q → Buffering St Q → Context → Context → Type 0
+  LeavesTask = DrawsTask (PollsStream stream.yields) queue.count queue.room stream.needs

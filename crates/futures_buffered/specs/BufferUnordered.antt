@@ -3,22 +3,16 @@ use Rattle.std.specs.Prelude.{◌≡◌, ℕ, List, Option, Result, IsPermutatio
 use Rattle.std.specs.List.{FoldsTo}
 use Rattle.futures.specs.declared.task.Poll.{Poll}
 use Rattle.futures.specs.declared.task.Poll.TheVariants.{Pending}
-use Rattle.futures.specs.Runs.{Runs}
 use Rattle.futures_buffered_core.specs.SlotMap.{Slots}
-use Rattle.futures_buffered_table.specs.declared.answer.Woke.{Woke}
-use Rattle.futures_buffered_core.specs.ReadySource.{SourceSteps}
+use Rattle.futures_buffered_core.specs.declared.ready_source.ReadySource.{Ghosts as ReadySourceOf}
+use Rattle.futures_buffered_unordered.specs.declared.slot_future.SlotFuture.{Ghosts as SlotFutureOf}
 use Rattle.futures_buffered_unordered.specs.Held.{MayGive}
 use Rattle.futures_buffered_unordered.specs.FuturesUnorderedBounded.{Bounded, Pushes, PollGives}
 use Rattle.futures_buffered_unordered.specs.FuturesUnorderedBounded.{IsNewSet, held_in}
 use Rattle.futures_buffered.specs.FutureQueue.{OnlyPushes}
-use Rattle.futures_buffered.specs.Buffer.{Buffering, PollsStream, CallsInTurn, Accounts}
+use Rattle.futures_buffered.specs.Buffer.{Buffering, StreamOf, PollsStream, CallsInTurn, Accounts}
 use Rattle.futures_buffered.specs.Buffer.{IsNewBuffer, all_drawn, all_outputs}
 use Rattle.futures_buffered.specs.TryBuffer.{PushesOk, WithErrors, futures_of}
-
--- nothing was drawn, and the set is a new one of n slots
-abbrev pub IsNewUnordered : {St F S : Type 0}
-    → (ℕ → S → Type 0) → ℕ → St → ℕ → Buffering St (Bounded F S) → Type 0
-IsNewUnordered made limit stream n = IsNewBuffer (IsNewSet made n limit) stream
 
 -- a pending poll of a set waits with its source
 abbrev pub SetWaitsAt : {F S : Type 0} → (S → ℕ → Type 0) → Bounded F S → ℕ → Type 0
@@ -44,33 +38,25 @@ MayGiveInSlot polled f x = (slot : ℕ) × MayGive (polled slot) f x
 -- Where nothing was held at first, after any calls each item drawn either gave one of the outputs
 -- or is held still, as pending polls left it: no output is of two items or of none, and no item is
 -- lost.
-abbrev pub LosesNothing : {St F A S : Type 0}
-    → (St → Runs F)
-    → (ℕ → F → Poll A → F → Type 0)
-    → SourceSteps S
-    → (S → ℕ → Woke → S → Type 0)
-    → Type 0
-LosesNothing {St} {F} {A} {S} yields polled steps marks =
+abbrev pub LosesNothing : {St F A S W : Type 0} → StreamOf St F → SlotFutureOf F W A
+    → ReadySourceOf S W → Type 0
+LosesNothing {St} {F} {A} {S} stream future source =
     (n : ℕ) (old new : Buffering St (Bounded F S))
     (calls : List (List F × Poll (Option A))) → held_in old.queue ≡ 0
-    → CallsInTurn (PollsStream yields) held_in n (OnlyPushes (Pushes marks))
-    (PollGives polled steps) old calls new
-    → Accounts IsPermutation (MayGiveInSlot polled) (WaitsInSlot polled)
+    → CallsInTurn (PollsStream stream.yields) held_in n (OnlyPushes (Pushes source.marks))
+    (PollGives future.polled source.steps) old calls new
+    → Accounts IsPermutation (MayGiveInSlot future.polled) (WaitsInSlot future.polled)
     (all_drawn calls) (all_outputs calls) (held_values new.queue.slots)
 
 -- The same where the stream gives errors as well: some errors come among the outputs, and of the
 -- futures drawn none is lost.
-abbrev pub TryLosesNothing : {St F T E S : Type 0}
-    → (St → Runs (Result F E))
-    → (ℕ → F → Poll (Result T E) → F → Type 0)
-    → SourceSteps S
-    → (S → ℕ → Woke → S → Type 0)
-    → Type 0
-TryLosesNothing {St} {F} {T} {E} {S} yields polled steps marks =
+abbrev pub TryLosesNothing : {St F T E S W : Type 0} → StreamOf St (Result F E) → SlotFutureOf F W (Result T E)
+    → ReadySourceOf S W → Type 0
+TryLosesNothing {St} {F} {T} {E} {S} stream future source =
     (n : ℕ) (old new : Buffering St (Bounded F S))
     (calls : List (List (Result F E) × Poll (Option (Result T E)))) → held_in old.queue ≡ 0
-    → CallsInTurn (PollsStream yields) held_in n (PushesOk (OnlyPushes (Pushes marks)))
-    (PollGives polled steps) old calls new
+    → CallsInTurn (PollsStream stream.yields) held_in n (PushesOk (OnlyPushes (Pushes source.marks)))
+    (PollGives future.polled source.steps) old calls new
     → (outputs : List (Result T E)) × WithErrors outputs (all_outputs calls)
-    × Accounts IsPermutation (MayGiveInSlot polled) (WaitsInSlot polled)
+    × Accounts IsPermutation (MayGiveInSlot future.polled) (WaitsInSlot future.polled)
     (futures_of (all_drawn calls)) outputs (held_values new.queue.slots)

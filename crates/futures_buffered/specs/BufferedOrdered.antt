@@ -1,10 +1,9 @@
 -- What a contract sees of a `BufferedOrdered`: the words on buffers at a bounded ordered queue.
 use Rattle.std.specs.Prelude.{◌≡◌, ℕ, List, length, Option, Some, Result}
 use Rattle.futures.specs.declared.task.Poll.{Poll}
-use Rattle.futures.specs.Runs.{Runs}
 use Rattle.futures_buffered_core.specs.SlotMap.{Slots, value_in, slot_count}
-use Rattle.futures_buffered_table.specs.declared.answer.Woke.{Woke}
-use Rattle.futures_buffered_core.specs.ReadySource.{SourceSteps}
+use Rattle.futures_buffered_core.specs.declared.ready_source.ReadySource.{Ghosts as ReadySourceOf}
+use Rattle.futures_buffered_unordered.specs.declared.slot_future.SlotFuture.{Ghosts as SlotFutureOf}
 use Rattle.futures_buffered_unordered.specs.FuturesUnorderedBounded.{held_in}
 use Rattle.futures_buffered_ordered.specs.OrderedEntries.{AddsBack, OrderedGives}
 use Rattle.futures_buffered_ordered.specs.FuturesOrderedBounded.{OrderedBounded, PushesNumber}
@@ -13,7 +12,7 @@ use Rattle.futures_buffered_ordered.specs.declared.numbered.Numbered.{Numbered}
 use Rattle.futures_buffered_ordered.specs.declared.ordered_entries.Entry.{Entry}
 use Rattle.futures_buffered_ordered.specs.declared.ordered_entries.Entry.TheVariants.{Running, Kept}
 use Rattle.futures_buffered.specs.FutureQueue.{OnlyPushes}
-use Rattle.futures_buffered.specs.Buffer.{Buffering, PollsStream, CallsInTurn, Accounts}
+use Rattle.futures_buffered.specs.Buffer.{StreamOf, Buffering, PollsStream, CallsInTurn, Accounts}
 use Rattle.futures_buffered.specs.Buffer.{IsNewBuffer, all_drawn, all_outputs}
 use Rattle.futures_buffered.specs.BufferUnordered.{PendsTo, MayGiveInSlot, SetWaitsAt}
 use Rattle.futures_buffered.specs.TryBuffer.{PushesOk, WithErrors, futures_of}
@@ -25,11 +24,6 @@ queue_len queue = length queue.entries
 -- how many futures can be in progress
 abbrev pub queue_slots : {F A S : Type 0} → OrderedBounded F A S → ℕ
 queue_slots queue = slot_count queue.set.slots
-
--- nothing was drawn, and the queue is a new one of n slots
-abbrev pub IsNewOrdered : {St F A S : Type 0}
-    → (ℕ → S → Type 0) → ℕ → St → ℕ → Buffering St (OrderedBounded F A S) → Type 0
-IsNewOrdered made limit stream n = IsNewBuffer (IsNewBoundedQueue made n limit) stream
 
 -- a pending poll of a queue waits with the source of its set
 abbrev pub QueueWaitsAt : {F A S : Type 0} → (S → ℕ → Type 0) → OrderedBounded F A S → ℕ → Type 0
@@ -46,37 +40,29 @@ BecomesEntry polled slots future (Kept output) = MayGiveInSlot polled future out
 
 -- Where nothing was held at first, after any calls the outputs given so far are those of the first
 -- items drawn, in the order of these; and the other items are the entries held, in the same order.
-abbrev pub GivesInOrder : {St F A S : Type 0}
-    → (St → Runs F)
-    → (ℕ → F → Poll A → F → Type 0)
-    → SourceSteps S
-    → (S → ℕ → Woke → S → Type 0)
-    → Type 0
-GivesInOrder {St} {F} {A} {S} yields polled steps marks =
+abbrev pub GivesInOrder : {St F A S W : Type 0} → StreamOf St F → SlotFutureOf F W A
+    → ReadySourceOf S W → Type 0
+GivesInOrder {St} {F} {A} {S} stream future source =
     (n : ℕ) (old new : Buffering St (OrderedBounded F A S))
     (calls : List (List F × Poll (Option A))) → queue_len old.queue ≡ 0
     → held_in old.queue.set ≡ 0
-    → CallsInTurn (PollsStream yields) queue_len n (OnlyPushes (AddsBack (PushesNumber marks)))
-    (OrderedGives (SetGives polled steps) held_in) old calls new
-    → Accounts (λ drawn items. drawn ≡ items) (MayGiveInSlot polled)
-    (BecomesEntry polled new.queue.set.slots)
+    → CallsInTurn (PollsStream stream.yields) queue_len n (OnlyPushes (AddsBack (PushesNumber source.marks)))
+    (OrderedGives (SetGives future.polled source.steps) held_in) old calls new
+    → Accounts (λ drawn items. drawn ≡ items) (MayGiveInSlot future.polled)
+    (BecomesEntry future.polled new.queue.set.slots)
     (all_drawn calls) (all_outputs calls) new.queue.entries
 
 -- The same where the stream gives errors as well: some errors come among the outputs.
-abbrev pub TryGivesInOrder : {St F T E S : Type 0}
-    → (St → Runs (Result F E))
-    → (ℕ → F → Poll (Result T E) → F → Type 0)
-    → SourceSteps S
-    → (S → ℕ → Woke → S → Type 0)
-    → Type 0
-TryGivesInOrder {St} {F} {T} {E} {S} yields polled steps marks =
+abbrev pub TryGivesInOrder : {St F T E S W : Type 0} → StreamOf St (Result F E) → SlotFutureOf F W (Result T E)
+    → ReadySourceOf S W → Type 0
+TryGivesInOrder {St} {F} {T} {E} {S} stream future source =
     (n : ℕ) (old new : Buffering St (OrderedBounded F (Result T E) S))
     (calls : List (List (Result F E) × Poll (Option (Result T E)))) → queue_len old.queue ≡ 0
     → held_in old.queue.set ≡ 0
-    → CallsInTurn (PollsStream yields) queue_len n
-    (PushesOk (OnlyPushes (AddsBack (PushesNumber marks))))
-    (OrderedGives (SetGives polled steps) held_in) old calls new
+    → CallsInTurn (PollsStream stream.yields) queue_len n
+    (PushesOk (OnlyPushes (AddsBack (PushesNumber source.marks))))
+    (OrderedGives (SetGives future.polled source.steps) held_in) old calls new
     → (outputs : List (Result T E)) × WithErrors outputs (all_outputs calls)
-    × Accounts (λ drawn items. drawn ≡ items) (MayGiveInSlot polled)
-    (BecomesEntry polled new.queue.set.slots)
+    × Accounts (λ drawn items. drawn ≡ items) (MayGiveInSlot future.polled)
+    (BecomesEntry future.polled new.queue.set.slots)
     (futures_of (all_drawn calls)) outputs new.queue.entries

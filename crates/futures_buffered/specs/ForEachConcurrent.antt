@@ -21,8 +21,8 @@ use Rattle.futures_buffered_unordered.specs.PollsBounded.{PollsBounded}
 pub use Rattle.futures_buffered_unordered.specs.declared.slot_future.SlotFuture.{Ghosts as SlotFutureOf}
 use Rattle.futures_buffered_unordered.specs.PollsBounded.{itself}
 use Rattle.futures_buffered.specs.Buffer.{Buffering, StreamOf, buffer_code, Ahead, AsksStream}
-use Rattle.futures_buffered.specs.Buffer.{HasNoTurn, PollsStream, WaitsAt}
-use Rattle.futures_buffered.specs.BufferUnordered.{IsNewUnordered, SetWaitsAt}
+use Rattle.futures_buffered.specs.Buffer.{HasNoTurn, IsNewBuffer, PollsStream, WaitsAt}
+use Rattle.futures_buffered.specs.BufferUnordered.{SetWaitsAt}
 
 -- the stream and the set, and the closure
 pub record ForEach (St Fn Q : Type 0) : Type 0 where
@@ -40,11 +40,9 @@ for_each_code {St} {Fn} {Q} stream_code closure_code queue_code =
     (λ p. record { buffer = p.0; closure = p.1 })
     (λ _. refl)
 
--- nothing was drawn, and the closure is as it was given
-abbrev pub IsNewForEach : {St Fn F S : Type 0}
-    → (ℕ → S → Type 0) → ℕ → St → Fn → ℕ → ForEach St Fn (Bounded F S) → Type 0
-IsNewForEach made limit stream closure n b =
-    IsNewUnordered made limit stream n b.buffer × (b.closure ≡ closure)
+-- nothing was drawn, the set is a new one, and the closure is as it was given
+abbrev pub IsNewForEach : {St Fn Q : Type 0} → (Q → Type 0) → St → Fn → ForEach St Fn Q → Type 0
+IsNewForEach is_new stream closure b = IsNewBuffer is_new stream b.buffer × (b.closure ≡ closure)
 
 -- the stream has ended and nothing is held
 abbrev pub IsDone : {St Fn Q : Type 0} → (Q → ℕ) → ForEach St Fn Q → Type 0

@@ -1,10 +1,10 @@
 //! Some futures of a stream at a time, in any queue of futures.
-ghost use Rattle.std.specs.Prelude.{◌≡◌, ◌<◌, ◌≤◌, ◌↔◌, List, IsTrue, None, option_copied};
+ghost use Rattle.std.specs.Prelude.{◌≡◌, ◌<◌, ◌≤◌, ◌↔◌, IsTrue, None, option_copied};
 ghost use Rattle.std.specs.declared.ops.ControlFlow.TheVariants.{Break};
 ghost use Rattle.futures_buffered_core.specs.Made.{MakesSlots};
 ghost use Rattle.futures_buffered_unordered.specs.StreamAnswers.{StreamAnswers};
-ghost use Rattle.futures_buffered.specs.Buffer.{PollsStream, DrawsAll, DrawsUpToOne, DrawsBuffer, DrawsTask};
-ghost use Rattle.futures_buffered.specs.Buffer.{PollsBuffer, IsNewBuffer, CanDraw, WaitsAt, BufferGives, handed_back};
+ghost use Rattle.futures_buffered.specs.Buffer.{DrawsOne, Fills, LeavesBuffer, LeavesTask, buffer_of};
+ghost use Rattle.futures_buffered.specs.Buffer.{PollsBuffer, IsNewBuffer, handed_back};
 ghost use Rattle.futures_buffered.specs.Buffer.{hint_with, hint_ahead};
 
 use crate::future_queue::{FutureQueue, NewQueue};
@@ -127,15 +127,12 @@ impl<St: Stream, Q: FutureQueue<St::Item>> Buffer<St, Q> {
     // Draws one item, if the stream has not ended, there is room, and an item comes. Breaks where none was drawn, and
     // where its push handed back an answer.
     fn draw_one(&mut self, cx: &mut Context<'_>) -> ControlFlow<Option<Q::Output>>
-        requires { CanDraw St.can_poll St.yields Q.is_fit Q.can_poll self.old }
-        ensures draws { DrawsUpToOne (PollsStream St.yields) Q.count (Q.room self.old.queue)
-            Q.pushes self.old result self.new }
-        ensures buffer { DrawsBuffer Q.count Q.room
-            (CanDraw St.can_poll St.yields Q.is_fit Q.can_poll)
-            (BufferGives St.yields Q.gives Q.count Q.yields Q.in_order)
+        requires { (buffer_of St.Stream Q.FutureQueue).can_poll self.old }
+        ensures draws { DrawsOne St.Stream Q.FutureQueue self.old result self.new }
+        ensures buffer { LeavesBuffer St.Stream Q.FutureQueue
             self.old (handed_back result) self.new }
-        ensures task { DrawsTask (PollsStream St.yields) Q.count Q.room St.needs
-            (result ≡ Break None) self.old self.new cx.old cx.new }
+        ensures task { LeavesTask St.Stream Q.FutureQueue (result ≡ Break None)
+            self.old self.new cx.old cx.new }
     {
         if self.queue.len() >= self.queue.capacity() {
             return ControlFlow::Break(None);
@@ -161,13 +158,10 @@ impl<St: Stream, Q: FutureQueue<St::Item>> Buffer<St, Q> {
     // Draws while the stream has not ended, there is room, and an item comes, up to the first push that hands back an
     // answer, which it returns.
     fn fill(&mut self, cx: &mut Context<'_>) -> Option<Q::Output>
-        requires { CanDraw St.can_poll St.yields Q.is_fit Q.can_poll self.old }
-        ensures draws { (drawn : List St.Item) × DrawsAll (PollsStream St.yields)
-            Q.count (Q.room self.old.queue) Q.pushes self.old drawn result self.new }
-        ensures buffer { DrawsBuffer Q.count Q.room
-            (CanDraw St.can_poll St.yields Q.is_fit Q.can_poll)
-            (BufferGives St.yields Q.gives Q.count Q.yields Q.in_order) self.old result self.new }
-        ensures task { DrawsTask (PollsStream St.yields) Q.count Q.room St.needs (result ≡ None)
+        requires { (buffer_of St.Stream Q.FutureQueue).can_poll self.old }
+        ensures draws { Fills St.Stream Q.FutureQueue self.old result self.new }
+        ensures buffer { LeavesBuffer St.Stream Q.FutureQueue self.old result self.new }
+        ensures task { LeavesTask St.Stream Q.FutureQueue (result ≡ None)
             self.old self.new cx.old cx.new }
     {
         'draws: loop {
@@ -182,11 +176,11 @@ impl<St: Stream, Q: FutureQueue<St::Item>> Buffer<St, Q> {
 impl<St: Stream, Q: FutureQueue<St::Item>> Stream for Buffer<St, Q> {
     type Item = Q::Output;
 
-    ghost can_poll = { CanDraw St.can_poll St.yields Q.is_fit Q.can_poll };
+    ghost can_poll = { (buffer_of St.Stream Q.FutureQueue).can_poll };
 
-    ghost needs = { WaitsAt St.needs Q.needs Q.count Q.room };
+    ghost needs = { (buffer_of St.Stream Q.FutureQueue).needs };
 
-    ghost yields = { BufferGives St.yields Q.gives Q.count Q.yields Q.in_order };
+    ghost yields = { (buffer_of St.Stream Q.FutureQueue).yields };
 
     /// Draws items while there is room, the stream has not ended, and an item comes at once; then polls the queue once.
     /// Where a push hands back an answer, that is the answer instead: what was drawn stays held, and the stream goes
@@ -196,7 +190,7 @@ impl<St: Stream, Q: FutureQueue<St::Item>> Stream for Buffer<St, Q> {
     /// do not. Takes time in proportion to the items drawn and the names that one poll of the queue takes, besides the
     /// polls.
     fn poll_next(&mut self, cx: &mut Context<'_>) -> Poll<Option<Q::Output>>
-        requires { CanDraw St.can_poll St.yields Q.is_fit Q.can_poll self.old }
+        requires { (buffer_of St.Stream Q.FutureQueue).can_poll self.old }
         ensures polls { PollsBuffer St.Stream Q.FutureQueue
             self.old result self.new cx.old cx.new }
         ensures stream { StreamAnswers ⟦<Buffer<St, Q> as Stream>⟧

@@ -104,5 +104,5 @@ pub type BufferUnordered<St, S> = Buffer<St, CompletionQueue<<St as Stream>::Ite
 pub fn calls_lose_nothing<St: Stream, S: ReadySource>()
 where
     St::Item: SlotFuture<S::Waker>,
-    ensures { LosesNothing St.yields St.Item.polled S.steps S.marks }
+    ensures { LosesNothing St.Stream St.Item.SlotFuture S.ReadySource }
 {}

@@ -9,10 +9,10 @@ ghost use Rattle.futures_buffered_core.specs.ReadyShared.{IsNewShared};
 ghost use Rattle.futures_buffered_in_flight.specs.InFlightOrdered.{CanPollOrdered, IsNewInOrder};
 ghost use Rattle.futures_buffered_in_flight.specs.InFlightQueue.{CanPollQueue, IsNewQueued};
 ghost use Rattle.futures_buffered.specs.Buffer.{IsNewBuffer};
-ghost use Rattle.futures_buffered.specs.BufferUnordered.{IsNewUnordered};
-ghost use Rattle.futures_buffered.specs.BufferedOrdered.{IsNewOrdered};
 ghost use Rattle.futures_buffered.specs.Drain.{HoldsPollable, IsNewDrain};
 ghost use Rattle.futures_buffered.specs.ForEachConcurrent.{IsNewForEach};
+ghost use Rattle.futures_buffered_unordered.specs.FuturesUnorderedBounded.{IsNewSet};
+ghost use Rattle.futures_buffered_ordered.specs.FuturesOrderedBounded.{IsNewBoundedQueue};
 
 use crate::buffer::Buffer;
 pub use crate::buffer_unordered::BufferUnordered;
@@ -43,7 +43,7 @@ pub trait BufferedStreamExt: Stream + Sized {
     where
         Self::Item: SlotFuture<SharedWaker, Output: Drop>,
         requires { 0 < n }
-        ensures { MakesSlots n (IsNewOrdered IsNewShared POLL_LIMIT self n) result }
+        ensures { MakesSlots n (IsNewBuffer (IsNewBoundedQueue IsNewShared n POLL_LIMIT) self) result }
     {
         BufferedOrdered::over(&(), alloc, self, n)
     }
@@ -59,7 +59,7 @@ pub trait BufferedStreamExt: Stream + Sized {
     where
         Self::Item: SlotFuture<SharedWaker>,
         requires { 0 < n }
-        ensures { MakesSlots n (IsNewUnordered IsNewShared POLL_LIMIT self n) result }
+        ensures { MakesSlots n (IsNewBuffer (IsNewSet IsNewShared n POLL_LIMIT) self) result }
     {
         BufferUnordered::over(&(), alloc, self, n)
     }
@@ -123,7 +123,7 @@ pub trait BufferedStreamExt: Stream + Sized {
         F: FnMut(Self::Item) -> Fut + Drop,
         Fut: SlotFuture<SharedWaker, Output = ()>,
         requires { 0 < limit }
-        ensures { MakesSlots limit (IsNewForEach IsNewShared POLL_LIMIT self f limit) result }
+        ensures { MakesSlots limit (IsNewForEach (IsNewSet IsNewShared limit POLL_LIMIT) self f) result }
     {
         ForEachConcurrent::over(&(), alloc, self, limit, f)
     }

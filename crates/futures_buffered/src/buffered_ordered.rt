@@ -122,5 +122,5 @@ pub type BufferedOrdered<St, S> = Buffer<
 pub fn calls_give_in_order<St: Stream, S: ReadySource>()
 where
     St::Item: SlotFuture<S::Waker>,
-    ensures { GivesInOrder St.yields St.Item.polled S.steps S.marks }
+    ensures { GivesInOrder St.Stream St.Item.SlotFuture S.ReadySource }
 {}

@@ -6,10 +6,12 @@ ghost use Rattle.futures.specs.declared.task.Poll.{Poll};
 ghost use Rattle.futures.specs.declared.task.Poll.TheVariants.{Pending};
 ghost use Rattle.futures_buffered_core.specs.Made.{MakesSlots};
 ghost use Rattle.futures_buffered_core.specs.ReadyShared.{IsNewShared};
-ghost use Rattle.futures_buffered_unordered.specs.FuturesUnorderedBounded.{held_in, slots_in};
+ghost use Rattle.futures_buffered_unordered.specs.FuturesUnorderedBounded.{held_in, slots_in, IsNewSet};
 ghost use Rattle.futures_buffered.specs.Buffer.{PollsStream, DrawsTask};
-ghost use Rattle.futures_buffered.specs.ForEachConcurrent.{IsNewForEach, IsDone, DrawsOnce, ForEachCall, CanForEach};
-ghost use Rattle.futures_buffered.specs.ForEachConcurrent.{ForEachGives, ForEachWaitsAt, LeavesForEach, drew_one};
+ghost use Rattle.futures_buffered.specs.ForEachConcurrent.{IsNewForEach, IsDone, DrawsOnce, ForEachCall};
+ghost use Rattle.futures_buffered.specs.ForEachConcurrent.{CanForEach};
+ghost use Rattle.futures_buffered.specs.ForEachConcurrent.{ForEachGives, ForEachWaitsAt, LeavesForEach};
+ghost use Rattle.futures_buffered.specs.ForEachConcurrent.{drew_one};
 
 use crate::drain::Drain;
 use futures::stream::Map;
@@ -76,7 +78,7 @@ impl<St: Drop, F: Drop, Fut: Drop, S: ReadySource> ForEachConcurrent<St, F, Fut,
     where
         S: NewSource,
         requires { 0 < n }
-        ensures { MakesSlots n (IsNewForEach S.made POLL_LIMIT stream closure n) result }
+        ensures { MakesSlots n (IsNewForEach (IsNewSet S.made n POLL_LIMIT) stream closure) result }
     {
         Self::over_limit(env, alloc, stream, n, POLL_LIMIT, closure)
     }
@@ -94,7 +96,7 @@ impl<St: Drop, F: Drop, Fut: Drop, S: ReadySource> ForEachConcurrent<St, F, Fut,
         S: NewSource,
         requires room { 0 < n }
         requires some { 1 ≤ limit }
-        ensures { MakesSlots n (IsNewForEach S.made limit stream closure n) result }
+        ensures { MakesSlots n (IsNewForEach (IsNewSet S.made n limit) stream closure) result }
     {
         let queue = FuturesUnorderedBounded::with_new_source(env, alloc, n, limit)?;
         Ok(ForEachConcurrent {
@@ -146,7 +148,7 @@ impl<St: Drop, F: Drop, Fut: Drop> ForEachConcurrent<St, F, Fut, SharedReady> {
     ) -> Result<Self, NewFault>
         requires room { 0 < n }
         requires some { 1 ≤ limit }
-        ensures { MakesSlots n (IsNewForEach IsNewShared limit stream closure n) result }
+        ensures { MakesSlots n (IsNewForEach (IsNewSet IsNewShared n limit) stream closure) result }
     {
         Self::over_limit(&(), alloc, stream, n, limit, closure)
     }

@@ -2,12 +2,13 @@
 ghost use Rattle.futures_buffered_core.specs.Drawn.{IsFiniteSource, items_of};
 ghost use Rattle.futures_buffered_core.specs.ReadyShared.{IsNewShared, MarksShared};
 ghost use Rattle.futures_buffered_unordered.specs.FuturesUnorderedBounded.{HoldsEach, slots_in};
-ghost use Rattle.futures_buffered_unordered.specs.FuturesUnordered.{IsNewGrowing, no_groups, SetRefuses, GrowingPushes};
-ghost use Rattle.futures_buffered_unordered.specs.Extended.{MakesExtended, MakesFull, MakesGrown};
+ghost use Rattle.futures_buffered_unordered.specs.FuturesUnordered.{GrowingPushes, MakesSharedSet};
+ghost use Rattle.futures_buffered_unordered.specs.FuturesUnordered.{MakesPushed};
+ghost use Rattle.futures_buffered_unordered.specs.Extended.{MakesFull};
 ghost use Rattle.futures_buffered_joins.specs.JoinMade.{MakesJoin};
-ghost use Rattle.futures_buffered_ordered.specs.OrderedEntries.{AddsBack, QueueIsAtBound};
+ghost use Rattle.futures_buffered_joins.specs.Joining.{IsNewJoin};
 ghost use Rattle.futures_buffered_ordered.specs.FuturesOrderedBounded.{HoldsInOrder};
-ghost use Rattle.futures_buffered_ordered.specs.FuturesOrdered.{IsNewGrowingQueue, GrowingPushesNumber};
+ghost use Rattle.futures_buffered_ordered.specs.FuturesOrdered.{MakesSharedQueue};
 ghost use Rattle.futures_buffered.specs.BufferedOrdered.{queue_slots};
 
 use futures_buffered_core::ready_core::NewFault;
@@ -50,9 +51,7 @@ pub trait IterExt: IntoIterator + Sized {
     where
         Self::Item: SlotFuture<SharedWaker>,
         requires { IsFiniteSource (items_of Self.IntoIterator Self.IntoIter.Iterator self) }
-        ensures { MakesGrown (items_of Self.IntoIterator Self.IntoIter.Iterator self) FIRST_GROUP
-            (λ n. IsNewGrowing IsNewShared n POLL_LIMIT)
-            (GrowingPushes MarksShared IsNewShared FIRST_GROUP) SetRefuses result }
+        ensures { MakesSharedSet (items_of Self.IntoIterator Self.IntoIter.Iterator self) result }
     {
         FuturesUnordered::from_iter(alloc, self)
     }
@@ -85,9 +84,7 @@ pub trait IterExt: IntoIterator + Sized {
     where
         Self::Item: SlotFuture<SharedWaker, Output: Drop>,
         requires { IsFiniteSource (items_of Self.IntoIterator Self.IntoIter.Iterator self) }
-        ensures { MakesGrown (items_of Self.IntoIterator Self.IntoIter.Iterator self) FIRST_GROUP
-            (λ n. IsNewGrowingQueue IsNewShared n POLL_LIMIT)
-            (AddsBack (GrowingPushesNumber MarksShared IsNewShared)) (QueueIsAtBound SetRefuses) result }
+        ensures { MakesSharedQueue (items_of Self.IntoIterator Self.IntoIter.Iterator self) result }
     {
         FuturesOrdered::from_iter(alloc, self)
     }
@@ -100,8 +97,8 @@ pub trait IterExt: IntoIterator + Sized {
     where
         Self::Item: SlotFuture<SharedWaker, Output: Drop>,
         requires { IsFiniteSource (items_of Self.IntoIterator Self.IntoIter.Iterator self) }
-        ensures { MakesJoin (items_of Self.IntoIterator Self.IntoIter.Iterator self) IsNewShared MarksShared
-            POLL_LIMIT result }
+        ensures { MakesJoin (items_of Self.IntoIterator Self.IntoIter.Iterator self)
+            (IsNewJoin IsNewShared MarksShared POLL_LIMIT) result }
     {
         futures_buffered_joins::join::join_all(alloc, self)
     }
@@ -118,8 +115,8 @@ pub trait IterExt: IntoIterator + Sized {
         Self::Item: SlotFuture<SharedWaker, Output = Result<T, E>>,
         T: Drop,
         requires { IsFiniteSource (items_of Self.IntoIterator Self.IntoIter.Iterator self) }
-        ensures { MakesJoin (items_of Self.IntoIterator Self.IntoIter.Iterator self) IsNewShared MarksShared
-            POLL_LIMIT result }
+        ensures { MakesJoin (items_of Self.IntoIterator Self.IntoIter.Iterator self)
+            (IsNewJoin IsNewShared MarksShared POLL_LIMIT) result }
     {
         futures_buffered_joins::try_join::try_join_all(alloc, self)
     }
@@ -148,9 +145,8 @@ pub trait IterExt: IntoIterator + Sized {
     where
         Self::Item: SlotStream<SharedWaker>,
         requires { IsFiniteSource (items_of Self.IntoIterator Self.IntoIter.Iterator self) }
-        ensures { MakesExtended (items_of Self.IntoIterator Self.IntoIter.Iterator self)
-            (GrowingPushes MarksShared IsNewShared FIRST_GROUP) SetRefuses (no_groups POLL_LIMIT)
-            result }
+        ensures { MakesPushed (items_of Self.IntoIterator Self.IntoIter.Iterator self)
+            (GrowingPushes MarksShared IsNewShared FIRST_GROUP) POLL_LIMIT result }
     {
         MergeUnbounded::from_iter(alloc, self)
     }

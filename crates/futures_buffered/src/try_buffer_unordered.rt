@@ -19,5 +19,5 @@ pub fn try_calls_lose_nothing<St, F, T, E, S: ReadySource>()
 where
     St: Stream<Item = Result<F, E>>,
     F: SlotFuture<S::Waker, Output = Result<T, E>>,
-    ensures { TryLosesNothing St.yields F.polled S.steps S.marks }
+    ensures { TryLosesNothing St.Stream F.SlotFuture S.ReadySource }
 {}

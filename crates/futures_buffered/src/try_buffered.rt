@@ -10,9 +10,8 @@ ghost use Rattle.futures_buffered_core.specs.ReadyShared.{IsNewShared};
 ghost use Rattle.futures_buffered_in_flight.specs.InFlightOrdered.{CanPollOrdered, IsNewInOrder};
 ghost use Rattle.futures_buffered_in_flight.specs.InFlightQueue.{CanPollQueue, IsNewQueued};
 ghost use Rattle.futures_buffered.specs.Buffer.{IsNewBuffer};
-ghost use Rattle.futures_buffered.specs.BufferUnordered.{IsNewUnordered};
-ghost use Rattle.futures_buffered.specs.BufferedOrdered.{IsNewOrdered};
 ghost use Rattle.futures_buffered.specs.Drain.{HoldsPollable, IsNewDrain};
+ghost use Rattle.futures_buffered_ordered.specs.FuturesOrderedBounded.{IsNewBoundedQueue};
 
 use crate::buffer::Buffer;
 use crate::drain::Drain;
@@ -47,7 +46,7 @@ pub trait BufferedTryStreamExt: Stream + Sized {
         T: Drop,
         E: Drop,
         requires { 0 < n }
-        ensures { MakesSlots n (IsNewOrdered IsNewShared POLL_LIMIT self n) result }
+        ensures { MakesSlots n (IsNewBuffer (IsNewBoundedQueue IsNewShared n POLL_LIMIT) self) result }
     {
         TryBufferedOrdered::over(&(), alloc, self, n)
     }
@@ -65,7 +64,7 @@ pub trait BufferedTryStreamExt: Stream + Sized {
         Self: Stream<Item = Result<F, E>>,
         F: SlotFuture<SharedWaker, Output = Result<T, E>>,
         requires { 0 < n }
-        ensures { MakesSlots n (IsNewUnordered IsNewShared POLL_LIMIT self n) result }
+        ensures { MakesSlots n (IsNewBuffer (IsNewSet IsNewShared n POLL_LIMIT) self) result }
     {
         TryBufferUnordered::over(&(), alloc, self, n)
     }

@@ -25,5 +25,5 @@ pub fn try_calls_give_in_order<St, F, T, E, S: ReadySource>()
 where
     St: Stream<Item = Result<F, E>>,
     F: SlotFuture<S::Waker, Output = Result<T, E>>,
-    ensures { TryGivesInOrder St.yields F.polled S.steps S.marks }
+    ensures { TryGivesInOrder St.Stream F.SlotFuture S.ReadySource }
 {}

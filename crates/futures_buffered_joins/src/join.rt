@@ -3,6 +3,7 @@ ghost use Rattle.std.specs.Prelude.{◌≡◌};
 ghost use Rattle.futures_buffered_core.specs.Drawn.{IsFiniteSource, items_of};
 ghost use Rattle.futures_buffered_core.specs.ReadyShared.{IsNewShared, MarksShared};
 ghost use Rattle.futures_buffered_joins.specs.JoinMade.{MakesJoin};
+ghost use Rattle.futures_buffered_joins.specs.Joining.{IsNewJoin};
 
 pub use crate::join_by::outputs_come_by_place;
 use crate::join_by::{JoinBy, JoinName, JoinRule};
@@ -68,7 +69,7 @@ where
     <I::Item as SlotFuture<SharedWaker>>::Output: Drop,
     requires { IsFiniteSource (items_of I.IntoIterator I.IntoIter.Iterator iter) }
     ensures { MakesJoin (items_of I.IntoIterator I.IntoIter.Iterator iter)
-        IsNewShared MarksShared POLL_LIMIT result }
+        (IsNewJoin IsNewShared MarksShared POLL_LIMIT) result }
 {
     Join::over(&(), alloc, iter)
 }

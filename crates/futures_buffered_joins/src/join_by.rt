@@ -2,7 +2,7 @@
 ghost use Rattle.std.specs.Prelude.{None, IfSome, IsSomeAnd};
 ghost use Rattle.futures_buffered_core.specs.Drawn.{IsFiniteSource, items_of};
 ghost use Rattle.futures_buffered_unordered.specs.Held.{AllHeld};
-ghost use Rattle.futures_buffered_joins.specs.Joining.{JoinMayGive, Places};
+ghost use Rattle.futures_buffered_joins.specs.Joining.{IsNewJoin, JoinMayGive, Places};
 ghost use Rattle.futures_buffered_joins.specs.JoinMade.{MakesJoin};
 ghost use Rattle.futures_buffered_joins.specs.Join.{JoinsByPlace, PollsJoin};
 
@@ -62,7 +62,7 @@ where
     ) -> Result<Self, NewFault>
         requires { IsFiniteSource (items_of I.IntoIterator I.IntoIter.Iterator iter) }
         ensures { MakesJoin (items_of I.IntoIterator I.IntoIter.Iterator iter)
-            S.made S.marks POLL_LIMIT result }
+            (IsNewJoin S.made S.marks POLL_LIMIT) result }
     {
         let joining = Joining::over(env, alloc, iter)?;
         Ok(JoinBy {

@@ -8,13 +8,16 @@ ghost use Rattle.futures_buffered_core.specs.Drawn.{IsFiniteSource, items_of};
 ghost use Rattle.futures_buffered_core.specs.ReadyShared.{IsNewShared, MarksShared};
 ghost use Rattle.futures_buffered_unordered.specs.StreamAnswers.{StreamAnswers};
 ghost use Rattle.futures_buffered_unordered.specs.FuturesUnorderedBounded.{OnlyRegisters};
-ghost use Rattle.futures_buffered_unordered.specs.FuturesUnordered.{EachHeld, AnyNeeds, GrowingPushes, IsAtBound};
-ghost use Rattle.futures_buffered_unordered.specs.FuturesUnordered.{PushesOrStays, no_groups, held_in_all, capacity_of};
-ghost use Rattle.futures_buffered_unordered.specs.FuturesUnordered.{SetRefuses, SetMayRefuse};
-ghost use Rattle.futures_buffered_unordered.specs.Extended.{Extends, MakesExtended};
+ghost use Rattle.futures_buffered_unordered.specs.FuturesUnordered.{EachHeld, AnyNeeds, GrowingPushes};
+ghost use Rattle.futures_buffered_unordered.specs.FuturesUnordered.{IsAtBound};
+ghost use Rattle.futures_buffered_unordered.specs.FuturesUnordered.{PushesOrStays, no_groups, held_in_all};
+ghost use Rattle.futures_buffered_unordered.specs.FuturesUnordered.{capacity_of};
+ghost use Rattle.futures_buffered_unordered.specs.FuturesUnordered.{SetMayRefuse, MakesPushed};
+ghost use Rattle.futures_buffered_unordered.specs.Extended.{Extends};
 ghost use Rattle.futures_buffered_merges.specs.Merging.{MergeAsksToEmpty, MergeGives, MergeStops};
 ghost use Rattle.futures_buffered_merges.specs.MergeUnbounded.{ItemsComeFromGroups, KeepsOrderInGroups};
-ghost use Rattle.futures_buffered_merges.specs.MergeUnbounded.{KeepsOrderInGroupsWithPushes, PollsMergeUnbounded};
+ghost use Rattle.futures_buffered_merges.specs.MergeUnbounded.{KeepsOrderInGroupsWithPushes};
+ghost use Rattle.futures_buffered_merges.specs.MergeUnbounded.{PollsMergeUnbounded};
 
 use crate::merge_of::{MergeOf, StreamSet};
 use crate::merging::poll_streams;
@@ -105,8 +108,8 @@ impl<St: Drop, S: NewSource> MergeUnbounded<St, S> {
         iter: I,
     ) -> Result<Self, NewFault>
         requires { IsFiniteSource (items_of I.IntoIterator I.IntoIter.Iterator iter) }
-        ensures { MakesExtended (items_of I.IntoIterator I.IntoIter.Iterator iter)
-            (GrowingPushes S.marks S.made FIRST_GROUP) SetRefuses (no_groups POLL_LIMIT) result }
+        ensures { MakesPushed (items_of I.IntoIterator I.IntoIter.Iterator iter)
+            (GrowingPushes S.marks S.made FIRST_GROUP) POLL_LIMIT result }
     {
         Self::over_limit(env, alloc, iter, POLL_LIMIT)
     }
@@ -120,8 +123,8 @@ impl<St: Drop, S: NewSource> MergeUnbounded<St, S> {
     ) -> Result<Self, NewFault>
         requires finite { IsFiniteSource (items_of I.IntoIterator I.IntoIter.Iterator iter) }
         requires some { 1 ≤ limit }
-        ensures { MakesExtended (items_of I.IntoIterator I.IntoIter.Iterator iter)
-            (GrowingPushes S.marks S.made FIRST_GROUP) SetRefuses (no_groups limit) result }
+        ensures { MakesPushed (items_of I.IntoIterator I.IntoIter.Iterator iter)
+            (GrowingPushes S.marks S.made FIRST_GROUP) limit result }
     {
         let mut merge = Self::without_groups(env, alloc, limit);
         for stream in iter {
@@ -273,9 +276,8 @@ impl<St: Drop> MergeUnbounded<St, SharedReady> {
     /// sources, and refuses as `over` does.
     pub fn from_iter<I: IntoIterator<Item = St>>(alloc: Global, iter: I) -> Result<Self, NewFault>
         requires { IsFiniteSource (items_of I.IntoIterator I.IntoIter.Iterator iter) }
-        ensures { MakesExtended (items_of I.IntoIterator I.IntoIter.Iterator iter)
-            (GrowingPushes MarksShared IsNewShared FIRST_GROUP) SetRefuses
-            (no_groups POLL_LIMIT) result }
+        ensures { MakesPushed (items_of I.IntoIterator I.IntoIter.Iterator iter)
+            (GrowingPushes MarksShared IsNewShared FIRST_GROUP) POLL_LIMIT result }
     {
         Self::over((), alloc, iter)
     }

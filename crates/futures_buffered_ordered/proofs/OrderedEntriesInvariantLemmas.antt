@@ -7,7 +7,7 @@ use Rattle.std.proofs.lemmas.Bool.{cases_lt, eq-eqb}
 use Rattle.std.proofs.lemmas.Bool.Decides.{eqb_tells}
 use Rattle.std.proofs.lemmas.Option.{slice_get_within, get_or_from_slice_get}
 use Rattle.futures_buffered_ordered.specs.Numbered.{one_at}
-use Rattle.futures_buffered_ordered.specs.OrderedEntries.{EachHasOne, IsLength, is_running, runs_with, starts_running}
+use Rattle.futures_buffered_ordered.specs.OrderedEntries.{EachHasOne, IsLength, NumberedSetOf, is_running, runs_with, starts_running}
 use Rattle.futures_buffered_ordered.specs.OrderedEntriesInvariant.{Admits, IsNumbered, KeepsNumbers, Numbering, place_of}
 use Rattle.futures_buffered_ordered.specs.declared.ordered_entries.Entry.{Entry}
 use Rattle.futures_buffered_ordered.specs.declared.ordered_entries.Entry.TheVariants.{Running, Kept}
@@ -223,9 +223,9 @@ module _ {Q A : Type 0} (with_number : ℕ → Q → ℕ) (count : Q → ℕ) (o
       (KeepsNumbers-back with_number count old new es o i keeps more one fits (is ∙ ap (λ k. (o + k) % 2 ^ 64) long))
 
 -- the entry of a future that went into the set came behind all others
-pub back_admitted : {F Q A : Type 0} (pushes : Q → F → ℕ → Q → Type 0) (count : Q → ℕ) (with_number : ℕ → Q → ℕ) (keeps : Q → Q → Type 0) (old mid : Numbering Q A) (future : F) (i n : ℕ) (after : List (Entry A))
-    → IsNumbered with_number count old → Admits pushes count with_number keeps old.queue future i mid.queue → mid.outgoing ≡ old.outgoing → n ≡ length old.queue.entries → i ≡ (old.outgoing + n) % 2 ^ 64 → after ≡ mid.queue.entries ++ Running i ∷ []
-    → KeepsNumbers with_number count mid.queue.set after mid.outgoing
-back_admitted {A = A} pushes count with_number keeps old mid future i n after numbered admitted same long is now =
+pub back_admitted : {F Q A : Type 0} (numbers : NumberedSetOf Q F) (old mid : Numbering Q A) (future : F) (i n : ℕ) (after : List (Entry A))
+    → IsNumbered numbers.with_number numbers.count old → Admits numbers old.queue future i mid.queue → mid.outgoing ≡ old.outgoing → n ≡ length old.queue.entries → i ≡ (old.outgoing + n) % 2 ^ 64 → after ≡ mid.queue.entries ++ Running i ∷ []
+    → KeepsNumbers numbers.with_number numbers.count mid.queue.set after mid.outgoing
+back_admitted {A = A} numbers old mid future i n after numbered admitted same long is now =
     let fits : length old.queue.entries + 1 < 2 ^ 63 = let short = admitted.short in omega (arith, short) in
-    rw same (back_keeps with_number count old.queue.set mid.queue.set old.queue.entries old.outgoing i numbered admitted.went_in.numbers admitted.went_in.one_more fits n after long is (now ∙ ap (λ (l : List (Entry A)). l ++ Running i ∷ []) admitted.entries))
+    rw same (back_keeps numbers.with_number numbers.count old.queue.set mid.queue.set old.queue.entries old.outgoing i numbered admitted.went_in.numbers admitted.went_in.one_more fits n after long is (now ∙ ap (λ (l : List (Entry A)). l ++ Running i ∷ []) admitted.entries))

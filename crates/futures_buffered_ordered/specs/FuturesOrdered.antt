@@ -1,10 +1,14 @@
 -- What a contract sees of an ordered queue that grows: the words on ordered queues at a set that
 -- grows.
-use Rattle.std.specs.Prelude.{◌≡◌, ℕ, Option, ⊤}
+use Rattle.std.specs.Prelude.{◌≡◌, ℕ, Option, Result, ⊤}
 use Rattle.std.specs.List.{sum_by}
 use Rattle.futures.specs.declared.task.context.Context.{Context}
 use Rattle.futures.specs.declared.task.Poll.{Poll}
+use Rattle.futures_buffered_table.specs.declared.answer.NewFault.{NewFault}
 use Rattle.futures_buffered_table.specs.declared.answer.Woke.{Woke}
+use Rattle.futures_buffered_core.specs.Drawn.{Items}
+use Rattle.futures_buffered_core.specs.ReadyShared.{Shared, IsNewShared, MarksShared}
+use Rattle.futures_buffered_unordered.specs.Extended.{MakesGrown}
 use Rattle.futures_buffered_unordered.specs.FuturesUnordered.{AnyGroupMayGive, AnyNeeds, Growing}
 use Rattle.futures_buffered_unordered.specs.FuturesUnordered.{EachHeld, GrowingPushes, IsNewGrowing}
 use Rattle.futures_buffered_unordered.specs.FuturesUnordered.{SetMayRefuse, SetRefuses, held_in_all}
@@ -12,10 +16,11 @@ use Rattle.futures_buffered_core.specs.declared.ready_source.ReadySource.{Ghosts
 use Rattle.futures_buffered_unordered.specs.declared.poll_one.PollOne.{Ghosts as PollOneOf}
 use Rattle.futures_buffered_unordered.specs.PollsGrowing.{PollsGrowing}
 use Rattle.futures_buffered_unordered.specs.declared.futures_unordered.TheConstants.{FIRST_GROUP}
+use Rattle.futures_buffered_unordered.specs.declared.futures_unordered_bounded.TheConstants.{POLL_LIMIT}
 use Rattle.futures_buffered_ordered.specs.Numbered.{CanPollFuture, PollsNumbered, held_with}
 use Rattle.futures_buffered_ordered.specs.Numbered.{of_numbered}
-use Rattle.futures_buffered_ordered.specs.OrderedEntries.{NumberedSetOf, Ordered, IsNewQueue}
-use Rattle.futures_buffered_ordered.specs.OrderedEntries.{PolledSet, PollsOrdered}
+use Rattle.futures_buffered_ordered.specs.OrderedEntries.{AddsBack, NumberedSetOf, Ordered, IsNewQueue}
+use Rattle.futures_buffered_ordered.specs.OrderedEntries.{PolledSet, PollsOrdered, QueueIsAtBound}
 use Rattle.futures_buffered_ordered.specs.declared.numbered.Numbered.{Numbered}
 
 -- the set that grows of numbered futures, the entries, and how many there is a place for
@@ -50,6 +55,12 @@ module _ {F S : Type 0} where
   -- P holds of each future in progress
   abbrev pub EachInProgress : (F → Type 0) → Growing (Numbered F) S → Type 0
   EachInProgress P set = EachHeld (CanPollFuture P) set.groups.listed
+
+-- what a constructor of a queue over shared sources makes of items, or why it makes nothing
+abbrev pub MakesSharedQueue : {U F I A : Type 0} → Items U F I
+    → Result (OrderedGrowing F A Shared) NewFault → Type 0
+MakesSharedQueue from = MakesGrown from FIRST_GROUP (λ n. IsNewGrowingQueue IsNewShared n POLL_LIMIT)
+    (AddsBack (GrowingPushesNumber MarksShared IsNewShared)) (QueueIsAtBound SetRefuses)
 
 module _ {F A S : Type 0} (polled : ℕ → F → Poll A → F → Type 0) where
   -- one of the futures may give this output, with this number

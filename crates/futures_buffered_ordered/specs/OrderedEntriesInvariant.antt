@@ -6,7 +6,7 @@ use Rattle.futures_buffered_ordered.specs.Numbered.{PushesInto}
 use Rattle.futures_buffered_ordered.specs.declared.ordered_entries.Entry.{Entry}
 use Rattle.futures_buffered_ordered.specs.declared.ordered_entries.Entry.TheVariants.{Running}
 use Rattle.futures_buffered_ordered.specs.declared.ordered_entries.TheConstants.{MAX_LEN}
-use Rattle.futures_buffered_ordered.specs.OrderedEntries.{Ordered, is_running, runs_with}
+use Rattle.futures_buffered_ordered.specs.OrderedEntries.{NumberedSetOf, Ordered, is_running, runs_with}
 
 -- the place of the entry with this number, where the front has the number outgoing and numbers wrap
 abbrev pub place_of : ℕ → ℕ → ℕ
@@ -42,16 +42,13 @@ IsNumbered with_number count n =
 -- it.
 pub record Admits
     {F Q A : Type 0}
-    (pushes : Q → F → ℕ → Q → Type 0)
-    (count : Q → ℕ)
-    (with_number : ℕ → Q → ℕ)
-    (keeps : Q → Q → Type 0)
+    (numbers : NumberedSetOf Q F)
     (old : Ordered Q A)
     (future : F)
     (i : ℕ)
     (new : Ordered Q A)
     : Type 0 where
-  pub went_in : PushesInto pushes count with_number keeps
+  pub went_in : PushesInto numbers.pushes numbers.count numbers.with_number numbers.keeps
       old.set (record { future = future; number = i }) new.set
   pub entries : new.entries ≡ old.entries
   pub room : old.room ≤ new.room

@@ -5,16 +5,21 @@
 ghost use Rattle.std.specs.Prelude.{◌≡◌, ◌↔◌, ◌≤◌, [], length, IsTrue};
 ghost use Rattle.futures_buffered_core.specs.Drawn.{IsFiniteSource, items_of};
 ghost use Rattle.futures_buffered_core.specs.Made.{MakesGroup};
-ghost use Rattle.futures_buffered_core.specs.ReadyShared.{IsNewShared, MarksShared};
-ghost use Rattle.futures_buffered_unordered.specs.FuturesUnordered.{AnyNeeds, SetMayRefuse, SetRefuses, no_groups};
+ghost use Rattle.futures_buffered_core.specs.ReadyShared.{IsNewShared};
+ghost use Rattle.futures_buffered_unordered.specs.FuturesUnordered.{AnyNeeds, SetMayRefuse, SetRefuses};
+ghost use Rattle.futures_buffered_unordered.specs.FuturesUnordered.{no_groups};
 ghost use Rattle.futures_buffered_unordered.specs.PollsGrowing.{PollsGrowing};
-ghost use Rattle.futures_buffered_unordered.specs.Extended.{Extends, MakesGrown};
+ghost use Rattle.futures_buffered_unordered.specs.Extended.{Extends};
 ghost use Rattle.futures_buffered_ordered.specs.OrderedEntries.{AddsBack, AddsFront, AddsOrStays, IsLength};
-ghost use Rattle.futures_buffered_ordered.specs.OrderedEntries.{PushesOrHandsBack, QueueIsAtBound, RefusesOne};
+ghost use Rattle.futures_buffered_ordered.specs.OrderedEntries.{PushesOrHandsBack, QueueIsAtBound};
+ghost use Rattle.futures_buffered_ordered.specs.OrderedEntries.{RefusesOne};
 ghost use Rattle.futures_buffered_ordered.specs.OrderedEntries.{without_entries};
-ghost use Rattle.futures_buffered_ordered.specs.FuturesOrdered.{EachInProgress, GrowingPushesNumber, IsNewGrowingQueue};
-ghost use Rattle.futures_buffered_ordered.specs.FuturesOrdered.{PollsOrderedGrowing, SameLimit, growing_numbers};
+ghost use Rattle.futures_buffered_ordered.specs.FuturesOrdered.{EachInProgress, GrowingPushesNumber};
+ghost use Rattle.futures_buffered_ordered.specs.FuturesOrdered.{IsNewGrowingQueue};
+ghost use Rattle.futures_buffered_ordered.specs.FuturesOrdered.{PollsOrderedGrowing, SameLimit};
+ghost use Rattle.futures_buffered_ordered.specs.FuturesOrdered.{growing_numbers};
 ghost use Rattle.futures_buffered_ordered.specs.FuturesOrdered.{held_in_groups, held_in_groups_with};
+ghost use Rattle.futures_buffered_ordered.specs.FuturesOrdered.{MakesSharedQueue};
 ghost use Rattle.futures_buffered_ordered.specs.Numbered.{of_numbered};
 
 use crate::numbered::{Numbered, PollNumbered};
@@ -313,9 +318,7 @@ impl<T: SlotFuture<SharedWaker, Output = A>, A: Drop> GrowingQueue<T, A, SharedR
     /// came.
     pub fn from_iter<I: IntoIterator<Item = T>>(alloc: Global, iter: I) -> Result<Self, NewFault>
         requires { IsFiniteSource (items_of I.IntoIterator I.IntoIter.Iterator iter) }
-        ensures { MakesGrown (items_of I.IntoIterator I.IntoIter.Iterator iter)
-            FIRST_GROUP (λ n. IsNewGrowingQueue IsNewShared n POLL_LIMIT)
-            (AddsBack (GrowingPushesNumber MarksShared IsNewShared)) (QueueIsAtBound SetRefuses) result }
+        ensures { MakesSharedQueue (items_of I.IntoIterator I.IntoIter.Iterator iter) result }
     {
         let iter = iter.into_iter();
         let (least, _most) = iter.size_hint();

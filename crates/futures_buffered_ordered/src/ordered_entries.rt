@@ -152,7 +152,7 @@ impl<Q: NumberedSet, A: Drop> OrderedEntries<Q, A> {
     fn admit(&mut self, future: Q::Future, number: usize) -> Result<(), Q::Future>
         requires held { Q.takes self.old.queue.set }
         requires fit { Q.is_fit future }
-        ensures admitted { OnOk result (Admits Q.pushes Q.count Q.with_number Q.keeps
+        ensures admitted { OnOk result (Admits Q.NumberedSet
             self.old.queue future number self.new.queue) }
         ensures back { IfErr result (λ back. HandsBack Q.may_refuse
             self.old.queue future back self.new.queue) }

@@ -1,7 +1,8 @@
 -- A list and its seats, as callers see them; and a seat of the table in the midst of a call.
-use Rattle.std.specs.Prelude.{ℕ, List, [], ◌++◌, ◌≡◌}
+use Rattle.std.specs.Prelude.{ℕ, List, [], ◌∷◌, ◌++◌, ◌≡◌}
 use Rattle.atomic_table.specs.Seated.{TableId}
 use Rattle.futures_buffered_table.specs.declared.view.AtomicStep.{AtomicStep}
+use Rattle.futures_buffered_table.specs.declared.view.AtomicStep.TheVariants.{LinkClear, TailSwap, LinkWrite}
 use Rattle.atomic_table.specs.declared.shared.Seat.{Seat}
 use Rattle.futures_buffered_table.specs.declared.view.Role.{Role}
 use Rattle.futures_buffered_table.specs.declared.view.View.{View}
@@ -34,3 +35,8 @@ IsInRole list role seat = (seat.table_id ≡ list.list) × (seat.me.0.stub ≡ l
 -- the seat has made these steps more
 abbrev pub AddsSteps : Seat ℕ View → Seat ℕ View → List AtomicStep → Type 0
 AddsSteps before now shape = now.me.0.steps ≡ before.me.0.steps ++ shape
+
+-- it made the steps that put a slot into the row as its last entry
+abbrev pub PutsInRow : ℕ → Seat ℕ View → Seat ℕ View → Type 0
+PutsInRow slot before now =
+    (p : ℕ) × AddsSteps before now (LinkClear slot ∷ TailSwap slot p ∷ LinkWrite p slot ∷ [])

@@ -98,3 +98,10 @@ pub record TakesFromSlot
   -- the steps that it made
   pub shape : (shape : List AtomicStep) × AddsSteps old new shape
       × has_shape list.capacity h shape answer head
+
+-- so where the link of the head named none, and where nothing is known of it yet
+abbrev pub TakesAtLast : ListIdentity → ℕ → Seat ℕ View → ℕ × Taken → Seat ℕ View → Type 0
+TakesAtLast list h old result new = TakesFromSlot list h IsAtLast old result.1 result.0 new
+
+abbrev pub TakesAtSlot : ListIdentity → ℕ → Seat ℕ View → ℕ × Taken → Seat ℕ View → Type 0
+TakesAtSlot list h old result new = TakesFromSlot list h IsFromSlot old result.1 result.0 new

@@ -2,15 +2,19 @@
 ghost use Rattle.std.specs.Prelude.{◌≡◌, ◌≢◌, ℕ, ◌+◌, ◌<◌, ◌≤◌, List, [], ◌∷◌, ◌++◌};
 ghost use Rattle.futures_buffered_table.specs.declared.answer.Taken.TheVariants.{Empty, Pause, Slot};
 ghost use Rattle.futures_buffered_table.specs.declared.view.AtomicStep.{AtomicStep};
-ghost use Rattle.futures_buffered_table.specs.declared.view.AtomicStep.TheVariants.{LinkClear, TailSwap, LinkWrite};
-ghost use Rattle.futures_buffered_table.specs.declared.view.AtomicStep.TheVariants.{LinkRead, TailRead, Unmark};
-ghost use Rattle.futures_buffered_table.specs.declared.view.Phase.TheVariants.{Start, AtStub, Moved, NoNext, Last};
-ghost use Rattle.futures_buffered_table.specs.declared.view.Phase.TheVariants.{StubCleared, StubPut, StubLinked};
+ghost use Rattle.futures_buffered_table.specs.declared.view.AtomicStep.TheVariants.{LinkClear, TailSwap};
+ghost use Rattle.futures_buffered_table.specs.declared.view.AtomicStep.TheVariants.{LinkWrite};
+ghost use Rattle.futures_buffered_table.specs.declared.view.AtomicStep.TheVariants.{LinkRead, TailRead};
+ghost use Rattle.futures_buffered_table.specs.declared.view.AtomicStep.TheVariants.{Unmark};
+ghost use Rattle.futures_buffered_table.specs.declared.view.Phase.TheVariants.{Start, AtStub, Moved, NoNext};
+ghost use Rattle.futures_buffered_table.specs.declared.view.Phase.TheVariants.{Last};
+ghost use Rattle.futures_buffered_table.specs.declared.view.Phase.TheVariants.{StubCleared, StubPut};
+ghost use Rattle.futures_buffered_table.specs.declared.view.Phase.TheVariants.{StubLinked};
 ghost use Rattle.futures_buffered_table.specs.declared.view.Phase.TheVariants.{InHand};
 ghost use Rattle.futures_buffered_table.specs.declared.view.Role.TheVariants.{Polls};
 ghost use Rattle.futures_buffered_table.specs.Effect.{next_role};
-ghost use Rattle.futures_buffered_table.specs.Taking.{CallsAtStub, IsAtLast, IsFromSlot, IsTaking, ReadsSlot};
-ghost use Rattle.futures_buffered_table.specs.Taking.{TakesFromSlot};
+ghost use Rattle.futures_buffered_table.specs.Taking.{CallsAtStub, IsTaking, ReadsSlot};
+ghost use Rattle.futures_buffered_table.specs.Taking.{TakesAtLast, TakesAtSlot};
 
 use crate::answer::Taken;
 use crate::ready_list::{PollSeat, ReadyList};
@@ -161,7 +165,7 @@ impl ReadyList {
     fn take_last(&self, seat: &mut Seat<u8, View>, head: usize) -> (usize, Taken)
         requires role { IsInRole self.now (Polls head NoNext) seat.old
             × (head < self.now.capacity) }
-        ensures { TakesFromSlot self.now head IsAtLast seat.old result.1 result.0 seat.new }
+        ensures { TakesAtLast self.now head seat.old result seat.new }
     {
         if self.read_tail(seat, head) != head {
             return (head, Taken::Pause);
@@ -181,7 +185,7 @@ impl ReadyList {
     fn take_slot(&self, seat: &mut Seat<u8, View>, head: usize) -> (usize, Taken)
         requires role { IsInRole self.now (Polls head Moved) seat.old
             × (head < self.now.capacity) }
-        ensures { TakesFromSlot self.now head IsFromSlot seat.old result.1 result.0 seat.new }
+        ensures { TakesAtSlot self.now head seat.old result seat.new }
     {
         let found = self.read_slot(seat, head);
         if found == 0 {

@@ -14,7 +14,7 @@ use crate::view::View;
 use atomic_table::Seat;
 
 impl ReadyList {
-    ghost use Rattle.futures_buffered_table.specs.ReadyList.{IsInRole, AddsSteps};
+    ghost use Rattle.futures_buffered_table.specs.ReadyList.{IsInRole, AddsSteps, PutsInRow};
 
     // Sets the slot's mark, and answers what it was.
     fn swap_mark(&self, seat: &mut Seat<u8, View>, slot: usize) -> u64
@@ -65,8 +65,7 @@ impl ReadyList {
     fn put_in(&self, seat: &mut Seat<u8, View>, slot: usize)
         requires role { IsInRole self.now (Won slot) seat.old × (slot < self.now.capacity) }
         ensures role { IsInRole self.now Idle seat.new }
-        ensures adds { (p : ℕ) × AddsSteps seat.old seat.new
-            (LinkClear slot ∷ TailSwap slot p ∷ LinkWrite p slot ∷ []) }
+        ensures adds { PutsInRow slot seat.old seat.new }
     {
         self.clear_link(seat, slot);
         let before = self.swap_tail(seat, slot);

@@ -11,12 +11,17 @@ use Rattle.futures.specs.declared.task.context.Context.{Context}
 use Rattle.futures.specs.declared.task.Poll.{Poll}
 use Rattle.futures_buffered_core.specs.SlotMap.{slot_count}
 use Rattle.futures_buffered_table.specs.declared.answer.TheConstants.{MAX_CAPACITY}
+use Rattle.futures_buffered_table.specs.declared.answer.NewFault.{NewFault}
 use Rattle.futures_buffered_table.specs.declared.answer.Woke.{Woke}
+use Rattle.futures_buffered_core.specs.Drawn.{Items}
+use Rattle.futures_buffered_core.specs.ReadyShared.{Shared, IsNewShared, MarksShared}
+use Rattle.futures_buffered_unordered.specs.Extended.{MakesExtended, MakesGrown}
 use Rattle.futures_buffered_unordered.specs.Held.{AllHeld, AnyMayGive}
 use Rattle.futures_buffered_unordered.specs.FuturesUnorderedBounded.{Bounded, bounded_code, IsNewSet}
 use Rattle.futures_buffered_unordered.specs.FuturesUnorderedBounded.{Pushes, held_in}
 use Rattle.futures_buffered_unordered.specs.Groups.{Groups, groups_code, AnyOf, GroupLeavesTask}
 use Rattle.futures_buffered_unordered.specs.declared.futures_unordered.TheConstants.{FIRST_GROUP, MAX_HELD}
+use Rattle.futures_buffered_unordered.specs.declared.futures_unordered_bounded.TheConstants.{POLL_LIMIT}
 
 -- the groups, the place where the next poll begins, and how many names one poll takes from each
 -- group at most
@@ -155,6 +160,17 @@ module _ {F S : Type 0} where
       × ((group : Bounded F S)
       × IsNewSet made n limit group
       × (new ≡ record { groups = record { listed = group ∷ []; place = 0 }; limit = limit })))
+
+-- what a constructor makes that pushes each item into a set without a group, or why it makes nothing
+abbrev pub MakesPushed : {U F I S : Type 0} → Items U F I → (Growing F S → F → Growing F S → Type 0)
+    → ℕ → Result (Growing F S) NewFault → Type 0
+MakesPushed from pushes limit = MakesExtended from pushes SetRefuses (no_groups limit)
+
+-- what a constructor of a set over shared sources makes of items, or why it makes nothing
+abbrev pub MakesSharedSet : {U F I : Type 0} → Items U F I → Result (Growing F Shared) NewFault
+    → Type 0
+MakesSharedSet from = MakesGrown from FIRST_GROUP (λ n. IsNewGrowing IsNewShared n POLL_LIMIT)
+    (GrowingPushes MarksShared IsNewShared FIRST_GROUP) SetRefuses
 
 -- What one poll of one group leaves of its task, which it took from cx to left: `registers` says what
 -- registrations make of a task, and `passes` what the end does.

@@ -3,7 +3,8 @@
 //! Each group is a bounded set. A push goes into the last group, and makes one of twice its slots where it is full. A
 //! poll asks each group in turn, from the place where the poll before ended, until one gives an output. How one group
 //! is asked, `AskGroup` says. One registration of the task does for all groups.
-ghost use Rattle.std.specs.Prelude.{◌≡◌, ◌↔◌, ◌<◌, ◌≤◌, ◌+◌, ◌++◌, length, take, drop, IsTrue, Err, OnOk, OnErr, IsErr};
+ghost use Rattle.std.specs.Prelude.{◌≡◌, ◌↔◌, ◌<◌, ◌≤◌, ◌+◌, ◌++◌, length, take, drop, IsTrue, Err, OnOk};
+ghost use Rattle.std.specs.Prelude.{OnErr, IsErr};
 ghost use Rattle.std.specs.Prelude.{IfOk, IfErr, IfNone};
 ghost use Rattle.std.specs.List.{All};
 ghost use Rattle.futures.specs.Poll.{IfReady, OnPending};
@@ -11,18 +12,21 @@ ghost use Rattle.futures.specs.Task.{Keeps};
 ghost use Rattle.futures_buffered_core.specs.Drawn.{IsFiniteSource, items_of};
 ghost use Rattle.futures_buffered_core.specs.Answer.{RefusesTooLarge};
 ghost use Rattle.futures_buffered_core.specs.Made.{MakesGroup, MakesSlots};
-ghost use Rattle.futures_buffered_core.specs.ReadyShared.{IsNewShared, MarksShared};
+ghost use Rattle.futures_buffered_core.specs.ReadyShared.{IsNewShared};
 ghost use Rattle.futures_buffered_core.specs.ReadySource.{WaitsAlike};
 ghost use Rattle.futures_buffered_unordered.specs.FuturesUnorderedBounded.{IsNewSet, OnlyRegisters};
 ghost use Rattle.futures_buffered_unordered.specs.GroupsStep.{AsksOne, OneLeavesTask, next_place};
-ghost use Rattle.futures_buffered_unordered.specs.FuturesUnordered.{EachHeld, EachCovered, Growing, GrowingPushes};
-ghost use Rattle.futures_buffered_unordered.specs.FuturesUnordered.{IsAtBound, IsNewGrowing, LastIsFull, PushesEach};
-ghost use Rattle.futures_buffered_unordered.specs.FuturesUnordered.{PushesOrStays, no_groups, held_in_all, capacity_of};
+ghost use Rattle.futures_buffered_unordered.specs.FuturesUnordered.{EachHeld, EachCovered, Growing};
+ghost use Rattle.futures_buffered_unordered.specs.FuturesUnordered.{GrowingPushes};
+ghost use Rattle.futures_buffered_unordered.specs.FuturesUnordered.{IsAtBound, IsNewGrowing, LastIsFull};
+ghost use Rattle.futures_buffered_unordered.specs.FuturesUnordered.{PushesEach};
+ghost use Rattle.futures_buffered_unordered.specs.FuturesUnordered.{PushesOrStays, no_groups, held_in_all};
+ghost use Rattle.futures_buffered_unordered.specs.FuturesUnordered.{capacity_of};
 ghost use Rattle.futures_buffered_unordered.specs.FuturesUnordered.{next_capacity, spare_places, SetRefuses};
-ghost use Rattle.futures_buffered_unordered.specs.FuturesUnordered.{SetMayRefuse};
+ghost use Rattle.futures_buffered_unordered.specs.FuturesUnordered.{SetMayRefuse, MakesSharedSet};
 ghost use Rattle.futures_buffered_unordered.specs.FuturesUnorderedInvariant.{AddsGroup, PushesLast};
 ghost use Rattle.futures_buffered_unordered.specs.PollsGrowing.{PollsGroups, PollsGrowing};
-ghost use Rattle.futures_buffered_unordered.specs.Extended.{Extends, HoldsAllOf, MakesGrown, StopsAtBound};
+ghost use Rattle.futures_buffered_unordered.specs.Extended.{Extends, HoldsAllOf, StopsAtBound};
 
 use crate::ask_group::{AskGroup, ByRule};
 use crate::futures_unordered_bounded::{FuturesUnorderedBounded, POLL_LIMIT};
@@ -473,9 +477,7 @@ impl<F: Drop> FuturesUnordered<F, SharedReady> {
     /// came.
     pub fn from_iter<I: IntoIterator<Item = F>>(alloc: Global, iter: I) -> Result<Self, NewFault>
         requires { IsFiniteSource (items_of I.IntoIterator I.IntoIter.Iterator iter) }
-        ensures { MakesGrown (items_of I.IntoIterator I.IntoIter.Iterator iter) FIRST_GROUP
-            (λ n. IsNewGrowing IsNewShared n POLL_LIMIT)
-            (GrowingPushes MarksShared IsNewShared FIRST_GROUP) SetRefuses result }
+        ensures { MakesSharedSet (items_of I.IntoIterator I.IntoIter.Iterator iter) result }
     {
         let iter = iter.into_iter();
         let (least, _most) = iter.size_hint();

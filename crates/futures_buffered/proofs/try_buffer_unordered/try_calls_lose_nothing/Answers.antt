@@ -2,4 +2,4 @@ use Rattle.futures_buffered.proofs.BufferUnorderedAccountLemmas.{try_loses_nothi
 use Rattle.futures_buffered.proofs.try_buffer_unordered.try_calls_lose_nothing.Goals as goal
 
 pub returns : goal.returns
-returns g c = try_loses_nothing g.St.Stream.yields g.F.SlotFuture.polled g.S.ReadySource.steps g.S.ReadySource.marks
+returns g c = try_loses_nothing g.St.Stream g.F.SlotFuture g.S.ReadySource

@@ -2,4 +2,4 @@ use Rattle.futures_buffered.proofs.BufferedOrderedAccountLemmas.{try_gives_in_or
 use Rattle.futures_buffered.proofs.try_buffered_ordered.try_calls_give_in_order.Goals as goal
 
 pub returns : goal.returns
-returns g c = try_gives_in_order g.St.Stream.yields g.F.SlotFuture.polled g.S.ReadySource.steps g.S.ReadySource.marks
+returns g c = try_gives_in_order g.St.Stream g.F.SlotFuture g.S.ReadySource

@@ -19,5 +19,5 @@ returns-clause-keeps g c =
       set = search rules;
       room = search rules;
       numbered = subst (λ (v : Numbering g.row.Q.Denot g.row.A.Denot). KeepsNumbers set.with_number set.count v.queue.set after v.outgoing) (sym c.self-2.view_is)
-          (back_admitted set.pushes set.count set.with_number set.keeps old mid c.args.future number c.len.result after c.requires.numbered c.in_ok-admit.ensures.admitted c.in_ok-admit.ensures.same long is now);
+          (back_admitted set old mid c.args.future number c.len.result after c.requires.numbered c.in_ok-admit.ensures.admitted c.in_ok-admit.ensures.same long is now);
     }
