@@ -8,7 +8,7 @@ ghost use Rattle.std.specs.List.{IsDistinct};
 ghost use Rattle.futures_buffered_core.specs.ReadyCore.{MarkGives, TakeGives, IsNameBelow};
 ghost use Rattle.futures_buffered_core.specs.declared.ready_core.Reply.{Reply};
 ghost use Rattle.futures_buffered_core.specs.History.{Answers};
-ghost use Rattle.futures_buffered_core.specs.WrongName.{NamesAllBelow, IsFirstWrong};
+ghost use Rattle.futures_buffered_core.specs.WrongName.{AllNamesBelow, IsFirstWrong};
 ghost use Rattle.futures_buffered_core.specs.Made.{MakesSlots};
 
 use crate::wrong_name::first_wrong;
@@ -182,9 +182,9 @@ pub fn run(core: &mut ReadyCore, events: &[Event], out: &mut Vec<Reply>) -> Resu
     ensures wrong { (p : ℕ) → result ≡ Err (RunFault.Event p)
         → IsFirstWrong Event.Mark core.old.capacity events.now p }
     ensures named { OnOk result
-        (NamesAllBelow Event.Mark core.old.capacity events.now (length events.now)) }
+        (AllNamesBelow Event.Mark core.old.capacity events.now) }
     ensures below { result ≡ Err RunFault.Memory
-        → NamesAllBelow Event.Mark core.old.capacity events.now (length events.now) }
+        → AllNamesBelow Event.Mark core.old.capacity events.now }
 {
     if let Some(p) = first_wrong(events, core.capacity()) {
         return Err(RunFault::Event(p));

@@ -3,7 +3,7 @@ ghost use Rattle.std.specs.Prelude.{◌≡◌, ◌≢◌, ◌<◌, ℕ, IfOk, On
 ghost use Rattle.futures.specs.Task.{IsArmed, Keeps};
 ghost use Rattle.futures_buffered_core.specs.ReadySource.{WaitsNowhere, laws_of_takes, only_takes};
 ghost use Rattle.futures_buffered_core.specs.ScriptSource.{MarksNothing, TakesNext};
-ghost use Rattle.futures_buffered_core.specs.WrongName.{NamesAllBelow, IsFirstWrong};
+ghost use Rattle.futures_buffered_core.specs.WrongName.{AllNamesBelow, IsFirstWrong};
 
 use crate::core_source::NoopWaker;
 use crate::ready_core::{RunFault, Taken, Woke};
@@ -53,7 +53,7 @@ impl ScriptSource {
     pub fn new(_alloc: Global, cap: usize, answers: Vec<Taken>) -> Result<Self, RunFault>
         ensures ok { IfOk result (λ s. s ≡ record { capacity = cap; left = answers.items }) }
         ensures named { OnOk result
-            (NamesAllBelow Taken.Slot cap answers.items (length answers.items)) }
+            (AllNamesBelow Taken.Slot cap answers.items) }
         ensures wrong { (p : ℕ) → result ≡ Err (RunFault.Event p)
             → IsFirstWrong Taken.Slot cap answers.items p }
         ensures never_memory { result ≢ Err RunFault.Memory }

@@ -1,6 +1,6 @@
 //! The search of a list of entries for the first that names a slot which is not there.
 ghost use Rattle.std.specs.Prelude.{◌≡◌, ◌↔◌, ℕ, Some, IfNone, IfSome, length};
-ghost use Rattle.futures_buffered_core.specs.WrongName.{NamesAllBelow, IsFirstWrong};
+ghost use Rattle.futures_buffered_core.specs.WrongName.{AllNamesBelow, IsFirstWrong};
 
 use crate::ready_core::{Event, Taken};
 
@@ -42,7 +42,7 @@ impl NamesSlot for Taken {
 
 /// The position of the first entry that names a slot not below `cap`.
 pub fn first_wrong<X: NamesSlot>(entries: &[X], cap: usize) -> Option<usize>
-    ensures none { IfNone result (NamesAllBelow X.naming cap entries.now (length entries.now)) }
+    ensures none { IfNone result (AllNamesBelow X.naming cap entries.now) }
     ensures wrong { IfSome result (IsFirstWrong X.naming cap entries.now) }
 {
     for (p, entry) in entries.iter().enumerate() {

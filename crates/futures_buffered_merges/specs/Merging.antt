@@ -166,6 +166,13 @@ pub record PollsStreams
   pub capacity : slot_count new.slots ≡ slot_count old.slots
   pub limit : new.limit ≡ old.limit
 
+-- what one poll of one set of streams leaves of its task, which it registers unless it was
+-- registered before
+abbrev pub LeavesItsTask : {St W A S : Type 0} → SlotStreamOf St W A → ReadySourceOf S W → Bool
+    → Bounded St S → Poll (Option A) → Bounded St S → Context → Context → Type 0
+LeavesItsTask stream source is_registered = PollsStreamsTask stream.polled source.steps source.marks
+    source.needs (RegistersUnless source.registers_poll is_registered)
+
 -- One poll of a merge, which took it from old to new and the task from cx to left. A clause names
 -- streams and source by the ghost members of their types: `St.SlotStream S.ReadySource`.
 pub record PollsMergeBounded

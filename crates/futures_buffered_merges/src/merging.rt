@@ -4,7 +4,7 @@ ghost use Rattle.futures.specs.Poll.{IfReady};
 ghost use Rattle.futures.specs.Task.{Covers};
 ghost use Rattle.futures_buffered_core.specs.SlotMap.{held_count};
 ghost use Rattle.futures_buffered_unordered.specs.FuturesUnorderedBounded.{AsksSet, AsksSetTask, AsksUntil, LeavesTask};
-ghost use Rattle.futures_buffered_merges.specs.Merging.{CanAsk, CountGives, MergeGives, PollsStreams, PollsStreamsTask};
+ghost use Rattle.futures_buffered_merges.specs.Merging.{CanAsk, CountGives, LeavesItsTask, MergeGives, PollsStreams};
 ghost use Rattle.futures_buffered_merges.specs.Merging.{RegistersUnless};
 
 use crate::slot_stream::{PollStream, SlotStream};
@@ -75,8 +75,8 @@ pub(crate) fn poll_streams<St: SlotStream<S::Waker>, S: ReadySource>(
     ensures polled { MergeGives St.polled S.steps S.marks set.old result set.new }
     ensures streams { PollsStreams St.can_poll (λ _ now. 0 < now) (λ _ now. now ≡ 0)
         set.old result set.new }
-    ensures task { PollsStreamsTask St.polled S.steps S.marks S.needs
-        (RegistersUnless S.registers_poll is_registered) set.old result set.new cx.old cx.new }
+    ensures task { LeavesItsTask St.SlotStream S.ReadySource is_registered
+        set.old result set.new cx.old cx.new }
 {
     'counts: while !set.is_empty() {
         match poll_count(set, cx, is_registered) {

@@ -76,6 +76,11 @@ CallsAtStub leaves n made Pause head before after =
     ((head ≡ n) × leaves (made ++ LinkRead n 0 ∷ []) before after)
     ⊎ ((head ≢ n) × (after ≡ before))
 
+-- the same of a taking that tells the head after it, and its answer
+abbrev pub CallsFrom : {B : Type 0} → (List AtomicStep → B → B → Type 0) → ℕ → List AtomicStep
+    → ℕ × Taken → B → B → Type 0
+CallsFrom leaves n made result = CallsAtStub leaves n made result.1 result.0
+
 -- What the part of a taking leaves that goes on from the slot at the head; its steps have this
 -- shape.
 pub record TakesFromSlot

@@ -13,7 +13,7 @@ ghost use Rattle.futures_buffered_table.specs.declared.view.Phase.TheVariants.{S
 ghost use Rattle.futures_buffered_table.specs.declared.view.Phase.TheVariants.{InHand};
 ghost use Rattle.futures_buffered_table.specs.declared.view.Role.TheVariants.{Polls};
 ghost use Rattle.futures_buffered_table.specs.Effect.{next_role};
-ghost use Rattle.futures_buffered_table.specs.Taking.{CallsAtStub, IsTaking, ReadsSlot};
+ghost use Rattle.futures_buffered_table.specs.Taking.{CallsAtStub, CallsFrom, IsTaking, ReadsSlot};
 ghost use Rattle.futures_buffered_table.specs.Taking.{TakesAtLast, TakesAtSlot};
 
 use crate::answer::Taken;
@@ -210,8 +210,8 @@ impl ReadyList {
         ensures named { (slot : ℕ) → result.1 ≡ Slot slot → slot < self.now.capacity }
         ensures shape { (shape : List AtomicStep) × AddsSteps seat.old seat.new shape
             × IsTaking self.now.capacity head shape result.1 result.0 }
-        ensures calls { CallsAtStub B.leaves self.now.capacity seat.old.me.0.steps
-            result.1 result.0 before.old before.new }
+        ensures calls { CallsFrom B.leaves self.now.capacity seat.old.me.0.steps
+            result before.old before.new }
     {
         let found = self.read_first(seat, head);
         if head == self.capacity {
