@@ -307,11 +307,16 @@ module _ {St X A Q : Type 0} (yields : St → Runs X) (item_gives : X → A → 
   BufferGives true b = ComesInTurn b
   BufferGives false b = Comes b
 
+-- a buffer over such a stream and such a queue can be polled
+abbrev pub CanPollBuffer : {St X A Q : Type 0}
+    → StreamOf St X → FutureQueueOf Q X A → Buffering St Q → Type 0
+CanPollBuffer stream queue = CanDraw stream.can_poll stream.yields queue.is_fit queue.can_poll
+
 -- the ghost members of a buffer as a stream
 abbrev pub buffer_of : {St X A Q : Type 0}
     → StreamOf St X → FutureQueueOf Q X A → StreamOf (Buffering St Q) A
 buffer_of stream queue = stream_of
-    (CanDraw stream.can_poll stream.yields queue.is_fit queue.can_poll)
+    (CanPollBuffer stream queue)
     (WaitsAt stream.needs queue.needs queue.count queue.room)
     (BufferGives stream.yields queue.gives queue.count queue.yields queue.in_order)
 

@@ -3,7 +3,7 @@ ghost use Rattle.std.specs.Prelude.{◌≡◌, ◌<◌, ◌≤◌, ◌↔◌, Is
 ghost use Rattle.std.specs.declared.ops.ControlFlow.TheVariants.{Break};
 ghost use Rattle.futures_buffered_core.specs.Made.{MakesSlots};
 ghost use Rattle.futures_buffered_unordered.specs.StreamAnswers.{StreamAnswers};
-ghost use Rattle.futures_buffered.specs.Buffer.{DrawsOne, Fills, LeavesBuffer, LeavesTask, buffer_of};
+ghost use Rattle.futures_buffered.specs.Buffer.{CanPollBuffer, DrawsOne, Fills, LeavesBuffer, LeavesTask, buffer_of};
 ghost use Rattle.futures_buffered.specs.Buffer.{PollsBuffer, IsNewBuffer, handed_back};
 ghost use Rattle.futures_buffered.specs.Buffer.{hint_with, hint_ahead};
 
@@ -127,7 +127,7 @@ impl<St: Stream, Q: FutureQueue<St::Item>> Buffer<St, Q> {
     // Draws one item, if the stream has not ended, there is room, and an item comes. Breaks where none was drawn, and
     // where its push handed back an answer.
     fn draw_one(&mut self, cx: &mut Context<'_>) -> ControlFlow<Option<Q::Output>>
-        requires { (buffer_of St.Stream Q.FutureQueue).can_poll self.old }
+        requires { CanPollBuffer St.Stream Q.FutureQueue self.old }
         ensures draws { DrawsOne St.Stream Q.FutureQueue self.old result self.new }
         ensures buffer { LeavesBuffer St.Stream Q.FutureQueue
             self.old (handed_back result) self.new }
@@ -158,7 +158,7 @@ impl<St: Stream, Q: FutureQueue<St::Item>> Buffer<St, Q> {
     // Draws while the stream has not ended, there is room, and an item comes, up to the first push that hands back an
     // answer, which it returns.
     fn fill(&mut self, cx: &mut Context<'_>) -> Option<Q::Output>
-        requires { (buffer_of St.Stream Q.FutureQueue).can_poll self.old }
+        requires { CanPollBuffer St.Stream Q.FutureQueue self.old }
         ensures draws { Fills St.Stream Q.FutureQueue self.old result self.new }
         ensures buffer { LeavesBuffer St.Stream Q.FutureQueue self.old result self.new }
         ensures task { LeavesTask St.Stream Q.FutureQueue (result ≡ None)
@@ -176,7 +176,7 @@ impl<St: Stream, Q: FutureQueue<St::Item>> Buffer<St, Q> {
 impl<St: Stream, Q: FutureQueue<St::Item>> Stream for Buffer<St, Q> {
     type Item = Q::Output;
 
-    ghost can_poll = { (buffer_of St.Stream Q.FutureQueue).can_poll };
+    ghost can_poll = { CanPollBuffer St.Stream Q.FutureQueue };
 
     ghost needs = { (buffer_of St.Stream Q.FutureQueue).needs };
 
@@ -190,7 +190,7 @@ impl<St: Stream, Q: FutureQueue<St::Item>> Stream for Buffer<St, Q> {
     /// do not. Takes time in proportion to the items drawn and the names that one poll of the queue takes, besides the
     /// polls.
     fn poll_next(&mut self, cx: &mut Context<'_>) -> Poll<Option<Q::Output>>
-        requires { (buffer_of St.Stream Q.FutureQueue).can_poll self.old }
+        requires { CanPollBuffer St.Stream Q.FutureQueue self.old }
         ensures polls { PollsBuffer St.Stream Q.FutureQueue
             self.old result self.new cx.old cx.new }
         ensures stream { StreamAnswers ⟦<Buffer<St, Q> as Stream>⟧
