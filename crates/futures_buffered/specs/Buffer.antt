@@ -206,7 +206,8 @@ PollsWithTask polls leaves cx left old answer new =
     polls old answer new × leaves old answer new cx left
 
 -- One call, which took a buffer from old to new and the task from cx to left. A clause names stream
--- and queue by the ghost members of their types: `St.Stream Q.FutureQueue`.
+-- and queue by the ghost members of their types: `St.Stream Q.FutureQueue`. Where a pending task
+-- waits and what may be polled again is in the clause `stream`.
 pub record PollsBuffer
     {St X A Q : Type 0}
     (stream : StreamOf St X)

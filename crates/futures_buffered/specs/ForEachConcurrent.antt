@@ -193,10 +193,12 @@ module _
         (new : ForEach St Fn (Bounded F S))
         (cx left : Context)
         : Type 0 where
+      -- the turns before the last, each of which drew or gave, the last one, and the task behind it
       pub turns : List (DrawAndPoll X (Unit {0}))
       pub last : DrawAndPoll X (Unit {0})
       pub after : Context
       pub row : FoldsTo TurnGives (old, cx) (turns ++ last ∷ []) (new, after)
       pub went_on : AllByRecursion (λ turn. moves_on turn ≡ true) turns
       pub at_most : length turns < old.buffer.queue.limit
+      -- how it ended, and who is woken
       pub ends : EndsAfter old.buffer.queue.limit (length turns) last after answer new left

@@ -146,7 +146,7 @@ where
     /// At most as many turns as the limit is, each of which polls the buffer once. Another follows after an output that
     /// ends nothing. `Ready` with the first output that ends it, of a push or of a future, or, where the stream has
     /// ended and nothing is held, with what it is ready with at its end: what is held is dropped then, and a later poll
-    /// answers that again and polls nothing. At the limit the task is woken at once.
+    /// answers what a drain is ready with at its end, and polls nothing. At the limit the task is woken at once.
     ///
     /// Takes no memory but what the stream, the futures and the source's calls take, and waits for nobody where these
     /// do not. Takes time in proportion to the turns, the items drawn, and the names that the turns' polls of the set

@@ -146,7 +146,8 @@ module _ {F A : Type 0} (future : FutureOf F A) where
     pub freed : new.slots ≡ with_slot_freed old.slots came.key.slot
     pub fewer : held_count new.slots + 1 ≡ held_count old.slots
 
-  -- the end, where nothing is held: futures that were cancelled have ended; an output; or nothing
+  -- the end, where nothing is held: futures that were cancelled have ended; an output; or Pending,
+  -- where some are held
   abbrev pub GivesByKey : Flights F → Poll (Option (Came A)) → Flights F → Type 0
   GivesByKey old (Ready None) new = (held_count old.slots ≡ 0) × (new.slots ≡ old.slots)
       × ((old.cancelled ≡ 0) ⊎ (new.running ≡ None))
@@ -156,7 +157,8 @@ module _ {F A : Type 0} (future : FutureOf F A) where
   -- One poll, which took the set from old to new and the task from cx to left.
   pub record PollsInFlight (old : Flights F) (answer : Poll (Option (Came A))) (new : Flights F)
       (cx left : Context) : Type 0 where
-    -- an output with its key, the end exactly where nothing is held, or nothing
+    -- an output with its key; the end exactly where nothing is held; or Pending. Who is woken is not
+    -- said
     pub gave : GivesByKey old answer new
     -- no future gives what it could not give before
     pub narrows : RunsGiveNoMore old new
@@ -165,9 +167,9 @@ module _ {F A : Type 0} (future : FutureOf F A) where
     pub room : LeavesCancelled old answer new
     -- the set may be polled
     pub again : CanPollAll new
-    -- the task of a pending set hears of what it waits for
+    -- the task of a pending set is registered where it waits, or was asked to poll again
     pub registered : OnPending answer (Covers left (FlightsWaitAt new))
-    -- nothing of the task is lost
+    -- what the task was registered for or asked to do before still stands
     pub kept : Keeps cx left
 
   -- Polls until an output came or the end: the set was new by then.

@@ -17,6 +17,7 @@ impl<F: Future<Output: Drop>> Stream for InFlight<F> {
 
     ghost yields = { ComesFromSlots F.Future };
 
+    /// One poll, as `poll_next_keyed`, without key and tag.
     #[tactic(auto, using(crate::proofs::InFlightLemmas::comes_first, crate::proofs::InFlightLemmas::comes_after, crate::proofs::InFlightLemmas::comes_within))]
     fn poll_next(&mut self, cx: &mut Context<'_>) -> Poll<Option<F::Output>> {
         match self.poll_next_keyed(cx) {

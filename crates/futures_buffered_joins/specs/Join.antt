@@ -58,8 +58,8 @@ module _
           before.set Pending new.set cx left
       pub same_outputs : new.outputs ≡ before.outputs
 
-    -- Some outputs came, one after another, and filled their places; what that left of the join and
-    -- of its task then ended so.
+    -- Some outputs came, one after another, and filled their places; then the poll ended, from what
+    -- that left of the join and of its task, as `ends` says.
     pub record FillsThen
         (ends : Places F A S → Context → Type 0)
         (old : Places F A S)
@@ -73,7 +73,8 @@ module _
 
     -- How a poll ends. No future is waited for: all outputs are given, in the order of their places,
     -- and the join has ended. A future gave an error: that is the answer, and the join has ended,
-    -- whatever it waited for. Or the set was Pending, which says who is woken.
+    -- whatever it waited for. Or the set was Pending, which says who is woken. The last two arguments
+    -- are where it starts.
     abbrev pub EndsJoin : Poll (Outcome A E) → Option (Places F A S) → Context
         → Places F A S → Context → Type 0
     EndsJoin (Ready (Ok outputs)) new left before cx = (held_in before.set ≡ 0)

@@ -17,7 +17,7 @@ pub trait JoinRule<O> {
     /// With what the join is ready.
     type Answer;
 
-    // The output of which this is kept, or that ends the join with this error.
+    // Backwards: the output of which this is kept, or the output that ends the join with this error.
     ghost output_of: { Result Self.Kept Self.Error → O };
 
     // What an answer shows.

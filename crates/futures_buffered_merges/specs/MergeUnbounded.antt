@@ -123,5 +123,5 @@ module _
         : Type 0 where
       -- the groups were asked in turn, and left the task
       pub groups : PollsGroups as_merge source old answer new cx left
-      -- the end comes exactly where no stream is left
+      -- the end comes exactly where no stream is left after the poll
       pub ends : (answer ≡ Ready None) ↔ (held_in_all new.groups.listed ≡ 0)

@@ -184,14 +184,15 @@ pub record PollsMergeBounded
     (new : Bounded St S)
     (cx left : Context)
     : Type 0 where
-  -- what came: counts of names that each ended a stream, and then the last count
+  -- what came: counts of names that each came to the end of one stream, which is dropped, and then
+  -- the last count
   pub gave : MergeGives stream.polled source.steps source.marks old answer new
-  -- who is woken: where no further name came the task was registered, and else it was asked to poll
-  -- again
+  -- who is woken: a pending poll that stopped at a pause or the limit asked the task to poll again;
+  -- any other at most registered it
   pub leaves : GroupLeavesTask (MergeAsksToEmpty stream.polled source.steps source.marks)
       (MergeStops stream.polled source.steps source.marks) (OnlyRegisters source.registers_poll)
       old answer new cx left
-  -- a poll that is ready only registered it, and where no stream was held it left it alone
+  -- a poll that is ready at most registered it, and where no stream was held it left it alone
   pub only_registered : IfReady answer (λ _. OnlyRegisters source.registers_poll cx left)
   pub untouched : held_in old ≡ 0 → left ≡ cx
   -- what stays: no stream comes; after an item and where it is pending one is held, and after the
@@ -203,7 +204,8 @@ pub record PollsMergeBounded
   -- the number of slots and the limit stay
   pub capacity : slots_in new ≡ slots_in old
   pub limit : new.limit ≡ old.limit
-  -- who waits where: the task of a pending merge hears of its source
+  -- who waits where: the task of a pending merge is registered where its source waits, or was asked
+  -- to poll again
   pub covered : OnPending answer (Covers left (source.needs new.source))
   -- nothing of the task is lost
   pub kept : Keeps cx left

@@ -176,7 +176,8 @@ module _ {Q A : Type 0} (gives : Q → Poll (Option (ℕ × A)) → Q → Type 0
     pub entries : new.entries ≡ slice_set old.entries at (Kept out.1)
     pub room : new.room ≡ old.room
 
-  -- how a poll ends: there is no entry; the front is an output and leaves, with no name asked for;
+  -- how a poll ends: there is no entry, and nothing changes; the front is an output and leaves, with
+  -- no name asked for;
   -- or the front is in progress, the set is polled, and answers Pending
   abbrev pub LastStep : Ordered Q A → Poll (Option A) → Ordered Q A → Type 0
   LastStep old (Ready None) new = (old.entries ≡ []) × (new ≡ old)
@@ -228,7 +229,7 @@ module _ {Q A : Type 0} (polls : PolledSet Q A) where
       (new : Ordered Q A)
       (cx left : Context)
       : Type 0 where
-    -- this stays of the set, and a place for as many entries
+    -- what stays: of the set what `keeps` says, and a place for as many entries
     pub set : polls.keeps old.set new.set
     pub room : new.room ≡ old.room
     -- a pending queue has a future in progress
@@ -247,8 +248,8 @@ module _ {Q A : Type 0} (polls : PolledSet Q A) where
       (new : Ordered Q A)
       (cx left : Context)
       : Type 0 where
-    -- what came, and who is woken: polls of the set that each gave an output, which its entry
-    -- keeps, and then the last step
+    -- what came, and who is woken: while the front is in progress the set is polled, and each output
+    -- is kept in its entry; then comes the front's output, the end, or the set's Pending
     pub gave : OrderedGives (BesideTask polls.gives) (λ set. polls.count set.0)
         (with_task old cx) answer (with_task new left)
     -- what stays, who waits where, and what may be polled again

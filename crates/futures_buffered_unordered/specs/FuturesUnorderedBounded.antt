@@ -169,9 +169,9 @@ module _
     (polled : ℕ → F → Poll A → F → Type 0)
     (steps : SourceSteps S)
   where
-    -- The source was first as a registration may leave it, here or at a source beside it. It then
-    -- gave these names, in order, and one last answer where there was one. The slots named were
-    -- passed, in order, which took what the slots hold to this.
+    -- A registration came first, with this source or with one beside it. The source then gave these
+    -- names, in order, and one last answer where there was one. The slots named were passed, in
+    -- order, which took what the slots hold to this.
     pub record Asks
         (old : Bounded F S)
         (names : List ℕ)

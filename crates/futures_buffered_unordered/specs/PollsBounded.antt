@@ -35,8 +35,9 @@ registered source = record source {
   registers_poll = λ _ cx left. left ≡ cx;
 }
 
--- Where no value was ready after so many names. Empty: no further name came, and the task is as it
--- was. Pause, or the limit: a further name may come, and the task was asked to poll again.
+-- Where no value was ready after so many names: a name is the number of a marked slot, as the source
+-- gives it. Empty: no further name came, and the task is as the registration left it. Pause, or the
+-- limit: a further name may come, and the task was asked to poll again.
 abbrev pub EndsPending : ℕ → ℕ → Option Taken → Context → Context → Type 0
 EndsPending limit count (Some Empty) cx left = (count < limit) × (left ≡ cx)
 EndsPending limit count (Some Pause) cx left = (count < limit) × IsWoken left
@@ -48,8 +49,8 @@ module _
     (rule : PollOneOf R F W A)
     (source : ReadySourceOf S W)
   where
-    -- How one count of names ended, by its answer: the value of one more slot gave an output, and
-    -- the task is as it was; or none did.
+    -- How one count of names, at most as many as the limit, ended, by its answer: the value of one
+    -- more slot gave an output, and the task is as the registration left it; or none did.
     abbrev pub Ends : ℕ → ℕ → Option Taken → Slots F → Poll (ℕ × A) → Slots F
         → Context → Context → Type 0
     Ends limit count last passed (Ready (i, x)) new cx left = (count < limit)
@@ -82,7 +83,7 @@ module _
       pub limit : new.limit ≡ old.limit
       -- who waits where: the task hears of the source
       pub covered : Covers left (source.needs new.source)
-      -- nothing of the task is lost
+      -- what the task was registered for or asked to do before still stands
       pub kept : Keeps cx left
       -- what may be polled again: each value; or each but that of the output
       pub pollable : OnPending answer (AllHeld rule.can_poll new.slots)
@@ -108,7 +109,8 @@ module _
       pub kept : Keeps cx left
 
     -- What a poll gives, by its answer. The end: nothing is held, and nothing changes, of the task
-    -- neither. An output: its slot is emptied. Pending: names came, and no output.
+    -- neither. An output: its slot is emptied. Pending: the names that came, if any, gave no output;
+    -- at Empty the task stays registered, and else it was asked to poll again.
     abbrev pub Gives : Bounded F S → Poll (Option A) → Bounded F S → Context → Context → Type 0
     Gives old (Ready None) new cx left = (held_in old ≡ 0) × (new ≡ old) × (left ≡ cx)
     Gives old (Ready (Some x)) new cx left = (0 < held_in old)
@@ -131,9 +133,10 @@ module _
       -- the number of slots and the limit stay
       pub capacity : slots_in new ≡ slots_in old
       pub limit : new.limit ≡ old.limit
-      -- who waits where: the task of a pending set hears of its source
+      -- who waits where: the task of a pending set is registered where its source waits, or was asked
+      -- to poll again
       pub covered : OnPending answer (Covers left (source.needs new.source))
-      -- nothing of the task is lost
+      -- what the task was registered for or asked to do before still stands
       pub kept : Keeps cx left
       -- what may be polled again: each value that is held
       pub pollable : AllHeld rule.can_poll new.slots

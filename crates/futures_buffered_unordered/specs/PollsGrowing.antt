@@ -26,17 +26,20 @@ pub record PollsGroups
     (new : Growing F S)
     (cx left : Context)
     : Type 0 where
-  -- what came: each group was asked, in turn, until one gave an output
+  -- what came: each group was asked, in turn, until one gave an output. A group that answered the
+  -- end leaves, unless it is the last; `place` is where the next poll begins
   pub gave : GroupsGive ask.asks old.groups answer new.groups
-  -- who is woken: where no group had a further name the task was registered, and else it was asked
-  -- to poll again
+  -- who is woken: where a group that was asked stopped at a pause or its limit, the task was asked
+  -- to poll again, whatever the answer; else it was at most registered
   pub leaves : GroupsLeaveTask ask.asks_to_empty ask.stops (OnlyRegisters source.registers_poll)
       old.groups answer new.groups cx left
-  -- the end leaves the task so
+  -- what the end makes of the task, as `ask` says: nothing for a set, a registration at most for a
+  -- merge
   pub passed : IfReady answer (λ o. IfNone o (ask.passes cx left))
-  -- what stays: the limit
+  -- what stays: the limit of names
   pub limit : new.limit ≡ old.limit
-  -- who waits where: the task of pending groups hears of each of their sources
+  -- who waits where: the task of pending groups is registered where each of their sources waits, or
+  -- was asked to poll again
   pub covered : OnPending answer (EachCovered source.needs left new.groups.listed)
   -- nothing of the task is lost
   pub kept : Keeps cx left
