@@ -1,14 +1,16 @@
 -- What a command to a growing set is answered, and what it leaves of it.
-use Rattle.std.specs.Prelude.{◌≡◌, ◌⊎◌, ℕ, Option}
+use Rattle.std.specs.Prelude.{◌≡◌, ◌⊎◌, ℕ, Bool, Option}
 use Rattle.futures.specs.declared.task.Poll.{Poll as PollAnswer}
 use Rattle.futures_buffered_core.specs.ReadyCore.{Standing, Marks}
+use Rattle.futures_buffered_unordered.specs.FuturesUnorderedBounded.{PollAsks}
 use Rattle.futures_buffered_unordered.specs.Groups.{GroupsGive}
 use Rattle.futures_buffered_unordered.specs.FuturesUnordered.{Growing, GrowingPushes, IsAtBound}
-use Rattle.futures_buffered_unordered.specs.FuturesUnordered.{LastIsFull, held_in_all}
+use Rattle.futures_buffered_unordered.specs.FuturesUnordered.{held_in_all, spare_places}
 use Rattle.futures_buffered_unordered.specs.declared.futures_unordered.TheConstants.{FIRST_GROUP}
 use Rattle.futures_buffered_unordered.specs.declared.futures_unordered.TheConstants.{MAX_HELD}
 use Rattle.fbuf_lines.specs.Reply.{poll_reply}
-use Rattle.fbuf_lines.specs.BoundedLines.{IsNewStanding, PollsSet}
+use Rattle.fbuf_lines.specs.BoundedLines.{IsNewStanding, core_steps}
+use Rattle.fbuf_lines.specs.ReadyAfter.{PollsReadyAfter}
 use Rattle.fbuf_lines.specs.declared.ready_after.ReadyAfter.{ReadyAfter}
 use Rattle.fbuf_lines.specs.declared.command.Command.{Command}
 use Rattle.fbuf_lines.specs.declared.command.Command.TheVariants.{Push, Poll, Len}
@@ -19,10 +21,12 @@ use Rattle.fbuf_lines.specs.declared.reply.Reply.TheVariants.{Done, Count, Bad}
 abbrev pub ScriptGrowing : Type 0
 ScriptGrowing = Growing ReadyAfter Standing
 
--- one poll of the groups of a growing set, each polled as a bounded set is; the limit stays
+-- one poll of the groups of a growing set, each polled as a bounded set is, whether or not one
+-- stopped; the limit stays
 abbrev pub PollsGrowingLine : ScriptGrowing → PollAnswer (Option ℕ) → ScriptGrowing → Type 0
-PollsGrowingLine old answer new =
-    GroupsGive PollsSet old.groups answer new.groups × (new.limit ≡ old.limit)
+PollsGrowingLine old answer new = (stopped : Bool)
+    × GroupsGive (PollAsks (λ _. PollsReadyAfter) core_steps) old.groups answer stopped new.groups
+    × (new.limit ≡ old.limit)
 
 -- one push into a growing set that can take more
 abbrev pub PushesGrowing : ScriptGrowing → ReadyAfter → ScriptGrowing → Type 0
@@ -38,9 +42,8 @@ GrowingGives old Len reply new = (reply ≡ Count (held_in_all old.groups.listed
 GrowingGives old command reply new = (reply ≡ Bad) × (new ≡ old)
 
 -- a command that may lack memory is a push where as many futures are held as a set may hold, or
--- where
--- the last group is full
+-- where the last group is full
 abbrev pub GrowingMayLack : ScriptGrowing → Command → Type 0
 GrowingMayLack old (Push future) =
-    (held_in_all old.groups.listed ≡ MAX_HELD) ⊎ LastIsFull old.groups.listed
+    (held_in_all old.groups.listed ≡ MAX_HELD) ⊎ (spare_places old.groups.listed ≡ 0)
 GrowingMayLack old command = ⊥

@@ -5,26 +5,26 @@ use Rattle.std.specs.List.{FoldsTo}
 use Rattle.futures.specs.declared.task.context.Context.{Context}
 use Rattle.futures.specs.declared.task.Poll.{Poll}
 use Rattle.futures.specs.declared.task.Poll.TheVariants.{Ready, Pending}
-use Rattle.futures_buffered.specs.Buffer.{Buffering, FutureQueueOf, StreamOf, CallEnds, CallGivesWith, PollsBuffer, PollsStream, PollsWithTask, CallsInTurn, DrawsItem, DrawsLast, DrawsNone, all_drawn, all_outputs, answer_from, output_of}
+use Rattle.futures_buffered.specs.Buffer.{Buffering, FutureQueueOf, StreamOf, CallEnds, CallGivesWith, PollsBuffer, PollsStream, PollsWithTask, CallsInTurn, DrawsItem, DrawsLast, DrawsNone, all_drawn, all_outputs, answer_from, output_given}
 
 -- What a caller takes from the record of a poll, who speaks of the buffer alone.
 pub calls_of : {St X A Q : Type 0} (source : StreamOf St X) (by : FutureQueueOf Q X A) (old new : Buffering St Q) (answer : Poll (Option A)) (cx left : Context) → PollsBuffer source by old answer new cx left
     → CallGivesWith (PollsStream source.yields) by.count (by.room old.queue) by.pushes by.polls (Unit {0}) old answer new
 calls_of {St} {X} {A} {Q} source by old new answer cx left it =
     let call = it.gave.1 in
-    (it.gave.0, record { given = call.given; filled = call.filled; draws = call.draws; ends = alone call.given call.ends })
+    (it.gave.0, record { given = call.given; filled = call.filled; draws = call.draws; ends = without_task call.given call.ends })
   where
-    alone : (given : Option A) → CallEnds (PollsWithTask by.polls by.leaves it.drawn left) (left ≡ it.drawn) given it.gave.1.filled answer new → CallEnds by.polls (Unit {0}) given it.gave.1.filled answer new
-    alone None ends = record { queue_answer = ends.queue_answer; polls_queue = ends.polls_queue.0; same_stream = ends.same_stream; gives = ends.gives }
-    alone (Some x) ends = (ends.0, ends.1, tt)
+    without_task : (given : Option A) → CallEnds (PollsWithTask by.polls by.leaves it.task_then left) (left ≡ it.task_then) given it.gave.1.filled answer new → CallEnds by.polls (Unit {0}) given it.gave.1.filled answer new
+    without_task None ends = record { queue_answer = ends.queue_answer; polls_queue = ends.polls_queue.0; same_stream = ends.same_stream; gives = ends.gives }
+    without_task (Some x) ends = (ends.0, ends.1, tt)
 
-same_output : {St A : Type 0} (stream : Option St) (queue_answer : Poll (Option A)) → output_of (answer_from stream queue_answer) ≡ output_of queue_answer
+same_output : {St A : Type 0} (stream : Option St) (queue_answer : Poll (Option A)) → output_given (answer_from stream queue_answer) ≡ output_given queue_answer
 same_output stream (Ready (Some x)) = refl
 same_output None (Ready None) = refl
 same_output (Some s) (Ready None) = refl
 same_output stream Pending = refl
 
-outputs_cons : {X A : Type 0} (items : List X) (answer : Poll (Option A)) (calls : List (List X × Poll (Option A))) → all_outputs ((items, answer) ∷ calls) ≡ option_to_list (output_of answer) ++ all_outputs calls
+outputs_cons : {X A : Type 0} (items : List X) (answer : Poll (Option A)) (calls : List (List X × Poll (Option A))) → all_outputs ((items, answer) ∷ calls) ≡ option_to_list (output_given answer) ++ all_outputs calls
 outputs_cons items (Ready None) calls = refl
 outputs_cons items (Ready (Some x)) calls = refl
 outputs_cons items Pending calls = refl
@@ -33,7 +33,7 @@ module _ {St X A Q : Type 0} (next : St → Poll (Option X) → St → Type 0) (
     (So : List X → List A → Q → Type 0)
     (drew : (drawn : List X) (given : List A) (old new : Q) (item : X) → So drawn given old → pushes old item None new → So (drawn ++ item ∷ []) given new)
     (handed : (drawn : List X) (given : List A) (old new : Q) (item : X) (x : A) → So drawn given old → pushes old item (Some x) new → So drawn (given ++ x ∷ []) new)
-    (gave : (drawn : List X) (given : List A) (old new : Q) (answer : Poll (Option A)) → So drawn given old → polls old answer new → So drawn (given ++ option_to_list (output_of answer)) new) where
+    (gave : (drawn : List X) (given : List A) (old new : Q) (answer : Poll (Option A)) → So drawn given old → polls old answer new → So drawn (given ++ option_to_list (output_given answer)) new) where
   drew_all : (items drawn : List X) (given : List A) (old full : Buffering St Q) → So drawn given old.queue → FoldsTo (DrawsItem next count n pushes None) old items full → So (drawn ++ items) given full.queue
   drew_all [] drawn given old full so ran = rw (append-nil drawn) (subst (λ (b : Buffering St Q). So drawn given b.queue) ran so)
   drew_all (item ∷ items) drawn given old full so ran =
@@ -44,7 +44,7 @@ module _ {St X A Q : Type 0} (next : St → Poll (Option X) → St → Type 0) (
   drew_none drawn given full new so (inr (inl h)) = rw h.2 so
   drew_none drawn given full new so (inr (inr h)) = rw h.2 so
 
-  ended : (drawn : List X) (given : List A) (full filled new : Buffering St Q) (back : Option A) (answer : Poll (Option A)) → So drawn given full.queue → DrawsLast next count n pushes full back filled → CallEnds polls (Unit {0}) back filled answer new → So drawn (given ++ option_to_list (output_of answer)) new.queue
+  ended : (drawn : List X) (given : List A) (full filled new : Buffering St Q) (back : Option A) (answer : Poll (Option A)) → So drawn given full.queue → DrawsLast next count n pushes full back filled → CallEnds polls (Unit {0}) back filled answer new → So drawn (given ++ option_to_list (output_given answer)) new.queue
   ended drawn given full filled new None answer so last ends =
       rw (ends.gives, same_output filled.stream ends.queue_answer) (gave drawn given filled.queue new.queue ends.queue_answer (drew_none drawn given full filled so last) ends.polls_queue)
   ended drawn given full filled new (Some x) answer so last ends = rw (ends.0, ends.1) (handed drawn given full.queue filled.queue last.0 x so last.1.pushed)
@@ -54,5 +54,5 @@ module _ {St X A Q : Type 0} (next : St → Poll (Option X) → St → Type 0) (
   many_calls ((items, answer) ∷ calls) drawn given old new so ran =
       let call = ran.1 in
       let full = drew_all items drawn given old call.draws.full so call.draws.items in
-      rw (outputs_cons items answer calls, ← append_assoc drawn items (all_drawn calls), ← append_assoc given (option_to_list (output_of answer)) (all_outputs calls))
-      (many_calls calls (drawn ++ items) (given ++ option_to_list (output_of answer)) ran.0 new (ended (drawn ++ items) given call.draws.full call.filled ran.0 call.given answer full call.draws.last call.ends) ran.2)
+      rw (outputs_cons items answer calls, ← append_assoc drawn items (all_drawn calls), ← append_assoc given (option_to_list (output_given answer)) (all_outputs calls))
+      (many_calls calls (drawn ++ items) (given ++ option_to_list (output_given answer)) ran.0 new (ended (drawn ++ items) given call.draws.full call.filled ran.0 call.given answer full call.draws.last call.ends) ran.2)

@@ -8,8 +8,9 @@ use Rattle.futures.specs.Task.{Lasting, Covers, Keeps, Hears}
 use Rattle.futures.specs.Runs.{Runs, After, Within, Ends, Leads, Chains, Resolves, firsts}
 use Rattle.futures.specs.Buffered.{GathersWith}
 use Rattle.futures.specs.Poll.{IfReady}
-use Rattle.futures_buffered.specs.FutureQueue.{MayCome, AddsOutput, PollLeavesQueue, PushLeavesQueue}
-use Rattle.futures_buffered.specs.Buffer.{Buffering, FutureQueueOf, StreamOf, Ahead, AsksStream, DrawsAll, DrawsBuffer, DrawsTask, HasNoTurn, CallGivesWith, PollsBuffer, PollsStream, PollsWithTask, CanDraw, WaitsAt, OneComes, Comes, BufferGives, answer_from, answer_of_none}
+use Rattle.futures_buffered_unordered.specs.StreamAnswers.{StreamAnswers}
+use Rattle.futures_buffered.specs.FutureQueue.{MayCome, AddsOutput, PollLeavesQueue, PushAddsOutput, PushLeavesQueue}
+use Rattle.futures_buffered.specs.Buffer.{Buffering, FutureQueueOf, StreamOf, Ahead, AsksStream, DrawsAll, DrawsBuffer, DrawsTask, HasNoTurn, CallGivesWith, PollsBuffer, PollsStream, PollsWithTask, CanDraw, WaitsAt, OneComes, Comes, BufferGives, buffer_of, answer_from, answer_of_none}
 
 None-Some : {X F : Type 0} {f : F} → None ≡ Some f → X
 None-Some e = cc
@@ -246,10 +247,10 @@ module _ {St X A Q : Type 0} (yields : St → Runs X) (item_gives : X → A → 
 
 module _ {St X Q : Type 0} (can_next : St → Type 0) (yields : St → Runs X) (is_fit : X → Type 0) (can_poll : Q → Type 0) where
   -- an item was drawn, and what came of it pushed or given
-  item_can : (s s2 : St) (item : X) (old new : Q) → (can_poll old → is_fit item → can_poll new) → CanDraw can_next yields is_fit can_poll (record { stream = Some s; queue = old }) → yields s [] (Some item) → After (yields s) item (yields s2) → can_next s2
+  item_can : (s s2 : St) (item : X) (old new : Q) → can_poll new → CanDraw can_next yields is_fit can_poll (record { stream = Some s; queue = old }) → After (yields s) item (yields s2) → can_next s2
       → CanDraw can_next yields is_fit can_poll (record { stream = Some s2; queue = new })
-  item_can s s2 item old new again can came rest next =
-      record { stream = next; to_come = λ xs x h. can.to_come (item ∷ xs) x (rest xs (Some x) h); held = again can.held (can.to_come [] item came) }
+  item_can s s2 item old new again can rest next =
+      record { stream = next; to_come = λ xs x h. can.to_come (item ∷ xs) x (rest xs (Some x) h); held = again }
 
   pub pending_can : (s s2 : St) (q : Q) → CanDraw can_next yields is_fit can_poll (record { stream = Some s; queue = q }) → Within (yields s) (yields s2) → can_next s2
       → CanDraw can_next yields is_fit can_poll (record { stream = Some s2; queue = q })
@@ -270,28 +271,28 @@ module _ {St X Q : Type 0} (can_next : St → Type 0) (yields : St → Runs X) (
 -- what an item leaves that was drawn, by whether its push handed back an answer
 module _ {St X A Q : Type 0} (can_next : St → Type 0) (yields : St → Runs X) (item_gives : X → A → Type 0) (is_fit : X → Type 0) (count room : Q → ℕ) (comes : Q → Runs A) (can_poll : Q → Type 0) (in_order : Bool) (b : Buffering St Q) (s s2 : St) (item : X) (old new : Q) (is : b ≡ record { stream = Some s; queue = old })
     (below : count old < room old) (can : CanDraw can_next yields is_fit can_poll b) (came : yields s [] (Some item)) (rest : After (yields s) item (yields s2)) (next : can_next s2) where
-  again_can : (can_poll old → is_fit item → can_poll new) → CanDraw can_next yields is_fit can_poll (record { stream = Some s2; queue = new })
-  again_can again = item_can can_next yields is_fit can_poll s s2 item old new again (subst (CanDraw can_next yields is_fit can_poll) is can) came rest next
+  again_can : can_poll new → CanDraw can_next yields is_fit can_poll (record { stream = Some s2; queue = new })
+  again_can again = item_can can_next yields is_fit can_poll s s2 item old new again (subst (CanDraw can_next yields is_fit can_poll) is can) rest next
 
-  pub item_leaves : (given : Option A) → PushLeavesQueue count room in_order comes item_gives is_fit can_poll old item given new
+  pub item_leaves : (given : Option A) → PushLeavesQueue count room old given new → PushAddsOutput in_order comes (item_gives item) old given new → can_poll new
       → DrawsBuffer count room (CanDraw can_next yields is_fit can_poll) (BufferGives yields item_gives count comes in_order) b given (record { stream = Some s2; queue = new })
-  item_leaves None push =
+  item_leaves None push output again =
       rw is (record {
         same_room = push.same_room;
         bound = omega (arith, below, push.one_more, push.same_room);
-        again = again_can push.again;
-        within = item_within yields item_gives count comes in_order s s2 item old new push.adds push.one_more came rest;
+        again = again_can again;
+        within = item_within yields item_gives count comes in_order s s2 item old new output.adds push.one_more came rest;
         value = tt;
         after = tt;
       })
-  item_leaves (Some x) push =
+  item_leaves (Some x) push output again =
       rw is (record {
         same_room = push.same_room;
         bound = let e = ap count push.stays in omega (arith, below, e, push.same_room);
-        again = again_can push.again;
+        again = again_can again;
         within = tt;
-        value = given_value yields item_gives count comes in_order s item x old push.overtakes push.value came;
-        after = given_after yields item_gives count comes in_order s s2 item x old new push.overtakes push.stays push.value came rest;
+        value = given_value yields item_gives count comes in_order s item x old output.overtakes output.value came;
+        after = given_after yields item_gives count comes in_order s s2 item x old new output.overtakes push.stays output.value came rest;
       })
 
 -- what the last draw leaves, where those before it handed nothing back
@@ -303,10 +304,10 @@ after_draws count room can_draw yields old now new (Some x) same less last =
     record { same_room = last.same_room ∙ same; bound = last.bound; again = last.again; within = tt; value = less [] (Some x) last.value; after = λ xs end h. less (x ∷ xs) end (last.after xs end h) }
 
 -- one call, of its draws and its poll of the queue
-pub call_of : {St F A Q : Type 0} (next : St → Poll (Option F) → St → Type 0) (count : Q → ℕ) (n : ℕ) (pushes : Q → F → Option A → Q → Type 0) (polls : Q → Poll (Option A) → Q → Type 0) (alone : Type 0) (old filled : Buffering St Q) (stream : Option St) (queue left : Q) (queue_answer answer : Poll (Option A))
+pub call_of : {St F A Q : Type 0} (next : St → Poll (Option F) → St → Type 0) (count : Q → ℕ) (n : ℕ) (pushes : Q → F → Option A → Q → Type 0) (polls : Q → Poll (Option A) → Q → Type 0) (task_stays : Type 0) (old filled : Buffering St Q) (stream : Option St) (queue left : Q) (queue_answer answer : Poll (Option A))
     → filled ≡ record { stream = stream; queue = queue } → (drawn : List F) × DrawsAll next count n pushes old drawn None filled → polls queue queue_answer left → answer ≡ answer_from stream queue_answer
-    → CallGivesWith next count n pushes polls alone old answer (record { stream = stream; queue = left })
-call_of next count n pushes polls alone old filled stream queue left queue_answer answer is draws polled gives = (
+    → CallGivesWith next count n pushes polls task_stays old answer (record { stream = stream; queue = left })
+call_of next count n pushes polls task_stays old filled stream queue left queue_answer answer is draws polled gives = (
   draws.0,
   record {
     given = None;
@@ -329,19 +330,21 @@ ended_by count room (Some s) queue left (Ready None) it = tt
 ended_by count room stream queue left Pending it = tt
 
 -- a call that ended with a poll of the queue
-pub poll_of : {St X A Q : Type 0} (source : StreamOf St X) (by : FutureQueueOf Q X A) (old filled : Buffering St Q) (stream : Option St) (queue left : Q) (queue_answer answer : Poll (Option A)) (cx drawn after : Context)
-    → filled ≡ record { stream = stream; queue = queue } → (items : List X) × DrawsAll (PollsStream source.yields) by.count (by.room old.queue) by.pushes old items None filled → by.polls queue queue_answer left → by.leaves queue queue_answer left drawn after
-    → PollLeavesQueue by.count by.room queue queue_answer left → answer ≡ answer_from stream queue_answer → Keeps cx drawn → (HasNoTurn (PollsStream source.yields) by.count (by.room old.queue) old → drawn ≡ cx) → by.room filled.queue ≡ by.room old.queue
+pub poll_of : {St X A Q : Type 0} (source : StreamOf St X) (by : FutureQueueOf Q X A) (old filled : Buffering St Q) (stream : Option St) (queue left : Q) (queue_answer answer : Poll (Option A)) (cx task_then after : Context)
+    → filled ≡ record { stream = stream; queue = queue } → (items : List X) × DrawsAll (PollsStream source.yields) by.count (by.room old.queue) by.pushes old items None filled → by.polls queue queue_answer left → by.leaves queue queue_answer left task_then after
+    → PollLeavesQueue by.count by.room queue queue_answer left → answer ≡ answer_from stream queue_answer → Keeps cx task_then → (HasNoTurn (PollsStream source.yields) by.count (by.room old.queue) old → task_then ≡ cx) → by.room filled.queue ≡ by.room old.queue
+    → StreamAnswers (buffer_of source by) old answer (record { stream = stream; queue = left }) cx after
     → PollsBuffer source by old answer (record { stream = stream; queue = left }) cx after
-poll_of source by old filled stream queue left queue_answer answer cx drawn after is draws polled left_so it gives kept not_polled same_room =
+poll_of source by old filled stream queue left queue_answer answer cx task_then after is draws polled left_so it gives kept not_polled same_room as_stream =
     record {
-      drawn = drawn;
+      task_then = task_then;
       draws_keep = kept;
       not_polled = not_polled;
-      gave = call_of (PollsStream source.yields) by.count (by.room old.queue) by.pushes (PollsWithTask by.polls by.leaves drawn after) (after ≡ drawn) old filled stream queue left queue_answer answer is draws (polled, left_so) gives;
+      gave = call_of (PollsStream source.yields) by.count (by.room old.queue) by.pushes (PollsWithTask by.polls by.leaves task_then after) (after ≡ task_then) old filled stream queue left queue_answer answer is draws (polled, left_so) gives;
       ended = rw gives (ended_by by.count by.room stream queue left queue_answer it);
       same_room = it.same_room ∙ rw is at same_room;
       bound = it.bound;
+      as_stream = as_stream;
     }
 
 -- the end of the queue, where the stream goes on and where it has ended

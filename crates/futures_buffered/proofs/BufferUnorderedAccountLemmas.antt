@@ -8,7 +8,6 @@ use Rattle.std.proofs.lemmas.List.Sorted.{IsPermutation-refl, IsPermutation-sym,
 use Rattle.std.proofs.lemmas.List.Sums.{sum_by-cons}
 use Rattle.futures.specs.declared.task.Poll.{Poll}
 use Rattle.futures.specs.declared.task.Poll.TheVariants.{Ready, Pending}
-use Rattle.futures.specs.Runs.{Runs}
 use Rattle.futures_buffered_core.specs.SlotMap.{Slots, value_in, with_value, with_slot_freed, Inserts}
 use Rattle.futures_buffered_table.specs.declared.answer.Woke.{Woke}
 use Rattle.futures_buffered_core.specs.ReadySource.{SourceSteps}
@@ -17,7 +16,7 @@ use Rattle.futures_buffered_unordered.specs.FuturesUnorderedBounded.{Bounded, Pu
 use Rattle.futures_buffered_core.specs.declared.ready_source.ReadySource.{Ghosts as ReadySourceOf}
 use Rattle.futures_buffered_unordered.specs.declared.slot_future.SlotFuture.{Ghosts as SlotFutureOf}
 use Rattle.futures_buffered.specs.FutureQueue.{OnlyPushes}
-use Rattle.futures_buffered.specs.Buffer.{StreamOf, Accounts, PollsStream, output_of}
+use Rattle.futures_buffered.specs.Buffer.{StreamOf, Accounts, PollsStream, output_given}
 use Rattle.futures_buffered.specs.BufferUnordered.{PendsTo, WaitsInSlot, MayGiveInSlot, LosesNothing, TryLosesNothing, held_values}
 use Rattle.futures_buffered.specs.TryBuffer.{PushesOk}
 use Rattle.futures_buffered.proofs.BufferAccountLemmas.{many_calls}
@@ -163,7 +162,7 @@ module _ {F A : Type 0} (polled : ℕ → F → Poll A → F → Type 0) where
       }
 
 module _ {F A S : Type 0} (polled : ℕ → F → Poll A → F → Type 0) (steps : SourceSteps S) where
-  pub gave_one : (drawn : List F) (outputs : List A) (old new : Bounded F S) (answer : Poll (Option A)) → SoFar polled drawn outputs old.slots → PollGives polled steps old answer new → SoFar polled drawn (outputs ++ option_to_list (output_of answer)) new.slots
+  pub gave_one : (drawn : List F) (outputs : List A) (old new : Bounded F S) (answer : Poll (Option A)) → SoFar polled drawn outputs old.slots → PollGives polled steps old answer new → SoFar polled drawn (outputs ++ option_to_list (output_given answer)) new.slots
   gave_one drawn outputs old new (Ready None) so h = rw (append-nil outputs) (subst (λ (b : Bounded F S). SoFar polled drawn outputs b.slots) (sym h.1) so)
   gave_one drawn outputs old new (Ready (Some x)) so h =
       let asks = h.1.2 in

@@ -9,7 +9,6 @@ use Rattle.std.proofs.lemmas.Bool.{cases_eq}
 use Rattle.std.proofs.lemmas.Bool.Decides.{eqb_tells}
 use Rattle.futures.specs.declared.task.Poll.{Poll}
 use Rattle.futures.specs.declared.task.Poll.TheVariants.{Ready, Pending}
-use Rattle.futures.specs.Runs.{Runs}
 use Rattle.futures_buffered_core.specs.SlotMap.{Slots, value_in, with_value, with_slot_freed, Inserts}
 use Rattle.futures_buffered_table.specs.declared.answer.Woke.{Woke}
 use Rattle.futures_buffered_core.specs.ReadySource.{SourceSteps}
@@ -28,7 +27,7 @@ use Rattle.futures_buffered_ordered.proofs.OrderedEntriesInvariantLemmas.{runs-s
 use Rattle.futures_buffered_core.specs.declared.ready_source.ReadySource.{Ghosts as ReadySourceOf}
 use Rattle.futures_buffered_unordered.specs.declared.slot_future.SlotFuture.{Ghosts as SlotFutureOf}
 use Rattle.futures_buffered.specs.FutureQueue.{OnlyPushes}
-use Rattle.futures_buffered.specs.Buffer.{StreamOf, Accounts, PollsStream, output_of}
+use Rattle.futures_buffered.specs.Buffer.{StreamOf, Accounts, PollsStream, output_given}
 use Rattle.futures_buffered.specs.BufferUnordered.{PendsTo, MayGiveInSlot}
 use Rattle.futures_buffered.specs.BufferedOrdered.{BecomesEntry, GivesInOrder, TryGivesInOrder, queue_len}
 use Rattle.futures_buffered.specs.TryBuffer.{PushesOk}
@@ -278,13 +277,13 @@ module _ {F A S : Type 0} (polled : ℕ → F → Poll A → F → Type 0) (step
             as_many = λ n. rw same (so.as_many n ∙ ap (λ (l : List (Entry A)). count_by (runs_with n) l) front);
           }
 
-  pub one_poll : (drawn : List F) (outputs : List A) (old new : OrderedBounded F A S) (answer : Poll (Option A)) → SoFar polled drawn outputs old → OrderedGives (SetGives polled steps) held_in old answer new → SoFar polled drawn (outputs ++ option_to_list (output_of answer)) new
+  pub one_poll : (drawn : List F) (outputs : List A) (old new : OrderedBounded F A S) (answer : Poll (Option A)) → SoFar polled drawn outputs old → OrderedGives (SetGives polled steps) held_in old answer new → SoFar polled drawn (outputs ++ option_to_list (output_given answer)) new
   one_poll drawn outputs old new answer so h = last_one answer h.last_step
     where
       then : SoFar polled drawn outputs h.before
       then = row_kept h.yielded drawn outputs old h.before so h.row
 
-      last_one : (answer : Poll (Option A)) → LastStep (SetGives polled steps) h.before answer new → SoFar polled drawn (outputs ++ option_to_list (output_of answer)) new
+      last_one : (answer : Poll (Option A)) → LastStep (SetGives polled steps) h.before answer new → SoFar polled drawn (outputs ++ option_to_list (output_given answer)) new
       last_one (Ready None) step = rw (append-nil outputs) (subst (SoFar polled drawn outputs) (sym step.1) then)
       last_one (Ready (Some x)) step = front_gave drawn outputs h.before new x then step.0 step.1
       last_one Pending step =

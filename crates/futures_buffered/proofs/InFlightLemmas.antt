@@ -11,10 +11,10 @@ use Rattle.futures_buffered_unordered.specs.StreamAnswers.{StreamAnswers, stream
 use Rattle.futures_buffered_unordered.proofs.HeldGivesLemmas.{Gathers-Within, Gathers-After}
 use Rattle.futures_buffered_in_flight.specs.InFlight.{FutureOf}
 use Rattle.futures_buffered_ordered.specs.declared.numbered.Numbered.{Numbered}
-use Rattle.futures_buffered_in_flight.specs.InFlightOrdered.{CanPollOrdered, ComesOfEach, GivesInTurn, OrderedInFlight, PollsInTurn, PushesBack, ordered_count, ordered_room}
+use Rattle.futures_buffered_in_flight.specs.InFlightOrdered.{ComesOfEach, GivesInTurn, OrderedInFlight, PollsInTurn, PushesBack, ordered_count, ordered_room}
 use Rattle.futures_buffered_in_flight.proofs.InFlightOrderedLemmas.{gives_in_turn}
 use Rattle.futures_buffered_in_flight.specs.InFlightQueue.{Queued, SomeOf, AnyQueuedGives, NumberGives, CanPollQueue, ComesFromQueue, HoldsWithinRoom, PollsQueued, PollsQueuedTask, PushesQueued, QueuedWaitsAt, queued_count, queued_room}
-use Rattle.futures_buffered.specs.FutureQueue.{AddsOutput, PollLeavesQueue, PushLeavesQueue}
+use Rattle.futures_buffered.specs.FutureQueue.{AddsOutput, PollLeavesQueue, PushAddsOutput, PushLeavesQueue}
 
 some_held : {P : Type 0} (m : Slots P) (i : ℕ) (p : P) → value_in m i ≡ Some p → 0 < held_count m
 some_held {P} m i p found =
@@ -47,18 +47,11 @@ module _ {F A : Type 0} (future : FutureOf F A) where
         | inr own ↦ inr own
       ]
 
-  pub push_leaves : (old new : Queued F) (f : F) → PushesQueued future old f new
-      → PushLeavesQueue queued_count queued_room false (ComesFromQueue future) future.gives future.can_poll (CanPollQueue future) old f None new
-  push_leaves old new f p =
-      record {
-        one_more = p.one_more;
-        adds = adds old new f p;
-        value = tt;
-        stays = tt;
-        overtakes = tt;
-        same_room = p.same_room;
-        again = λ can fit. p.again;
-      }
+  pub push_leaves : (old new : Queued F) (f : F) → PushesQueued future old f new → PushLeavesQueue {A = A} queued_count queued_room old None new
+  push_leaves old new f p = record { one_more = p.one_more; stays = tt; same_room = p.same_room }
+
+  pub push_adds : (old new : Queued F) (f : F) → PushesQueued future old f new → PushAddsOutput false (ComesFromQueue future) (future.gives f) old None new
+  push_adds old new f p = record { adds = adds old new f p; value = tt; overtakes = tt }
 
   pub poll_leaves : (old new : Queued F) (answer : Poll (Option A)) → PollsQueued future old answer new → HoldsWithinRoom new → PollLeavesQueue queued_count queued_room old answer new
   poll_leaves old new (Ready None) p within = record { empty = p.gave; fewer = tt; same_count = tt; same_room = p.same_room; some = within.0; bound = within.1 }
@@ -90,18 +83,11 @@ module _ {F A : Type 0} (future : FutureOf F A) where
         kept = task.kept;
       }
 
-  pub push_leaves_ordered : (old new : OrderedInFlight F A) (f : F) → PushesBack future old f new
-      → PushLeavesQueue ordered_count ordered_room true (ComesOfEach future) future.gives future.can_poll (CanPollOrdered future) old f None new
-  push_leaves_ordered old new f p =
-      record {
-        one_more = p.one_more;
-        adds = p.comes;
-        value = tt;
-        stays = tt;
-        overtakes = tt;
-        same_room = p.same_room;
-        again = λ can fit. p.again;
-      }
+  pub push_leaves_ordered : (old new : OrderedInFlight F A) (f : F) → PushesBack future old f new → PushLeavesQueue {A = A} ordered_count ordered_room old None new
+  push_leaves_ordered old new f p = record { one_more = p.one_more; stays = tt; same_room = p.same_room }
+
+  pub push_adds_ordered : (old new : OrderedInFlight F A) (f : F) → PushesBack future old f new → PushAddsOutput true (ComesOfEach future) (future.gives f) old None new
+  push_adds_ordered old new f p = record { adds = p.comes; value = tt; overtakes = tt }
 
 pub poll_leaves_ordered : {F A : Type 0} (future : FutureOf F A) (old new : OrderedInFlight F A) (answer : Poll (Option A)) (cx left : Context) → PollsInTurn future old answer new cx left → PollLeavesQueue ordered_count ordered_room old answer new
 poll_leaves_ordered future old new answer cx left poll =

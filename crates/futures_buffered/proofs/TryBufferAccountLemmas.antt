@@ -5,7 +5,7 @@ use Rattle.std.proofs.lemmas.List.{map-append}
 use Rattle.futures.specs.declared.task.Poll.{Poll}
 use Rattle.futures.specs.declared.task.Poll.TheVariants.{Ready, Pending}
 use Rattle.futures_buffered_unordered.specs.Interleaves.{Interleaves}
-use Rattle.futures_buffered.specs.Buffer.{output_of}
+use Rattle.futures_buffered.specs.Buffer.{output_given}
 use Rattle.futures_buffered.specs.FutureQueue.{OnlyPushes}
 use Rattle.futures_buffered.specs.TryBuffer.{PushesOk, WithErrors, futures_of}
 
@@ -44,11 +44,11 @@ module _ {F T E Q : Type 0} (So : List F → List (Result T E) → Q → Type 0)
         rw (is, pushed.1) (so.0, so.1, (so.2.0 ++ e ∷ [], more))
 
   -- an answer of the queue is passed on
-  passed_on : (outputs given : List (Result T E)) (answer : Poll (Option (Result T E))) → WithErrors {T = T} {E = E} outputs given → WithErrors {T = T} {E = E} (outputs ++ option_to_list (output_of answer)) (given ++ option_to_list (output_of answer))
+  passed_on : (outputs given : List (Result T E)) (answer : Poll (Option (Result T E))) → WithErrors {T = T} {E = E} outputs given → WithErrors {T = T} {E = E} (outputs ++ option_to_list (output_given answer)) (given ++ option_to_list (output_given answer))
   passed_on outputs given (Ready (Some x)) h = (h.0, first_more outputs (map Err h.0) given x h.1)
   passed_on outputs given (Ready None) h = rw (append-nil outputs, append-nil given) h
   passed_on outputs given Pending h = rw (append-nil outputs, append-nil given) h
 
-  pub queue_gave : (polls : Q → Poll (Option (Result T E)) → Q → Type 0) → ((drawn : List F) (outputs : List (Result T E)) (old new : Q) (answer : Poll (Option (Result T E))) → So drawn outputs old → polls old answer new → So drawn (outputs ++ option_to_list (output_of answer)) new)
-      → (items : List (Result F E)) (given : List (Result T E)) (old new : Q) (answer : Poll (Option (Result T E))) → AmongErrors items given old → polls old answer new → AmongErrors items (given ++ option_to_list (output_of answer)) new
-  queue_gave polls gave items given old new answer so polled = (so.0 ++ option_to_list (output_of answer), gave (futures_of items) so.0 old new answer so.1 polled, passed_on so.0 given answer so.2)
+  pub queue_gave : (polls : Q → Poll (Option (Result T E)) → Q → Type 0) → ((drawn : List F) (outputs : List (Result T E)) (old new : Q) (answer : Poll (Option (Result T E))) → So drawn outputs old → polls old answer new → So drawn (outputs ++ option_to_list (output_given answer)) new)
+      → (items : List (Result F E)) (given : List (Result T E)) (old new : Q) (answer : Poll (Option (Result T E))) → AmongErrors items given old → polls old answer new → AmongErrors items (given ++ option_to_list (output_given answer)) new
+  queue_gave polls gave items given old new answer so polled = (so.0 ++ option_to_list (output_given answer), gave (futures_of items) so.0 old new answer so.1 polled, passed_on so.0 given answer so.2)

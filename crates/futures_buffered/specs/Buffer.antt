@@ -17,7 +17,7 @@ use Rattle.futures.specs.Poll.{IfReady, OnPending}
 use Rattle.futures.specs.Runs.{Runs, After, Within, Ends, AllItems, Chains, Resolves}
 use Rattle.futures.specs.Buffered.{AnyItemGives, GathersWith}
 pub use Rattle.futures.specs.declared.stream.Stream.{Ghosts as StreamOf}
-use Rattle.futures_buffered_unordered.specs.StreamAnswers.{stream_of}
+use Rattle.futures_buffered_unordered.specs.StreamAnswers.{StreamAnswers, stream_of}
 use Rattle.futures_buffered.specs.FutureQueue.{MayCome}
 pub use Rattle.futures_buffered.specs.declared.future_queue.FutureQueue.{Ghosts as FutureQueueOf}
 
@@ -61,9 +61,9 @@ answer_from stream (Ready None) = answer_of_none stream
 answer_from stream Pending = Pending
 
 -- the output that a call gave, if any
-abbrev pub output_of : {A : Type 0} → Poll (Option A) → Option A
-output_of (Ready o) = o
-output_of Pending = None
+abbrev pub output_given : {A : Type 0} → Poll (Option A) → Option A
+output_given (Ready o) = o
+output_given Pending = None
 
 module _ {St A Q : Type 0} (polls : Q → Poll (Option A) → Q → Type 0) where
   -- the queue was polled once, and the stream was not
@@ -75,12 +75,12 @@ module _ {St A Q : Type 0} (polls : Q → Poll (Option A) → Q → Type 0) wher
     pub gives : answer ≡ answer_from old.stream queue_answer
 
   -- how a call ends once it has drawn: with the answer that was handed back, where the queue is not
-  -- polled and `alone` holds; or else with a poll of the queue
+  -- polled and `task_stays` holds; or else with a poll of the queue
   abbrev pub CallEnds : Type 0 → Option A → Buffering St Q → Poll (Option A) → Buffering St Q
       → Type 0
-  CallEnds alone None filled answer new = AsksQueue filled answer new
-  CallEnds alone (Some x) filled answer new =
-      (answer ≡ Ready (Some x)) × (new ≡ filled) × alone
+  CallEnds task_stays None filled answer new = AsksQueue filled answer new
+  CallEnds task_stays (Some x) filled answer new =
+      (answer ≡ Ready (Some x)) × (new ≡ filled) × task_stays
 
 module _ {St X Q : Type 0} (next : St → Poll (Option X) → St → Type 0) (count : Q → ℕ) (n : ℕ) where
   -- the stream was polled: it had not ended, and fewer than n were held
@@ -94,7 +94,8 @@ module _ {St X Q : Type 0} (next : St → Poll (Option X) → St → Type 0) (co
   abbrev pub HasNoTurn : Buffering St Q → Type 0
   HasNoTurn old = (old.stream ≡ None) ⊎ (n ≤ count old.queue)
 
-  -- no item came: the stream had no turn, or it was pending, or it ended and was dropped
+  -- no item came: the stream was not polled, since it has ended or nothing more fits; or it was
+  -- pending; or it ended and was dropped
   abbrev pub DrawsNone : Buffering St Q → Buffering St Q → Type 0
   DrawsNone old new = (HasNoTurn old × (new ≡ old))
       ⊎ (((left : St) × AsksStream old Pending left × (new ≡ record old { stream = Some left }))
@@ -130,24 +131,24 @@ module _ {St X Q : Type 0} (next : St → Poll (Option X) → St → Type 0) (co
       pub items : FoldsTo (DrawsItem None) old drawn full
       pub last : DrawsLast full given new
 
-    module _ (polls : Q → Poll (Option A) → Q → Type 0) (alone : Type 0) where
+    module _ (polls : Q → Poll (Option A) → Q → Type 0) (task_stays : Type 0) where
       -- one call: these items were drawn and are held, and then it ended
-      pub record Calls (old : Buffering St Q) (drawn : List X) (answer : Poll (Option A))
+      pub record BufferCall (old : Buffering St Q) (drawn : List X) (answer : Poll (Option A))
           (new : Buffering St Q) : Type 0 where
         pub given : Option A
         pub filled : Buffering St Q
         pub draws : DrawsAll old drawn given filled
-        pub ends : CallEnds polls alone given filled answer new
+        pub ends : CallEnds polls task_stays given filled answer new
 
       -- the same, where it does not matter which items were drawn
       abbrev pub CallGivesWith : Buffering St Q → Poll (Option A) → Buffering St Q → Type 0
-      CallGivesWith old answer new = (drawn : List X) × Calls old drawn answer new
+      CallGivesWith old answer new = (drawn : List X) × BufferCall old drawn answer new
 
     -- many calls in a row, each with the items that it drew and with its answer, of which no more
     -- is said where the queue is not polled
     abbrev pub CallsInTurn : (Q → Poll (Option A) → Q → Type 0) → Buffering St Q
         → List (List X × Poll (Option A)) → Buffering St Q → Type 0
-    CallsInTurn polls = FoldsTo (λ old call new. Calls polls (Unit {0}) old call.0 call.1 new)
+    CallsInTurn polls = FoldsTo (λ old call new. BufferCall polls (Unit {0}) old call.0 call.1 new)
 
 -- the answer that was handed back where drawing ended, if one was
 abbrev pub handed_back : {A : Type 0} → ControlFlow (Option A) (Unit {0}) → Option A
@@ -192,84 +193,10 @@ pub record DrawsTask
   -- where there is room left, the task hears of the stream, unless that has ended
   pub covered : none_came → count new.queue < room new.queue
       → IfSome new.stream (λ stream. Covers left (needs stream))
-  -- where the stream had no turn, the task is as it was
+  -- where the stream was not polled, the task is as it was
   pub no_turn : HasNoTurn next count (room old.queue) old → left ≡ cx
   -- nothing of the task is lost
   pub kept : Keeps cx left
-
--- a poll of the queue that takes the task from one context to another, as the queue leaves it
-abbrev pub PollsWithTask : {Q A : Type 0}
-    → (Q → Poll (Option A) → Q → Type 0)
-    → (Q → Poll (Option A) → Q → Context → Context → Type 0)
-    → Context → Context → Q → Poll (Option A) → Q → Type 0
-PollsWithTask polls leaves cx left old answer new =
-    polls old answer new × leaves old answer new cx left
-
--- One call, which took a buffer from old to new and the task from cx to left. A clause names stream
--- and queue by the ghost members of their types: `St.Stream Q.FutureQueue`. Where a pending task
--- waits and what may be polled again is in the clause `stream`.
-pub record PollsBuffer
-    {St X A Q : Type 0}
-    (stream : StreamOf St X)
-    (queue : FutureQueueOf Q X A)
-    (old : Buffering St Q)
-    (answer : Poll (Option A))
-    (new : Buffering St Q)
-    (cx left : Context)
-    : Type 0 where
-  -- to what the draws took the task: nothing of it was lost, and it is as it was where the stream
-  -- was not polled
-  pub drawn : Context
-  pub draws_keep : Keeps cx drawn
-  pub not_polled : HasNoTurn (PollsStream stream.yields) queue.count (queue.room old.queue) old
-      → drawn ≡ cx
-  -- what came, and who is woken: some items were drawn and are held; then an answer came that a push
-  -- handed back, and the task stays so; or a poll of the queue gave the answer and left the task
-  pub gave : CallGivesWith (PollsStream stream.yields) queue.count (queue.room old.queue)
-      queue.pushes (PollsWithTask queue.polls queue.leaves drawn left) (left ≡ drawn)
-      old answer new
-  -- the end comes only where the stream has ended and nothing is held
-  pub ended : IfReady answer (λ o. IfNone o ((new.stream ≡ None) × (queue.count new.queue ≡ 0)))
-  -- what stays: the queue can hold as many as before, and holds no more than that
-  pub same_room : queue.room new.queue ≡ queue.room old.queue
-  pub bound : queue.count new.queue ≤ queue.room new.queue
-
--- the items that these calls drew, in order, and the outputs that they gave
-abbrev pub all_drawn : {F A : Type 0} → List (List F × Poll (Option A)) → List F
-all_drawn = flat_map (λ call. call.0)
-
-abbrev pub all_outputs : {F A : Type 0} → List (List F × Poll (Option A)) → List A
-all_outputs = filter_map (λ call. output_of call.1)
-
--- Each item drawn is accounted for once: either it gave the output at its place among those given,
--- or it became the entry at its place among those held. `matches` compares the items drawn with
--- these: by equality where the order is kept, as a permutation where it is not.
-pub record Accounts {F A E : Type 0} (matches : List F → List F → Type 0) (gives : F → A → Type 0)
-    (becomes : F → E → Type 0) (drawn : List F) (outputs : List A) (held : List E) : Type 0 where
-  pub gone : List F
-  pub kept : List F
-  pub all : matches drawn (gone ++ kept)
-  pub gave : AllZip gives gone outputs
-  pub became : AllZip becomes kept held
-
--- what bounds the number of items left where a stream leaves so many, or has ended, and n more are
--- held: a least number past 64 bits stops there, and a greatest past them is not known
-abbrev pub sum_below : ℕ → Option ℕ
-sum_below sum = cond (nat_lt sum (2 ^ 64)) (Some sum) None
-
-abbrev pub hint_with : ℕ → ℕ × Option ℕ → ℕ × Option ℕ
-hint_with n hint =
-    (min (hint.0 + n) (2 ^ 64 - 1), option_and_then (λ most. sum_below (most + n)) hint.1)
-
-abbrev pub hint_ahead : {St : Type 0} → (St → ℕ × Option ℕ) → Option St → ℕ × Option ℕ
-hint_ahead hint None = (0, Some 0)
-hint_ahead hint (Some stream) = hint stream
-
--- nothing was drawn: the stream is as it was given, and the queue is a new one
-pub record IsNewBuffer {St Q : Type 0} (is_new : Q → Type 0) (stream : St)
-    (b : Buffering St Q) : Type 0 where
-  pub same_stream : b.stream ≡ Some stream
-  pub new_queue : is_new b.queue
 
 -- The stream may be polled, unless it has ended; each item that may still come is fit to be drawn;
 -- and the queue may be polled.
@@ -321,6 +248,83 @@ buffer_of stream queue = stream_of
     (WaitsAt stream.needs queue.needs queue.count queue.room)
     (BufferGives stream.yields queue.gives queue.count queue.yields queue.in_order)
 
+-- a poll of the queue that takes the task from one context to another, as the queue leaves it
+abbrev pub PollsWithTask : {Q A : Type 0}
+    → (Q → Poll (Option A) → Q → Type 0)
+    → (Q → Poll (Option A) → Q → Context → Context → Type 0)
+    → Context → Context → Q → Poll (Option A) → Q → Type 0
+PollsWithTask polls leaves cx left old answer new =
+    polls old answer new × leaves old answer new cx left
+
+-- One call, which took a buffer from old to new and the task from cx to left. A clause names stream
+-- and queue by the ghost members of their types: `St.Stream Q.FutureQueue`.
+pub record PollsBuffer
+    {St X A Q : Type 0}
+    (stream : StreamOf St X)
+    (queue : FutureQueueOf Q X A)
+    (old : Buffering St Q)
+    (answer : Poll (Option A))
+    (new : Buffering St Q)
+    (cx left : Context)
+    : Type 0 where
+  -- to what the draws took the task: nothing of it was lost, and it is as it was where the stream
+  -- was not polled
+  pub task_then : Context
+  pub draws_keep : Keeps cx task_then
+  pub not_polled : HasNoTurn (PollsStream stream.yields) queue.count (queue.room old.queue) old
+      → task_then ≡ cx
+  -- what came, and who is woken: some items were drawn and are held; then a push handed back the
+  -- answer, and the task is as the draws left it; or one poll of the queue gave the answer, and made
+  -- of the task what the queue's polls do
+  pub gave : CallGivesWith (PollsStream stream.yields) queue.count (queue.room old.queue)
+      queue.pushes (PollsWithTask queue.polls queue.leaves task_then left) (left ≡ task_then)
+      old answer new
+  -- the end comes only where the stream has ended and nothing is held
+  pub ended : IfReady answer (λ o. IfNone o ((new.stream ≡ None) × (queue.count new.queue ≡ 0)))
+  -- what stays: the queue can hold as many as before, and holds no more than that
+  pub same_room : queue.room new.queue ≡ queue.room old.queue
+  pub bound : queue.count new.queue ≤ queue.room new.queue
+  -- as a stream: what may come; who waits where, with the queue if anything is held, and with the
+  -- stream if it has not ended and more fits; and what may be polled again
+  pub as_stream : StreamAnswers (buffer_of stream queue) old answer new cx left
+
+-- the items that these calls drew, in order, and the outputs that they gave
+abbrev pub all_drawn : {F A : Type 0} → List (List F × Poll (Option A)) → List F
+all_drawn = flat_map (λ call. call.0)
+
+abbrev pub all_outputs : {F A : Type 0} → List (List F × Poll (Option A)) → List A
+all_outputs = filter_map (λ call. output_given call.1)
+
+-- Each item drawn is accounted for once: either it gave the output at its place among those given,
+-- or it became the entry at its place among those held. `matches` compares the items drawn with
+-- these: by equality where the order is kept, as a permutation where it is not.
+pub record Accounts {F A E : Type 0} (matches : List F → List F → Type 0) (gives : F → A → Type 0)
+    (becomes : F → E → Type 0) (drawn : List F) (outputs : List A) (held : List E) : Type 0 where
+  pub gone : List F
+  pub kept : List F
+  pub all : matches drawn (gone ++ kept)
+  pub gave : AllZip gives gone outputs
+  pub became : AllZip becomes kept held
+
+-- what bounds the number of items left where a stream leaves so many, or has ended, and n more are
+-- held: a least number past 64 bits stops there, and a greatest past them is not known
+abbrev pub sum_below : ℕ → Option ℕ
+sum_below sum = cond (nat_lt sum (2 ^ 64)) (Some sum) None
+
+abbrev pub hint_with : ℕ → ℕ × Option ℕ → ℕ × Option ℕ
+hint_with n hint =
+    (min (hint.0 + n) (2 ^ 64 - 1), option_and_then (λ most. sum_below (most + n)) hint.1)
+
+abbrev pub hint_ahead : {St : Type 0} → (St → ℕ × Option ℕ) → Option St → ℕ × Option ℕ
+hint_ahead hint None = (0, Some 0)
+hint_ahead hint (Some stream) = hint stream
+
+-- nothing was drawn: the stream is as it was given, and the queue is a new one
+pub record IsNewBuffer {St Q : Type 0} (is_new : Q → Type 0) (stream : St)
+    (b : Buffering St Q) : Type 0 where
+  pub same_stream : b.stream ≡ Some stream
+  pub new_queue : is_new b.queue
+
 -- What drawing makes of a buffer and of its task, by the ghost members of stream and queue.
 module _ {St X A Q : Type 0} (stream : StreamOf St X) (queue : FutureQueueOf Q X A) where
   -- one draw
@@ -329,8 +333,8 @@ module _ {St X A Q : Type 0} (stream : StreamOf St X) (queue : FutureQueueOf Q X
       (queue.room old.queue) queue.pushes old result new
 
   -- all draws of one call
-  abbrev pub Fills : Buffering St Q → Option A → Buffering St Q → Type 0
-  Fills old given new = (drawn : List X) × DrawsAll (PollsStream stream.yields) queue.count
+  abbrev pub FillsBuffer : Buffering St Q → Option A → Buffering St Q → Type 0
+  FillsBuffer old given new = (drawn : List X) × DrawsAll (PollsStream stream.yields) queue.count
       (queue.room old.queue) queue.pushes old drawn given new
 
   -- what they leave of the buffer
@@ -339,5 +343,6 @@ module _ {St X A Q : Type 0} (stream : StreamOf St X) (queue : FutureQueueOf Q X
       (buffer_of stream queue).yields
 
   -- and of the task, where drawing stopped because no item came, or for another reason
-  abbrev pub LeavesTask : Type 0 → Buffering St Q → Buffering St Q → Context → Context → Type 0
-  LeavesTask = DrawsTask (PollsStream stream.yields) queue.count queue.room stream.needs
+  abbrev pub DrawingLeavesTask : Type 0 → Buffering St Q → Buffering St Q → Context → Context
+      → Type 0
+  DrawingLeavesTask = DrawsTask (PollsStream stream.yields) queue.count queue.room stream.needs

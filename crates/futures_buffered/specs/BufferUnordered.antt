@@ -8,10 +8,10 @@ use Rattle.futures_buffered_core.specs.declared.ready_source.ReadySource.{Ghosts
 use Rattle.futures_buffered_unordered.specs.declared.slot_future.SlotFuture.{Ghosts as SlotFutureOf}
 use Rattle.futures_buffered_unordered.specs.Held.{MayGive}
 use Rattle.futures_buffered_unordered.specs.FuturesUnorderedBounded.{Bounded, Pushes, PollGives}
-use Rattle.futures_buffered_unordered.specs.FuturesUnorderedBounded.{IsNewSet, held_in}
+use Rattle.futures_buffered_unordered.specs.FuturesUnorderedBounded.{held_in}
 use Rattle.futures_buffered.specs.FutureQueue.{OnlyPushes}
 use Rattle.futures_buffered.specs.Buffer.{Buffering, StreamOf, PollsStream, CallsInTurn, Accounts}
-use Rattle.futures_buffered.specs.Buffer.{IsNewBuffer, all_drawn, all_outputs}
+use Rattle.futures_buffered.specs.Buffer.{all_drawn, all_outputs}
 use Rattle.futures_buffered.specs.TryBuffer.{PushesOk, WithErrors, futures_of}
 
 -- a pending poll of a set waits with its source

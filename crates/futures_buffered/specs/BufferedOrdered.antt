@@ -7,13 +7,13 @@ use Rattle.futures_buffered_unordered.specs.declared.slot_future.SlotFuture.{Gho
 use Rattle.futures_buffered_unordered.specs.FuturesUnorderedBounded.{held_in}
 use Rattle.futures_buffered_ordered.specs.OrderedEntries.{AddsBack, OrderedGives}
 use Rattle.futures_buffered_ordered.specs.FuturesOrderedBounded.{OrderedBounded, PushesNumber}
-use Rattle.futures_buffered_ordered.specs.FuturesOrderedBounded.{IsNewBoundedQueue, SetGives}
+use Rattle.futures_buffered_ordered.specs.FuturesOrderedBounded.{SetGives}
 use Rattle.futures_buffered_ordered.specs.declared.numbered.Numbered.{Numbered}
 use Rattle.futures_buffered_ordered.specs.declared.ordered_entries.Entry.{Entry}
 use Rattle.futures_buffered_ordered.specs.declared.ordered_entries.Entry.TheVariants.{Running, Kept}
 use Rattle.futures_buffered.specs.FutureQueue.{OnlyPushes}
 use Rattle.futures_buffered.specs.Buffer.{StreamOf, Buffering, PollsStream, CallsInTurn, Accounts}
-use Rattle.futures_buffered.specs.Buffer.{IsNewBuffer, all_drawn, all_outputs}
+use Rattle.futures_buffered.specs.Buffer.{all_drawn, all_outputs}
 use Rattle.futures_buffered.specs.BufferUnordered.{PendsTo, MayGiveInSlot, SetWaitsAt}
 use Rattle.futures_buffered.specs.TryBuffer.{PushesOk, WithErrors, futures_of}
 

@@ -1,13 +1,13 @@
--- One call of a `ForEachConcurrent`: turns, each of which draws at most one item, gives it to the
--- closure, pushes the future that came of it, and polls the set once. A clause names stream, closure,
--- futures and source by the ghost members of their types:
+-- One poll of a `ForEachConcurrent`: turns, each of which draws at most one item, gives it to the
+-- closure, pushes the future that came of it, and polls the set once. A clause names stream,
+-- closure, futures and source by the ghost members of their types:
 -- `St.Stream F.FnMut Fut.SlotFuture S.ReadySource`.
 use Rattle.std.specs.Prelude.{◌≡◌, ℕ, ◌+◌, ◌<◌, ◌≤◌, List, [], ◌∷◌, ◌++◌, length, Bool, true}
-use Rattle.std.specs.Prelude.{false, ◌||◌, Option, Some, None, IfSome, ◌⊎◌, refl}
+use Rattle.std.specs.Prelude.{false, Option, Some, None, IfSome, IsSomeAnd, ◌⊎◌, refl, is_some}
 use Rattle.std.specs.List.{FoldsTo, AllByRecursion}
 use Rattle.std.specs.Fn.{Mut}
 use Rattle.std.specs.Coded.{Coded, code_by, coded×}
-use Rattle.futures.specs.Task.{Keeps}
+use Rattle.futures.specs.Task.{Covers, Keeps}
 use Rattle.futures.specs.declared.task.context.Context.{Context}
 use Rattle.futures.specs.declared.task.Poll.{Poll}
 use Rattle.futures.specs.declared.task.Poll.TheVariants.{Ready, Pending}
@@ -21,8 +21,7 @@ use Rattle.futures_buffered_unordered.specs.PollsBounded.{PollsBounded}
 pub use Rattle.futures_buffered_unordered.specs.declared.slot_future.SlotFuture.{Ghosts as SlotFutureOf}
 use Rattle.futures_buffered_unordered.specs.PollsBounded.{itself}
 use Rattle.futures_buffered.specs.Buffer.{Buffering, StreamOf, buffer_code, Ahead, AsksStream}
-use Rattle.futures_buffered.specs.Buffer.{HasNoTurn, IsNewBuffer, PollsStream, WaitsAt}
-use Rattle.futures_buffered.specs.BufferUnordered.{SetWaitsAt}
+use Rattle.futures_buffered.specs.Buffer.{DrawsNone, DrawsTask, HasNoTurn, IsNewBuffer, PollsStream}
 
 -- the stream and the set, and the closure
 pub record ForEach (St Fn Q : Type 0) : Type 0 where
@@ -44,42 +43,25 @@ for_each_code {St} {Fn} {Q} stream_code closure_code queue_code =
 abbrev pub IsNewForEach : {St Fn Q : Type 0} → (Q → Type 0) → St → Fn → ForEach St Fn Q → Type 0
 IsNewForEach is_new stream closure b = IsNewBuffer is_new stream b.buffer × (b.closure ≡ closure)
 
--- the stream has ended and nothing is held
-abbrev pub IsDone : {St Fn Q : Type 0} → (Q → ℕ) → ForEach St Fn Q → Type 0
-IsDone count b = (b.buffer.stream ≡ None) × (count b.buffer.queue ≡ 0)
-
--- what a turn had of its stream, or nothing where it did not poll it; and what its poll of the set
--- answered
-abbrev pub DrawAndPoll : Type 0 → Type 0 → Type 0
-DrawAndPoll X A = Option (Poll (Option X)) × Poll (Option A)
-
--- an item came
-abbrev pub drew_one : {X : Type 0} → Option (Poll (Option X)) → Bool
-drew_one None = false
-drew_one (Some Pending) = false
-drew_one (Some (Ready None)) = false
-drew_one (Some (Ready (Some x))) = true
-
--- an output came
-abbrev pub gave_one : {A : Type 0} → Poll (Option A) → Bool
-gave_one Pending = false
-gave_one (Ready None) = false
-gave_one (Ready (Some x)) = true
-
--- another turn follows, if one is left
-abbrev pub moves_on : {X A : Type 0} → DrawAndPoll X A → Bool
-moves_on turn = drew_one turn.0 || gave_one turn.1
+-- another turn follows, if one is left: an item was drawn, or an output came
+abbrev pub moves_on : {X A : Type 0} → Option X → Poll (Option A) → Bool
+moves_on (Some x) answer = true
+moves_on None (Ready output) = is_some output
+moves_on None Pending = false
 
 -- it may end, where its stream may
 abbrev pub ForEachGives : {St X Fn Q : Type 0} → StreamOf St X → ForEach St Fn Q → Unit {0} → Type 0
 ForEachGives {X = X} stream b _ =
     (items : List X) × Ahead stream.yields b.buffer.stream items None
 
--- where a pending call waits
+-- where a pending call waits: with the set, if a future is held; with the stream, if it has not
+-- ended and a slot is free
 abbrev pub ForEachWaitsAt : {St X Fn F W S : Type 0}
     → StreamOf St X → ReadySourceOf S W → ForEach St Fn (Bounded F S) → ℕ → Type 0
-ForEachWaitsAt stream source b =
-    WaitsAt stream.needs (SetWaitsAt source.needs) held_in slots_in b.buffer
+ForEachWaitsAt stream source b place =
+    ((0 < held_in b.buffer.queue) × source.needs b.buffer.queue.source place)
+    ⊎ ((held_in b.buffer.queue < slots_in b.buffer.queue)
+    × IsSomeAnd b.buffer.stream (λ s. stream.needs s place))
 
 module _
     {St X Fn F W : Type 0}
@@ -99,26 +81,23 @@ module _
       pub to_come : AtEachItem (Calls closure) (Ahead stream.yields b.buffer.stream) b.closure CanCall
       pub held : AllHeld future.can_poll b.buffer.queue.slots
 
-    -- What a call leaves of a for-each. A draw leaves it as a pending call does.
-    pub record LeavesForEach
-        {S : Type 0}
-        (old : ForEach St Fn (Bounded F S))
-        (answer : Poll (Unit {0}))
-        (new : ForEach St Fn (Bounded F S))
-        : Type 0 where
-      -- the for-each is ready only where the stream has ended and nothing is held
-      pub ended : IfReady answer (λ _. IsDone held_in new)
-      -- and only where it might end
-      pub value : IfReady answer (ForEachGives stream old)
-      -- while the for-each is pending it can be polled again
-      pub again : OnPending answer (CanForEach new)
+    -- What a draw leaves of a for-each.
+    pub record DrawLeaves {S : Type 0} (old new : ForEach St Fn (Bounded F S)) : Type 0 where
+      -- it can be polled again
+      pub again : CanForEach new
       -- and may end only where it might have ended before
-      pub same : OnPending answer (ForEachGives stream new tt → ForEachGives stream old tt)
+      pub same : ForEachGives stream new tt → ForEachGives stream old tt
       -- the number of slots and the limit stay
       pub capacity : slots_in new.buffer.queue ≡ slots_in old.buffer.queue
       pub limit : new.buffer.queue.limit ≡ old.buffer.queue.limit
       -- no more futures are held than there are slots
       pub bound : held_in new.buffer.queue ≤ slots_in new.buffer.queue
+
+-- and what it leaves of the task, where no item came, or where one did
+abbrev pub DrawLeavesTask : {St X Fn F S : Type 0} → StreamOf St X → Type 0
+    → ForEach St Fn (Bounded F S) → ForEach St Fn (Bounded F S) → Context → Context → Type 0
+DrawLeavesTask stream none_came old new = DrawsTask (PollsStream stream.yields) held_in slots_in
+    stream.needs none_came old.buffer new.buffer
 
 module _
     {St X Fn F W S : Type 0}
@@ -127,34 +106,26 @@ module _
     (future : SlotFutureOf F W (Unit {0}))
     (source : ReadySourceOf S W)
   where
-    -- an item is given to the closure, once, whose answer is pushed; a stream that ended is dropped
-    abbrev pub TakesIn : ForEach St Fn (Bounded F S) → Poll (Option X) → St
-        → ForEach St Fn (Bounded F S) → Type 0
-    TakesIn old (Ready (Some x)) left new = (made : F)
+    -- The first part of a turn. No item came: the stream was not polled, since it has ended or no
+    -- slot is free; or it was pending; or it ended and was dropped. Or one did, while a slot was
+    -- free: the closure took it, once, and the future that this made was pushed.
+    abbrev pub DrawsOnce : ForEach St Fn (Bounded F S) → Option X → ForEach St Fn (Bounded F S)
+        → Type 0
+    DrawsOnce old None new = DrawsNone (PollsStream stream.yields) held_in
+        (slots_in old.buffer.queue) old.buffer new.buffer
+        × (new.closure ≡ old.closure)
+    DrawsOnce old (Some x) new = (left : St) × (made : F)
+        × AsksStream (PollsStream stream.yields) held_in (slots_in old.buffer.queue)
+        old.buffer (Ready (Some x)) left
+        × (new.buffer.stream ≡ Some left)
         × Calls closure old.closure x made new.closure
         × Pushes source.marks old.buffer.queue made new.buffer.queue
-        × (new.buffer.stream ≡ Some left)
-    TakesIn old (Ready None) left new =
-        new ≡ record old { buffer = record { stream = None; queue = old.buffer.queue } }
-    TakesIn old Pending left new =
-        new ≡ record old { buffer = record { stream = Some left; queue = old.buffer.queue } }
 
-    -- the first part of a turn: no poll of the stream, where it has ended or no slot is free, and
-    -- else one
-    abbrev pub DrawsOnce : ForEach St Fn (Bounded F S) → Option (Poll (Option X))
-        → ForEach St Fn (Bounded F S) → Type 0
-    DrawsOnce old None new =
-        HasNoTurn (PollsStream stream.yields) held_in (slots_in old.buffer.queue) old.buffer
-        × (new ≡ old)
-    DrawsOnce old (Some answer) new = (left : St)
-        × AsksStream (PollsStream stream.yields) held_in (slots_in old.buffer.queue)
-        old.buffer answer left
-        × TakesIn old answer left new
-
-    -- one turn, of the for-each and of its task
+    -- One turn, of the for-each and of its task: what it drew, if anything, and what its poll of
+    -- the set answered.
     pub record TurnGives
         (old : ForEach St Fn (Bounded F S) × Context)
-        (turn : DrawAndPoll X (Unit {0}))
+        (turn : Option X × Poll (Option (Unit {0})))
         (new : ForEach St Fn (Bounded F S) × Context)
         : Type 0 where
       pub drawn : ForEach St Fn (Bounded F S)
@@ -163,42 +134,59 @@ module _
       -- stream was not polled
       pub task_then : Context
       pub draw_keeps : Keeps old.1 task_then
-      pub not_polled : turn.0 ≡ None → task_then ≡ old.1
+      pub not_polled : HasNoTurn (PollsStream stream.yields) held_in
+          (slots_in old.0.buffer.queue) old.0.buffer
+          → task_then ≡ old.1
       -- from there the set was polled
       pub polls_set : PollsBounded (itself future) source
           drawn.buffer.queue turn.1 new.0.buffer.queue task_then new.1
       pub same_stream : new.0.buffer.stream ≡ drawn.buffer.stream
       pub same_closure : new.0.closure ≡ drawn.closure
 
-    -- the set held nothing and the stream has ended
-    abbrev pub HasEnded : DrawAndPoll X (Unit {0}) → ForEach St Fn (Bounded F S) → Type 0
-    HasEnded last new = (last.1 ≡ Ready None) × (new.buffer.stream ≡ None)
-
-    -- how a call ends after its last turn, where so many came before: Ready at the end of all;
-    -- Pending after a turn that neither drew nor gave, or where another would be one too many, and
-    -- then the task is woken. In the first two cases the task stays as the last turn left it.
-    abbrev pub EndsAfter : ℕ → ℕ → DrawAndPoll X (Unit {0}) → Context
-        → Poll (Unit {0}) → ForEach St Fn (Bounded F S) → Context → Type 0
-    EndsAfter limit done last after (Ready _) new left =
-        (moves_on last ≡ false) × HasEnded last new × (left ≡ after)
-    EndsAfter limit done last after Pending new left =
-        ((moves_on last ≡ false) × (HasEnded last new → ⊥) × (left ≡ after))
-        ⊎ ((moves_on last ≡ true) × (done + 1 ≡ limit) × IsWoken left)
-
-    -- One call, which took a for-each from old to new and the task from cx to left: some turns, each
-    -- of which drew an item or gave an output, and the last one.
-    pub record ForEachCall
+    -- One poll, which took a for-each from old to new and the task from cx to left: some turns,
+    -- each of which drew an item or gave an output, and a last one.
+    pub record PollsForEach
         (old : ForEach St Fn (Bounded F S))
         (answer : Poll (Unit {0}))
         (new : ForEach St Fn (Bounded F S))
         (cx left : Context)
         : Type 0 where
-      -- the turns before the last, each of which drew or gave, the last one, and the task behind it
-      pub turns : List (DrawAndPoll X (Unit {0}))
-      pub last : DrawAndPoll X (Unit {0})
+      -- what came: the turns before the last; of the last what it drew, if anything, and what the
+      -- set answered; and the task behind it
+      pub turns : List (Option X × Poll (Option (Unit {0})))
+      pub drew : Option X
+      pub set_answer : Poll (Option (Unit {0}))
       pub after : Context
-      pub row : FoldsTo TurnGives (old, cx) (turns ++ last ∷ []) (new, after)
-      pub went_on : AllByRecursion (λ turn. moves_on turn ≡ true) turns
+      pub row : FoldsTo TurnGives (old, cx) (turns ++ (drew, set_answer) ∷ []) (new, after)
+      -- each turn before the last moved on: it drew an item or gave an output. With the last they are
+      -- at most as many as the set's limit, which also bounds the names of each poll of the set
+      pub went_on : AllByRecursion (λ turn. moves_on turn.0 turn.1 ≡ true) turns
       pub at_most : length turns < old.buffer.queue.limit
-      -- how it ended, and who is woken
-      pub ends : EndsAfter old.buffer.queue.limit (length turns) last after answer new left
+      -- how it ended: ready where the set held nothing at last and the stream has ended, and else
+      -- pending
+      pub ended : IfReady answer (λ _. (set_answer ≡ Ready None) × (new.buffer.stream ≡ None)
+          × (held_in new.buffer.queue ≡ 0))
+      pub not_yet : OnPending answer (moves_on drew set_answer ≡ false
+          → set_answer ≡ Ready None → new.buffer.stream ≡ None → ⊥)
+      -- who is woken: where the last turn did not move on, the task is as that turn left it, which
+      -- may have asked it to poll again; where it did, the limit is reached, and the task was asked
+      -- to poll again
+      pub stays : moves_on drew set_answer ≡ false → left ≡ after
+      pub at_limit : moves_on drew set_answer ≡ true → (answer ≡ Pending)
+          × (length turns + 1 ≡ old.buffer.queue.limit) × IsWoken left
+      -- what stays: the number of slots and the limit; and no more futures are held than there are
+      -- slots
+      pub capacity : slots_in new.buffer.queue ≡ slots_in old.buffer.queue
+      pub limit : new.buffer.queue.limit ≡ old.buffer.queue.limit
+      pub bound : held_in new.buffer.queue ≤ slots_in new.buffer.queue
+      -- who waits where: the task of a pending for-each hears of its set where a future is held, and
+      -- of its stream where that has not ended and a slot is free
+      pub registered : OnPending answer (Covers left (ForEachWaitsAt stream source new))
+      -- nothing of the task is lost
+      pub kept : Keeps cx left
+      -- what may be polled again: a pending for-each
+      pub again : OnPending answer (CanForEach stream closure future new)
+      -- when it may end: it is ready only where it might end, and a pending poll adds nothing to
+      -- that
+      pub value : IfReady answer (ForEachGives stream old)
+      pub same : OnPending answer (ForEachGives stream new tt → ForEachGives stream old tt)

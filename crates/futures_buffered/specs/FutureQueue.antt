@@ -20,35 +20,39 @@ abbrev pub OnlyPushes : {F A Q : Type 0} → (Q → F → Q → Type 0) → Q �
 OnlyPushes pushes old item None new = pushes old item new
 OnlyPushes pushes old item (Some answer) new = ⊥
 
--- What a push leaves of a queue, where `given` is what it handed back. `count` says how many it
--- holds, `room` how many it can hold, and `yields` what may come from it.
+-- What a push leaves of what a queue holds, where `given` is what it handed back. `count` says how
+-- many it holds, and `room` how many it can hold.
 pub record PushLeavesQueue
-    {F A Q : Type 0}
+    {A Q : Type 0}
     (count room : Q → ℕ)
-    (in_order : Bool)
-    (yields : Q → Runs A)
-    (gives : F → A → Type 0)
-    (is_fit : F → Type 0)
-    (can_poll : Q → Type 0)
     (old : Q)
-    (item : F)
     (given : Option A)
     (new : Q)
     : Type 0 where
   -- without an answer the queue holds one more
   pub one_more : IfNone given (count new ≡ count old + 1)
-  -- and an output of the item may come, besides those that might come before
-  pub adds : IfNone given (AddsOutput in_order (yields old) (gives item) (yields new))
-  -- an answer is one that the item may give
-  pub value : IfSome given (gives item)
-  -- it leaves the queue as it was
+  -- an answer leaves it as it was
   pub stays : OnSome given (new ≡ old)
-  -- and comes before what is held, so that the order is not kept
-  pub overtakes : OnSome given (in_order ≡ false)
   -- the queue can hold as many as before
   pub same_room : room new ≡ room old
-  -- the queue can be polled if it could be before and the item is fit
-  pub again : can_poll old → is_fit item → can_poll new
+
+-- What a push adds to what may come from a queue, as `yields` says that. `item_gives` holds of what
+-- the item may give.
+pub record PushAddsOutput
+    {A Q : Type 0}
+    (in_order : Bool)
+    (yields : Q → Runs A)
+    (item_gives : A → Type 0)
+    (old : Q)
+    (given : Option A)
+    (new : Q)
+    : Type 0 where
+  -- without an answer an output of the item may come, besides those that might come before
+  pub adds : IfNone given (AddsOutput in_order (yields old) item_gives (yields new))
+  -- an answer is one that the item may give
+  pub value : IfSome given item_gives
+  -- and comes before what is held, so that the order is not kept
+  pub overtakes : OnSome given (in_order ≡ false)
 
 -- What a poll leaves of what a queue holds.
 pub record PollLeavesQueue

@@ -2,8 +2,8 @@
 ghost use Rattle.std.specs.Prelude.{◌≡◌, ◌<◌, ◌≤◌, ◌↔◌, IsTrue, None, option_copied};
 ghost use Rattle.std.specs.declared.ops.ControlFlow.TheVariants.{Break};
 ghost use Rattle.futures_buffered_core.specs.Made.{MakesSlots};
-ghost use Rattle.futures_buffered_unordered.specs.StreamAnswers.{StreamAnswers};
-ghost use Rattle.futures_buffered.specs.Buffer.{CanPollBuffer, DrawsOne, Fills, LeavesBuffer, LeavesTask, buffer_of};
+ghost use Rattle.futures_buffered.specs.Buffer.{CanPollBuffer, DrawsOne, FillsBuffer, LeavesBuffer};
+ghost use Rattle.futures_buffered.specs.Buffer.{DrawingLeavesTask, buffer_of};
 ghost use Rattle.futures_buffered.specs.Buffer.{PollsBuffer, IsNewBuffer, handed_back};
 ghost use Rattle.futures_buffered.specs.Buffer.{hint_with, hint_ahead};
 
@@ -131,7 +131,7 @@ impl<St: Stream, Q: FutureQueue<St::Item>> Buffer<St, Q> {
         ensures draws { DrawsOne St.Stream Q.FutureQueue self.old result self.new }
         ensures buffer { LeavesBuffer St.Stream Q.FutureQueue
             self.old (handed_back result) self.new }
-        ensures task { LeavesTask St.Stream Q.FutureQueue (result ≡ Break None)
+        ensures task { DrawingLeavesTask St.Stream Q.FutureQueue (result ≡ Break None)
             self.old self.new cx.old cx.new }
     {
         if self.queue.len() >= self.queue.capacity() {
@@ -159,9 +159,9 @@ impl<St: Stream, Q: FutureQueue<St::Item>> Buffer<St, Q> {
     // answer, which it returns.
     fn fill(&mut self, cx: &mut Context<'_>) -> Option<Q::Output>
         requires { CanPollBuffer St.Stream Q.FutureQueue self.old }
-        ensures draws { Fills St.Stream Q.FutureQueue self.old result self.new }
+        ensures draws { FillsBuffer St.Stream Q.FutureQueue self.old result self.new }
         ensures buffer { LeavesBuffer St.Stream Q.FutureQueue self.old result self.new }
-        ensures task { LeavesTask St.Stream Q.FutureQueue (result ≡ None)
+        ensures task { DrawingLeavesTask St.Stream Q.FutureQueue (result ≡ None)
             self.old self.new cx.old cx.new }
     {
         'draws: loop {
@@ -191,10 +191,7 @@ impl<St: Stream, Q: FutureQueue<St::Item>> Stream for Buffer<St, Q> {
     /// polls.
     fn poll_next(&mut self, cx: &mut Context<'_>) -> Poll<Option<Q::Output>>
         requires { CanPollBuffer St.Stream Q.FutureQueue self.old }
-        ensures polls { PollsBuffer St.Stream Q.FutureQueue
-            self.old result self.new cx.old cx.new }
-        ensures stream { StreamAnswers ⟦<Buffer<St, Q> as Stream>⟧
-            self.old result self.new cx.old cx.new }
+        ensures { PollsBuffer St.Stream Q.FutureQueue self.old result self.new cx.old cx.new }
     {
         if let Some(answer) = self.fill(cx) {
             return Poll::Ready(Some(answer));

@@ -1,17 +1,11 @@
 //! A closure called with each item of a stream, and some of the futures that it makes at a time.
-ghost use Rattle.std.specs.Prelude.{◌≡◌, ◌<◌, ◌≤◌, ◌↔◌, Option, IsTrue, true, false, option_copied};
-ghost use Rattle.futures.specs.Task.{Covers, Keeps};
-ghost use Rattle.futures.specs.Poll.{OnPending};
-ghost use Rattle.futures.specs.declared.task.Poll.{Poll};
-ghost use Rattle.futures.specs.declared.task.Poll.TheVariants.{Pending};
+ghost use Rattle.std.specs.Prelude.{◌≡◌, ◌<◌, ◌≤◌, ◌↔◌, Option, IsTrue, is_some, true, false, option_copied};
 ghost use Rattle.futures_buffered_core.specs.Made.{MakesSlots};
 ghost use Rattle.futures_buffered_core.specs.ReadyShared.{IsNewShared};
 ghost use Rattle.futures_buffered_unordered.specs.FuturesUnorderedBounded.{held_in, slots_in, IsNewSet};
-ghost use Rattle.futures_buffered.specs.Buffer.{PollsStream, DrawsTask};
-ghost use Rattle.futures_buffered.specs.ForEachConcurrent.{IsNewForEach, IsDone, DrawsOnce, ForEachCall};
-ghost use Rattle.futures_buffered.specs.ForEachConcurrent.{CanForEach};
-ghost use Rattle.futures_buffered.specs.ForEachConcurrent.{ForEachGives, ForEachWaitsAt, LeavesForEach};
-ghost use Rattle.futures_buffered.specs.ForEachConcurrent.{drew_one};
+ghost use Rattle.futures_buffered.specs.ForEachConcurrent.{IsNewForEach, CanForEach, DrawsOnce};
+ghost use Rattle.futures_buffered.specs.ForEachConcurrent.{DrawLeaves, DrawLeavesTask};
+ghost use Rattle.futures_buffered.specs.ForEachConcurrent.{ForEachGives, ForEachWaitsAt, PollsForEach};
 
 use crate::drain::Drain;
 use futures::stream::Map;
@@ -172,12 +166,12 @@ impl<
     // drawn.
     fn draw(&mut self, cx: &mut Context<'_>) -> bool
         requires { CanForEach St.Stream F.FnMut Fut.SlotFuture self.old }
-        ensures drew { (asked : Option (Poll (Option St.Item))) × (drew_one asked ≡ result)
-            × DrawsOnce St.Stream F.FnMut Fut.SlotFuture S.ReadySource self.old asked self.new }
+        ensures drew { (item : Option St.Item) × (is_some item ≡ result)
+            × DrawsOnce St.Stream F.FnMut Fut.SlotFuture S.ReadySource self.old item self.new }
         ensures count { result ≡ true → 0 < held_in self.new.buffer.queue }
-        ensures leaves { LeavesForEach St.Stream F.FnMut Fut.SlotFuture self.old Pending self.new }
-        ensures task { DrawsTask (PollsStream St.yields) held_in slots_in St.needs
-            (result ≡ false) self.old.buffer self.new.buffer cx.old cx.new }
+        ensures leaves { DrawLeaves St.Stream F.FnMut Fut.SlotFuture self.old self.new }
+        ensures task { DrawLeavesTask St.Stream (result ≡ false)
+            self.old self.new cx.old cx.new }
     {
         if self.queue.len() >= self.queue.capacity() {
             return false;
@@ -224,12 +218,8 @@ impl<
     /// besides the polls and the closure's calls.
     fn poll(&mut self, cx: &mut Context<'_>) -> Poll<()>
         requires { CanForEach St.Stream F.FnMut Fut.SlotFuture self.old }
-        ensures called { ForEachCall St.Stream F.FnMut Fut.SlotFuture S.ReadySource
+        ensures { PollsForEach St.Stream F.FnMut Fut.SlotFuture S.ReadySource
             self.old result self.new cx.old cx.new }
-        ensures leaves { LeavesForEach St.Stream F.FnMut Fut.SlotFuture self.old result self.new }
-        ensures registered { OnPending result
-            (Covers cx.new (ForEachWaitsAt St.Stream S.ReadySource self.new)) }
-        ensures kept { Keeps cx.old cx.new }
     {
         'turns: for _turn in 0..self.turn_limit() {
             let drew = self.draw(cx);
@@ -254,7 +244,9 @@ impl<
     Fut: SlotFuture<S::Waker, Output = ()>,
     S: ReadySource,
 > FusedFuture for ForEachConcurrent<St, F, Fut, S> {
-    ghost is_over = { IsDone held_in };
+    ghost use Rattle.std.specs.Prelude.{◌≡◌, None};
+
+    ghost is_over = { λ b. (b.buffer.stream ≡ None) × (held_in b.buffer.queue ≡ 0) };
 
     fn is_terminated(&self) -> bool {
         self.stream.is_none() && self.queue.is_empty()

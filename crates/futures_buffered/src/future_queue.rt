@@ -6,7 +6,7 @@
 ghost use Rattle.std.specs.Prelude.{◌≡◌, ◌<◌, ◌≤◌, ℕ, Bool, List, Option};
 ghost use Rattle.futures_buffered_core.specs.Made.{MakesSlots};
 ghost use Rattle.futures_buffered_unordered.specs.StreamAnswers.{StreamAnswers, stream_of};
-ghost use Rattle.futures_buffered.specs.FutureQueue.{PollLeavesQueue, PushLeavesQueue};
+ghost use Rattle.futures_buffered.specs.FutureQueue.{PollLeavesQueue, PushAddsOutput, PushLeavesQueue};
 
 use futures::task::{Context, Poll};
 use futures_buffered_core::ready_core::NewFault;
@@ -17,7 +17,7 @@ use std::alloc::Global;
 ///
 /// Beside the calls an impl states what they may do: relations between what it holds before, the answer, and what it
 /// holds after. A push adds one output to those that may come, in the place that `in_order` says, or hands one back at
-/// once.
+/// once. `len` and `capacity` poll nothing, and take the same time at any number held.
 pub trait FutureQueue<I>: Drop {
     ghost use Rattle.futures.specs.declared.task.Poll.{Poll};
     ghost use Rattle.futures.specs.declared.task.context.Context.{Context};
@@ -75,8 +75,9 @@ pub trait FutureQueue<I>: Drop {
         requires held { can_poll self.old }
         requires fit { is_fit item }
         ensures pushed { pushes self.old item result self.new }
-        ensures queue { PushLeavesQueue count room in_order yields gives is_fit can_poll
-            self.old item result self.new };
+        ensures queue { PushLeavesQueue count room self.old result self.new }
+        ensures adds { PushAddsOutput in_order yields (gives item) self.old result self.new }
+        ensures again { can_poll self.new };
 
     /// One poll. `Ready(None)` where nothing is held. Takes no memory but what the futures and the calls of a source
     /// take.

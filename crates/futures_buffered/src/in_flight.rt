@@ -49,7 +49,7 @@ impl<F: Future<Output: Drop>> FutureQueue<F> for InFlightQueue<F> {
         InFlightQueue::capacity(self)
     }
 
-    #[tactic(auto, using(crate::proofs::InFlightLemmas::push_leaves))]
+    #[tactic(auto, using(crate::proofs::InFlightLemmas::push_leaves, crate::proofs::InFlightLemmas::push_adds))]
     fn push(&mut self, future: F) -> Option<F::Output> {
         InFlightQueue::push(self, future);
         None
@@ -96,7 +96,7 @@ impl<F: Future<Output = A>, A: Drop> FutureQueue<F> for InFlightOrdered<F, A> {
         InFlightOrdered::capacity(self)
     }
 
-    #[tactic(auto, using(crate::proofs::InFlightLemmas::push_leaves_ordered))]
+    #[tactic(auto, using(crate::proofs::InFlightLemmas::push_leaves_ordered, crate::proofs::InFlightLemmas::push_adds_ordered))]
     fn push(&mut self, future: F) -> Option<A> {
         InFlightOrdered::push_back(self, future);
         None

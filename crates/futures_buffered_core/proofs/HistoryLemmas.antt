@@ -1,11 +1,12 @@
 -- One event more keeps what the standing says of the events so far.
-use Rattle.std.proofs.Common.{◌≡◌, ◌⊎◌, ℕ, zero, suc, ◌+◌, ◌<◌, ◌≤◌, true, false, ◌||◌, eqb, List, [], ◌∷◌, ◌++◌, length, Some, slice_get, refl, sym, ap, subst, ◌∙◌, inl, inr, arith, length-append, append-nil, append_assoc, true≢false}
+use Rattle.std.proofs.Common.{◌≡◌, ◌≢◌, ◌⊎◌, ℕ, zero, suc, ◌+◌, ◌<◌, ◌≤◌, true, false, eqb, List, [], ◌∷◌, ◌++◌, length, Some, slice_get, refl, sym, ap, subst, ◌∙◌, inl, inr, arith, length-append, append-nil, append_assoc, true≢false}
 use Rattle.std.specs.List.{IsDistinct}
 use Rattle.std.proofs.lemmas.Map.Keys.{IsDistinct-head, IsDistinct-tail}
 use Rattle.std.proofs.lemmas.List.{length-map, map_push, length_push, take-append-le}
 use Rattle.std.proofs.Math.Seq.{take-append_seam}
 use Rattle.std.proofs.lemmas.Option.{slice_get_within}
-use Rattle.std.proofs.lemmas.Bool.{eqb-true, eq-eqb, or_cases, or_left, or_right, or_from, ne_eqb}
+use Rattle.std.proofs.lemmas.Bool.Decides.{nat_tests}
+use Rattle.std.proofs.lemmas.Bool.{eqb-true, or_cases, or_right}
 use Rattle.futures_buffered_core.specs.declared.ready_core.Event.{Event}
 use Rattle.futures_buffered_core.specs.declared.ready_core.Event.TheVariants as event
 use Rattle.futures_buffered_core.specs.declared.ready_core.Reply.{Reply}
@@ -15,8 +16,8 @@ use Rattle.futures_buffered_table.specs.declared.answer.Woke.TheVariants.{Fresh,
 use Rattle.futures_buffered_table.specs.declared.answer.Taken.{Taken}
 use Rattle.futures_buffered_table.specs.declared.answer.Taken.TheVariants.{Slot, Empty, Pause}
 use Rattle.futures_buffered_core.specs.ReadyCore.{is_marked, MarkGives, TakeGives}
-use Rattle.futures_buffered_core.specs.History.{IsUnserved, IsRight, IsOldest, StandInOrder, IsStanding, marks_before, replies_before, EachIsRight, Answers}
-use Rattle.futures_buffered_core.proofs.KeepsOnceLemmas.{listed_push, absent_rest}
+use Rattle.futures_buffered_core.specs.History.{IsUnserved, IsRight, IsOldest, StandInOrder, IsStanding, marks_before, replies_before, Answers}
+use Rattle.futures_buffered_core.proofs.KeepsOnceLemmas.{head_listed, listed_push, absent_rest}
 
 module _ {X : Type 0} where
   -- what a longer list has before its end, and at its end
@@ -62,20 +63,11 @@ module _ (events : List Event) (replies : List Reply) where
 module _ (events : List Event) (replies : List Reply) (same : length events ≡ length replies) (e : Event) (r : Reply) where
   -- an unserved mark stays so where the new reply doesn't name its slot
   unserved_stays : (q i : ℕ) → (r ≡ reply.Taken (Slot i) → ⊥) → IsUnserved events replies q i → IsUnserved (events ++ e ∷ []) (replies ++ r ∷ []) q i
-  unserved_stays q i other h =
-      let within = slice_get_within events q _ h.0 in (
-        read_front events e q within ∙ h.0,
-        λ k later named.
-            elim (read_cases replies r (reply.Taken (Slot i)) k named) [ inl old ↦ h.1 k later old | inr new ↦ other new.1 ],
-      )
+  unserved_stays q i other h = grind (arith, slice_get_within, read_front, read_cases)
 
   -- one that is unserved was so before, or is new
   unserved_cases : (q i : ℕ) → IsUnserved (events ++ e ∷ []) (replies ++ r ∷ []) q i → IsUnserved events replies q i ⊎ ((q ≡ length events) × (e ≡ event.Mark i))
-  unserved_cases q i h =
-      elim (read_cases events e (event.Mark i) q h.0) [
-        | inl old ↦ inl (old, λ k later named. h.1 k later (read_front replies r k (slice_get_within replies k _ named) ∙ named))
-        | inr new ↦ inr new
-      ]
+  unserved_cases q i h = grind (arith, slice_get_within, read_front, read_cases)
 
   -- a naming serves each mark of the slot before
   named_served : (q i : ℕ) → r ≡ reply.Taken (Slot i) → q < length events → IsUnserved (events ++ e ∷ []) (replies ++ r ∷ []) q i → ⊥
@@ -92,7 +84,7 @@ module _ (events : List Event) (replies : List Reply) (same : length events ≡ 
   order_stays low (i ∷ slots) others h = (
     h.0,
     h.1,
-    oldest_stays h.0 i (others i (or_left (eqb i i) (is_marked slots i) (eq-eqb i i refl))) h.2,
+    oldest_stays h.0 i (others i (head_listed i slots)) h.2,
     order_stays (h.0 + 1) slots (λ j listed. others j (or_right (eqb j i) (is_marked slots j) listed)) h.3,
   )
 
@@ -111,106 +103,88 @@ module _ (events : List Event) (replies : List Reply) (same : length events ≡ 
       let within = slice_get_within events h.0 _ h.2.0.0 in
       (h.0, h.1, oldest_stays h.0 j (others j) h.2, order_push (h.0 + 1) i slots marks others clear (omega arith) h.3)
 
-  -- a mark of a clear slot
-  standing_fresh : (i : ℕ) (slots : List ℕ) → e ≡ event.Mark i → r ≡ reply.Woke Fresh → is_marked slots i ≡ false → IsStanding events replies slots → IsStanding (events ++ e ∷ []) (replies ++ r ∷ []) (slots ++ i ∷ [])
-  standing_fresh i slots marks fresh clear h =
-      record {
-        in_order = order_push 0 i slots marks (λ j named. cc) (λ p u. true≢false (sym (h.all i p u) ∙ clear)) (omega arith) h.in_order;
-        all = λ j q u. listed_push slots i j ∙ elim (unserved_cases q j u) as (λ _. (is_marked slots j || eqb j i) ≡ true) [
-          | inl old ↦ or_left (is_marked slots j) (eqb j i) (h.all j q old)
-          | inr new ↦ let n = new.1 in or_right (is_marked slots j) (eqb j i) (eq-eqb j i cc)
+-- a mark is answered rightly, and this stands after it
+pub after_mark : (events : List Event) (replies : List Reply) → length events ≡ length replies → (i : ℕ) (woke : Woke) (old new : List ℕ) → MarkGives old i woke new → IsStanding events replies old
+    → IsRight events replies (event.Mark i) (reply.Woke woke) × IsStanding (events ++ event.Mark i ∷ []) (replies ++ reply.Woke woke ∷ []) new
+after_mark events replies same i Fresh old new gives h =
+    let e = event.Mark i in
+    let r = reply.Woke Fresh in
+    let clear : (p : ℕ) → IsUnserved events replies p i → ⊥ = λ p u. true≢false (sym (h.all i p u) ∙ gives.0) in (
+      clear,
+      rw gives.1 (record {
+        in_order = order_push events replies same e r 0 i old refl (λ j named. cc) clear (omega arith) h.in_order;
+        all = λ j q u. let more = listed_push old i j in elim (unserved_cases events replies same e r q j u) [
+          | inl was ↦ let before = h.all j q was in grind arith
+          | inr last ↦ let n = last.1 in grind (arith, nat_tests)
         ];
-      }
+      }),
+    )
+after_mark events replies same i Already old new gives h =
+    let e = event.Mark i in
+    let r = reply.Woke Already in (
+      marked_unserved events replies 0 i old h.in_order gives.0,
+      rw gives.1 (record {
+        in_order = order_stays events replies same e r 0 old (λ j listed named. cc) h.in_order;
+        all = λ j q u. elim (unserved_cases events replies same e r q j u) [ inl was ↦ h.all j q was | inr last ↦ let n = last.1 in let g = gives.0 in grind arith ];
+      }),
+    )
 
-  -- a mark of a marked slot
-  standing_already : (i : ℕ) (slots : List ℕ) → e ≡ event.Mark i → r ≡ reply.Woke Already → is_marked slots i ≡ true → IsStanding events replies slots → IsStanding (events ++ e ∷ []) (replies ++ r ∷ []) slots
-  standing_already i slots marks already marked h =
-      record {
-        in_order = order_stays 0 slots (λ j listed named. cc) h.in_order;
-        all = λ j q u. elim (unserved_cases q j u) [ inl old ↦ h.all j q old | inr new ↦ let n = new.1 in let ij : i ≡ j = cc in subst (λ (k : ℕ). is_marked slots k ≡ true) ij marked ];
-      }
-
-  -- a taking of no slot
-  standing_empty : e ≡ event.Take → r ≡ reply.Taken Empty → IsStanding events replies [] → IsStanding (events ++ e ∷ []) (replies ++ r ∷ []) []
-  standing_empty takes empty h =
-      record { in_order = tt; all = λ j q u. elim (unserved_cases q j u) [ inl old ↦ h.all j q old | inr new ↦ let n = new.1 in cc ] }
-
-  -- the slots that stand later are others
-  standing_take : (i : ℕ) (slots : List ℕ) → e ≡ event.Take → r ≡ reply.Taken (Slot i) → IsStanding events replies (i ∷ slots) → IsStanding (events ++ e ∷ []) (replies ++ r ∷ []) slots
-  standing_take i slots takes names h =
-      let first = h.in_order in
-      record {
-        in_order = order_stays 0 slots (λ j listed named. let same_slot : i ≡ j = cc in
-            let again = subst (λ (k : ℕ). is_marked slots k ≡ true) (sym same_slot) listed in
-            omega (arith, order_bound events replies (first.0 + 1) i first.0 slots first.3 again first.2.0))
-            (order_from events replies (first.0 + 1) 0 slots (omega arith) first.3);
-        all = λ j q u. elim (unserved_cases q j u) [
-          | inl old ↦ elim (or_cases (eqb j i) (is_marked slots j) (h.all j q old)) [
-            | inl named ↦ let e = eqb-true j i named in absurd (named_served q j (cc) (slice_get_within events q _ old.0) u)
-            | inr later ↦ later
-          ]
-          | inr new ↦ let n = new.1 in cc
-        ];
-      }
-
-pub standing_after_mark : (events : List Event) (replies : List Reply) → length events ≡ length replies → (i : ℕ) (woke : Woke) (old new : List ℕ) → MarkGives old i woke new → IsStanding events replies old → IsStanding (events ++ event.Mark i ∷ []) (replies ++ reply.Woke woke ∷ []) new
-standing_after_mark events replies same i Fresh old new gives h = rw gives.1 (standing_fresh events replies same (event.Mark i) (reply.Woke Fresh) i old refl refl gives.0 h)
-standing_after_mark events replies same i Already old new gives h = rw gives.1 (standing_already events replies same (event.Mark i) (reply.Woke Already) i old refl refl gives.0 h)
-
-pub standing_after_take : (events : List Event) (replies : List Reply) → length events ≡ length replies → (taken : Taken) (old new : List ℕ) → TakeGives old taken new → IsStanding events replies old → IsStanding (events ++ event.Take ∷ []) (replies ++ reply.Taken taken ∷ []) new
-standing_after_take events replies same (Slot i) old new gives h = standing_take events replies same event.Take (reply.Taken (Slot i)) i new refl refl (subst (IsStanding events replies) gives h)
-standing_after_take events replies same Empty old new gives h = rw (gives.1, gives.0) (standing_empty events replies same event.Take (reply.Taken Empty) refl refl (subst (IsStanding events replies) gives.0 h))
-standing_after_take events replies same Pause old new gives h = absurd gives
-
--- a mark is answered rightly
-pub mark_is_right : (events : List Event) (replies : List Reply) (i : ℕ) (woke : Woke) (old new : List ℕ) → MarkGives old i woke new → IsStanding events replies old → IsRight events replies (event.Mark i) (reply.Woke woke)
-mark_is_right events replies i Fresh old new gives h = λ p u. true≢false (sym (h.all i p u) ∙ gives.0)
-mark_is_right events replies i Already old new gives h = marked_unserved events replies 0 i old h.in_order gives.0
-
-pub take_is_right : (events : List Event) (replies : List Reply) (taken : Taken) (old new : List ℕ) → TakeGives old taken new → IsStanding events replies old → IsRight events replies event.Take (reply.Taken taken)
-take_is_right events replies (Slot i) old new gives h =
+pub after_take : (events : List Event) (replies : List Reply) → length events ≡ length replies → (taken : Taken) (old new : List ℕ) → TakeGives old taken new → IsStanding events replies old
+    → IsRight events replies event.Take (reply.Taken taken) × IsStanding (events ++ event.Take ∷ []) (replies ++ reply.Taken taken ∷ []) new
+after_take events replies same (Slot i) old new gives h =
+    let r = reply.Taken (Slot i) in
     let stands = subst (IsStanding events replies) gives h in
     let first = stands.in_order in
-    (first.0, first.2.0, λ j p u. order_bound events replies first.0 j p (i ∷ new) (first.0, omega arith, first.2, first.3) (stands.all j p u) u)
-take_is_right events replies Empty old new gives h = λ j p u. true≢false (sym ((subst (IsStanding events replies) gives.0 h).all j p u))
-take_is_right events replies Pause old new gives h = absurd gives
-
-same_length : (standing : List ℕ) (events : List Event) (replies : List Reply) → length replies ≡ length events → length (marks_before standing ++ events) ≡ length (replies_before standing ++ replies)
-same_length standing events replies count =
-    omega (arith, length-append (marks_before standing) events, length-append (replies_before standing) replies, length-map standing (λ (k : ℕ). event.Mark k), length-map standing (λ (k : ℕ). reply.Woke Fresh))
+    let bound = order_bound events replies first.0 in
+    let later = order_bound events replies (first.0 + 1) in (
+      (first.0, first.2.0, λ j p u. bound j p (i ∷ new) (first.0, omega arith, first.2, first.3) (stands.all j p u) u),
+      record {
+        -- the slots that stand later are others
+        in_order = order_stays events replies same event.Take r 0 new (λ j listed named. let again : is_marked new i ≡ true = grind arith in omega (arith, later i first.0 new first.3 again first.2.0))
+            (order_from events replies (first.0 + 1) 0 new (omega arith) first.3);
+        all = λ j q u. elim (unserved_cases events replies same event.Take r q j u) [
+          | inl was ↦
+              let before = stands.all j q was in
+              let other : i ≢ j = λ (names : i ≡ j). named_served events replies same event.Take r q j (cc) (slice_get_within events q _ was.0) u in
+              grind (arith, nat_tests)
+          | inr last ↦ let n = last.1 in cc
+        ];
+      },
+    )
+after_take events replies same Empty old new gives h =
+    let stands = subst (IsStanding events replies) gives.0 h in (
+      λ j p u. true≢false (sym (stands.all j p u)),
+      rw (gives.1, gives.0) (record {
+        in_order = tt;
+        all = λ j q u. elim (unserved_cases events replies same event.Take (reply.Taken Empty) q j u) [ inl was ↦ stands.all j q was | inr last ↦ let n = last.1 in cc ];
+      }),
+    )
+after_take events replies same Pause old new gives h = absurd gives
 
 -- one more event, whose reply is right
-EachIsRight-push : (standing : List ℕ) (events : List Event) (replies : List Reply) (event : Event) (r : Reply) → length replies ≡ length events → EachIsRight standing events replies
-    → IsRight (marks_before standing ++ events) (replies_before standing ++ replies) event r → EachIsRight standing (events ++ event ∷ []) (replies ++ r ∷ [])
-EachIsRight-push standing events replies event r count each right p e x read answered =
-    elim (read_cases replies r x p answered) [
-      | inl before ↦
-          let within = slice_get_within replies p x before in
-          let same = read_front events event p (omega arith) in
-          rw (take-append-le p replies (r ∷ []) (omega arith), take-append-le p events (event ∷ []) (omega arith)) (each p e x (sym same ∙ read) before)
-      | inr here ↦
-          let found : slice_get (events ++ event ∷ []) (length events) ≡ Some e = rw (here.0, count) at read in
-          let last = read_end events event in
-          let same : event ≡ e = cc in
-          rw (here.0, take-append_seam replies (r ∷ []), count, take-append_seam events (event ∷ []), ← here.1, ← same) right
-    ]
-
-pub Answers-mark : (standing : List ℕ) (events : List Event) (replies : List Reply) (old new : List ℕ) (i : ℕ) (woke : Woke) → Answers standing events replies old → MarkGives old i woke new → Answers standing (events ++ event.Mark i ∷ []) (replies ++ reply.Woke woke ∷ []) new
-Answers-mark standing events replies old new i woke h gives =
+pub Answers-push : (standing : List ℕ) (events : List Event) (replies : List Reply) (old new : List ℕ) (last : Event) (r : Reply) → Answers standing events replies old
+    → ((before : List Event) (answers : List Reply) → length before ≡ length answers → IsStanding before answers old → IsRight before answers last r × IsStanding (before ++ last ∷ []) (answers ++ r ∷ []) new)
+    → Answers standing (events ++ last ∷ []) (replies ++ r ∷ []) new
+Answers-push standing events replies old new last r h gives =
+    let count = h.count in
+    let front = marks_before standing in
+    let first = replies_before standing in
+    let after = gives (front ++ events) (first ++ replies)
+    (omega (arith, length-append front events, length-append first replies, length-map standing (λ (k : ℕ). event.Mark k), length-map standing (λ (k : ℕ). reply.Woke Fresh))) h.stands in
     record {
-      each = EachIsRight-push standing events replies (event.Mark i) (reply.Woke woke) h.count h.each (mark_is_right (marks_before standing ++ events) (replies_before standing ++ replies) i woke old new gives h.stands);
-      count = omega (arith, h.count, length_push events (event.Mark i), length_push replies (reply.Woke woke));
-      stands = rw (← append_assoc (marks_before standing) events (event.Mark i ∷ []), ← append_assoc (replies_before standing) replies (reply.Woke woke ∷ []))
-          (standing_after_mark (marks_before standing ++ events) (replies_before standing ++ replies) (same_length standing events replies h.count) i woke old new gives h.stands);
-    }
-
-pub Answers-take : (standing : List ℕ) (events : List Event) (replies : List Reply) (old new : List ℕ) (taken : Taken) → Answers standing events replies old → TakeGives old taken new → Answers standing (events ++ event.Take ∷ []) (replies ++ reply.Taken taken ∷ []) new
-Answers-take standing events replies old new taken h gives =
-    record {
-      each = EachIsRight-push standing events replies event.Take (reply.Taken taken) h.count h.each (take_is_right (marks_before standing ++ events) (replies_before standing ++ replies) taken old new gives h.stands);
-      count = omega (arith, h.count, length_push events event.Take, length_push replies (reply.Taken taken));
-      stands = rw (← append_assoc (marks_before standing) events (event.Take ∷ []), ← append_assoc (replies_before standing) replies (reply.Taken taken ∷ []))
-          (standing_after_take (marks_before standing ++ events) (replies_before standing ++ replies) (same_length standing events replies h.count) taken old new gives h.stands);
+      each = λ p e x read answered. elim (read_cases replies r x p answered) [
+        | inl before ↦
+            let within = slice_get_within replies p x before in
+            let same = read_front events last p (omega arith) in
+            rw (take-append-le p replies (r ∷ []) (omega arith), take-append-le p events (last ∷ []) (omega arith)) (h.each p e x (sym same ∙ read) before)
+        | inr here ↦
+            let found : slice_get (events ++ last ∷ []) (length events) ≡ Some e = rw (here.0, count) at read in
+            let at_end = read_end events last in
+            let same : last ≡ e = cc in
+            rw (here.0, take-append_seam replies (r ∷ []), count, take-append_seam events (last ∷ []), ← here.1, ← same) after.0
+      ];
+      count = omega (arith, count, length_push events last, length_push replies r);
+      stands = rw (← append_assoc front events (last ∷ []), ← append_assoc first replies (r ∷ [])) after.1;
     }
 
 -- marks of these slots, and then of those
@@ -218,23 +192,20 @@ marks_more : (front rest : List ℕ) → ((i : ℕ) → is_marked rest i ≡ tru
 marks_more front [] apart distinct h = rw (append-nil front) h
 marks_more front (i ∷ rest) apart distinct h =
     let same : length (marks_before front) ≡ length (replies_before front) = length-map front (λ (k : ℕ). event.Mark k) ∙ sym (length-map front (λ (k : ℕ). reply.Woke Fresh)) in
-    let clear = apart i (or_left (eqb i i) (is_marked rest i) (eq-eqb i i refl)) in
-    let more = standing_fresh (marks_before front) (replies_before front) same (event.Mark i) (reply.Woke Fresh) i front refl refl clear h in
+    let clear = apart i (head_listed i rest) in
+    let more = (after_mark (marks_before front) (replies_before front) same i Fresh front (front ++ i ∷ []) (clear, refl) h).1 in
     let pushed : IsStanding (marks_before (front ++ i ∷ [])) (replies_before (front ++ i ∷ [])) (front ++ i ∷ []) = rw (map_push (λ (k : ℕ). event.Mark k) front i, map_push (λ (k : ℕ). reply.Woke Fresh) front i) more in
     let others = IsDistinct-head eqb i rest distinct in
     let left = marks_more (front ++ i ∷ []) rest
-    (λ j listed. listed_push front i j ∙ or_from (is_marked front j) (eqb j i) (apart j (or_right (eqb j i) (is_marked rest j) listed)) (ne_eqb j i (λ e. true≢false (sym listed ∙ ap (is_marked rest) e ∙ absent_rest i rest others))))
+    (λ j listed. let pushed = listed_push front i j in let was = apart j (or_right (eqb j i) (is_marked rest j) listed) in let absent = absent_rest i rest others in grind (arith, nat_tests))
     (IsDistinct-tail eqb i rest distinct) pushed in
     rw (append_assoc front (i ∷ []) rest) at left
-
-pub standing_before : (standing : List ℕ) → IsDistinct eqb standing → IsStanding (marks_before standing) (replies_before standing) standing
-standing_before standing distinct =
-    marks_more [] standing (λ i listed. refl) distinct (record { in_order = tt; all = λ i q u. let e = u.0 in cc })
 
 pub Answers-none : (standing : List ℕ) → IsDistinct eqb standing → Answers standing [] [] standing
 Answers-none standing distinct =
     record {
       each = λ p e r read answered. cc;
       count = refl;
-      stands = rw (append-nil (marks_before standing), append-nil (replies_before standing)) (standing_before standing distinct);
+      stands = rw (append-nil (marks_before standing), append-nil (replies_before standing))
+          (marks_more [] standing (λ i listed. refl) distinct (record { in_order = tt; all = λ i q u. let e = u.0 in cc }));
     }

@@ -1,5 +1,5 @@
 -- What each call leaves of the places and the free ones.
-use Rattle.std.proofs.Common.{◌≡◌, ℕ, ◌+◌, ◌<◌, ◌≤◌, Bool, true, false, cond, eqb, List, [], ◌∷◌, map, length, get_or, set, replicate, Option, Some, None, is_some, IsSome, count_by, refl, sym, ap, ◌∙◌, inl, inr, arith, length-set, true≢false}
+use Rattle.std.proofs.Common.{◌≡◌, ℕ, ◌+◌, ◌<◌, ◌≤◌, Bool, false, cond, eqb, List, [], ◌∷◌, map, length, get_or, set, replicate, Option, Some, None, is_some, IsSome, count_by, refl, sym, ap, ◌∙◌, arith, length-set}
 use Rattle.std.specs.Option.{is_none}
 use Rattle.std.specs.List.{list_any, range_with_len}
 use Rattle.std.proofs.lemmas.List.{length-replicate, map-set, length-map, get_or-map, get_or_past, get_or-replicate}
@@ -7,10 +7,10 @@ use Rattle.std.proofs.Math.Seq.{map-set_same}
 use Rattle.std.proofs.lemmas.List.FromFn.{length-range_with_len}
 use Rattle.std.proofs.lemmas.List.Folds.{sum_by-replicate}
 use Rattle.std.proofs.lemmas.List.Sums.{sum_by-set, sum_by-cons}
-use Rattle.std.proofs.lemmas.Bool.{cases_lt}
-use Rattle.futures_buffered_core.specs.SlotMap.{Slots, value_in, IsFirstHeld}
+use Rattle.std.proofs.lemmas.Bool.Decides.{nat_tests}
+use Rattle.futures_buffered_core.specs.SlotMap.{Slots, IsFirstHeld}
 use Rattle.futures_buffered_core.specs.SlotMapInvariant.{KeepsPlaces}
-use Rattle.futures_buffered_core.proofs.RangeLemmas.{in_range, past_range, range_distinct}
+use Rattle.futures_buffered_core.proofs.RangeLemmas.{listed_range, range_distinct}
 use Rattle.futures_buffered_core.proofs.KeepsOnceLemmas.{KeepsOnce-first, KeepsOnce-take, KeepsOnce-marked, KeepsOnce-return, KeepsOnce-none}
 
 module _ {F : Type 0} where
@@ -26,11 +26,8 @@ module _ {F : Type 0} where
   first_is_empty places free rest room i kept e =
       let within : i < length places = omega (arith, length-map places is_none, KeepsOnce-first (map is_none places) free rest room i kept.once e) in
       let marked = KeepsOnce-marked (map is_none places) free rest room i kept.once e in
-      (within, none_from (get_or places i None) (sym (get_or-map is_none places i None false within) ∙ marked))
-    where
-      none_from : (o : Option F) → is_none o ≡ true → o ≡ None
-      none_from None h = refl
-      none_from (Some x) h = absurd (true≢false (sym h))
+      let empty = get_or-map is_none places i None false within in
+      (within, grind arith)
 
   pub KeepsPlaces-insert : (places : List (Option F)) (free rest : List ℕ) (room i : ℕ) (value : F) → KeepsPlaces places free room → free ≡ i ∷ rest → KeepsPlaces (set places i (Some value)) rest room
   KeepsPlaces-insert places free rest room i value kept e =
@@ -41,8 +38,7 @@ module _ {F : Type 0} where
       }
 
   not_none : (o : Option F) → IsSome o → is_none o ≡ false
-  not_none None h = absurd (true≢false (sym h))
-  not_none (Some x) h = refl
+  not_none o some = grind arith
 
   pub KeepsPlaces-write : (places : List (Option F)) (free : List ℕ) (room i : ℕ) (value : F) → KeepsPlaces places free room → IsSome (get_or places i None) → KeepsPlaces (set places i (Some value)) free room
   KeepsPlaces-write places free room i value kept some =
@@ -82,26 +78,14 @@ module _ {F : Type 0} where
       }
     where
       exact : (q : ℕ) → get_or (map is_none (replicate {A = Option F} n None)) q false ≡ list_any (eqb q) (range_with_len 0 n)
-      exact q = elim (cases_lt q n) [
-        | inl below ↦ get_or-map is_none (replicate {A = Option F} n None) q None false (omega (arith, length-replicate {A = Option F} n None))
-            ∙ ap is_none (get_or-replicate {A = Option F} n q None None below) ∙ sym (in_range 0 n q (omega arith) (omega arith))
-        | inr above ↦ get_or_past (map is_none (replicate {A = Option F} n None)) q false (omega (arith, length-map (replicate {A = Option F} n None) is_none, length-replicate {A = Option F} n None))
-            ∙ sym (past_range 0 n q (omega arith))
-      ]
+      exact q =
+          let listed = listed_range 0 n q in
+          let at = get_or-map is_none (replicate {A = Option F} n None) q None false in
+          grind (arith, nat_tests, get_or-replicate, get_or_past, length-map, length-replicate)
 
 -- the first slot that holds a value is one slot
 pub first_held_once : {F : Type 0} (m : Slots F) (start i j : ℕ) → IsFirstHeld m start i → IsFirstHeld m start j → i ≡ j
-first_held_once {F} m start i j first other =
-    elim (cases_lt i j) [
-      | inl below ↦ absurd (none_and_some (value_in m i) (other.none_before i first.from_start below) first.holds)
-      | inr above ↦ elim (cases_lt j i) [
-        | inl below ↦ absurd (none_and_some (value_in m j) (first.none_before j other.from_start below) other.holds)
-        | inr equal ↦ omega arith
-      ]
-    ]
-  where
-    none_and_some : (o : Option F) → o ≡ None → IsSome o → ⊥
-    none_and_some o e some = true≢false (sym some ∙ ap is_some e)
+first_held_once m start i j first other = grind arith
 
 -- a map whose places all hold a value has no free one
 module _ {F : Type 0} where

@@ -8,15 +8,14 @@ use futures_buffered_core::ready_core::{MAX_CAPACITY, NewFault};
 use futures_buffered_core::ready_shared::{SharedReady, SharedWaker};
 use futures_buffered_core::ready_source::ReadySource;
 use futures_buffered_held::spsc::{Receiver, Sender, TryRecvError, TrySendError, channel};
-use futures_buffered_sets::merge_bounded::MergeBounded;
-use futures_buffered_sets::slot_stream::SlotStream;
+use futures_buffered_sets::{MergeBounded, SlotStream};
 use std::alloc::AllocError;
 use std::sync::Arc;
 use std::sync::atomic::Ordering::SeqCst;
 use std::test::Fail;
 use test_support::counter::{Counter, new_counter};
 use test_support::dropped::Dropped;
-use test_support::polling::poll_merge;
+use test_support::polling::poll_next;
 
 // Sends the numbers from `from` on, `count` of them. Says how many were refused.
 fn send_run(sender: &mut Sender<u64>, from: u64, count: u64) -> u64 {
@@ -224,23 +223,23 @@ fn three_receivers_in_a_merge(rt: HostRuntime) -> Result<(), Fail> {
     let (mut third, three) = channel::<u64>(rt.alloc(), 4)?;
     let receivers = vec![in rt.alloc(); one, two, three]?;
     let mut merge = MergeBounded::<_, SharedReady>::over(&(), rt.alloc(), receivers)?;
-    assert_same(&rt, poll_merge(&task, &mut merge), Poll::Pending);
+    assert_same(&rt, poll_next(&task, &mut merge), Poll::Pending);
     assert_same(&rt, task.is_woken(), false);
     assert_same(&rt, third.try_send(30), Ok(()));
     assert_same(&rt, task.is_woken(), true);
     assert_same(&rt, first.try_send(10), Ok(()));
     assert_same(&rt, third.try_send(31), Ok(()));
-    assert_same(&rt, poll_merge(&task, &mut merge), Poll::Ready(Some(30)));
-    assert_same(&rt, poll_merge(&task, &mut merge), Poll::Ready(Some(10)));
-    assert_same(&rt, poll_merge(&task, &mut merge), Poll::Ready(Some(31)));
-    assert_same(&rt, poll_merge(&task, &mut merge), Poll::Pending);
+    assert_same(&rt, poll_next(&task, &mut merge), Poll::Ready(Some(30)));
+    assert_same(&rt, poll_next(&task, &mut merge), Poll::Ready(Some(10)));
+    assert_same(&rt, poll_next(&task, &mut merge), Poll::Ready(Some(31)));
+    assert_same(&rt, poll_next(&task, &mut merge), Poll::Pending);
     drop(first);
     drop(third);
-    assert_same(&rt, poll_merge(&task, &mut merge), Poll::Pending);
+    assert_same(&rt, poll_next(&task, &mut merge), Poll::Pending);
     assert_same(&rt, (merge.len(), task.is_woken()), (1, false));
     drop(second);
     assert_same(&rt, task.is_woken(), true);
-    assert_same(&rt, poll_merge(&task, &mut merge), Poll::Ready(None));
+    assert_same(&rt, poll_next(&task, &mut merge), Poll::Ready(None));
     Ok(())
 }
 

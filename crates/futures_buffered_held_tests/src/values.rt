@@ -9,11 +9,9 @@ use futures_buffered_core::ready_source::SlotWaker;
 use futures_buffered_held::future::{map, poll_fn, ready};
 use futures_buffered_held::stream::iter;
 use futures_buffered_held::{Either, oneshot};
-use futures_buffered_sets::futures_unordered_bounded::FuturesUnorderedBounded;
-use futures_buffered_sets::merge_bounded::MergeBounded;
-use futures_buffered_sets::slot_future::SlotFuture;
+use futures_buffered_sets::{FuturesUnorderedBounded, MergeBounded, SlotFuture};
 use std::test::Fail;
-use test_support::polling::poll_set;
+use test_support::polling::poll_next;
 
 #[test]
 fn a_value_is_given_at_once(rt: HostRuntime) -> Result<(), Fail> {
@@ -21,9 +19,9 @@ fn a_value_is_given_at_once(rt: HostRuntime) -> Result<(), Fail> {
     let mut set = FuturesUnorderedBounded::<_, SharedReady>::new(rt.alloc(), 2)?;
     let _ = set.try_push(ready(5));
     let _ = set.try_push(ready(6));
-    assert_same(&rt, poll_set(&task, &mut set), Poll::Ready(Some(5)));
-    assert_same(&rt, poll_set(&task, &mut set), Poll::Ready(Some(6)));
-    assert_same(&rt, poll_set(&task, &mut set), Poll::Ready(None));
+    assert_same(&rt, poll_next(&task, &mut set), Poll::Ready(Some(5)));
+    assert_same(&rt, poll_next(&task, &mut set), Poll::Ready(Some(6)));
+    assert_same(&rt, poll_next(&task, &mut set), Poll::Ready(None));
     Ok(())
 }
 
@@ -53,7 +51,7 @@ fn a_closure_is_asked_at_each_poll(rt: HostRuntime) -> Result<(), Fail> {
     let mut polls = 0;
     let mut set = FuturesUnorderedBounded::<_, SharedReady>::new(rt.alloc(), 1)?;
     let _ = set.try_push(poll_fn(move |waker: &SharedWaker| third(&mut polls, waker)));
-    assert_same(&rt, poll_set(&task, &mut set), Poll::Ready(Some(3)));
+    assert_same(&rt, poll_next(&task, &mut set), Poll::Ready(Some(3)));
     Ok(())
 }
 
@@ -67,9 +65,9 @@ fn an_output_goes_through_a_closure(rt: HostRuntime) -> Result<(), Fail> {
     );
     let mut set = FuturesUnorderedBounded::<_, SharedReady>::new(rt.alloc(), 1)?;
     let _ = set.try_push(doubled);
-    assert_same(&rt, poll_set(&task, &mut set), Poll::Pending);
+    assert_same(&rt, poll_next(&task, &mut set), Poll::Pending);
     let _ = sender.send(21);
-    assert_same(&rt, poll_set(&task, &mut set), Poll::Ready(Some(42)));
+    assert_same(&rt, poll_next(&task, &mut set), Poll::Ready(Some(42)));
     Ok(())
 }
 
@@ -80,9 +78,9 @@ fn one_of_two_is_polled(rt: HostRuntime) -> Result<(), Fail> {
     let mut set = FuturesUnorderedBounded::<_, SharedReady>::new(rt.alloc(), 2)?;
     let _ = set.try_push(Either::Left(receiver));
     let _ = set.try_push(Either::Right(ready(Ok(6))));
-    assert_same(&rt, poll_set(&task, &mut set), Poll::Ready(Some(Ok(6))));
+    assert_same(&rt, poll_next(&task, &mut set), Poll::Ready(Some(Ok(6))));
     let _ = sender.send(5);
-    assert_same(&rt, poll_set(&task, &mut set), Poll::Ready(Some(Ok(5))));
+    assert_same(&rt, poll_next(&task, &mut set), Poll::Ready(Some(Ok(5))));
     Ok(())
 }
 

@@ -18,9 +18,10 @@ module _ {F A : Type 0} (gives : F → A → Type 0) where
   -- where one of the places may give something, a place is held
   pub some_is_held : (os : List (Option F)) (x : A) → AnyGives gives os x → 0 < count_by is_some os
   some_is_held [] x h = absurd h
-  some_is_held (None ∷ os) x (inl h) = absurd h
-  some_is_held (None ∷ os) x (inr h) = some_is_held os x h
-  some_is_held (Some f ∷ os) x h = omega (arith, sum_by-cons (λ (o : Option F). cond (is_some o) 1 0) (Some f) os)
+  some_is_held (o ∷ os) x h =
+      let count = sum_by-cons (λ (o : Option F). cond (is_some o) 1 0) o os in
+      let more = some_is_held os x in
+      grind arith
 
   -- an output adds nothing to what may come from the kit's set
   pub narrows_after : (old new : FuturesUnordered F) (x : A)
@@ -39,7 +40,7 @@ module _ {F A : Type 0} (gives : F → A → Type 0) where
 module _ {F A : Type 0} (future : FutureOf F A) where
   -- what a slot may give after a poll, it might give before
   pub slots_within : (old new : Flights F) → new.slots ≡ old.slots → RunsGiveNoMore future old new → (x : A) → AnySlotGives future new x → AnySlotGives future old x
-  slots_within old new same narrows x h = (h.0, (h.1.0, subst (λ s. value_in s h.0 ≡ Some h.1.0) same h.1.1, narrows (record { slot = h.0; push = h.1.0.push }, Some x) h.1.2))
+  slots_within old new same narrows x h = grind arith
 
   any : (old new : Flights F) (came : Came A) → ComesByKey future old came new → AnySlotGives future old came.output
   any old new came y = (came.key.slot, (record { tag = came.tag; push = came.key.push }, y.was_held, y.gave))
@@ -61,18 +62,10 @@ module _ {F A : Type 0} (future : FutureOf F A) where
   pub comes_first : (old new : Flights F) (came : Came A) → ComesByKey future old came new → ComesFromSlots future old [] (Some came.output)
   comes_first old new came y = record { each = tt; ends = (any old new came y, let k = y.fewer in omega (arith, k)) }
 
-  pub older_still : (old new : Flights F) → CanPollAll future old → AllPollable (λ run. future.can_poll run.future) (runs_in new.running)
-      → RunsGiveNoMore future old new → new.next ≡ old.next → CanPollAll future new
-  older_still old new can each narrows next =
-      record { each = each; older = λ came h. let k = can.older came (narrows came h) in omega (arith, k, next) }
-
   -- a set whose runs are as a poll left them
   pub polls_on : (old mid new : Flights F) → CanPollAll future old → AllPollable (λ run. future.can_poll run.future) (runs_in mid.running)
       → RunsGiveNoMore future old mid → mid.next ≡ old.next → new.running ≡ mid.running → new.next ≡ mid.next → CanPollAll future new
-  polls_on old mid new can each narrows next same after =
-      older_still old new can (subst (λ running. AllPollable (λ run. future.can_poll run.future) (runs_in running)) (sym same) each)
-      (subst (λ running. GivesNoMore (GivesWithKey future.gives) (runs_in old.running) (runs_in running)) (sym same) narrows)
-      (after ∙ next)
+  polls_on old mid new can each narrows next same after = grind arith
 
 pub none_pollable : {F : Type 0} (can_poll : F → Type 0) → AllPollable can_poll []
 none_pollable can_poll = tt
@@ -113,32 +106,7 @@ module _ {F A : Type 0} (future : FutureOf F A) where
       → AnyGives (GivesWithKey future.gives) (runs_in old.running) came ⊎ GivesWithKey future.gives run came)
       → (HasNoRoom old → ⊥)
       → PushesInFlight future old run.future tag (Ok run.key) new
-  pushed old new run tag can number next inserts more runs same_room each gives room =
-      record {
-        went_in = record {
-          numbered = (number, next);
-          went_in = inserts;
-          one_more = more;
-          runs = runs;
-          room = same_room;
-          own = λ x h. elim (gives (run.key, Some x) h) [
-            | inl was ↦ absurd (let k = can.older (run.key, Some x) was in omega (arith, k, number))
-            | inr own ↦ own.1
-          ];
-          others = gives;
-        };
-        back = tt;
-        stays = tt;
-        counts = tt;
-        full = λ h. absurd (room h);
-        again = record {
-          each = each;
-          older = λ came h. elim (gives came h) [
-            | inl was ↦ let k = can.older came was in omega (arith, k, next)
-            | inr own ↦ let same : came.0.push ≡ run.key.push = ap (λ (key : Key). key.push) own.0 in omega (arith, same, number, next)
-          ];
-        };
-      }
+  pushed old new run tag can number next inserts more runs same_room each gives room = grind arith
 
   -- a push keeps the number of slots
   pub same_slots : (old new : Flights F) (f : F) (tag : ℕ) (key : Key) → EntersAt future old f tag key new → slot_count new.slots ≡ slot_count old.slots
@@ -150,12 +118,4 @@ module _ {F A : Type 0} (future : FutureOf F A) where
       → AllPollable (λ run. future.can_poll run.future) (runs_in new.running)
       → RunsGiveNoMore future old new
       → PushesInFlight future old f tag (Err back) new
-  came_back old new f back tag can same slots next room each narrows =
-      record {
-        went_in = tt;
-        back = same;
-        stays = record { slots = slots; narrows = narrows };
-        counts = (next, room);
-        full = λ _. refl;
-        again = older_still future old new can each narrows next;
-      }
+  came_back old new f back tag can same slots next room each narrows = grind arith

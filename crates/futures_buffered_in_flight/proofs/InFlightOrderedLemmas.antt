@@ -1,9 +1,9 @@
 -- What the calls of an ordered queue of futures in flight leave of it.
-use Rattle.std.proofs.Common.{◌≡◌, ◌+◌, ◌<◌, ◌≤◌, ℕ, List, [], length, cond, is_some, Option, Some, None, inl, inr, ap, ◌∙◌, arith}
+use Rattle.std.proofs.Common.{◌≡◌, ◌<◌, ◌≤◌, ℕ, List, [], length, cond, is_some, Option, Some, None, inl, inr, ap, ◌∙◌, arith}
 use Rattle.std.proofs.lemmas.List.{length-replicate}
 use Rattle.std.proofs.lemmas.List.Folds.{sum_by-replicate}
 use Rattle.futures.specs.declared.task.Poll.{Poll}
-use Rattle.futures.specs.declared.task.Poll.TheVariants.{Ready, Pending}
+use Rattle.futures.specs.declared.task.Poll.TheVariants.{Ready}
 use Rattle.futures.specs.declared.task.context.Context.{Context}
 use Rattle.futures_buffered_table.specs.declared.answer.TheConstants.{MAX_CAPACITY}
 use Rattle.futures_buffered_core.specs.SlotMap.{Slots, held_count, no_slots}
@@ -11,7 +11,7 @@ use Rattle.futures_buffered_unordered.proofs.StreamAnswersLemmas.{after_item, wh
 use Rattle.futures_buffered_ordered.specs.Numbered.{PollsNumberedSet, PollsNumberedTask}
 use Rattle.futures_buffered_ordered.specs.declared.numbered.Numbered.{Numbered}
 use Rattle.futures_buffered_ordered.specs.OrderedEntries.{AddsBack, AddsFront, IsUnused, MayRefuse, PollsOrdered}
-use Rattle.futures_buffered_ordered.specs.OrderedEntriesInvariant.{AddingKeeps, IsNumbered, Numbering}
+use Rattle.futures_buffered_ordered.specs.OrderedEntriesInvariant.{IsNumbered, Numbering}
 use Rattle.futures_buffered_ordered.proofs.OrderedEntriesInvariantLemmas.{held_by_entries, new_is_numbered}
 use Rattle.futures_buffered_ordered.proofs.OrderedEntriesLemmas.{as_many_of, comes_before, comes_behind, empty_of, fewer_of, gives_alone, no_more_of, one_entry_more, one_entry_more_before, rest_of, same_of, unused_none, value_of}
 use Rattle.futures_buffered_in_flight.specs.InFlight.{FutureOf}
@@ -45,27 +45,10 @@ new_keeps {F} q set n some new is none first room small =
       small = omega (arith, same, small);
     }
 
--- an entry more
-pub pushed_keeps : {F A : Type 0} (old new : Numbering (Queued F) A) → KeepsInOrder old → AddingKeeps queued_with queued_count SameRoom old new → ordered_count new.queue ≡ ordered_count old.queue + 1 → ordered_count old.queue < ordered_room old.queue → KeepsInOrder new
-pushed_keeps old new keeps adds one fewer =
-    let same = adds.set in
-    record {
-      numbered = adds.numbered;
-      some = omega (arith, same, keeps.some);
-      bound = omega (arith, same, one, fewer);
-      fits = omega (arith, same, keeps.fits, adds.room);
-      small = omega (arith, same, keeps.small);
-    }
-
 module _ {F A : Type 0} (future : FutureOf F A) where
   -- what an ordered queue asks of a poll of the futures
   pub polls_set : (old new : Queued F) (answer : Poll (Option (ℕ × A))) → PollsNumber future old answer new → PollsNumberedSet (CanPollQueue future) queued_count queued_with SameRoom old answer new
-  polls_set old new (Ready None) p =
-      record { empty = p.gave.0; fewer = omega (arith, ap (λ (q : Queued F). queued_count q) p.gave.1); numbers = p.numbers; pollable = p.again; set = p.same_room }
-  polls_set old new (Ready (Some out)) p =
-      record { empty = tt; fewer = p.gave.1; numbers = p.numbers; pollable = p.again; set = p.same_room }
-  polls_set old new Pending p =
-      record { empty = tt; fewer = let k = p.gave.1 in omega (arith, k); numbers = p.numbers; pollable = p.again; set = p.same_room }
+  polls_set old new answer p = grind arith
 
   -- what was given might be given, and what may still be given might be given before
   gave : (old new : Queued F) (out : ℕ × A) → PollsNumber future old (Ready (Some out)) new → NumberGives future old out

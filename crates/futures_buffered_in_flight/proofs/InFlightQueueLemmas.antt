@@ -55,10 +55,8 @@ module _ {F : Type 0} where
 
 module _ {F A : Type 0} (future : FutureOf F A) where
   any_push : (fs : List (Numbered F)) (f : Numbered F) (out : ℕ × A) → SomeOf future (fs ++ f ∷ []) out → SomeOf future fs out ⊎ ((out.0 ≡ f.number) × future.gives f.future out.1)
-  any_push [] f out (inl h) = inr h
-  any_push [] f out (inr h) = absurd h
-  any_push (g ∷ fs) f out (inl h) = inl (inl h)
-  any_push (g ∷ fs) f out (inr h) = elim (any_push fs f out h) [ inl k ↦ inl (inr k) | inr k ↦ inr k ]
+  any_push [] f out h = grind arith
+  any_push (g ∷ fs) f out h = let more = any_push fs f out in grind arith
 
   push_all : (fs : List (Numbered F)) (f : Numbered F) → AllByRecursion (CanPollFuture future.can_poll) fs → future.can_poll f.future → AllByRecursion (CanPollFuture future.can_poll) (fs ++ f ∷ [])
   push_all [] f all fit = (fit, tt)
@@ -67,10 +65,7 @@ module _ {F A : Type 0} (future : FutureOf F A) where
   -- where a future may give an output with a number, one is held with it
   waiting_counts : (fs : List (Numbered F)) (out : ℕ × A) → SomeOf future fs out → 0 < numbered_with out.0 fs
   waiting_counts [] out h = absurd h
-  waiting_counts (f ∷ fs) out (inl own) =
-      let one : one_at out.0 f.number ≡ 1 = subst (λ n. one_at out.0 n ≡ 1) own.0 (one_self out.0) in
-      omega (arith, numbers_first out.0 f fs, one)
-  waiting_counts (f ∷ fs) out (inr h) = omega (arith, numbers_first out.0 f fs, waiting_counts fs out h)
+  waiting_counts (f ∷ fs) out h = let first = numbers_first out.0 f fs in let more = waiting_counts fs out in grind (arith, one_self)
 
   pub number_counts : (q : Queued F) (out : ℕ × A) → NumberGives future q out → 0 < queued_with out.0 q
   number_counts q out (inl h) = omega (arith, waiting_counts q.waiting out h)
@@ -78,7 +73,7 @@ module _ {F A : Type 0} (future : FutureOf F A) where
 
   -- what may come under a tag after a call, might before
   tags_within : (old new : Flights F) → new.slots ≡ old.slots → RunsGiveNoMore future old new → (out : ℕ × A) → AnyTaggedGives future new out → AnyTaggedGives future old out
-  tags_within old new same narrows out h = (h.0, h.1, subst (λ s. value_in s h.0 ≡ Some (record { tag = out.0; push = h.1 })) same h.2, narrows (record { slot = h.0; push = h.1 }, Some out.1) h.3)
+  tags_within old new same narrows out h = grind arith
 
   tags_after : (old new : Flights F) (slot : ℕ) → new.slots ≡ with_slot_freed old.slots slot → RunsGiveNoMore future old new → (out : ℕ × A) → AnyTaggedGives future new out → AnyTaggedGives future old out
   tags_after old new slot same narrows out h =
@@ -138,13 +133,7 @@ module _ {F A : Type 0} (future : FutureOf F A) where
 
   -- a push of which the number is not told
   pub pushed_any : (old new : Queued F) (f : F) (number : ℕ) → QueuesNumber future old f number new → PushesQueued future old f new
-  pushed_any old new f number p =
-      record {
-        one_more = p.one_more;
-        gives = λ x h. elim (p.gives (h.0, x) h.1) [ inl was ↦ inl (h.0, was) | inr own ↦ inr own.1 ];
-        same_room = p.same_room;
-        again = p.again;
-      }
+  pushed_any old new f number p = grind arith
 
   pub starts_none : (q : Queued F) → CanPollQueue future q → Starts future q q
   starts_none q can = record { same_count = refl; numbers = λ i. refl; narrows = λ out h. h; same_room = refl; again = can }
@@ -168,17 +157,7 @@ module _ {F A : Type 0} (future : FutureOf F A) where
 
   -- it was put back, since memory was refused
   pub put_back : (old new : Queued F) → CanPollQueue future old → new.waiting ≡ old.waiting → StaysAsItWas future old.set new.set → CanPollAll future new.set → Starts future old new
-  put_back old new can same stays again =
-      record {
-        same_count = omega (arith, ap length same, ap held_count stays.slots);
-        numbers = λ i. omega (arith, ap (λ fs. numbered_with i fs) same, ap (λ slots. tagged_with i slots) stays.slots);
-        narrows = λ out h. elim h [
-          | inl waits ↦ inl (rw same at waits)
-          | inr runs ↦ inr (tags_within old.set new.set stays.slots stays.narrows out runs)
-        ];
-        same_room = ap slot_count stays.slots;
-        again = record { flying = again; waiting = still_waiting old new can same };
-      }
+  put_back old new can same stays again = grind arith
 
   -- an output came of the set
   pub polled_output : (old new : Queued F) (came : Came A) → CanPollQueue future old → new.waiting ≡ old.waiting → ComesByKey future old.set came new.set → RunsGiveNoMore future old.set new.set → CanPollAll future new.set
@@ -198,9 +177,7 @@ module _ {F A : Type 0} (future : FutureOf F A) where
   -- no output came of the set
   pub polled_none : (old new : Queued F) → 0 < length old.waiting + held_count old.set.slots → CanPollQueue future old → new.waiting ≡ old.waiting → new.set.slots ≡ old.set.slots → RunsGiveNoMore future old.set new.set → CanPollAll future new.set
       → PollsNumber future old Pending new
-  polled_none old new some can same slots narrows again =
-      let left = put_back old new can same (record { slots = slots; narrows = narrows }) again in
-      record { gave = (some, left.same_count); numbers = λ i. let e = left.numbers i in omega (arith, e); narrows = left.narrows; same_room = left.same_room; again = left.again }
+  polled_none old new some can same slots narrows again = grind arith
 
   -- a poll of what the starts left
   pub starts_then : (old mid new : Queued F) (answer : Poll (Option (ℕ × A))) → 0 < queued_count old → Starts future old mid → PollsNumber future mid answer new → PollsNumber future old answer new
@@ -208,28 +185,18 @@ module _ {F A : Type 0} (future : FutureOf F A) where
       record { gave = gave answer p.gave; numbers = λ i. p.numbers i ∙ s.numbers i; narrows = λ out h. s.narrows out (p.narrows out h); same_room = p.same_room ∙ s.same_room; again = p.again }
     where
       gave : (answer : Poll (Option (ℕ × A))) → GivesHeld (NumberGives future) mid answer new → GivesHeld (NumberGives future) old answer new
-      gave (Ready None) g = absurd (let k = g.0 in let e = s.same_count in omega (arith, k, e, some))
-      gave (Ready (Some out)) g = (s.narrows out g.0, g.1 ∙ s.same_count)
-      gave Pending g = (some, g.1 ∙ s.same_count)
+      gave answer g = let narrows = s.narrows in let same = s.same_count in grind arith
 
   -- a poll leaves no more than there is room for
   pub within_room : (old new : Queued F) (answer : Poll (Option (ℕ × A))) → HoldsWithinRoom old → PollsNumber future old answer new → HoldsWithinRoom new
-  within_room old new (Ready None) within p = subst HoldsWithinRoom (sym p.gave.1) within
-  within_room old new (Ready (Some out)) within p =
-      let same = p.same_room in
-      let fewer = p.gave.1 in
-      (omega (arith, within.0, same), omega (arith, within.1, same, fewer))
-  within_room old new Pending within p =
-      let same = p.same_room in
-      let count = p.gave.1 in
-      (omega (arith, within.0, same), omega (arith, within.1, same, count))
+  within_room old new answer within p = grind arith
 
   narrows_any : (old new : Queued F) (answer : Poll (Option (ℕ × A))) → PollsNumber future old answer new → QueueGivesNoMore future old new
   narrows_any old new answer p x h = (h.0, p.narrows (h.0, x) h.1)
 
   -- a poll of which the number is not told
   pub polled_any : (old new : Queued F) (out : ℕ × A) → PollsNumber future old (Ready (Some out)) new → PollsQueued future old (Ready (Some out.1)) new
-  polled_any old new out p = record { gave = ((out.0, p.gave.0), p.gave.1); narrows = narrows_any old new (Ready (Some out)) p; same_room = p.same_room; again = p.again }
+  polled_any old new out p = grind arith
 
   pub ended_any : (old new : Queued F) → PollsNumber future old (Ready None) new → PollsQueued future old (Ready None) new
   ended_any old new p = record { gave = p.gave; narrows = narrows_any old new (Ready None) p; same_room = p.same_room; again = p.again }

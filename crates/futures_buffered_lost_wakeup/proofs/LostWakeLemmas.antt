@@ -1,5 +1,5 @@
 -- The steps at the list keep a scene too, and so no wake is lost.
-use Rattle.std.proofs.Common.{◌≡◌, ◌≢◌, ℕ, zero, suc, ◌<◌, List, [], ◌∷◌, ◌++◌, true, false, map, get_or, refl, sym, ap, ◌∙◌, subst, inl, inr, ⊎_elim, arith, append-nil}
+use Rattle.std.proofs.Common.{◌≡◌, ℕ, zero, suc, ◌<◌, List, [], ◌∷◌, ◌++◌, true, false, map, get_or, refl, sym, ap, ◌∙◌, subst, inl, inr, ⊎_elim, arith, append-nil}
 use Rattle.std.specs.Prelude.{◌==◌}
 use Rattle.std.proofs.Math.ListN.{get_or-map}
 use Rattle.std.proofs.lemmas.Bool.{cases_lt}
@@ -13,12 +13,11 @@ use Rattle.futures_buffered_table.specs.declared.step.Step.TheVariants.{Mark, Go
 use Rattle.futures_buffered_table.specs.declared.step.StepReply.{StepReply}
 use Rattle.futures_buffered_table.specs.declared.step.StepReply.TheVariants.{More, Woke, Taken}
 use Rattle.futures_buffered_table.specs.declared.step.TheConstants.{WAKE_SEATS}
-use Rattle.futures_buffered_table.specs.declared.view.Phase.TheVariants.{Start, AtStub, Moved, NoNext, Last, StubCleared, StubPut, StubLinked, InHand}
 use Rattle.futures_buffered_table.specs.declared.view.Role.{Role}
 use Rattle.futures_buffered_table.specs.declared.view.Role.TheVariants.{Idle, Won, Cleared, Swapped, Polls}
 use Rattle.futures_buffered_table.specs.declared.view.View.{View}
-use Rattle.futures_buffered_table.specs.Effect.{next_role, next_view, reply_of_role, word_of_role}
-use Rattle.futures_buffered_table.specs.RowInvariant.{FitsRole, outside_by}
+use Rattle.futures_buffered_table.specs.Effect.{next_role, next_view, reply_of_role}
+use Rattle.futures_buffered_table.specs.RowInvariant.{outside_by}
 use Rattle.futures_buffered_table.specs.Schedule.{after_step, found_at, view_at}
 use Rattle.futures_buffered_table.specs.Step.{CanStep, seat_of, slot_of}
 use Rattle.futures_buffered_table.specs.View.{first_poller, new_waker_beside, role_of, spent_view}
@@ -26,15 +25,14 @@ use Rattle.futures_buffered_table.specs.Words.{mark}
 use Rattle.futures_buffered_table.proofs.ListLemmas.{by_test, elem_at, last_at, place_low}
 use Rattle.futures_buffered_table.proofs.RowLemmas.{answered_by, put_by, row_slots, total_none}
 use Rattle.futures_buffered_table.proofs.ScheduleLemmas.{IsReachable, pending, reachable_start, step_reaches}
-use Rattle.futures_buffered_lost_wakeup.specs.Scene.{Scene, at_first, with_errand}
-use Rattle.futures_buffered_lost_wakeup.specs.Scene.{Rests, Looks, Inside, Wakes}
-use Rattle.futures_buffered_lost_wakeup.specs.Scene.{Place, Bare, Keeps, WakeHas, PollerHas, BesideHas}
+use Rattle.futures_buffered_table.proofs.ScheduleLawLemmas.{IsPolls, role_polls}
+use Rattle.futures_buffered_lost_wakeup.specs.Scene.{Scene, at_first, with_errand, Rests, Looks, Inside, Wakes}
 use Rattle.futures_buffered_lost_wakeup.specs.Scene.{Turn, Parked, Asks}
 use Rattle.futures_buffered_lost_wakeup.specs.LostWake.{Event, InList, OnErrand, AtPlace, FromBeside, Begin, GoBack, KeepOwn, Lacks, LayOut, Misses, BesideGoes, BesidePuts, BesideMisses, Stop}
 use Rattle.futures_buffered_lost_wakeup.specs.LostWake.{AllRest, CanDo, IsAtStart, IsAtStub, IsBetween, Legal, NoWakeIsLost, NoneBeside, after, after_reply, owner_seat, poller_role, run}
-use Rattle.futures_buffered_lost_wakeup.proofs.SceneLemmas.{IsEmpty, IsPolls, IsTaken, IsWoke, empty_at_stub, hand_at_start, none_at_stub, polls_of, polls_wake_none, stub_polls, taken_starts, times_none}
-use Rattle.futures_buffered_lost_wakeup.proofs.SceneInvariantLemmas.{Armed, ArmedIn, Busy, IsKept, IsSwapped, IsThere, IsWaiting, LetsGo, OnItsWay, PollerHolds, Seen, SwapsIn, Waits, armed_woken, errand_kept, holds_else, wakes_else, way_here}
-use Rattle.futures_buffered_lost_wakeup.proofs.PlaceLemmas.{armed_by_place, at_place_kept, begin_kept, beside_goes_kept, beside_puts_kept, go_back_kept, keep_own_kept, lacks_kept, lay_out_kept, misses_kept, on_errand_kept, poller_view, stop_kept, woken_kept}
+use Rattle.futures_buffered_lost_wakeup.proofs.SceneLemmas.{IsEmpty, IsTaken, IsWoke, empty_at_stub, hand_at_start, none_at_stub, polls_wake_none, stub_polls, taken_starts, times_none}
+use Rattle.futures_buffered_lost_wakeup.proofs.SceneInvariantLemmas.{Armed, ArmedIn, Busy, IsKept, IsSwapped, IsThere, PollerHolds, Seen, SwapsIn, Waits, errand_kept, holds_else, wakes_else, way_here}
+use Rattle.futures_buffered_lost_wakeup.proofs.PlaceLemmas.{armed_by_place, at_place_kept, beside_goes_kept, beside_puts_kept, go_back_kept, lay_out_kept, on_errand_kept, poller_view, stop_kept}
 
 -- a step of the list, by a wake: how the row goes on
 module _ (n : ℕ) (s : Scene) (kept : IsKept n s) (step : Step) (low : seat_of step < WAKE_SEATS) (can : CanStep n (map role_of s.list.views) step) (between : IsBetween s (seat_of step)) where
@@ -45,32 +43,20 @@ module _ (n : ℕ) (s : Scene) (kept : IsKept n s) (step : Step) (low : seat_of 
   there = elem_at s.list.views (seat_of step) spent_view (let a = kept.reach.1 in omega arith)
 
   no_poller : IsPolls (view_at s.list step).role → ⊥
-  no_poller polls =
-      let reach = kept.reach in
-      let p = polls_of (view_at s.list step).role polls in
-      let fits = subst (FitsRole n s.list.words reach.2.0 reach.2.1 WAKE_SEATS (seat_of step)) p.2 (reach.2.2.seats (seat_of step) (view_at s.list step) there).0 in
-      let at_end : seat_of step ≡ WAKE_SEATS = fits.0 in
-      omega arith
+  no_poller polls = grind (arith, role_polls, there)
 
   still_waits : Waits s.turn (after_step n s.list step).views
   still_waits w u at = kept.waits w u (sym (set_else s.list.views (seat_of step) WAKE_SEATS new_view (λ z. omega arith)) ∙ at)
 
   still_swaps : (IsSwapped (view_at s.list step).role → ⊥) → SwapsIn s.list.views → SwapsIn (after_step n s.list step).views
-  still_swaps not_here swaps =
-      let other : swaps.0 ≢ seat_of step = λ z. not_here (subst (λ (u : View). IsSwapped u.role)
-      (some-injective swaps.2.0 (view_at s.list step) (sym swaps.2.1 ∙ (ap (get_elem? s.list.views) z ∙ there))) swaps.2.2) in
-      (swaps.0, swaps.1, (swaps.2.0, set_else s.list.views (seat_of step) swaps.0 new_view other ∙ swaps.2.1, swaps.2.2))
+  still_swaps not_here swaps = grind (arith, there, set_else)
 
   -- a step that puts nothing in
   seen_still : put_by (view_at s.list step).role ≡ [] → answered_by (view_at s.list step).role ≡ [] → (IsSwapped (view_at s.list step).role → ⊥)
       → (on : IsReachable n (after_step n s.list step))
       → pending n s.list kept.reach ++ put_by (view_at s.list step).role ≡ answered_by (view_at s.list step).role ++ pending n (after_step n s.list step) on
       → Seen n (record s { list = after_step n s.list step }) on
-  seen_still no_put no_answer not_swapped on flow parked asleep =
-      let same : pending n s.list kept.reach ≡ pending n (after_step n s.list step) on =
-      sym (append-nil (pending n s.list kept.reach)) ∙ ((λ k. pending n s.list kept.reach ++ sym no_put k) ∙ (flow ∙ (λ k. no_answer k ++ pending n (after_step n s.list step) on))) in
-      ⊎_elim (λ (t : pending n s.list kept.reach ≡ []). inl (sym same ∙ t))
-      (λ (t : Busy s). inr (⊎_elim (λ (w : OnItsWay s.errands). inl w) (⊎_elim (λ (w : SwapsIn s.list.views). inr (inl (still_swaps not_swapped w))) (λ (w : LetsGo s.place). inr (inr w))) t)) (kept.seen parked asleep)
+  seen_still no_put no_answer not_swapped on flow parked asleep = grind (arith, pending, append-nil, still_swaps)
 
   listed_kept : (on : IsReachable n (after_step n s.list step)) → Seen n (record s { list = after_step n s.list step }) on → IsKept n (record s { list = after_step n s.list step })
   listed_kept on seen = record {
@@ -101,27 +87,15 @@ module _ (n : ℕ) (s : Scene) (kept : IsKept n s) (step : Step) (low : seat_of 
   arrives : (on : IsReachable n (after_step n s.list step)) → Goes (Woke Fresh)
   arrives on = by_test (IsKept n) (seat_of step == owner_seat) (record s { list = after_step n s.list step; woken = true })
       (with_errand (record s { list = after_step n s.list step }) (seat_of step) Looks)
-      (λ _. record {
-        reach = on;
-        waits = still_waits;
-        holder = kept.holder;
-        poller = kept.poller;
-        armed = armed_woken s.turn (record s { list = after_step n s.list step; woken = true }) refl;
-        seen = λ parked asleep. absurd cc;
-      })
+      (λ _. grind (arith, still_waits))
       (λ _. record {
         reach = on;
         waits = still_waits;
         holder = holds_else s.place s.errands (seat_of step) Looks (λ z. let c : Rests ≡ Inside = sym between.0 ∙ z in cc) kept.holder;
         poller = kept.poller;
-        armed = armed_by_place s.turn s (with_errand (record s { list = after_step n s.list step }) (seat_of step) Looks) once (λ own. own) kept.armed;
+        armed = armed_by_place s.turn s (with_errand (record s { list = after_step n s.list step }) (seat_of step) Looks) (λ a. grind (arith, wakes_else)) (λ own. own) kept.armed;
         seen = λ parked asleep. inr (inl (way_here s.errands (seat_of step) Looks (λ z. cc)));
       })
-    where
-      once : Armed s → Armed (with_errand (record s { list = after_step n s.list step }) (seat_of step) Looks)
-      once (inl woken) = inl woken
-      once (inr (inl has)) = inr (inl has)
-      once (inr (inr wakes)) = inr (inr (wakes_else s.errands (seat_of step) Looks (λ z. let c : Rests ≡ Wakes = sym between.0 ∙ z in cc) wakes))
 
   by_role : (role : Role) (found : ℕ) → (view_at s.list step).role ≡ role → (on : IsReachable n (after_step n s.list step))
       → pending n s.list kept.reach ++ put_by (view_at s.list step).role ≡ answered_by (view_at s.list step).role ++ pending n (after_step n s.list step) on
@@ -147,38 +121,19 @@ module _ (n : ℕ) (s : Scene) (kept : IsKept n s) (asks : s.turn ≡ Asks) (lai
   polled = next_view 0 (view_at s.list Poll) (found_at n s.list Poll)
 
   poll_role : IsPolls (view_at s.list Poll).role
-  poll_role =
-      let polls = kept.reach.2.3 in
-      let p : View = record { stub = n; role = Polls kept.reach.2.0 polls.0; steps = polls.1 } in
-      subst (λ (u : View). IsPolls u.role) (some-injective p (view_at s.list Poll) (sym polls.2 ∙ poll_there)) tt
+  poll_role = grind (arith, poll_there)
 
   not_there : PollerHolds s.place Parked
   not_there same = absurd (subst IsThere asks (kept.poller same))
 
   starts : IsTaken (reply_of_role n (view_at s.list Poll).role (found_at n s.list Poll)) → Waits Parked (after_step n s.list Poll).views
-  starts taken w u at = subst (λ (v : View). IsAtStart v.role)
-      (some-injective polled u (sym (set_here s.list.views WAKE_SEATS polled (place_low s.list.views WAKE_SEATS (view_at s.list Poll) poll_there)) ∙ at))
-      (taken_starts n (view_at s.list Poll).stub 0 (view_at s.list Poll).role (found_at n s.list Poll) taken)
+  starts taken w u at = grind (arith, set_here, place_low, poll_there, taken_starts)
 
   goes_on : IsReachable n (after_step n s.list Poll) → IsKept n (record s { list = after_step n s.list Poll })
-  goes_on on = record {
-    reach = on;
-    waits = λ w. absurd (subst IsWaiting asks w);
-    holder = kept.holder;
-    poller = kept.poller;
-    armed = armed_by_place s.turn s (record s { list = after_step n s.list Poll }) (λ a. a) (λ own. own) kept.armed;
-    seen = λ parked asleep. let c : Parked ≡ Asks = sym parked ∙ asks in absurd cc;
-  }
+  goes_on on = grind arith
 
   none_pending : IsEmpty (reply_of_role n (view_at s.list Poll).role (found_at n s.list Poll)) → pending n s.list kept.reach ≡ []
-  none_pending empty =
-      let reach = kept.reach in let polls = reach.2.3 in
-      let p : View = record { stub = n; role = Polls reach.2.0 polls.0; steps = polls.1 } in
-      let same : view_at s.list Poll ≡ p = some-injective (view_at s.list Poll) p (sym poll_there ∙ polls.2) in
-      let at_stub = empty_at_stub n (view_at s.list Poll).role (found_at n s.list Poll) empty in
-      let found : get_or s.list.words (word_of_role n 0 p.role) 0 ≡ n =
-      subst (λ (u : View). get_or s.list.words (word_of_role n 0 u.role) 0 ≡ n) same at_stub.1 in
-      none_at_stub n reach.2.0 reach.2.1 s.list.words s.list.views reach.2.2 polls.0 polls.1 polls.2 (subst (λ (u : View). IsAtStub u.role) same at_stub.0) found
+  none_pending empty = grind (arith, poll_there, empty_at_stub, none_at_stub)
 
   ends_empty : (on : IsReachable n (after_step n s.list Poll))
       → pending n s.list kept.reach ++ put_by (view_at s.list Poll).role ≡ answered_by (view_at s.list Poll).role ++ pending n (after_step n s.list Poll) on
@@ -200,14 +155,7 @@ module _ (n : ℕ) (s : Scene) (kept : IsKept n s) (asks : s.turn ≡ Asks) (lai
 
   ends_paused : IsReachable n (after_step n s.list Poll) → IsTaken (reply_of_role n (view_at s.list Poll).role (found_at n s.list Poll))
       → IsKept n (record s { list = after_step n s.list Poll; turn = Parked; woken = true })
-  ends_paused on taken = record {
-    reach = on;
-    waits = starts taken;
-    holder = kept.holder;
-    poller = not_there;
-    armed = inl refl;
-    seen = λ parked asleep. absurd cc;
-  }
+  ends_paused on taken = grind (arith, starts, not_there)
 
   by_reply : (reply : StepReply) → reply_of_role n (view_at s.list Poll).role (found_at n s.list Poll) ≡ reply → (on : IsReachable n (after_step n s.list Poll))
       → pending n s.list kept.reach ++ put_by (view_at s.list Poll).role ≡ answered_by (view_at s.list Poll).role ++ pending n (after_step n s.list Poll) on
@@ -232,15 +180,15 @@ step_kept n s kept (OnErrand seat) can = on_errand_kept n s kept seat (s.errands
 step_kept n s kept AtPlace can = at_place_kept n s kept s.turn refl can
 step_kept n s kept (FromBeside seat) can = errand_kept n s kept seat Looks (λ z. let c : Rests ≡ Inside = sym can.1 ∙ z in cc)
     (λ z. let c : Rests ≡ Wakes = sym can.1 ∙ z in cc) (λ parked asleep. inr (inl (way_here s.errands seat Looks (λ z. cc))))
-step_kept n s kept Begin can = begin_kept n s kept can
+step_kept n s kept Begin can = grind arith
 step_kept n s kept GoBack can = go_back_kept n s kept can s.place refl
-step_kept n s kept KeepOwn can = keep_own_kept n s kept can
-step_kept n s kept Lacks can = lacks_kept n s kept can
+step_kept n s kept KeepOwn can = grind arith
+step_kept n s kept Lacks can = grind arith
 step_kept n s kept LayOut can = lay_out_kept n s kept can.0 s.place refl
-step_kept n s kept Misses can = misses_kept n s kept can.0
+step_kept n s kept Misses can = grind arith
 step_kept n s kept BesideGoes can = beside_goes_kept n s kept s.place refl
 step_kept n s kept BesidePuts can = beside_puts_kept n s kept s.place refl
-step_kept n s kept BesideMisses can = woken_kept n s kept
+step_kept n s kept BesideMisses can = grind arith
 step_kept n s kept Stop can = stop_kept n s kept can.0 can.1
 
 run_kept : (n : ℕ) (s : Scene) → IsKept n s → (events : List Event) → Legal n s events → IsKept n (run n s events)
@@ -266,50 +214,13 @@ module _ (n : ℕ) (s : Scene) (kept : IsKept n s) (rest : AllRest s) (alone : N
       ap (λ (u : View). u.role) same ∙ (sym (get_or-map role_of s.list.views seat spent_view) ∙ rest.1 seat low)
 
   none_outside : (e : ℕ) (seat : ℕ) (v : View) → get_elem? s.list.views seat ≡ some v → outside_by n e v.role ≡ 0
-  none_outside e seat v at = elim (cases_lt seat WAKE_SEATS) [
-    | inl low ↦ ap (outside_by n e) (idle seat v low at)
-    | inr past ↦
-        let within = place_low s.list.views seat v at in
-        let last : seat ≡ WAKE_SEATS = let a = kept.reach.1 in omega arith in
-        by_start v.role (kept.waits (subst IsWaiting (sym parked) tt) v (sym (ap (get_elem? s.list.views) last) ∙ at))
-  ]
-    where
-      by_start : (role : Role) → IsAtStart role → outside_by n e role ≡ 0
-      by_start Idle start = absurd start
-      by_start (Won i) start = absurd start
-      by_start (Cleared i) start = absurd start
-      by_start (Swapped i p) start = absurd start
-      by_start (Polls h Start) start = refl
-      by_start (Polls h AtStub) start = absurd start
-      by_start (Polls h Moved) start = absurd start
-      by_start (Polls h NoNext) start = absurd start
-      by_start (Polls h Last) start = absurd start
-      by_start (Polls h StubCleared) start = absurd start
-      by_start (Polls h (StubPut p)) start = absurd start
-      by_start (Polls h StubLinked) start = absurd start
-      by_start (Polls h (InHand i)) start = absurd start
+  none_outside e seat v at = grind (arith, cases_lt, idle, place_low)
 
   not_busy : Busy s → ⊥
-  not_busy (inl way) = way.1 (rest.0 way.0)
-  not_busy (inr (inr lets_go)) = by_place s.place alone lets_go
-    where
-      by_place : (place : Place) → NoneBeside place → LetsGo place → ⊥
-      by_place Bare none lets = lets
-      by_place Keeps none lets = lets
-      by_place (WakeHas seat) none lets = lets
-      by_place PollerHas none lets = lets
-      by_place (BesideHas before) none lets = none
-  not_busy (inr (inl swaps)) = subst IsSwapped (idle swaps.0 swaps.2.0 swaps.1 swaps.2.1) swaps.2.2
+  not_busy busy = grind (arith, idle)
 
   unmarked : pending n s.list kept.reach ≡ [] → (slot : ℕ) → slot < n → mark s.list.words slot ≡ 0
-  unmarked none slot lt =
-      let reach = kept.reach in let polls = reach.2.3 in
-      let start = kept.waits (subst IsWaiting (sym parked) tt) (record { stub = n; role = Polls reach.2.0 polls.0; steps = polls.1 }) polls.2 in
-      let in_row = sym (λ k. hand_at_start reach.2.0 polls.0 start k ++ row_slots n (reach.2.0 ∷ reach.2.1)) ∙ none in
-      let a = times_none n slot (reach.2.0 ∷ reach.2.1) lt in_row in
-      let b = total_none (λ (v : View). outside_by n slot v.role) s.list.views (none_outside slot) in
-      let c = (reach.2.2.whereabouts slot lt).0 in
-      omega arith
+  unmarked none slot lt = grind (arith, hand_at_start, row_slots, times_none, total_none, none_outside)
 
 pub no_wake_is_lost : NoWakeIsLost
 no_wake_is_lost = λ n events legal rest alone parked asleep slot lt.

@@ -13,19 +13,14 @@ use Rattle.futures_buffered_table.proofs.ScheduleLemmas.{IsReachable}
 use Rattle.futures_buffered_lost_wakeup.specs.Scene.{Scene, set_errand, with_errand}
 use Rattle.futures_buffered_lost_wakeup.specs.Scene.{Errand, Rests, Looks, Tries, Inside, Wakes}
 use Rattle.futures_buffered_lost_wakeup.specs.Scene.{Place, Bare, Keeps, WakeHas, PollerHas, BesideHas}
-use Rattle.futures_buffered_lost_wakeup.specs.Scene.{Turn, Parked, Registers, TakesBack, Asks, LaysOut}
+use Rattle.futures_buffered_lost_wakeup.specs.Scene.{Turn, Parked, Registers, Asks}
 use Rattle.futures_buffered_lost_wakeup.specs.LostWake.{IsAtStart, after_errand, after_place, after_try, beside_goes, beside_puts, go_back, is_kept, lay_out, poller_role}
 use Rattle.futures_buffered_lost_wakeup.proofs.SceneLemmas.{errand_here}
-use Rattle.futures_buffered_lost_wakeup.proofs.SceneInvariantLemmas.{Armed, ArmedIn, Busy, HasWaker, IsKept, IsThere, IsWaiting, LetsGo, PollerHolds, armed_parked, armed_woken, errand_kept, holds_else, wakes_else, way_by_another, way_here}
+use Rattle.futures_buffered_lost_wakeup.proofs.SceneInvariantLemmas.{Armed, ArmedIn, Busy, IsKept, IsThere, LetsGo, PollerHolds, armed_parked, errand_kept, wakes_else, way_by_another, way_here}
 
 -- what is armed stays so, where the place changes under the hand of a wake
 pub armed_by_place : (turn : Turn) (s now : Scene) → (Armed s → Armed now) → (s.own ≡ true → now.own ≡ true) → ArmedIn turn s → ArmedIn turn now
-armed_by_place Parked s now once own a = once a
-armed_by_place Registers s now once own a = tt
-armed_by_place TakesBack s now once own a = tt
-armed_by_place Asks s now once own (inl mine) = inl (own mine)
-armed_by_place Asks s now once own (inr a) = inr (once a)
-armed_by_place LaysOut s now once own a = tt
+armed_by_place turn s now once own a = grind arith
 
 -- where the poller is, if it has the place
 not_there : (turn : Turn) (s : Scene) (kept_there : PollerHolds s.place s.turn) → s.turn ≡ turn → (IsThere turn → ⊥) → s.place ≢ PollerHas
@@ -53,27 +48,16 @@ looks_kept n s kept seat is false found =
 
 -- a wake tries to take the waker
 tries_kept : (n : ℕ) (s : Scene) (kept : IsKept n s) (seat : ℕ) → s.errands seat ≡ Tries → (place : Place) → s.place ≡ place → IsKept n (after_try seat place s)
-tries_kept n s kept seat is Bare at =
-    rests_kept n s kept seat (λ z. let c : Tries ≡ Inside = sym is ∙ z in cc) (λ z. let c : Tries ≡ Wakes = sym is ∙ z in cc) (λ keeps. let c : Bare ≡ Keeps = sym at ∙ keeps in cc)
 tries_kept n s kept seat is Keeps at = record {
   reach = kept.reach;
   waits = kept.waits;
   holder = λ other same. subst (λ (k : ℕ). set_errand s.errands seat Inside k ≡ Inside) (ap seat_with same) (errand_here s.errands seat Inside);
   poller = λ same. absurd cc;
-  armed = armed_by_place s.turn s (record (with_errand s seat Inside) { place = WakeHas seat }) once (λ own. own) kept.armed;
+  armed = armed_by_place s.turn s (record (with_errand s seat Inside) { place = WakeHas seat }) (λ a. grind (arith, wakes_else)) (λ own. own) kept.armed;
   seen = λ parked asleep. inr (inl (way_here s.errands seat Inside (λ z. cc)));
 }
-  where
-    once : Armed s → Armed (record (with_errand s seat Inside) { place = WakeHas seat })
-    once (inl woken) = inl woken
-    once (inr (inl has)) = inr (inl tt)
-    once (inr (inr wakes)) = inr (inr (wakes_else s.errands seat Inside (λ z. let c : Tries ≡ Wakes = sym is ∙ z in cc) wakes))
-tries_kept n s kept seat is (WakeHas other) at =
-    rests_kept n s kept seat (λ z. let c : Tries ≡ Inside = sym is ∙ z in cc) (λ z. let c : Tries ≡ Wakes = sym is ∙ z in cc) (λ keeps. let c : WakeHas other ≡ Keeps = sym at ∙ keeps in cc)
-tries_kept n s kept seat is PollerHas at =
-    rests_kept n s kept seat (λ z. let c : Tries ≡ Inside = sym is ∙ z in cc) (λ z. let c : Tries ≡ Wakes = sym is ∙ z in cc) (λ keeps. let c : PollerHas ≡ Keeps = sym at ∙ keeps in cc)
-tries_kept n s kept seat is (BesideHas before) at =
-    rests_kept n s kept seat (λ z. let c : Tries ≡ Inside = sym is ∙ z in cc) (λ z. let c : Tries ≡ Wakes = sym is ∙ z in cc) (λ keeps. let c : BesideHas before ≡ Keeps = sym at ∙ keeps in cc)
+tries_kept n s kept seat is place at =
+    rests_kept n s kept seat (λ z. let c : Tries ≡ Inside = sym is ∙ z in cc) (λ z. let c : Tries ≡ Wakes = sym is ∙ z in cc) (λ keeps. let c : place ≡ Keeps = sym at ∙ keeps in cc)
 
 -- a wake with the waker leaves the place
 inside_kept : (n : ℕ) (s : Scene) (kept : IsKept n s) (seat : ℕ) → s.errands seat ≡ Inside → IsKept n (record (with_errand s seat Wakes) { place = Bare })
@@ -91,14 +75,7 @@ inside_kept n s kept seat is =
 
 -- a wake wakes the task
 wakes_kept : (n : ℕ) (s : Scene) (kept : IsKept n s) (seat : ℕ) → s.errands seat ≡ Wakes → IsKept n (record (with_errand s seat Rests) { woken = true })
-wakes_kept n s kept seat is = record {
-  reach = kept.reach;
-  waits = kept.waits;
-  holder = holds_else s.place s.errands seat Rests (λ z. let c : Wakes ≡ Inside = sym is ∙ z in cc) kept.holder;
-  poller = kept.poller;
-  armed = armed_woken s.turn (record (with_errand s seat Rests) { woken = true }) refl;
-  seen = λ parked asleep. absurd cc;
-}
+wakes_kept n s kept seat is = grind arith
 
 pub on_errand_kept : (n : ℕ) (s : Scene) (kept : IsKept n s) (seat : ℕ) (errand : Errand) → s.errands seat ≡ errand → IsKept n (after_errand seat errand s)
 on_errand_kept n s kept seat Rests is = kept
@@ -109,80 +86,15 @@ on_errand_kept n s kept seat Wakes is = wakes_kept n s kept seat is
 
 -- the poller leaves the place
 pub at_place_kept : (n : ℕ) (s : Scene) (kept : IsKept n s) (turn : Turn) → s.turn ≡ turn → s.place ≡ PollerHas → IsKept n (after_place turn s)
-at_place_kept n s kept Parked at is = kept
-at_place_kept n s kept Registers at is = kept
-at_place_kept n s kept TakesBack at is = record {
-  reach = kept.reach;
-  waits = λ _. kept.waits (subst IsWaiting (sym at) tt);
-  holder = λ other same. absurd cc;
-  poller = λ same. absurd cc;
-  armed = tt;
-  seen = λ parked asleep. absurd cc;
-}
-at_place_kept n s kept Asks at is = kept
-at_place_kept n s kept LaysOut at is = record {
-  reach = kept.reach;
-  waits = λ w. absurd w;
-  holder = λ other same. absurd cc;
-  poller = λ same. absurd cc;
-  armed = inr (inr (inl tt));
-  seen = λ parked asleep. absurd cc;
-}
+at_place_kept n s kept turn at is = grind arith
 
 -- the poller goes to the place for the waker that is kept there
 pub go_back_kept : (n : ℕ) (s : Scene) (kept : IsKept n s) → s.turn ≡ Registers → (place : Place) → s.place ≡ place → IsKept n (go_back place s)
-go_back_kept n s kept registers Bare at = kept
-go_back_kept n s kept registers Keeps at = record {
-  reach = kept.reach;
-  waits = λ _. kept.waits (subst IsWaiting (sym registers) tt);
-  holder = λ other same. absurd cc;
-  poller = λ same. tt;
-  armed = tt;
-  seen = λ parked asleep. absurd cc;
-}
-go_back_kept n s kept registers (WakeHas seat) at = kept
-go_back_kept n s kept registers PollerHas at = kept
-go_back_kept n s kept registers (BesideHas before) at = kept
-
--- the poller has its task woken in place of a waker laid out
-pub misses_kept : (n : ℕ) (s : Scene) (kept : IsKept n s) → s.turn ≡ Asks → IsKept n (record s { own = false; woken = true })
-misses_kept n s kept asks = record {
-  reach = kept.reach;
-  waits = kept.waits;
-  holder = kept.holder;
-  poller = kept.poller;
-  armed = armed_woken s.turn (record s { own = false; woken = true }) refl;
-  seen = λ parked asleep. absurd cc;
-}
-
-there : (n : ℕ) (s : Scene) (kept : IsKept n s) → IsKept n (record s { place = PollerHas; turn = LaysOut })
-there n s kept = record {
-  reach = kept.reach;
-  waits = λ w. absurd w;
-  holder = λ other same. absurd cc;
-  poller = λ same. tt;
-  armed = tt;
-  seen = λ parked asleep. absurd cc;
-}
+go_back_kept n s kept registers place at = grind arith
 
 -- the poller goes to the place with its waker
 pub lay_out_kept : (n : ℕ) (s : Scene) (kept : IsKept n s) → s.turn ≡ Asks → (place : Place) → s.place ≡ place → IsKept n (lay_out place s)
-lay_out_kept n s kept asks Bare at = there n s kept
-lay_out_kept n s kept asks Keeps at = there n s kept
-lay_out_kept n s kept asks (WakeHas seat) at = misses_kept n s kept asks
-lay_out_kept n s kept asks PollerHas at = misses_kept n s kept asks
-lay_out_kept n s kept asks (BesideHas before) at = misses_kept n s kept asks
-
--- the task is woken
-pub woken_kept : (n : ℕ) (s : Scene) (kept : IsKept n s) → IsKept n (record s { woken = true })
-woken_kept n s kept = record {
-  reach = kept.reach;
-  waits = kept.waits;
-  holder = kept.holder;
-  poller = kept.poller;
-  armed = armed_woken s.turn (record s { woken = true }) refl;
-  seen = λ parked asleep. absurd cc;
-}
+lay_out_kept n s kept asks place at = grind arith
 
 -- only the place changes, and nobody has it whom another waits for
 place_kept : (n : ℕ) (s : Scene) (kept : IsKept n s) (place : Place) → ((seat : ℕ) → place ≢ WakeHas seat) → place ≢ PollerHas
@@ -196,79 +108,19 @@ place_kept n s kept place no_wake no_poller once busy = record {
   seen = λ parked asleep. ⊎_elim (λ none. inl none) (λ some_busy. inr (busy some_busy)) (kept.seen parked asleep);
 }
 
--- where no waker was kept, what is armed and what is busy do not come from the place
-armed_from_bare : (s : Scene) (place : Place) → (HasWaker s.place → ⊥) → Armed s → Armed (record s { place = place })
-armed_from_bare s place none (inl woken) = inl woken
-armed_from_bare s place none (inr (inl has)) = absurd (none has)
-armed_from_bare s place none (inr (inr wakes)) = inr (inr wakes)
-
 busy_from_bare : (s : Scene) (place : Place) → (LetsGo s.place → ⊥) → Busy s → Busy (record s { place = place })
-busy_from_bare s place none (inl way) = inl way
-busy_from_bare s place none (inr (inl swaps)) = inr (inl swaps)
-busy_from_bare s place none (inr (inr lets_go)) = absurd (none lets_go)
+busy_from_bare s place none busy = grind arith
 
 -- a source beside this one goes to the place
 pub beside_goes_kept : (n : ℕ) (s : Scene) (kept : IsKept n s) → (place : Place) → s.place ≡ place → IsKept n (beside_goes place s)
-beside_goes_kept n s kept Bare at = place_kept n s kept (BesideHas false) (λ seat z. cc) (λ z. cc)
-    (armed_from_bare s (BesideHas false) (λ has. subst HasWaker at has)) (busy_from_bare s (BesideHas false) (λ lets_go. subst LetsGo at lets_go))
-beside_goes_kept n s kept Keeps at = place_kept n s kept (BesideHas true) (λ seat z. cc) (λ z. cc)
-    once (λ _. inr (inr tt))
-  where
-    once : Armed s → Armed (record s { place = BesideHas true })
-    once (inl woken) = inl woken
-    once (inr (inl has)) = inr (inl tt)
-    once (inr (inr wakes)) = inr (inr wakes)
-beside_goes_kept n s kept (WakeHas seat) at = woken_kept n s kept
-beside_goes_kept n s kept PollerHas at = woken_kept n s kept
-beside_goes_kept n s kept (BesideHas before) at = woken_kept n s kept
+beside_goes_kept n s kept place at = grind arith
 
 -- and leaves it
 pub beside_puts_kept : (n : ℕ) (s : Scene) (kept : IsKept n s) → (place : Place) → s.place ≡ place → IsKept n (beside_puts place s)
-beside_puts_kept n s kept Bare at = kept
-beside_puts_kept n s kept Keeps at = kept
-beside_puts_kept n s kept (WakeHas seat) at = kept
-beside_puts_kept n s kept PollerHas at = kept
 beside_puts_kept n s kept (BesideHas false) at = place_kept n s kept Keeps (λ seat z. cc) (λ z. cc)
     (λ _. inr (inl tt)) (busy_from_bare s Keeps (λ lets_go. subst LetsGo at lets_go))
-beside_puts_kept n s kept (BesideHas true) at = record {
-  reach = kept.reach;
-  waits = kept.waits;
-  holder = λ other same. absurd cc;
-  poller = λ same. absurd cc;
-  armed = armed_woken s.turn (record s { place = Keeps; woken = true }) refl;
-  seen = λ parked asleep. absurd cc;
-}
-
--- the poller's own steps
-pub begin_kept : (n : ℕ) (s : Scene) (kept : IsKept n s) → s.turn ≡ Parked → IsKept n (record s { turn = Registers; woken = false })
-begin_kept n s kept parked = record {
-  reach = kept.reach;
-  waits = λ _. kept.waits (subst IsWaiting (sym parked) tt);
-  holder = kept.holder;
-  poller = λ same. absurd (not_there Parked s kept.poller parked (λ z. z) same);
-  armed = tt;
-  seen = λ parked asleep. absurd cc;
-}
-
-pub keep_own_kept : (n : ℕ) (s : Scene) (kept : IsKept n s) → s.turn ≡ Registers → IsKept n (record s { own = true; turn = Asks })
-keep_own_kept n s kept registers = record {
-  reach = kept.reach;
-  waits = λ w. absurd w;
-  holder = kept.holder;
-  poller = λ same. absurd (not_there Registers s kept.poller registers (λ z. z) same);
-  armed = inl refl;
-  seen = λ parked asleep. absurd cc;
-}
-
-pub lacks_kept : (n : ℕ) (s : Scene) (kept : IsKept n s) → s.turn ≡ Registers → IsKept n (record s { turn = Asks; woken = true })
-lacks_kept n s kept registers = record {
-  reach = kept.reach;
-  waits = λ w. absurd w;
-  holder = kept.holder;
-  poller = λ same. absurd (not_there Registers s kept.poller registers (λ z. z) same);
-  armed = inr (inl refl);
-  seen = λ parked asleep. absurd cc;
-}
+beside_puts_kept n s kept (BesideHas true) at = grind arith
+beside_puts_kept n s kept place at = kept
 
 pub poller_view : (n : ℕ) (s : Scene) → IsReachable n s.list → get_elem? s.list.views WAKE_SEATS ≡ some (view_at s.list Poll)
 poller_view n s reach = elem_at s.list.views WAKE_SEATS spent_view (let a = reach.1 in omega arith)

@@ -1,5 +1,5 @@
 -- What each scene keeps, and what stays of it where one thing changes.
-use Rattle.std.proofs.Common.{◌≡◌, ◌≢◌, ◌⊎◌, ℕ, ◌<◌, List, [], true, false, refl, sym, ◌∙◌, subst, inl, inr}
+use Rattle.std.proofs.Common.{arith, ◌≡◌, ◌≢◌, ◌⊎◌, ℕ, ◌<◌, List, [], true, false, refl, sym, ◌∙◌, subst, inl, inr}
 use mathlib.Core.Option.{some}
 use lib.ListN.{get_elem?}
 use Rattle.futures_buffered_table.specs.declared.step.TheConstants.{WAKE_SEATS}
@@ -7,8 +7,7 @@ use Rattle.futures_buffered_table.specs.declared.view.Role.{Role}
 use Rattle.futures_buffered_table.specs.declared.view.Role.TheVariants.{Swapped}
 use Rattle.futures_buffered_table.specs.declared.view.View.{View}
 use Rattle.futures_buffered_table.proofs.ScheduleLemmas.{IsReachable, pending}
-use Rattle.futures_buffered_lost_wakeup.specs.Scene.{Scene, set_errand, with_errand}
-use Rattle.futures_buffered_lost_wakeup.specs.Scene.{Errand, Rests, Inside, Wakes}
+use Rattle.futures_buffered_lost_wakeup.specs.Scene.{Scene, set_errand, with_errand, Errand, Rests, Inside, Wakes}
 use Rattle.futures_buffered_lost_wakeup.specs.Scene.{Place, Bare, Keeps, WakeHas, PollerHas, BesideHas}
 use Rattle.futures_buffered_lost_wakeup.specs.Scene.{Turn, Parked, Registers, TakesBack, Asks, LaysOut}
 use Rattle.futures_buffered_lost_wakeup.specs.LostWake.{IsAtStart}
@@ -112,20 +111,7 @@ pub way_of_wakes : (errands : ℕ → Errand) → SomeWakes errands → OnItsWay
 way_of_wakes errands some_wakes = (some_wakes.0, λ z. let c : Wakes ≡ Rests = sym some_wakes.1 ∙ z in cc)
 
 pub armed_else : (n : ℕ) (s : Scene) (seat : ℕ) (errand : Errand) → s.errands seat ≢ Wakes → ArmedIn s.turn s → ArmedIn s.turn (with_errand s seat errand)
-armed_else n s seat errand ne = by_turn s.turn
-  where
-    once : Armed s → Armed (with_errand s seat errand)
-    once (inl woken) = inl woken
-    once (inr (inl has)) = inr (inl has)
-    once (inr (inr wakes)) = inr (inr (wakes_else s.errands seat errand ne wakes))
-
-    by_turn : (turn : Turn) → ArmedIn turn s → ArmedIn turn (with_errand s seat errand)
-    by_turn Parked a = once a
-    by_turn Registers a = tt
-    by_turn TakesBack a = tt
-    by_turn Asks (inl own) = inl own
-    by_turn Asks (inr a) = inr (once a)
-    by_turn LaysOut a = tt
+armed_else n s seat errand ne = grind arith
 
 -- a task that sleeps though it is armed, with no waker at the place: some wake is on its way, and it is not this one; or a source beside lets the waker go
 pub way_by_another : (s : Scene) (seat : ℕ) → Holds s.place s.errands → s.errands seat ≢ Inside → s.errands seat ≢ Wakes → s.place ≢ Keeps → s.woken ≡ false → Armed s → Busy (with_errand s seat Rests)
@@ -158,10 +144,3 @@ errand_kept n s kept seat errand not_inside not_wakes seen = record {
 
 pub armed_parked : (n : ℕ) (s : Scene) → IsKept n s → s.turn ≡ Parked → Armed s
 armed_parked n s kept parked = subst (λ (turn : Turn). ArmedIn turn s) parked kept.armed
-
-pub armed_woken : (turn : Turn) (s : Scene) → s.woken ≡ true → ArmedIn turn s
-armed_woken Parked s woken = inl woken
-armed_woken Registers s woken = tt
-armed_woken TakesBack s woken = tt
-armed_woken Asks s woken = inr (inl woken)
-armed_woken LaysOut s woken = tt

@@ -7,3 +7,4 @@ pub mod MergeBoundedPushesLemmas
 pub mod MergeUnboundedPushesLemmas
 pub mod InFlightMergeLemmas
 pub mod WaitingMergeLemmas
+pub mod MergeStreamLemmas

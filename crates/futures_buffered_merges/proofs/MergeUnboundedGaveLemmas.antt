@@ -8,13 +8,15 @@ use Rattle.futures.specs.declared.task.Poll.TheVariants.{Ready, Pending}
 use Rattle.futures_buffered_table.specs.declared.answer.Woke.{Woke}
 use Rattle.futures_buffered_core.specs.ReadySource.{SourceSteps}
 use Rattle.futures_buffered_unordered.specs.FuturesUnorderedBounded.{Bounded}
-use Rattle.futures_buffered_unordered.specs.Groups.{Groups, Turn, TakesTurn, AsksLast, AsksAll, GroupsGive, ended, is_end, staying, GaveNoOutput, NotAsked, NoOutput}
+use Rattle.futures_buffered_unordered.specs.Groups.{Groups, Turn, AsksLast, AsksAll, GroupsGive, ended, is_end, staying, NoOutput}
 use Rattle.futures_buffered_merges.specs.SlotStream.{items_in}
 use Rattle.futures_buffered_merges.specs.Merging.{MergeGives}
 use Rattle.futures_buffered_merges.specs.MergeBounded.{StreamsGave}
 use Rattle.futures_buffered_unordered.specs.Interleaves.{Interleaves}
-use Rattle.futures_buffered_merges.specs.MergeUnbounded.{HoldsNone, GroupsGave, KeepsOrderInGroups}
+use Rattle.futures_buffered_merges.specs.MergeUnbounded.{HoldsNone, GroupsGave, GroupsPolled, KeepsOrderInGroups}
 use Rattle.futures_buffered_merges.proofs.MergeBoundedLemmas.{streams_none, streams_on, item_gave, pending_gave, end_gave}
+use Rattle.futures_buffered_unordered.proofs.GroupsLemmas.{TakesTurn, GaveNoOutput, NotAsked}
+use Rattle.futures_buffered_merges.proofs.MergeUnboundedLemmas.{groups_give}
 
 -- the items of one list, and then those of the other
 pub interleaves_append : {A : Type 0} (xs ys : List A) → Interleaves xs ys (xs ++ ys)
@@ -112,10 +114,10 @@ turned [] ys zs e short = sym (append-nil ys) ∙ e
 turned (x ∷ xs) [] zs e short = append-nil (x ∷ xs) ∙ e
 turned (x ∷ xs) (y ∷ ys) zs e short = absurd (omega (arith, short, ap length e, length-append ys (x ∷ xs)))
 
-module _ {X A : Type 0} (asks : X → Poll (Option A) → X → Type 0) where
+module _ {X A : Type 0} (asks : Bool → X → Poll (Option A) → X → Type 0) where
   -- the items of all turns are that of the group asked last
-  last_given : (old new : Groups X) (turns : List (Turn X A)) (last : Poll (Option A)) (not_asked : List (ℕ × Turn X A)) → AsksLast asks old turns last not_asked new → all_given turns ≡ given_by (Some last)
-  last_given old new turns last not_asked h =
+  last_given : (old new : Groups X) (stopped : Bool) (turns : List (Turn X A)) (last : Poll (Option A)) (not_asked : List (ℕ × Turn X A)) → AsksLast asks old turns last not_asked stopped new → all_given turns ≡ given_by (Some last)
+  last_given old new stopped turns last not_asked h =
       let numbered = enumerate_from 0 turns in
       let before = take old.place numbered in
       let behind = drop old.place numbered in
@@ -129,25 +131,25 @@ module _ {X A : Type 0} (asks : X → Poll (Option A) → X → Type 0) where
 
 module _ {F A S : Type 0} (polled : ℕ → F → Poll (Option A) → F → Type 0) (steps : SourceSteps S) (marks : S → ℕ → Woke → S → Type 0) where
   -- one turn of one group
-  turn_gave : (group left : Bounded F S) (o : Option (Poll (Option A))) → MatchOption o (left ≡ group) (λ answer. MergeGives polled steps marks group answer left) → (given : List (ℕ × A)) × (given_by o ≡ seconds given) × StreamsGave polled group.slots given left.slots
-  turn_gave group left None h = ([], refl, subst (λ (b : Bounded F S). StreamsGave polled group.slots [] b.slots) (sym h) (streams_none polled group.slots))
-  turn_gave group left (Some (Ready (Some x))) h = let gave = item_gave polled steps marks group left x h in ((gave.0, x) ∷ [], refl, gave.1)
-  turn_gave group left (Some (Ready None)) h = ([], refl, (end_gave polled steps marks group left h).1)
-  turn_gave group left (Some Pending) h = ([], refl, pending_gave polled steps marks group left h)
+  turn_gave : (group left : Bounded F S) (b : Bool) (o : Option (Poll (Option A))) → MatchOption o ((left ≡ group) × (b ≡ false)) (λ answer. MergeGives polled steps marks group answer left) → (given : List (ℕ × A)) × (given_by o ≡ seconds given) × StreamsGave polled group.slots given left.slots
+  turn_gave group left b None h = ([], refl, subst (λ (b : Bounded F S). StreamsGave polled group.slots [] b.slots) (sym h.0) (streams_none polled group.slots))
+  turn_gave group left b (Some (Ready (Some x))) h = let gave = item_gave polled steps marks group left x h in ((gave.0, x) ∷ [], refl, gave.1)
+  turn_gave group left b (Some (Ready None)) h = ([], refl, (end_gave polled steps marks group left h).1)
+  turn_gave group left b (Some Pending) h = ([], refl, pending_gave polled steps marks group left h)
 
-  ended_none : (group left : Bounded F S) (o : Option (Poll (Option A))) → MatchOption o (left ≡ group) (λ answer. MergeGives polled steps marks group answer left) → is_end o ≡ true → HoldsNone left.slots
-  ended_none group left None h e = absurd (true≢false (sym e))
-  ended_none group left (Some Pending) h e = absurd (true≢false (sym e))
-  ended_none group left (Some (Ready None)) h e = (end_gave polled steps marks group left h).0
-  ended_none group left (Some (Ready (Some x))) h e = absurd (true≢false (sym e))
+  ended_none : (group left : Bounded F S) (b : Bool) (o : Option (Poll (Option A))) → MatchOption o ((left ≡ group) × (b ≡ false)) (λ answer. MergeGives polled steps marks group answer left) → is_end o ≡ true → HoldsNone left.slots
+  ended_none group left b None h e = absurd (true≢false (sym e))
+  ended_none group left b (Some Pending) h e = absurd (true≢false (sym e))
+  ended_none group left b (Some (Ready None)) h e = (end_gave polled steps marks group left h).0
+  ended_none group left b (Some (Ready (Some x))) h e = absurd (true≢false (sym e))
 
   -- the turns of all groups
-  turns_gave : (groups : List (Bounded F S)) (turns : List (Turn (Bounded F S) A)) → AllZip (TakesTurn (MergeGives polled steps marks)) groups turns → GroupsGave polled groups (all_given turns) (staying turns)
+  turns_gave : (groups : List (Bounded F S)) (turns : List (Turn (Bounded F S) A)) → AllZip (TakesTurn (λ _. MergeGives polled steps marks)) groups turns → GroupsGave polled groups (all_given turns) (staying turns)
   turns_gave [] [] zip = (refl, refl)
   turns_gave [] (t ∷ ts) zip = absurd zip
   turns_gave (g ∷ gs) [] zip = absurd zip
   turns_gave (g ∷ []) (t ∷ []) zip =
-      let gave = turn_gave g t.left t.answer zip.0 in
+      let gave = turn_gave g t.left t.stopped t.answer zip.0 in
       (t.left, gave.0, gave.2, [], [], (refl, refl), rw gave.1 (interleaves_append (seconds gave.0) []), inl refl)
   turns_gave (g ∷ h ∷ gs) (t ∷ []) zip = absurd zip.1
   turns_gave (g ∷ []) (t ∷ u ∷ ts) zip = absurd zip.1
@@ -155,25 +157,28 @@ module _ {F A S : Type 0} (polled : ℕ → F → Poll (Option A) → F → Type
     where
       by_end : (b : Bool) → ended t ≡ b → GroupsGave polled (h ∷ gs) (all_given (u ∷ ts)) (staying (u ∷ ts)) → GroupsGave polled (g ∷ h ∷ gs) (all_given (t ∷ u ∷ ts)) (cond b (staying (u ∷ ts)) (t.left ∷ staying (u ∷ ts)))
       by_end true e rest =
-          let gave = turn_gave g t.left t.answer zip.0 in
-          (t.left, gave.0, gave.2, all_given (u ∷ ts), staying (u ∷ ts), rest, rw gave.1 (interleaves_append (seconds gave.0) (all_given (u ∷ ts))), inr (refl, ended_none g t.left t.answer zip.0 e))
+          let gave = turn_gave g t.left t.stopped t.answer zip.0 in
+          (t.left, gave.0, gave.2, all_given (u ∷ ts), staying (u ∷ ts), rest, rw gave.1 (interleaves_append (seconds gave.0) (all_given (u ∷ ts))), inr (refl, ended_none g t.left t.stopped t.answer zip.0 e))
       by_end false e rest =
-          let gave = turn_gave g t.left t.answer zip.0 in
+          let gave = turn_gave g t.left t.stopped t.answer zip.0 in
           (t.left, gave.0, gave.2, all_given (u ∷ ts), staying (u ∷ ts), rest, rw gave.1 (interleaves_append (seconds gave.0) (all_given (u ∷ ts))), inl refl)
 
   -- one poll
-  asked_gave : (old new : Groups (Bounded F S)) (turns : List (Turn (Bounded F S) A)) (last : Poll (Option A)) (not_asked : List (ℕ × Turn (Bounded F S) A)) → AsksLast (MergeGives polled steps marks) old turns last not_asked new → GroupsGave polled old.listed (given_by (Some last)) new.listed
-  asked_gave old new turns last not_asked h =
-      rw h.leaves (subst (λ (l : List A). GroupsGave polled old.listed l (staying turns)) (last_given (MergeGives polled steps marks) old new turns last not_asked h) (turns_gave old.listed turns h.each))
+  asked_gave : (old new : Groups (Bounded F S)) (stopped : Bool) (turns : List (Turn (Bounded F S) A)) (last : Poll (Option A)) (not_asked : List (ℕ × Turn (Bounded F S) A)) → AsksLast (λ _. MergeGives polled steps marks) old turns last not_asked stopped new → GroupsGave polled old.listed (given_by (Some last)) new.listed
+  asked_gave old new stopped turns last not_asked h =
+      rw h.leaves (subst (λ (l : List A). GroupsGave polled old.listed l (staying turns)) (last_given (λ _. MergeGives polled steps marks) old new stopped turns last not_asked h) (turns_gave old.listed turns h.each))
 
-  all_gave : (old new : Groups (Bounded F S)) (b : Bool) → AsksAll (MergeGives polled steps marks) old b new → GroupsGave polled old.listed [] new.listed
-  all_gave old new b h = subst (λ (l : List A). GroupsGave polled old.listed l new.listed) (none_given (Some h.1) h.2) (asked_gave old new h.0 h.1 [] h.3)
+  all_gave : (old new : Groups (Bounded F S)) (b stopped : Bool) → AsksAll (λ _. MergeGives polled steps marks) old b stopped new → GroupsGave polled old.listed [] new.listed
+  all_gave old new b stopped h = subst (λ (l : List A). GroupsGave polled old.listed l new.listed) (none_given (Some h.1) h.2) (asked_gave old new stopped h.0 h.1 [] h.3)
 
-  pub poll_gave : (old new : Groups (Bounded F S)) (answer : Poll (Option A)) → GroupsGive (MergeGives polled steps marks) old answer new → GroupsGave polled old.listed (given_by (Some answer)) new.listed
-  poll_gave old new (Ready (Some x)) h = asked_gave old new h.0 (Ready (Some x)) h.1 h.2
-  poll_gave old new (Ready None) (inl h) = rw (h.1, h.0) (refl, refl)
-  poll_gave old new (Ready None) (inr h) = all_gave old new true h
-  poll_gave old new Pending h = all_gave old new false h
+  given_of : (old new : Groups (Bounded F S)) (stopped : Bool) (answer : Poll (Option A)) → GroupsGive (λ _. MergeGives polled steps marks) old answer stopped new → GroupsGave polled old.listed (given_by (Some answer)) new.listed
+  given_of old new stopped (Ready (Some x)) h = asked_gave old new stopped h.0 (Ready (Some x)) h.1 h.2
+  given_of old new stopped (Ready None) (inl h) = rw (h.1, h.0) (refl, refl)
+  given_of old new stopped (Ready None) (inr h) = all_gave old new true stopped h
+  given_of old new stopped Pending h = all_gave old new false stopped h
+
+  pub poll_gave : (old new : Groups (Bounded F S)) (answer : Poll (Option A)) → GroupsPolled polled steps marks old answer new → GroupsGave polled old.listed (given_by (Some answer)) new.listed
+  poll_gave old new answer h = given_of old new h.0 answer (groups_give polled steps marks old new h.0 answer h.1)
 
   -- many polls
   pub one_more : (answer : Poll (Option A)) (answers : List (Poll (Option A))) → given_by (Some answer) ++ items_in answers ≡ items_in (answer ∷ answers)

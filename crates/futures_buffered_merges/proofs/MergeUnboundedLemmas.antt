@@ -1,5 +1,5 @@
 -- What one poll makes of the groups of a merge.
-use Rattle.std.proofs.Common.{◌≡◌, ℕ, ◌<◌, ◌≤◌, ◌↔◌, List, [], ◌∷◌, Option, Some, None, IfSome, IfNone, sym, ap, subst, arith, ◌∙◌}
+use Rattle.std.proofs.Common.{◌≡◌, ℕ, Bool, ◌<◌, ◌≤◌, ◌↔◌, List, [], ◌∷◌, Option, Some, None, IfSome, IfNone, sym, ap, subst, arith, ◌∙◌}
 use Rattle.std.specs.List.{FoldsTo}
 use Rattle.futures.specs.Poll.{IfReady, OnPending}
 use Rattle.futures.specs.Runs.{After, Within}
@@ -18,9 +18,9 @@ use Rattle.futures_buffered_unordered.specs.FuturesUnordered.{held_in_all, EachC
 use Rattle.futures_buffered_unordered.specs.FuturesUnorderedInvariant.{KeepsGroup}
 use Rattle.futures_buffered_unordered.proofs.FuturesUnorderedInvariantLemmas.{alike_self, alike_on}
 use Rattle.futures_buffered_unordered.proofs.FuturesUnorderedLemmas.{covered_of}
-use Rattle.futures_buffered_unordered.proofs.FuturesUnorderedPollLemmas.{any_left, any_output, ends_empty}
+use Rattle.futures_buffered_unordered.proofs.FuturesUnorderedPollLemmas.{any_left, any_output, ends_empty, groups_told}
 use Rattle.futures_buffered_unordered.proofs.FuturesUnorderedBoundedLemmas.{passed_held}
-use Rattle.futures_buffered_merges.specs.Merging.{CountEnds, LastCount, MergeGives}
+use Rattle.futures_buffered_merges.specs.Merging.{CountEnds, LastCount, MergeAsks, MergeGives}
 use Rattle.futures_buffered_merges.specs.MergeUnbounded.{GroupMayGive, ItemsComeFromGroups}
 use Rattle.futures_buffered_merges.proofs.MergeBoundedLemmas.{value_of, rest_of, same_of, ended_of}
 
@@ -76,10 +76,20 @@ module _ {F A S : Type 0} (polled : ℕ → F → Poll (Option A) → F → Type
       let same : held_count left.slots ≡ held_count asks.2 = ap held_count gave.now_holds ∙ count-with asks.2 last.0 gave.value gave.left (sym gave.held) in
       omega (arith, h.last_count.0, ap (λ (b : Bounded F S). held_in b) last.4, same, passed_held polled asks.0 h.before.slots asks.2 asks.3.passes)
 
-  module _ (old new : Groups (Bounded F S)) where
+  -- a poll of groups, where it does not matter which of them stopped
+  asked_gives : (stopped : Bool) (old new : Bounded F S) (answer : Poll (Option A)) → MergeAsks polled steps marks stopped old answer new → MergeGives polled steps marks old answer new
+  asked_gives stopped old new (Ready o) h = record { ended = h.ended; before = h.before; counts = h.counts; last_count = h.last_count.0 }
+  asked_gives stopped old new Pending h =
+      let asks = h.last_count.1 in
+      record { ended = h.ended; before = h.before; counts = h.counts; last_count = (h.last_count.0, (asks.0, asks.1, asks.2, asks.4, asks.5)) }
+
+  pub groups_give : (old new : Groups (Bounded F S)) (stopped : Bool) (answer : Poll (Option A)) → GroupsGive (MergeAsks polled steps marks) old answer stopped new → GroupsGive (λ _. MergeGives polled steps marks) old answer stopped new
+  groups_give old new stopped answer h = groups_told (MergeAsks polled steps marks) (λ _. MergeGives polled steps marks) asked_gives old new stopped answer h
+
+  module _ (old new : Groups (Bounded F S)) (stopped : Bool) where
     -- the answer is the end where no stream is left
-    pub ends_of : (answer : Poll (Option A)) → GroupsGive (MergeGives polled steps marks) old answer new → (answer ≡ Ready None) ↔ (held_in_all new.listed ≡ 0)
-    ends_of answer h = ends_empty (MergeGives polled steps marks) end_held pending_held item_held old new answer h
+    pub ends_of : (answer : Poll (Option A)) → GroupsGive (λ _. MergeGives polled steps marks) old answer stopped new → (answer ≡ Ready None) ↔ (held_in_all new.listed ≡ 0)
+    ends_of answer h = ends_empty (MergeGives polled steps marks) end_held pending_held item_held old new stopped answer h
 
     -- the items that may come
     group_left : (y : A) (group left : Bounded F S) (answer : Poll (Option A)) → MergeGives polled steps marks group answer left → GroupMayGive polled left y → GroupMayGive polled group y
@@ -87,15 +97,15 @@ module _ {F A S : Type 0} (polled : ℕ → F → Poll (Option A) → F → Type
     group_left y group left (Ready None) h may = (may.0, ended_of polled steps marks group left h may.0 (Some y) may.1)
     group_left y group left Pending h may = (may.0, same_of polled steps marks group left Pending h may.0 (Some y) may.1)
 
-    still : (answer : Poll (Option A)) → GroupsGive (MergeGives polled steps marks) old answer new → (y : A) → AnyOf (λ (g : Bounded F S). GroupMayGive polled g y) new.listed → AnyOf (λ (g : Bounded F S). GroupMayGive polled g y) old.listed
-    still answer h y any = any_left (MergeGives polled steps marks) (λ (g : Bounded F S). GroupMayGive polled g y) (group_left y) old answer new h any
+    still : (answer : Poll (Option A)) → GroupsGive (λ _. MergeGives polled steps marks) old answer stopped new → (y : A) → AnyOf (λ (g : Bounded F S). GroupMayGive polled g y) new.listed → AnyOf (λ (g : Bounded F S). GroupMayGive polled g y) old.listed
+    still answer h y any = any_left (MergeGives polled steps marks) (λ (g : Bounded F S). GroupMayGive polled g y) (group_left y) old answer stopped new h any
 
-    pub group_value : (answer : Poll (Option A)) → GroupsGive (MergeGives polled steps marks) old answer new → IfReady answer (ItemsComeFromGroups polled old.listed [])
+    pub group_value : (answer : Poll (Option A)) → GroupsGive (λ _. MergeGives polled steps marks) old answer stopped new → IfReady answer (ItemsComeFromGroups polled old.listed [])
     group_value (Ready None) h = tt
-    group_value (Ready (Some x)) h = any_output (MergeGives polled steps marks) (λ (g : Bounded F S). GroupMayGive polled g x) old new x h (λ group left asked. ([], value_of polled steps marks group left (Ready (Some x)) asked))
+    group_value (Ready (Some x)) h = any_output (MergeGives polled steps marks) (λ (g : Bounded F S). GroupMayGive polled g x) old new stopped x h (λ group left asked. ([], value_of polled steps marks group left (Ready (Some x)) asked))
     group_value Pending h = tt
 
-    pub group_rest : (answer : Poll (Option A)) → GroupsGive (MergeGives polled steps marks) old answer new → IfReady answer (λ o. IfSome o (λ x. After (ItemsComeFromGroups polled old.listed) x (ItemsComeFromGroups polled new.listed)))
+    pub group_rest : (answer : Poll (Option A)) → GroupsGive (λ _. MergeGives polled steps marks) old answer stopped new → IfReady answer (λ o. IfSome o (λ x. After (ItemsComeFromGroups polled old.listed) x (ItemsComeFromGroups polled new.listed)))
     group_rest (Ready None) h = tt
     group_rest (Ready (Some x)) h = after
       where
@@ -104,7 +114,7 @@ module _ {F A S : Type 0} (polled : ℕ → F → Poll (Option A) → F → Type
         after items (Some y) run = still (Ready (Some x)) h y run
     group_rest Pending h = tt
 
-    pub group_same : (answer : Poll (Option A)) → GroupsGive (MergeGives polled steps marks) old answer new → OnPending answer (Within (ItemsComeFromGroups polled old.listed) (ItemsComeFromGroups polled new.listed))
+    pub group_same : (answer : Poll (Option A)) → GroupsGive (λ _. MergeGives polled steps marks) old answer stopped new → OnPending answer (Within (ItemsComeFromGroups polled old.listed) (ItemsComeFromGroups polled new.listed))
     group_same (Ready o) h = tt
     group_same Pending h = within
       where

@@ -5,11 +5,11 @@ use Rattle.std.proofs.lemmas.Bool.{cases_lt}
 use Rattle.std.proofs.lemmas.List.{append-nil, append_assoc, map-append, get_or-replicate, get_or_past, length-replicate}
 use Rattle.futures.specs.Runs.{seconds}
 use Rattle.futures.specs.declared.task.Poll.{Poll}
-use Rattle.futures_buffered_core.specs.SlotMap.{Slots, Inserts, no_slots, value_in}
+use Rattle.futures_buffered_core.specs.SlotMap.{Slots, Inserts, no_slots, slot_count, value_in}
 use Rattle.futures_buffered_table.specs.declared.answer.Woke.{Woke}
 use Rattle.futures_buffered_core.specs.ReadySource.{SourceSteps}
-use Rattle.futures_buffered_unordered.specs.FuturesUnorderedBounded.{Bounded, IsNewSet}
-use Rattle.futures_buffered_unordered.specs.FuturesUnordered.{Growing, GrowingPushes, IsChosen}
+use Rattle.futures_buffered_unordered.specs.FuturesUnorderedBounded.{Bounded, IsNewSet, held_in}
+use Rattle.futures_buffered_unordered.specs.FuturesUnordered.{Growing, GrowingPushes, next_capacity, spare_places}
 use Rattle.futures_buffered_unordered.specs.declared.futures_unordered.TheConstants.{FIRST_GROUP}
 use Rattle.futures_buffered_merges.specs.SlotStream.{items_in}
 use Rattle.futures_buffered_merges.specs.MergeBounded.{answered, pushed, answers_of, streams_of}
@@ -102,7 +102,7 @@ module _ {F A S : Type 0} (polled : ℕ → F → Poll (Option A) → F → Type
           after_push polled (slots_of_each h.before) h.into.slots h.pushed_into.slots added (slots_of_each new.groups.listed) push.0 stream items streams push.1.inserted
           (subst (λ (groups : List (Slots F)). GroupsGaveInTurn polled groups items streams (slots_of_each new.groups.listed)) (ap (λ (l : List (Bounded F S)). slots_of_each l ++ added) h.now_listed ∙ listed_with h.before h.pushed_into added) gave)
 
-      by_group : IsChosen made FIRST_GROUP old.limit old.groups.listed h.before h.into → Kept old items (stream ∷ streams) new
+      by_group : ((old.groups.listed ≡ h.before ++ h.into ∷ []) × (held_in h.into < slot_count h.into.slots)) ⊎ ((old.groups.listed ≡ h.before) × (spare_places h.before ≡ 0) × IsNewSet made (next_capacity FIRST_GROUP h.before) old.limit h.into) → Kept old items (stream ∷ streams) new
       by_group (inl last) = (
         added,
         none,

@@ -1,5 +1,5 @@
 -- From what the calls of a set leave to what one poll of its streams says.
-use Rattle.std.proofs.Common.{◌≡◌, ℕ, Bool, Option, Some, None, ◌<◌, ap, inl, inr, ◌∙◌}
+use Rattle.std.proofs.Common.{◌≡◌, ℕ, Bool, true, false, Option, Some, None, ◌<◌, ap, inl, inr, ◌∙◌}
 use Rattle.futures.specs.declared.task.context.Context.{Context}
 use Rattle.futures.specs.declared.task.Poll.{Poll}
 use Rattle.futures.specs.declared.task.Poll.TheVariants.{Ready, Pending}
@@ -8,6 +8,7 @@ use Rattle.futures_buffered_merges.specs.Merging.{CountGives, PollsStreamsTask, 
 use Rattle.futures_buffered_core.specs.SlotMap.{Slots, held_count}
 use Rattle.futures_buffered_core.specs.ReadySource.{SourceSteps}
 use Rattle.futures_buffered_unordered.specs.FuturesUnorderedBounded.{Bounded, AsksSetTask, AsksUntil, LeavesTask, MarksSlot, with_empty_slot, with_source}
+use Rattle.futures_buffered_unordered.specs.Groups.{WakesIf}
 use Rattle.futures_buffered_unordered.proofs.FuturesUnorderedBoundedLemmas.{registers_more}
 
 -- two sets that differ in their source alone
@@ -36,6 +37,10 @@ unless_more registers_poll is_registered old mid new before then =
       leaves_alone = λ already. then.leaves_alone already ∙ before.leaves_alone already;
     }
 
+wakes_told : (registers told : Context → Context → Type 0) (cx left : Context) → (registers cx left → told cx left) → (stopped : Bool) → WakesIf stopped registers cx left → WakesIf stopped told cx left
+wakes_told registers told cx left tells true woken = woken
+wakes_told registers told cx left tells false quiet = tells quiet
+
 -- what one poll leaves of its task, where what registrations make of it is told otherwise
 pub polls_told : {F A S : Type 0} (polled : ℕ → F → Poll (Option A) → F → Type 0) (steps : SourceSteps S) (marks : S → ℕ → Woke → S → Type 0) (needs : S → ℕ → Type 0) (registers told : Context → Context → Type 0) (old : Bounded F S) (answer : Poll (Option A)) (new : Bounded F S) (cx left : Context) → (registers cx left → told cx left)
     → PollsStreamsTask polled steps marks needs registers old answer new cx left → PollsStreamsTask polled steps marks needs told old answer new cx left
@@ -43,7 +48,7 @@ polls_told polled steps marks needs registers told old (Ready o) new cx left tel
     record {
       covered = tt;
       woken = tt;
-      leaves = elim task.leaves [ inl empty ↦ inl (empty.0, tells empty.1) | inr part ↦ inr part ];
+      leaves = (task.leaves.0, task.leaves.1, wakes_told registers told cx left tells task.leaves.0 task.leaves.2);
       only_registered = tells task.only_registered;
       untouched = task.untouched;
       kept = task.kept;
@@ -52,7 +57,7 @@ polls_told polled steps marks needs registers told old Pending new cx left tells
     record {
       covered = task.covered;
       woken = elim task.woken [ inl woken ↦ inl woken | inr empty ↦ inr (empty.0, tells empty.1) ];
-      leaves = elim task.leaves [ inl empty ↦ inl (empty.0, tells empty.1) | inr part ↦ inr part ];
+      leaves = (task.leaves.0, task.leaves.1, wakes_told registers told cx left tells task.leaves.0 task.leaves.2);
       only_registered = tt;
       untouched = task.untouched;
       kept = task.kept;

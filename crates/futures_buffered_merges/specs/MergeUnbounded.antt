@@ -1,9 +1,12 @@
--- What may come from a merge that grows, and what its streams give over many polls.
-use Rattle.std.specs.Prelude.{◌≡◌, ◌↔◌, ℕ, List, [], ◌∷◌, ◌++◌, map, Option, Some, None, ◌⊎◌}
+-- One poll of a merge that grows, what may come from it, and what its streams give over many polls.
+-- `Merging` has the poll of a bounded one.
+use Rattle.std.specs.Prelude.{◌≡◌, ◌↔◌, ℕ, Bool, List, [], ◌∷◌, ◌++◌, map, Option, Some, None, ◌⊎◌}
 use Rattle.std.specs.List.{FoldsTo, AllByRecursion}
 use Rattle.futures.specs.declared.task.context.Context.{Context}
 use Rattle.futures.specs.declared.task.Poll.{Poll}
 use Rattle.futures.specs.declared.task.Poll.TheVariants.{Ready}
+use Rattle.futures.specs.Poll.{OnPending}
+use Rattle.futures.specs.Task.{Covers}
 use Rattle.futures.specs.Runs.{Runs, ItemsWhere, seconds}
 use Rattle.futures_buffered_core.specs.SlotMap.{Slots, value_in}
 use Rattle.futures_buffered_table.specs.declared.answer.Woke.{Woke}
@@ -13,12 +16,12 @@ use Rattle.futures_buffered_unordered.specs.declared.ask_group.AskGroup.{Ghosts 
 use Rattle.futures_buffered_unordered.specs.FuturesUnorderedBounded.{Bounded, OnlyRegisters}
 use Rattle.futures_buffered_unordered.specs.Interleaves.{Interleaves}
 use Rattle.futures_buffered_unordered.specs.Groups.{AnyOf, Groups, GroupsGive}
-use Rattle.futures_buffered_unordered.specs.FuturesUnordered.{Growing, GrowingPushes, held_in_all}
+use Rattle.futures_buffered_unordered.specs.FuturesUnordered.{AnyNeeds, Growing, GrowingPushes, held_in_all}
 use Rattle.futures_buffered_unordered.specs.PollsGrowing.{PollsGroups}
 use Rattle.futures_buffered_unordered.specs.declared.futures_unordered.TheConstants.{FIRST_GROUP}
 use Rattle.futures_buffered_merges.specs.SlotStream.{items_in}
 use Rattle.futures_buffered_merges.specs.declared.slot_stream.SlotStream.{Ghosts as SlotStreamOf}
-use Rattle.futures_buffered_merges.specs.Merging.{MergeAsksToEmpty, MergeGives, MergeStops}
+use Rattle.futures_buffered_merges.specs.Merging.{MergeAsks}
 use Rattle.futures_buffered_merges.specs.MergeBounded.{StreamsGave, ComesFromStreams}
 use Rattle.futures_buffered_merges.specs.MergeBounded.{SlotsGaveInTurn, MergeEvent, answered}
 use Rattle.futures_buffered_merges.specs.MergeBounded.{pushed, answers_of, streams_of}
@@ -48,12 +51,19 @@ module _ {F A S : Type 0} (polled : ℕ → F → Poll (Option A) → F → Type
       × Interleaves (seconds given) others items
       × ((new ≡ left ∷ listed) ⊎ ((new ≡ listed) × HoldsNone left.slots))
 
+-- one poll of groups of streams, whether or not one of them stopped
+abbrev pub GroupsPolled : {F A S : Type 0} → (ℕ → F → Poll (Option A) → F → Type 0)
+    → SourceSteps S → (S → ℕ → Woke → S → Type 0)
+    → Groups (Bounded F S) → Poll (Option A) → Groups (Bounded F S) → Type 0
+GroupsPolled polled steps marks old answer new = (stopped : Bool)
+    × GroupsGive (MergeAsks polled steps marks) old answer stopped new
+
 -- After any polls the items of the answers are all that the streams gave.
 abbrev pub KeepsOrderInGroups : {F A S : Type 0} → (ℕ → F → Poll (Option A) → F → Type 0)
     → SourceSteps S → (S → ℕ → Woke → S → Type 0) → Type 0
 KeepsOrderInGroups {F} {A} {S} polled steps marks = (old new : Groups (Bounded F S))
     (answers : List (Poll (Option A)))
-    → FoldsTo (GroupsGive (MergeGives polled steps marks)) old answers new
+    → FoldsTo (GroupsPolled polled steps marks) old answers new
     → GroupsGave polled old.listed (items_in answers) new.listed
 
 -- what the slots of each group hold
@@ -85,7 +95,7 @@ module _
     -- one poll, or one push
     abbrev pub HappensInGroups : Growing F S → MergeEvent F A → Growing F S → Type 0
     HappensInGroups old (answered answer) new =
-        GroupsGive (MergeGives polled steps marks) old.groups answer new.groups
+        GroupsPolled polled steps marks old.groups answer new.groups
     HappensInGroups old (pushed stream) new =
         GrowingPushes marks made FIRST_GROUP old stream new
 
@@ -108,9 +118,7 @@ module _
     abbrev pub as_merge : AskGroupOf (Unit {0}) St S A (Unit {0}) W
     as_merge = record {
       can_poll = stream.can_poll;
-      asks = MergeGives stream.polled source.steps source.marks;
-      asks_to_empty = MergeAsksToEmpty stream.polled source.steps source.marks;
-      stops = MergeStops stream.polled source.steps source.marks;
+      asks = MergeAsks stream.polled source.steps source.marks;
       passes = OnlyRegisters source.registers_poll;
     }
 
@@ -121,7 +129,11 @@ module _
         (new : Growing St S)
         (cx left : Context)
         : Type 0 where
-      -- the groups were asked in turn, and left the task
+      -- what came, where the next poll begins, who is woken, who waits where, and what may be polled
+      -- again
       pub groups : PollsGroups as_merge source old answer new cx left
       -- the end comes exactly where no stream is left after the poll
       pub ends : (answer ≡ Ready None) ↔ (held_in_all new.groups.listed ≡ 0)
+      -- who waits where, as a stream: the task of a pending merge hears of each group that holds a
+      -- stream
+      pub registered : OnPending answer (Covers left (AnyNeeds source.needs new.groups.listed))

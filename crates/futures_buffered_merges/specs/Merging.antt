@@ -1,5 +1,5 @@
 -- One poll of the streams that a set holds, of which a merge is made.
-use Rattle.std.specs.Prelude.{◌≡◌, ◌⊎◌, ℕ, ◌<◌, ◌≤◌, Bool, IsTrue, List, Option, Some, None}
+use Rattle.std.specs.Prelude.{◌≡◌, ◌⊎◌, ℕ, ◌<◌, ◌≤◌, Bool, false, IsTrue, List, Option, Some, None}
 use Rattle.std.specs.Prelude.{IfNone, OnSome}
 use Rattle.std.specs.List.{FoldsTo}
 use Rattle.futures.specs.Poll.{IfReady, OnPending}
@@ -7,17 +7,16 @@ use Rattle.futures.specs.Task.{Covers, Keeps}
 use Rattle.futures.specs.declared.task.context.Context.{Context}
 use Rattle.futures.specs.declared.task.Poll.{Poll}
 use Rattle.futures.specs.declared.task.Poll.TheVariants.{Ready, Pending}
-use Rattle.futures_buffered_core.specs.SlotMap.{held_count, slot_count}
+use Rattle.futures_buffered_core.specs.SlotMap.{held_count, slot_count, with_slot_freed}
 use Rattle.futures_buffered_table.specs.declared.answer.Woke.{Woke}
 use Rattle.futures_buffered_core.specs.ReadySource.{SourceSteps}
 use Rattle.futures_buffered_core.specs.declared.ready_source.ReadySource.{Ghosts as ReadySourceOf}
 pub use Rattle.futures_buffered_merges.specs.declared.slot_stream.SlotStream.{Ghosts as SlotStreamOf}
-use Rattle.futures_buffered_unordered.specs.FuturesUnorderedBounded.{Bounded, AsksUntil, MarksSlot}
-use Rattle.futures_buffered_unordered.specs.FuturesUnorderedBounded.{AsksInPart, AsksToEmpty}
+use Rattle.futures_buffered_unordered.specs.FuturesUnorderedBounded.{Bounded, AsksUntil}
+use Rattle.futures_buffered_unordered.specs.FuturesUnorderedBounded.{AsksNone}
 use Rattle.futures_buffered_unordered.specs.FuturesUnorderedBounded.{IsWoken, OnlyRegisters}
 use Rattle.futures_buffered_unordered.specs.FuturesUnorderedBounded.{SaidEmpty, held_in, slots_in}
-use Rattle.futures_buffered_unordered.specs.FuturesUnorderedBounded.{with_empty_slot, with_source}
-use Rattle.futures_buffered_unordered.specs.Groups.{GroupLeavesTask}
+use Rattle.futures_buffered_unordered.specs.Groups.{WakesIf}
 use Rattle.futures_buffered_unordered.specs.Held.{AllHeld}
 
 module _
@@ -26,23 +25,23 @@ module _
     (steps : SourceSteps S)
     (marks : S → ℕ → Woke → S → Type 0)
   where
-    -- one count of names, which ended with the end of the stream of slot i: that stream is dropped,
-    -- and its slot is the first free one
+    -- One count of names, of which slot i was named last and its stream answered the end: that stream
+    -- is dropped, and its slot is the first free one.
     abbrev pub CountEnds : Bounded F S → ℕ → Bounded F S → Type 0
     CountEnds old i new = (0 < held_count old.slots)
         × ((left : Bounded F S)
         × AsksUntil polled steps old (Ready (i, None)) left
-        × (new ≡ with_empty_slot left i))
+        × (new ≡ record left { slots = with_slot_freed left.slots i }))
 
     -- The last count. An item: its stream stays as the poll left it, and its slot is marked.
-    -- Pending: no further name came, or the limit was reached. None: no stream is held, and nothing
-    -- was asked.
+    -- Pending: no further name came, the source paused, or the limit was reached. None: no stream is
+    -- held, and nothing was asked.
     abbrev pub LastCount : Bounded F S → Poll (Option A) → Bounded F S → Type 0
     LastCount old (Ready (Some x)) new = (0 < held_count old.slots)
         × ((i : ℕ) × (left : Bounded F S)
         × AsksUntil polled steps old (Ready (i, Some x)) left
-        × MarksSlot marks left.source i new.source
-        × (new ≡ with_source left new.source))
+        × ((woke : Woke) × marks left.source i woke new.source)
+        × (new ≡ record left { source = new.source }))
     LastCount old Pending new =
         (0 < held_count old.slots) × AsksUntil polled steps old Pending new
     LastCount old (Ready None) new = (held_count old.slots ≡ 0) × (new ≡ old)
@@ -53,11 +52,11 @@ module _
     CountGives old (Ready None) new = (i : ℕ) × CountEnds old i new
     CountGives old Pending new = LastCount old Pending new
 
-    -- the last count, which is pending only where no further name came
-    abbrev pub LastCountToEmpty : Bounded F S → Poll (Option A) → Bounded F S → Type 0
-    LastCountToEmpty old (Ready o) new = LastCount old (Ready o) new
-    LastCountToEmpty old Pending new =
-        (0 < held_count old.slots) × AsksToEmpty polled steps old new
+    -- the last count, and whether it stopped though a further name may come
+    abbrev pub LastAsks : Bool → Bounded F S → Poll (Option A) → Bounded F S → Type 0
+    LastAsks stopped old (Ready o) new = LastCount old (Ready o) new × (stopped ≡ false)
+    LastAsks stopped old Pending new =
+        (0 < held_count old.slots) × AsksNone polled steps stopped old new
 
     -- counts that ended the streams of these slots, and then a last count
     pub record CountsThen
@@ -75,16 +74,9 @@ module _
     abbrev pub MergeGives : Bounded F S → Poll (Option A) → Bounded F S → Type 0
     MergeGives = CountsThen LastCount
 
-    -- one poll, which is pending only where no further name came
-    abbrev pub MergeAsksToEmpty : Bounded F S → Poll (Option A) → Bounded F S → Type 0
-    MergeAsksToEmpty = CountsThen LastCountToEmpty
-
-    -- one poll that gave no item and stopped though a further name may come
-    abbrev pub MergeStops : Bounded F S → Bounded F S → Type 0
-    MergeStops old new = (ended : List ℕ)
-        × (before : Bounded F S)
-        × FoldsTo CountEnds old ended before
-        × AsksInPart polled steps before new
+    -- one poll, and whether it stopped though a further name may come
+    abbrev pub MergeAsks : Bool → Bounded F S → Poll (Option A) → Bounded F S → Type 0
+    MergeAsks stopped = CountsThen (LastAsks stopped)
 
     -- What one poll leaves of its task, which it took from cx to left: `registers` says what
     -- registrations make of a task.
@@ -103,7 +95,8 @@ module _
       pub woken : OnPending answer
           (IsWoken left ⊎ (SaidEmpty steps new.source × registers cx left))
       -- where no further name came it was registered, and else asked to poll again
-      pub leaves : GroupLeavesTask MergeAsksToEmpty MergeStops registers old answer new cx left
+      pub leaves : (stopped : Bool) × MergeAsks stopped old answer new
+          × WakesIf stopped registers cx left
       -- a poll that is ready only registered it
       pub only_registered : IfReady answer (λ _. registers cx left)
       -- where no stream is held the poll leaves it alone
@@ -185,18 +178,18 @@ pub record PollsMergeBounded
     (cx left : Context)
     : Type 0 where
   -- what came: counts of names that each came to the end of one stream, which is dropped, and then
-  -- the last count
+  -- the last count; the stream of an item stays, and its slot is marked again
   pub gave : MergeGives stream.polled source.steps source.marks old answer new
-  -- who is woken: a pending poll that stopped at a pause or the limit asked the task to poll again;
-  -- any other at most registered it
-  pub leaves : GroupLeavesTask (MergeAsksToEmpty stream.polled source.steps source.marks)
-      (MergeStops stream.polled source.steps source.marks) (OnlyRegisters source.registers_poll)
-      old answer new cx left
-  -- a poll that is ready at most registered it, and where no stream was held it left it alone
+  -- who is woken, by the same poll told with whether it stopped: a pending one that stopped at a
+  -- pause or the limit asked the task to poll again; any other at most registered it
+  pub woken : (stopped : Bool)
+      × MergeAsks stream.polled source.steps source.marks stopped old answer new
+      × WakesIf stopped (OnlyRegisters source.registers_poll) cx left
+  -- a ready poll at most registered the task, and where no stream was held the task is as it was
   pub only_registered : IfReady answer (λ _. OnlyRegisters source.registers_poll cx left)
   pub untouched : held_in old ≡ 0 → left ≡ cx
-  -- what stays: no stream comes; after an item and where it is pending one is held, and after the
-  -- end none
+  -- what stays: no stream comes; after an item and where it is pending at least one is held, and
+  -- after the end none
   pub fewer : held_in new ≤ held_in old
   pub item : IfReady answer (λ o. OnSome o (0 < held_in new))
   pub pending : OnPending answer (0 < held_in new)

@@ -7,7 +7,6 @@ ghost use Rattle.std.specs.Prelude.{◌≡◌, ◌<◌, ◌≤◌, ◌↔◌, Is
 ghost use Rattle.futures_buffered_core.specs.Drawn.{IsFiniteSource, items_of};
 ghost use Rattle.futures_buffered_core.specs.ReadyShared.{IsNewShared, MarksShared};
 ghost use Rattle.futures_buffered_core.specs.SlotMap.{held_count, slot_count, IsFull};
-ghost use Rattle.futures_buffered_unordered.specs.StreamAnswers.{StreamAnswers};
 ghost use Rattle.futures_buffered_unordered.specs.Held.{AllHeld};
 ghost use Rattle.futures_buffered_unordered.specs.FuturesUnorderedBounded.{HoldsEach, Pushes, PushesIfRoom, PushesOne};
 ghost use Rattle.futures_buffered_unordered.specs.FuturesUnorderedBounded.{emptied, held_in, slots_in};
@@ -178,14 +177,12 @@ impl<St: SlotStream<S::Waker>, S: ReadySource> Stream for MergeBounded<St, S> {
     ///
     /// A stream that gives an item stays, and its slot is marked. A stream that ends is dropped, and where another is
     /// still held a new count begins. `Ready(None)` where no stream is held, at first or any more. `Pending` where no
-    /// further name came or a count reached the limit; where the source paused and at the limit the task is woken at
-    /// once. Takes no memory but what the calls of the source take, and time in proportion to the names taken, besides
-    /// the polls.
+    /// further name came, the source paused, or a count reached the limit; at a pause and at the limit the task is
+    /// woken at once. Takes no memory but what the calls of the source take, and time in proportion to the names taken,
+    /// besides the polls.
     fn poll_next(&mut self, cx: &mut Context<'_>) -> Poll<Option<St::Item>>
         requires { AllHeld St.can_poll self.old.slots }
-        ensures polls { PollsMergeBounded St.SlotStream S.ReadySource
-            self.old result self.new cx.old cx.new }
-        ensures stream { StreamAnswers ⟦<MergeBounded<St, S> as Stream>⟧
+        ensures { PollsMergeBounded St.SlotStream S.ReadySource
             self.old result self.new cx.old cx.new }
     {
         poll_streams(&mut self.set, cx, false)

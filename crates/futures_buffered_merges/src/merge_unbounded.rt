@@ -6,7 +6,6 @@
 ghost use Rattle.std.specs.Prelude.{◌≡◌, ◌↔◌, ◌≤◌, Err, IsTrue, IsErr, IfErr};
 ghost use Rattle.futures_buffered_core.specs.Drawn.{IsFiniteSource, items_of};
 ghost use Rattle.futures_buffered_core.specs.ReadyShared.{IsNewShared, MarksShared};
-ghost use Rattle.futures_buffered_unordered.specs.StreamAnswers.{StreamAnswers};
 ghost use Rattle.futures_buffered_unordered.specs.FuturesUnorderedBounded.{OnlyRegisters};
 ghost use Rattle.futures_buffered_unordered.specs.FuturesUnordered.{EachHeld, AnyNeeds, GrowingPushes};
 ghost use Rattle.futures_buffered_unordered.specs.FuturesUnordered.{IsAtBound};
@@ -14,7 +13,7 @@ ghost use Rattle.futures_buffered_unordered.specs.FuturesUnordered.{PushesOrStay
 ghost use Rattle.futures_buffered_unordered.specs.FuturesUnordered.{capacity_of};
 ghost use Rattle.futures_buffered_unordered.specs.FuturesUnordered.{SetMayRefuse, MakesPushed};
 ghost use Rattle.futures_buffered_unordered.specs.Extended.{Extends};
-ghost use Rattle.futures_buffered_merges.specs.Merging.{MergeAsksToEmpty, MergeGives, MergeStops};
+ghost use Rattle.futures_buffered_merges.specs.Merging.{MergeAsks};
 ghost use Rattle.futures_buffered_merges.specs.MergeUnbounded.{ItemsComeFromGroups, KeepsOrderInGroups};
 ghost use Rattle.futures_buffered_merges.specs.MergeUnbounded.{KeepsOrderInGroupsWithPushes};
 ghost use Rattle.futures_buffered_merges.specs.MergeUnbounded.{PollsMergeUnbounded};
@@ -65,11 +64,7 @@ impl<St: SlotStream<S::Waker>, S: NewSource> AskGroup<St, S> for AsMerge {
 
     ghost can_poll = { St.can_poll };
 
-    ghost asks = { MergeGives St.polled S.steps S.marks };
-
-    ghost asks_to_empty = { MergeAsksToEmpty St.polled S.steps S.marks };
-
-    ghost stops = { MergeStops St.polled S.steps S.marks };
+    ghost asks = { MergeAsks St.polled S.steps S.marks };
 
     ghost passes = { OnlyRegisters S.registers_poll };
 
@@ -218,9 +213,7 @@ impl<St: SlotStream<S::Waker>, S: NewSource> Stream for MergeUnbounded<St, S> {
     /// slots of groups that are dropped, besides the polls.
     fn poll_next(&mut self, cx: &mut Context<'_>) -> Poll<Option<St::Item>>
         requires { EachHeld St.can_poll self.old.groups.listed }
-        ensures polls { PollsMergeUnbounded St.SlotStream S.ReadySource
-            self.old result self.new cx.old cx.new }
-        ensures stream { StreamAnswers ⟦<MergeUnbounded<St, S> as Stream>⟧
+        ensures { PollsMergeUnbounded St.SlotStream S.ReadySource
             self.old result self.new cx.old cx.new }
     {
         self.set.poll_groups(&AsMerge, cx)

@@ -1,5 +1,5 @@
 -- How many futures with a number a set that grows holds, before and after its calls.
-use Rattle.std.proofs.Common.{◌≡◌, ℕ, ◌+◌, [], Option, Some, ap, inl, inr, arith, ◌∙◌}
+use Rattle.std.proofs.Common.{◌≡◌, ℕ, ◌+◌, Bool, [], Option, Some, ap, inl, inr, arith, ◌∙◌}
 use Rattle.std.specs.List.{sum_by}
 use Rattle.std.proofs.lemmas.List.Sums.{sum_by-cons}
 use Rattle.futures.specs.declared.task.context.Context.{Context}
@@ -13,7 +13,7 @@ use Rattle.futures_buffered_core.specs.declared.ready_source.ReadySource.{Ghosts
 use Rattle.futures_buffered_unordered.specs.declared.poll_one.PollOne.{Ghosts as PollOneOf}
 use Rattle.futures_buffered_unordered.specs.PollsGrowing.{PollsGrowing}
 use Rattle.futures_buffered_unordered.proofs.FuturesUnorderedLemmas.{new_holds_none}
-use Rattle.futures_buffered_unordered.proofs.FuturesUnorderedStreamLemmas.{gave, still}
+use Rattle.futures_buffered_unordered.proofs.FuturesUnorderedStreamLemmas.{gave, groups_give, still}
 use Rattle.futures_buffered_unordered.proofs.FuturesUnorderedPollLemmas.{sum_left}
 use Rattle.futures_buffered_ordered.specs.Numbered.{PollsNumbered, held_with, of_numbered, outputs_with}
 use Rattle.futures_buffered_ordered.specs.OrderedEntries.{OrderedGives}
@@ -24,8 +24,8 @@ use Rattle.futures_buffered_ordered.proofs.OrderedEntriesLemmas.{gives_alone}
 
 module _ {F A S : Type 0} (i : ℕ) (polled : ℕ → F → Poll A → F → Type 0) (steps : SourceSteps S) where
   -- one poll of all groups
-  pub numbers_left : (old new : Groups (Bounded (Numbered F) S)) (answer : Poll (Option (ℕ × A))) → GroupsGive (PollGives (PollsNumbered polled) steps) old answer new → sum_by (held_with i) new.listed + outputs_with i answer ≡ sum_by (held_with i) old.listed
-  numbers_left old new answer h = sum_left (PollGives (PollsNumbered polled) steps) (held_with i) (outputs_with i) (numbers_polled i polled steps) (numbers_ended i polled steps) (brings_none i polled steps) old new answer h
+  pub numbers_left : (old new : Groups (Bounded (Numbered F) S)) (stopped : Bool) (answer : Poll (Option (ℕ × A))) → GroupsGive (λ _. PollGives (PollsNumbered polled) steps) old answer stopped new → sum_by (held_with i) new.listed + outputs_with i answer ≡ sum_by (held_with i) old.listed
+  numbers_left old new stopped answer h = sum_left (PollGives (PollsNumbered polled) steps) (held_with i) (outputs_with i) (numbers_polled i polled steps) (numbers_ended i polled steps) (brings_none i polled steps) old new stopped answer h
 
 module _ {F S : Type 0} (made : ℕ → S → Type 0) (n limit : ℕ) (start : Growing (Numbered F) S) where
   -- a new set holds nothing
@@ -40,15 +40,15 @@ module _ {F S : Type 0} (made : ℕ → S → Type 0) (n limit : ℕ) (start : G
 module _ {F A S : Type 0} (polled : ℕ → F → Poll A → F → Type 0) (steps : SourceSteps S) where
   -- one poll of the groups, told of them alone
   abbrev pub GroupsAlone : Growing (Numbered F) S → Poll (Option (ℕ × A)) → Growing (Numbered F) S → Type 0
-  GroupsAlone old answer new = GroupsGive (PollGives (PollsNumbered polled) steps) old.groups answer new.groups
+  GroupsAlone old answer new = (stopped : Bool) × GroupsGive (λ _. PollGives (PollsNumbered polled) steps) old.groups answer stopped new.groups
 
   -- what the set gave it might give, and what it may still give it might give before
   pub groups_gave : (old new : Growing (Numbered F) S) (out : ℕ × A) → GroupsAlone old (Ready (Some out)) new → GrowingMayGive polled old out
-  groups_gave old new out h = gave (PollsNumbered polled) steps old.groups new.groups out h
+  groups_gave old new out h = gave (PollsNumbered polled) steps old.groups new.groups h.0 out h.1
 
   pub groups_still : (old new : Growing (Numbered F) S) (answer : Poll (Option (ℕ × A))) → GroupsAlone old answer new → (z : ℕ × A) → GrowingMayGive polled new z → GrowingMayGive polled old z
-  groups_still old new answer h z = still (PollsNumbered polled) steps old.groups new.groups answer h z
+  groups_still old new answer h z = still (PollsNumbered polled) steps old.groups new.groups h.0 answer h.1 z
 
 -- one poll of the queue, told of it alone
 pub queue_gives_of : {R F W A S : Type 0} (rule : PollOneOf R F W A) (source : ReadySourceOf S W) (old new : OrderedGrowing F A S) (answer : Poll (Option A)) (cx left : Context) → PollsOrderedGrowing rule source old answer new cx left → OrderedGives (GroupsAlone rule.polled source.steps) held_in_groups old answer new
-queue_gives_of rule source old new answer cx left poll = gives_alone (PollsGrowing (of_numbered rule) source) (GroupsAlone rule.polled source.steps) (λ a b given before after h. h.groups.gave) held_in_groups old new answer cx left poll.gave
+queue_gives_of rule source old new answer cx left poll = gives_alone (PollsGrowing (of_numbered rule) source) (GroupsAlone rule.polled source.steps) (λ a b given before after h. (h.groups.stopped, groups_give (PollsNumbered rule.polled) source.steps a.groups b.groups h.groups.stopped given h.groups.gave)) held_in_groups old new answer cx left poll.gave

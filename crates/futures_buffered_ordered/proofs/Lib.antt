@@ -3,3 +3,4 @@ pub mod OrderedEntriesInvariantLemmas
 pub mod OrderedEntriesLemmas
 pub mod FuturesOrderedBoundedLemmas
 pub mod FuturesOrderedLemmas
+pub mod OrderedStreamLemmas

@@ -21,8 +21,7 @@ use Rattle.futures_buffered_ordered.specs.OrderedEntries.{PolledSet, PollsOrdere
 use Rattle.futures_buffered_ordered.specs.OrderedEntries.{SetYields, with_task}
 use Rattle.futures_buffered_ordered.specs.declared.numbered.Numbered.{Numbered}
 
--- the set of as many numbered futures as there are slots, the entries, and how many there is a
--- place for
+-- the bounded set of numbered futures, the entries, and how many entries there is a place for
 abbrev pub OrderedBounded : Type 0 → Type 0 → Type 0 → Type 0
 OrderedBounded F A S = Ordered (Bounded (Numbered F) S) A
 

@@ -35,7 +35,8 @@ module _ {A : Type 0} where
   -- there is a front, and its future is in progress
   abbrev pub starts_running : List (Entry A) → Bool
   starts_running [] = false
-  starts_running (front ∷ _) = is_running front
+  starts_running (Running _ ∷ _) = true
+  starts_running (Kept _ ∷ _) = false
 
   -- whether an entry is in progress with number i
   abbrev pub runs_with : ℕ → Entry A → Bool
@@ -176,9 +177,9 @@ module _ {Q A : Type 0} (gives : Q → Poll (Option (ℕ × A)) → Q → Type 0
     pub entries : new.entries ≡ slice_set old.entries at (Kept out.1)
     pub room : new.room ≡ old.room
 
-  -- how a poll ends: there is no entry, and nothing changes; the front is an output and leaves, with
-  -- no name asked for;
-  -- or the front is in progress, the set is polled, and answers Pending
+  -- how a poll ends: there is no entry, and nothing changes; the front's output is kept already and
+  -- is given, without a poll of the set; or the front is in progress, the set is polled, and answers
+  -- Pending
   abbrev pub LastStep : Ordered Q A → Poll (Option A) → Ordered Q A → Type 0
   LastStep old (Ready None) new = (old.entries ≡ []) × (new ≡ old)
   LastStep old (Ready (Some x)) new =
@@ -249,7 +250,8 @@ module _ {Q A : Type 0} (polls : PolledSet Q A) where
       (cx left : Context)
       : Type 0 where
     -- what came, and who is woken: while the front is in progress the set is polled, and each output
-    -- is kept in its entry; then comes the front's output, the end, or the set's Pending
+    -- is kept in its entry; then comes the front's output, the end, or the set's Pending. The polls
+    -- of the set leave the task, one after another
     pub gave : OrderedGives (BesideTask polls.gives) (λ set. polls.count set.0)
         (with_task old cx) answer (with_task new left)
     -- what stays, who waits where, and what may be polled again

@@ -1,6 +1,5 @@
 //! The ordered queue that grows as a stream, which says how much is left and whether it has ended.
 ghost use Rattle.std.specs.Prelude.{◌≡◌, length};
-ghost use Rattle.futures_buffered_unordered.specs.StreamAnswers.{StreamAnswers};
 ghost use Rattle.futures_buffered_unordered.specs.FuturesUnordered.{AnyNeeds};
 ghost use Rattle.futures_buffered_unordered.specs.PollsBounded.{itself};
 ghost use Rattle.futures_buffered_ordered.specs.OrderedEntries.{ComesInOrder};
@@ -32,9 +31,7 @@ where
     /// One poll, as `poll_with` by the rule that polls the future itself.
     fn poll_next(&mut self, cx: &mut Context<'_>) -> Poll<Option<A>>
         requires { EachInProgress T.can_poll self.old.set }
-        ensures stream { StreamAnswers ⟦<GrowingQueue<T, A, S> as Stream>⟧
-            self.old result self.new cx.old cx.new }
-        ensures polls { PollsOrderedGrowing (itself T.SlotFuture) S.ReadySource
+        ensures { PollsOrderedGrowing (itself T.SlotFuture) S.ReadySource
             self.old result self.new cx.old cx.new }
     {
         self.poll_with(&PollFuture, cx)

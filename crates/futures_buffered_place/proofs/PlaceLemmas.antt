@@ -7,12 +7,10 @@ use prog.Atomic.{either}
 use Rattle.std.proofs.Common.{eqb}
 use Rattle.atomic_table.specs.Table.{State, Me, Act, keeps, takes, gives, rest, Splits, Enters, Allows, Valid, stepped, carried_after}
 use Rattle.atomic_table.proofs.Lists.{at_set, at_snoc}
-use Rattle.futures_buffered_place.specs.declared.view.Right.{Right}
-use Rattle.futures_buffered_place.specs.declared.view.Right.TheVariants.{Alone, Beside, Wakes}
-use Rattle.futures_buffered_place.specs.declared.view.Hand.{Hand}
+use Rattle.futures_buffered_place.specs.declared.view.Right.TheVariants.{Alone, Beside}
 use Rattle.futures_buffered_place.specs.declared.view.Hand.TheVariants.{Nothing, Filling, Taken}
 use Rattle.futures_buffered_place.specs.declared.view.View.{View}
-use Rattle.futures_buffered_place.specs.Place.{total, alone_by, beside_by, filling_by, taken_by, Stage, word_of, home_of, filling_count, lent_count, kept_weight, KeepsPlace, laid, HoldsPlace, in_hand, takes_next, puts_next, leaves_next, busy_next, empty_next, taker_looks, TellsAlone, TellsTaker, TellsTaking, after_put, beside_looks, free_taken, beside_of, new_beside, new_taker, kept_at_home, RuleLosesNone}
+use Rattle.futures_buffered_place.specs.Place.{total, alone_by, beside_by, filling_by, taken_by, Stage, word_of, home_of, filling_count, lent_count, kept_weight, KeepsPlace, laid, HoldsPlace, in_hand, takes_next, puts_next, leaves_next, empty_next, taker_looks, alone_looks, TellsAlone, TellsTaker, TellsTaking, after_put, beside_looks, free_taken, beside_of, new_beside, new_taker, kept_at_home, RuleLosesNone}
 use Rattle.futures_buffered_place.specs.PlaceInvariant.{right_of}
 use Rattle.futures_buffered_place.specs.Place.{vacant, filling, kept, lent}
 
@@ -37,9 +35,6 @@ total_below f g [] h = omega arith
 total_below f g (x ∷ xs) h = let a = h 0 x refl in omega (arith, total_below f g xs (λ i v e. h (suc i) v e))
 
 module _ {O : Type 0} where
-  fills : View O → ℕ
-  fills v = filling_by v.hand
-
   fits_set : (views : List (View O)) (id : ℕ) (w : View O) → ((j : ℕ) (v : View O) → get_elem? views j ≡ some v → filling_by v.hand ≤ alone_by v.right)
       → filling_by w.hand ≤ alone_by w.right → (j : ℕ) (v : View O) → get_elem? (set views id w) j ≡ some v → filling_by v.hand ≤ alone_by v.right
   fits_set views id w all mine j v e = ⊎_elim (λ (t : (j ≡ id) × (w ≡ v)). subst (λ (y : View O). filling_by y.hand ≤ alone_by y.right) t.1 mine)
@@ -79,258 +74,96 @@ module _ {O : Type 0} where
       let b = total_set (λ (u : View O). alone_by u.right) views id v w at in
       let c = K.filled in let d = K.one_alone in omega arith
 
-  -- what a step owes of a state
-  abbrev pub Goes : ℕ → Me (Option O) (View O) → (ℕ → ℕ) → (ℕ → Me (Option O) (View O) → Type 0) → State (Option O) (View O) → Type 0
-  Goes id me f then s = (w : View O) × (a : Act (Option O)) × Valid s.homes me.1 a × HoldsPlace (stepped s 0 (f (get_or s.words 0 0)) id me.1 w a)
-      × then (get_or s.words 0 0) (w, carried_after me.1 a)
-
-  -- it is enough that it does so of each stage
-  pub by_stage : (slots id : ℕ) (me : Me (Option O) (View O)) (f : ℕ → ℕ) (then : ℕ → Me (Option O) (View O) → Type 0)
-      → ((g : Stage O) (views : List (View O)) → KeepsPlace g views → get_elem? views id ≡ some me.0 → Goes id me f then (laid g views))
-      → Allows HoldsPlace slots id me 0 f then
-  by_stage slots id me f then each s held len at fits =
-      subst (Goes id me f then) (λ k. record { words = sym held.1 k; homes = sym held.2 k; views = s.views }) (each held.0 s.views held.3 at)
-
-  module _ (id : ℕ) (v : View O) (hand : v.hand ≡ Nothing) where
-    none_filled : filling_by v.hand ≡ 0
-    none_filled = ap filling_by hand
-
-    none_taken : taken_by v.hand ≡ 0
-    none_taken = ap taken_by hand
-
-    -- a step that changes neither the stage nor what the seat has
-    stays : (g : Stage O) (views : List (View O)) (w : View O) → KeepsPlace g views → get_elem? views id ≡ some v → w.right ≡ v.right → w.hand ≡ v.hand
-        → w.put ≡ v.put → w.taken ≡ v.taken → KeepsPlace g (set views id w)
-    stays g views w K at right same put taken =
-        let a : filling_by w.hand ≡ filling_by v.hand = ap filling_by same in
-        let b : taken_by w.hand ≡ taken_by v.hand = ap taken_by same in
-        let c = none_filled in
-        moved g g views id v w K at right (omega arith) (omega arith) (omega arith)
-        (λ weight. let x : total weight w.put ≡ total weight v.put = ap (total weight) put in
-        let y : total weight w.taken ≡ total weight v.taken = ap (total weight) taken in omega arith)
-
-    pub looks_alone : v.right ≡ Alone → (slots : ℕ) → Allows HoldsPlace slots id (v, []) 0 (λ n. n) (TellsAlone (v, []))
-    looks_alone right slots = by_stage slots id (v, []) (λ n. n) (TellsAlone (v, [])) each
-      where
-        one : alone_by v.right ≡ 1
-        one = ap alone_by right
-
-        each : (g : Stage O) (views : List (View O)) → KeepsPlace g views → get_elem? views id ≡ some v → Goes id (v, []) (λ n. n) (TellsAlone (v, [])) (laid g views)
-        each vacant views K at = (
-          in_hand v Filling,
-          takes 0 None,
-          refl,
-          (
-            filling,
-            refl,
-            refl,
-            moved vacant filling views id v (in_hand v Filling) K at refl (let a = one in omega arith)
-                (let a = none_filled in omega arith) (let a = none_taken in omega arith) (λ weight. omega arith),
-          ),
-          refl,
-        )
-        each filling views K at = absurd (only_alone views id v K at right hand)
-        each (kept x) views K at = (v, keeps, tt, (kept x, refl, refl, stays (kept x) views v K at refl refl refl refl), refl)
-        each lent views K at = (busy_next v, keeps, tt, (lent, refl, refl, stays lent views (busy_next v) K at refl refl refl refl), refl)
-
-    pub looks_to_take : (slots : ℕ) → Allows HoldsPlace slots id (v, []) 0 (λ n. n) (TellsTaker (v, []))
-    looks_to_take slots = by_stage slots id (v, []) (λ n. n) (TellsTaker (v, [])) each
-      where
-        each : (g : Stage O) (views : List (View O)) → KeepsPlace g views → get_elem? views id ≡ some v → Goes id (v, []) (λ n. n) (TellsTaker (v, [])) (laid g views)
-        each vacant views K at = (empty_next v, keeps, tt, (vacant, refl, refl, stays vacant views (empty_next v) K at refl refl refl refl), refl)
-        each filling views K at = (empty_next v, keeps, tt, (filling, refl, refl, stays filling views (empty_next v) K at refl refl refl refl), refl)
-        each (kept x) views K at = (v, keeps, tt, (kept x, refl, refl, stays (kept x) views v K at refl refl refl refl), refl)
-        each lent views K at = (busy_next v, keeps, tt, (lent, refl, refl, stays lent views (busy_next v) K at refl refl refl refl), refl)
-
-    pub goes_for_it : (slots : ℕ) → Allows HoldsPlace slots id (v, []) 0 (λ n. either (eqb n 1) 3 n) (TellsTaking v)
-    goes_for_it slots = by_stage slots id (v, []) (λ n. either (eqb n 1) 3 n) (TellsTaking v) each
-      where
-        each : (g : Stage O) (views : List (View O)) → KeepsPlace g views → get_elem? views id ≡ some v → Goes id (v, []) (λ n. either (eqb n 1) 3 n) (TellsTaking v) (laid g views)
-        each vacant views K at = (busy_next v, keeps, tt, (vacant, refl, refl, stays vacant views (busy_next v) K at refl refl refl refl), refl)
-        each filling views K at = (busy_next v, keeps, tt, (filling, refl, refl, stays filling views (busy_next v) K at refl refl refl refl), refl)
-        each (kept x) views K at = (
-          takes_next v x,
-          takes 0 (Some x),
-          refl,
-          (
-            lent,
-            refl,
-            refl,
-            moved (kept x) lent views id v (takes_next v x) K at refl (let a = none_filled in omega arith)
-                (let a = none_filled in omega arith) (let a = none_taken in omega arith)
-                (λ weight. omega (arith, total-append weight v.taken (x ∷ []))),
-          ),
-          (x, refl),
-        )
-        each lent views K at = (busy_next v, keeps, tt, (lent, refl, refl, stays lent views (busy_next v) K at refl refl refl refl), refl)
-
-    pub looks_beside : (slots : ℕ) → Allows HoldsPlace slots id (v, []) 0 (λ n. n) (λ found after. after ≡ (beside_looks v found, []))
-    looks_beside slots = by_stage slots id (v, []) (λ n. n) (λ found after. after ≡ (beside_looks v found, [])) each
-      where
-        each : (g : Stage O) (views : List (View O)) → KeepsPlace g views → get_elem? views id ≡ some v → Goes id (v, []) (λ n. n) (λ found after. after ≡ (beside_looks v found, [])) (laid g views)
-        each vacant views K at = (v, keeps, tt, (vacant, refl, refl, stays vacant views v K at refl refl refl refl), refl)
-        each filling views K at = (v, keeps, tt, (filling, refl, refl, stays filling views v K at refl refl refl refl), refl)
-        each (kept x) views K at = (v, keeps, tt, (kept x, refl, refl, stays (kept x) views v K at refl refl refl refl), refl)
-        each lent views K at = (busy_next v, keeps, tt, (lent, refl, refl, stays lent views (busy_next v) K at refl refl refl refl), refl)
-
-    -- beside others, nobody has the slot under a word that says that none is kept
-    pub takes_free : v.right ≡ Beside → (slots : ℕ) → Allows HoldsPlace slots id (v, []) 0 (λ n. either (eqb n 0) 3 n) (λ found after. after ≡ free_taken v found)
-    takes_free right slots = by_stage slots id (v, []) (λ n. either (eqb n 0) 3 n) (λ found after. after ≡ free_taken v found) each
-      where
-        one : beside_by v.right ≡ 1
-        one = ap beside_by right
-
-        each : (g : Stage O) (views : List (View O)) → KeepsPlace g views → get_elem? views id ≡ some v → Goes id (v, []) (λ n. either (eqb n 0) 3 n) (λ found after. after ≡ free_taken v found) (laid g views)
-        each vacant views K at = (
-          in_hand v Taken,
-          takes 0 None,
-          refl,
-          (
-            lent,
-            refl,
-            refl,
-            moved vacant lent views id v (in_hand v Taken) K at refl (omega arith)
-                (let a = none_filled in omega arith) (let a = none_taken in omega arith) (λ weight. omega arith),
-          ),
-          refl,
-        )
-        each filling views K at = absurd (
-            let below = total_below (λ (u : View O). filling_by u.hand) (λ (u : View O). alone_by u.right) views K.by_alone in
-            let some_beside = total_at (λ (u : View O). beside_by u.right) views id v at in
-            let a = K.filled in let none = K.none_beside (omega arith) in let b = one in omega arith)
-        each (kept x) views K at = (busy_next v, keeps, tt, (kept x, refl, refl, stays (kept x) views (busy_next v) K at refl refl refl refl), refl)
-        each lent views K at = (busy_next v, keeps, tt, (lent, refl, refl, stays lent views (busy_next v) K at refl refl refl refl), refl)
-
-  -- a seat that has the slot has it while the only poller fills it, or while the word says that a seat has it
-  module _ (id : ℕ) (v : View O) (some_hand : v.hand ≢ Nothing) where
-    abbrev Has : Hand → ℕ
-    Has h = filling_by h + taken_by h
-
-    has_one : Has v.hand ≡ 1
-    has_one = cases v.hand refl
-      where
-        cases : (h : Hand) → v.hand ≡ h → Has h ≡ 1
-        cases Nothing is = absurd (some_hand is)
-        cases Filling is = refl
-        cases Taken is = refl
-
-    pub puts : (x : O) (slots : ℕ) → Allows HoldsPlace slots id (v, (0, Some x) ∷ []) 0 (λ _. 1) (λ _ after. after ≡ after_put (v, (0, Some x) ∷ []))
-    puts x slots = by_stage slots id (v, (0, Some x) ∷ []) (λ _. 1) (λ _ after. after ≡ after_put (v, (0, Some x) ∷ [])) each
-      where
-        w : View O
-        w = puts_next v x
-
-        each : (g : Stage O) (views : List (View O)) → KeepsPlace g views → get_elem? views id ≡ some v
-            → Goes id (v, (0, Some x) ∷ []) (λ _. 1) (λ _ after. after ≡ after_put (v, (0, Some x) ∷ [])) (laid g views)
-        each vacant views K at = absurd (let a = has_one in let b = K.filled in let c = K.lends in
-            let d = total_at (λ (u : View O). filling_by u.hand) views id v at in let e = total_at (λ (u : View O). taken_by u.hand) views id v at in omega arith)
-        each filling views K at = (
-          w,
-          gives,
-          tt,
-          (
-            kept x,
-            refl,
-            refl,
-            moved filling (kept x) views id v w K at refl (omega arith)
-                (let a = has_one in let c = K.lends in let e = total_at (λ (u : View O). taken_by u.hand) views id v at in omega arith)
-                (let c = K.lends in let e = total_at (λ (u : View O). taken_by u.hand) views id v at in omega arith)
-                (λ weight. omega (arith, total-append weight v.put (x ∷ []))),
-          ),
-          refl,
-        )
-        each (kept y) views K at = absurd (let a = has_one in let b = K.filled in let c = K.lends in
-            let d = total_at (λ (u : View O). filling_by u.hand) views id v at in let e = total_at (λ (u : View O). taken_by u.hand) views id v at in omega arith)
-        each lent views K at = (
-          w,
-          gives,
-          tt,
-          (
-            kept x,
-            refl,
-            refl,
-            moved lent (kept x) views id v w K at refl (omega arith)
-                (let b = K.filled in let d = total_at (λ (u : View O). filling_by u.hand) views id v at in omega arith)
-                (let a = has_one in let b = K.filled in let d = total_at (λ (u : View O). filling_by u.hand) views id v at in omega arith)
-                (λ weight. omega (arith, total-append weight v.put (x ∷ []))),
-          ),
-          refl,
-        )
-
-    pub leaves : (slots : ℕ) → Allows HoldsPlace slots id (v, (0, None) ∷ []) 0 (λ _. 0) (λ _ after. after ≡ (leaves_next v, []))
-    leaves slots = by_stage slots id (v, (0, None) ∷ []) (λ _. 0) (λ _ after. after ≡ (leaves_next v, [])) each
-      where
-        w : View O
-        w = leaves_next v
-
-        each : (g : Stage O) (views : List (View O)) → KeepsPlace g views → get_elem? views id ≡ some v
-            → Goes id (v, (0, None) ∷ []) (λ _. 0) (λ _ after. after ≡ (leaves_next v, [])) (laid g views)
-        each vacant views K at = absurd (let a = has_one in let b = K.filled in let c = K.lends in
-            let d = total_at (λ (u : View O). filling_by u.hand) views id v at in let e = total_at (λ (u : View O). taken_by u.hand) views id v at in omega arith)
-        each filling views K at = (
-          w,
-          gives,
-          tt,
-          (
-            vacant,
-            refl,
-            refl,
-            moved filling vacant views id v w K at refl (omega arith)
-                (let a = has_one in let c = K.lends in let e = total_at (λ (u : View O). taken_by u.hand) views id v at in omega arith)
-                (let c = K.lends in let e = total_at (λ (u : View O). taken_by u.hand) views id v at in omega arith)
-                (λ weight. omega arith),
-          ),
-          refl,
-        )
-        each (kept y) views K at = absurd (let a = has_one in let b = K.filled in let c = K.lends in
-            let d = total_at (λ (u : View O). filling_by u.hand) views id v at in let e = total_at (λ (u : View O). taken_by u.hand) views id v at in omega arith)
-        each lent views K at = (
-          w,
-          gives,
-          tt,
-          (
-            vacant,
-            refl,
-            refl,
-            moved lent vacant views id v w K at refl (omega arith)
-                (let b = K.filled in let d = total_at (λ (u : View O). filling_by u.hand) views id v at in omega arith)
-                (let a = has_one in let b = K.filled in let d = total_at (λ (u : View O). filling_by u.hand) views id v at in omega arith)
-                (λ weight. omega arith),
-          ),
-          refl,
-        )
-
-  -- the same of a seat as the code has it
+  -- the steps of one seat
   module _ (slots id : ℕ) (me : Me (Option O) (View O)) where
+    -- what a step owes of a state, by a seat that has these slots
+    abbrev Goes : List (ℕ × Option O) → (ℕ → ℕ) → (ℕ → Me (Option O) (View O) → Type 0) → State (Option O) (View O) → Type 0
+    Goes out f then s = (w : View O) × (a : Act (Option O)) × Valid s.homes out a × HoldsPlace (stepped s 0 (f (get_or s.words 0 0)) id out w a)
+        × then (get_or s.words 0 0) (w, carried_after out a)
+
+    abbrev GoesEach : List (ℕ × Option O) → (ℕ → ℕ) → (ℕ → Me (Option O) (View O) → Type 0) → Type 0
+    GoesEach out f then = (g : Stage O) (views : List (View O)) → KeepsPlace g views → get_elem? views id ≡ some me.0 → Goes out f then (laid g views)
+
+    -- it is enough that it does so of each stage
+    by_stage : (out : List (ℕ × Option O)) (f : ℕ → ℕ) (then : ℕ → Me (Option O) (View O) → Type 0) → me.1 ≡ out → GoesEach out f then
+        → Allows HoldsPlace slots id me 0 f then
+    by_stage out f then is each s held len at fits = subst (λ (x : State (Option O) (View O) × List (ℕ × Option O)). Goes x.1 f then x.0)
+        (λ k. (record { words = sym held.1 k; homes = sym held.2 k; views = s.views }, sym is k)) (each held.0 s.views held.3 at)
+
     module _ (hand : me.0.hand ≡ Nothing) (at_home : me.1 ≡ []) where
-      pub seat_looks_alone : me.0.right ≡ Alone → Allows HoldsPlace slots id me 0 (λ n. n) (TellsAlone me)
-      seat_looks_alone right = subst (λ (m : Me (Option O) (View O)). Allows HoldsPlace slots id m 0 (λ n. n) (TellsAlone m))
-          (λ k. (me.0, sym at_home k)) (looks_alone id me.0 hand right slots)
+      -- a step that changes neither the stage nor what the seat has
+      stays : (f : ℕ → ℕ) (then : ℕ → Me (Option O) (View O) → Type 0) (g : Stage O) (views : List (View O)) (busy empty : ℕ) → KeepsPlace g views
+          → get_elem? views id ≡ some me.0 → f (word_of g) ≡ word_of g → then (word_of g) (record me.0 { busy = busy; empty = empty }, [])
+          → Goes [] f then (laid g views)
+      stays f then g views busy empty K at as_was told = let w : View O = record me.0 { busy = busy; empty = empty } in
+          (w, keeps, tt, (g, ap (λ (n : ℕ). n ∷ []) as_was, refl, moved g g views id me.0 w K at refl (grind arith) refl refl (λ weight. refl)), told)
 
-      pub seat_looks_to_take : Allows HoldsPlace slots id me 0 (λ n. n) (TellsTaker me)
-      seat_looks_to_take = subst (λ (m : Me (Option O) (View O)). Allows HoldsPlace slots id m 0 (λ n. n) (TellsTaker m))
-          (λ k. (me.0, sym at_home k)) (looks_to_take id me.0 hand slots)
+      pub looks_alone : me.0.right ≡ Alone → Allows HoldsPlace slots id me 0 (λ n. n) (TellsAlone me)
+      looks_alone right = by_stage [] (λ n. n) (TellsAlone me) at_home each
+        where
+          each : GoesEach [] (λ n. n) (TellsAlone me)
+          each vacant views K at = let now = moved vacant filling views id me.0 (in_hand me.0 Filling) K at refl (grind arith) (grind arith) (grind arith)
+              (λ weight. refl) in (in_hand me.0 Filling, takes 0 None, refl, (filling, refl, refl, now), refl)
+          each filling views K at = absurd (only_alone views id me.0 K at right hand)
+          each g views K at = let w = (alone_looks me.0 (word_of g)).0 in stays (λ n. n) (TellsAlone me) g views w.busy w.empty K at refl refl
 
-      pub seat_goes_for_it : Allows HoldsPlace slots id me 0 (λ n. either (eqb n 1) 3 n) (TellsTaking me.0)
-      seat_goes_for_it = subst (λ (m : Me (Option O) (View O)). Allows HoldsPlace slots id m 0 (λ n. either (eqb n 1) 3 n) (TellsTaking m.0))
-          (λ k. (me.0, sym at_home k)) (goes_for_it id me.0 hand slots)
+      pub looks_to_take : Allows HoldsPlace slots id me 0 (λ n. n) (TellsTaker me)
+      looks_to_take = by_stage [] (λ n. n) (TellsTaker me) at_home each
+        where
+          each : GoesEach [] (λ n. n) (TellsTaker me)
+          each vacant views K at = stays (λ n. n) (TellsTaker me) vacant views me.0.busy (me.0.empty + 1) K at refl refl
+          each g views K at = let w = (taker_looks me.0 (word_of g)).0 in stays (λ n. n) (TellsTaker me) g views w.busy w.empty K at refl refl
 
-      pub seat_looks_beside : Allows HoldsPlace slots id me 0 (λ n. n) (λ found after. after ≡ (beside_looks me.0 found, []))
-      seat_looks_beside = subst (λ (m : Me (Option O) (View O)). Allows HoldsPlace slots id m 0 (λ n. n) (λ found after. after ≡ (beside_looks m.0 found, [])))
-          (λ k. (me.0, sym at_home k)) (looks_beside id me.0 hand slots)
+      pub goes_for_it : Allows HoldsPlace slots id me 0 (λ n. either (eqb n 1) 3 n) (TellsTaking me.0)
+      goes_for_it = by_stage [] (λ n. either (eqb n 1) 3 n) (TellsTaking me.0) at_home each
+        where
+          each : GoesEach [] (λ n. either (eqb n 1) 3 n) (TellsTaking me.0)
+          each (kept x) views K at = let now = moved (kept x) lent views id me.0 (takes_next me.0 x) K at refl (grind arith) (grind arith) (grind arith)
+              (λ weight. omega (arith, total-append weight me.0.taken (x ∷ []))) in (takes_next me.0 x, takes 0 (Some x), refl, (lent, refl, refl, now), (x, refl))
+          each g views K at = stays (λ n. either (eqb n 1) 3 n) (TellsTaking me.0) g views (me.0.busy + 1) me.0.empty K at refl refl
 
-      pub seat_takes_free : me.0.right ≡ Beside → Allows HoldsPlace slots id me 0 (λ n. either (eqb n 0) 3 n) (λ found after. after ≡ free_taken me.0 found)
-      seat_takes_free right = subst (λ (m : Me (Option O) (View O)). Allows HoldsPlace slots id m 0 (λ n. either (eqb n 0) 3 n) (λ found after. after ≡ free_taken m.0 found))
-          (λ k. (me.0, sym at_home k)) (takes_free id me.0 hand right slots)
+      pub looks_beside : Allows HoldsPlace slots id me 0 (λ n. n) (λ found after. after ≡ (beside_looks me.0 found, []))
+      looks_beside = by_stage [] (λ n. n) (λ found after. after ≡ (beside_looks me.0 found, [])) at_home each
+        where
+          each : GoesEach [] (λ n. n) (λ found after. after ≡ (beside_looks me.0 found, []))
+          each lent views K at = stays (λ n. n) (λ found after. after ≡ (beside_looks me.0 found, [])) lent views (me.0.busy + 1) me.0.empty K at refl refl
+          each g views K at = stays (λ n. n) (λ found after. after ≡ (beside_looks me.0 found, [])) g views me.0.busy me.0.empty K at refl refl
 
-    module _ (hand : me.0.hand ≢ Nothing) where
-      pub seat_puts : (x : O) → me.1 ≡ (0, Some x) ∷ [] → Allows HoldsPlace slots id me 0 (λ _. 1) (λ _ after. after ≡ after_put me)
-      seat_puts x out = subst (λ (m : Me (Option O) (View O)). Allows HoldsPlace slots id m 0 (λ _. 1) (λ _ after. after ≡ after_put m))
-          (λ k. (me.0, sym out k)) (puts id me.0 hand x slots)
+      -- beside others, nobody has the slot under a word that says that none is kept
+      pub takes_free : me.0.right ≡ Beside → Allows HoldsPlace slots id me 0 (λ n. either (eqb n 0) 3 n) (λ found after. after ≡ free_taken me.0 found)
+      takes_free right = by_stage [] (λ n. either (eqb n 0) 3 n) (λ found after. after ≡ free_taken me.0 found) at_home each
+        where
+          each : GoesEach [] (λ n. either (eqb n 0) 3 n) (λ found after. after ≡ free_taken me.0 found)
+          each vacant views K at = let now = moved vacant lent views id me.0 (in_hand me.0 Taken) K at refl (grind arith) (grind arith) (grind arith)
+              (λ weight. refl) in (in_hand me.0 Taken, takes 0 None, refl, (lent, refl, refl, now), refl)
+          each filling views K at = absurd (
+              let below = total_below (λ (u : View O). filling_by u.hand) (λ (u : View O). alone_by u.right) views K.by_alone in
+              let some_beside = total_at (λ (u : View O). beside_by u.right) views id me.0 at in let one : beside_by me.0.right ≡ 1 = ap beside_by right in
+              let a = K.filled in let none = K.none_beside (omega arith) in omega arith)
+          each g views K at = stays (λ n. either (eqb n 0) 3 n) (λ found after. after ≡ free_taken me.0 found) g views (me.0.busy + 1) me.0.empty K at refl refl
 
-      pub seat_leaves : me.1 ≡ (0, None) ∷ [] → Allows HoldsPlace slots id me 0 (λ _. 0) (λ _ after. after ≡ (leaves_next me.0, []))
-      seat_leaves out = subst (λ (m : Me (Option O) (View O)). Allows HoldsPlace slots id m 0 (λ _. 0) (λ _ after. after ≡ (leaves_next m.0, [])))
-          (λ k. (me.0, sym out k)) (leaves id me.0 hand slots)
+    -- a seat that has the slot has it while the only poller fills it, or while the word says that a seat has it
+    module _ (some_hand : me.0.hand ≢ Nothing) where
+      has_it : (g : Stage O) (views : List (View O)) → KeepsPlace g views → get_elem? views id ≡ some me.0
+          → (filling_by me.0.hand ≡ filling_count g) × (taken_by me.0.hand ≡ lent_count g) × ((weight : O → ℕ) → kept_weight weight g ≡ 0)
+      has_it g views K at = grind (arith, total_at)
+
+      -- it lays the slot down, with x in it
+      lays : (g : Stage O) (x : Option O) (w : View O) (then : Me (Option O) (View O) → Type 0) → me.1 ≡ (0, x) ∷ [] → home_of g ≡ some x
+          → filling_count g ≡ 0 → lent_count g ≡ 0 → w.right ≡ me.0.right → w.hand ≡ Nothing → ((weight : O → ℕ) →
+          total weight w.put + total weight me.0.taken ≡ total weight me.0.put + total weight w.taken + kept_weight weight g) → then (w, [])
+          → Allows HoldsPlace slots id me 0 (λ _. word_of g) (λ _. then)
+      lays g x w then out home none_filled none_taken right rests weigh told = by_stage ((0, x) ∷ []) (λ _. word_of g) (λ _. then) out
+          (λ old views K at. let had = has_it old views K at in let now = moved old g views id me.0 w K at right (grind arith) (grind arith) (grind arith)
+          (λ weight. let a = weigh weight in let b = had.2 weight in omega arith) in let empty : home_of g ∷ [] ≡ some x ∷ [] = ap (λ h. h ∷ []) home in
+          (w, gives, tt, (g, refl, sym empty, now), told))
+
+      pub puts : (x : O) → me.1 ≡ (0, Some x) ∷ [] → Allows HoldsPlace slots id me 0 (λ _. 1) (λ _ after. after ≡ after_put me)
+      puts x out = lays (kept x) (Some x) (puts_next me.0 x) (λ after. after ≡ after_put me) out refl refl refl refl refl
+          (λ weight. omega (arith, total-append weight me.0.put (x ∷ []))) (λ k. after_put (me.0, sym out k))
+
+      pub leaves : me.1 ≡ (0, None) ∷ [] → Allows HoldsPlace slots id me 0 (λ _. 0) (λ _ after. after ≡ (leaves_next me.0, []))
+      leaves out = lays vacant None (leaves_next me.0) (λ after. after ≡ (leaves_next me.0, [])) out refl refl refl refl refl (λ weight. omega arith) refl
 
   -- what the seat holds after a plain write of its slot
   pub written : (old new : Me (Option O) (View O)) (y z : Option O) → old.1 ≡ (0, y) ∷ [] → new ≡ (old.0, (0, z) ∷ rest old.1) → new ≡ (old.0, (0, z) ∷ [])
@@ -351,30 +184,9 @@ module _ {O : Type 0} where
 
   -- a new seat that has no slot, has done nothing and does not stand alone
   module _ (w : View O) (taker : w.right ≢ Alone) (hand : w.hand ≡ Nothing) (put : w.put ≡ []) (taken : w.taken ≡ []) where
-    not_alone : (r : Right) → r ≢ Alone → alone_by r ≡ 0
-    not_alone Alone ne = absurd (ne refl)
-    not_alone Beside ne = refl
-    not_alone Wakes ne = refl
-
     pub joined : (g : Stage O) (views : List (View O)) → KeepsPlace g views
         → (0 < total (λ (v : View O). alone_by v.right) views → beside_by w.right ≡ 0) → KeepsPlace g (views ++ w ∷ [])
-    joined g views K apart =
-        let alone = not_alone w.right taker in
-        let none_filled : filling_by w.hand ≡ 0 = ap filling_by hand in
-        let none_taken : taken_by w.hand ≡ 0 = ap taken_by hand in
-        record {
-          one_alone = let a = total-append (λ (v : View O). alone_by v.right) views (w ∷ []) in let b = K.one_alone in omega arith;
-          none_beside = λ some_alone. let a = total-append (λ (v : View O). alone_by v.right) views (w ∷ []) in
-              let b = total-append (λ (v : View O). beside_by v.right) views (w ∷ []) in
-              let c = K.none_beside (omega arith) in let d = apart (omega arith) in omega arith;
-          by_alone = λ j v e. ⊎_elim (λ t. K.by_alone j v t) (λ (t : w ≡ v). subst (λ (y : View O). filling_by y.hand ≤ alone_by y.right) t (omega arith)) (at_snoc views w v j e);
-          filled = let a = total-append (λ (v : View O). filling_by v.hand) views (w ∷ []) in let b = K.filled in omega arith;
-          lends = let a = total-append (λ (v : View O). taken_by v.hand) views (w ∷ []) in let b = K.lends in omega arith;
-          balanced = λ weight. let a = total-append (λ (v : View O). total weight v.put) views (w ∷ []) in
-              let b = total-append (λ (v : View O). total weight v.taken) views (w ∷ []) in
-              let x : total weight w.put ≡ 0 = ap (total weight) put in let y : total weight w.taken ≡ 0 = ap (total weight) taken in
-              let c = K.balanced weight in omega arith;
-        }
+    joined g views K apart = grind (arith, total-append, at_snoc)
 
   -- a seat comes with a look at the word, to take out
   pub comes : (slots : ℕ) → Enters (HoldsPlace {O = O}) slots 0 (λ found w. (w, []) ≡ taker_looks new_taker found)
@@ -384,10 +196,10 @@ module _ {O : Type 0} where
     where
       each : (g : Stage O) (views : List (View O)) → KeepsPlace g views → (w : View O)
           × HoldsPlace record { words = word_of g ∷ []; homes = home_of g ∷ []; views = views ++ w ∷ [] } × ((w, []) ≡ taker_looks new_taker (word_of g))
-      each vacant views K = (empty_next new_taker, (vacant, refl, refl, joined (empty_next new_taker) (λ e. absurd cc) refl refl refl vacant views K (λ _. refl)), refl)
-      each filling views K = (empty_next new_taker, (filling, refl, refl, joined (empty_next new_taker) (λ e. absurd cc) refl refl refl filling views K (λ _. refl)), refl)
-      each (kept x) views K = (new_taker, (kept x, refl, refl, joined new_taker (λ e. absurd cc) refl refl refl (kept x) views K (λ _. refl)), refl)
-      each lent views K = (busy_next new_taker, (lent, refl, refl, joined (busy_next new_taker) (λ e. absurd cc) refl refl refl lent views K (λ _. refl)), refl)
+      each vacant views K = let now = joined (empty_next new_taker) (λ e. absurd cc) refl refl refl vacant views K (λ _. refl) in
+          (empty_next new_taker, (vacant, refl, refl, now), refl)
+      each g views K = let w = (taker_looks new_taker (word_of g)).0 in let now = joined w (λ e. absurd cc) refl refl refl g views K (λ _. refl) in
+          (w, (g, refl, refl, now), refl)
 
   -- a poller gets another beside it
   pub splits : (id : ℕ) (v : View O) (alone : Bool) → v.right ≡ right_of alone → v.hand ≡ Nothing → Splits HoldsPlace id v (beside_of v) new_beside

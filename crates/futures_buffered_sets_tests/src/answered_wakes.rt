@@ -4,8 +4,7 @@ use futures::task::Poll;
 use futures::test::MockTask;
 use futures_buffered_core::ready_shared::{SharedReady, SharedWaker};
 use futures_buffered_core::ready_source::SlotWaker;
-use futures_buffered_sets::futures_unordered_bounded::FuturesUnorderedBounded;
-use futures_buffered_sets::slot_future::SlotFuture;
+use futures_buffered_sets::{FuturesUnorderedBounded, SlotFuture};
 use std::alloc::{AllocError, Global};
 use std::sync::atomic::AtomicU64;
 use std::sync::atomic::Ordering::SeqCst;
@@ -14,7 +13,7 @@ use std::test::Fail;
 use std::thread::{self, JoinHandle, Threads, yield_now};
 use std::time::{Clock, Instant};
 use test_support::counter::new_counter;
-use test_support::polling::poll_set;
+use test_support::polling::poll_next;
 
 // How long the threads ask.
 const MILLISECONDS: u128 = 3_000;
@@ -78,7 +77,7 @@ fn new_set(alloc: Global, task: &MockTask, seat: &Arc<Seat>) -> Result<Set, Fail
         is_polled: false,
     };
     let _ = set.try_push(future);
-    let _ = poll_set(task, &mut set);
+    let _ = poll_next(task, &mut set);
     Ok(set)
 }
 
@@ -168,7 +167,7 @@ fn answer_all<C: Clock>(
         if !is_woken(task, seat) {
             return false;
         }
-        let _ = poll_set(task, set);
+        let _ = poll_next(task, set);
         if poll % 64 == 0 && is_over(clock, start) {
             return true;
         }

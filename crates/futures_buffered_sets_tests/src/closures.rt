@@ -3,11 +3,10 @@ use crate::same::assert_same;
 use futures::task::Poll;
 use futures::test::MockTask;
 use futures_buffered_core::ready_shared::SharedReady;
-use futures_buffered_sets::futures_unordered::FuturesUnordered;
-use futures_buffered_sets::futures_unordered_bounded::FuturesUnorderedBounded;
+use futures_buffered_sets::{FuturesUnordered, FuturesUnorderedBounded};
 use std::test::Fail;
 use test_support::called::Called;
-use test_support::polling::{poll_growing_set, poll_set};
+use test_support::polling::poll_next;
 
 #[test]
 fn a_closure_in_a_bounded_set(rt: HostRuntime) -> Result<(), Fail> {
@@ -18,7 +17,7 @@ fn a_closure_in_a_bounded_set(rt: HostRuntime) -> Result<(), Fail> {
         .try_push(Called::new(move || number.wrapping_mul(2)))
         .is_ok();
     assert_same(&rt, is_pushed, true);
-    assert_same(&rt, poll_set(&task, &mut set), Poll::Ready(Some(42)));
+    assert_same(&rt, poll_next(&task, &mut set), Poll::Ready(Some(42)));
     Ok(())
 }
 
@@ -31,10 +30,6 @@ fn a_closure_in_a_growing_set(rt: HostRuntime) -> Result<(), Fail> {
         .push(Called::new(move || number.wrapping_mul(2)))
         .is_ok();
     assert_same(&rt, is_pushed, true);
-    assert_same(
-        &rt,
-        poll_growing_set(&task, &mut set),
-        Poll::Ready(Some(42)),
-    );
+    assert_same(&rt, poll_next(&task, &mut set), Poll::Ready(Some(42)));
     Ok(())
 }

@@ -15,7 +15,7 @@ use std::sync::{Arc, Wait};
 use std::test::Fail;
 use test_support::counter::{Counter, new_counter};
 use test_support::keep::keep;
-use test_support::polling::poll_set;
+use test_support::polling::poll_next;
 
 // More slots than two bytes can count.
 const SLOTS: usize = 70_000;
@@ -78,7 +78,7 @@ impl<R: Wait + Clone + Drop> Held<R> {
 
     fn poll(&mut self) -> Seen {
         let was_woken = self.task.is_woken();
-        let is_pending = poll_set(&self.task, &mut self.set) == Poll::Pending;
+        let is_pending = poll_next(&self.task, &mut self.set) == Poll::Pending;
         let polls = self.polls.load(SeqCst);
         (was_woken, is_pending, polls, self.take_waker())
     }

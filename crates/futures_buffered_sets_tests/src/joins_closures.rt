@@ -5,7 +5,7 @@ use futures::test::MockTask;
 use futures_buffered_sets::{join_all, try_join_all};
 use std::test::Fail;
 use test_support::called::Called;
-use test_support::polling::{poll_join, poll_try_join};
+use test_support::polling::poll_join;
 
 // The one output.
 fn only(outputs: &Vec<u64>) -> Option<u64> {
@@ -47,6 +47,6 @@ fn a_closure_in_a_join_that_may_fail(rt: HostRuntime) -> Result<(), Fail> {
     let call = move || Err::<u64, u64>(number.wrapping_mul(2));
     let futures = vec![in rt.alloc(); Called::new(call)]?;
     let mut join = try_join_all(rt.alloc(), futures)?;
-    assert_same(&rt, failed(poll_try_join(&task, &mut join)), Some(42));
+    assert_same(&rt, failed(poll_join(&task, &mut join)), Some(42));
     Ok(())
 }

@@ -10,7 +10,7 @@ use std::sync::atomic::Ordering::SeqCst;
 use std::test::Fail;
 use test_support::attempt::{Attempt, at_once};
 use test_support::counted_source::{CountedSource, SourceLog};
-use test_support::polling::{poll_join, poll_try_join};
+use test_support::polling::poll_join;
 use test_support::timed::{Timed, late, ready, ready_up_to};
 
 #[derive(Clone, Copy, Debug, PartialEq, Eq)]
@@ -55,7 +55,7 @@ fn join_given<S: ReadySource>(task: &MockTask, join: &mut JoinAll<Timed, S>) -> 
 }
 
 fn try_join_given(task: &MockTask, join: &mut TryJoinAll<Attempt, CountedSource>) -> Given {
-    match poll_try_join(task, join) {
+    match poll_join(task, join) {
         Poll::Ready(Ok(outputs)) => all_of(outputs.as_slice()),
         Poll::Ready(Err(error)) => Given::Error(error),
         Poll::Pending => Given::Pending,

@@ -5,8 +5,7 @@ use futures::task::Poll;
 use futures::test::MockTask;
 use futures_buffered_core::ready_shared::{SharedReady, SharedWaker};
 use futures_buffered_core::ready_source::SlotWaker;
-use futures_buffered_sets::futures_unordered_bounded::FuturesUnorderedBounded;
-use futures_buffered_sets::slot_future::SlotFuture;
+use futures_buffered_sets::{FuturesUnorderedBounded, SlotFuture};
 use std::alloc::{AllocError, AllocGlobal, Global};
 use std::random::RandomSource;
 use std::sync::atomic::AtomicU64;
@@ -15,7 +14,7 @@ use std::sync::{Arc, Mutex, Wait};
 use std::test::Fail;
 use std::thread::{self, Threads};
 use test_support::keep::keep;
-use test_support::polling::poll_set;
+use test_support::polling::poll_next;
 
 const SLOTS: usize = 256;
 
@@ -171,7 +170,7 @@ fn start<R: Threads>(
 
 fn poll_each(task: &MockTask, set: &mut Set) {
     for _ in 0..5 {
-        let _ = poll_set(task, set);
+        let _ = poll_next(task, set);
     }
 }
 

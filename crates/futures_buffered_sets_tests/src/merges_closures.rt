@@ -3,11 +3,10 @@ use crate::same::assert_same;
 use futures::task::Poll;
 use futures::test::MockTask;
 use futures_buffered_core::ready_shared::SharedReady;
-use futures_buffered_sets::merge_bounded::MergeBounded;
-use futures_buffered_sets::merge_unbounded::MergeUnbounded;
+use futures_buffered_sets::{MergeBounded, MergeUnbounded};
 use std::test::Fail;
 use test_support::called::Called;
-use test_support::polling::{poll_growing_merge, poll_merge};
+use test_support::polling::poll_next;
 
 #[test]
 fn a_closure_in_a_merge(rt: HostRuntime) -> Result<(), Fail> {
@@ -15,7 +14,7 @@ fn a_closure_in_a_merge(rt: HostRuntime) -> Result<(), Fail> {
     let task = MockTask::new(&rt)?;
     let streams = vec![in rt.alloc(); Called::new(move || number.wrapping_mul(2))]?;
     let mut merge = MergeBounded::<_, SharedReady>::from_iter(rt.alloc(), streams)?;
-    assert_same(&rt, poll_merge(&task, &mut merge), Poll::Ready(Some(42)));
+    assert_same(&rt, poll_next(&task, &mut merge), Poll::Ready(Some(42)));
     Ok(())
 }
 
@@ -28,10 +27,6 @@ fn a_closure_in_a_growing_merge(rt: HostRuntime) -> Result<(), Fail> {
         .push(Called::new(move || number.wrapping_mul(2)))
         .is_ok();
     assert_same(&rt, is_pushed, true);
-    assert_same(
-        &rt,
-        poll_growing_merge(&task, &mut merge),
-        Poll::Ready(Some(42)),
-    );
+    assert_same(&rt, poll_next(&task, &mut merge), Poll::Ready(Some(42)));
     Ok(())
 }

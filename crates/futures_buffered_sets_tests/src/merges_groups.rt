@@ -4,8 +4,7 @@ use futures::task::Poll;
 use futures::test::MockTask;
 use futures_buffered_core::ready_core::NewFault;
 use futures_buffered_core::ready_source::SlotHandle;
-use futures_buffered_sets::merge_unbounded::MergeUnbounded;
-use futures_buffered_sets::slot_stream::SlotStream;
+use futures_buffered_sets::{MergeUnbounded, SlotStream};
 use std::alloc::{AllocError, Global};
 use std::process::Abort;
 use std::sync::atomic::Ordering::SeqCst;
@@ -13,8 +12,8 @@ use std::test::Fail;
 use test_support::counted_source::{CountedSource, SourceLog};
 use test_support::counter::{Counter, new_counter};
 use test_support::dropped_streams::{DroppedStream, add_dropped};
-use test_support::merge_answers::sum_of_growing;
-use test_support::polling::poll_growing_merge;
+use test_support::merge_answers::sum_of;
+use test_support::polling::poll_next;
 
 type Merge = MergeUnbounded<DroppedStream, CountedSource>;
 
@@ -69,7 +68,7 @@ fn new_merge(alloc: Global, log: &Log) -> Result<Merge, NewFault> {
 
 // One poll: what it answers, whether it woke its task, and the drops by then.
 fn polled(task: &MockTask, log: &Log, merge: &mut Merge) -> (Poll<Option<u64>>, bool, (u64, u64)) {
-    let answer = poll_growing_merge(task, merge);
+    let answer = poll_next(task, merge);
     (answer, task.is_woken(), log.drops())
 }
 
@@ -77,7 +76,7 @@ const ITEM: Poll<Option<u64>> = Poll::Ready(Some(1));
 
 fn try_to_the_end<R: Abort>(rt: &R, task: &MockTask, log: &Log, merge: &mut Merge) {
     assert_same(rt, polled(task, log, merge), (ITEM, false, (32, 1)));
-    assert_same(rt, sum_of_growing(task, merge, 63), (63, 63, Poll::Pending));
+    assert_same(rt, sum_of(task, merge, 63), (63, 63, Poll::Pending));
     assert_same(rt, log.drops(), (32, 1));
     assert_same(rt, polled(task, log, merge), (ITEM, false, (96, 2)));
     assert_same(rt, polled(task, log, merge), (ITEM, false, (96, 2)));
@@ -160,7 +159,7 @@ fn registrations_with<R: Abort>(
 ) -> u64 {
     assert_same(rt, push_all(merge, Barren::Ends, ends), true);
     assert_same(rt, push_all(merge, Barren::Waits, 1), true);
-    assert_same(rt, poll_growing_merge(task, merge), Poll::Pending);
+    assert_same(rt, poll_next(task, merge), Poll::Pending);
     sources.registrations.load(SeqCst)
 }
 
@@ -176,7 +175,7 @@ fn a_poll_of_two_groups_registers_once(rt: HostRuntime) -> Result<(), Fail> {
     assert_same(&rt, push_all(&mut merge, Barren::Waits, 2_000), true);
     let registrations = sources.registrations.load(SeqCst);
     assert_same(&rt, (registrations, task.is_woken()), (1, false));
-    let answer = poll_growing_merge(&task, &mut merge);
+    let answer = poll_next(&task, &mut merge);
     let registrations = sources.registrations.load(SeqCst);
     assert_same(&rt, (answer, registrations), (Poll::Pending, 2));
     Ok(())

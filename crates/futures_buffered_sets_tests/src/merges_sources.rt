@@ -3,13 +3,12 @@ use crate::same::assert_same;
 use futures::task::Poll;
 use futures::test::MockTask;
 use futures_buffered_core::ready_source::CoreSource;
-use futures_buffered_sets::merge_bounded::{Merge, MergeBounded};
-use futures_buffered_sets::merge_unbounded::MergeUnbounded;
+use futures_buffered_sets::{Merge, MergeBounded, MergeUnbounded};
 use std::alloc::{AllocError, Global};
 use std::process::Abort;
 use std::test::Fail;
-use test_support::merge_answers::{sum_of, sum_of_growing};
-use test_support::polling::poll_merge;
+use test_support::merge_answers::sum_of;
+use test_support::polling::poll_next;
 use test_support::stepped::{Stepped, same};
 
 // Each gives its number once, from 0 to `count - 1`.
@@ -52,7 +51,7 @@ fn try_to_fill<R: Abort>(rt: &R, task: &MockTask, merge: &mut MergeBounded<Stepp
     assert_same(rt, push(merge, same(4, 1)), true);
     assert_same(rt, merge.try_push(same(5, 1)), Ok(()));
     assert_same(rt, push(merge, same(6, 1)), false);
-    assert_same(rt, poll_merge(task, merge), Poll::Ready(Some(4)));
+    assert_same(rt, poll_next(task, merge), Poll::Ready(Some(4)));
     assert_same(rt, sum_of(task, merge, 100), (5, 1, Poll::Ready(None)));
 }
 
@@ -80,7 +79,7 @@ fn a_growing_merge_over_a_core_source(rt: HostRuntime) -> Result<(), Fail> {
     let mut merge = MergeUnbounded::over((), rt.alloc(), streams(rt.alloc(), 1)?)?;
     assert_same(&rt, push_all(&mut merge, 1000), true);
     assert_same(&rt, merge.len(), 1001);
-    let summed = sum_of_growing(&task, &mut merge, 10_000);
+    let summed = sum_of(&task, &mut merge, 10_000);
     assert_same(&rt, summed, (999_000, 2001, Poll::Ready(None)));
     Ok(())
 }

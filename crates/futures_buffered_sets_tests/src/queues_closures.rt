@@ -3,11 +3,10 @@ use crate::same::assert_same;
 use futures::task::Poll;
 use futures::test::MockTask;
 use futures_buffered_core::ready_shared::SharedReady;
-use futures_buffered_sets::futures_ordered::FuturesOrdered;
-use futures_buffered_sets::futures_ordered_bounded::FuturesOrderedBounded;
+use futures_buffered_sets::{FuturesOrdered, FuturesOrderedBounded};
 use std::test::Fail;
 use test_support::called::Called;
-use test_support::polling::{poll_growing_queue, poll_queue};
+use test_support::polling::poll_next;
 
 #[test]
 fn a_closure_in_a_bounded_queue(rt: HostRuntime) -> Result<(), Fail> {
@@ -18,7 +17,7 @@ fn a_closure_in_a_bounded_queue(rt: HostRuntime) -> Result<(), Fail> {
         .try_push_back(Called::new(move || number.wrapping_mul(2)))
         .is_ok();
     assert_same(&rt, is_pushed, true);
-    assert_same(&rt, poll_queue(&task, &mut queue), Poll::Ready(Some(42)));
+    assert_same(&rt, poll_next(&task, &mut queue), Poll::Ready(Some(42)));
     Ok(())
 }
 
@@ -31,10 +30,6 @@ fn a_closure_in_a_growing_queue(rt: HostRuntime) -> Result<(), Fail> {
         .push_back(Called::new(move || number.wrapping_mul(2)))
         .is_ok();
     assert_same(&rt, is_pushed, true);
-    assert_same(
-        &rt,
-        poll_growing_queue(&task, &mut queue),
-        Poll::Ready(Some(42)),
-    );
+    assert_same(&rt, poll_next(&task, &mut queue), Poll::Ready(Some(42)));
     Ok(())
 }

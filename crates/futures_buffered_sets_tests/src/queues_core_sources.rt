@@ -4,13 +4,13 @@ use futures::task::Poll;
 use futures::test::MockTask;
 use futures_buffered_core::ready_core::{NewFault, Woke};
 use futures_buffered_core::ready_source::CoreSource;
-use futures_buffered_sets::futures_ordered::FuturesOrdered;
-use futures_buffered_sets::futures_ordered_bounded::FuturesOrderedBounded;
+use futures_buffered_sets::{FuturesOrdered, FuturesOrderedBounded};
 use std::alloc::{AllocGlobal, Global};
 use std::process::Abort;
 use std::random::RandomSource;
 use std::test::Fail;
 use test_support::holds::{Holds, add_each, is_emptied};
+use test_support::polling::poll_next;
 use test_support::timed::{Timed, late, ready};
 
 const ENTRIES: u64 = 70_000;
@@ -63,7 +63,7 @@ fn a_bounded_queue_over_a_core_source(rt: HostRuntime) -> Result<(), Fail> {
 // Adds the numbers from 1 up to this one, each followed by a poll: whether no output comes.
 fn keeps_each(task: &MockTask, queue: &mut Bounded, last: u64) -> bool {
     for number in 1..=last {
-        if !queue.add(ready(number)) || queue.poll(task) != Poll::Pending {
+        if !queue.add(ready(number)) || poll_next(task, queue) != Poll::Pending {
             return false;
         }
     }

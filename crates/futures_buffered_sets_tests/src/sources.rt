@@ -5,8 +5,7 @@ use futures::task::Poll;
 use futures::test::MockTask;
 use futures_buffered_core::ready_core::{MAX_CAPACITY, NewFault, Taken};
 use futures_buffered_core::ready_source::{CoreSource, ScriptSource};
-use futures_buffered_sets::futures_unordered::FuturesUnordered;
-use futures_buffered_sets::futures_unordered_bounded::FuturesUnorderedBounded;
+use futures_buffered_sets::{FuturesUnordered, FuturesUnorderedBounded};
 use std::alloc::Global;
 use std::sync::Arc;
 use std::sync::atomic::Ordering::SeqCst;
@@ -16,6 +15,7 @@ use test_support::counter::{Counter, new_counter};
 use test_support::dropped::Dropped;
 use test_support::holds::{Holds, add_each, is_emptied};
 use test_support::keep::keep;
+use test_support::polling::poll_next;
 use test_support::timed::{Timed, late, ready};
 
 // A set of two slots, whose source names the second, pauses, and names the first.
@@ -30,7 +30,7 @@ fn polled(
     task: &MockTask,
     set: &mut FuturesUnorderedBounded<Timed, ScriptSource>,
 ) -> (Poll<Option<u64>>, bool) {
-    let answer = set.poll(task);
+    let answer = poll_next(task, set);
     (answer, task.is_woken())
 }
 
@@ -129,7 +129,7 @@ type Sourced = FuturesUnordered<Timed, DroppedSource<CoreSource>>;
 
 // The next output, and how often a source was dropped by then.
 fn drops_after(task: &MockTask, set: &mut Sourced, drops: &Counter) -> (Poll<Option<u64>>, u64) {
-    let answer = set.poll(task);
+    let answer = poll_next(task, set);
     (answer, drops.load(SeqCst))
 }
 
@@ -213,7 +213,7 @@ fn logged_poll(
     sources: &SourceLog,
     set: &mut Logged,
 ) -> (Poll<Option<u64>>, bool, u64) {
-    let answer = set.poll(task);
+    let answer = poll_next(task, set);
     (answer, task.is_woken(), sources.registrations.load(SeqCst))
 }
 

@@ -4,7 +4,6 @@ use mathlib.Core.Bool.{not}
 use mathlib.Core.Option.{some, some-injective, some-ne-none}
 use lib.ListN.{get_elem?}
 use Rattle.futures_buffered_table.specs.declared.view.AtomicStep.{AtomicStep}
-use Rattle.std.proofs.lemmas.Bool.Decides.{nat_tests}
 use Rattle.atomic_table.specs.Table.{Final, Seen}
 use Rattle.futures_buffered_table.specs.declared.view.Phase.{Phase}
 use Rattle.futures_buffered_table.specs.declared.view.Role.TheVariants.{Polls}
@@ -22,8 +21,7 @@ use Rattle.futures_buffered_table.proofs.WhereaboutsLemmas.{whereabouts}
 
 pub joined_on : (mine now whole : List AtomicStep) (left : List Waker) (s : Waker) (rest : List Waker) → left ≡ s ∷ rest →
     now ≡ mine ++ s.steps → mine ++ steps_of left ≡ whole → now ++ steps_of rest ≡ whole
-joined_on mine now whole left s rest is join so_far = ap (λ l. l ++ steps_of rest) join ∙
-    (append_assoc mine s.steps (steps_of rest) ∙ (ap (λ l. mine ++ steps_of l) (sym is) ∙ so_far))
+joined_on mine now whole left s rest is join so_far = grind (arith, append_assoc)
 
 pub joined_all : (mine whole : List AtomicStep) (left : List Waker) → left ≡ [] → mine ++ steps_of left ≡ whole → mine ≡ whole
 joined_all mine whole left none so_far = sym (append-nil mine) ∙ (ap (λ l. mine ++ steps_of l) (sym none) ∙ so_far)
@@ -40,11 +38,7 @@ word_is (x ∷ xs) zero r is = some-injective x r is
 word_is (x ∷ xs) (suc i) r is = word_is xs i r is
 
 pub marked_is : (m r : ℕ) → m ≡ r → m ≤ 1 → (not (nat_eq r 0) ≡ true → m ≡ 1) × (m ≡ 1 → not (nat_eq r 0) ≡ true)
-marked_is m zero is le = ((λ t. cc), (λ e. absurd (omega arith)))
-marked_is m (suc r) is le = ((λ t. omega arith), (λ e. is_set r))
-  where
-    is_set : (k : ℕ) → not (nat_eq (suc k) 0) ≡ true
-    is_set k = grind (arith, nat_tests)
+marked_is m r is le = grind arith
 
 -- at the end, the wins in the poll seat's list are at most its unmarks, plus one where the mark is set
 pub ends : (n id : ℕ) (v : View) (head : ℕ) (phase : Phase) (ws slots : List ℕ) → v.role ≡ Polls head phase →

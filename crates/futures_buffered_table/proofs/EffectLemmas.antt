@@ -1,5 +1,5 @@
 -- The step of each role stays in range, and keeps the row (`KeepsRow`).
-use Rattle.std.proofs.Common.{◌≡◌, ◌≢◌, ℕ, zero, suc, ◌+◌, ◌<◌, ◌≤◌, List, [], ◌∷◌, length, set, get_or, Bool, true, false, refl, sym, ap, ◌∙◌, ⊎_elim, arith, ◌++◌, subst, append-nil, ◌⊎◌, inl, inr}
+use Rattle.std.proofs.Common.{◌≡◌, ◌≢◌, ℕ, zero, suc, ◌+◌, ◌<◌, ◌≤◌, List, [], ◌∷◌, length, set, get_or, refl, sym, ap, ◌∙◌, ⊎_elim, arith, ◌++◌, subst, append-nil, ◌⊎◌, inl, inr}
 use Rattle.std.specs.Prelude.{if◌then◌else◌, ◌==◌}
 use mathlib.Core.Option.{some, some-injective}
 use lib.ListN.{get_elem?}
@@ -23,80 +23,29 @@ use Rattle.futures_buffered_table.specs.Tally.{is_unmark, is_win}
 use Rattle.futures_buffered_table.proofs.ListLemmas.{by_test}
 
 pub word_range : (n slot : ℕ) (role : Role) → slot ≤ n → InRange n role → word_of_role n slot role < n + n + 2
-word_range n slot Idle le ok = omega arith
-word_range n slot (Won e) le ok = omega arith
-word_range n slot (Cleared e) le ok = omega arith
-word_range n slot (Swapped e p) le ok = let a = ok.1 in omega arith
-word_range n slot (Polls h Start) le ok = omega arith
-word_range n slot (Polls h AtStub) le ok = omega arith
-word_range n slot (Polls h Moved) le ok = omega arith
-word_range n slot (Polls h NoNext) le ok = omega arith
-word_range n slot (Polls h Last) le ok = omega arith
-word_range n slot (Polls h StubCleared) le ok = omega arith
-word_range n slot (Polls h (StubPut p)) le ok = let a = ok.1 in omega arith
-word_range n slot (Polls h StubLinked) le ok = omega arith
-word_range n slot (Polls h (InHand i)) le ok = let a = ok.1 in omega arith
+word_range n slot role le ok = grind arith
 
 -- a poller stays one
 pub still_polls : (n h : ℕ) (phase : Phase) (found : ℕ) → (head : ℕ) × (next_phase : Phase)
     × (next_role n 0 (Polls h phase) found ≡ Polls head next_phase)
-still_polls n h Start zero = pick (h == n) h h AtStub NoNext
-  where
-    pick : (b : Bool) (x y : ℕ) (p q : Phase) → (head : ℕ) × (next_phase : Phase)
-        × ((if b then Polls x p else Polls y q) ≡ Polls head next_phase)
-    pick true x y p q = (x, p, refl)
-    pick false x y p q = (y, q, refl)
-still_polls n h Start (suc q) = pick (h == n) q q Moved (InHand h)
-  where
-    pick : (b : Bool) (x y : ℕ) (p q : Phase) → (head : ℕ) × (next_phase : Phase)
-        × ((if b then Polls x p else Polls y q) ≡ Polls head next_phase)
-    pick true x y p q = (x, p, refl)
-    pick false x y p q = (y, q, refl)
-still_polls n h AtStub found = (h, Start, refl)
+still_polls n h Start zero = by_test (λ role. (head : ℕ) × (next_phase : Phase) × (role ≡ Polls head next_phase)) (h == n) _ _ (λ _. (h, AtStub, refl))
+    (λ _. (h, NoNext, refl))
+still_polls n h Start (suc q) = by_test (λ role. (head : ℕ) × (next_phase : Phase) × (role ≡ Polls head next_phase)) (h == n) _ _ (λ _. (q, Moved, refl))
+    (λ _. (q, InHand h, refl))
+still_polls n h NoNext found = by_test (λ role. (head : ℕ) × (next_phase : Phase) × (role ≡ Polls head next_phase)) (found == h) _ _ (λ _. (h, Last, refl))
+    (λ _. (h, Start, refl))
 still_polls n h Moved zero = (h, NoNext, refl)
-still_polls n h Moved (suc q) = (q, InHand h, refl)
-still_polls n h NoNext found = pick (found == h)
-  where
-    pick : (b : Bool) → (head : ℕ) × (next_phase : Phase) × ((if b then Polls h Last else Polls h Start) ≡ Polls head next_phase)
-    pick true = (h, Last, refl)
-    pick false = (h, Start, refl)
-still_polls n h Last found = (h, StubCleared, refl)
-still_polls n h StubCleared found = (h, StubPut found, refl)
-still_polls n h (StubPut p) found = (h, StubLinked, refl)
 still_polls n h StubLinked zero = (h, Start, refl)
-still_polls n h StubLinked (suc q) = (q, InHand h, refl)
-still_polls n h (InHand i) found = (h, Start, refl)
+still_polls n h phase found = (_, _, refl)
 
 pub role_range : (n : ℕ) (words : List ℕ) (h : ℕ) (rest : List ℕ) (poller j : ℕ) (role : Role) → h ≤ n →
     FitsRole n words h rest poller j role → InRange n role
-role_range n words h rest poller j Idle le ok = tt
-role_range n words h rest poller j (Won i) le ok = omega arith
-role_range n words h rest poller j (Cleared i) le ok = let a = ok.0 in omega arith
-role_range n words h rest poller j (Swapped i p) le ok = (let a = ok.0 in omega arith, ok.1)
-role_range n words h rest poller j (Polls head Start) le ok = let a = ok.1 in omega arith
-role_range n words h rest poller j (Polls head AtStub) le ok = let a = ok.1 in omega arith
-role_range n words h rest poller j (Polls head Moved) le ok = let a = ok.1 in omega arith
-role_range n words h rest poller j (Polls head NoNext) le ok = let a = ok.1 in omega arith
-role_range n words h rest poller j (Polls head Last) le ok = let a = ok.1 in omega arith
-role_range n words h rest poller j (Polls head StubCleared) le ok = let a = ok.1 in omega arith
-role_range n words h rest poller j (Polls head (StubPut p)) le ok = (let a = ok.1 in omega arith, ok.2.1)
-role_range n words h rest poller j (Polls head StubLinked) le ok = let a = ok.1 in omega arith
-role_range n words h rest poller j (Polls head (InHand i)) le ok = (let a = ok.1 in omega arith, let b = ok.2.1 in omega arith)
+role_range n words h rest poller j role le ok = grind arith
 
 pub in_range_prop : (n : ℕ) (role : Role) → IsProp (InRange n role)
 in_range_prop n Idle = hlevel props
-in_range_prop n (Won e) = hlevel props
-in_range_prop n (Cleared e) = hlevel props
-in_range_prop n (Swapped e p) = hlevel props
 in_range_prop n (Polls h Start) = hlevel props
-in_range_prop n (Polls h AtStub) = hlevel props
-in_range_prop n (Polls h Moved) = hlevel props
-in_range_prop n (Polls h NoNext) = hlevel props
-in_range_prop n (Polls h Last) = hlevel props
-in_range_prop n (Polls h StubCleared) = hlevel props
-in_range_prop n (Polls h (StubPut p)) = hlevel props
-in_range_prop n (Polls h StubLinked) = hlevel props
-in_range_prop n (Polls h (InHand i)) = hlevel props
+in_range_prop n role = hlevel props
 
 -- some waker stands between its tail swap and its link write
 abbrev pub SomeWakerStands : List View → Type 0
@@ -121,58 +70,37 @@ module _ (n h : ℕ) (rest : List ℕ) (poller : ℕ) (words : List ℕ) (views 
 
   mark_swap : (slot : ℕ) → slot < n → get_elem? views id ≡ some (with_role Idle) → (found : ℕ) → found ≡ mark words slot →
       KeepsSomeRow Idle (set words slot 1) (next_role n slot Idle found) (step_of_role n slot Idle found)
-  mark_swap slot lt at zero is = (
-    h,
-    rest,
-    wins_mark n h rest poller words views R id (with_role Idle) (then_role (Won slot) (MarkSwap slot 0)) (MarkSwap slot 0) at refl
-        (λ _ _. refl)
-        slot lt (sym is) (λ e. omega arith) (λ p. refl) (λ e. refl) (λ e. refl) lt,
-    row_stays,
-  )
+  mark_swap slot lt at zero is =
+      let now = wins_mark n h rest poller words views R id (with_role Idle) (then_role (Won slot) (MarkSwap slot 0)) (MarkSwap slot 0) at refl
+      (λ _ _. refl) slot lt (sym is) (λ e. omega arith) (λ p. refl) (λ e. refl) (λ e. refl) lt in (h, rest, now, row_stays)
   mark_swap slot lt at (suc k) is =
       let one : get_or words slot 0 ≡ 1 = let a = R.whereabouts slot lt in omega arith in
-      let same_words : set words slot 1 ≡ words = subst (λ (x : ℕ). set words slot x ≡ words) one (set-get_or words slot 0) in (
-        h,
-        rest,
-        subst (λ (ws : List ℕ). KeepsRow n h rest poller ws (set views id (then_role Idle (MarkSwap slot (suc k))))) (sym same_words)
-            (quiet n h rest poller words views R id (with_role Idle) (then_role Idle (MarkSwap slot (suc k))) (MarkSwap slot (suc k)) at
-            refl (λ _ _. refl)
-            (λ e. refl) (λ p. refl) (λ e. refl) (λ e. refl) tt),
-        row_stays,
-      )
+      let same_words : set words slot 1 ≡ words = subst (λ (x : ℕ). set words slot x ≡ words) one (set-get_or words slot 0) in
+      let now = subst (λ (ws : List ℕ). KeepsRow n h rest poller ws (set views id (then_role Idle (MarkSwap slot (suc k))))) (sym same_words)
+      (quiet n h rest poller words views R id (with_role Idle) (then_role Idle (MarkSwap slot (suc k))) (MarkSwap slot (suc k)) at
+      refl (λ _ _. refl) (λ e. refl) (λ p. refl) (λ e. refl) (λ e. refl) tt) in (h, rest, now, row_stays)
 
   link_clear : (e : ℕ) → get_elem? views id ≡ some (with_role (Won e)) →
       KeepsSomeRow (Won e) (set words (n + e) 0) (Cleared e) (LinkClear e)
-  link_clear e at = let ok = (R.seats id (with_role (Won e)) at).0 in (
-    h,
-    rest,
-    clears n h rest poller words views R id (with_role (Won e)) (then_role (Cleared e) (LinkClear e)) (LinkClear e) at refl (λ _ _. refl)
-        e (omega arith) (λ x. refl) (λ x. refl) (λ p. refl) (λ x. refl) (λ x. refl) (λ z. (ok, z)),
-    row_stays,
-  )
+  link_clear e at = let ok = (R.seats id (with_role (Won e)) at).0 in
+      let now = clears n h rest poller words views R id (with_role (Won e)) (then_role (Cleared e) (LinkClear e)) (LinkClear e) at refl (λ _ _. refl)
+      e (omega arith) (λ x. refl) (λ x. refl) (λ p. refl) (λ x. refl) (λ x. refl) (λ z. (ok, z)) in (h, rest, now, row_stays)
 
   tail_swap : (e : ℕ) → get_elem? views id ≡ some (with_role (Cleared e)) →
       KeepsSomeRow (Cleared e) (set words (tail_at n) e) (Swapped e (tail n words)) (TailSwap e (tail n words))
-  tail_swap e at = let ok = (R.seats id (with_role (Cleared e)) at).0 in (
-    h,
-    rest ++ e ∷ [],
-    puts_in n h rest poller words views R id (with_role (Cleared e)) (then_role (Swapped e (tail n words)) (TailSwap e (tail n words)))
-        (TailSwap e (tail n words)) at refl (λ _ _. refl)
-        e (let a = ok.0 in omega arith) ok.1 (λ x. refl) (λ x. refl) (λ p. refl) (λ p. refl) (λ x. refl) (λ x. refl)
-        (λ le z. (ok.0, le, z)),
-    slots_put n (h ∷ rest) e ok.0,
-  )
+  tail_swap e at = let ok = (R.seats id (with_role (Cleared e)) at).0 in
+      let now = puts_in n h rest poller words views R id (with_role (Cleared e)) (then_role (Swapped e (tail n words)) (TailSwap e (tail n words)))
+      (TailSwap e (tail n words)) at refl (λ _ _. refl)
+      e (let a = ok.0 in omega arith) ok.1 (λ x. refl) (λ x. refl) (λ p. refl) (λ p. refl) (λ x. refl) (λ x. refl)
+      (λ le z. (ok.0, le, z)) in (h, rest ++ e ∷ [], now, slots_put n (h ∷ rest) e ok.0)
 
   link_write : (e p : ℕ) → get_elem? views id ≡ some (with_role (Swapped e p)) →
       KeepsSomeRow (Swapped e p) (set words (n + p) (suc e)) Idle (LinkWrite p e)
-  link_write e p at = let ok = (R.seats id (with_role (Swapped e p)) at).0 in (
-    h,
-    rest,
-    links_up n h rest poller words views R id (with_role (Swapped e p)) (then_role Idle (LinkWrite p e)) (LinkWrite p e) at refl
-        (λ _ _. refl)
-        e p (let a = ok.0 in omega arith) ok.1 ok.2 (λ x. refl) (λ x. refl) (λ q. refl) (λ q. refl) (λ x. refl) (λ x. refl) tt,
-    row_stays,
-  )
+  link_write e p at = let ok = (R.seats id (with_role (Swapped e p)) at).0 in
+      let now = links_up n h rest poller words views R id (with_role (Swapped e p)) (then_role Idle (LinkWrite p e)) (LinkWrite p e) at refl
+      (λ _ _. refl)
+      e p (let a = ok.0 in omega arith) ok.1 ok.2 (λ x. refl) (λ x. refl) (λ q. refl) (λ q. refl) (λ x. refl) (λ x. refl) tt in
+      (h, rest, now, row_stays)
 
   -- a step of a wake, in whatever role the seat is
   pub wake_keeps : (slot : ℕ) (role : Role) → (role ≡ Idle → slot < n) → ((head : ℕ) (phase : Phase) → role ≢ Polls head phase) →
@@ -216,16 +144,11 @@ module _ (n h : ℕ) (rest : List ℕ) (poller : ℕ) (words : List ℕ) (views 
       → ((e : ℕ) → is_win e m ≡ 0) → ((e : ℕ) → is_unmark e m ≡ 0) → FitsPhase n words h rest next_phase
       → Flows n (Polls h phase) (Polls h next_phase) (h ∷ rest) (h ∷ rest)
       → (i : ℕ) → i < n + n + 2 → PollKeepsRow phase (set words i (get_or words i 0)) (Polls h next_phase) m
-  reads phase next_phase m at outs oweds no_win no_unmark ok flow i lt = (
-    h,
-    rest,
-    subst (λ (ws : List ℕ). KeepsRow n h rest poller ws
-        (set views poller (record { stub = n; role = Polls h next_phase; steps = steps ++ m ∷ [] }))) (sym (set-get_or words i 0))
-        (quiet n h rest poller words views R poller (poller_in phase)
-        (record { stub = n; role = Polls h next_phase; steps = steps ++ m ∷ [] }) m at refl (λ ne. absurd (ne refl)) outs oweds no_win
-        no_unmark (refl, refl, ok)),
-    flow,
-  )
+  reads phase next_phase m at outs oweds no_win no_unmark ok flow i lt = let now = subst (λ (ws : List ℕ). KeepsRow n h rest poller ws
+      (set views poller (record { stub = n; role = Polls h next_phase; steps = steps ++ m ∷ [] }))) (sym (set-get_or words i 0))
+      (quiet n h rest poller words views R poller (poller_in phase)
+      (record { stub = n; role = Polls h next_phase; steps = steps ++ m ∷ [] }) m at refl (λ ne. absurd (ne refl)) outs oweds no_win
+      no_unmark (refl, refl, ok)) in (h, rest, now, flow)
 
   -- the link of the head names q: the head goes on to q
   heads_on : (phase next_phase : Phase) (q : ℕ) → get_elem? views poller ≡ some (poller_in phase) → link n words h ≡ suc q
@@ -254,15 +177,11 @@ module _ (n h : ℕ) (rest : List ℕ) (poller : ℕ) (words : List ℕ) (views 
           let R' : KeepsRow n h (q ∷ xs) poller words views = subst (λ (r : List ℕ). KeepsRow n h r poller words views)
           (is ∙ ap (λ (y : ℕ). y ∷ xs) q_is) R in
           let w : View = record { stub = n; role = Polls q next_phase; steps = steps ++ LinkRead h (suc q) ∷ [] } in
-          let le = (R.linked h here).0 in (
-            q,
-            xs,
-            subst (λ (ws : List ℕ). KeepsRow n q xs poller ws (set views poller w)) (sym (set-get_or words (n + h) 0))
-                (goes_on n h q xs poller words views R' (poller_in phase) w (LinkRead h (suc q)) at refl (λ z. let d = named in
-                omega arith) old_out new_out new_out_stub old_owed new_owed (λ e. refl) (λ e. refl)
-                (λ lq ne lh. (refl, refl, ok xs lq ne lh))),
-            flow xs (is ∙ ap (λ (y : ℕ). y ∷ xs) q_is),
-          )
+          let le = (R.linked h here).0 in
+          let now = subst (λ (ws : List ℕ). KeepsRow n q xs poller ws (set views poller w)) (sym (set-get_or words (n + h) 0))
+          (goes_on n h q xs poller words views R' (poller_in phase) w (LinkRead h (suc q)) at refl (λ z. let d = named in
+          omega arith) old_out new_out new_out_stub old_owed new_owed (λ e. refl) (λ e. refl)
+          (λ lq ne lh. (refl, refl, ok xs lq ne lh))) in (q, xs, now, flow xs (is ∙ ap (λ (y : ℕ). y ∷ xs) q_is))
 
   in_links : h ≤ n → n + h < n + n + 2
   in_links le = omega arith
@@ -316,20 +235,7 @@ module _ (n h : ℕ) (rest : List ℕ) (poller : ℕ) (words : List ℕ) (views 
 
   -- no seat but the poller ever has the stub
   no_stub : (phase : Phase) → outside_by n n (Polls h phase) ≡ 0 → get_elem? views poller ≡ some (poller_in phase) → outside n views n ≡ 0
-  no_stub phase none at = total_none (λ (u : View). outside_by n n u.role) views each
-    where
-      seat : (j : ℕ) (role : Role) → FitsRole n words h rest poller j role → (j ≡ poller → outside_by n n role ≡ 0) →
-          outside_by n n role ≡ 0
-      seat j Idle ok k = refl
-      seat j (Won i) ok k = same_else n i (λ z. omega arith)
-      seat j (Cleared i) ok k = same_else n i (λ z. let a = ok.0 in omega arith)
-      seat j (Swapped i p) ok k = refl
-      seat j (Polls head ph) ok k = k ok.0
-
-      each : (j : ℕ) (u : View) → get_elem? views j ≡ some u → outside_by n n u.role ≡ 0
-      each j u e = seat j u.role (R.seats j u e).0
-          (λ is. ap (λ (y : View). outside_by n n y.role) (some-injective u (poller_in phase) (sym e ∙ (ap (get_elem? views) is ∙ at))) ∙
-          none)
+  no_stub phase none at = grind (arith, total_none, same_else)
 
   tail_read_first : get_elem? views poller ≡ some (poller_in AtStub) → (found : ℕ) → found ≡ tail n words →
       PollKeepsRow AtStub (set words (tail_at n) found) (Polls h Start) (TailRead found)
@@ -361,16 +267,12 @@ module _ (n h : ℕ) (rest : List ℕ) (poller : ℕ) (words : List ℕ) (views 
               absurd (omega arith)
 
       takes_stub_alone : found ≡ h → PollKeepsRow NoNext (set words (tail_at n) found) (Polls h Last) (TailRead found)
-      takes_stub_alone e = let w : View = record { stub = n; role = Polls h Last; steps = steps ++ TailRead found ∷ [] } in (
-        h,
-        rest,
-        subst (λ (ws : List ℕ). KeepsRow n h rest poller ws (set views poller w))
-            (sym (subst (λ (x : ℕ). set words (tail_at n) x ≡ words) (sym is) (set-get_or words (tail_at n) 0)))
-            (takes_stub n h rest poller words views R poller (poller_in NoNext) w (TailRead found) at refl (λ ne. absurd (ne refl))
-            (stub_free e) (no_stub NoNext refl at)
-            (λ x. refl) (λ x. refl) (λ p. refl) (λ x. refl) (λ x. refl) (refl, refl, lt)),
-        stays,
-      )
+      takes_stub_alone e = let w : View = record { stub = n; role = Polls h Last; steps = steps ++ TailRead found ∷ [] } in
+          let now = subst (λ (ws : List ℕ). KeepsRow n h rest poller ws (set views poller w))
+          (sym (subst (λ (x : ℕ). set words (tail_at n) x ≡ words) (sym is) (set-get_or words (tail_at n) 0)))
+          (takes_stub n h rest poller words views R poller (poller_in NoNext) w (TailRead found) at refl (λ ne. absurd (ne refl))
+          (stub_free e) (no_stub NoNext refl at) (λ x. refl) (λ x. refl) (λ p. refl) (λ x. refl) (λ x. refl) (refl, refl, lt)) in
+          (h, rest, now, stays)
 
   -- some entry is not the last
   behind : (p q : ℕ) (r : List ℕ) → rest ≡ r → next p h rest ≡ suc q → 0 < length rest
@@ -393,14 +295,12 @@ module _ (n h : ℕ) (rest : List ℕ) (poller : ℕ) (words : List ℕ) (views 
 
       waiter : (j : ℕ) (u : View) → get_elem? views j ≡ some u → (role : Role) → u.role ≡ role → 0 < owed_by h u.role → (i : ℕ) × (p : ℕ)
           × (u : View) × (get_elem? views j ≡ some u) × (u.role ≡ Swapped i p)
-      waiter j u e Idle is pos = let a : owed_by h u.role ≡ 0 = ap (owed_by h) is in absurd (omega arith)
-      waiter j u e (Won i) is pos = let a : owed_by h u.role ≡ 0 = ap (owed_by h) is in absurd (omega arith)
-      waiter j u e (Cleared i) is pos = let a : owed_by h u.role ≡ 0 = ap (owed_by h) is in absurd (omega arith)
       waiter j u e (Swapped i p) is pos = (i, p, u, e, is)
       waiter j u e (Polls head ph) is pos =
           let here : j ≡ poller = (subst (FitsRole n words h rest poller j) is (R.seats j u e).0).0 in
           let same_u = some-injective u (poller_in phase) (sym e ∙ (ap (get_elem? views) here ∙ at)) in
           let a : owed_by h u.role ≡ 0 = ap (λ (y : View). owed_by h y.role) same_u ∙ owes_none in absurd (omega arith)
+      waiter j u e role is pos = let a : owed_by h u.role ≡ 0 = ap (owed_by h) is in absurd (omega arith)
 
   -- a step of a taking, in whatever phase it is
   pub poll_keeps : (slot : ℕ) (phase : Phase) → get_elem? views poller ≡ some (poller_in phase)
@@ -412,14 +312,10 @@ module _ (n h : ℕ) (rest : List ℕ) (poller : ℕ) (words : List ℕ) (views 
   poll_keeps slot Moved at found is = read_on Moved NoNext at (ok_of Moved at) (λ e. refl) (λ p. refl) (λ e. refl) (λ p. refl)
       (ok_of Moved at) stays (λ q xs e. slot_out q xs (ok_of Moved at) e) found is
   poll_keeps slot NoNext at found is = tail_read at found is
-  poll_keeps slot Last at found is = (
-    h,
-    rest,
-    clears n h rest poller words views R poller (poller_in Last)
-        (record { stub = n; role = Polls h StubCleared; steps = steps ++ LinkClear n ∷ [] }) (LinkClear n) at refl (λ ne. absurd (ne refl))
-        n (omega arith) (λ x. refl) (λ x. refl) (λ p. refl) (λ x. refl) (λ x. refl) (λ z. (refl, refl, (ok_of Last at, z))),
-    stays,
-  )
+  poll_keeps slot Last at found is = let now = clears n h rest poller words views R poller (poller_in Last)
+      (record { stub = n; role = Polls h StubCleared; steps = steps ++ LinkClear n ∷ [] }) (LinkClear n) at refl (λ ne. absurd (ne refl))
+      n (omega arith) (λ x. refl) (λ x. refl) (λ p. refl) (λ x. refl) (λ x. refl) (λ z. (refl, refl, (ok_of Last at, z))) in
+      (h, rest, now, stays)
   poll_keeps slot StubCleared at found is = subst
       (λ (x : ℕ). PollKeepsRow StubCleared (set words (tail_at n) n) (Polls h (StubPut x)) (TailSwap n x)) (sym is)
       (let l : ℕ = tail n words in (
@@ -432,23 +328,14 @@ module _ (n h : ℕ) (rest : List ℕ) (poller : ℕ) (words : List ℕ) (views 
             (λ le z. (refl, refl, ((ok_of StubCleared at).0, le, z))),
         slots_put_stub n (h ∷ rest),
       ))
-  poll_keeps slot (StubPut p) at found is = let ok = ok_of (StubPut p) at in (
-    h,
-    rest,
-    links_up n h rest poller words views R poller (poller_in (StubPut p))
-        (record { stub = n; role = Polls h StubLinked; steps = steps ++ LinkWrite p n ∷ [] }) (LinkWrite p n) at refl
-        (λ ne. absurd (ne refl))
-        n p (omega arith) ok.1 ok.2 (λ x. refl) (λ x. refl) (λ q. refl) (λ q. refl) (λ x. refl) (λ x. refl)
-        (refl, refl, (ok.0, behind p n rest refl ok.2)),
-    stays,
-  )
+  poll_keeps slot (StubPut p) at found is = let ok = ok_of (StubPut p) at in
+      let now = links_up n h rest poller words views R poller (poller_in (StubPut p))
+      (record { stub = n; role = Polls h StubLinked; steps = steps ++ LinkWrite p n ∷ [] }) (LinkWrite p n) at refl
+      (λ ne. absurd (ne refl)) n p (omega arith) ok.1 ok.2 (λ x. refl) (λ x. refl) (λ q. refl) (λ q. refl) (λ x. refl) (λ x. refl)
+      (refl, refl, (ok.0, behind p n rest refl ok.2)) in (h, rest, now, stays)
   poll_keeps slot StubLinked at found is = read_on StubLinked Start at (ok_of StubLinked at).0 (λ e. refl) (λ p. refl) (λ e. refl)
       (λ p. refl) (head_low n h rest poller words views R) stays (λ q xs e. slot_out q xs (ok_of StubLinked at).0 e) found is
-  poll_keeps slot (InHand i) at found is = let ok = ok_of (InHand i) at in (
-    h,
-    rest,
-    unmarks_slot n h rest poller words views R poller (poller_in (InHand i))
-        (record { stub = n; role = Polls h Start; steps = steps ++ Unmark i ∷ [] }) (Unmark i) at refl (λ ne. absurd (ne refl))
-        i ok.1 (λ x. refl) (λ x. refl) (λ p. refl) (λ x. refl) (λ x. refl) (refl, refl, ok.0),
-    (refl, refl),
-  )
+  poll_keeps slot (InHand i) at found is = let ok = ok_of (InHand i) at in
+      let now = unmarks_slot n h rest poller words views R poller (poller_in (InHand i))
+      (record { stub = n; role = Polls h Start; steps = steps ++ Unmark i ∷ [] }) (Unmark i) at refl (λ ne. absurd (ne refl))
+      i ok.1 (λ x. refl) (λ x. refl) (λ p. refl) (λ x. refl) (λ x. refl) (refl, refl, ok.0) in (h, rest, now, (refl, refl))

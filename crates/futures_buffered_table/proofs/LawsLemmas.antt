@@ -1,6 +1,6 @@
 -- What the rule of the table gives of every state.
 use Rattle.std.proofs.Common.{◌≡◌, ℕ, ◌≤◌, List, ◌∷◌, sym, ◌∙◌, subst, arith}
-use Rattle.futures_buffered_table.specs.Laws.{RuleEmptiesRow, RuleLosesNoMark, RulePlacesSlots}
+use Rattle.futures_buffered_table.specs.Laws.{RuleEmptiesRow, RulePlacesSlots}
 use Rattle.futures_buffered_table.proofs.WhereaboutsLemmas.{whereabouts}
 use Rattle.futures_buffered_table.specs.RowInvariant.{FitsRole}
 use Rattle.futures_buffered_table.proofs.RowLemmas.{alone}
@@ -18,6 +18,3 @@ empties_row = λ n s held j v h at polls is_stub.
     let once : times head (head ∷ rest) ≤ 1 = subst (λ (k : ℕ). times k (head ∷ rest) ≤ 1) (sym at_stub) (let d = R.stub_once in
     omega arith) in
     (whereabouts n head rest held.2 s.words s.views R, at_stub, alone head rest is_last once)
-
-pub loses_no_mark : RuleLosesNoMark
-loses_no_mark = λ n s held e lt. held.3.tallied e lt

@@ -27,18 +27,11 @@ module _ (table : TableId) (key n : ℕ) (L : KeepsList table key n) (seen : Lis
   -- a seat that callers see as one of this list is in its role
   pub in_role : (seat : Seat ℕ View) (role : Role) (list : TableId) → KeepsSeat seat.table_id seat.me role → seat.table_id ≡ list →
       list ≡ seen.list → IsInRole seen role seat
-  in_role seat role list S own same =
-      let words : seat.table_id.words ≡ table.words = ap (λ (t : TableId). t.words) (own ∙ (same ∙ this_table)) in
-      (own ∙ same, (let a = S.sized in let b = L.words in let d = cap in omega arith), S.rests, S.empty)
+  in_role seat role list S own same = grind arith
 
   -- and the other way round
   pub seat_kept : (seat : Seat ℕ View) (role : Role) → IsInRole seen role seat → KeepsSeat seat.table_id seat.me role
-  seat_kept seat role sits = record {
-    rests = sits.2;
-    empty = sits.3;
-    sized = let a = sits.1 in let b = L.words in let d = cap in
-        let words : seat.table_id.words ≡ table.words = ap (λ (t : TableId). t.words) (sits.0 ∙ this_table) in omega arith;
-  }
+  seat_kept seat role sits = grind arith
 
   -- its step is at the word i
   module _ (seat : Seat ℕ View) (role : Role) (sits : IsInRole seen role seat)
@@ -53,12 +46,9 @@ module _ (table : TableId) (key n : ℕ) (L : KeepsList table key n) (seen : Lis
     pub may_step : (a b : ℕ) (f : ℕ → ℕ) → ((found : ℕ) → put_by_role n role found ≡ f found)
         → (seat.table_id ≡ table) × (i < table.words)
         × Allows (HoldsRow key) table.slots seat.id seat.me i f (PlaysRole (table_step table.slots i a b none) seat.me)
-    may_step a b f put = (
-      sits.0 ∙ this_table,
-      in_words,
-      allows_step n seat.id i seat.me.0.steps role (lt cap) there table.slots key L.keyed seat.me is_me a
-          b f put,
-    )
+    may_step a b f put =
+        let step = allows_step n seat.id i seat.me.0.steps role (lt cap) there table.slots key L.keyed seat.me is_me a b f put in
+        (sits.0 ∙ this_table, in_words, step)
 
     pub may_store : (new : ℕ) → ((found : ℕ) → put_by_role n role found ≡ new)
         → ((found : ℕ) → next_view i (seated n role seat.me.0.steps).0 found ≡ next_view i (seated n role seat.me.0.steps).0 new) →
@@ -66,12 +56,9 @@ module _ (table : TableId) (key n : ℕ) (L : KeepsList table key n) (seen : Lis
         → (seat.table_id ≡ table) × (i < table.words)
         × Allows (HoldsRow key) table.slots seat.id seat.me i (λ _. new)
         (λ _. PlaysRole (table_step table.slots i new 0 none) seat.me new)
-    may_store new put blind told = (
-      sits.0 ∙ this_table,
-      in_words,
-      allows_store n seat.id i seat.me.0.steps role (lt cap) there table.slots key L.keyed seat.me is_me
-          new put blind told,
-    )
+    may_store new put blind told =
+        let step = allows_store n seat.id i seat.me.0.steps role (lt cap) there table.slots key L.keyed seat.me is_me new put blind told in
+        (sits.0 ∙ this_table, in_words, step)
 
   -- it may read the link of its head, a slot
   pub may_read_slot : (seat : Seat ℕ View) (head : ℕ) → ReadsSlot seen head seat → head ≤ seen.capacity

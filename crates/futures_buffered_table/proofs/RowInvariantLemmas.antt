@@ -1,12 +1,12 @@
 -- Each kind of step keeps the row (`KeepsRow`).
-use Rattle.std.proofs.Common.{◌≡◌, ◌≢◌, ℕ, suc, ◌+◌, ◌<◌, ◌≤◌, List, [], ◌∷◌, length, set, get_or, refl, sym, ap, ◌∙◌, ⊎_elim, arith, ◌⊎◌, ◌++◌, subst, inl, inr, length-set, get_or-set_other, get_or-set_same, length-append}
+use Rattle.std.proofs.Common.{◌≡◌, ◌≢◌, ℕ, suc, ◌+◌, ◌<◌, ◌≤◌, List, [], ◌∷◌, length, set, get_or, refl, sym, ap, ◌∙◌, ⊎_elim, arith, ◌⊎◌, ◌++◌, subst, length-set, get_or-set_other, get_or-set_same, length-append}
 use mathlib.Core.Option.{some}
 use lib.ListN.{get_elem?}
 use Rattle.atomic_table.proofs.Lists.{at_set}
 use Rattle.futures_buffered_table.specs.declared.view.Phase.{Phase}
-use Rattle.futures_buffered_table.specs.declared.view.Phase.TheVariants.{Start, AtStub, Moved, NoNext, Last, StubCleared, StubPut, StubLinked, InHand}
+use Rattle.futures_buffered_table.specs.declared.view.Phase.TheVariants.{StubCleared, StubPut}
 use Rattle.futures_buffered_table.specs.declared.view.Role.{Role}
-use Rattle.futures_buffered_table.specs.declared.view.Role.TheVariants.{Idle, Won, Cleared, Swapped, Polls}
+use Rattle.futures_buffered_table.specs.declared.view.Role.TheVariants.{Cleared, Swapped, Polls}
 use Rattle.futures_buffered_table.specs.declared.view.View.{View}
 use Rattle.futures_buffered_table.specs.declared.view.AtomicStep.{AtomicStep}
 use Rattle.futures_buffered_table.specs.RowInvariant.{FitsPhase, FitsRole, KeepsRow, outside, outside_by}
@@ -30,26 +30,19 @@ module _ (n : ℕ) (words now : List ℕ) (h : ℕ) (rest : List ℕ) (h' : ℕ)
       → ((i : ℕ) → i ≤ n → 0 < outside_by n i (Polls head phase) → link n words i ≡ 0 → link n now i ≡ 0)
       → ((p i : ℕ) → 0 < owed_by p (Polls head phase) → next p h rest ≡ suc i → next p h' rest' ≡ suc i)
       → h ≡ h' → length rest ≤ length rest' → FitsPhase n words h rest phase → FitsPhase n now h' rest' phase
-  phase_moves Start head f g e more ok = omega arith
-  phase_moves AtStub head f g e more ok = sym e ∙ ok
-  phase_moves Moved head f g e more ok = omega arith
-  phase_moves NoNext head f g e more ok = omega arith
-  phase_moves Last head f g e more ok = omega arith
   phase_moves StubCleared head f g e more ok = (omega arith, f n (omega arith) (one n) ok.1)
   phase_moves (StubPut p) head f g e more ok = (omega arith, ok.1, g p n (one p) ok.2)
-  phase_moves StubLinked head f g e more ok = (let a = ok.0 in omega arith, let a = ok.1 in omega arith)
-  phase_moves (InHand i) head f g e more ok = (omega arith, ok.1)
+  phase_moves phase head f g e more ok = omega arith
 
   pub role_moves : (poller j : ℕ) (role : Role)
       → ((i : ℕ) → i ≤ n → 0 < outside_by n i role → link n words i ≡ 0 → link n now i ≡ 0)
       → ((p i : ℕ) → 0 < owed_by p role → next p h rest ≡ suc i → next p h' rest' ≡ suc i)
       → (j ≡ poller → (h ≡ h') × (length rest ≤ length rest')) → FitsRole n words h rest poller j role →
       FitsRole n now h' rest' poller j role
-  role_moves poller j Idle f g k ok = tt
-  role_moves poller j (Won i) f g k ok = ok
   role_moves poller j (Cleared i) f g k ok = (ok.0, f i (let a = ok.0 in omega arith) (one i) ok.1)
   role_moves poller j (Swapped i p) f g k ok = (ok.0, ok.1, g p i (one p) ok.2)
   role_moves poller j (Polls head phase) f g k ok = (ok.0, ok.1 ∙ (k ok.0).0, phase_moves phase head f g (k ok.0).0 (k ok.0).1 ok.2)
+  role_moves poller j role f g k ok = ok
 
 -- the seat id, with the view v, makes the step m and then has the view w
 module _ (n h : ℕ) (rest : List ℕ) (poller : ℕ) (words : List ℕ) (views : List View) (R : KeepsRow n h rest poller words views)
@@ -76,6 +69,10 @@ module _ (n h : ℕ) (rest : List ℕ) (poller : ℕ) (words : List ℕ) (views 
       let a = total_set (λ (u : View). total f u.steps) views id v w at in
       let b : total f w.steps ≡ total f v.steps + (f m + 0) = ap (total f) ws ∙ total-append f v.steps (m ∷ []) in omega arith
 
+  tallied_now : (now : List ℕ) → ((e : ℕ) → e < n → is_win e m + mark words e ≡ is_unmark e m + mark now e) → (e : ℕ) → e < n →
+      total (λ (u : View). wins e u.steps) seen ≡ total (λ (u : View). unmarks e u.steps) seen + mark now e
+  tallied_now now even e lt = let a = counted (is_win e) in let b = counted (is_unmark e) in let c = R.tallied e lt in let d = even e lt in omega arith
+
   seats_now : (now : List ℕ) (h' : ℕ) (rest' : List ℕ)
       → ((i : ℕ) → i ≤ n → 0 < outside n views i → link n words i ≡ 0 → link n now i ≡ 0)
       → ((p i : ℕ) → 0 < owed views p → next p h rest ≡ suc i → next p h' rest' ≡ suc i)
@@ -99,22 +96,26 @@ module _ (n h : ℕ) (rest : List ℕ) (poller : ℕ) (words : List ℕ) (views 
       ))
       (at_set views id j w u e)
 
+  -- no word changes
+  same_words : ((e : ℕ) → e < n → outside_by n e w.role ≡ outside_by n e v.role) → times n (h ∷ rest) + outside n seen n ≤ 1
+      → ((p : ℕ) → owed_by p w.role ≡ owed_by p v.role) → ((e : ℕ) → is_win e m ≡ 0) → ((e : ℕ) → is_unmark e m ≡ 0)
+      → FitsRole n words h rest poller id w.role → KeepsRow n h rest poller words seen
+  same_words same_out stub same_owed no_win no_unmark mine = record {
+    wide = R.wide;
+    ends = R.ends;
+    linked = λ p some_p. grind (arith, owed_now);
+    unowed = λ p none. grind (arith, owed_now);
+    whereabouts = λ e lt. grind (arith, out_now);
+    stub_once = stub;
+    seats = seats_now words h rest (λ i _ _ z. z) (λ p i _ z. z) (λ _. (refl, omega arith)) mine;
+    tallied = tallied_now words (λ e lt. grind arith);
+  }
+
   -- nothing changes but the role
   pub quiet : ((e : ℕ) → outside_by n e w.role ≡ outside_by n e v.role) → ((p : ℕ) → owed_by p w.role ≡ owed_by p v.role)
       → ((e : ℕ) → is_win e m ≡ 0) → ((e : ℕ) → is_unmark e m ≡ 0) → FitsRole n words h rest poller id w.role
       → KeepsRow n h rest poller words seen
-  quiet same_out same_owed no_win no_unmark mine = record {
-    wide = R.wide;
-    ends = R.ends;
-    linked = λ p some_p. subst (λ (o : ℕ). (p ≤ n) × IsLinked (next p h rest) (link n words p) o) (let a = owed_now p in
-        let b = same_owed p in omega arith) (R.linked p some_p);
-    unowed = λ p none. let a = owed_now p in let b = same_owed p in let c = R.unowed p none in omega arith;
-    whereabouts = λ e lt. let a = out_now e in let b = same_out e in let c = R.whereabouts e lt in (omega arith, c.1);
-    stub_once = let a = out_now n in let b = same_out n in let c = R.stub_once in omega arith;
-    seats = seats_now words h rest (λ i _ _ z. z) (λ p i _ z. z) (λ _. (refl, omega arith)) mine;
-    tallied = λ e lt. let a = counted (is_win e) in let b = counted (is_unmark e) in let c = R.tallied e lt in let d = no_win e in
-        let x = no_unmark e in omega arith;
-  }
+  quiet same_out = same_words (λ e _. same_out e) (let a = out_now n in let b = same_out n in let c = R.stub_once in omega arith)
 
   -- the poller found itself at the last entry, so the stub is out of the row, and the poller has it then
   pub takes_stub : times n (h ∷ rest) ≡ 0 → outside n views n ≡ 0
@@ -122,19 +123,7 @@ module _ (n h : ℕ) (rest : List ℕ) (poller : ℕ) (words : List ℕ) (views 
       ((p : ℕ) → owed_by p w.role ≡ owed_by p v.role)
       → ((e : ℕ) → is_win e m ≡ 0) → ((e : ℕ) → is_unmark e m ≡ 0) → FitsRole n words h rest poller id w.role
       → KeepsRow n h rest poller words seen
-  takes_stub free alone old_out new_out same_owed no_win no_unmark mine = record {
-    wide = R.wide;
-    ends = R.ends;
-    linked = λ p some_p. subst (λ (o : ℕ). (p ≤ n) × IsLinked (next p h rest) (link n words p) o) (let a = owed_now p in
-        let b = same_owed p in omega arith) (R.linked p some_p);
-    unowed = λ p none. let a = owed_now p in let b = same_owed p in let c = R.unowed p none in omega arith;
-    whereabouts = λ e lt. let a = out_now e in let b = old_out e in let b' = new_out e in let c = R.whereabouts e lt in
-        let d = same_else e n (λ z. omega arith) in (omega arith, c.1);
-    stub_once = let a = out_now n in let b = old_out n in let b' = new_out n in let c = same_here n in omega arith;
-    seats = seats_now words h rest (λ i _ _ z. z) (λ p i _ z. z) (λ _. (refl, omega arith)) mine;
-    tallied = λ e lt. let a = counted (is_win e) in let b = counted (is_unmark e) in let c = R.tallied e lt in let d = no_win e in
-        let x = no_unmark e in omega arith;
-  }
+  takes_stub free alone old_out new_out = same_words (λ e lt. grind (arith, same_else)) (grind (arith, out_now, same_here))
 
   module _ (i x : ℕ) (room : i < n + n + 2) where
     at_i : get_or (set words i x) i 0 ≡ x
@@ -146,43 +135,35 @@ module _ (n h : ℕ) (rest : List ℕ) (poller : ℕ) (words : List ℕ) (views 
     still_wide : length (set words i x) ≡ n + n + 2
     still_wide = length-set words i x ∙ R.wide
 
+  -- the mark of a slot changes, as what the seat has of it
+  sets_mark : (i x : ℕ) → i < n → x ≤ 1 → ((e : ℕ) → e < n → outside_by n e w.role + mark words e ≡ outside_by n e v.role + mark (set words i x) e)
+      → outside_by n n w.role ≡ outside_by n n v.role → ((p : ℕ) → owed_by p w.role ≡ owed_by p v.role)
+      → ((e : ℕ) → e < n → is_win e m + mark words e ≡ is_unmark e m + mark (set words i x) e) → FitsRole n words h rest poller id w.role
+      → KeepsRow n h rest poller (set words i x) seen
+  sets_mark i x lt low outs same_stub same_owed even mine =
+      let room : i < n + n + 2 = omega arith in
+      let now : List ℕ = set words i x in
+      let links : (p : ℕ) → link n now p ≡ link n words p = λ p. off_i i x room (n + p) (λ z. omega arith) in
+      record {
+        wide = still_wide i x room;
+        ends = R.ends ∙ sym (off_i i x room (tail_at n) (λ z. omega arith));
+        linked = λ p some_p. grind (arith, owed_now);
+        unowed = λ p none. grind (arith, owed_now);
+        whereabouts = λ e lt'. let a = out_now e in let b = outs e lt' in let c = R.whereabouts e lt' in
+            let d = at_i i x room in let f = off_i i x room e in let k = same_cases e i in (omega arith, grind arith);
+        stub_once = let a = out_now n in let b = R.stub_once in omega arith;
+        seats = seats_now now h rest (λ i' _ _ z. links i' ∙ z) (λ p i' _ z. z) (λ _. (refl, omega arith))
+            (role_moves n words now h rest h rest poller id w.role (λ i' _ _ z. links i' ∙ z) (λ p i' _ z. z) (λ _. (refl, omega arith)) mine);
+        tallied = tallied_now now even;
+      }
+
   -- a seat wins the mark of a slot that was idle
   pub wins_mark : (i : ℕ) → i < n → mark words i ≡ 0
       → ((e : ℕ) → outside_by n e w.role ≡ outside_by n e v.role + same e i) → ((p : ℕ) → owed_by p w.role ≡ owed_by p v.role)
       → ((e : ℕ) → is_win e m ≡ same e i) → ((e : ℕ) → is_unmark e m ≡ 0) → FitsRole n words h rest poller id w.role
       → KeepsRow n h rest poller (set words i 1) seen
-  wins_mark i lt clear new_out same_owed a_win no_unmark mine =
-      let room : i < n + n + 2 = omega arith in
-      let links : (p : ℕ) → link n (set words i 1) p ≡ link n words p = λ p. off_i i 1 room (n + p) (λ z. omega arith) in
-      record {
-        wide = still_wide i 1 room;
-        ends = R.ends ∙ sym (off_i i 1 room (tail_at n) (λ z. omega arith));
-        linked = λ p some_p. subst (λ (z : ℕ × ℕ). (p ≤ n)
-            × IsLinked (next p h rest) z.0 z.1) (λ k. (
-              sym (links p) k,
-              (let q : owed views p ≡ owed seen p = let a = owed_now p in
-                  let b = same_owed p in omega arith in q) k,
-            )) (R.linked p some_p);
-        unowed = λ p none. let a = owed_now p in let b = same_owed p in let c = R.unowed p none in omega arith;
-        whereabouts = λ e lt'. ⊎_elim
-            (λ (t : (e ≡ i) × (same e i ≡ 1)). let a = out_now e in let b = new_out e in let c = R.whereabouts e lt' in
-            let d : mark (set words i 1) e ≡ 1 = ap (mark (set words i 1)) t.0 ∙ at_i i 1 room in
-            let f : mark words e ≡ 0 = ap (mark words) t.0 ∙ clear in (omega arith, omega arith))
-            (λ (t : (e ≢ i) × (same e i ≡ 0)). let a = out_now e in let b = new_out e in let c = R.whereabouts e lt' in
-            let d = off_i i 1 room e t.0 in (omega arith, omega arith))
-            (same_cases e i);
-        stub_once = let a = out_now n in let b = new_out n in let c = R.stub_once in let d = same_else n i (λ z. omega arith) in
-            omega arith;
-        seats = seats_now (set words i 1) h rest (λ i' _ _ z. links i' ∙ z) (λ p i' _ z. z) (λ _. (refl, omega arith))
-            (role_moves n words (set words i 1) h rest h rest poller id w.role (λ i' _ _ z. links i' ∙ z) (λ p i' _ z. z)
-            (λ _. (refl, omega arith)) mine);
-        tallied = λ e lt'. let a = counted (is_win e) in let b = counted (is_unmark e) in let c = R.tallied e lt' in let d = a_win e in
-            let x = no_unmark e in ⊎_elim
-            (λ (t : (e ≡ i) × (same e i ≡ 1)). let d' : mark (set words i 1) e ≡ 1 = ap (mark (set words i 1)) t.0 ∙ at_i i 1 room in
-            let f : mark words e ≡ 0 = ap (mark words) t.0 ∙ clear in omega arith)
-            (λ (t : (e ≢ i) × (same e i ≡ 0)). let d' = off_i i 1 room e t.0 in omega arith)
-            (same_cases e i);
-      }
+  wins_mark i lt clear new_out same_owed a_win no_unmark = sets_mark i 1 lt (omega arith) (λ e lt'. grind (arith, at_i, off_i, same_cases))
+      (grind (arith, same_else)) same_owed (λ e lt'. grind (arith, at_i, off_i, same_cases))
 
   -- a seat clears the link of an entry outside the row
   pub clears : (i : ℕ) → i ≤ n
@@ -198,27 +179,16 @@ module _ (n h : ℕ) (rest : List ℕ) (poller : ℕ) (words : List ℕ) (views 
       let c = old_out i in let d = same_here i in omega arith in
       let links : (p : ℕ) → p ≢ i → link n now p ≡ link n words p = λ p ne. off_i (n + i) 0 room (n + p) (λ z. ne (omega arith)) in
       let marks : (e : ℕ) → e < n → mark now e ≡ mark words e = λ e lt. off_i (n + i) 0 room e (λ z. omega arith) in
-      let zeros : (p : ℕ) → link n words p ≡ 0 →
-      link n now p ≡ 0 = λ p z. ⊎_elim (λ (t : (p ≡ i) × (same p i ≡ 1)). ap (link n now) t.0 ∙ at_i (n + i) 0 room) (λ (t : (p ≢ i)
-      × (same p i ≡ 0)). links p t.0 ∙ z) (same_cases p i) in
+      let zeros : (p : ℕ) → link n words p ≡ 0 → link n now p ≡ 0 = λ p z. grind (arith, at_i, links, same_cases) in
       record {
         wide = still_wide (n + i) 0 room;
         ends = R.ends ∙ sym (off_i (n + i) 0 room (tail_at n) (λ z. omega arith));
-        linked = λ p some_p. let ne : p ≢ i = λ is. let a : times i (h ∷ rest) ≡ times p (h ∷ rest) = ap (λ (q : ℕ). times q (h ∷ rest))
-            (sym is) in omega arith in
-            subst (λ (z : ℕ × ℕ). (p ≤ n)
-            × IsLinked (next p h rest) z.0 z.1) (λ k. (
-              sym (links p ne) k,
-              (let q : owed views p ≡ owed seen p = let a = owed_now p in
-                  let b = same_owed p in omega arith in q) k,
-            )) (R.linked p some_p);
-        unowed = λ p none. let a = owed_now p in let b = same_owed p in let c = R.unowed p none in omega arith;
-        whereabouts = λ e lt. let a = out_now e in let b = old_out e in let b' = new_out e in let c = R.whereabouts e lt in
-            let d = marks e lt in (omega arith, omega arith);
+        linked = λ p some_p. grind (arith, owed_now);
+        unowed = λ p none. grind (arith, owed_now);
+        whereabouts = λ e lt. grind (arith, out_now);
         stub_once = let a = out_now n in let b = old_out n in let b' = new_out n in let c = R.stub_once in omega arith;
         seats = seats_now now h rest (λ p _ _ z. zeros p z) (λ p i' _ z. z) (λ _. (refl, omega arith)) (mine (at_i (n + i) 0 room));
-        tallied = λ e lt. let a = counted (is_win e) in let b = counted (is_unmark e) in let c = R.tallied e lt in let d = no_win e in
-            let x = no_unmark e in let y = marks e lt in omega arith;
+        tallied = tallied_now now (λ e lt. let y = marks e lt in grind arith);
       }
 
   -- a seat puts its entry in at the end of the row, by a swap of the tail
@@ -249,58 +219,13 @@ module _ (n h : ℕ) (rest : List ℕ) (poller : ℕ) (words : List ℕ) (views 
       record {
         wide = still_wide (tail_at n) i room;
         ends = last_snoc h rest i ∙ sym (at_i (tail_at n) i room);
-        linked = λ p some_p. ⊎_elim
-            (λ (t : (p ≡ i) × (same p i ≡ 1)).
-            let gone : times p (h ∷ rest) ≡ 0 = ap (λ (q : ℕ). times q (h ∷ rest)) t.0 ∙ absent in
-            let le' : p ≤ n = omega arith in
-            let ne : p ≢ last_entry h rest = λ is. apart (is_last ∙ (sym is ∙ t.0)) in
-            let none : next p h (rest ++ i ∷ []) ≡ 0 = next_kept p h rest i ne ∙ next_absent p h rest gone in
-            let zero_link : link n now p ≡ 0 = links p le' ∙ (ap (link n words) t.0 ∙ clear) in (
-              le',
-              inl (
-                zero_link ∙ sym none,
-                let a = owed_now p in let b = old_owed p in let c = new_owed p in let d = R.unowed p gone in
-                    let f = same_else p l (λ z. apart (sym z ∙ t.0)) in omega arith,
-              ),
-            ))
-            (λ (t : (p ≢ i) × (same p i ≡ 0)).
-            let there : 0 < times p (h ∷ rest) = let a = times_now p in omega arith in
-            let was = R.linked p there in
-            let a = owed_now p in let b = old_owed p in let c = new_owed p in
-            ⊎_elim
-            (λ (s : (p ≡ l) × (same p l ≡ 1)).
-            let none : next p h rest ≡ 0 = ap (λ (q : ℕ). next q h rest) s.0 ∙ none_behind in
-            let some_now : next p h (rest ++ i ∷ []) ≡ suc i = ap (λ (q : ℕ). next q h (rest ++ i ∷ [])) s.0 ∙ behind in (
-              was.0,
-              ⊎_elim
-                  (λ (y : (link n words p ≡ next p h rest)
-                  × (owed views p ≡ 0)). inr (links p was.0 ∙ (y.0 ∙ none), (let d = y.1 in omega arith), omega arith))
-                  (λ (y : (link n words p ≡ 0) × (owed views p ≡ 1) × (0 < next p h rest)). absurd (let d = y.2 in omega arith)) was.1,
-            ))
-            (λ (s : (p ≢ l) × (same p l ≡ 0)).
-            let as_was : next p h (rest ++ i ∷ []) ≡ next p h rest = next_kept p h rest i (λ z. s.0 (z ∙ R.ends)) in (
-              was.0,
-              ⊎_elim
-                  (λ (y : (link n words p ≡ next p h rest)
-                  × (owed views p ≡ 0)). inl (links p was.0 ∙ (y.0 ∙ sym as_was), (let d = y.1 in omega arith)))
-                  (λ (y : (link n words p ≡ 0) × (owed views p ≡ 1)
-                  × (0 < next p h rest)). inr (links p was.0 ∙ y.0, (let d = y.1 in omega arith), (let d = y.2 in omega arith))) was.1,
-            ))
-            (same_cases p l))
-            (same_cases p i);
-        unowed = λ p none. let gone : times p (h ∷ rest) ≡ 0 = let a = times_now p in omega arith in
-            let ne : p ≢ l = λ is. let a : times l (h ∷ rest) ≡ times p (h ∷ rest) = ap (λ (q : ℕ). times q (h ∷ rest)) (sym is) in
-            omega arith in
-            let a = owed_now p in let b = old_owed p in let c = new_owed p in let d = R.unowed p gone in let f = same_else p l ne in
-            omega arith;
-        whereabouts = λ e lt. let a = out_now e in let b = old_out e in let b' = new_out e in let c = R.whereabouts e lt in
-            let d = marks e lt in let f = times_now e in (omega arith, omega arith);
-        stub_once = let a = out_now n in let b = old_out n in let b' = new_out n in let c = R.stub_once in let f = times_now n in
-            omega arith;
+        linked = λ p some_p. grind (arith, next_kept, next_absent, owed_now, same_else, same_cases);
+        unowed = λ p none. grind (arith, owed_now, same_else);
+        whereabouts = λ e lt. grind (arith, out_now);
+        stub_once = grind (arith, out_now);
         seats = seats_now now h (rest ++ i ∷ []) (λ p le' _ z. links p le' ∙ z) (λ p q _ z. next_stays p h rest i q z)
             (λ _. (refl, omega (arith, length-append rest (i ∷ [])))) (mine at_last.0 behind);
-        tallied = λ e lt. let a = counted (is_win e) in let b = counted (is_unmark e) in let c = R.tallied e lt in let d = no_win e in
-            let x = no_unmark e in let y = marks e lt in omega arith;
+        tallied = tallied_now now (λ e lt. let y = marks e lt in grind arith);
       }
 
   -- a seat writes the link that it owes
@@ -321,44 +246,18 @@ module _ (n h : ℕ) (rest : List ℕ) (poller : ℕ) (words : List ℕ) (views 
       record {
         wide = still_wide (n + p) (suc i) room;
         ends = R.ends ∙ sym (off_i (n + p) (suc i) room (tail_at n) (λ z. omega arith));
-        linked = λ q some_q. let was = R.linked q some_q in let a = owed_now q in let b = old_owed q in let c = new_owed q in ⊎_elim
-            (λ (t : (q ≡ p) × (same q p ≡ 1)).
-            let same_owes : owed views q ≡ owed views p = ap (owed views) t.0 in (
-              was.0,
-              inl (
-                ap (link n now) t.0 ∙ (at_i (n + p) (suc i) room ∙ (sym follows ∙ ap (λ (y : ℕ). next y h rest) (sym t.0))),
-                ⊎_elim
-                    (λ (y : (link n words q ≡ next q h rest) × (owed views q ≡ 0)). absurd (let d = y.1 in omega arith))
-                    (λ (y : (link n words q ≡ 0) × (owed views q ≡ 1) × (0 < next q h rest)). let d = y.1 in omega arith) was.1,
-              ),
-            ))
-            (λ (t : (q ≢ p) × (same q p ≡ 0)). (
-              was.0,
-              subst (λ (z : ℕ
-                  × ℕ). IsLinked (next q h rest) z.0 z.1) (λ k. (
-                    sym (links q t.0) k,
-                    (let o : owed views q ≡ owed seen q = omega arith in
-                        o) k,
-                  )) was.1,
-            ))
-            (same_cases q p);
+        linked = λ q some_q. grind (arith, owed_now, at_i, same_cases);
         unowed = λ q none. let a = owed_now q in let b = old_owed q in let c = new_owed q in let d = R.unowed q none in omega arith;
-        whereabouts = λ e lt. let a = out_now e in let b = old_out e in let b' = new_out e in let c = R.whereabouts e lt in
-            let d = marks e lt in (omega arith, omega arith);
+        whereabouts = λ e lt. grind (arith, out_now);
         stub_once = let a = out_now n in let b = old_out n in let b' = new_out n in let c = R.stub_once in omega arith;
         seats = seats_now now h rest (λ q leq some_out z. links q (λ is. let a = once q leq in
             let b : times q (h ∷ rest) ≡ times p (h ∷ rest) = ap (λ (y : ℕ). times y (h ∷ rest)) is in
             omega arith) ∙ z) (λ q j _ z. z) (λ _. (refl, omega arith)) mine;
-        tallied = λ e lt. let a = counted (is_win e) in let b = counted (is_unmark e) in let c = R.tallied e lt in let d = no_win e in
-            let x = no_unmark e in let y = marks e lt in omega arith;
+        tallied = tallied_now now (λ e lt. let y = marks e lt in grind arith);
       }
     where
       in_row : 0 < owed views p → 0 < times p (h ∷ rest)
-      in_row owes = ⊎_elim (λ (t : times p (h ∷ rest) ≡ 0). let a = R.unowed p t in
-          absurd (omega arith)) (λ (t : 0 < times p (h ∷ rest)). t) (zero_or (times p (h ∷ rest)))
-        where
-          zero_or : (k : ℕ) → (k ≡ 0) ⊎ (0 < k)
-          zero_or k = grind arith
+      in_row owes = let a = R.unowed p in grind arith
 
   -- the poller takes a slot out of its hand: the slot is idle again
   pub unmarks_slot : (i : ℕ) → i < n
@@ -366,37 +265,11 @@ module _ (n h : ℕ) (rest : List ℕ) (poller : ℕ) (words : List ℕ) (views 
       ((p : ℕ) → owed_by p w.role ≡ owed_by p v.role)
       → ((e : ℕ) → is_win e m ≡ 0) → ((e : ℕ) → is_unmark e m ≡ same e i) → FitsRole n words h rest poller id w.role
       → KeepsRow n h rest poller (set words i 0) seen
-  unmarks_slot i lt old_out new_out same_owed no_win an_unmark mine =
-      let room : i < n + n + 2 = omega arith in
-      let links : (p : ℕ) → link n (set words i 0) p ≡ link n words p = λ p. off_i i 0 room (n + p) (λ z. omega arith) in
-      record {
-        wide = still_wide i 0 room;
-        ends = R.ends ∙ sym (off_i i 0 room (tail_at n) (λ z. omega arith));
-        linked = λ p some_p. subst (λ (z : ℕ × ℕ). (p ≤ n)
-            × IsLinked (next p h rest) z.0 z.1) (λ k. (
-              sym (links p) k,
-              (let q : owed views p ≡ owed seen p = let a = owed_now p in
-                  let b = same_owed p in omega arith in q) k,
-            )) (R.linked p some_p);
-        unowed = λ p none. let a = owed_now p in let b = same_owed p in let c = R.unowed p none in omega arith;
-        whereabouts = λ e lt'. let a = out_now e in let b = old_out e in let b' = new_out e in let c = R.whereabouts e lt' in ⊎_elim
-            (λ (t : (e ≡ i) × (same e i ≡ 1)). let d : mark (set words i 0) e ≡ 0 = ap (mark (set words i 0)) t.0 ∙ at_i i 0 room in
-            (omega arith, omega arith))
-            (λ (t : (e ≢ i) × (same e i ≡ 0)). let d = off_i i 0 room e t.0 in (omega arith, omega arith))
-            (same_cases e i);
-        stub_once = let a = out_now n in let b = old_out n in let b' = new_out n in let c = R.stub_once in
-            let d = same_else n i (λ z. omega arith) in omega arith;
-        seats = seats_now (set words i 0) h rest (λ i' _ _ z. links i' ∙ z) (λ p i' _ z. z) (λ _. (refl, omega arith))
-            (role_moves n words (set words i 0) h rest h rest poller id w.role (λ i' _ _ z. links i' ∙ z) (λ p i' _ z. z)
-            (λ _. (refl, omega arith)) mine);
-        tallied = λ e lt'. let a = counted (is_win e) in let b = counted (is_unmark e) in let c = R.tallied e lt' in let d = no_win e in
-            let x = an_unmark e in let o = R.whereabouts e lt' in let p = total_at (λ (u : View). outside_by n e u.role) views id v at in
-            let q = old_out e in ⊎_elim
-            (λ (t : (e ≡ i) × (same e i ≡ 1)). let d' : mark (set words i 0) e ≡ 0 = ap (mark (set words i 0)) t.0 ∙ at_i i 0 room in
-            omega arith)
-            (λ (t : (e ≢ i) × (same e i ≡ 0)). let d' = off_i i 0 room e t.0 in omega arith)
-            (same_cases e i);
-      }
+  unmarks_slot i lt old_out new_out same_owed no_win an_unmark =
+      let was_set : mark words i ≡ 1 = let a = R.whereabouts i lt in let b = total_at (λ (u : View). outside_by n i u.role) views id v at in
+      let c = old_out i in let d = same_here i in omega arith in
+      sets_mark i 0 lt (omega arith) (λ e lt'. grind (arith, at_i, off_i, same_cases)) (grind (arith, same_else)) same_owed
+      (λ e lt'. grind (arith, at_i, off_i, same_cases))
 
 -- the poller's head moves on to the entry that its link names; where it was a slot, the poller has it then
 module _ (n h q : ℕ) (rest : List ℕ) (poller : ℕ) (words : List ℕ) (views : List View) (R : KeepsRow n h (q ∷ rest) poller words views)
@@ -435,12 +308,8 @@ module _ (n h q : ℕ) (rest : List ℕ) (poller : ℕ) (words : List ℕ) (view
                     o) k,
               )) was.1,
         );
-        unowed = λ p none. let a = owed_is p in let b = old_owed p in let c = new_owed p in ⊎_elim
-            (λ (t : (p ≡ h) × (same p h ≡ 1)). let d : owed views p ≡ owed views h = ap (owed views) t.0 in omega arith)
-            (λ (t : (p ≢ h) × (same p h ≡ 0)). let d = R.unowed p (omega arith) in omega arith)
-            (same_cases p h);
-        whereabouts = λ e lt. let a = out_is e in let b = old_out e in let b' = new_out e lt in let c = R.whereabouts e lt in
-            (omega arith, omega arith);
+        unowed = λ p none. grind arith;
+        whereabouts = λ e lt. grind arith;
         stub_once = let a = out_is n in let b = old_out n in let b' = new_out_stub in let c = R.stub_once in omega arith;
         seats = seats_now n h (q ∷ rest) poller words views R poller v w m at ws by_poller words q rest (λ i _ _ z. z)
             (λ p i some_owed z. let ne : p ≢ h = λ is. let d : owed views p ≡ owed views h = ap (owed views) is in omega arith in
@@ -459,18 +328,14 @@ pub keeps_first : (count n : ℕ) → KeepsRow n n [] count (empty_words n) (fir
 keeps_first count n = record {
   wide = empty_wide n;
   ends = sym (empty_tail n);
-  linked = λ p there. ⊎_elim
-      (λ (t : (p ≡ n) × (same p n ≡ 1)). (omega arith, inl (empty_word n (n + p) (omega arith), no_owed p)))
-      (λ (t : (p ≢ n) × (same p n ≡ 0)). absurd (omega arith)) (same_cases p n);
+  linked = λ p there. grind (arith, empty_word, no_owed, same_cases);
   unowed = λ p none. no_owed p;
-  whereabouts = λ e lt. let a = empty_word n e (omega arith) in let b = same_else e n (λ z. omega arith) in let d = no_out e in
-      (omega arith, omega arith);
+  whereabouts = λ e lt. grind (arith, empty_word, same_else, no_out);
   stub_once = let a = same_here n in let d = no_out n in omega arith;
   seats = each_first count n (λ j v. FitsRole n (empty_words n) n [] count j v.role
       × (j ≢ count → (e : ℕ) →
       unmarks e v.steps ≡ 0)) (λ j lt. (tt, λ ne e. refl)) ((refl, refl, (let a : n ≤ n = omega arith in a)), λ ne e. refl);
-  tallied = λ e lt. let a = empty_word n e (omega arith) in let b = none_of (λ v. wins e v.steps) refl refl in
-      let d = none_of (λ v. unmarks e v.steps) refl refl in omega arith;
+  tallied = λ e lt. grind (arith, empty_word, none_of);
 }
   where
     none_of : (f : View → ℕ) → f (new_waker_beside (first_poller n)) ≡ 0 → f (first_poller n) ≡ 0 → total f (first_views count n) ≡ 0

@@ -1,5 +1,5 @@
 -- The row: sums over lists, what follows an entry, the last entry, and the slots that go in and out.
-use Rattle.std.proofs.Common.{◌≡◌, ◌≢◌, ◌⊎◌, ℕ, zero, suc, ◌+◌, ◌<◌, ◌≤◌, List, [], ◌∷◌, ◌++◌, set, refl, sym, ap, arith, ⊎_elim, ◌∙◌, subst, ltb, Bool, true, false}
+use Rattle.std.proofs.Common.{◌≡◌, ◌≢◌, ◌⊎◌, ℕ, zero, suc, ◌+◌, ◌<◌, ◌≤◌, List, [], ◌∷◌, ◌++◌, set, refl, sym, ap, arith, ⊎_elim, ◌∙◌, ltb, Bool}
 use mathlib.Core.Option.{some, some-injective, some-ne-none}
 use lib.ListN.{get_elem?}
 use Rattle.std.proofs.lemmas.Bool.Decides.{nat_tests, Decides-ltb}
@@ -54,10 +54,7 @@ times_snoc e xs x = omega (arith, total-append (same e) xs (x ∷ []))
 pub total_some : {X : Type 0} (f : X → ℕ) (xs : List X) → 0 < total f xs → (i : ℕ) × (v : X) × (get_elem? xs i ≡ some v) × (0 < f v)
 total_some f [] pos = absurd (omega arith)
 total_some f (x ∷ xs) pos = ⊎_elim (λ (t : 0 < f x). (0, x, refl, t)) (λ (t : f x ≡ 0). let more = total_some f xs (omega arith) in
-    (suc more.0, more.1, more.2, more.3)) (pos_or (f x))
-  where
-    pos_or : (k : ℕ) → (0 < k) ⊎ (k ≡ 0)
-    pos_or k = grind arith
+    (suc more.0, more.1, more.2, more.3)) (grind arith)
 
 pub next_first : (h x : ℕ) (xs : List ℕ) → next h h (x ∷ xs) ≡ suc x
 next_first h x xs = grind (arith, nat_tests)
@@ -67,8 +64,7 @@ next_later p h x xs ne = grind (arith, nat_tests)
 
 pub next_absent : (p h : ℕ) (rest : List ℕ) → times p (h ∷ rest) ≡ 0 → next p h rest ≡ 0
 next_absent p h [] none = refl
-next_absent p h (x ∷ xs) none = ⊎_elim (λ (t : (p ≡ h) × (same p h ≡ 1)). absurd (omega arith)) (λ (t : (p ≢ h)
-    × (same p h ≡ 0)). next_later p h x xs t.0 ∙ next_absent p x xs (omega arith)) (same_cases p h)
+next_absent p h (x ∷ xs) none = grind (arith, nat_tests, next_absent p x xs)
 
 pub last_in : (h : ℕ) (rest : List ℕ) → 0 < times (last_entry h rest) (h ∷ rest)
 last_in h [] = omega (arith, same_here h)
@@ -81,35 +77,21 @@ last_snoc h (x ∷ xs) e = last_snoc x xs e
 -- behind the last entry stands none, where it stands once
 pub next_last : (p h : ℕ) (rest : List ℕ) → p ≡ last_entry h rest → times p (h ∷ rest) ≤ 1 → next p h rest ≡ 0
 next_last p h [] is once = refl
-next_last p h (x ∷ xs) is once =
-    let more : 0 < times p (x ∷ xs) = subst (λ (q : ℕ). 0 < times q (x ∷ xs)) (sym is) (last_in x xs) in
-    ⊎_elim (λ (t : (p ≡ h) × (same p h ≡ 1)). absurd (omega arith)) (λ (t : (p ≢ h)
-    × (same p h ≡ 0)). next_later p h x xs t.0 ∙ next_last p x xs is (omega arith)) (same_cases p h)
+next_last p h (x ∷ xs) is once = grind (arith, nat_tests, last_in x xs, next_last p x xs)
 
 -- an entry that is put in at the end comes behind the last, and nothing else changes
 pub next_put : (p h : ℕ) (rest : List ℕ) (e : ℕ) → p ≡ last_entry h rest → times p (h ∷ rest) ≤ 1 → next p h (rest ++ e ∷ []) ≡ suc e
-next_put p h [] e is once = subst (λ (q : ℕ). next q h (e ∷ []) ≡ suc e) (sym is) (next_first h e [])
-next_put p h (x ∷ xs) e is once =
-    let more : 0 < times p (x ∷ xs) = subst (λ (q : ℕ). 0 < times q (x ∷ xs)) (sym is) (last_in x xs) in
-    ⊎_elim (λ (t : (p ≡ h) × (same p h ≡ 1)). absurd (omega arith)) (λ (t : (p ≢ h)
-    × (same p h ≡ 0)). next_later p h x (xs ++ e ∷ []) t.0 ∙ next_put p x xs e is (omega arith)) (same_cases p h)
+next_put p h [] e is once = grind (arith, nat_tests)
+next_put p h (x ∷ xs) e is once = grind (arith, nat_tests, last_in x xs, next_put p x xs e)
 
 pub next_kept : (p h : ℕ) (rest : List ℕ) (e : ℕ) → p ≢ last_entry h rest → next p h (rest ++ e ∷ []) ≡ next p h rest
-next_kept p h [] e ne = next_later p h e [] ne
-next_kept p h (x ∷ xs) e ne = ⊎_elim
-    (λ (t : (p ≡ h) × (same p h ≡ 1)). subst (λ (q : ℕ). next q h (x ∷ (xs ++ e ∷ [])) ≡ next q h (x ∷ xs)) (sym t.0)
-    (next_first h x (xs ++ e ∷ []) ∙ sym (next_first h x xs)))
-    (λ (t : (p ≢ h) × (same p h ≡ 0)). next_later p h x (xs ++ e ∷ []) t.0 ∙ (next_kept p x xs e ne ∙ sym (next_later p h x xs t.0)))
-    (same_cases p h)
+next_kept p h [] e ne = grind (arith, nat_tests)
+next_kept p h (x ∷ xs) e ne = grind (arith, nat_tests, next_kept p x xs e)
 
 -- what stands behind an entry still does
 pub next_stays : (p h : ℕ) (rest : List ℕ) (e q : ℕ) → next p h rest ≡ suc q → next p h (rest ++ e ∷ []) ≡ suc q
 next_stays p h [] e q is = absurd (omega arith)
-next_stays p h (x ∷ xs) e q is = ⊎_elim
-    (λ (t : (p ≡ h) × (same p h ≡ 1)). subst (λ (k : ℕ). next k h (x ∷ (xs ++ e ∷ [])) ≡ suc q) (sym t.0)
-    (next_first h x (xs ++ e ∷ []) ∙ (sym (next_first h x xs) ∙ subst (λ (k : ℕ). next k h (x ∷ xs) ≡ suc q) t.0 is)))
-    (λ (t : (p ≢ h) × (same p h ≡ 0)). next_later p h x (xs ++ e ∷ []) t.0 ∙ next_stays p x xs e q (sym (next_later p h x xs t.0) ∙ is))
-    (same_cases p h)
+next_stays p h (x ∷ xs) e q is = grind (arith, nat_tests, next_stays p x xs e q)
 
 pub alone : (h : ℕ) (rest : List ℕ) → h ≡ last_entry h rest → times h (h ∷ rest) ≤ 1 → rest ≡ []
 alone h [] is once = refl
@@ -149,8 +131,7 @@ pub slots_stub : (n x : ℕ) (xs : List ℕ) → x ≡ n → row_slots n (x ∷ 
 slots_stub n x xs is = if_no (ltb x n) (x ∷ row_slots n xs) (row_slots n xs) (grind (arith, nat_tests))
 
 both : (b : Bool) (x : ℕ) (a c d : List ℕ) → a ++ c ≡ d → (if b then x ∷ a else a) ++ c ≡ (if b then x ∷ d else d)
-both true x a c d e = ap (λ (l : List ℕ). x ∷ l) e
-both false x a c d e = e
+both b x a c d e = grind arith
 
 pub slots-append : (n : ℕ) (xs ys : List ℕ) → row_slots n xs ++ row_slots n ys ≡ row_slots n (xs ++ ys)
 slots-append n [] ys = refl

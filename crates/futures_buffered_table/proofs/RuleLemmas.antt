@@ -5,15 +5,15 @@ use mathlib.Core.Option.{some, none}
 use lib.ListN.{get_elem?}
 use Rattle.futures_buffered_table.specs.declared.view.View.{View}
 use Rattle.futures_buffered_table.specs.declared.view.Phase.{Phase}
-use Rattle.futures_buffered_table.specs.declared.view.Phase.TheVariants.{Start, AtStub, Moved, NoNext, Last, StubCleared, StubPut, StubLinked, InHand}
+use Rattle.futures_buffered_table.specs.declared.view.Phase.TheVariants.{Start, Moved, StubCleared, StubLinked}
 use Rattle.futures_buffered_table.specs.declared.view.Role.{Role}
-use Rattle.futures_buffered_table.specs.declared.view.Role.TheVariants.{Idle, Won, Cleared, Swapped, Polls}
+use Rattle.futures_buffered_table.specs.declared.view.Role.TheVariants.{Idle, Cleared, Polls}
 use Rattle.atomic_table.specs.Table.{State, Me, step as table_step, keeps, Allows, Arrives, Splits, Joins}
 use Rattle.futures_buffered_table.specs.declared.view.AtomicStep.{AtomicStep}
 use Rattle.atomic_table.proofs.Lists.{at_last, at_set, at_snoc, set_again}
 use Rattle.futures_buffered_table.specs.RowInvariant.{FitsRole, KeepsRow, outside, outside_by}
 use Rattle.futures_buffered_table.specs.View.{first_poller, new_waker_beside, spent_view, with_steps_of}
-use Rattle.futures_buffered_table.specs.Row.{IsLinked, next, owed, owed_by, same, times, total}
+use Rattle.futures_buffered_table.specs.Row.{next, owed, owed_by, same, times, total}
 use Rattle.futures_buffered_table.proofs.RowLemmas.{next_first, same_cases, same_here, total-append, total_set}
 use Rattle.futures_buffered_table.specs.Tally.{is_unmark, is_win, unmarks, wins}
 use Rattle.futures_buffered_table.specs.Rule.{HoldsRow, MayFind, PlaysNewWaker, PlaysRole}
@@ -31,49 +31,35 @@ module _ (n h : ℕ) (rest : List ℕ) (poller : ℕ) (words : List ℕ) (views 
   pub wake_tells : (slot : ℕ) (role : Role) → (role ≡ Idle → slot < n) → ((head : ℕ) (phase : Phase) → role ≢ Polls head phase) →
       MayFind n role (get_or words (word_of_role n slot role) 0)
   wake_tells slot Idle lt wakes = (R.whereabouts slot (lt refl)).1
-  wake_tells slot (Won e) lt wakes = tt
   wake_tells slot (Cleared e) lt wakes = tail_low n h rest poller words views R
-  wake_tells slot (Swapped e p) lt wakes = tt
   wake_tells slot (Polls head phase) lt wakes = absurd (wakes head phase refl)
+  wake_tells slot role lt wakes = tt
 
-  link_low : link n words h ≤ suc n
+  -- what the head's link names is an entry, and behind the stub a slot
+  link_low : (link n words h ≤ suc n) × (h ≡ n → link n words h ≤ n)
   link_low = ⊎_elim (λ (t : (link n words h ≡ next h h rest) × (owed views h ≡ 0)). let a = t.0 in let b = next_low rest refl in
-      omega arith) (λ (t : (link n words h ≡ 0) × (owed views h ≡ 1) × (0 < next h h rest)). let a = t.0 in
-      omega arith) (R.linked h (let a = same_here h in omega arith)).1
+      (omega arith, λ at_stub. let d = b.1 at_stub in omega arith)) (λ (t : (link n words h ≡ 0) × (owed views h ≡ 1) × (0 < next h h rest)).
+      let a = t.0 in (omega arith, λ _. omega arith)) (R.linked h (let a = same_here h in omega arith)).1
     where
-      next_low : (r : List ℕ) → rest ≡ r → next h h rest ≤ suc n
-      next_low [] is = let a : next h h rest ≡ 0 = ap (next h h) is in omega arith
+      next_low : (r : List ℕ) → rest ≡ r → (next h h rest ≤ suc n) × (h ≡ n → next h h rest ≤ n)
+      next_low [] is = let a : next h h rest ≡ 0 = ap (next h h) is in (omega arith, λ _. omega arith)
       next_low (x ∷ xs) is = let a : next h h rest ≡ suc x = ap (next h h) is ∙ next_first h x xs in
           let there : 0 < times x (h ∷ rest) = subst (λ (r : List ℕ). 0 < times x (h ∷ r)) (sym is) (let b = same_here x in omega arith) in
-          let b = (R.linked x there).0 in omega arith
-
-  -- behind the stub stands a slot
-  stub_low : h ≡ n → link n words h ≤ n
-  stub_low at_stub = ⊎_elim (λ (t : (link n words h ≡ next h h rest) × (owed views h ≡ 0)). let a = t.0 in let b = next_low rest refl in
-      omega arith) (λ (t : (link n words h ≡ 0) × (owed views h ≡ 1) × (0 < next h h rest)). let a = t.0 in
-      omega arith) (R.linked h (let a = same_here h in omega arith)).1
-    where
-      next_low : (r : List ℕ) → rest ≡ r → next h h rest ≤ n
-      next_low [] is = let a : next h h rest ≡ 0 = ap (next h h) is in omega arith
-      next_low (x ∷ xs) is = let a : next h h rest ≡ suc x = ap (next h h) is ∙ next_first h x xs in
-          let there : 0 < times x (h ∷ rest) = subst (λ (r : List ℕ). 0 < times x (h ∷ r)) (sym is) (let b = same_here x in omega arith) in
-          let b = (R.linked x there).0 in
-          let twice : times h (h ∷ x ∷ xs) ≤ 1 = subst (λ (r : List ℕ). times h (h ∷ r) ≤ 1) is
-          (subst (λ (k : ℕ). times k (h ∷ rest) ≤ 1) (sym at_stub) (let d = R.stub_once in omega arith)) in
-          ⊎_elim (λ (t : (h ≡ x) × (same h x ≡ 1)). absurd (let d = same_here h in omega arith)) (λ (t : (h ≢ x)
-          × (same h x ≡ 0)). grind arith) (same_cases h x)
+          let b = (R.linked x there).0 in (
+            omega arith,
+            λ at_stub. let twice : times h (h ∷ x ∷ xs) ≤ 1 = subst (λ (r : List ℕ). times h (h ∷ r) ≤ 1) is
+                (subst (λ (k : ℕ). times k (h ∷ rest) ≤ 1) (sym at_stub) (let d = R.stub_once in omega arith)) in
+                ⊎_elim (λ (t : (h ≡ x) × (same h x ≡ 1)). absurd (let d = same_here h in omega arith)) (λ (t : (h ≢ x) × (same h x ≡ 0)). grind arith)
+                (same_cases h x),
+          )
 
   -- what the rule tells of the number that a step of a taking finds
   pub poll_tells : (slot : ℕ) (phase : Phase) → MayFind n (Polls h phase) (get_or words (word_of_role n slot (Polls h phase)) 0)
-  poll_tells slot Start = (link_low, stub_low)
-  poll_tells slot AtStub = tt
-  poll_tells slot Moved = link_low
-  poll_tells slot NoNext = tt
-  poll_tells slot Last = tt
+  poll_tells slot Start = link_low
+  poll_tells slot Moved = link_low.0
+  poll_tells slot StubLinked = link_low.0
   poll_tells slot StubCleared = tail_low n h rest poller words views R
-  poll_tells slot (StubPut p) = tt
-  poll_tells slot StubLinked = link_low
-  poll_tells slot (InHand i) = tt
+  poll_tells slot phase = tt
 
 -- a seat with this role and these steps, and no slot of the table
 abbrev pub seated : ℕ → Role → List AtomicStep → Me ℕ View
@@ -100,18 +86,12 @@ module _ (n id i : ℕ) (steps : List AtomicStep) where
       → (s : State ℕ View) → HoldsRow n s → get_elem? s.views id ≡ some (seated n role steps).0 → Keeps role s
   wake_keeps_rule role lt wakes there s held at =
       let kept = wake_keeps n held.0 held.1 held.2 s.words s.views held.3 id steps i role lt wakes at (Found s)
-      (ap (λ (k : ℕ). get_or s.words k 0) there) in (
-        (
-          kept.0,
-          kept.1,
-          held.2,
-          subst
-              (λ (k : ℕ). KeepsRow n kept.0 kept.1 held.2 (set s.words k (put_by_role n role (Found s)))
-              (set s.views id (next_view i (seated n role steps).0 (Found s)))) (sym there) kept.2,
-        ),
-        subst (λ (k : ℕ). MayFind n role (get_or s.words k 0)) (sym there)
-            (wake_tells n held.0 held.1 held.2 s.words s.views held.3 i role lt wakes),
-      )
+      (ap (λ (k : ℕ). get_or s.words k 0) there) in
+      let now = subst (λ (k : ℕ). KeepsRow n kept.0 kept.1 held.2 (set s.words k (put_by_role n role (Found s)))
+      (set s.views id (next_view i (seated n role steps).0 (Found s)))) (sym there) kept.2 in
+      let told = subst (λ (k : ℕ). MayFind n role (get_or s.words k 0)) (sym there)
+      (wake_tells n held.0 held.1 held.2 s.words s.views held.3 i role lt wakes) in
+      ((kept.0, kept.1, held.2, now), told)
 
   poll_keeps_rule : (h : ℕ) (phase : Phase) → i ≡ word_of_role n i (Polls h phase)
       → (s : State ℕ View) → HoldsRow n s → get_elem? s.views id ≡ some (seated n (Polls h phase) steps).0 → Keeps (Polls h phase) s
@@ -120,17 +100,12 @@ module _ (n id i : ℕ) (steps : List AtomicStep) where
       let ok = (held.3.seats id v at).0 in
       let R : KeepsRow n h held.1 id s.words s.views = subst (λ (x : ℕ
       × ℕ). KeepsRow n x.0 held.1 x.1 s.words s.views) (λ k. (sym ok.1 k, sym ok.0 k)) held.3 in
-      let kept = poll_keeps n h held.1 id s.words s.views R steps i phase at (Found s) (ap (λ (k : ℕ). get_or s.words k 0) there) in (
-        (
-          kept.0,
-          kept.1,
-          id,
-          subst
-              (λ (k : ℕ). KeepsRow n kept.0 kept.1 id (set s.words k (put_by_role n (Polls h phase) (Found s)))
-              (set s.views id (next_view i v (Found s)))) (sym there) kept.2,
-        ),
-        subst (λ (k : ℕ). MayFind n (Polls h phase) (get_or s.words k 0)) (sym there) (poll_tells n h held.1 id s.words s.views R i phase),
-      )
+      let kept = poll_keeps n h held.1 id s.words s.views R steps i phase at (Found s) (ap (λ (k : ℕ). get_or s.words k 0) there) in
+      let now = subst (λ (k : ℕ). KeepsRow n kept.0 kept.1 id (set s.words k (put_by_role n (Polls h phase) (Found s)))
+      (set s.views id (next_view i v (Found s)))) (sym there) kept.2 in
+      let told = subst (λ (k : ℕ). MayFind n (Polls h phase) (get_or s.words k 0)) (sym there)
+      (poll_tells n h held.1 id s.words s.views R i phase) in
+      ((kept.0, kept.1, id, now), told)
 
   -- an idle seat wakes a slot below the capacity
   abbrev pub SlotHandle : Role → Type 0
@@ -140,10 +115,8 @@ module _ (n id i : ℕ) (steps : List AtomicStep) where
   keeps_rule : (role : Role) → SlotHandle role → i ≡ word_of_role n i role
       → (s : State ℕ View) → HoldsRow n s → get_elem? s.views id ≡ some (seated n role steps).0 → Keeps role s
   keeps_rule Idle lt = wake_keeps_rule Idle (λ _. lt) (λ _ _ e. cc)
-  keeps_rule (Won e) lt = wake_keeps_rule (Won e) (λ e. absurd cc) (λ _ _ e. cc)
-  keeps_rule (Cleared e) lt = wake_keeps_rule (Cleared e) (λ e. absurd cc) (λ _ _ e. cc)
-  keeps_rule (Swapped e p) lt = wake_keeps_rule (Swapped e p) (λ e. absurd cc) (λ _ _ e. cc)
   keeps_rule (Polls h phase) lt = poll_keeps_rule h phase
+  keeps_rule role lt = wake_keeps_rule role (λ e. absurd cc) (λ _ _ e. cc)
 
   -- so the table lets the seat make it, by a step that puts what the role puts there
   module _ (role : Role) (lt : SlotHandle role) (there : i ≡ word_of_role n i role) (slots key : ℕ) (is_key : key ≡ n) (me : Me ℕ View)
@@ -183,36 +156,18 @@ same_sums : (n h : ℕ) (rest : List ℕ) (poller : ℕ) (words : List ℕ) (vie
     → ((j : ℕ) (v : View) → get_elem? now j ≡ some v → FitsRole n words h rest poller j v.role
     × (j ≢ poller → (e : ℕ) → unmarks e v.steps ≡ 0))
     → KeepsRow n h rest poller words now
-same_sums n h rest poller words views now R outs oweds won undone seats = record {
-  wide = R.wide;
-  ends = R.ends;
-  linked = λ p some_p. subst (λ (o : ℕ). (p ≤ n) × IsLinked (next p h rest) (link n words p) o) (sym (oweds p)) (R.linked p some_p);
-  unowed = λ p none. oweds p ∙ R.unowed p none;
-  whereabouts = λ e lt. let a = outs e in let b = R.whereabouts e lt in (omega arith, b.1);
-  stub_once = let a = outs n in let b = R.stub_once in omega arith;
-  seats = seats;
-  tallied = λ e lt. let a = won e in let b = undone e in let c = R.tallied e lt in omega arith;
-}
+same_sums n h rest poller words views now R outs oweds won undone seats = grind arith
 
 -- a new wake seat comes, and has made no step
 grows : (n : ℕ) (v : View) (s : State ℕ View) → HoldsRow n s →
     HoldsRow n record { words = s.words; homes = s.homes; views = s.views ++ new_waker_beside v ∷ [] }
 grows n v s held =
-    let R = held.3 in
-    let now : List View = s.views ++ new_waker_beside v ∷ [] in (
-      held.0,
-      held.1,
-      held.2,
-      same_sums n held.0 held.1 held.2 s.words s.views now R
-          (λ e. omega (arith, total-append (λ (u : View). outside_by n e u.role) s.views (new_waker_beside v ∷ [])))
-          (λ p. omega (arith, total-append (λ (u : View). owed_by p u.role) s.views (new_waker_beside v ∷ [])))
-          (λ e. omega (arith, total-append (λ (u : View). wins e u.steps) s.views (new_waker_beside v ∷ [])))
-          (λ e. omega (arith, total-append (λ (u : View). unmarks e u.steps) s.views (new_waker_beside v ∷ [])))
-          (λ j u e. ⊎_elim (λ t. R.seats j u t)
-          (λ (t : new_waker_beside v ≡ u). subst (λ (y : View). FitsRole n s.words held.0 held.1 held.2 j y.role
-          × (j ≢ held.2 → (x : ℕ) → unmarks x y.steps ≡ 0)) t (tt, λ _ x. refl))
-          (at_snoc s.views (new_waker_beside v) u j e)),
-    )
+    let w : View = new_waker_beside v in
+    let now = same_sums n held.0 held.1 held.2 s.words s.views (s.views ++ w ∷ []) held.3 (λ e. grind (arith, total-append))
+    (λ p. grind (arith, total-append)) (λ e. grind (arith, total-append)) (λ e. grind (arith, total-append)) (λ j u e. ⊎_elim (λ t. held.3.seats j u t)
+    (λ (t : w ≡ u). subst (λ (y : View). FitsRole n s.words held.0 held.1 held.2 j y.role × (j ≢ held.2 → (x : ℕ) → unmarks x y.steps ≡ 0)) t
+    (tt, λ _ x. refl)) (at_snoc s.views w u j e)) in
+    (held.0, held.1, held.2, now)
 
 pub splits : (n id : ℕ) (v : View) → Splits (HoldsRow n) id v v (new_waker_beside v)
 splits n id v s held at =
@@ -241,22 +196,19 @@ joins n id other v w head phase polls idle s held at apart there =
     let two : List View = set one other spent_view in
     let here : id ≡ held.2 = (subst (FitsRole n s.words held.0 held.1 held.2 id) polls (R.seats id v at).0).0 in
     let sums : (f : View → ℕ) → f both ≡ f v + f w → f spent_view ≡ 0 → total f two ≡ total f s.views = λ f a b.
-    let x = total_set f s.views id v both at in let y = total_set f one other w spent_view there in omega arith in (
-      held.0,
-      held.1,
-      held.2,
-      same_sums n held.0 held.1 held.2 s.words s.views two R
-          (λ e. sums (λ u. outside_by n e u.role) (let a : outside_by n e w.role ≡ 0 = ap (outside_by n e) idle in omega arith) refl)
-          (λ p. sums (λ u. owed_by p u.role) (let a : owed_by p w.role ≡ 0 = ap (owed_by p) idle in omega arith) refl)
-          (λ e. sums (λ u. wins e u.steps) (total-append (is_win e) v.steps w.steps) refl)
-          (λ e. sums (λ u. unmarks e u.steps) (total-append (is_unmark e) v.steps w.steps) refl)
-          (λ j u e. ⊎_elim
-          (λ (t : (j ≡ other) × (spent_view ≡ u)). subst (λ (y : View). FitsRole n s.words held.0 held.1 held.2 j y.role
-          × (j ≢ held.2 → (x : ℕ) → unmarks x y.steps ≡ 0)) t.1 (tt, λ _ x. refl))
-          (λ (t : (j ≢ other) × (get_elem? one j ≡ some u)). ⊎_elim
-          (λ (r : (j ≡ id) × (both ≡ u)). subst (λ (y : ℕ × View). FitsRole n s.words held.0 held.1 held.2 y.0 y.1.role
-          × (y.0 ≢ held.2 → (x : ℕ) → unmarks x y.1.steps ≡ 0)) (λ k. (sym r.0 k, r.1 k)) ((R.seats id v at).0, λ ne. absurd (ne here)))
-          (λ (r : (j ≢ id) × (get_elem? s.views j ≡ some u)). R.seats j u r.1)
-          (at_set s.views id j both u t.1))
-          (at_set one other j spent_view u e)),
-    )
+    let x = total_set f s.views id v both at in let y = total_set f one other w spent_view there in omega arith in
+    let now = same_sums n held.0 held.1 held.2 s.words s.views two R
+    (λ e. sums (λ u. outside_by n e u.role) (let a : outside_by n e w.role ≡ 0 = ap (outside_by n e) idle in omega arith) refl)
+    (λ p. sums (λ u. owed_by p u.role) (let a : owed_by p w.role ≡ 0 = ap (owed_by p) idle in omega arith) refl)
+    (λ e. sums (λ u. wins e u.steps) (total-append (is_win e) v.steps w.steps) refl)
+    (λ e. sums (λ u. unmarks e u.steps) (total-append (is_unmark e) v.steps w.steps) refl)
+    (λ j u e. ⊎_elim
+    (λ (t : (j ≡ other) × (spent_view ≡ u)). subst (λ (y : View). FitsRole n s.words held.0 held.1 held.2 j y.role
+    × (j ≢ held.2 → (x : ℕ) → unmarks x y.steps ≡ 0)) t.1 (tt, λ _ x. refl))
+    (λ (t : (j ≢ other) × (get_elem? one j ≡ some u)). ⊎_elim
+    (λ (r : (j ≡ id) × (both ≡ u)). subst (λ (y : ℕ × View). FitsRole n s.words held.0 held.1 held.2 y.0 y.1.role
+    × (y.0 ≢ held.2 → (x : ℕ) → unmarks x y.1.steps ≡ 0)) (λ k. (sym r.0 k, r.1 k)) ((R.seats id v at).0, λ ne. absurd (ne here)))
+    (λ (r : (j ≢ id) × (get_elem? s.views j ≡ some u)). R.seats j u r.1)
+    (at_set s.views id j both u t.1))
+    (at_set one other j spent_view u e)) in
+    (held.0, held.1, held.2, now)

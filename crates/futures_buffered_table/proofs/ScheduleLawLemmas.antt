@@ -1,14 +1,13 @@
 -- A legal schedule keeps the laws.
-use Rattle.std.proofs.Common.{◌≡◌, ◌≢◌, ◌⊎◌, ℕ, zero, suc, ◌+◌, ◌<◌, ◌≤◌, List, [], ◌∷◌, ◌++◌, length, map, set, get_or, Bool, true, false, refl, sym, ap, ◌∙◌, subst, inl, inr, ⊎_elim, arith, append-nil, append_assoc}
-use Rattle.std.proofs.lemmas.Bool.{eqb-true, eqb-false}
+use Rattle.std.proofs.Common.{◌≡◌, ◌≢◌, ◌⊎◌, ℕ, zero, suc, ◌+◌, ◌<◌, List, [], ◌∷◌, ◌++◌, map, set, get_or, refl, sym, ap, ◌∙◌, subst, inl, inr, ⊎_elim, arith, append-nil, append_assoc}
 use Rattle.std.proofs.lemmas.Bool.Decides.{nat_tests}
-use Rattle.std.specs.Prelude.{if◌then◌else◌, ◌==◌}
+use Rattle.std.specs.Prelude.{◌==◌}
 use mathlib.Core.Option.{some, some-injective}
 use lib.ListN.{get_elem?}
 use Rattle.atomic_table.proofs.Lists.{at_set, set_else, set_here}
 use Rattle.futures_buffered_table.specs.declared.view.AtomicStep.{AtomicStep}
 use Rattle.futures_buffered_table.specs.declared.view.Phase.{Phase}
-use Rattle.futures_buffered_table.specs.declared.view.Phase.TheVariants.{Start, AtStub, Moved, NoNext, Last, StubCleared, StubPut, StubLinked, InHand}
+use Rattle.futures_buffered_table.specs.declared.view.Phase.TheVariants.{Start, AtStub, Moved, NoNext, StubLinked}
 use Rattle.futures_buffered_table.specs.declared.view.Role.{Role}
 use Rattle.futures_buffered_table.specs.declared.view.Role.TheVariants.{Idle, Won, Cleared, Swapped, Polls}
 use Rattle.futures_buffered_table.specs.declared.view.View.{View}
@@ -16,7 +15,7 @@ use Rattle.futures_buffered_table.specs.declared.answer.Taken.TheVariants.{Empty
 use Rattle.futures_buffered_table.specs.declared.step.Step.{Step}
 use Rattle.futures_buffered_table.specs.declared.step.Step.TheVariants.{Mark, Go, Poll}
 use Rattle.futures_buffered_table.specs.declared.step.StepReply.{StepReply}
-use Rattle.futures_buffered_table.specs.declared.step.StepReply.TheVariants.{More, Woke, Taken}
+use Rattle.futures_buffered_table.specs.declared.step.StepReply.TheVariants.{Taken}
 use Rattle.futures_buffered_table.specs.ScheduleLaw.{AfterEach, AnswersInOrder, EmptyIsTrue, IsUnderWay, PauseHasCause, Made, Wake, WakerStands, WakerStood, answered, put_in, put_in_by, slot_named, wake_after, wake_of}
 use Rattle.futures_buffered_table.proofs.ScheduleLemmas.{IsReachable, pending, reachable_start, step_reaches}
 use Rattle.futures_buffered_table.specs.Schedule.{Legal, Moment, after_step, at_start, found_at, replies_of, view_at}
@@ -28,8 +27,8 @@ use Rattle.futures_buffered_table.proofs.RowLemmas.{alone, answered_by, in_hand,
 use Rattle.futures_buffered_table.specs.RowInvariant.{FitsRole, KeepsRow}
 use Rattle.futures_buffered_table.proofs.WordsLemmas.{tail_kept}
 use Rattle.futures_buffered_table.specs.View.{role_of, spent_view}
-use Rattle.futures_buffered_table.specs.Row.{last_entry, owed_by, times}
-use Rattle.futures_buffered_table.proofs.ListLemmas.{elem_at, place_low, by_test, if_yes, if_no}
+use Rattle.futures_buffered_table.specs.Row.{owed_by}
+use Rattle.futures_buffered_table.proofs.ListLemmas.{elem_at, place_low, if_yes, if_no}
 use Rattle.std.proofs.Math.ListN.{get_or-map}
 use Rattle.futures_buffered_table.proofs.ViewLemmas.{each_first}
 use Rattle.futures_buffered_table.specs.declared.step.TheConstants.{WAKE_SEATS}
@@ -76,13 +75,7 @@ wake_else seat e past ne = if_no (seat_of e.step == seat) _ _ (grind (arith, nat
 -- a waker that stands so is told of
 stands_told : (n : ℕ) (past : List Made) (c : Moment) (good : IsReachable n c) → IsTold n past c good → SomeWakerStands c.views →
     WakerStands past
-stands_told n past c good tells waits =
-    let j = waits.0 in let u = waits.1.2 in let at = waits.1.3 in let is = waits.1.4 in let polls = good.2.3 in
-    let other : j ≢ WAKE_SEATS = λ z.
-    let same_view = some-injective _ _ (sym at ∙ (ap (get_elem? c.views) z ∙ polls.2)) in
-    let r : Swapped waits.1.0 waits.1.1 ≡ Polls good.2.0 polls.0 = sym is ∙ ap (λ (v : View). v.role) same_view in cc in
-    let low : j < WAKE_SEATS = let a = place_low c.views j u at in let b = good.1 in grind arith in
-    (j, low, (subst (ShowsWake (wake_of j past)) is (tells.wakes j low u at)).1)
+stands_told n past c good tells waits = grind (arith, place_low)
 
 abbrev event : (n : ℕ) (c : Moment) → Step → Made
 event n c s = record { step = s; reply = reply_of_role n (view_at c s).role (found_at n c s) }
@@ -92,7 +85,7 @@ StaysTold n past c good s = IsRight (event n c s).reply past
     × ((on : IsReachable n (after_step n c s)) × IsTold n (event n c s ∷ past) (after_step n c s) on)
 
 -- a wake's step
-abbrev IsPolls : Role → Type 0
+abbrev pub IsPolls : Role → Type 0
 IsPolls (Polls h phase) = Unit {0}
 IsPolls _ = ⊥
 
@@ -103,110 +96,25 @@ MayMake Poll role = ⊥
 
 shows_on : (n m : ℕ) (s : Step) (role : Role) (found : ℕ) (w : Wake) → MayMake s role → ShowsWake w role →
     ShowsWake (wake_after s (reply_of_role n role found) w) (next_role m (slot_of s) role found)
-shows_on n m (Mark seat slot) Idle zero w may shows = (refl, refl)
-shows_on n m (Mark seat slot) Idle (suc k) w may shows = tt
-shows_on n m (Mark seat slot) (Won e) found w may shows = absurd cc
-shows_on n m (Mark seat slot) (Cleared e) found w may shows = absurd cc
-shows_on n m (Mark seat slot) (Swapped e p) found w may shows = absurd cc
-shows_on n m (Mark seat slot) (Polls h phase) found w may shows = absurd cc
-shows_on n m (Go seat) Idle found w may shows = absurd (may.0 refl)
-shows_on n m (Go seat) (Won e) found w may shows = (shows.0, ap suc shows.1)
-shows_on n m (Go seat) (Cleared e) found w may shows = (shows.0, ap suc shows.1)
-shows_on n m (Go seat) (Swapped e p) found w may shows = tt
-shows_on n m (Go seat) (Polls h phase) found w may shows = absurd (may.1 tt)
-shows_on n m Poll role found w may shows = absurd may
+shows_on n m s role found w may shows = grind arith
 
 put_on : (n : ℕ) (s : Step) (role : Role) (found : ℕ) (w : Wake) → MayMake s role → ShowsWake w role →
     put_in_by s (reply_of_role n role found) w ≡ put_by role
-put_on n (Mark seat slot) Idle zero w may shows = refl
-put_on n (Mark seat slot) Idle (suc k) w may shows = refl
-put_on n (Mark seat slot) (Won e) found w may shows = absurd cc
-put_on n (Mark seat slot) (Cleared e) found w may shows = absurd cc
-put_on n (Mark seat slot) (Swapped e p) found w may shows = absurd cc
-put_on n (Mark seat slot) (Polls h phase) found w may shows = absurd cc
-put_on n (Go seat) Idle found w may shows = absurd (may.0 refl)
-put_on n (Go seat) (Won e) found w may shows = ap (λ (k : ℕ). if k == 2 then w.slot ∷ [] else []) shows.1
-put_on n (Go seat) (Cleared e) found w may shows = (λ k. if shows.1 k == 2 then shows.0 k ∷ [] else [])
-put_on n (Go seat) (Swapped e p) found w may shows = refl
-put_on n (Go seat) (Polls h phase) found w may shows = absurd (may.1 tt)
-put_on n Poll role found w may shows = absurd may
+put_on n s role found w may shows = grind arith
 
 slot_on : (n : ℕ) (role : Role) (found : ℕ) → slot_named (reply_of_role n role found) ≡ answered_by role
-slot_on n Idle zero = refl
-slot_on n Idle (suc k) = refl
-slot_on n (Won e) found = refl
-slot_on n (Cleared e) found = refl
-slot_on n (Swapped e p) found = refl
-slot_on n (Polls h Start) found = refl
-slot_on n (Polls h AtStub) found = by_test (λ r. slot_named r ≡ []) (found == n) _ _ (λ _. refl) (λ _. refl)
-slot_on n (Polls h Moved) found = refl
-slot_on n (Polls h NoNext) found = by_test (λ r. slot_named r ≡ []) (found == h) _ _ (λ _. refl) (λ _. refl)
-slot_on n (Polls h Last) found = refl
-slot_on n (Polls h StubCleared) found = refl
-slot_on n (Polls h (StubPut p)) found = refl
-slot_on n (Polls h StubLinked) zero = refl
-slot_on n (Polls h StubLinked) (suc q) = refl
-slot_on n (Polls h (InHand i)) found = refl
+slot_on n role found = grind arith
 
 put_poll : (reply : StepReply) (w : Wake) → put_in_by Poll reply w ≡ []
-put_poll More w = refl
-put_poll (Woke x) w = refl
-put_poll (Taken x) w = refl
+put_poll reply w = grind arith
 
 right_wake : (n : ℕ) (role : Role) (found : ℕ) (past : List Made) → (IsPolls role → ⊥) → IsRight (reply_of_role n role found) past
-right_wake n Idle zero past wakes = tt
-right_wake n Idle (suc k) past wakes = tt
-right_wake n (Won e) found past wakes = tt
-right_wake n (Cleared e) found past wakes = tt
-right_wake n (Swapped e p) found past wakes = tt
-right_wake n (Polls h phase) found past wakes = absurd (wakes tt)
-
--- a step of a wake leaves a taking under way
-stays_under_way : (s : Step) (r : StepReply) (past : List Made) → seat_of s < WAKE_SEATS → IsUnderWay past →
-    IsUnderWay (record { step = s; reply = r } ∷ past)
-stays_under_way (Mark seat slot) r past low is = is
-stays_under_way (Go seat) r past low is = is
-stays_under_way Poll r past low is = absurd (omega arith)
-
-stood_by_then : (s : Step) (r : StepReply) (past : List Made) → seat_of s < WAKE_SEATS →
-    (IsUnderWay past × WakerStands (record { step = s; reply = r } ∷ past)) ⊎ WakerStood past →
-    WakerStood (record { step = s; reply = r } ∷ past)
-stood_by_then (Mark seat slot) r past low is = is
-stood_by_then (Go seat) r past low is = is
-stood_by_then Poll r past low is = absurd (omega arith)
-
--- and leaves the tail, or its waker stands so after it
-stood_or_last : (s : Step) (r : StepReply) (past : List Made) (t now h : ℕ) → seat_of s < WAKE_SEATS → (now ≡ t)
-    ⊎ WakerStands (record { step = s; reply = r } ∷ past)
-    → IsUnderWay past × (WakerStood past ⊎ (t ≡ h)) → IsUnderWay (record { step = s; reply = r } ∷ past)
-    × (WakerStood (record { step = s; reply = r } ∷ past) ⊎ (now ≡ h))
-stood_or_last s r past t now h low or takes = (
-  stays_under_way s r past low takes.0,
-  ⊎_elim (λ (e : now ≡ t). ⊎_elim (λ (z : WakerStood past). inl (stood_by_then s r past low (inr z))) (λ (z : t ≡ h). inr (e ∙ z)) takes.1)
-      (λ (z : WakerStands (record { step = s; reply = r } ∷ past)). inl (stood_by_then s r past low (inl (takes.0, z)))) or,
-)
-
-takes_on : (s : Step) (r : StepReply) (past : List Made) (t now h : ℕ) (phase : Phase) → seat_of s < WAKE_SEATS → (now ≡ t)
-    ⊎ WakerStands (record { step = s; reply = r } ∷ past) → TellsPhase past t h phase →
-    TellsPhase (record { step = s; reply = r } ∷ past) now h phase
-takes_on s r past t now h Start low or takes = tt
-takes_on s r past t now h AtStub low or takes = stood_or_last s r past t now h low or takes
-takes_on s r past t now h NoNext low or takes = stood_or_last s r past t now h low or takes
-takes_on s r past t now h Moved low or takes = stays_under_way s r past low takes
-takes_on s r past t now h Last low or takes = stays_under_way s r past low takes
-takes_on s r past t now h StubCleared low or takes = stays_under_way s r past low takes
-takes_on s r past t now h (StubPut p) low or takes = stays_under_way s r past low takes
-takes_on s r past t now h StubLinked low or takes = stays_under_way s r past low takes
-takes_on s r past t now h (InHand i) low or takes = stays_under_way s r past low takes
+right_wake n role found past wakes = grind arith
 
 takes_as : (s : Step) (r : StepReply) (past : List Made) (t now : ℕ) (role : Role) → seat_of s < WAKE_SEATS → (now ≡ t)
     ⊎ WakerStands (record { step = s; reply = r } ∷ past) → TellsRole past t role →
     TellsRole (record { step = s; reply = r } ∷ past) now role
-takes_as s r past t now Idle low or takes = tt
-takes_as s r past t now (Won e) low or takes = tt
-takes_as s r past t now (Cleared e) low or takes = tt
-takes_as s r past t now (Swapped e p) low or takes = tt
-takes_as s r past t now (Polls h phase) low or takes = takes_on s r past t now h phase low or takes
+takes_as s r past t now role low or takes = grind arith
 
 -- a step of a wake leaves the tail, or its waker stands so after it
 tail_or : (n h : ℕ) (rest : List ℕ) (words : List ℕ) (j : ℕ) (s : Step) (role : Role) (found : ℕ) (w : Wake) →
@@ -214,22 +122,13 @@ tail_or : (n h : ℕ) (rest : List ℕ) (words : List ℕ) (j : ℕ) (s : Step) 
     ShowsWake (wake_after s (reply_of_role n role found) w) (next_role n (slot_of s) role found)
     → (tail n (set words (word_of_role n (slot_of s) role) (put_by_role n role found)) ≡ tail n words)
     ⊎ ((wake_after s (reply_of_role n role found) w).made ≡ 3)
-tail_or n h rest words j s Idle found w ok lt wakes shows = inl (tail_kept n words (slot_of s) 1 (let a = lt refl in λ z. omega arith))
-tail_or n h rest words j s (Won e) found w ok lt wakes shows = inl (tail_kept n words (n + e) 0 (λ z. omega arith))
-tail_or n h rest words j s (Cleared e) found w ok lt wakes shows = inr shows.1
-tail_or n h rest words j s (Swapped e p) found w ok lt wakes shows = inl (tail_kept n words (n + p) (suc e) (let a = ok.1 in
-    λ z. omega arith))
-tail_or n h rest words j s (Polls head phase) found w ok lt wakes shows = absurd (wakes tt)
+tail_or n h rest words j s role found w ok lt wakes shows = grind (arith, tail_kept)
 
 moved_on : (p q a b d x : List ℕ) → x ≡ a ++ p → p ++ q ≡ b ++ d → x ++ q ≡ (a ++ b) ++ d
 moved_on p q a b d x e f = ap (λ (l : List ℕ). l ++ q) e ∙ (append_assoc a p q ∙ (ap (λ (l : List ℕ). a ++ l) f ∙ sym (append_assoc a b d)))
 
-role_polls : (role : Role) → IsPolls role → (h : ℕ) × (phase : Phase) × (role ≡ Polls h phase)
-role_polls Idle is = absurd is
-role_polls (Won e) is = absurd is
-role_polls (Cleared e) is = absurd is
-role_polls (Swapped e p) is = absurd is
-role_polls (Polls h phase) is = (h, phase, refl)
+pub role_polls : (role : Role) → IsPolls role → (h : ℕ) × (phase : Phase) × (role ≡ Polls h phase)
+role_polls role is = grind arith
 
 wake_next : (n : ℕ) (past : List Made) (c : Moment) (good : IsReachable n c) → IsTold n past c good → (s : Step) →
     CanStep n (map role_of c.views) s → seat_of s < WAKE_SEATS → ((IsPolls (view_at c s).role → ⊥) → MayMake s (view_at c s).role) →
@@ -274,11 +173,6 @@ wake_next n past c good tells s can low may_of lt =
       ),
     )
 
-both_test : (P : StepReply → Role → Type 0) (b : Bool) (r q : StepReply) (x y : Role) → (b ≡ true → P r x) → (b ≡ false → P q y) →
-    P (if b then r else q) (if b then x else y)
-both_test P true r q x y f g = f refl
-both_test P false r q x y f g = g refl
-
 -- a step of the poller
 module _ (n h : ℕ) (rest : List ℕ) (words : List ℕ) (views : List View) (R : KeepsRow n h rest WAKE_SEATS words views)
     (steps : List AtomicStep) (past : List Made) (stands : SomeWakerStands views → WakerStands past) where
@@ -296,63 +190,23 @@ module _ (n h : ℕ) (rest : List ℕ) (words : List ℕ) (views : List View) (R
   none_behind : (phase : Phase) → get_elem? views WAKE_SEATS ≡ some (record { stub = n; role = Polls h phase; steps = steps }) →
       owed_by h (Polls h phase) ≡ 0 → link n words h ≡ 0 → (x : ℕ) → (WakerStands past ⊎ WakerStood past)
       ⊎ (tail n (set words (n + h) x) ≡ h)
-  none_behind phase at owes zero_link x = ⊎_elim
-      (λ (t : rest ≡ []). inr (tail_kept n words (n + h) x (let a = head_low n h rest WAKE_SEATS words views R in
-      λ z. omega arith) ∙ (sym R.ends ∙ ap (last_entry h) t)))
-      (λ (t : SomeWakerStands views). inl (inl (stands t)))
-      (row_ends_or_waker_stands n h rest WAKE_SEATS words views R steps phase at owes zero_link)
+  none_behind phase at owes zero_link x = grind (arith, tail_kept, head_low, row_ends_or_waker_stands)
 
   poll_case : (phase : Phase) → get_elem? views WAKE_SEATS ≡ some (record { stub = n; role = Polls h phase; steps = steps }) →
       TellsPhase past (tail n words) h phase
       → put_in past ≡ answered past ++ (in_hand (Polls h phase) ++ row_slots n (h ∷ rest)) → (f : ℕ) →
       f ≡ get_or words (word_of_role n 0 (Polls h phase)) 0 → Case phase f
-  poll_case Start at takes flow zero is =
-      let or = none_behind Start at refl (sym is) 0 in (
-        tt,
-        by_test (λ role. TellsRole (made Start zero ∷ past) (now_tail Start zero) role) (h == n) (Polls h AtStub) (Polls h NoNext)
-            (λ _. (tt, or)) (λ _. (tt, or)),
-      )
-  poll_case Start at takes flow (suc q) is = (
-    tt,
-    by_test (λ role. TellsRole (made Start (suc q) ∷ past) (now_tail Start (suc q)) role) (h == n) (Polls q Moved)
-        (Polls q (InHand h)) (λ _. tt) (λ _. tt),
-  )
+  poll_case Start at takes flow zero is = let or = none_behind Start at refl (sym is) 0 in grind arith
+  poll_case Start at takes flow (suc q) is = grind arith
   poll_case AtStub at takes flow f is =
-      let at_stub : h ≡ n = (R.seats WAKE_SEATS _ at).0.2 in (
-        by_test (λ r. IsRight r past) (f == n) (Taken Empty) (Taken Pause)
-            (λ t.
-            let g : f ≡ n = eqb-true f n t in
-            let is_last : h ≡ last_entry h rest = at_stub ∙ (sym g ∙ (is ∙ sym R.ends)) in
-            let once : times h (h ∷ rest) ≤ 1 = subst (λ (k : ℕ). times k (h ∷ rest) ≤ 1) (sym at_stub) (let d = R.stub_once in
-            omega arith) in
-            let none : row_slots n (h ∷ rest) ≡ [] = ap (λ (r : List ℕ). row_slots n (h ∷ r)) (alone h rest is_last once) ∙ slots_stub n h
-            [] at_stub in
-            flow ∙ (ap (λ (l : List ℕ). answered past ++ l) none ∙ append-nil (answered past)))
-            (λ t.
-            let g : f ≢ n = eqb-false f n t in
-            ⊎_elim (λ (z : WakerStood past). inr z) (λ (z : tail n words ≡ h). absurd (g (is ∙ (z ∙ at_stub)))) takes.1),
-        tt,
-      )
+      let at_stub : h ≡ n = (R.seats WAKE_SEATS _ at).0.2 in let ends = R.ends in let once = R.stub_once in
+      grind (arith, alone, slots_stub, append-nil)
   poll_case Moved at takes flow zero is = (tt, (tt, none_behind Moved at refl (sym is) 0))
-  poll_case Moved at takes flow (suc q) is = (tt, tt)
-  poll_case NoNext at takes flow f is = both_test (λ r role. IsRight r past
-      × TellsRole (record { step = Poll; reply = r } ∷ past) (now_tail NoNext f) role) (f == h) More (Taken Pause) (Polls h Last)
-      (Polls h Start)
-      (λ t. (tt, tt))
-      (λ t. (⊎_elim (λ (z : WakerStood past). inr z) (λ (z : tail n words ≡ h). absurd (eqb-false f h t (is ∙ z))) takes.1, tt))
-  poll_case Last at takes flow f is = (tt, tt)
-  poll_case StubCleared at takes flow f is = (tt, tt)
-  poll_case (StubPut p) at takes flow f is = (tt, tt)
+  poll_case NoNext at takes flow f is = grind arith
   poll_case StubLinked at takes flow zero is =
-      let ok = (R.seats WAKE_SEATS _ at).0.2 in
-      let more : (r : List ℕ) → rest ≡ r → rest ≡ [] → ⊥ = λ r e none. let a : 0 < length rest = ok.1 in
-      let b : length rest ≡ 0 = ap (λ (l : List ℕ). length l) none in omega arith in (
-        ⊎_elim (λ (t : rest ≡ []). absurd (more rest refl t)) (λ (t : SomeWakerStands views). inl (stands t))
-            (row_ends_or_waker_stands n h rest WAKE_SEATS words views R steps StubLinked at refl (sym is)),
-        tt,
-      )
-  poll_case StubLinked at takes flow (suc q) is = (tt, tt)
-  poll_case (InHand i) at takes flow f is = (tt, tt)
+      let ok = (R.seats WAKE_SEATS _ at).0.2 in let or = row_ends_or_waker_stands n h rest WAKE_SEATS words views R steps StubLinked at refl (sym is) in
+      grind arith
+  poll_case phase at takes flow f is = (tt, tt)
 
 poll_next : (n : ℕ) (past : List Made) (c : Moment) (good : IsReachable n c) → IsTold n past c good → StaysTold n past c good Poll
 poll_next n past c good tells =

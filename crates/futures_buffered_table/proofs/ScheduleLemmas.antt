@@ -1,13 +1,13 @@
 -- Over a legal schedule the row keeps itself, and the slots come out in the order in which they were put in.
-use Rattle.std.proofs.Common.{◌≡◌, ◌≢◌, ℕ, zero, suc, ◌<◌, List, [], ◌∷◌, ◌++◌, length, map, set, get_or, refl, sym, ap, ◌∙◌, subst, arith, append-nil, append_assoc, length-set, ◌+◌}
+use Rattle.std.proofs.Common.{◌≡◌, ◌≢◌, ℕ, ◌<◌, List, [], ◌∷◌, ◌++◌, length, map, set, get_or, refl, sym, ap, ◌∙◌, subst, arith, append-nil, append_assoc, length-set, ◌+◌}
 use mathlib.Core.Option.{some, some-injective}
 use lib.ListN.{get_elem?}
 use Rattle.atomic_table.proofs.Lists.{set_else, set_here}
 use Rattle.futures_buffered_table.specs.declared.view.AtomicStep.{AtomicStep}
 use Rattle.futures_buffered_table.specs.declared.view.Phase.{Phase}
-use Rattle.futures_buffered_table.specs.declared.view.Phase.TheVariants.{Start, AtStub, Moved, NoNext, Last, StubCleared, StubPut, StubLinked, InHand}
+use Rattle.futures_buffered_table.specs.declared.view.Phase.TheVariants.{Start}
 use Rattle.futures_buffered_table.specs.declared.view.Role.{Role}
-use Rattle.futures_buffered_table.specs.declared.view.Role.TheVariants.{Idle, Won, Cleared, Swapped, Polls}
+use Rattle.futures_buffered_table.specs.declared.view.Role.TheVariants.{Idle, Polls}
 use Rattle.futures_buffered_table.specs.declared.view.View.{View}
 use Rattle.futures_buffered_table.specs.declared.step.Step.{Step}
 use Rattle.futures_buffered_table.specs.declared.step.Step.TheVariants.{Mark, Go, Poll}
@@ -46,57 +46,19 @@ StaysReachable n c good step = (on : IsReachable n (after_step n c step))
     × (pending n c good ++ put_by (view_at c step).role ≡ answered_by (view_at c step).role ++ pending n (after_step n c step) on)
 
 wake_answer : (role : Role) → ((head : ℕ) (phase : Phase) → role ≢ Polls head phase) → answered_by role ≡ []
-wake_answer Idle wakes = refl
-wake_answer (Won e) wakes = refl
-wake_answer (Cleared e) wakes = refl
-wake_answer (Swapped e p) wakes = refl
-wake_answer (Polls h phase) wakes = absurd (wakes h phase refl)
+wake_answer role wakes = grind arith
 
 wake_flow : (n : ℕ) (old now : Role) (row after : List ℕ) → ((head : ℕ) (phase : Phase) → old ≢ Polls head phase) →
     ((head : ℕ) (phase : Phase) → now ≢ Polls head phase) → Flows n old now row after → row_slots n row ++ put_by old ≡ row_slots n after
-wake_flow n Idle Idle row after w w' f = f
-wake_flow n Idle (Won a) row after w w' f = f
-wake_flow n Idle (Cleared a) row after w w' f = f
-wake_flow n Idle (Swapped a b) row after w w' f = f
-wake_flow n Idle (Polls a b) row after w w' f = absurd (w' a b refl)
-wake_flow n (Won e) Idle row after w w' f = f
-wake_flow n (Won e) (Won a) row after w w' f = f
-wake_flow n (Won e) (Cleared a) row after w w' f = f
-wake_flow n (Won e) (Swapped a b) row after w w' f = f
-wake_flow n (Won e) (Polls a b) row after w w' f = absurd (w' a b refl)
-wake_flow n (Cleared e) Idle row after w w' f = f
-wake_flow n (Cleared e) (Won a) row after w w' f = f
-wake_flow n (Cleared e) (Cleared a) row after w w' f = f
-wake_flow n (Cleared e) (Swapped a b) row after w w' f = f
-wake_flow n (Cleared e) (Polls a b) row after w w' f = absurd (w' a b refl)
-wake_flow n (Swapped e p) Idle row after w w' f = f
-wake_flow n (Swapped e p) (Won a) row after w w' f = f
-wake_flow n (Swapped e p) (Cleared a) row after w w' f = f
-wake_flow n (Swapped e p) (Swapped a b) row after w w' f = f
-wake_flow n (Swapped e p) (Polls a b) row after w w' f = absurd (w' a b refl)
-wake_flow n (Polls h phase) now row after w w' f = absurd (w h phase refl)
+wake_flow n old now row after w w' f = grind arith
 
 wake_stays : (n slot : ℕ) (role : Role) (found : ℕ) → ((head : ℕ) (phase : Phase) → role ≢ Polls head phase) → (head : ℕ) (phase : Phase) →
     next_role n slot role found ≢ Polls head phase
-wake_stays n slot Idle zero wakes head phase = λ e. cc
-wake_stays n slot Idle (suc k) wakes head phase = λ e. cc
-wake_stays n slot (Won e') found wakes head phase = λ e. cc
-wake_stays n slot (Cleared e') found wakes head phase = λ e. cc
-wake_stays n slot (Swapped e' p) found wakes head phase = λ e. cc
-wake_stays n slot (Polls h ph) found wakes head phase = absurd (wakes h ph refl)
+wake_stays n slot role found wakes head phase = grind arith
 
 poll_flow : (n h : ℕ) (phase : Phase) (head : ℕ) (next : Phase) (row after : List ℕ) → Flows n (Polls h phase) (Polls head next) row after
     → (in_hand (Polls h phase) ++ row_slots n row) ++ [] ≡ answered_by (Polls h phase) ++ (in_hand (Polls head next) ++ row_slots n after)
-poll_flow n h Start head next row after f = f
-poll_flow n h AtStub head next row after f = f
-poll_flow n h Moved head next row after f = f
-poll_flow n h NoNext head next row after f = f
-poll_flow n h Last head next row after f = f
-poll_flow n h StubCleared head next row after f = f
-poll_flow n h (StubPut p) head next row after f = f
-poll_flow n h StubLinked head next row after f = f
-poll_flow n h (InHand i) head next row after f = ap (λ (l : List ℕ). i ∷ l)
-    (append-nil (row_slots n row) ∙ (sym f.1 ∙ ap (λ (l : List ℕ). l ++ row_slots n after) (sym f.0)))
+poll_flow n h phase head next row after f = grind (arith, append-nil, row_slots)
 
 -- a wake's step
 wake_reaches : (n : ℕ) (c : Moment) (good : IsReachable n c) (step : Step) → seat_of step < WAKE_SEATS →
@@ -113,34 +75,19 @@ wake_reaches n c good step low lt =
     v.role ≢ Polls head phase = λ head phase e. let a = (subst (FitsRole n c.words h rest WAKE_SEATS seat) e (R.seats seat v there).0).0
     in omega arith in
     let kept = wake_keeps n h rest WAKE_SEATS c.words c.views R seat v.steps (slot_of step) v.role lt wakes at found refl in
-    let w : View = record
-    { stub = n; role = next_role n (slot_of step) v.role found; steps = v.steps ++ step_of_role n (slot_of step) v.role found ∷ [] } in
-    let same_view : w ≡ next_view (slot_of step) v found = λ k. record {
-      stub = sym stub k;
-      role = next_role (sym stub k) (slot_of step) v.role found;
-      steps = v.steps ++ step_of_role (sym stub k)
-          (slot_of step) v.role found ∷ [];
-    } in
+    let made : ℕ → View = λ x. record
+    { stub = x; role = next_role x (slot_of step) v.role found; steps = v.steps ++ step_of_role x (slot_of step) v.role found ∷ [] } in
+    let w : View = made n in
+    let same_view : w ≡ next_view (slot_of step) v found = ap made (sym stub) in
     let now : List View = set c.views seat w in
     let still : get_elem? now WAKE_SEATS ≡ some (record { stub = n; role = Polls h polls.0; steps = polls.1 }) = set_else c.views seat
     WAKE_SEATS w (λ z. omega arith) ∙ polls.2 in
     let same_head : h ≡ kept.0 = (kept.2.seats WAKE_SEATS _ still).0.1 in
     let words_now = set c.words (word_of n c step) (put_by_role n v.role found) in
-    let on : IsReachable n (record { words = words_now; views = now }) = (
-      stubs_set n c.views seat w good.0 refl,
-      length-set c.views seat w ∙ good.1,
-      (
-        kept.0,
-        kept.1,
-        kept.2,
-        (
-          polls.0,
-          polls.1,
-          still ∙ ap (λ (x : ℕ). let y : View = record { stub = n; role = Polls x polls.0; steps = polls.1 } in
-              some y) same_head,
-        ),
-      ),
-    ) in
+    let still_on : get_elem? now WAKE_SEATS ≡ some (record { stub = n; role = Polls kept.0 polls.0; steps = polls.1 }) =
+    still ∙ ap (λ (x : ℕ). let y : View = record { stub = n; role = Polls x polls.0; steps = polls.1 } in some y) same_head in
+    let stubs = stubs_set n c.views seat w good.0 refl in let wide = length-set c.views seat w ∙ good.1 in
+    let on : IsReachable n (record { words = words_now; views = now }) = (stubs, wide, (kept.0, kept.1, kept.2, (polls.0, polls.1, still_on))) in
     let flow = wake_flow n v.role (next_role n (slot_of step) v.role found) (h ∷ rest) (kept.0 ∷ kept.1) wakes
     (wake_stays n (slot_of step) v.role found wakes) kept.3 in
     let hand : in_hand (Polls h polls.0) ≡ in_hand (Polls kept.0 polls.0) = ap (λ (x : ℕ). in_hand (Polls x polls.0)) same_head in
@@ -170,39 +117,17 @@ poll_reaches n c good =
     let at_next : get_elem? (set c.views WAKE_SEATS w) WAKE_SEATS ≡ some (record { stub = n; role = Polls next.0 next.1; steps = w.steps })
     = at ∙ ap (λ (x : Role). let y : View = record { stub = n; role = x; steps = w.steps } in some y) next.2 in
     let same_head : next.0 ≡ kept.0 = (kept.2.seats WAKE_SEATS _ at_next).0.1 in
-    let c1 : Moment = record { words = set c.words (word_of_role n 0 p.role) (put_by_role n p.role f); views = set c.views WAKE_SEATS w } in
-    let on : IsReachable n c1 = (
-      stubs_set n c.views WAKE_SEATS w good.0 refl,
-      length-set c.views WAKE_SEATS w ∙ good.1,
-      (
-        kept.0,
-        kept.1,
-        kept.2,
-        (
-          next.1,
-          w.steps,
-          at_next ∙ ap (λ (x : ℕ). let y : View = record { stub = n; role = Polls x next.1; steps = w.steps } in
-              some y) same_head,
-        ),
-      ),
-    ) in
+    let polled : View → Moment = λ u. let x : ℕ = get_or c.words (word_of_role n 0 u.role) 0 in
+    record { words = set c.words (word_of_role n 0 u.role) (put_by_role n u.role x); views = set c.views WAKE_SEATS (next_view 0 u x) } in
+    let at_on : get_elem? (set c.views WAKE_SEATS w) WAKE_SEATS ≡ some (record { stub = n; role = Polls kept.0 next.1; steps = w.steps }) =
+    at_next ∙ ap (λ (x : ℕ). let y : View = record { stub = n; role = Polls x next.1; steps = w.steps } in some y) same_head in
+    let stubs = stubs_set n c.views WAKE_SEATS w good.0 refl in let wide = length-set c.views WAKE_SEATS w ∙ good.1 in
+    let on : IsReachable n (polled p) = (stubs, wide, (kept.0, kept.1, kept.2, (next.1, w.steps, at_on))) in
     let role_is : next_role n 0 (Polls h polls.0) f ≡ Polls kept.0 next.1 = next.2 ∙ ap (λ (x : ℕ). Polls x next.1) same_head in
     let flow : Flows n (Polls h polls.0) (Polls kept.0 next.1) (h ∷ rest) (kept.0 ∷ kept.1) = subst
     (λ (x : Role). Flows n (Polls h polls.0) x (h ∷ rest) (kept.0 ∷ kept.1)) role_is kept.3 in
     let all = poll_flow n h polls.0 kept.0 next.1 (h ∷ rest) (kept.0 ∷ kept.1) flow in
-    subst (λ (u : View).
-    (on' : IsReachable n
-    (record {
-      words = set c.words (word_of_role n 0 u.role) (put_by_role n u.role (get_or c.words (word_of_role n 0 u.role) 0));
-      views =
-          set c.views WAKE_SEATS (next_view 0 u (get_or c.words (word_of_role n 0 u.role) 0));
-    }))
-    × (pending n c good ++ put_by u.role ≡ answered_by u.role ++ pending n
-    (record {
-      words = set c.words (word_of_role n 0 u.role) (put_by_role n u.role (get_or c.words (word_of_role n 0 u.role) 0));
-      views =
-          set c.views WAKE_SEATS (next_view 0 u (get_or c.words (word_of_role n 0 u.role) 0));
-    }) on'))
+    subst (λ (u : View). (now : IsReachable n (polled u)) × (pending n c good ++ put_by u.role ≡ answered_by u.role ++ pending n (polled u) now))
     same_v (on, all)
 
 pub step_reaches : (n : ℕ) (c : Moment) (good : IsReachable n c) (step : Step) → CanStep n (map role_of c.views) step →

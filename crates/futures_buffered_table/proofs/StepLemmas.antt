@@ -2,20 +2,15 @@
 use Rattle.std.proofs.Common.{◌≡◌, ℕ, ◌<◌, ◌≤◌, List, length, arith, ◌+◌}
 use Rattle.futures_buffered_table.specs.declared.view.Role.{Role}
 use Rattle.futures_buffered_table.specs.declared.step.Step.{Step}
-use Rattle.futures_buffered_table.specs.declared.step.Step.TheVariants.{Mark, Go, Poll}
 use Rattle.futures_buffered_table.specs.Step.{CanStep, seat_of, slot_of}
 use Rattle.futures_buffered_table.specs.declared.step.TheConstants.{WAKE_SEATS}
 
 pub seat_in : (n : ℕ) (roles : List Role) (s : Step) → CanStep n roles s → seat_of s < WAKE_SEATS + 1
-seat_in n roles (Mark seat slot) can = let a = can.0 in omega arith
-seat_in n roles (Go seat) can = let a = can.0 in omega arith
-seat_in n roles Poll can = omega arith
+seat_in n roles s can = grind arith
 
 pub seat_low : (n : ℕ) (roles : List Role) (step : Step) → CanStep n roles step → length roles ≡ WAKE_SEATS + 1 →
     seat_of step < length roles
 seat_low n roles step can wide = let a = seat_in n roles step can in omega arith
 
 pub slot_low : (n : ℕ) (roles : List Role) (step : Step) → CanStep n roles step → slot_of step ≤ n
-slot_low n roles (Mark seat slot) can = let a = can.1 in omega arith
-slot_low n roles (Go seat) can = omega arith
-slot_low n roles Poll can = omega arith
+slot_low n roles step can = grind arith

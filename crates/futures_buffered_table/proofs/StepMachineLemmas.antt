@@ -1,5 +1,5 @@
 -- One step of the machine, by what its code reads and writes, and where it leads.
-use Rattle.std.proofs.Common.{◌≡◌, ℕ, ◌<◌, ◌≤◌, List, [], ◌∷◌, ◌++◌, length, map, set, get_or, refl, sym, ap, ◌∙◌, subst, arith, ◌+◌, ◌^◌, length-set}
+use Rattle.std.proofs.Common.{◌≡◌, ℕ, ◌<◌, ◌≤◌, List, [], ◌∷◌, ◌++◌, length, map, set, get_or, sym, ap, ◌∙◌, subst, arith, ◌+◌, ◌^◌, length-set}
 use mathlib.Core.Option.{some}
 use lib.ListN.{get_elem?}
 use Rattle.futures_buffered_table.specs.declared.view.Role.{Role}
@@ -77,18 +77,13 @@ leads_on old new step reply can did = λ schedule leads.
 
 pub stuck_here : (n : ℕ) (m : Machine) (schedule : List Step) (s : Step) → m.capacity ≡ n → Leads schedule m → (CanMake m s → ⊥) →
     CanStep n (map role_of (run n (at_start n) schedule).views) s → ⊥
-stuck_here n m schedule s is leads cannot can = cannot
-    (subst (λ (l : List Role). CanStep m.capacity l s) (sym leads.1.1)
-    (subst (λ (k : ℕ). CanStep k (map role_of (run k (at_start k) schedule).views) s) (sym is) can))
+stuck_here n m schedule s is leads cannot can = grind arith
 
 -- the whole of a list of steps was made
 pub whole : (n : ℕ) (m : Machine) (made steps : List Step) (replies : List StepReply) → m.capacity ≡ n → made ≡ steps → Leads made m →
     replies ≡ replies_to m made
     → Legal n (at_start n) steps × (replies ≡ replies_of n (at_start n) steps)
-whole n m made steps replies cap all leads replied = (
-  subst (λ (y : ℕ × List Step). Legal y.0 (at_start y.0) y.1) (λ k. (cap k, all k)) leads.0,
-  replied ∙ (λ k. replies_of (cap k) (at_start (cap k)) (all k)),
-)
+whole n m made steps replies cap all leads replied = grind arith
 
 -- what the machine reads as the role of a seat
 pub read_role : (roles : List Role) (seat : ℕ) (x : Role) → x ≡ get_or roles seat x → seat < length roles → get_or roles seat Idle ≡ x
@@ -132,21 +127,13 @@ pub record HasFound (m : Machine) (slot : ℕ) (role : Role) (word found put : �
 pub has_read : {m : Machine} {roles : List Role} {step : Step} {seat slot : ℕ} {role : Role} → KeepsMachine m → roles ≡ m.roles →
     CanStep m.capacity roles step × (seat ≡ seat_of step) × (slot ≡ slot_of step) → role ≡ get_or m.roles seat role
     → HasRead m step seat slot role
-has_read {m} {roles} {step} {seat} {slot} {role} K same told of_role = record {
-  keeps = K;
-  can = subst (λ (l : List Role). CanStep m.capacity l step) same told.0;
-  of_seat = told.1;
-  of_slot = told.2;
-  of_role =
-      of_role;
-}
+has_read {m} {roles} {step} {seat} {slot} {role} K same told of_role = grind arith
 
 pub has_found : {m : Machine} {slot : ℕ} {role : Role} {word found put : ℕ} {next : Role} {reply : StepReply} →
     word ≡ word_of_role m.capacity slot role → found ≡ get_or m.words word found → put ≡ put_by_role m.capacity role found
     → next ≡ next_role m.capacity slot role found → reply ≡ reply_of_role m.capacity role found →
     HasFound m slot role word found put next reply
-has_found at_word of_word of_put of_next of_reply = record
-    { at_word = at_word; of_word = of_word; of_put = of_put; of_next = of_next; of_reply = of_reply }
+has_found at_word of_word of_put of_next of_reply = grind arith
 
 module _ (m : Machine) (step : Step) (seat slot : ℕ) (x : Role) (read : HasRead m step seat slot x) where
   low : seat < length m.roles
@@ -183,16 +170,10 @@ module _ (m : Machine) (step : Step) (seat slot : ℕ) (x : Role) (read : HasRea
     word_at = did.at_word ∙ (λ k. word_of_role m.capacity (read.of_slot k) (role_at_seat k))
 
     found_there : found ≡ get_or m.words (word_of_role m.capacity (slot_of step) (get_or m.roles (seat_of step) Idle)) 0
-    found_there = did.of_word ∙
-        (get_or_default_zero m.words word found (word_low word did.at_word) ∙ ap (λ (k : ℕ). get_or m.words k 0) word_at)
+    found_there = grind (arith, get_or_default_zero, word_low, word_at)
 
     pub makes_step : MakesStep m step now reply
-    makes_step = (
-      refl,
-      (λ k. set m.words (word_at k) ((did.of_put ∙ (λ i. put_by_role m.capacity (role_at_seat i) (found_there i))) k)),
-      (λ k. set m.roles (read.of_seat k) ((did.of_next ∙ (λ i. next_role m.capacity (read.of_slot i) (role_at_seat i) (found_there i))) k)),
-      did.of_reply ∙ (λ k. reply_of_role m.capacity (role_at_seat k) (found_there k)),
-    )
+    makes_step = grind (arith, word_at, role_at_seat, found_there)
 
     pub leads_there : LeadsOn m step now reply
     leads_there = leads_on m now step reply read.can makes_step

@@ -5,7 +5,6 @@ use lib.ListN.{get_elem?}
 use Rattle.futures_buffered_table.specs.declared.view.AtomicStep.{AtomicStep}
 use Rattle.atomic_table.proofs.Lists.{set_else, set_here}
 use Rattle.futures_buffered_table.specs.declared.view.Phase.{Phase}
-use Rattle.futures_buffered_table.specs.declared.view.Phase.TheVariants.{Start, AtStub, Moved, NoNext, Last, StubCleared, StubPut, StubLinked, InHand}
 use Rattle.futures_buffered_table.specs.declared.view.Role.{Role}
 use Rattle.futures_buffered_table.specs.declared.view.Role.TheVariants.{Polls}
 use Rattle.futures_buffered_table.specs.declared.view.View.{View}
@@ -35,15 +34,7 @@ abbrev pub NoWin : Moment → Type 0
 NoWin c = (v : View) → get_elem? c.views WAKE_SEATS ≡ some v → (e : ℕ) → wins e v.steps ≡ 0
 
 poll_wins_none : (e n h : ℕ) (phase : Phase) (found : ℕ) → is_win e (step_of_role n 0 (Polls h phase) found) ≡ 0
-poll_wins_none e n h Start found = refl
-poll_wins_none e n h AtStub found = refl
-poll_wins_none e n h Moved found = refl
-poll_wins_none e n h NoNext found = refl
-poll_wins_none e n h Last found = refl
-poll_wins_none e n h StubCleared found = refl
-poll_wins_none e n h (StubPut p) found = refl
-poll_wins_none e n h StubLinked found = refl
-poll_wins_none e n h (InHand i) found = refl
+poll_wins_none e n h phase found = grind arith
 
 wake_leaves : (n : ℕ) (c : Moment) (s : Step) → seat_of s < WAKE_SEATS → NoWin c → NoWin (after_step n c s)
 wake_leaves n c s low none v at = none v

@@ -1,8 +1,8 @@
 -- A wake seat after a wake.
-use Rattle.std.proofs.Common.{◌≡◌, ℕ, zero, suc, ◌≤◌, List, [], ◌∷◌, refl, ap, ◌∙◌, subst, arith, ◌≢◌}
+use Rattle.std.proofs.Common.{◌≡◌, ℕ, ◌≤◌, List, [], ◌∷◌, refl, ap, ◌∙◌, subst, arith, ◌≢◌}
 use Rattle.futures_buffered_table.specs.declared.view.AtomicStep.{AtomicStep}
 use Rattle.futures_buffered_table.specs.declared.answer.Woke.{Woke}
-use Rattle.futures_buffered_table.specs.declared.answer.Woke.TheVariants.{Fresh, Already}
+use Rattle.futures_buffered_table.specs.declared.answer.Woke.TheVariants.{Fresh}
 use Rattle.atomic_table.specs.declared.shared.Seat.{Seat}
 use Rattle.futures_buffered_table.specs.declared.view.AtomicStep.TheVariants.{MarkSwap, LinkClear, TailSwap, LinkWrite}
 use Rattle.futures_buffered_table.specs.declared.view.Role.TheVariants.{Idle}
@@ -17,8 +17,7 @@ use Rattle.futures_buffered_table.specs.Effect.{next_role}
 
 -- a wake unmarks nothing
 pub no_unmark : (e i : ℕ) (shape : List AtomicStep) (woke : Woke) → IsWake i shape woke → unmarks e shape ≡ 0
-no_unmark e i shape Already is = ap (unmarks e) is
-no_unmark e i shape Fresh is = ap (unmarks e) is.1
+no_unmark e i shape woke is = grind arith
 
 -- a mark swap that found the mark clear, and the steps that put the slot in
 pub adds_fresh : (a b c : Seat ℕ View) (i found : ℕ) → found ≡ 0 → AddsSteps a b (MarkSwap i found ∷ []) →
@@ -43,8 +42,7 @@ woken before now i shape woke K seat adds is = record {
 
 -- a mark swap that found the mark set leaves the seat idle
 pub still_idle : (n slot found : ℕ) → found ≢ 0 → next_role n slot Idle found ≡ Idle
-still_idle n slot zero ne = absurd (ne refl)
-still_idle n slot (suc k) ne = refl
+still_idle n slot found ne = grind arith
 
 pub one_found : (found : ℕ) → found ≢ 0 → found ≤ 1 → found ≡ 1
 one_found found ne le = grind arith

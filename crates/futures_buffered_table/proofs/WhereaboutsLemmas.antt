@@ -1,27 +1,12 @@
 -- Where each slot is, by the invariant of the row.
 use Rattle.std.proofs.Common.{◌≡◌, ℕ, ◌+◌, ◌<◌, List, [], ◌∷◌, refl, arith}
-use Rattle.futures_buffered_table.specs.declared.view.Phase.TheVariants.{Start, AtStub, Moved, NoNext, Last, StubCleared, StubPut, StubLinked, InHand}
 use Rattle.futures_buffered_table.specs.declared.view.Role.{Role}
-use Rattle.futures_buffered_table.specs.declared.view.Role.TheVariants.{Idle, Won, Cleared, Swapped, Polls}
 use Rattle.futures_buffered_table.specs.declared.view.View.{View}
 use Rattle.futures_buffered_table.specs.RowInvariant.{FitsRole, KeepsRow, outside, outside_by}
-use Rattle.futures_buffered_table.proofs.RowLemmas.{same_else}
 use Rattle.futures_buffered_table.specs.Whereabouts.{AgreesWith, Whereabouts, takers, takes_by, wakers, wakes_by}
 
 out_is : (n e : ℕ) (role : Role) → e < n → outside_by n e role ≡ wakes_by e role + takes_by e role
-out_is n e Idle lt = refl
-out_is n e (Won i) lt = omega arith
-out_is n e (Cleared i) lt = omega arith
-out_is n e (Swapped i p) lt = refl
-out_is n e (Polls h Start) lt = refl
-out_is n e (Polls h AtStub) lt = refl
-out_is n e (Polls h Moved) lt = refl
-out_is n e (Polls h NoNext) lt = refl
-out_is n e (Polls h Last) lt = same_else e n (λ z. omega arith)
-out_is n e (Polls h StubCleared) lt = same_else e n (λ z. omega arith)
-out_is n e (Polls h (StubPut p)) lt = refl
-out_is n e (Polls h StubLinked) lt = refl
-out_is n e (Polls h (InHand i)) lt = omega arith
+out_is n e role lt = grind arith
 
 pub out_are : (n e : ℕ) (views : List View) → e < n → outside n views e ≡ wakers e views + takers e views
 out_are n e [] lt = refl
@@ -29,19 +14,7 @@ out_are n e (v ∷ vs) lt = omega (arith, out_is n e v.role lt, out_are n e vs l
 
 pub agrees : (n h : ℕ) (rest : List ℕ) (poller j : ℕ) (words : List ℕ) (role : Role) → FitsRole n words h rest poller j role →
     AgreesWith n h rest role
-agrees n h rest poller j words Idle ok = tt
-agrees n h rest poller j words (Won i) ok = tt
-agrees n h rest poller j words (Cleared i) ok = tt
-agrees n h rest poller j words (Swapped i p) ok = ok.2
-agrees n h rest poller j words (Polls a Start) ok = ok.1
-agrees n h rest poller j words (Polls a AtStub) ok = ok.1
-agrees n h rest poller j words (Polls a Moved) ok = ok.1
-agrees n h rest poller j words (Polls a NoNext) ok = ok.1
-agrees n h rest poller j words (Polls a Last) ok = ok.1
-agrees n h rest poller j words (Polls a StubCleared) ok = ok.1
-agrees n h rest poller j words (Polls a (StubPut p)) ok = (ok.1, ok.2.2)
-agrees n h rest poller j words (Polls a StubLinked) ok = ok.1
-agrees n h rest poller j words (Polls a (InHand i)) ok = ok.1
+agrees n h rest poller j words role ok = grind arith
 
 abbrev pub whereabouts : (n h : ℕ) (rest : List ℕ) (poller : ℕ) (words : List ℕ) (views : List View) →
     KeepsRow n h rest poller words views → Whereabouts n words views

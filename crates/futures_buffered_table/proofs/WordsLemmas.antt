@@ -1,13 +1,12 @@
 -- The words of an empty list, and the tail after a write to another word.
-use Rattle.std.proofs.Common.{◌≡◌, ◌≢◌, ℕ, ◌+◌, ◌<◌, List, [], ◌∷◌, length, set, get_or, replicate, sym, ◌∙◌, subst, arith, get_or-set_other}
+use Rattle.std.proofs.Common.{◌≡◌, ◌≢◌, ℕ, ◌+◌, ◌<◌, List, [], length, set, get_or, replicate, sym, subst, arith, get_or-set_other}
 use Rattle.std.proofs.Math.Seq.{get_or-append_seam}
 use Rattle.std.proofs.lemmas.List.{get_or_append_left, get_or-replicate, length-replicate}
 use Rattle.futures_buffered_table.specs.Words.{tail_at, empty_words, tail}
 use Rattle.futures_buffered_table.proofs.ListLemmas.{length_and_last}
 
 pub empty_word : (n i : ℕ) → i < tail_at n → get_or (empty_words n) i 0 ≡ 0
-empty_word n i lt = get_or_append_left (replicate (tail_at n) 0) (n ∷ []) 0 i
-    (subst (λ (k : ℕ). i < k) (sym (length-replicate (tail_at n) 0)) lt) ∙ get_or-replicate (tail_at n) i 0 0 lt
+empty_word n i lt = grind (arith, get_or_append_left, length-replicate, get_or-replicate)
 
 pub empty_tail : (n : ℕ) → tail n (empty_words n) ≡ n
 empty_tail n = subst (λ (k : ℕ). get_or (empty_words n) k 0 ≡ n) (length-replicate (tail_at n) 0)

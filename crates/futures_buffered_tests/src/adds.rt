@@ -13,7 +13,7 @@ use test_support::counted_source::{CountedSource, SourceLog};
 use test_support::counter::{Counter, new_counter};
 use test_support::dropped::Dropped;
 use test_support::dropped_streams::DroppedStream;
-use test_support::polling::{poll_growing_merge, poll_growing_queue, poll_growing_set};
+use test_support::polling::poll_next;
 
 type Set = FuturesUnordered<Holder, CountedSource>;
 
@@ -46,7 +46,7 @@ fn try_set<R: Abort>(rt: &R, task: &MockTask, drops: &Counter, set: &mut Set) {
     assert_same(rt, added, Err(NewFault::Memory));
     assert_same(rt, (set.len(), set.capacity()), (2, 2));
     assert_same(rt, drops.load(SeqCst), 1);
-    assert_same(rt, error_of(poll_growing_set(task, set)), Some(1));
+    assert_same(rt, error_of(poll_next(task, set)), Some(1));
     assert_same(rt, add_to_set(set, drops, &[5]), Ok(()));
     let added = add_to_set(set, drops, &[6]);
     assert_same(rt, added, Err(NewFault::Memory));
@@ -77,12 +77,12 @@ fn try_queue<R: Abort>(rt: &R, task: &MockTask, drops: &Counter, queue: &mut Que
     let added = add_to_queue(queue, drops, 4, 0);
     assert_same(rt, added, Err(NewFault::Memory));
     assert_same(rt, (queue.len(), drops.load(SeqCst)), (3, 2));
-    assert_same(rt, error_of(poll_growing_queue(task, queue)), Some(1));
-    assert_same(rt, error_of(poll_growing_queue(task, queue)), Some(2));
+    assert_same(rt, error_of(poll_next(task, queue)), Some(1));
+    assert_same(rt, error_of(poll_next(task, queue)), Some(2));
     assert_same(rt, add_to_queue(queue, drops, 6, 5), Ok(()));
-    assert_same(rt, error_of(poll_growing_queue(task, queue)), Some(5));
-    assert_same(rt, error_of(poll_growing_queue(task, queue)), Some(3));
-    assert_same(rt, error_of(poll_growing_queue(task, queue)), Some(6));
+    assert_same(rt, error_of(poll_next(task, queue)), Some(5));
+    assert_same(rt, error_of(poll_next(task, queue)), Some(3));
+    assert_same(rt, error_of(poll_next(task, queue)), Some(6));
 }
 
 // One group of three slots, and no source for another.
@@ -112,7 +112,7 @@ fn a_stream_that_is_refused_is_dropped(rt: HostRuntime) -> Result<(), Fail> {
     let added = add_to_merge(&mut merge, &drops, 40);
     assert_same(&rt, added, Err(NewFault::Memory));
     assert_same(&rt, (merge.len(), drops.load(SeqCst)), (32, 1));
-    let first = poll_growing_merge(&task, &mut merge);
+    let first = poll_next(&task, &mut merge);
     assert_same(&rt, first, Poll::Ready(Some(1)));
     Ok(())
 }

@@ -12,10 +12,7 @@ use std::sync::Wait;
 use std::test::Fail;
 use test_support::attempt::{Attempt, at_once};
 use test_support::cells::{Cells, new_cells, sent};
-use test_support::polling::{
-    poll_growing_merge, poll_growing_set, poll_join, poll_merge, poll_queue, poll_set,
-    poll_try_join,
-};
+use test_support::polling::{poll_join, poll_next};
 use test_support::receiver::{Receiver, Sender};
 use test_support::stepped::{Stepped, from};
 
@@ -51,12 +48,12 @@ fn try_set<R: Abort + Wait + Drop>(
     set: &mut Set<R>,
 ) {
     assert_same(rt, (set.capacity(), set.size_hint()), (3, (3, Some(3))));
-    assert_same(rt, poll_set(task, set), Poll::Pending);
+    assert_same(rt, poll_next(task, set), Poll::Pending);
     assert_same(rt, finish(senders, Ok(2)), true);
-    assert_same(rt, poll_set(task, set), Poll::Ready(Some(Ok(1))));
-    assert_same(rt, poll_set(task, set), Poll::Ready(Some(Ok(2))));
-    assert_same(rt, poll_set(task, set), Poll::Ready(Some(Ok(3))));
-    assert_same(rt, poll_set(task, set), Poll::Ready(None));
+    assert_same(rt, poll_next(task, set), Poll::Ready(Some(Ok(1))));
+    assert_same(rt, poll_next(task, set), Poll::Ready(Some(Ok(2))));
+    assert_same(rt, poll_next(task, set), Poll::Ready(Some(Ok(3))));
+    assert_same(rt, poll_next(task, set), Poll::Ready(None));
 }
 
 #[test]
@@ -70,9 +67,9 @@ fn a_set_gives_outputs_as_they_finish(rt: HostRuntime) -> Result<(), Fail> {
 
 fn try_growing_set<R: Abort>(rt: &R, task: &MockTask, set: &mut GrowingSet) {
     assert_same(rt, (set.len(), set.capacity()), (2, 32));
-    assert_same(rt, poll_growing_set(task, set), Poll::Ready(Some(Ok(2))));
-    assert_same(rt, poll_growing_set(task, set), Poll::Ready(Some(Ok(1))));
-    assert_same(rt, poll_growing_set(task, set), Poll::Ready(None));
+    assert_same(rt, poll_next(task, set), Poll::Ready(Some(Ok(2))));
+    assert_same(rt, poll_next(task, set), Poll::Ready(Some(Ok(1))));
+    assert_same(rt, poll_next(task, set), Poll::Ready(None));
 }
 
 #[test]
@@ -90,12 +87,12 @@ fn try_queue<R: Abort + Wait + Drop>(
     senders: &Senders<R>,
     queue: &mut Queue<R>,
 ) {
-    assert_same(rt, poll_queue(task, queue), Poll::Pending);
+    assert_same(rt, poll_next(task, queue), Poll::Pending);
     assert_same(rt, finish(senders, Ok(2)), true);
-    assert_same(rt, poll_queue(task, queue), Poll::Ready(Some(Ok(3))));
-    assert_same(rt, poll_queue(task, queue), Poll::Ready(Some(Ok(2))));
-    assert_same(rt, poll_queue(task, queue), Poll::Ready(Some(Ok(1))));
-    assert_same(rt, poll_queue(task, queue), Poll::Ready(None));
+    assert_same(rt, poll_next(task, queue), Poll::Ready(Some(Ok(3))));
+    assert_same(rt, poll_next(task, queue), Poll::Ready(Some(Ok(2))));
+    assert_same(rt, poll_next(task, queue), Poll::Ready(Some(Ok(1))));
+    assert_same(rt, poll_next(task, queue), Poll::Ready(None));
 }
 
 #[test]
@@ -139,17 +136,17 @@ fn a_try_join_gives_the_first_error(rt: HostRuntime) -> Result<(), Fail> {
     let task = MockTask::new(&rt)?;
     let Cells { senders, receivers } = new_cells(&rt, rt.alloc(), 3)?;
     let mut join: TryJoinAll<_, SharedReady> = receivers.try_join_all(rt.alloc())?;
-    assert_same(&rt, poll_try_join(&task, &mut join).is_pending(), true);
+    assert_same(&rt, poll_join(&task, &mut join).is_pending(), true);
     assert_same(&rt, finish(&senders, Err(2)), true);
-    assert_same(&rt, error_of(poll_try_join(&task, &mut join)), Some(2));
+    assert_same(&rt, error_of(poll_join(&task, &mut join)), Some(2));
     Ok(())
 }
 
 fn try_merge<R: Abort>(rt: &R, task: &MockTask, merge: &mut MergeBounded<Stepped, SharedReady>) {
-    assert_same(rt, poll_merge(task, merge), Poll::Ready(Some(1)));
-    assert_same(rt, poll_merge(task, merge), Poll::Ready(Some(7)));
-    assert_same(rt, poll_merge(task, merge), Poll::Ready(Some(2)));
-    assert_same(rt, poll_merge(task, merge), Poll::Ready(None));
+    assert_same(rt, poll_next(task, merge), Poll::Ready(Some(1)));
+    assert_same(rt, poll_next(task, merge), Poll::Ready(Some(7)));
+    assert_same(rt, poll_next(task, merge), Poll::Ready(Some(2)));
+    assert_same(rt, poll_next(task, merge), Poll::Ready(None));
 }
 
 #[test]
@@ -167,10 +164,10 @@ fn try_growing_merge<R: Abort>(
     merge: &mut MergeUnbounded<Stepped, SharedReady>,
 ) {
     assert_same(rt, (merge.len(), merge.is_empty()), (2, false));
-    assert_same(rt, poll_growing_merge(task, merge), Poll::Ready(Some(1)));
-    assert_same(rt, poll_growing_merge(task, merge), Poll::Ready(Some(7)));
-    assert_same(rt, poll_growing_merge(task, merge), Poll::Ready(Some(2)));
-    assert_same(rt, poll_growing_merge(task, merge), Poll::Ready(None));
+    assert_same(rt, poll_next(task, merge), Poll::Ready(Some(1)));
+    assert_same(rt, poll_next(task, merge), Poll::Ready(Some(7)));
+    assert_same(rt, poll_next(task, merge), Poll::Ready(Some(2)));
+    assert_same(rt, poll_next(task, merge), Poll::Ready(None));
     assert_same(rt, (merge.len(), merge.is_empty()), (0, true));
 }
 

@@ -9,7 +9,7 @@ use std::sync::atomic::Ordering::SeqCst;
 use std::test::Fail;
 use test_support::counter::new_counter;
 use test_support::dropped::Dropped;
-use test_support::polling::poll_set;
+use test_support::polling::poll_next;
 
 #[test]
 fn a_mapped_future_is_dropped_before_the_call(rt: HostRuntime) -> Result<(), Fail> {
@@ -20,7 +20,7 @@ fn a_mapped_future_is_dropped_before_the_call(rt: HostRuntime) -> Result<(), Fai
     let mut set = FuturesUnorderedBounded::<_, SharedReady>::new(rt.alloc(), 1)?;
     let _ = set.try_push(map(future, move |()| seen.load(SeqCst)));
     assert_same(&rt, drops.load(SeqCst), 0);
-    assert_same(&rt, poll_set(&task, &mut set), Poll::Ready(Some(1)));
+    assert_same(&rt, poll_next(&task, &mut set), Poll::Ready(Some(1)));
     Ok(())
 }
 
@@ -33,6 +33,6 @@ fn a_future_that_is_followed_is_dropped_before_the_call(rt: HostRuntime) -> Resu
     let mut set = FuturesUnorderedBounded::<_, SharedReady>::new(rt.alloc(), 1)?;
     let _ = set.try_push(then(future, move |()| ready(seen.load(SeqCst))));
     assert_same(&rt, drops.load(SeqCst), 0);
-    assert_same(&rt, poll_set(&task, &mut set), Poll::Ready(Some(1)));
+    assert_same(&rt, poll_next(&task, &mut set), Poll::Ready(Some(1)));
     Ok(())
 }

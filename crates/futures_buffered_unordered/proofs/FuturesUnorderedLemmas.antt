@@ -20,7 +20,7 @@ use Rattle.futures_buffered_unordered.specs.Groups.{Groups, outputs_in}
 use Rattle.futures_buffered_unordered.proofs.GroupsLemmas.{same_parts}
 use Rattle.futures_buffered_unordered.proofs.GroupsStepLemmas.{split_at, split_set}
 use Rattle.futures_buffered_unordered.specs.declared.futures_unordered.TheConstants.{MAX_HELD}
-use Rattle.futures_buffered_unordered.specs.FuturesUnordered.{Growing, GrowingPushes, IsNewGrowing, LastIsFull, no_groups, held_in_all, spare_places, next_capacity, AnyNeeds, EachCovered}
+use Rattle.futures_buffered_unordered.specs.FuturesUnordered.{Growing, GrowingPushes, IsNewGrowing, no_groups, held_in_all, spare_places, next_capacity, AnyNeeds, EachCovered}
 use Rattle.futures_buffered_unordered.specs.FuturesUnorderedInvariant.{IsGroup, KeepsGroups, SameKind, AddsGroup, PushesLast}
 use Rattle.futures_buffered_unordered.proofs.FuturesUnorderedInvariantLemmas.{alike_self, alike_back, each_set, alike_set}
 
@@ -53,7 +53,7 @@ module _ {F S : Type 0} where
 
 module _ {F S : Type 0} (needs : S → ℕ → Type 0) where
   -- a new group stands behind full ones
-  pub keeps_added : (g : Groups (Bounded F S)) (limit held cap : ℕ) (made : ℕ → S → Type 0) (group : Bounded F S) → KeepsGroups needs g limit held → LastIsFull g.listed → 0 < cap → cap ≤ MAX_CAPACITY → IsNewSet made cap limit group
+  pub keeps_added : (g : Groups (Bounded F S)) (limit held cap : ℕ) (made : ℕ → S → Type 0) (group : Bounded F S) → KeepsGroups needs g limit held → spare_places g.listed ≡ 0 → 0 < cap → cap ≤ MAX_CAPACITY → IsNewSet made cap limit group
       → All (λ (b : Bounded F S). WaitsAlike needs b.source group.source) g.listed → KeepsGroups needs (record { listed = g.listed ++ group ∷ []; place = g.place }) limit held
   keeps_added g limit held cap made group k full some fits new beside =
       record {
@@ -134,7 +134,7 @@ module _ {F S : Type 0} (marks : S → ℕ → Woke → S → Type 0) where
         }
 
     -- a push into a group that was added
-    pub pushes_new : (old added new : Growing F S) (value : F) → LastIsFull old.groups.listed → AddsGroup made (next_capacity first old.groups.listed) old added → PushesLast marks added value new → GrowingPushes marks made first old value new
+    pub pushes_new : (old added new : Growing F S) (value : F) → spare_places old.groups.listed ≡ 0 → AddsGroup made (next_capacity first old.groups.listed) old added → PushesLast marks added value new → GrowingPushes marks made first old value new
     pushes_new old added new value full adds h =
         let long : length old.groups.listed ≡ length h.before = omega (arith, ap length adds.listed, ap length h.stood, length_push old.groups.listed adds.group, length_push h.before h.into) in
         let parts = same_parts old.groups.listed h.before (adds.group ∷ []) (h.into ∷ []) long (sym adds.listed ∙ h.stood) in
@@ -143,7 +143,7 @@ module _ {F S : Type 0} (marks : S → ℕ → Woke → S → Type 0) where
           before = h.before;
           into = h.into;
           pushed_into = h.pushed_into;
-          goes_into = inr (parts.0, subst LastIsFull parts.0 full, subst (λ (l : List (Bounded F S)). IsNewSet made (next_capacity first l) old.limit h.into) parts.0 (subst (IsNewSet made (next_capacity first old.groups.listed) old.limit) is_last adds.is_new));
+          goes_into = inr (parts.0, subst (λ (l : List (Bounded F S)). spare_places l ≡ 0) parts.0 full, subst (λ (l : List (Bounded F S)). IsNewSet made (next_capacity first l) old.limit h.into) parts.0 (subst (IsNewSet made (next_capacity first old.groups.listed) old.limit) is_last adds.is_new));
           pushed = h.pushed;
           now_listed = h.now_listed;
           same_place = h.same_place ∙ adds.same_place;

@@ -6,9 +6,10 @@ use Rattle.std.proofs.lemmas.List.Sums.{sum_by-cons, sum_by-append, sum_by-take-
 use Rattle.futures.specs.declared.task.Poll.{Poll}
 use Rattle.futures.specs.declared.task.Poll.TheVariants.{Ready, Pending}
 use Rattle.futures_buffered_unordered.specs.FuturesUnorderedBounded.{Bounded, held_in}
-use Rattle.futures_buffered_unordered.specs.Groups.{Groups, Turn, TakesTurn, AsksLast, GroupsGive, ended, is_end, staying, round_from, NotAsked, GaveNoOutput, NoOutput}
+use Rattle.futures_buffered_unordered.specs.Groups.{Groups, Turn, AsksLast, GroupsGive, ended, is_end, staying, round_from, NoOutput}
 use Rattle.futures_buffered_unordered.specs.Groups.{AnyOf, outputs_in}
 use Rattle.futures_buffered_unordered.specs.FuturesUnordered.{held_in_all}
+use Rattle.futures_buffered_unordered.proofs.GroupsLemmas.{TakesTurn, NotAsked, GaveNoOutput}
 
 -- one of a list's parts is one of the list, and the other way round
 module _ {X : Type 0} (P : X → Type 0) where
@@ -41,33 +42,33 @@ any_numbered P n (x ∷ xs) (inl here) = inl here
 any_numbered P n (x ∷ xs) (inr any) = inr (any_numbered P (n + 1) xs any)
 
 -- an output was given in one of the turns
-gave_output : {X A : Type 0} (asks : X → Poll (Option A) → X → Type 0) (old new : Groups X) (x : A) (h : GroupsGive asks old (Ready (Some x)) new) → AnyOf (λ (t : Turn X A). t.answer ≡ Some (Ready (Some x))) h.0
-gave_output {X} {A} asks old new x h =
+gave_output : {X A : Type 0} (asks : Bool → X → Poll (Option A) → X → Type 0) (old new : Groups X) (stopped : Bool) (x : A) (h : GroupsGive asks old (Ready (Some x)) stopped new) → AnyOf (λ (t : Turn X A). t.answer ≡ Some (Ready (Some x))) h.0
+gave_output {X} {A} asks old new stopped x h =
     let last = h.2 in
-    let turned = any_between (λ (p : ℕ × Turn X A). p.1.answer ≡ Some (Ready (Some x))) last.asked_before (last.k, record { answer = Some (Ready (Some x)); left = last.left }) h.1 refl in
+    let turned = any_between (λ (p : ℕ × Turn X A). p.1.answer ≡ Some (Ready (Some x))) last.asked_before (last.k, record { answer = Some (Ready (Some x)); stopped = last.last_stopped; left = last.left }) h.1 refl in
     let in_round = subst (AnyOf (λ (p : ℕ × Turn X A). p.1.answer ≡ Some (Ready (Some x)))) (sym last.in_order) turned in
     any_numbered (λ (t : Turn X A). t.answer ≡ Some (Ready (Some x))) 0 h.0 (any_round (λ (p : ℕ × Turn X A). p.1.answer ≡ Some (Ready (Some x))) old.place (enumerate_from 0 h.0) in_round)
 
 module _ {X A : Type 0} (asks : X → Poll (Option A) → X → Type 0) (P : X → Type 0) where
   -- what holds of a group that was asked holds of one of the groups
-  any_asked : (answer : Poll (Option A)) → ((group left : X) → asks group answer left → P group) → (groups : List X) (turns : List (Turn X A)) → AllZip (TakesTurn asks) groups turns → AnyOf (λ (turn : Turn X A). turn.answer ≡ Some answer) turns → AnyOf P groups
+  any_asked : (answer : Poll (Option A)) → ((group left : X) → asks group answer left → P group) → (groups : List X) (turns : List (Turn X A)) → AllZip (TakesTurn (λ _. asks)) groups turns → AnyOf (λ (turn : Turn X A). turn.answer ≡ Some answer) turns → AnyOf P groups
   any_asked answer holds [] [] zip any = absurd any
   any_asked answer holds [] (t ∷ ts) zip any = absurd zip
   any_asked answer holds (g ∷ gs) [] zip any = absurd zip
-  any_asked answer holds (g ∷ gs) (t ∷ ts) zip (inl here) = inl (holds g t.left (subst (λ (o : Option (Poll (Option A))). MatchOption o (t.left ≡ g) (λ a. asks g a t.left)) here zip.0))
+  any_asked answer holds (g ∷ gs) (t ∷ ts) zip (inl here) = inl (holds g t.left (subst (λ (o : Option (Poll (Option A))). MatchOption o ((t.left ≡ g) × (t.stopped ≡ false)) (λ a. asks g a t.left)) here zip.0))
   any_asked answer holds (g ∷ gs) (t ∷ ts) zip (inr any) = inr (any_asked answer holds gs ts zip.1 any)
 
   module _ (before : (group left : X) (answer : Poll (Option A)) → asks group answer left → P left → P group) where
-    before_turn : (group left : X) (o : Option (Poll (Option A))) → MatchOption o (left ≡ group) (λ answer. asks group answer left) → P left → P group
-    before_turn group left None same here = subst P same here
-    before_turn group left (Some answer) asked here = before group left answer asked here
+    before_turn : (group left : X) (b : Bool) (o : Option (Poll (Option A))) → MatchOption o ((left ≡ group) × (b ≡ false)) (λ answer. asks group answer left) → P left → P group
+    before_turn group left b None same here = subst P same.0 here
+    before_turn group left b (Some answer) asked here = before group left answer asked here
 
     -- what holds of a group that stays held of one before
-    any_staying : (groups : List X) (turns : List (Turn X A)) → AllZip (TakesTurn asks) groups turns → AnyOf P (staying turns) → AnyOf P groups
+    any_staying : (groups : List X) (turns : List (Turn X A)) → AllZip (TakesTurn (λ _. asks)) groups turns → AnyOf P (staying turns) → AnyOf P groups
     any_staying [] [] zip any = any
     any_staying [] (t ∷ ts) zip any = absurd zip
     any_staying (g ∷ gs) [] zip any = absurd zip
-    any_staying (g ∷ []) (t ∷ []) zip (inl here) = inl (before_turn g t.left t.answer zip.0 here)
+    any_staying (g ∷ []) (t ∷ []) zip (inl here) = inl (before_turn g t.left t.stopped t.answer zip.0 here)
     any_staying (g ∷ []) (t ∷ []) zip (inr any) = inr any
     any_staying (g ∷ h ∷ gs) (t ∷ []) zip any = absurd zip.1
     any_staying (g ∷ []) (t ∷ u ∷ ts) zip any = absurd zip.1
@@ -75,19 +76,19 @@ module _ {X A : Type 0} (asks : X → Poll (Option A) → X → Type 0) (P : X �
       where
         by_test : (b : Bool) → (AnyOf P (staying (u ∷ ts)) → AnyOf P (h ∷ gs)) → AnyOf P (cond b (staying (u ∷ ts)) (t.left ∷ staying (u ∷ ts))) → AnyOf P (g ∷ h ∷ gs)
         by_test true rest any = inr (rest any)
-        by_test false rest (inl here) = inl (before_turn g t.left t.answer zip.0 here)
+        by_test false rest (inl here) = inl (before_turn g t.left t.stopped t.answer zip.0 here)
         by_test false rest (inr any) = inr (rest any)
 
     -- one poll
-    pub any_left : (old : Groups X) (answer : Poll (Option A)) (new : Groups X) → GroupsGive asks old answer new → AnyOf P new.listed → AnyOf P old.listed
-    any_left old (Ready (Some x)) new h any = any_staying old.listed h.0 h.2.each (subst (AnyOf P) h.2.leaves any)
-    any_left old (Ready None) new (inl h) any = subst (λ (g : Groups X). AnyOf P g.listed) h.1 any
-    any_left old (Ready None) new (inr h) any = any_staying old.listed h.0 h.3.each (subst (AnyOf P) h.3.leaves any)
-    any_left old Pending new h any = any_staying old.listed h.0 h.3.each (subst (AnyOf P) h.3.leaves any)
+    pub any_left : (old : Groups X) (answer : Poll (Option A)) (stopped : Bool) (new : Groups X) → GroupsGive (λ _. asks) old answer stopped new → AnyOf P new.listed → AnyOf P old.listed
+    any_left old (Ready (Some x)) stopped new h any = any_staying old.listed h.0 h.2.each (subst (AnyOf P) h.2.leaves any)
+    any_left old (Ready None) stopped new (inl h) any = subst (λ (g : Groups X). AnyOf P g.listed) h.1 any
+    any_left old (Ready None) stopped new (inr h) any = any_staying old.listed h.0 h.3.each (subst (AnyOf P) h.3.leaves any)
+    any_left old Pending stopped new h any = any_staying old.listed h.0 h.3.each (subst (AnyOf P) h.3.leaves any)
 
   -- an output is that of one of the groups
-  pub any_output : (old new : Groups X) (x : A) → GroupsGive asks old (Ready (Some x)) new → ((group left : X) → asks group (Ready (Some x)) left → P group) → AnyOf P old.listed
-  any_output old new x h holds = any_asked (Ready (Some x)) holds old.listed h.0 h.2.each (gave_output asks old new x h)
+  pub any_output : (old new : Groups X) (stopped : Bool) (x : A) → GroupsGive (λ _. asks) old (Ready (Some x)) stopped new → ((group left : X) → asks group (Ready (Some x)) left → P group) → AnyOf P old.listed
+  any_output old new stopped x h holds = any_asked (Ready (Some x)) holds old.listed h.0 h.2.each (gave_output (λ _. asks) old new stopped x h)
 
 -- each of the turns was asked, where each was that is met on the way round
 every_append : {X : Type 0} (P : X → Type 0) (xs ys : List X) → AllByRecursion P xs → AllByRecursion P ys → AllByRecursion P (xs ++ ys)
@@ -119,10 +120,10 @@ abbrev was_asked : {A : Type 0} → Option (Poll (Option A)) → Type 0
 was_asked o = MatchOption o ⊥ NoOutput
 
 module _ {X A : Type 0} where
-  all_asked : (asks : X → Poll (Option A) → X → Type 0) (old new : Groups X) (turns : List (Turn X A)) (last : Poll (Option A)) → NoOutput last → AsksLast asks old turns last [] new → AllByRecursion (λ (turn : Turn X A). was_asked turn.answer) turns
-  all_asked asks old new turns last none h =
+  all_asked : (asks : X → Poll (Option A) → X → Type 0) (old new : Groups X) (stopped : Bool) (turns : List (Turn X A)) (last : Poll (Option A)) → NoOutput last → AsksLast (λ _. asks) old turns last [] stopped new → AllByRecursion (λ (turn : Turn X A). was_asked turn.answer) turns
+  all_asked asks old new stopped turns last none h =
       let P = λ (p : ℕ × Turn X A). was_asked p.1.answer in
-      let met = every_append P h.asked_before ((h.k, record { answer = Some last; left = h.left }) ∷ []) (every_weaker (λ (p : ℕ × Turn X A). GaveNoOutput p.1) P (λ p g. g) h.asked_before h.no_output_before) (none, tt) in
+      let met = every_append P h.asked_before ((h.k, record { answer = Some last; stopped = h.last_stopped; left = h.left }) ∷ []) (every_weaker (λ (p : ℕ × Turn X A). GaveNoOutput p.1) P (λ p g. g) h.asked_before h.no_output_before) (none, tt) in
       every_numbered (λ (turn : Turn X A). was_asked turn.answer) 0 turns (every_round P old.place (enumerate_from 0 turns) (subst (AllByRecursion P) (sym h.in_order) met))
 
 -- what all groups weigh, where an answer takes from the weight of its group
@@ -135,33 +136,33 @@ module _ {X A : Type 0} (asks : X → Poll (Option A) → X → Type 0) (weight 
   turn_out None = 0
   turn_out (Some answer) = out answer
 
-  one_turn : (group left : X) (o : Option (Poll (Option A))) → MatchOption o (left ≡ group) (λ answer. asks group answer left) → weight left + turn_out o ≡ weight group
-  one_turn group left None same = omega (arith, ap weight same)
-  one_turn group left (Some answer) asked = step group left answer asked
+  one_turn : (group left : X) (b : Bool) (o : Option (Poll (Option A))) → MatchOption o ((left ≡ group) × (b ≡ false)) (λ answer. asks group answer left) → weight left + turn_out o ≡ weight group
+  one_turn group left b None same = omega (arith, ap weight same.0)
+  one_turn group left b (Some answer) asked = step group left answer asked
 
-  end_none : (group left : X) (o : Option (Poll (Option A))) → MatchOption o (left ≡ group) (λ answer. asks group answer left) → is_end o ≡ true → weight left ≡ 0
-  end_none group left None h e = absurd (true≢false (sym e))
-  end_none group left (Some Pending) h e = absurd (true≢false (sym e))
-  end_none group left (Some (Ready None)) h e = ended_none group left h
-  end_none group left (Some (Ready (Some x))) h e = absurd (true≢false (sym e))
+  end_none : (group left : X) (b : Bool) (o : Option (Poll (Option A))) → MatchOption o ((left ≡ group) × (b ≡ false)) (λ answer. asks group answer left) → is_end o ≡ true → weight left ≡ 0
+  end_none group left b None h e = absurd (true≢false (sym e))
+  end_none group left b (Some Pending) h e = absurd (true≢false (sym e))
+  end_none group left b (Some (Ready None)) h e = ended_none group left h
+  end_none group left b (Some (Ready (Some x))) h e = absurd (true≢false (sym e))
 
   abbrev of_turn : Turn X A → ℕ
   of_turn turn = turn_out turn.answer
 
   -- the groups that stay, and what the turns brought
-  staying_sum : (groups : List X) (turns : List (Turn X A)) → AllZip (TakesTurn asks) groups turns → sum_by weight (staying turns) + sum_by of_turn turns ≡ sum_by weight groups
+  staying_sum : (groups : List X) (turns : List (Turn X A)) → AllZip (TakesTurn (λ _. asks)) groups turns → sum_by weight (staying turns) + sum_by of_turn turns ≡ sum_by weight groups
   staying_sum [] [] zip = refl
   staying_sum [] (t ∷ ts) zip = absurd zip
   staying_sum (g ∷ gs) [] zip = absurd zip
-  staying_sum (g ∷ []) (t ∷ []) zip = omega (arith, one_turn g t.left t.answer zip.0, sum_by-cons weight t.left [], sum_by-cons of_turn t [], sum_by-cons weight g [])
+  staying_sum (g ∷ []) (t ∷ []) zip = omega (arith, one_turn g t.left t.stopped t.answer zip.0, sum_by-cons weight t.left [], sum_by-cons of_turn t [], sum_by-cons weight g [])
   staying_sum (g ∷ h ∷ gs) (t ∷ []) zip = absurd zip.1
   staying_sum (g ∷ []) (t ∷ u ∷ ts) zip = absurd zip.1
   staying_sum (g ∷ h ∷ gs) (t ∷ u ∷ ts) zip =
-      by_test (ended t) (end_none g t.left t.answer zip.0) (staying_sum (h ∷ gs) (u ∷ ts) zip.1)
+      by_test (ended t) (end_none g t.left t.stopped t.answer zip.0) (staying_sum (h ∷ gs) (u ∷ ts) zip.1)
     where
       by_test : (b : Bool) → (b ≡ true → weight t.left ≡ 0) → sum_by weight (staying (u ∷ ts)) + sum_by of_turn (u ∷ ts) ≡ sum_by weight (h ∷ gs) → sum_by weight (cond b (staying (u ∷ ts)) (t.left ∷ staying (u ∷ ts))) + sum_by of_turn (t ∷ u ∷ ts) ≡ sum_by weight (g ∷ h ∷ gs)
-      by_test true none rest = omega (arith, rest, none refl, one_turn g t.left t.answer zip.0, sum_by-cons of_turn t (u ∷ ts), sum_by-cons weight g (h ∷ gs))
-      by_test false none rest = omega (arith, rest, one_turn g t.left t.answer zip.0, sum_by-cons of_turn t (u ∷ ts), sum_by-cons weight t.left (staying (u ∷ ts)), sum_by-cons weight g (h ∷ gs))
+      by_test true none rest = omega (arith, rest, none refl, one_turn g t.left t.stopped t.answer zip.0, sum_by-cons of_turn t (u ∷ ts), sum_by-cons weight g (h ∷ gs))
+      by_test false none rest = omega (arith, rest, one_turn g t.left t.stopped t.answer zip.0, sum_by-cons of_turn t (u ∷ ts), sum_by-cons weight t.left (staying (u ∷ ts)), sum_by-cons weight g (h ∷ gs))
 
   abbrev of_pair : ℕ × Turn X A → ℕ
   of_pair p = of_turn p.1
@@ -186,23 +187,23 @@ module _ {X A : Type 0} (asks : X → Poll (Option A) → X → Type 0) (weight 
   none_after (p ∷ xs) all = omega (arith, none_after xs all.1, sum_by-cons of_pair p xs, ap turn_out all.0)
 
   -- the turns brought what the last one brought
-  last_out : (old new : Groups X) (turns : List (Turn X A)) (last : Poll (Option A)) (not_asked : List (ℕ × Turn X A)) → AsksLast asks old turns last not_asked new → sum_by of_turn turns ≡ out last
-  last_out old new turns last not_asked h =
-      let mine : ℕ × Turn X A = (h.k, record { answer = Some last; left = h.left }) in
+  last_out : (old new : Groups X) (stopped : Bool) (turns : List (Turn X A)) (last : Poll (Option A)) (not_asked : List (ℕ × Turn X A)) → AsksLast (λ _. asks) old turns last not_asked stopped new → sum_by of_turn turns ≡ out last
+  last_out old new stopped turns last not_asked h =
+      let mine : ℕ × Turn X A = (h.k, record { answer = Some last; stopped = h.last_stopped; left = h.left }) in
       let order : sum_by of_pair (round_from old.place (enumerate_from 0 turns)) ≡ sum_by of_pair (h.asked_before ++ mine ∷ not_asked) = ap (λ (l : List (ℕ × Turn X A)). sum_by of_pair l) h.in_order in
       let one : of_pair mine ≡ out last = refl in
       omega (arith, sum-numbered 0 turns, sum-round old.place (enumerate_from 0 turns), order, one, sum_by-append of_pair h.asked_before (mine ∷ not_asked), sum_by-cons of_pair mine not_asked, none_before h.asked_before h.no_output_before, none_after not_asked h.none_asked_after)
 
-  after_last : (old new : Groups X) (turns : List (Turn X A)) (last : Poll (Option A)) (not_asked : List (ℕ × Turn X A)) → AsksLast asks old turns last not_asked new → sum_by weight new.listed + out last ≡ sum_by weight old.listed
-  after_last old new turns last not_asked h =
-      omega (arith, staying_sum old.listed turns h.each, last_out old new turns last not_asked h, ap (λ (l : List X). sum_by weight l) h.leaves)
+  after_last : (old new : Groups X) (stopped : Bool) (turns : List (Turn X A)) (last : Poll (Option A)) (not_asked : List (ℕ × Turn X A)) → AsksLast (λ _. asks) old turns last not_asked stopped new → sum_by weight new.listed + out last ≡ sum_by weight old.listed
+  after_last old new stopped turns last not_asked h =
+      omega (arith, staying_sum old.listed turns h.each, last_out old new stopped turns last not_asked h, ap (λ (l : List X). sum_by weight l) h.leaves)
 
   -- one poll
-  pub sum_left : (old new : Groups X) (answer : Poll (Option A)) → GroupsGive asks old answer new → sum_by weight new.listed + out answer ≡ sum_by weight old.listed
-  sum_left old new (Ready (Some x)) h = after_last old new h.0 (Ready (Some x)) h.1 h.2
-  sum_left old new (Ready None) (inl h) = omega (arith, ap (λ (g : Groups X). sum_by weight g.listed) h.1, no_output (Ready None) tt)
-  sum_left old new (Ready None) (inr h) = omega (arith, after_last old new h.0 h.1 [] h.3, no_output h.1 h.2, no_output (Ready None) tt)
-  sum_left old new Pending h = omega (arith, after_last old new h.0 h.1 [] h.3, no_output h.1 h.2, no_output Pending tt)
+  pub sum_left : (old new : Groups X) (stopped : Bool) (answer : Poll (Option A)) → GroupsGive (λ _. asks) old answer stopped new → sum_by weight new.listed + out answer ≡ sum_by weight old.listed
+  sum_left old new stopped (Ready (Some x)) h = after_last old new stopped h.0 (Ready (Some x)) h.1 h.2
+  sum_left old new stopped (Ready None) (inl h) = omega (arith, ap (λ (g : Groups X). sum_by weight g.listed) h.1, no_output (Ready None) tt)
+  sum_left old new stopped (Ready None) (inr h) = omega (arith, after_last old new stopped h.0 h.1 [] h.3, no_output h.1 h.2, no_output (Ready None) tt)
+  sum_left old new stopped Pending h = omega (arith, after_last old new stopped h.0 h.1 [] h.3, no_output h.1 h.2, no_output Pending tt)
 
 no_outputs : {A : Type 0} (answer : Poll (Option A)) → NoOutput answer → outputs_in answer ≡ 0
 no_outputs Pending none = refl
@@ -232,23 +233,23 @@ module _ {F A S : Type 0} (asks : Bounded F S → Poll (Option A) → Bounded F 
   both_true false b e = absurd (true≢false (sym e))
 
   -- what a turn leaves
-  ended_left : (group left : Bounded F S) (o : Option (Poll (Option A))) → MatchOption o (left ≡ group) (λ answer. asks group answer left) → is_end o ≡ true → held_in left ≡ 0
-  ended_left group left None h e = absurd (true≢false (sym e))
-  ended_left group left (Some Pending) h e = absurd (true≢false (sym e))
-  ended_left group left (Some (Ready None)) h e = end_is_empty group left h
-  ended_left group left (Some (Ready (Some x))) h e = absurd (true≢false (sym e))
+  ended_left : (group left : Bounded F S) (b : Bool) (o : Option (Poll (Option A))) → MatchOption o ((left ≡ group) × (b ≡ false)) (λ answer. asks group answer left) → is_end o ≡ true → held_in left ≡ 0
+  ended_left group left b None h e = absurd (true≢false (sym e))
+  ended_left group left b (Some Pending) h e = absurd (true≢false (sym e))
+  ended_left group left b (Some (Ready None)) h e = end_is_empty group left h
+  ended_left group left b (Some (Ready (Some x))) h e = absurd (true≢false (sym e))
 
-  going_left : (group left : Bounded F S) (o : Option (Poll (Option A))) → MatchOption o (left ≡ group) (λ answer. asks group answer left) → was_asked o → is_end o ≡ false → 0 < held_in left
-  going_left group left None h asked e = absurd asked
-  going_left group left (Some Pending) h asked e = pending_holds group left h
-  going_left group left (Some (Ready None)) h asked e = absurd (true≢false e)
-  going_left group left (Some (Ready (Some x))) h asked e = absurd asked
+  going_left : (group left : Bounded F S) (b : Bool) (o : Option (Poll (Option A))) → MatchOption o ((left ≡ group) × (b ≡ false)) (λ answer. asks group answer left) → was_asked o → is_end o ≡ false → 0 < held_in left
+  going_left group left b None h asked e = absurd asked
+  going_left group left b (Some Pending) h asked e = pending_holds group left h
+  going_left group left b (Some (Ready None)) h asked e = absurd (true≢false e)
+  going_left group left b (Some (Ready (Some x))) h asked e = absurd asked
 
-  all_ended : (groups : List (Bounded F S)) (turns : List (Turn (Bounded F S) A)) → AllZip (TakesTurn asks) groups turns → list_all ended turns ≡ true → held_in_all (staying turns) ≡ 0
+  all_ended : (groups : List (Bounded F S)) (turns : List (Turn (Bounded F S) A)) → AllZip (TakesTurn (λ _. asks)) groups turns → list_all ended turns ≡ true → held_in_all (staying turns) ≡ 0
   all_ended [] [] zip e = refl
   all_ended [] (t ∷ ts) zip e = absurd zip
   all_ended (g ∷ gs) [] zip e = absurd zip
-  all_ended (g ∷ []) (t ∷ []) zip e = omega (arith, ended_left g t.left t.answer zip.0 (both_true (ended t) true e).0)
+  all_ended (g ∷ []) (t ∷ []) zip e = omega (arith, ended_left g t.left t.stopped t.answer zip.0 (both_true (ended t) true e).0)
   all_ended (g ∷ h ∷ gs) (t ∷ []) zip e = absurd zip.1
   all_ended (g ∷ []) (t ∷ u ∷ ts) zip e = absurd zip.1
   all_ended (g ∷ h ∷ gs) (t ∷ u ∷ ts) zip e =
@@ -258,7 +259,7 @@ module _ {F A S : Type 0} (asks : Bounded F S → Poll (Option A) → Bounded F 
   holds_more : (group : Bounded F S) (groups : List (Bounded F S)) → 0 < held_in group → 0 < held_in_all (group ∷ groups)
   holds_more group groups some = omega (arith, some, sum_by-cons held_in group groups)
 
-  one_goes_on : (groups : List (Bounded F S)) (turns : List (Turn (Bounded F S) A)) → AllZip (TakesTurn asks) groups turns → AllByRecursion (λ (turn : Turn (Bounded F S) A). was_asked turn.answer) turns → list_all ended turns ≡ false → 0 < held_in_all (staying turns)
+  one_goes_on : (groups : List (Bounded F S)) (turns : List (Turn (Bounded F S) A)) → AllZip (TakesTurn (λ _. asks)) groups turns → AllByRecursion (λ (turn : Turn (Bounded F S) A). was_asked turn.answer) turns → list_all ended turns ≡ false → 0 < held_in_all (staying turns)
   one_goes_on [] [] zip asked e = absurd (true≢false e)
   one_goes_on [] (t ∷ ts) zip asked e = absurd zip
   one_goes_on (g ∷ gs) [] zip asked e = absurd zip
@@ -266,39 +267,39 @@ module _ {F A S : Type 0} (asks : Bounded F S → Poll (Option A) → Bounded F 
     where
       by_end : (b : Bool) → ended t ≡ b → (b && true) ≡ false → 0 < held_in_all (t.left ∷ [])
       by_end true same e = absurd (true≢false e)
-      by_end false same e = holds_more t.left [] (going_left g t.left t.answer zip.0 asked.0 same)
+      by_end false same e = holds_more t.left [] (going_left g t.left t.stopped t.answer zip.0 asked.0 same)
   one_goes_on (g ∷ h ∷ gs) (t ∷ []) zip asked e = absurd zip.1
   one_goes_on (g ∷ []) (t ∷ u ∷ ts) zip asked e = absurd zip.1
   one_goes_on (g ∷ h ∷ gs) (t ∷ u ∷ ts) zip asked e = by_end (ended t) refl (one_goes_on (h ∷ gs) (u ∷ ts) zip.1 asked.1) e
     where
       by_end : (b : Bool) → ended t ≡ b → (list_all ended (u ∷ ts) ≡ false → 0 < held_in_all (staying (u ∷ ts))) → (b && list_all ended (u ∷ ts)) ≡ false → 0 < held_in_all (cond b (staying (u ∷ ts)) (t.left ∷ staying (u ∷ ts)))
       by_end true same rest e = rest e
-      by_end false same rest e = holds_more t.left (staying (u ∷ ts)) (going_left g t.left t.answer zip.0 asked.0 same)
+      by_end false same rest e = holds_more t.left (staying (u ∷ ts)) (going_left g t.left t.stopped t.answer zip.0 asked.0 same)
 
   -- a pending poll leaves a value
-  groups_pending : (old new : Groups (Bounded F S)) → GroupsGive asks old Pending new → 0 < held_in_all new.listed
-  groups_pending old new h = rw h.3.leaves (one_goes_on old.listed h.0 h.3.each (all_asked asks old new h.0 h.1 h.2 h.3) h.4)
+  groups_pending : (old new : Groups (Bounded F S)) (stopped : Bool) → GroupsGive (λ _. asks) old Pending stopped new → 0 < held_in_all new.listed
+  groups_pending old new stopped h = rw h.3.leaves (one_goes_on old.listed h.0 h.3.each (all_asked asks old new stopped h.0 h.1 h.2 h.3) h.4)
 
   -- one that answers the end leaves none
-  groups_ended : (old new : Groups (Bounded F S)) → GroupsGive asks old (Ready None) new → held_in_all new.listed ≡ 0
-  groups_ended old new (inl h) = rw (h.1, h.0) refl
-  groups_ended old new (inr h) = rw h.3.leaves (all_ended old.listed h.0 h.3.each h.4)
+  groups_ended : (old new : Groups (Bounded F S)) (stopped : Bool) → GroupsGive (λ _. asks) old (Ready None) stopped new → held_in_all new.listed ≡ 0
+  groups_ended old new stopped (inl h) = rw (h.1, h.0) refl
+  groups_ended old new stopped (inr h) = rw h.3.leaves (all_ended old.listed h.0 h.3.each h.4)
 
   -- where a group that gave an output still holds a value
   module _ (output_holds : (old new : Bounded F S) (x : A) → asks old (Ready (Some x)) new → 0 < held_in new) where
-    one_stays : (x : A) (groups : List (Bounded F S)) (turns : List (Turn (Bounded F S) A)) → AllZip (TakesTurn asks) groups turns → AnyOf (λ (t : Turn (Bounded F S) A). t.answer ≡ Some (Ready (Some x))) turns → 0 < held_in_all (staying turns)
+    one_stays : (x : A) (groups : List (Bounded F S)) (turns : List (Turn (Bounded F S) A)) → AllZip (TakesTurn (λ _. asks)) groups turns → AnyOf (λ (t : Turn (Bounded F S) A). t.answer ≡ Some (Ready (Some x))) turns → 0 < held_in_all (staying turns)
     one_stays x [] [] zip any = absurd any
     one_stays x [] (t ∷ ts) zip any = absurd zip
     one_stays x (g ∷ gs) [] zip any = absurd any
     one_stays x (g ∷ []) (t ∷ []) zip (inl here) = holds_more t.left [] (some_left g t zip.0 here)
       where
-        some_left : (g : Bounded F S) (t : Turn (Bounded F S) A) → TakesTurn asks g t → t.answer ≡ Some (Ready (Some x)) → 0 < held_in t.left
-        some_left g t takes here = output_holds g t.left x (subst (λ (o : Option (Poll (Option A))). MatchOption o (t.left ≡ g) (λ a. asks g a t.left)) here takes)
+        some_left : (g : Bounded F S) (t : Turn (Bounded F S) A) → TakesTurn (λ _. asks) g t → t.answer ≡ Some (Ready (Some x)) → 0 < held_in t.left
+        some_left g t takes here = output_holds g t.left x (subst (λ (o : Option (Poll (Option A))). MatchOption o ((t.left ≡ g) × (t.stopped ≡ false)) (λ a. asks g a t.left)) here takes)
     one_stays x (g ∷ []) (t ∷ []) zip (inr any) = absurd any
     one_stays x (g ∷ h ∷ gs) (t ∷ []) zip any = absurd zip.1
     one_stays x (g ∷ []) (t ∷ u ∷ ts) zip any = absurd zip.1
     one_stays x (g ∷ h ∷ gs) (t ∷ u ∷ ts) zip (inl here) =
-        let some = output_holds g t.left x (subst (λ (o : Option (Poll (Option A))). MatchOption o (t.left ≡ g) (λ a. asks g a t.left)) here zip.0) in
+        let some = output_holds g t.left x (subst (λ (o : Option (Poll (Option A))). MatchOption o ((t.left ≡ g) × (t.stopped ≡ false)) (λ a. asks g a t.left)) here zip.0) in
         rw (ap is_end here) (holds_more t.left (staying (u ∷ ts)) some)
     one_stays x (g ∷ h ∷ gs) (t ∷ u ∷ ts) zip (inr any) = by_end (ended t) (one_stays x (h ∷ gs) (u ∷ ts) zip.1 any)
       where
@@ -307,19 +308,41 @@ module _ {F A S : Type 0} (asks : Bounded F S → Poll (Option A) → Bounded F 
         by_end false some = omega (arith, some, sum_by-cons held_in t.left (staying (u ∷ ts)))
 
     -- the answer is the end where nothing is left
-    pub ends_empty : (old new : Groups (Bounded F S)) (answer : Poll (Option A)) → GroupsGive asks old answer new → (answer ≡ Ready None) ↔ (held_in_all new.listed ≡ 0)
-    ends_empty old new (Ready None) h = ends_none _ (groups_ended old new h)
-    ends_empty old new (Ready (Some x)) h = ends_some _ x (rw h.2.leaves (one_stays x old.listed h.0 h.2.each (gave_output asks old new x h)))
-    ends_empty old new Pending h = ends_pending _ (groups_pending old new h)
+    pub ends_empty : (old new : Groups (Bounded F S)) (stopped : Bool) (answer : Poll (Option A)) → GroupsGive (λ _. asks) old answer stopped new → (answer ≡ Ready None) ↔ (held_in_all new.listed ≡ 0)
+    ends_empty old new stopped (Ready None) h = ends_none _ (groups_ended old new stopped h)
+    ends_empty old new stopped (Ready (Some x)) h = ends_some _ x (rw h.2.leaves (one_stays x old.listed h.0 h.2.each (gave_output (λ _. asks) old new stopped x h)))
+    ends_empty old new stopped Pending h = ends_pending _ (groups_pending old new stopped h)
 
   -- where an output is of one of the values, and nothing else is lost
   module _ (counted : (old new : Bounded F S) (answer : Poll (Option A)) → asks old answer new → held_in new + outputs_in answer ≡ held_in old) where
     -- as many values as before, but for that of the output
-    pub groups_counted : (old new : Groups (Bounded F S)) (answer : Poll (Option A)) → GroupsGive asks old answer new → held_in_all new.listed + outputs_in answer ≡ held_in_all old.listed
-    groups_counted old new answer h = sum_left asks held_in outputs_in counted end_is_empty no_outputs old new answer h
+    pub groups_counted : (old new : Groups (Bounded F S)) (stopped : Bool) (answer : Poll (Option A)) → GroupsGive (λ _. asks) old answer stopped new → held_in_all new.listed + outputs_in answer ≡ held_in_all old.listed
+    groups_counted old new stopped answer h = sum_left asks held_in outputs_in counted end_is_empty no_outputs old new stopped answer h
 
     -- the answer is the end where nothing was held
-    pub ends_none_held : (old new : Groups (Bounded F S)) (answer : Poll (Option A)) → GroupsGive asks old answer new → (answer ≡ Ready None) ↔ (held_in_all old.listed ≡ 0)
-    ends_none_held old new (Ready None) h = ends_none _ (omega (arith, groups_counted old new (Ready None) h, groups_ended old new h))
-    ends_none_held old new (Ready (Some x)) h = ends_some _ x (omega (arith, groups_counted old new (Ready (Some x)) h))
-    ends_none_held old new Pending h = ends_pending _ (omega (arith, groups_counted old new Pending h, groups_pending old new h))
+    pub ends_none_held : (old new : Groups (Bounded F S)) (stopped : Bool) (answer : Poll (Option A)) → GroupsGive (λ _. asks) old answer stopped new → (answer ≡ Ready None) ↔ (held_in_all old.listed ≡ 0)
+    ends_none_held old new stopped (Ready None) h = ends_none _ (omega (arith, groups_counted old new stopped (Ready None) h, groups_ended old new stopped h))
+    ends_none_held old new stopped (Ready (Some x)) h = ends_some _ x (omega (arith, groups_counted old new stopped (Ready (Some x)) h))
+    ends_none_held old new stopped Pending h = ends_pending _ (omega (arith, groups_counted old new stopped Pending h, groups_pending old new stopped h))
+
+-- what is told of each group that is asked may be told otherwise
+module _ {X A : Type 0} (asks gives : Bool → X → Poll (Option A) → X → Type 0) (told : (stopped : Bool) (old new : X) (answer : Poll (Option A)) → asks stopped old answer new → gives stopped old answer new) where
+  turn_told : (group left : X) (b : Bool) (o : Option (Poll (Option A))) → MatchOption o ((left ≡ group) × (b ≡ false)) (λ answer. asks b group answer left) → MatchOption o ((left ≡ group) × (b ≡ false)) (λ answer. gives b group answer left)
+  turn_told group left b None h = h
+  turn_told group left b (Some answer) h = told b group left answer h
+
+  turns_told : (groups : List X) (turns : List (Turn X A)) → AllZip (TakesTurn asks) groups turns → AllZip (TakesTurn gives) groups turns
+  turns_told [] [] zip = tt
+  turns_told [] (t ∷ ts) zip = absurd zip
+  turns_told (g ∷ gs) [] zip = absurd zip
+  turns_told (g ∷ gs) (t ∷ ts) zip = (turn_told g t.left t.stopped t.answer zip.0, turns_told gs ts zip.1)
+
+  last_told : (old new : Groups X) (stopped : Bool) (turns : List (Turn X A)) (last : Poll (Option A)) (not_asked : List (ℕ × Turn X A)) → AsksLast asks old turns last not_asked stopped new → AsksLast gives old turns last not_asked stopped new
+  last_told old new stopped turns last not_asked h =
+      record { each = turns_told old.listed turns h.each; asked_before = h.asked_before; k = h.k; last_stopped = h.last_stopped; left = h.left; in_order = h.in_order; no_output_before = h.no_output_before; none_asked_after = h.none_asked_after; leaves = h.leaves; goes_on = h.goes_on; stops = h.stops }
+
+  pub groups_told : (old new : Groups X) (stopped : Bool) (answer : Poll (Option A)) → GroupsGive asks old answer stopped new → GroupsGive gives old answer stopped new
+  groups_told old new stopped (Ready (Some x)) h = (h.0, h.1, last_told old new stopped h.0 (Ready (Some x)) h.1 h.2)
+  groups_told old new stopped (Ready None) (inl h) = inl h
+  groups_told old new stopped (Ready None) (inr h) = inr (h.0, h.1, h.2, last_told old new stopped h.0 h.1 [] h.3, h.4)
+  groups_told old new stopped Pending h = (h.0, h.1, h.2, last_told old new stopped h.0 h.1 [] h.3, h.4)

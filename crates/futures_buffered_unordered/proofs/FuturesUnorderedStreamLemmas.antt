@@ -1,5 +1,5 @@
--- What a set's poll keeps of each group that it asks, and what may come from the set.
-use Rattle.std.proofs.Common.{◌≡◌, ℕ, ◌+◌, ◌<◌, List, [], ◌∷◌, Option, Some, None, IfSome, IfNone, refl, sym, subst, inl, inr, arith}
+-- What a set's poll keeps of each group that it asks, what may come from the set, and the set as a stream.
+use Rattle.std.proofs.Common.{◌≡◌, ℕ, Bool, true, false, ◌+◌, ◌<◌, List, [], ◌∷◌, Option, Some, None, IfSome, IfNone, refl, sym, subst, inl, inr, arith}
 use Rattle.std.specs.List.{FoldsTo}
 use Rattle.futures.specs.Poll.{IfReady, OnPending}
 use Rattle.futures.specs.Runs.{After, Within}
@@ -10,16 +10,20 @@ use Rattle.futures_buffered_core.specs.ReadySource.{WaitsAlike, SourceSteps}
 use Rattle.futures_buffered_core.specs.SlotMap.{slot_count}
 use Rattle.futures_buffered_table.specs.declared.answer.Taken.{Taken}
 use Rattle.futures_buffered_unordered.specs.Held.{AnyMayGive}
-use Rattle.futures_buffered_unordered.specs.FuturesUnorderedBounded.{AsksInPart, Bounded, OnlyRegisters, PollAsksToEmpty, PollGives, held_in}
+use Rattle.futures_buffered_unordered.specs.FuturesUnorderedBounded.{Bounded, OnlyRegisters, PollAsks, PollGives, held_in}
 use Rattle.futures_buffered_unordered.proofs.PollsBoundedLemmas.{PollLeavesTask}
-use Rattle.futures_buffered_unordered.specs.Groups.{GroupLeavesTask, Groups, GroupsGive, outputs_in}
+use Rattle.futures_buffered_unordered.specs.Groups.{Groups, GroupsGive, WakesIf, outputs_in}
 use Rattle.futures_buffered_unordered.proofs.HeldGivesLemmas.{Gathers-Within, Gathers-After}
 use Rattle.futures_buffered_unordered.proofs.FuturesUnorderedBoundedLemmas.{registers_none, registers_once, poll_counted, poll_pending_holds, poll_end_is_empty, poll_gave, poll_still}
-use Rattle.futures_buffered_unordered.specs.FuturesUnordered.{held_in_all}
+use Rattle.futures_buffered_unordered.specs.FuturesUnordered.{AnyNeeds, EachHeld, Growing, held_in_all}
+use Rattle.futures_buffered_unordered.specs.PollsBounded.{PollOneOf, ReadySourceOf}
+use Rattle.futures_buffered_unordered.specs.PollsGrowing.{PollsGrowing}
+use Rattle.futures_buffered_unordered.specs.StreamAnswers.{StreamAnswers, stream_of}
 use Rattle.futures_buffered_unordered.specs.FuturesUnorderedInvariant.{KeepsGroup}
 use Rattle.futures_buffered_unordered.specs.FuturesUnordered.{AnyGroupMayGive, ComesFromGroups}
 use Rattle.futures_buffered_unordered.proofs.FuturesUnorderedInvariantLemmas.{alike_self, alike_on}
-use Rattle.futures_buffered_unordered.proofs.FuturesUnorderedPollLemmas.{any_left, any_output}
+use Rattle.futures_buffered_unordered.proofs.FuturesUnorderedPollLemmas.{any_left, any_output, groups_told}
+use Rattle.futures_buffered_unordered.proofs.StreamAnswersLemmas.{after_item, while_pending}
 
 module _ {F A S : Type 0} (needs : S → ℕ → Type 0) (polled : ℕ → F → Poll A → F → Type 0) (steps : SourceSteps S)
     (register_waits : (old new : S) → steps.registers old new → WaitsAlike needs old new) (take_waits : (old : S) (taken : Taken) (new : S) → steps.takes old taken new → WaitsAlike needs old new) where
@@ -51,40 +55,65 @@ module _ {F A S : Type 0} (needs : S → ℕ → Type 0) (polled : ℕ → F →
       empty (Ready (Some x)) h = tt
       empty Pending h = tt
 
--- what a poll of a group leaves of the task: one that registers, and one of a task that is registered
+-- what a poll of a group leaves of the task, and whether it stopped: one that registers, and one of a task that is registered
 module _ {F A S : Type 0} (polled : ℕ → F → Poll A → F → Type 0) (steps : SourceSteps S) (registers_poll : S → Context → Context → Type 0) (old new : Bounded F S) (cx left : Context) where
-  pub group_leaves : (answer : Poll (Option A)) → PollGives polled steps old answer new → PollLeavesTask polled steps registers_poll old answer new cx left
-      → GroupLeavesTask (PollAsksToEmpty polled steps) (AsksInPart polled steps) (OnlyRegisters registers_poll) old answer new cx left
-  group_leaves (Ready None) gives same = inl (gives, registers_none registers_poll cx left same)
-  group_leaves (Ready (Some x)) gives once = inl (gives, registers_once registers_poll cx left old.source once)
-  group_leaves Pending gives (inl empty) = inl ((gives.0, empty.0), registers_once registers_poll cx left old.source empty.1)
-  group_leaves Pending gives (inr part) = inr (refl, part.0, part.1)
+  abbrev AsksAndLeaves : Poll (Option A) → Type 0
+  AsksAndLeaves answer = (stopped : Bool) × PollAsks polled steps stopped old answer new × WakesIf stopped (OnlyRegisters registers_poll) cx left
 
-  pub covered_leaves : (answer : Poll (Option A)) → PollGives polled steps old answer new → PollLeavesTask polled steps (λ _ before after. after ≡ before) old answer new cx left
-      → GroupLeavesTask (PollAsksToEmpty polled steps) (AsksInPart polled steps) (OnlyRegisters registers_poll) old answer new cx left
-  covered_leaves (Ready None) gives same = inl (gives, registers_none registers_poll cx left same)
-  covered_leaves (Ready (Some x)) gives same = inl (gives, registers_none registers_poll cx left same)
-  covered_leaves Pending gives (inl empty) = inl ((gives.0, empty.0), registers_none registers_poll cx left empty.1)
-  covered_leaves Pending gives (inr part) = inr (refl, part.0, part.1)
+  pub group_leaves : (answer : Poll (Option A)) → PollGives polled steps old answer new → PollLeavesTask polled steps registers_poll old answer new cx left → AsksAndLeaves answer
+  group_leaves (Ready None) gives same = (false, (gives, refl), registers_none registers_poll cx left same)
+  group_leaves (Ready (Some x)) gives once = (false, (gives, refl), registers_once registers_poll cx left old.source once)
+  group_leaves Pending gives (inl empty) = (false, (gives.0, empty.0), registers_once registers_poll cx left old.source empty.1)
+  group_leaves Pending gives (inr part) = (true, (gives.0, part.0), part.1)
+
+  pub covered_leaves : (answer : Poll (Option A)) → PollGives polled steps old answer new → PollLeavesTask polled steps (λ _ before after. after ≡ before) old answer new cx left → AsksAndLeaves answer
+  covered_leaves (Ready None) gives same = (false, (gives, refl), registers_none registers_poll cx left same)
+  covered_leaves (Ready (Some x)) gives same = (false, (gives, refl), registers_none registers_poll cx left same)
+  covered_leaves Pending gives (inl empty) = (false, (gives.0, empty.0), registers_none registers_poll cx left empty.1)
+  covered_leaves Pending gives (inr part) = (true, (gives.0, part.0), part.1)
+
+-- a poll of groups, where it does not matter which of them stopped
+module _ {F A S : Type 0} (polled : ℕ → F → Poll A → F → Type 0) (steps : SourceSteps S) where
+  asked_gives : (stopped : Bool) (old new : Bounded F S) (answer : Poll (Option A)) → PollAsks polled steps stopped old answer new → PollGives polled steps old answer new
+  asked_gives stopped old new (Ready o) h = h.0
+  asked_gives stopped old new Pending h = let asks = h.1 in (h.0, (asks.0, asks.1, asks.2, asks.4, asks.5))
+
+  pub groups_give : (old new : Groups (Bounded F S)) (stopped : Bool) (answer : Poll (Option A)) → GroupsGive (PollAsks polled steps) old answer stopped new → GroupsGive (λ _. PollGives polled steps) old answer stopped new
+  groups_give old new stopped answer h = groups_told (PollAsks polled steps) (λ _. PollGives polled steps) asked_gives old new stopped answer h
 
 module _ {F A S : Type 0} (polled : ℕ → F → Poll A → F → Type 0) (steps : SourceSteps S) where
-  module _ (old new : Groups (Bounded F S)) where
-    pub still : (answer : Poll (Option A)) → GroupsGive (PollGives polled steps) old answer new → (y : A) → AnyGroupMayGive polled new.listed y → AnyGroupMayGive polled old.listed y
-    still answer h y any = any_left (PollGives polled steps) (λ (g : Bounded F S). AnyMayGive polled g.slots y) (poll_still polled steps y) old answer new h any
+  module _ (old new : Groups (Bounded F S)) (stopped : Bool) where
+    pub still : (answer : Poll (Option A)) → GroupsGive (λ _. PollGives polled steps) old answer stopped new → (y : A) → AnyGroupMayGive polled new.listed y → AnyGroupMayGive polled old.listed y
+    still answer h y any = any_left (PollGives polled steps) (λ (g : Bounded F S). AnyMayGive polled g.slots y) (poll_still polled steps y) old answer stopped new h any
 
-    pub gave : (x : A) → GroupsGive (PollGives polled steps) old (Ready (Some x)) new → AnyGroupMayGive polled old.listed x
-    gave x h = any_output (PollGives polled steps) (λ (g : Bounded F S). AnyMayGive polled g.slots x) old new x h (poll_gave polled steps x)
+    pub gave : (x : A) → GroupsGive (λ _. PollGives polled steps) old (Ready (Some x)) stopped new → AnyGroupMayGive polled old.listed x
+    gave x h = any_output (PollGives polled steps) (λ (g : Bounded F S). AnyMayGive polled g.slots x) old new stopped x h (poll_gave polled steps x)
 
-    pub value_of : (answer : Poll (Option A)) → GroupsGive (PollGives polled steps) old answer new → (answer ≡ Ready None → held_in_all old.listed ≡ 0) → held_in_all new.listed + outputs_in answer ≡ held_in_all old.listed → IfReady answer (ComesFromGroups polled old.listed [])
+    pub value_of : (answer : Poll (Option A)) → GroupsGive (λ _. PollGives polled steps) old answer stopped new → (answer ≡ Ready None → held_in_all old.listed ≡ 0) → held_in_all new.listed + outputs_in answer ≡ held_in_all old.listed → IfReady answer (ComesFromGroups polled old.listed [])
     value_of (Ready None) h ends count = record { each = tt; ends = sym (ends refl) }
     value_of (Ready (Some x)) h ends count = record { each = tt; ends = (gave x h, omega (arith, count)) }
     value_of Pending h ends count = tt
 
-    pub rest_of : (answer : Poll (Option A)) → GroupsGive (PollGives polled steps) old answer new → held_in_all new.listed + outputs_in answer ≡ held_in_all old.listed → IfReady answer (λ o. IfSome o (λ x. After (ComesFromGroups polled old.listed) x (ComesFromGroups polled new.listed)))
+    pub rest_of : (answer : Poll (Option A)) → GroupsGive (λ _. PollGives polled steps) old answer stopped new → held_in_all new.listed + outputs_in answer ≡ held_in_all old.listed → IfReady answer (λ o. IfSome o (λ x. After (ComesFromGroups polled old.listed) x (ComesFromGroups polled new.listed)))
     rest_of (Ready None) h count = tt
     rest_of (Ready (Some x)) h count = Gathers-After {A = A} {P = AnyGroupMayGive polled old.listed} {Q = AnyGroupMayGive polled new.listed} (still (Ready (Some x)) h) _ _ x count (gave x h)
     rest_of Pending h count = tt
 
-    pub same_of : (answer : Poll (Option A)) → GroupsGive (PollGives polled steps) old answer new → held_in_all new.listed + outputs_in answer ≡ held_in_all old.listed → OnPending answer (Within (ComesFromGroups polled old.listed) (ComesFromGroups polled new.listed))
+    pub same_of : (answer : Poll (Option A)) → GroupsGive (λ _. PollGives polled steps) old answer stopped new → held_in_all new.listed + outputs_in answer ≡ held_in_all old.listed → OnPending answer (Within (ComesFromGroups polled old.listed) (ComesFromGroups polled new.listed))
     same_of (Ready o) h count = tt
     same_of Pending h count = Gathers-Within {A = A} {P = AnyGroupMayGive polled old.listed} {Q = AnyGroupMayGive polled new.listed} (still Pending h) _ _ (omega (arith, count))
+
+-- what `futures` asks of a poll of the set
+pub answers_as_stream : {R F W A S : Type 0} (rule : PollOneOf R F W A) (source : ReadySourceOf S W) (old new : Growing F S) (answer : Poll (Option A)) (cx left : Context) → PollsGrowing rule source old answer new cx left
+    → StreamAnswers (stream_of (λ set. EachHeld rule.can_poll set.groups.listed) (λ set. AnyNeeds source.needs set.groups.listed) (λ set. ComesFromGroups rule.polled set.groups.listed)) old answer new cx left
+answers_as_stream rule source old new answer cx left it =
+    let gave = groups_give rule.polled source.steps old.groups new.groups it.groups.stopped answer it.groups.gave in
+    record {
+      value = value_of rule.polled source.steps old.groups new.groups it.groups.stopped answer gave it.ends.0 it.count;
+      rest = rest_of rule.polled source.steps old.groups new.groups it.groups.stopped answer gave it.count;
+      same = same_of rule.polled source.steps old.groups new.groups it.groups.stopped answer gave it.count;
+      goes = after_item answer it.groups.pollable;
+      again = while_pending answer it.groups.pollable;
+      registered = it.registered;
+      kept = it.groups.kept;
+    }

@@ -1,14 +1,32 @@
 -- Groups in a list, and their turns: which stay and where they stand.
-use Rattle.std.proofs.Common.{◌≡◌, ◌⊎◌, ℕ, suc, ◌+◌, ◌<◌, ◌≤◌, Bool, true, false, not, ◌&&◌, cond, List, [], ◌∷◌, ◌++◌, length, take, drop, Option, Some, None, MatchOption, nat_lt, true≢false, refl, sym, ap, subst, inl, inr, arith, append-nil, ◌∙◌}
-use Rattle.std.specs.List.{AllZip, AllByRecursion, enumerate_from, count_by}
+use Rattle.std.proofs.Common.{◌≡◌, ◌⊎◌, ℕ, suc, ◌+◌, ◌<◌, ◌≤◌, Bool, true, false, not, ◌&&◌, ◌||◌, cond, List, [], ◌∷◌, ◌++◌, length, take, drop, Option, Some, None, MatchOption, nat_lt, true≢false, refl, sym, ap, subst, inl, inr, arith, append-nil, ◌∙◌}
+use Rattle.std.specs.List.{AllZip, AllByRecursion, enumerate_from, count_by, list_any}
 use Rattle.std.proofs.lemmas.List.{length-append, take_at, drop_at, length_push, take_all, drop_all}
 use Rattle.std.proofs.lemmas.List.FromFn.{length-enumerate_from}
 use Rattle.std.proofs.lemmas.List.Sums.{sum_by-cons}
 use Rattle.std.proofs.lemmas.Bool.{lt-ltb, le-ltb}
+use Rattle.std.proofs.lemmas.List.Folds.{list_any-append}
 use Rattle.futures.specs.declared.task.Poll.{Poll}
 use Rattle.futures.specs.declared.task.Poll.TheVariants.{Ready, Pending}
-use Rattle.futures_buffered_unordered.specs.Groups.{AnyOf, OneStopped, Groups, Turn, round_from, NoOutput, is_end, NotAsked, ended, staying, stands_at, TakesTurn}
+use Rattle.futures_buffered_unordered.specs.Groups.{Groups, Turn, round_from, NoOutput, is_end, ended, staying, stands_at}
 use Rattle.futures_buffered_unordered.specs.GroupsStep.{AsksOne, LeavesBetween, next_place}
+
+module _ {X A : Type 0} where
+  -- the group was not asked
+  abbrev pub NotAsked : Turn X A → Type 0
+  NotAsked turn = turn.answer ≡ None
+
+  -- the group was asked, and gave no output
+  abbrev pub GaveNoOutput : Turn X A → Type 0
+  GaveNoOutput turn = MatchOption turn.answer ⊥ NoOutput
+
+  -- a group that was not asked is left as it was, and one that was asked as its answer leaves it
+  abbrev pub TakesTurn : (Bool → X → Poll (Option A) → X → Type 0) → X → Turn X A → Type 0
+  TakesTurn asks group turn = MatchOption turn.answer ((turn.left ≡ group) × (turn.stopped ≡ false)) (λ answer. asks turn.stopped group answer turn.left)
+
+  -- whether one of these turns stopped
+  abbrev pub any_stopped : List (Turn X A) → Bool
+  any_stopped turns = list_any (λ (turn : Turn X A). turn.stopped) turns
 
 -- lists that are put together alike, with first parts of one length, have the same parts
 pub same_parts : {X : Type 0} (ps qs rs ts : List X) → length ps ≡ length qs → ps ++ rs ≡ qs ++ ts → (ps ≡ qs) × (rs ≡ ts)
@@ -70,7 +88,7 @@ module _ {X A : Type 0} where
   -- the turns of groups that were not asked
   abbrev pub waiting : List X → List (Turn X A)
   waiting [] = []
-  waiting (x ∷ xs) = record { answer = None; left = x } ∷ waiting xs
+  waiting (x ∷ xs) = record { answer = None; stopped = false; left = x } ∷ waiting xs
 
   -- what is left of groups of which none is the last
   abbrev pub kept : List (Turn X A) → List X
@@ -102,6 +120,10 @@ module _ {X : Type 0} (A : Type 0) where
   pub waiting-not_asked : (xs : List X) → AllByRecursion NotAsked (waiting {A = A} xs)
   waiting-not_asked [] = tt
   waiting-not_asked (x ∷ xs) = (refl, waiting-not_asked xs)
+
+  pub waiting-not_stopped : (xs : List X) → any_stopped (waiting {A = A} xs) ≡ false
+  waiting-not_stopped [] = refl
+  waiting-not_stopped (x ∷ xs) = waiting-not_stopped xs
 
   pub staying-waiting : (xs : List X) → staying (waiting {A = A} xs) ≡ xs
   staying-waiting [] = refl
@@ -146,11 +168,11 @@ pub record AsksHere {X A : Type 0} (asks : X → Poll (Option A) → X → Type 
   pub asked : asks group answer left
   pub leaves : LeavesBetween earlier later left answer new
 
-module _ {X A : Type 0} (asks : X → Poll (Option A) → X → Type 0) where
-  pub zip-waiting : (xs : List X) → AllZip (TakesTurn asks) xs (waiting xs)
-  zip-waiting [] = tt
-  zip-waiting (x ∷ xs) = (refl, zip-waiting xs)
+pub zip-waiting : {X A : Type 0} (asks : Bool → X → Poll (Option A) → X → Type 0) (xs : List X) → AllZip (TakesTurn asks) xs (waiting xs)
+zip-waiting asks [] = tt
+zip-waiting asks (x ∷ xs) = ((refl, refl), zip-waiting asks xs)
 
+module _ {X A : Type 0} (asks : X → Poll (Option A) → X → Type 0) where
   pub asks_here : (now new : Groups X) (answer : Poll (Option A)) (earlier rest : List X) → AsksOne asks now answer new → now.listed ≡ earlier ++ rest → next_place now ≡ length earlier → AsksHere asks earlier rest answer new
   asks_here now new answer earlier rest one is place =
       let front : take (next_place now) now.listed ≡ earlier = ap (take (next_place now)) is ∙ take_at earlier rest (next_place now) (sym place) in
@@ -254,34 +276,27 @@ pub each-front : {X : Type 0} (P : X → Type 0) (xs ys : List X) → AllByRecur
 each-front P [] ys all = tt
 each-front P (x ∷ xs) ys all = (all.0, each-front P xs ys all.1)
 
-pub answered : {X A : Type 0} (o : Option (Poll (Option A))) (left : X) → MatchOption o ⊥ NoOutput → (answer : Poll (Option A)) × NoOutput answer × (◌≡◌ {A = Turn X A} (record { answer = o; left = left }) (record { answer = Some answer; left = left }))
-answered None left h = absurd h
-answered (Some answer) left h = (answer, h, refl)
+pub answered : {X A : Type 0} (o : Option (Poll (Option A))) (stopped : Bool) (left : X) → MatchOption o ⊥ NoOutput → (answer : Poll (Option A)) × NoOutput answer × (◌≡◌ {A = Turn X A} (record { answer = o; stopped = stopped; left = left }) (record { answer = Some answer; stopped = stopped; left = left }))
+answered None stopped left h = absurd h
+answered (Some answer) stopped left h = (answer, h, refl)
 
--- what holds of one of a list holds of one of a longer list
-pub any_front : {X : Type 0} (P : X → Type 0) (xs ys : List X) → AnyOf P xs → AnyOf P (xs ++ ys)
-any_front P [] ys any = absurd any
-any_front P (x ∷ xs) ys (inl here) = inl here
-any_front P (x ∷ xs) ys (inr any) = inr (any_front P xs ys any)
+or_false : (b : Bool) → (b || false) ≡ b
+or_false true = refl
+or_false false = refl
 
-pub any_back : {X : Type 0} (P : X → Type 0) (xs ys : List X) → AnyOf P ys → AnyOf P (xs ++ ys)
-any_back P [] ys any = any
-any_back P (x ∷ xs) ys any = inr (any_back P xs ys any)
+-- whether one stopped, by the parts of a list of turns
+module _ {X A : Type 0} where
+  pub any_stopped-push : (turns : List (Turn X A)) (turn : Turn X A) → any_stopped (turns ++ turn ∷ []) ≡ (any_stopped turns || turn.stopped)
+  any_stopped-push turns turn = list_any-append (λ (t : Turn X A). t.stopped) turns (turn ∷ []) ∙ ap (λ (b : Bool). any_stopped turns || b) (or_false turn.stopped)
 
-pub any_weaker : {X : Type 0} (P Q : X → Type 0) → ((x : X) → P x → Q x) → (xs : List X) → AnyOf P xs → AnyOf Q xs
-any_weaker P Q weaker [] any = any
-any_weaker P Q weaker (x ∷ xs) (inl here) = inl (weaker x here)
-any_weaker P Q weaker (x ∷ xs) (inr any) = inr (any_weaker P Q weaker xs any)
+  -- between turns that were not asked
+  pub any_stopped-waiting : (turns : List (Turn X A)) (turn : Turn X A) (later : List X) → any_stopped (turns ++ turn ∷ waiting later) ≡ (any_stopped turns || turn.stopped)
+  any_stopped-waiting turns turn later =
+      list_any-append (λ (t : Turn X A). t.stopped) turns (turn ∷ waiting later) ∙ ap (λ (b : Bool). any_stopped turns || (turn.stopped || b)) (waiting-not_stopped A later) ∙ ap (λ (b : Bool). any_stopped turns || b) (or_false turn.stopped)
 
-module _ {X : Type 0} (stops : X → X → Type 0) where
-  -- a group that stopped is seen in longer lists
-  pub stopped_front : (groups left more others : List X) → OneStopped stops groups left → OneStopped stops (groups ++ more) (left ++ others)
-  stopped_front groups left more others one =
-      any_front (λ (g : X). AnyOf (stops g) (left ++ others)) groups more (any_weaker (λ (g : X). AnyOf (stops g) left) (λ (g : X). AnyOf (stops g) (left ++ others)) (λ g any. any_front (stops g) left others any) groups one)
-
-  pub stopped_back : (more others groups left : List X) → OneStopped stops groups left → OneStopped stops (more ++ groups) (others ++ left)
-  stopped_back more others groups left one =
-      any_back (λ (g : X). AnyOf (stops g) (others ++ left)) more groups (any_weaker (λ (g : X). AnyOf (stops g) left) (λ (g : X). AnyOf (stops g) (others ++ left)) (λ g any. any_back (stops g) others left any) groups one)
-
-  pub stopped_last : (groups left : List X) (g l : X) → stops g l → OneStopped stops (groups ++ g ∷ []) (left ++ l ∷ [])
-  stopped_last groups left g l stop = stopped_back groups left (g ∷ []) (l ∷ []) (inl (inl stop))
+pub or_last : (p q b : Bool) → ((p || b) || q) ≡ ((p || q) || b)
+or_last true q b = refl
+or_last false true true = refl
+or_last false true false = refl
+or_last false false true = refl
+or_last false false false = refl

@@ -1,27 +1,27 @@
 -- What a poll has asked so far, and what one more group makes of it.
-use Rattle.std.proofs.Common.{◌≡◌, ◌⊎◌, ℕ, ◌+◌, ◌<◌, ◌≤◌, Bool, true, false, not, ◌&&◌, cond, List, [], ◌∷◌, ◌++◌, length, take, drop, Option, Some, None, is_some, true≢false, refl, sym, ap, subst, inl, inr, arith, append-nil, ◌∙◌}
+use Rattle.std.proofs.Common.{◌≡◌, ◌⊎◌, ℕ, ◌+◌, ◌<◌, ◌≤◌, Bool, true, false, not, ◌&&◌, ◌||◌, cond, List, [], ◌∷◌, ◌++◌, length, take, drop, Option, Some, None, is_some, true≢false, refl, sym, ap, subst, inl, inr, arith, append-nil, ◌∙◌}
 use Rattle.std.specs.List.{AllZip, AllByRecursion, enumerate_from, list_all}
 use Rattle.std.proofs.lemmas.List.{append_assoc, length-append, length_push, take-append-drop, length-take-le, length-drop}
-use Rattle.std.proofs.lemmas.List.Folds.{list_all-append}
+use Rattle.std.proofs.lemmas.List.Folds.{list_all-append, list_any-append}
 use Rattle.std.proofs.lemmas.Slice.Zip.{AllZip-long}
 use Rattle.std.proofs.lemmas.Bool.{cases_lt, eq-eqb, ne_eqb}
 use Rattle.futures.specs.declared.task.Poll.{Poll}
 use Rattle.futures.specs.declared.task.Poll.TheVariants.{Ready, Pending}
-use Rattle.futures_buffered_unordered.specs.Groups.{Groups, Turn, round_from, NoOutput, is_end, GaveNoOutput, ended, staying, stands_at, place_after, TakesTurn, AsksAll, GroupsGive}
+use Rattle.futures_buffered_unordered.specs.Groups.{Groups, Turn, round_from, NoOutput, is_end, ended, staying, stands_at, place_after, AsksAll, GroupsGive}
 use Rattle.futures_buffered_unordered.specs.GroupsStep.{AsksOne}
-use Rattle.futures_buffered_unordered.proofs.GroupsLemmas.{enumerate-append, round-at, each-numbered, each-append, zip-append, kept, kept-append, staying-append, kept-push, stands-at, is_pending, behind_last, next_at, next_zero, gone, from_no_length, last_of, each-last, each-front, answered}
-use Rattle.futures_buffered_unordered.proofs.GroupsRoundLemmas.{First, Second, RoundSaw, AllStop, first_step, second_step, first_output, second_output, list_all-push}
+use Rattle.futures_buffered_unordered.proofs.GroupsLemmas.{any_stopped, any_stopped-push, GaveNoOutput, TakesTurn, enumerate-append, round-at, each-numbered, each-append, zip-append, kept, kept-append, staying-append, kept-push, stands-at, is_pending, behind_last, next_at, next_zero, gone, from_no_length, last_of, each-last, each-front, answered}
+use Rattle.futures_buffered_unordered.proofs.GroupsRoundLemmas.{First, Second, first_step, second_step, first_output, second_output, list_all-push}
 
-module _ {X A : Type 0} (asks : X → Poll (Option A) → X → Type 0) (old : Groups X) where
+module _ {X A : Type 0} (asks : Bool → X → Poll (Option A) → X → Type 0) (old : Groups X) where
   -- nothing was asked as there is no group, or the first part of the round goes on, or the second
-  abbrev pub SoFar : ℕ → Bool → Groups X → Type 0
-  SoFar count pending now = ((old.listed ≡ []) × (now ≡ old) × (pending ≡ false)) ⊎ (First asks old count pending now ⊎ Second asks old count pending now)
+  abbrev pub SoFar : ℕ → Bool → Bool → Groups X → Type 0
+  SoFar count pending stopped now = ((old.listed ≡ []) × (now ≡ old) × (pending ≡ false) × (stopped ≡ false)) ⊎ (First asks old count pending stopped now ⊎ Second asks old count pending stopped now)
 
   -- before anything was asked
-  pub so_far_none : old.place ≤ length old.listed → SoFar 0 false old
+  pub so_far_none : old.place ≤ length old.listed → SoFar 0 false false old
   so_far_none within = by_groups old.listed refl
     where
-      at_place : (gs : List X) → old.listed ≡ gs → 0 < length gs → (old.place < length gs) ⊎ (length gs ≤ old.place) → First asks old 0 false old
+      at_place : (gs : List X) → old.listed ≡ gs → 0 < length gs → (old.place < length gs) ⊎ (length gs ≤ old.place) → First asks old 0 false false old
       at_place gs is some (inl below) =
           let long : length (take old.place old.listed) ≡ old.place = length-take-le old.place old.listed (omega (arith, below, ap length is)) in
           record {
@@ -38,6 +38,7 @@ module _ {X A : Type 0} (asks : X → Poll (Option A) → X → Type 0) (old : G
             place = next_at old _ (omega (arith, long)) (omega (arith, below, long, ap length is));
             counted = refl;
             ends = refl;
+            stops = refl;
           }
       at_place gs is some (inr past) =
           record {
@@ -54,48 +55,35 @@ module _ {X A : Type 0} (asks : X → Poll (Option A) → X → Type 0) (old : G
             place = next_zero old (inl (omega (arith, past, ap length is)));
             counted = refl;
             ends = refl;
+            stops = refl;
           }
 
-      by_groups : (gs : List X) → old.listed ≡ gs → SoFar 0 false old
-      by_groups [] is = inl (is, refl, refl)
+      by_groups : (gs : List X) → old.listed ≡ gs → SoFar 0 false false old
+      by_groups [] is = inl (is, refl, refl, refl)
       by_groups (g ∷ gs) is = inr (inl (at_place (g ∷ gs) is (omega arith) (cases_lt old.place (length (g ∷ gs)))))
 
-  -- what was asked so far shows a group that stopped
-  abbrev pub SoFarSaw : (X → X → Type 0) → (count : ℕ) (pending : Bool) (now : Groups X) → SoFar count pending now → Type 0
-  SoFarSaw stops count pending now (inl none) = ⊥
-  SoFarSaw stops count pending now (inr so) = RoundSaw asks old stops count pending now so
-
   -- one more group
-  pub step_saw : (asks_now : X → Poll (Option A) → X → Type 0) (stops : X → X → Type 0) → ((group left : X) (answer : Poll (Option A)) → asks_now group answer left → asks group answer left)
-      → (count : ℕ) (pending : Bool) (now new : Groups X) (answer : Poll (Option A)) → NoOutput answer → (so : SoFar count pending now) → count < length old.listed → AsksOne asks_now now answer new
-      → (r : SoFar (count + 1) (cond pending true (is_pending answer)) new) × (SoFarSaw stops count pending now so ⊎ AllStop asks old asks_now stops answer → SoFarSaw stops (count + 1) (cond pending true (is_pending answer)) new r)
-  step_saw asks_now stops as_asked count pending now new answer no_output (inl none) more one = absurd (omega (arith, more, ap length none.0))
-  step_saw asks_now stops as_asked count pending now new answer no_output (inr (inl so)) more one =
-      let step = first_step asks old asks_now stops as_asked count pending now new answer no_output so one in
-      (inr step.0, step.1)
-  step_saw asks_now stops as_asked count pending now new answer no_output (inr (inr so)) more one =
-      let step = second_step asks old asks_now stops as_asked count pending now new answer no_output so more one in
-      (inr (inr step.0), step.1)
-
-  pub so_far_step : (count : ℕ) (pending : Bool) (now new : Groups X) (answer : Poll (Option A)) → NoOutput answer → SoFar count pending now → count < length old.listed → AsksOne asks now answer new
-      → SoFar (count + 1) (cond pending true (is_pending answer)) new
-  so_far_step count pending now new answer no_output so more one = (step_saw asks (λ group left. ⊥) (λ group left answer asked. asked) count pending now new answer no_output so more one).0
+  pub so_far_step : (count : ℕ) (pending stopped stops : Bool) (now new : Groups X) (answer : Poll (Option A)) → NoOutput answer → SoFar count pending stopped now → count < length old.listed → AsksOne (asks stops) now answer new
+      → SoFar (count + 1) (cond pending true (is_pending answer)) (stopped || stops) new
+  so_far_step count pending stopped stops now new answer no_output (inl none) more one = absurd (omega (arith, more, ap length none.0))
+  so_far_step count pending stopped stops now new answer no_output (inr (inl so)) more one = inr (first_step asks old count pending stopped stops now new answer no_output so one)
+  so_far_step count pending stopped stops now new answer no_output (inr (inr so)) more one = inr (inr (second_step asks old count pending stopped stops now new answer no_output so more one))
 
   -- an output
-  pub so_far_output : (count : ℕ) (pending : Bool) (now new : Groups X) (x : A) → SoFar count pending now → count < length old.listed → AsksOne asks now (Ready (Some x)) new → GroupsGive asks old (Ready (Some x)) new
-  so_far_output count pending now new x (inl none) more one = absurd (omega (arith, more, ap length none.0))
-  so_far_output count pending now new x (inr (inl so)) more one = first_output asks old count pending now new x so one
-  so_far_output count pending now new x (inr (inr so)) more one = second_output asks old count pending now new x so more one
+  pub so_far_output : (count : ℕ) (pending stopped stops : Bool) (now new : Groups X) (x : A) → SoFar count pending stopped now → count < length old.listed → AsksOne (asks stops) now (Ready (Some x)) new → GroupsGive asks old (Ready (Some x)) (stopped || stops) new
+  so_far_output count pending stopped stops now new x (inl none) more one = absurd (omega (arith, more, ap length none.0))
+  so_far_output count pending stopped stops now new x (inr (inl so)) more one = first_output asks old count pending stopped stops now new x so one
+  so_far_output count pending stopped stops now new x (inr (inr so)) more one = second_output asks old count pending stopped stops now new x so more one
 
   -- while not all were asked, a group is left
-  pub so_far_some : (count : ℕ) (pending : Bool) (now : Groups X) → SoFar count pending now → count < length old.listed → 0 < length now.listed
-  so_far_some count pending now (inl none) more = absurd (omega (arith, more, ap length none.0))
-  so_far_some count pending now (inr (inl so)) more = omega (arith, so.some, ap length so.now_is, length-append so.before (kept so.turns ++ so.todo), length-append (kept so.turns) so.todo)
-  so_far_some count pending now (inr (inr so)) more = omega (arith, ap length so.now_is, length-append (kept so.again_turns) (so.todo ++ (kept so.turns ++ so.left ∷ [])), length-append so.todo (kept so.turns ++ so.left ∷ []), length_push (kept so.turns) so.left)
+  pub so_far_some : (count : ℕ) (pending stopped : Bool) (now : Groups X) → SoFar count pending stopped now → count < length old.listed → 0 < length now.listed
+  so_far_some count pending stopped now (inl none) more = absurd (omega (arith, more, ap length none.0))
+  so_far_some count pending stopped now (inr (inl so)) more = omega (arith, so.some, ap length so.now_is, length-append so.before (kept so.turns ++ so.todo), length-append (kept so.turns) so.todo)
+  so_far_some count pending stopped now (inr (inr so)) more = omega (arith, ap length so.now_is, length-append (kept so.again_turns) (so.todo ++ (kept so.turns ++ so.left ∷ [])), length-append so.todo (kept so.turns ++ so.left ∷ []), length_push (kept so.turns) so.left)
 
   -- all were asked, and the last of the list was asked last
-  end_at_last : (count : ℕ) (pending : Bool) (now : Groups X) → (so : Second asks old count pending now) → length old.listed ≤ count → so.todo ≡ [] → so.again_turns ≡ [] → now.place ≡ behind_last (length now.listed) so.answer → AsksAll asks old (not pending) now
-  end_at_last count pending now so all todo_is again_is place = (
+  end_at_last : (count : ℕ) (pending stopped : Bool) (now : Groups X) → (so : Second asks old count pending stopped now) → length old.listed ≤ count → so.todo ≡ [] → so.again_turns ≡ [] → now.place ≡ behind_last (length now.listed) so.answer → AsksAll asks old (not pending) stopped now
+  end_at_last count pending stopped now so all todo_is again_is place = (
     round1,
     so.answer,
     so.none_last,
@@ -103,18 +91,20 @@ module _ {X A : Type 0} (asks : X → Poll (Option A) → X → Type 0) (old : G
       each = subst (λ (l : List X). AllZip (TakesTurn asks) l round1) (sym old_is) (zip-append (TakesTurn asks) so.asked so.turns _ _ so.each (so.last_asked, tt));
       asked_before = enumerate_from 0 so.turns;
       k = length so.turns;
+      last_stopped = so.last_stopped;
       left = so.left;
       in_order = order;
       no_output_before = each-numbered GaveNoOutput 0 so.turns so.none;
       none_asked_after = tt;
       leaves = groups_are ∙ sym (staying-append so.turns last_turn []);
       goes_on = place ∙ by_answer so.answer so.none_last;
+      stops = any_stopped-push so.turns last_turn ∙ ap (λ (l : List (Turn X A)). any_stopped l || (any_stopped so.turns || so.last_stopped)) (sym again_is) ∙ so.stops;
     },
     list_all-push asks old so.turns last_turn ∙ ap (λ (l : List (Turn X A)). list_all ended l && (list_all ended so.turns && is_end (Some so.answer))) (sym again_is) ∙ so.ends,
   )
     where
       last_turn : Turn X A
-      last_turn = record { answer = Some so.answer; left = so.left }
+      last_turn = record { answer = Some so.answer; stopped = so.last_stopped; left = so.left }
 
       round1 : List (Turn X A)
       round1 = so.turns ++ last_turn ∷ []
@@ -145,8 +135,8 @@ module _ {X A : Type 0} (asks : X → Poll (Option A) → X → Type 0) (old : G
       by_answer (Ready (Some x)) none = absurd none
 
   -- all were asked, and the group before the place was asked last
-  end_before : (count : ℕ) (pending : Bool) (now : Groups X) → (so : Second asks old count pending now) → length old.listed ≤ count → so.todo ≡ [] → 0 < length so.again_turns → now.place ≡ length (kept so.again_turns) → AsksAll asks old (not pending) now
-  end_before count pending now so all todo_is some place = (
+  end_before : (count : ℕ) (pending stopped : Bool) (now : Groups X) → (so : Second asks old count pending stopped now) → length old.listed ≤ count → so.todo ≡ [] → 0 < length so.again_turns → now.place ≡ length (kept so.again_turns) → AsksAll asks old (not pending) stopped now
+  end_before count pending stopped now so all todo_is some place = (
     turns,
     answer.0,
     answer.1,
@@ -154,18 +144,20 @@ module _ {X A : Type 0} (asks : X → Poll (Option A) → X → Type 0) (old : G
       each = subst (λ (l : List X). AllZip (TakesTurn asks) l turns) (sym old_is) zipped;
       asked_before = enumerate_from (length so.again_turns) round1 ++ enumerate_from 0 found.0;
       k = length found.0;
+      last_stopped = found.1.stopped;
       left = found.1.left;
       in_order = order;
       no_output_before = each-append _ (enumerate_from (length so.again_turns) round1) (enumerate_from 0 found.0) (each-numbered GaveNoOutput _ round1 (each-append GaveNoOutput so.turns (last_turn ∷ []) so.none (so.none_last, tt))) (each-numbered GaveNoOutput 0 found.0 (each-front GaveNoOutput found.0 (found.1 ∷ []) none_again));
       none_asked_after = tt;
       leaves = leaves;
       goes_on = place ∙ ap length kept_is ∙ length-append (kept found.0) (gone answer.0 found.1.left) ∙ by_answer answer.0 answer.1;
+      stops = list_any-append (λ (t : Turn X A). t.stopped) so.again_turns round1 ∙ ap (λ (b : Bool). any_stopped so.again_turns || b) (any_stopped-push so.turns last_turn) ∙ so.stops;
     },
     list_all-append ended so.again_turns round1 ∙ ap (λ (b : Bool). list_all ended so.again_turns && b) (list_all-push asks old so.turns last_turn) ∙ so.ends,
   )
     where
       last_turn : Turn X A
-      last_turn = record { answer = Some so.answer; left = so.left }
+      last_turn = record { answer = Some so.answer; stopped = so.last_stopped; left = so.left }
 
       round1 : List (Turn X A)
       round1 = so.turns ++ last_turn ∷ []
@@ -179,8 +171,8 @@ module _ {X A : Type 0} (asks : X → Poll (Option A) → X → Type 0) (old : G
       none_again : AllByRecursion GaveNoOutput (found.0 ++ found.1 ∷ [])
       none_again = subst (λ (l : List (Turn X A)). AllByRecursion GaveNoOutput l) found.2 so.none_again
 
-      answer : (answer : Poll (Option A)) × NoOutput answer × (found.1 ≡ record { answer = Some answer; left = found.1.left })
-      answer = answered found.1.answer found.1.left (each-last GaveNoOutput found.0 found.1 none_again)
+      answer : (answer : Poll (Option A)) × NoOutput answer × (found.1 ≡ record { answer = Some answer; stopped = found.1.stopped; left = found.1.left })
+      answer = answered found.1.answer found.1.stopped found.1.left (each-last GaveNoOutput found.0 found.1 none_again)
 
       old_is : old.listed ≡ so.again ++ (so.asked ++ so.last ∷ [])
       old_is = so.old_is ∙ ap (λ (l : List X). so.again ++ (l ++ (so.asked ++ so.last ∷ []))) todo_is
@@ -194,13 +186,13 @@ module _ {X A : Type 0} (asks : X → Poll (Option A) → X → Type 0) (old : G
       begins : (old.place ≡ length so.again_turns) ⊎ ((length turns ≤ old.place) × (so.again_turns ≡ []))
       begins = elim so.begins [ inl e ↦ inl (omega (arith, e, length-append so.again so.todo, ap length todo_is, again_long)) | inr h ↦ absurd (omega (arith, ap length h.1, length-append so.again so.todo, again_long, some)) ]
 
-      order : round_from old.place (enumerate_from 0 turns) ≡ (enumerate_from (length so.again_turns) round1 ++ enumerate_from 0 found.0) ++ (length found.0, record { answer = Some answer.0; left = found.1.left }) ∷ []
+      order : round_from old.place (enumerate_from 0 turns) ≡ (enumerate_from (length so.again_turns) round1 ++ enumerate_from 0 found.0) ++ (length found.0, record { answer = Some answer.0; stopped = found.1.stopped; left = found.1.left }) ∷ []
       order =
           let same : 0 + length found.0 ≡ length found.0 = omega arith in
           round-at old.place so.again_turns round1 begins
           ∙ ap (λ (l : List (Turn X A)). enumerate_from (length so.again_turns) round1 ++ enumerate_from 0 l) found.2
           ∙ ap (λ (l : List (ℕ × Turn X A)). enumerate_from (length so.again_turns) round1 ++ l) (enumerate-append 0 found.0 (found.1 ∷ []) ∙ ap (λ (k : ℕ). enumerate_from 0 found.0 ++ (k, found.1) ∷ []) same ∙ ap (λ (t : Turn X A). enumerate_from 0 found.0 ++ (length found.0, t) ∷ []) answer.2)
-          ∙ sym (append_assoc (enumerate_from (length so.again_turns) round1) (enumerate_from 0 found.0) ((length found.0, record { answer = Some answer.0; left = found.1.left }) ∷ []))
+          ∙ sym (append_assoc (enumerate_from (length so.again_turns) round1) (enumerate_from 0 found.0) ((length found.0, record { answer = Some answer.0; stopped = found.1.stopped; left = found.1.left }) ∷ []))
 
       kept_is : kept so.again_turns ≡ kept found.0 ++ gone answer.0 found.1.left
       kept_is = ap kept found.2 ∙ kept-push found.0 found.1 ∙ ap (λ (t : Turn X A). kept found.0 ++ cond (ended t) [] (t.left ∷ [])) answer.2
@@ -222,36 +214,29 @@ module _ {X A : Type 0} (asks : X → Poll (Option A) → X → Type 0) (old : G
       by_answer (Ready (Some x)) none = absurd none
 
   -- all were asked
-  pub so_far_end : (count : ℕ) (pending : Bool) (now : Groups X) → SoFar count pending now → length old.listed ≤ count → GroupsGive asks old (cond pending Pending (Ready None)) now
-  so_far_end count true now (inl none) all = absurd (true≢false none.2)
-  so_far_end count false now (inl none) all = inl (none.0, none.1)
-  so_far_end count pending now (inr (inl so)) all =
+  pub so_far_end : (count : ℕ) (pending stopped : Bool) (now : Groups X) → SoFar count pending stopped now → length old.listed ≤ count → GroupsGive asks old (cond pending Pending (Ready None)) stopped now
+  so_far_end count true stopped now (inl none) all = absurd (true≢false none.2)
+  so_far_end count false stopped now (inl none) all = inl (none.0, none.1, none.3)
+  so_far_end count pending stopped now (inr (inl so)) all =
       absurd (omega (arith, all, so.counted, so.some, AllZip-long (TakesTurn asks) so.asked so.turns so.each, ap length so.old_is, length-append so.before (so.asked ++ so.todo), length-append so.asked so.todo))
-  so_far_end count pending now (inr (inr so)) all = by_pending pending (elim so.place [ inl h ↦ end_at_last count pending now so all todo_is h.0 h.1 | inr h ↦ end_before count pending now so all todo_is h.0 h.1 ])
+  so_far_end count pending stopped now (inr (inr so)) all = by_pending pending (elim so.place [ inl h ↦ end_at_last count pending stopped now so all todo_is h.0 h.1 | inr h ↦ end_before count pending stopped now so all todo_is h.0 h.1 ])
     where
       todo_is : so.todo ≡ []
       todo_is = from_no_length so.todo (omega (arith, all, so.counted, ap length so.old_is, length-append so.again (so.todo ++ (so.asked ++ so.last ∷ [])), length-append so.todo (so.asked ++ so.last ∷ []), length_push so.asked so.last, AllZip-long (TakesTurn asks) so.again so.again_turns so.each_again, AllZip-long (TakesTurn asks) so.asked so.turns so.each))
 
-      by_pending : (b : Bool) → AsksAll asks old (not b) now → GroupsGive asks old (cond b Pending (Ready None)) now
+      by_pending : (b : Bool) → AsksAll asks old (not b) stopped now → GroupsGive asks old (cond b Pending (Ready None)) stopped now
       by_pending true h = h
       by_pending false h = inr h
 
-  -- an answer that is the end changes nothing of what was seen pending
-  pub with_answer : (count : ℕ) (pending : Bool) (now : Groups X) → SoFar count (cond pending true false) now → SoFar count pending now
-  with_answer count true now so = so
-  with_answer count false now so = so
-
-  pub with_pending : (count : ℕ) (pending : Bool) (now : Groups X) → SoFar count (cond pending true true) now → SoFar count true now
-  with_pending count true now so = so
-  with_pending count false now so = so
-
   -- the answer is known by the arm that it came to
-  pub so_far_none_left : (count : ℕ) (pending : Bool) (now new : Groups X) (o : Option A) → is_some o ≡ false → SoFar count pending now → count < length old.listed → AsksOne asks now (Ready o) new → SoFar (count + 1) pending new
-  so_far_none_left count pending now new None e so more one = with_answer (count + 1) pending new (so_far_step count pending now new (Ready None) tt so more one)
-  so_far_none_left count pending now new (Some x) e so more one = absurd (true≢false e)
+  pub so_far_none_left : (count : ℕ) (pending stopped stops : Bool) (now new : Groups X) (o : Option A) → is_some o ≡ false → SoFar count pending stopped now → count < length old.listed → AsksOne (asks stops) now (Ready o) new → SoFar (count + 1) pending (stopped || stops) new
+  so_far_none_left count true stopped stops now new None e so more one = so_far_step count true stopped stops now new (Ready None) tt so more one
+  so_far_none_left count false stopped stops now new None e so more one = so_far_step count false stopped stops now new (Ready None) tt so more one
+  so_far_none_left count pending stopped stops now new (Some x) e so more one = absurd (true≢false e)
 
-  pub so_far_pending : (count : ℕ) (pending : Bool) (now new : Groups X) → SoFar count pending now → count < length old.listed → AsksOne asks now Pending new → SoFar (count + 1) true new
-  so_far_pending count pending now new so more one = with_pending (count + 1) pending new (so_far_step count pending now new Pending tt so more one)
+  pub so_far_pending : (count : ℕ) (pending stopped stops : Bool) (now new : Groups X) → SoFar count pending stopped now → count < length old.listed → AsksOne (asks stops) now Pending new → SoFar (count + 1) true (stopped || stops) new
+  so_far_pending count true stopped stops now new so more one = so_far_step count true stopped stops now new Pending tt so more one
+  so_far_pending count false stopped stops now new so more one = so_far_step count false stopped stops now new Pending tt so more one
 
-  pub so_far_some_left : (count : ℕ) (pending : Bool) (now new : Groups X) (o : Option A) (x : A) → o ≡ Some x → SoFar count pending now → count < length old.listed → AsksOne asks now (Ready o) new → GroupsGive asks old (Ready (Some x)) new
-  so_far_some_left count pending now new o x e so more one = so_far_output count pending now new x so more (subst (λ (p : Option A). AsksOne asks now (Ready p) new) e one)
+  pub so_far_some_left : (count : ℕ) (pending stopped stops : Bool) (now new : Groups X) (o : Option A) (x : A) → o ≡ Some x → SoFar count pending stopped now → count < length old.listed → AsksOne (asks stops) now (Ready o) new → GroupsGive asks old (Ready (Some x)) (stopped || stops) new
+  so_far_some_left count pending stopped stops now new o x e so more one = so_far_output count pending stopped stops now new x so more (subst (λ (p : Option A). AsksOne (asks stops) now (Ready p) new) e one)

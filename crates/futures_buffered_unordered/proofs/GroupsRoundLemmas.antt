@@ -1,23 +1,23 @@
 -- Going round the groups: those from the place on are asked first, and then those before it.
-use Rattle.std.proofs.Common.{◌≡◌, ◌⊎◌, ℕ, ◌+◌, ◌<◌, ◌≤◌, Bool, true, not, ◌&&◌, cond, List, [], ◌∷◌, ◌++◌, length, drop, Option, Some, refl, sym, ap, subst, inl, inr, arith, ◌∙◌}
+use Rattle.std.proofs.Common.{◌≡◌, ◌⊎◌, ℕ, ◌+◌, ◌<◌, ◌≤◌, Bool, true, not, ◌&&◌, ◌||◌, cond, List, [], ◌∷◌, ◌++◌, length, drop, Option, Some, refl, sym, ap, subst, inl, inr, arith, ◌∙◌}
 use Rattle.std.specs.List.{AllZip, AllByRecursion, enumerate_from, list_all}
 use Rattle.std.proofs.lemmas.List.{append_assoc, length-append, length_push}
-use Rattle.std.proofs.lemmas.List.Folds.{list_all-append}
+use Rattle.std.proofs.lemmas.List.Folds.{list_all-append, list_any-append}
 use Rattle.std.proofs.lemmas.Slice.Zip.{AllZip-long}
 use Rattle.futures.specs.declared.task.Poll.{Poll}
 use Rattle.futures.specs.declared.task.Poll.TheVariants.{Ready, Pending}
-use Rattle.futures_buffered_unordered.specs.Groups.{OneStopped, Groups, Turn, round_from, NoOutput, is_end, NotAsked, GaveNoOutput, ended, staying, stands_at, TakesTurn, GroupsGive}
+use Rattle.futures_buffered_unordered.specs.Groups.{Groups, Turn, round_from, NoOutput, is_end, ended, staying, stands_at, GroupsGive}
 use Rattle.futures_buffered_unordered.specs.GroupsStep.{AsksOne, LeavesBetween, next_place}
-use Rattle.futures_buffered_unordered.proofs.GroupsLemmas.{enumerate-append, round-at, each-numbered, each-append, zip-append, waiting, kept, length-waiting, kept-waiting, waiting-not_asked, kept-append, staying-append, staying-before_waiting, kept-push, stands-at, AsksHere, zip-waiting, asks_here, is_pending, behind_last, next_at, next_zero, gone, after_group, after_last, ends_more, end_or_pending, and_true, and_swap, stopped_front, stopped_last}
+use Rattle.futures_buffered_unordered.proofs.GroupsLemmas.{any_stopped, any_stopped-push, any_stopped-waiting, or_last, waiting-not_stopped, NotAsked, GaveNoOutput, TakesTurn, enumerate-append, round-at, each-numbered, each-append, zip-append, waiting, kept, length-waiting, kept-waiting, waiting-not_asked, kept-append, staying-append, staying-before_waiting, kept-push, stands-at, AsksHere, zip-waiting, asks_here, is_pending, behind_last, next_at, next_zero, gone, after_group, after_last, ends_more, end_or_pending, and_true, and_swap}
 
 -- the first of a list, or else x
 head_or : {X : Type 0} → X → List X → X
 head_or x [] = x
 head_or x (y ∷ ys) = y
 
-module _ {X A : Type 0} (asks : X → Poll (Option A) → X → Type 0) (old : Groups X) where
+module _ {X A : Type 0} (asks : Bool → X → Poll (Option A) → X → Type 0) (old : Groups X) where
   -- the groups from the place on are asked, and one of them is next
-  pub record First (count : ℕ) (pending : Bool) (now : Groups X) : Type 0 where
+  pub record First (count : ℕ) (pending stopped : Bool) (now : Groups X) : Type 0 where
     pub before : List X
     pub asked : List X
     pub todo : List X
@@ -31,9 +31,10 @@ module _ {X A : Type 0} (asks : X → Poll (Option A) → X → Type 0) (old : G
     pub place : next_place now ≡ length before + length (kept turns)
     pub counted : length turns ≡ count
     pub ends : list_all ended turns ≡ not pending
+    pub stops : any_stopped turns ≡ stopped
 
   -- the last group was asked, and the groups before the place are next
-  pub record Second (count : ℕ) (pending : Bool) (now : Groups X) : Type 0 where
+  pub record Second (count : ℕ) (pending stopped : Bool) (now : Groups X) : Type 0 where
     pub again : List X
     pub todo : List X
     pub asked : List X
@@ -46,7 +47,8 @@ module _ {X A : Type 0} (asks : X → Poll (Option A) → X → Type 0) (old : G
     pub begins : (old.place ≡ length (again ++ todo)) ⊎ ((length old.listed ≤ old.place) × (again ++ todo ≡ []))
     pub each_again : AllZip (TakesTurn asks) again again_turns
     pub each : AllZip (TakesTurn asks) asked turns
-    pub last_asked : asks last answer left
+    pub last_stopped : Bool
+    pub last_asked : asks last_stopped last answer left
     pub none_again : AllByRecursion GaveNoOutput again_turns
     pub none : AllByRecursion GaveNoOutput turns
     pub none_last : NoOutput answer
@@ -54,45 +56,33 @@ module _ {X A : Type 0} (asks : X → Poll (Option A) → X → Type 0) (old : G
     pub place : ((again_turns ≡ []) × (now.place ≡ behind_last (length now.listed) answer)) ⊎ ((0 < length again_turns) × (now.place ≡ length (kept again_turns)))
     pub counted : length again_turns + (length turns + 1) ≡ count
     pub ends : (list_all ended again_turns && (list_all ended turns && is_end (Some answer))) ≡ not pending
-
-  -- a group that was asked stopped, and what is left of it is seen
-  abbrev pub FirstSaw : (X → X → Type 0) → (count : ℕ) (pending : Bool) (now : Groups X) → First count pending now → Type 0
-  FirstSaw stops count pending now so = OneStopped stops so.asked (kept so.turns)
-
-  abbrev pub SecondSaw : (X → X → Type 0) → (count : ℕ) (pending : Bool) (now : Groups X) → Second count pending now → Type 0
-  SecondSaw stops count pending now so = OneStopped stops so.again (kept so.again_turns) ⊎ OneStopped stops (so.asked ++ so.last ∷ []) (kept so.turns ++ so.left ∷ [])
-
-  abbrev pub RoundSaw : (X → X → Type 0) → (count : ℕ) (pending : Bool) (now : Groups X) → First count pending now ⊎ Second count pending now → Type 0
-  RoundSaw stops count pending now (inl so) = FirstSaw stops count pending now so
-  RoundSaw stops count pending now (inr so) = SecondSaw stops count pending now so
-
-  -- each group that is asked in this way is pending, and stopped
-  abbrev pub AllStop : (X → Poll (Option A) → X → Type 0) → (X → X → Type 0) → Poll (Option A) → Type 0
-  AllStop asks_now stops answer = (group left : X) → asks_now group answer left → (answer ≡ Pending) × stops group left
+    pub stops : (any_stopped again_turns || (any_stopped turns || last_stopped)) ≡ stopped
 
   -- an output before the end of the list is come to
-  pub first_output : (count : ℕ) (pending : Bool) (now new : Groups X) (x : A) → First count pending now → AsksOne asks now (Ready (Some x)) new → GroupsGive asks old (Ready (Some x)) new
-  first_output count pending now new x so one = (
+  pub first_output : (count : ℕ) (pending stopped stops : Bool) (now new : Groups X) (x : A) → First count pending stopped now → AsksOne (asks stops) now (Ready (Some x)) new → GroupsGive asks old (Ready (Some x)) (stopped || stops) new
+  first_output count pending stopped stops now new x so one = (
     turns,
     enumerate_from (length so.before + length so.turns + 1) (waiting here.later) ++ enumerate_from 0 (waiting so.before),
     record {
       each = subst (λ (l : List X). AllZip (TakesTurn asks) l turns) (sym old_parts) zipped;
       asked_before = enumerate_from (length so.before) so.turns;
       k = length so.before + length so.turns;
+      last_stopped = stops;
       left = here.left;
       in_order = order;
       no_output_before = each-numbered GaveNoOutput (length so.before) so.turns so.none;
       none_asked_after = each-append _ (enumerate_from (length so.before + length so.turns + 1) (waiting here.later)) (enumerate_from 0 (waiting so.before)) (each-numbered NotAsked _ (waiting here.later) (waiting-not_asked A here.later)) (each-numbered NotAsked 0 (waiting so.before) (waiting-not_asked A so.before));
       leaves = here.leaves.0 ∙ sym stays;
       goes_on = here.leaves.1 ∙ sym stands;
+      stops = list_any-append (λ (t : Turn X A). t.stopped) (waiting so.before) behind ∙ ap (λ (b : Bool). b || any_stopped behind) (waiting-not_stopped A so.before) ∙ any_stopped-waiting so.turns turn here.later ∙ ap (λ (b : Bool). b || stops) so.stops;
     },
   )
     where
-      here : AsksHere asks (so.before ++ kept so.turns) so.todo (Ready (Some x)) new
-      here = asks_here asks now new (Ready (Some x)) (so.before ++ kept so.turns) so.todo one (so.now_is ∙ sym (append_assoc so.before (kept so.turns) so.todo)) (so.place ∙ sym (length-append so.before (kept so.turns)))
+      here : AsksHere (asks stops) (so.before ++ kept so.turns) so.todo (Ready (Some x)) new
+      here = asks_here (asks stops) now new (Ready (Some x)) (so.before ++ kept so.turns) so.todo one (so.now_is ∙ sym (append_assoc so.before (kept so.turns) so.todo)) (so.place ∙ sym (length-append so.before (kept so.turns)))
 
       turn : Turn X A
-      turn = record { answer = Some (Ready (Some x)); left = here.left }
+      turn = record { answer = Some (Ready (Some x)); stopped = stops; left = here.left }
 
       behind : List (Turn X A)
       behind = so.turns ++ turn ∷ waiting here.later
@@ -138,8 +128,8 @@ module _ {X A : Type 0} (asks : X → Poll (Option A) → X → Type 0) (old : G
       stands = ap (stands_at turns) (sym front_long) ∙ ap (λ (l : List (Turn X A)). stands_at l (length front)) turns_are ∙ stands-at front (turn ∷ waiting here.later) ∙ ap length kept-front
 
   -- the group that is asked next, behind those that were asked a second time round
-  pub second_place : (count : ℕ) (pending : Bool) (now : Groups X) → (so : Second count pending now) → next_place now ≡ length (kept so.again_turns)
-  second_place count pending now so =
+  pub second_place : (count : ℕ) (pending stopped : Bool) (now : Groups X) → (so : Second count pending stopped now) → next_place now ≡ length (kept so.again_turns)
+  second_place count pending stopped now so =
       elim so.place [
         | inl h ↦ next_zero now (behind now.place so.answer h.1) ∙ ap length (ap kept (sym h.0))
         | inr h ↦ next_at now (length (kept so.again_turns)) h.1 (omega (arith, ap length so.now_is, length-append (kept so.again_turns) (so.todo ++ (kept so.turns ++ so.left ∷ [])), length-append so.todo (kept so.turns ++ so.left ∷ []), length_push (kept so.turns) so.left))
@@ -149,8 +139,8 @@ module _ {X A : Type 0} (asks : X → Poll (Option A) → X → Type 0) (old : G
       behind place Pending e = inl (omega (arith, e))
       behind place (Ready o) e = inr e
 
-  pub second_some : (count : ℕ) (pending : Bool) (now : Groups X) → (so : Second count pending now) → count < length old.listed → 0 < length so.todo
-  second_some count pending now so more =
+  pub second_some : (count : ℕ) (pending stopped : Bool) (now : Groups X) → (so : Second count pending stopped now) → count < length old.listed → 0 < length so.todo
+  second_some count pending stopped now so more =
       omega (
         arith,
         more,
@@ -169,25 +159,32 @@ module _ {X A : Type 0} (asks : X → Poll (Option A) → X → Type 0) (old : G
   first_of (x ∷ xs) ys z zs some e = (ap (λ (w : X). w ∷ xs) (ap (head_or x) e), ap (drop 1) (sym e))
 
   -- an output after the end of the list was come to
-  pub second_output : (count : ℕ) (pending : Bool) (now new : Groups X) (x : A) → (so : Second count pending now) → count < length old.listed → AsksOne asks now (Ready (Some x)) new → GroupsGive asks old (Ready (Some x)) new
-  second_output count pending now new x so more one = (
+  pub second_output : (count : ℕ) (pending stopped stops : Bool) (now new : Groups X) (x : A) → (so : Second count pending stopped now) → count < length old.listed → AsksOne (asks stops) now (Ready (Some x)) new → GroupsGive asks old (Ready (Some x)) (stopped || stops) new
+  second_output count pending stopped stops now new x so more one = (
     turns,
     enumerate_from (length so.again_turns + 1) (waiting here_later),
     record {
       each = subst (λ (l : List X). AllZip (TakesTurn asks) l turns) (sym old_parts) zipped;
       asked_before = enumerate_from (length so.again + length so.todo) round1 ++ enumerate_from 0 so.again_turns;
       k = length so.again_turns;
+      last_stopped = stops;
       left = here.left;
       in_order = order;
       no_output_before = each-append _ (enumerate_from (length so.again + length so.todo) round1) (enumerate_from 0 so.again_turns) (each-numbered GaveNoOutput _ round1 (each-append GaveNoOutput so.turns (last_turn ∷ []) so.none (so.none_last, tt))) (each-numbered GaveNoOutput 0 so.again_turns so.none_again);
       none_asked_after = each-numbered NotAsked _ (waiting here_later) (waiting-not_asked A here_later);
       leaves = here.leaves.0 ∙ ap (λ (l : List X). kept so.again_turns ++ here.left ∷ l) later_is ∙ sym stays;
       goes_on = here.leaves.1 ∙ sym stands;
+      stops =
+          list_any-append (λ (t : Turn X A). t.stopped) front round1
+          ∙ ap (λ (b : Bool). b || any_stopped round1) (any_stopped-waiting so.again_turns turn here_later)
+          ∙ ap (λ (b : Bool). (any_stopped so.again_turns || stops) || b) (any_stopped-push so.turns last_turn)
+          ∙ or_last (any_stopped so.again_turns) (any_stopped so.turns || so.last_stopped) stops
+          ∙ ap (λ (b : Bool). b || stops) so.stops;
     },
   )
     where
       last_turn : Turn X A
-      last_turn = record { answer = Some so.answer; left = so.left }
+      last_turn = record { answer = Some so.answer; stopped = so.last_stopped; left = so.left }
 
       round1 : List (Turn X A)
       round1 = so.turns ++ last_turn ∷ []
@@ -196,13 +193,13 @@ module _ {X A : Type 0} (asks : X → Poll (Option A) → X → Type 0) (old : G
       rest = kept so.turns ++ so.left ∷ []
 
       next_is : next_place now ≡ length (kept so.again_turns)
-      next_is = second_place count pending now so
+      next_is = second_place count pending stopped now so
 
-      here : AsksHere asks (kept so.again_turns) (so.todo ++ rest) (Ready (Some x)) new
-      here = asks_here asks now new (Ready (Some x)) (kept so.again_turns) (so.todo ++ rest) one so.now_is next_is
+      here : AsksHere (asks stops) (kept so.again_turns) (so.todo ++ rest) (Ready (Some x)) new
+      here = asks_here (asks stops) now new (Ready (Some x)) (kept so.again_turns) (so.todo ++ rest) one so.now_is next_is
 
       todo_some : 0 < length so.todo
-      todo_some = second_some count pending now so more
+      todo_some = second_some count pending stopped now so more
 
       here_later : List X
       here_later = drop 1 so.todo
@@ -214,7 +211,7 @@ module _ {X A : Type 0} (asks : X → Poll (Option A) → X → Type 0) (old : G
       later_is = split.1
 
       turn : Turn X A
-      turn = record { answer = Some (Ready (Some x)); left = here.left }
+      turn = record { answer = Some (Ready (Some x)); stopped = stops; left = here.left }
 
       front : List (Turn X A)
       front = so.again_turns ++ turn ∷ waiting here_later
@@ -264,129 +261,104 @@ module _ {X A : Type 0} (asks : X → Poll (Option A) → X → Type 0) (old : G
       stands : stands_at turns (length so.again_turns) ≡ length (kept so.again_turns)
       stands = ap (λ (l : List (Turn X A)). stands_at l (length so.again_turns)) turns_are ∙ stands-at so.again_turns (turn ∷ (waiting here_later ++ round1))
 
-  -- the group that was asked now is seen behind those before it
-  saw_more : (asks_now : X → Poll (Option A) → X → Type 0) (stops : X → X → Type 0) (answer : Poll (Option A)) (groups left_before : List X) (group left : X) → asks_now group answer left
-      → OneStopped stops groups left_before ⊎ AllStop asks_now stops answer → OneStopped stops (groups ++ group ∷ []) (left_before ++ gone answer left)
-  saw_more asks_now stops answer groups left_before group left asked (inl before) = stopped_front stops groups left_before (group ∷ []) (gone answer left) before
-  saw_more asks_now stops answer groups left_before group left asked (inr all) =
-      let stop = all group left asked in
-      subst (λ (a : Poll (Option A)). OneStopped stops (groups ++ group ∷ []) (left_before ++ gone a left)) (sym stop.0) (stopped_last stops groups left_before group left stop.1)
-
   pub list_all-push : (turns : List (Turn X A)) (turn : Turn X A) → list_all ended (turns ++ turn ∷ []) ≡ (list_all ended turns && ended turn)
   list_all-push turns turn = list_all-append ended turns (turn ∷ []) ∙ ap (λ (b : Bool). list_all ended turns && b) (and_true (ended turn))
 
   -- one more group, before the end of the list is come to
-  pub first_step : (asks_now : X → Poll (Option A) → X → Type 0) (stops : X → X → Type 0) → ((group left : X) (answer : Poll (Option A)) → asks_now group answer left → asks group answer left)
-      → (count : ℕ) (pending : Bool) (now new : Groups X) (answer : Poll (Option A)) → NoOutput answer → (so : First count pending now) → AsksOne asks_now now answer new
-      → (r : First (count + 1) (cond pending true (is_pending answer)) new ⊎ Second (count + 1) (cond pending true (is_pending answer)) new)
-      × (FirstSaw stops count pending now so ⊎ AllStop asks_now stops answer → RoundSaw stops (count + 1) (cond pending true (is_pending answer)) new r)
-  first_step asks_now stops as_asked count pending now new answer no_output so one = by_later here.later here.rest_is here.leaves
+  pub first_step : (count : ℕ) (pending stopped stops : Bool) (now new : Groups X) (answer : Poll (Option A)) → NoOutput answer → (so : First count pending stopped now) → AsksOne (asks stops) now answer new
+      → First (count + 1) (cond pending true (is_pending answer)) (stopped || stops) new ⊎ Second (count + 1) (cond pending true (is_pending answer)) (stopped || stops) new
+  first_step count pending stopped stops now new answer no_output so one = by_later here.later here.rest_is here.leaves
     where
       earlier : List X
       earlier = so.before ++ kept so.turns
 
-      here : AsksHere asks_now earlier so.todo answer new
-      here = asks_here asks_now now new answer earlier so.todo one (so.now_is ∙ sym (append_assoc so.before (kept so.turns) so.todo)) (so.place ∙ sym (length-append so.before (kept so.turns)))
-
-      asked : asks here.group answer here.left
-      asked = as_asked here.group here.left answer here.asked
+      here : AsksHere (asks stops) earlier so.todo answer new
+      here = asks_here (asks stops) now new answer earlier so.todo one (so.now_is ∙ sym (append_assoc so.before (kept so.turns) so.todo)) (so.place ∙ sym (length-append so.before (kept so.turns)))
 
       turn : Turn X A
-      turn = record { answer = Some answer; left = here.left }
+      turn = record { answer = Some answer; stopped = stops; left = here.left }
 
       more_ends : (list_all ended so.turns && ended turn) ≡ not (cond pending true (is_pending answer))
       more_ends = ends_more (list_all ended so.turns) (ended turn) pending (is_pending answer) so.ends (end_or_pending answer no_output)
 
-      by_later : (later : List X) → so.todo ≡ here.group ∷ later → LeavesBetween earlier later here.left answer new
-          → (r : First (count + 1) (cond pending true (is_pending answer)) new ⊎ Second (count + 1) (cond pending true (is_pending answer)) new)
-          × (FirstSaw stops count pending now so ⊎ AllStop asks_now stops answer → RoundSaw stops (count + 1) (cond pending true (is_pending answer)) new r)
+      by_later : (later : List X) → so.todo ≡ here.group ∷ later → LeavesBetween earlier later here.left answer new → First (count + 1) (cond pending true (is_pending answer)) (stopped || stops) new ⊎ Second (count + 1) (cond pending true (is_pending answer)) (stopped || stops) new
       by_later [] is leaves =
           let left_is = after_last earlier here.left answer new no_output leaves in
-          let saw : FirstSaw stops count pending now so ⊎ AllStop asks_now stops answer → OneStopped stops (so.asked ++ here.group ∷ []) (kept so.turns ++ here.left ∷ []) = λ seen. elim seen [
-            | inl before ↦ stopped_front stops so.asked (kept so.turns) (here.group ∷ []) (here.left ∷ []) before
-            | inr all ↦ stopped_last stops so.asked (kept so.turns) here.group here.left (all here.group here.left here.asked).1
-          ] in (
-            inr (record {
-              again = [];
-              todo = so.before;
-              asked = so.asked;
-              last = here.group;
-              left = here.left;
-              answer = answer;
-              again_turns = [];
-              turns = so.turns;
-              old_is = so.old_is ∙ ap (λ (l : List X). so.before ++ (so.asked ++ l)) is;
-              begins = so.begins;
-              each_again = tt;
-              each = so.each;
-              last_asked = asked;
-              none_again = tt;
-              none = so.none;
-              none_last = no_output;
-              now_is = left_is.0 ∙ append_assoc so.before (kept so.turns) (here.left ∷ []);
-              place = inl (refl, left_is.1);
-              counted = omega (arith, so.counted);
-              ends = more_ends;
-            }),
-            λ seen. inr (saw seen),
-          )
+          inr (record {
+            again = [];
+            todo = so.before;
+            asked = so.asked;
+            last = here.group;
+            left = here.left;
+            answer = answer;
+            again_turns = [];
+            turns = so.turns;
+            old_is = so.old_is ∙ ap (λ (l : List X). so.before ++ (so.asked ++ l)) is;
+            begins = so.begins;
+            each_again = tt;
+            each = so.each;
+            last_stopped = stops;
+            last_asked = here.asked;
+            none_again = tt;
+            none = so.none;
+            none_last = no_output;
+            now_is = left_is.0 ∙ append_assoc so.before (kept so.turns) (here.left ∷ []);
+            place = inl (refl, left_is.1);
+            counted = omega (arith, so.counted);
+            ends = more_ends;
+            stops = ap (λ (b : Bool). b || stops) so.stops;
+          })
       by_later (next ∷ later) is leaves =
           let left_is = after_group earlier (next ∷ later) here.left answer new (omega arith) no_output leaves in
           let kept_is = kept-push so.turns turn in
           let now_is : new.listed ≡ so.before ++ (kept (so.turns ++ turn ∷ []) ++ next ∷ later) = left_is.0 ∙ append_assoc so.before (kept so.turns) (gone answer here.left ++ next ∷ later)
           ∙ ap (λ (l : List X). so.before ++ l) (sym (append_assoc (kept so.turns) (gone answer here.left) (next ∷ later)) ∙ ap (λ (l : List X). l ++ next ∷ later) (sym kept_is)) in
-          let place_is : new.place ≡ length so.before + length (kept (so.turns ++ turn ∷ [])) = omega (arith, left_is.1, length-append so.before (kept so.turns), ap length kept_is, length-append (kept so.turns) (gone answer here.left)) in (
-            inl (record {
-              before = so.before;
-              asked = so.asked ++ here.group ∷ [];
-              todo = next ∷ later;
-              turns = so.turns ++ turn ∷ [];
-              old_is = so.old_is ∙ ap (λ (l : List X). so.before ++ (so.asked ++ l)) is ∙ ap (λ (l : List X). so.before ++ l) (sym (append_assoc so.asked (here.group ∷ []) (next ∷ later)));
-              begins = so.begins;
-              each = zip-append (TakesTurn asks) so.asked so.turns _ _ so.each (asked, tt);
-              none = each-append GaveNoOutput so.turns (turn ∷ []) so.none (no_output, tt);
-              now_is = now_is;
-              some = omega arith;
-              place = next_at new _ place_is (omega (arith, ap length now_is, length-append so.before (kept (so.turns ++ turn ∷ []) ++ next ∷ later), length-append (kept (so.turns ++ turn ∷ [])) (next ∷ later)));
-              counted = omega (arith, so.counted, length_push so.turns turn);
-              ends = list_all-push so.turns turn ∙ more_ends;
-            }),
-            λ seen. subst (OneStopped stops (so.asked ++ here.group ∷ [])) (sym kept_is) (saw_more asks_now stops answer so.asked (kept so.turns) here.group here.left here.asked seen),
-          )
+          let place_is : new.place ≡ length so.before + length (kept (so.turns ++ turn ∷ [])) = omega (arith, left_is.1, length-append so.before (kept so.turns), ap length kept_is, length-append (kept so.turns) (gone answer here.left)) in
+          inl (record {
+            before = so.before;
+            asked = so.asked ++ here.group ∷ [];
+            todo = next ∷ later;
+            turns = so.turns ++ turn ∷ [];
+            old_is = so.old_is ∙ ap (λ (l : List X). so.before ++ (so.asked ++ l)) is ∙ ap (λ (l : List X). so.before ++ l) (sym (append_assoc so.asked (here.group ∷ []) (next ∷ later)));
+            begins = so.begins;
+            each = zip-append (TakesTurn asks) so.asked so.turns _ _ so.each (here.asked, tt);
+            none = each-append GaveNoOutput so.turns (turn ∷ []) so.none (no_output, tt);
+            now_is = now_is;
+            some = omega arith;
+            place = next_at new _ place_is (omega (arith, ap length now_is, length-append so.before (kept (so.turns ++ turn ∷ []) ++ next ∷ later), length-append (kept (so.turns ++ turn ∷ [])) (next ∷ later)));
+            counted = omega (arith, so.counted, length_push so.turns turn);
+            ends = list_all-push so.turns turn ∙ more_ends;
+            stops = any_stopped-push so.turns turn ∙ ap (λ (b : Bool). b || stops) so.stops;
+          })
 
   -- one more group, after the end of the list was come to
-  pub second_step : (asks_now : X → Poll (Option A) → X → Type 0) (stops : X → X → Type 0) → ((group left : X) (answer : Poll (Option A)) → asks_now group answer left → asks group answer left)
-      → (count : ℕ) (pending : Bool) (now new : Groups X) (answer : Poll (Option A)) → NoOutput answer → (so : Second count pending now) → count < length old.listed → AsksOne asks_now now answer new
-      → (r : Second (count + 1) (cond pending true (is_pending answer)) new)
-      × (SecondSaw stops count pending now so ⊎ AllStop asks_now stops answer → SecondSaw stops (count + 1) (cond pending true (is_pending answer)) new r)
-  second_step asks_now stops as_asked count pending now new answer no_output so more one = (
-    record {
-      again = so.again ++ here.group ∷ [];
-      todo = later;
-      asked = so.asked;
-      last = so.last;
-      left = so.left;
-      answer = so.answer;
-      again_turns = so.again_turns ++ turn ∷ [];
-      turns = so.turns;
-      old_is = so.old_is ∙ ap (λ (l : List X). so.again ++ (l ++ (so.asked ++ so.last ∷ []))) split.0 ∙ sym (append_assoc so.again (here.group ∷ []) (later ++ (so.asked ++ so.last ∷ [])));
-      begins = elim so.begins [ inl e ↦ inl (e ∙ ap length again_is) | inr h ↦ inr (h.0, sym again_is ∙ h.1) ];
-      each_again = zip-append (TakesTurn asks) so.again so.again_turns _ _ so.each_again (as_asked here.group here.left answer here.asked, tt);
-      each = so.each;
-      last_asked = so.last_asked;
-      none_again = each-append GaveNoOutput so.again_turns (turn ∷ []) so.none_again (no_output, tt);
-      none = so.none;
-      none_last = so.none_last;
-      now_is = left_is.0 ∙ ap (λ (l : List X). kept so.again_turns ++ (gone answer here.left ++ l)) split.1 ∙ sym (append_assoc (kept so.again_turns) (gone answer here.left) (later ++ rest)) ∙ ap (λ (l : List X). l ++ (later ++ rest)) (sym kept_is);
-      place = inr (omega (arith, length_push so.again_turns turn), left_is.1 ∙ sym (length-append (kept so.again_turns) (gone answer here.left)) ∙ ap length (sym kept_is));
-      counted = omega (arith, so.counted, length_push so.again_turns turn);
-      ends = ap (λ (b : Bool). b && others) (list_all-push so.again_turns turn) ∙ and_swap (list_all ended so.again_turns) others (ended turn) ∙ ends_more (list_all ended so.again_turns && others) (ended turn) pending (is_pending answer) so.ends (end_or_pending answer no_output);
-    },
-    λ seen. elim seen [
-      | inl before ↦ elim before [ inl again ↦ inl (saw (inl again)) | inr others ↦ inr others ]
-      | inr all ↦ inl (saw (inr all))
-    ],
-  )
+  pub second_step : (count : ℕ) (pending stopped stops : Bool) (now new : Groups X) (answer : Poll (Option A)) → NoOutput answer → (so : Second count pending stopped now) → count < length old.listed → AsksOne (asks stops) now answer new
+      → Second (count + 1) (cond pending true (is_pending answer)) (stopped || stops) new
+  second_step count pending stopped stops now new answer no_output so more one =
+      record {
+        again = so.again ++ here.group ∷ [];
+        todo = later;
+        asked = so.asked;
+        last = so.last;
+        left = so.left;
+        answer = so.answer;
+        again_turns = so.again_turns ++ turn ∷ [];
+        turns = so.turns;
+        old_is = so.old_is ∙ ap (λ (l : List X). so.again ++ (l ++ (so.asked ++ so.last ∷ []))) split.0 ∙ sym (append_assoc so.again (here.group ∷ []) (later ++ (so.asked ++ so.last ∷ [])));
+        begins = elim so.begins [ inl e ↦ inl (e ∙ ap length again_is) | inr h ↦ inr (h.0, sym again_is ∙ h.1) ];
+        each_again = zip-append (TakesTurn asks) so.again so.again_turns _ _ so.each_again (here.asked, tt);
+        each = so.each;
+        last_stopped = so.last_stopped;
+        last_asked = so.last_asked;
+        none_again = each-append GaveNoOutput so.again_turns (turn ∷ []) so.none_again (no_output, tt);
+        none = so.none;
+        none_last = so.none_last;
+        now_is = left_is.0 ∙ ap (λ (l : List X). kept so.again_turns ++ (gone answer here.left ++ l)) split.1 ∙ sym (append_assoc (kept so.again_turns) (gone answer here.left) (later ++ rest)) ∙ ap (λ (l : List X). l ++ (later ++ rest)) (sym kept_is);
+        place = inr (omega (arith, length_push so.again_turns turn), left_is.1 ∙ sym (length-append (kept so.again_turns) (gone answer here.left)) ∙ ap length (sym kept_is));
+        counted = omega (arith, so.counted, length_push so.again_turns turn);
+        ends = ap (λ (b : Bool). b && others) (list_all-push so.again_turns turn) ∙ and_swap (list_all ended so.again_turns) others (ended turn) ∙ ends_more (list_all ended so.again_turns && others) (ended turn) pending (is_pending answer) so.ends (end_or_pending answer no_output);
+        stops = ap (λ (b : Bool). b || (any_stopped so.turns || so.last_stopped)) (any_stopped-push so.again_turns turn) ∙ or_last (any_stopped so.again_turns) (any_stopped so.turns || so.last_stopped) stops ∙ ap (λ (b : Bool). b || stops) so.stops;
+      }
     where
       rest : List X
       rest = kept so.turns ++ so.left ∷ []
@@ -394,17 +366,17 @@ module _ {X A : Type 0} (asks : X → Poll (Option A) → X → Type 0) (old : G
       others : Bool
       others = list_all ended so.turns && is_end (Some so.answer)
 
-      here : AsksHere asks_now (kept so.again_turns) (so.todo ++ rest) answer new
-      here = asks_here asks_now now new answer (kept so.again_turns) (so.todo ++ rest) one so.now_is (second_place count pending now so)
+      here : AsksHere (asks stops) (kept so.again_turns) (so.todo ++ rest) answer new
+      here = asks_here (asks stops) now new answer (kept so.again_turns) (so.todo ++ rest) one so.now_is (second_place count pending stopped now so)
 
       later : List X
       later = drop 1 so.todo
 
       split : (so.todo ≡ here.group ∷ later) × (here.later ≡ later ++ rest)
-      split = first_of so.todo rest here.group here.later (second_some count pending now so more) here.rest_is
+      split = first_of so.todo rest here.group here.later (second_some count pending stopped now so more) here.rest_is
 
       turn : Turn X A
-      turn = record { answer = Some answer; left = here.left }
+      turn = record { answer = Some answer; stopped = stops; left = here.left }
 
       again_is : so.again ++ so.todo ≡ (so.again ++ here.group ∷ []) ++ later
       again_is = ap (λ (l : List X). so.again ++ l) split.0 ∙ sym (append_assoc so.again (here.group ∷ []) later)
@@ -417,6 +389,3 @@ module _ {X A : Type 0} (asks : X → Poll (Option A) → X → Type 0) (old : G
 
       kept_is : kept (so.again_turns ++ turn ∷ []) ≡ kept so.again_turns ++ gone answer here.left
       kept_is = kept-push so.again_turns turn
-
-      saw : OneStopped stops so.again (kept so.again_turns) ⊎ AllStop asks_now stops answer → OneStopped stops (so.again ++ here.group ∷ []) (kept (so.again_turns ++ turn ∷ []))
-      saw seen = subst (OneStopped stops (so.again ++ here.group ∷ [])) (sym kept_is) (saw_more asks_now stops answer so.again (kept so.again_turns) here.group here.left here.asked seen)

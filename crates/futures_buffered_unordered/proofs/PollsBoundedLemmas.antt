@@ -218,10 +218,10 @@ module _ {R F W A S : Type 0} (rule : PollOneOf R F W A) (source : ReadySourceOf
   leaves_of old new cx left asks = by_last asks.takes.last refl asks.takes.ends.1
     where
       by_last : (last : Option Taken) → asks.takes.last ≡ last → EndsPending old.limit (length asks.takes.names) last asks.task_then left → LeavesTask rule.polled (record { registers = registers; takes = source.steps.takes }) source.registers_poll old new cx left
-      by_last (Some Empty) is h = inl ((asks.takes.names, h.0, asks_of old new Pending cx left asks (Some Empty) new.slots is asks.takes.ends.0), rw h.1 asks.registers_task)
-      by_last (Some Pause) is h = inr ((asks.takes.names, Some Pause, h.0, asks_of old new Pending cx left asks (Some Pause) new.slots is asks.takes.ends.0), h.1)
+      by_last (Some Empty) is h = inl ((asks.takes.names, Some Empty, h.0, refl, asks_of old new Pending cx left asks (Some Empty) new.slots is asks.takes.ends.0, asks.takes.limit), rw h.1 asks.registers_task)
+      by_last (Some Pause) is h = inr ((asks.takes.names, Some Pause, h.0, refl, asks_of old new Pending cx left asks (Some Pause) new.slots is asks.takes.ends.0, asks.takes.limit), h.1)
       by_last (Some (Slot i)) is h = absurd h
-      by_last None is h = inr ((asks.takes.names, None, h.0, asks_of old new Pending cx left asks None new.slots is asks.takes.ends.0), h.1)
+      by_last None is h = inr ((asks.takes.names, None, h.0, refl, asks_of old new Pending cx left asks None new.slots is asks.takes.ends.0, asks.takes.limit), h.1)
 
   pub task_of : (old new : Bounded F S) (answer : Poll (Option A)) (cx left : Context) → PollsBounded rule source old answer new cx left
       → PollLeavesTask rule.polled (record { registers = registers; takes = source.steps.takes }) source.registers_poll old answer new cx left

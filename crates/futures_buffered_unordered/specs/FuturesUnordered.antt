@@ -1,5 +1,5 @@
 -- What a contract sees of a set that grows, and what its calls make of it.
-use Rattle.std.specs.Prelude.{◌≡◌, ℕ, ◌+◌, ◌-◌, ◌*◌, ◌<◌, List, [], ◌∷◌, ◌++◌, ◌⊎◌, Option}
+use Rattle.std.specs.Prelude.{◌≡◌, ℕ, ◌+◌, ◌-◌, ◌*◌, ◌<◌, Bool, List, [], ◌∷◌, ◌++◌, ◌⊎◌, Option}
 use Rattle.std.specs.Prelude.{IfNone, refl, Result, OnOk, OnErr}
 use Rattle.std.specs.List.{sum_by, All, FoldsTo}
 use Rattle.std.specs.Coded.{Coded, code_by, coded×, coded_ℕ}
@@ -15,11 +15,12 @@ use Rattle.futures_buffered_table.specs.declared.answer.NewFault.{NewFault}
 use Rattle.futures_buffered_table.specs.declared.answer.Woke.{Woke}
 use Rattle.futures_buffered_core.specs.Drawn.{Items}
 use Rattle.futures_buffered_core.specs.ReadyShared.{Shared, IsNewShared, MarksShared}
+use Rattle.futures_buffered_core.specs.declared.ready_source.ReadySource.{Ghosts as ReadySourceOf}
 use Rattle.futures_buffered_unordered.specs.Extended.{MakesExtended, MakesGrown}
 use Rattle.futures_buffered_unordered.specs.Held.{AllHeld, AnyMayGive}
 use Rattle.futures_buffered_unordered.specs.FuturesUnorderedBounded.{Bounded, bounded_code, IsNewSet}
-use Rattle.futures_buffered_unordered.specs.FuturesUnorderedBounded.{Pushes, held_in}
-use Rattle.futures_buffered_unordered.specs.Groups.{Groups, groups_code, AnyOf, GroupLeavesTask}
+use Rattle.futures_buffered_unordered.specs.FuturesUnorderedBounded.{OnlyRegisters, PushesAt, held_in}
+use Rattle.futures_buffered_unordered.specs.Groups.{Groups, groups_code, AnyOf, WakesIf}
 use Rattle.futures_buffered_unordered.specs.declared.futures_unordered.TheConstants.{FIRST_GROUP, MAX_HELD}
 use Rattle.futures_buffered_unordered.specs.declared.futures_unordered_bounded.TheConstants.{POLL_LIMIT}
 
@@ -61,7 +62,7 @@ module _ {F S : Type 0} where
   AnyNeeds needs groups n =
       AnyOf (λ (group : Bounded F S). (0 < held_in group) × needs group.source n) groups
 
-  -- the free places of the last group
+  -- the free places of the last group, where a push goes; 0 where there is no group
   abbrev pub spare_places : List (Bounded F S) → ℕ
   spare_places [] = 0
   spare_places (group ∷ []) = slot_count group.slots - held_in group
@@ -75,10 +76,6 @@ module _ {F S : Type 0} where
   capacity_of (group ∷ next ∷ groups) =
       held_in_all (group ∷ next ∷ groups) + spare_places (next ∷ groups)
 
-  -- no group has a free place for a push: there is none, or the last one is full
-  abbrev pub LastIsFull : List (Bounded F S) → Type 0
-  LastIsFull groups = spare_places groups ≡ 0
-
   -- how many slots a new group has behind these: twice as many as the last one, and the first
   -- number where there is none
   abbrev pub next_capacity : ℕ → List (Bounded F S) → ℕ
@@ -86,16 +83,7 @@ module _ {F S : Type 0} where
   next_capacity first (group ∷ []) = 2 * slot_count group.slots
   next_capacity first (group ∷ next ∷ groups) = next_capacity first (next ∷ groups)
 
-  -- where a push puts its value: into the last group, if that has a free place, and else into a new
-  -- one behind all others
-  abbrev pub IsChosen : (ℕ → S → Type 0) → ℕ → ℕ
-      → List (Bounded F S) → List (Bounded F S) → Bounded F S → Type 0
-  IsChosen made first limit groups before into =
-      ((groups ≡ before ++ into ∷ []) × (held_in into < slot_count into.slots))
-      ⊎ ((groups ≡ before) × LastIsFull before
-      × IsNewSet made (next_capacity first before) limit into)
-
-  -- One push. The other groups, the place and the limit stay.
+  -- One push.
   pub record GrowingPushes
       (marks : S → ℕ → Woke → S → Type 0)
       (made : ℕ → S → Type 0)
@@ -104,11 +92,19 @@ module _ {F S : Type 0} where
       (value : F)
       (new : Growing F S)
       : Type 0 where
+    -- where the value goes: into the last group, if that has a free place, and else into a new one
+    -- behind all others
     pub before : List (Bounded F S)
     pub into : Bounded F S
+    pub goes_into : ((old.groups.listed ≡ before ++ into ∷ [])
+        × (held_in into < slot_count into.slots))
+        ⊎ ((old.groups.listed ≡ before)
+        × (spare_places before ≡ 0)
+        × IsNewSet made (next_capacity first before) old.limit into)
+    -- it went into the first free slot there, which was then marked
     pub pushed_into : Bounded F S
-    pub goes_into : IsChosen made first old.limit old.groups.listed before into
-    pub pushed : Pushes marks into value pushed_into
+    pub pushed : (i : ℕ) × PushesAt marks into i value pushed_into
+    -- the other groups, the place and the limit stay
     pub now_listed : new.groups.listed ≡ before ++ pushed_into ∷ []
     pub same_place : new.groups.place ≡ old.groups.place
     pub same_limit : new.limit ≡ old.limit
@@ -117,7 +113,7 @@ module _ {F S : Type 0} where
   -- a new one would have too many slots
   abbrev pub IsAtBound : List (Bounded F S) → Type 0
   IsAtBound groups = (held_in_all groups ≡ MAX_HELD)
-      ⊎ (LastIsFull groups × (MAX_CAPACITY < next_capacity FIRST_GROUP groups))
+      ⊎ ((spare_places groups ≡ 0) × (MAX_CAPACITY < next_capacity FIRST_GROUP groups))
 
   -- these values were pushed, in order
   abbrev pub PushesEach : (S → ℕ → Woke → S → Type 0) → (ℕ → S → Type 0)
@@ -131,7 +127,8 @@ module _ {F S : Type 0} where
   -- a push into the set may be refused: it asks for memory for a group, or as many futures are held
   -- as a set may hold
   abbrev pub SetMayRefuse : Growing F S → Type 0
-  SetMayRefuse set = (held_in_all set.groups.listed ≡ MAX_HELD) ⊎ LastIsFull set.groups.listed
+  SetMayRefuse set = (held_in_all set.groups.listed ≡ MAX_HELD)
+      ⊎ (spare_places set.groups.listed ≡ 0)
 
   -- What a push makes of a set that grows, or that it leaves the set as it was.
   pub record PushesOrStays
@@ -150,7 +147,7 @@ module _ {F S : Type 0} where
         (held_in_all new.groups.listed ≡ held_in_all old.groups.listed + 1)
     -- or nothing has changed
     pub same : OnErr result (new ≡ old)
-    -- then as many were held as may be, or a group would have had to be made
+    -- then `MAX_HELD` were held, or a new group was needed
     pub may_refuse : OnErr result (SetMayRefuse old)
 
   -- one group of so many slots, or none where that number is 0
@@ -172,25 +169,27 @@ abbrev pub MakesSharedSet : {U F I : Type 0} → Items U F I → Result (Growing
 MakesSharedSet from = MakesGrown from FIRST_GROUP (λ n. IsNewGrowing IsNewShared n POLL_LIMIT)
     (GrowingPushes MarksShared IsNewShared FIRST_GROUP) SetRefuses
 
--- What one poll of one group leaves of its task, which it took from cx to left: `registers` says what
--- registrations make of a task, and `passes` what the end does.
-pub record PollsGroupTask
-    {F A S : Type 0}
-    (asks_to_empty : Bounded F S → Poll (Option A) → Bounded F S → Type 0)
-    (stops : Bounded F S → Bounded F S → Type 0)
-    (needs : S → ℕ → Type 0)
-    (registers passes : Context → Context → Type 0)
+-- One poll of one group, which took it from old to new and its task from cx to left: `asks` says what
+-- it may answer and whether it stopped, and `passes` what the end makes of the task.
+pub record PollsGroup
+    {F A S W : Type 0}
+    (source : ReadySourceOf S W)
+    (asks : Bool → Bounded F S → Poll (Option A) → Bounded F S → Type 0)
+    (passes : Context → Context → Type 0)
     (old : Bounded F S)
     (answer : Poll (Option A))
     (new : Bounded F S)
     (cx left : Context)
     : Type 0 where
+  -- what it answered, and whether it stopped though a further name may come
+  pub stopped : Bool
+  pub asked : asks stopped old answer new
+  -- then the task was asked to poll again, and else it was registered
+  pub woken : WakesIf stopped (OnlyRegisters source.registers_poll) cx left
   -- the task of a pending group hears of its source
-  pub covered : OnPending answer (Covers left (needs new.source))
+  pub covered : OnPending answer (Covers left (source.needs new.source))
   -- the end leaves the task so
   pub passed : IfReady answer (λ o. IfNone o (passes cx left))
-  -- where no further name came it was registered, and else asked to poll again
-  pub leaves : GroupLeavesTask asks_to_empty stops registers old answer new cx left
   -- nothing of the task is lost
   pub kept : Keeps cx left
 

@@ -1,6 +1,6 @@
 -- What a contract sees of a bounded set, and what its calls make of it.
 use Rattle.std.specs.Prelude.{◌≡◌, ◌⊎◌, ℕ, ◌+◌, ◌<◌, List, ◌++◌, map, length, Option, Some, None}
-use Rattle.std.specs.Prelude.{is_some, refl, Result, OnOk, IfErr}
+use Rattle.std.specs.Prelude.{Bool, true, false, is_some, refl, Result, OnOk, IfErr}
 use Rattle.std.specs.List.{FoldsTo, range_with_len}
 use Rattle.std.specs.Option.{option_to_list}
 use Rattle.std.specs.Coded.{Coded, code_by, coded×, coded_ℕ}
@@ -95,6 +95,7 @@ pub record PushesAt
     (new : Bounded F S)
     : Type 0 where
   pub inserted : Inserts old.slots i value new.slots
+  -- what the mark answered: whether the slot was marked already
   pub woke : Woke
   pub marked : marks old.source i woke new.source
   pub same_limit : new.limit ≡ old.limit
@@ -143,12 +144,12 @@ EndsWaiting limit names (Some Pause) = length names < limit
 EndsWaiting limit names (Some (Slot i)) = ⊥
 EndsWaiting limit names None = length names ≡ limit
 
--- the same but for Empty: further names may come
-abbrev pub StopsEarly : ℕ → List ℕ → Option Taken → Type 0
-StopsEarly limit names (Some Empty) = ⊥
-StopsEarly limit names (Some Pause) = length names < limit
-StopsEarly limit names (Some (Slot i)) = ⊥
-StopsEarly limit names None = length names ≡ limit
+-- whether a further name may come behind this last answer: it was Pause, or none, at the limit
+abbrev pub stops_early : Option Taken → Bool
+stops_early None = true
+stops_early (Some Pause) = true
+stops_early (Some Empty) = false
+stops_early (Some (Slot i)) = false
 
 -- a taking that answered Empty may have left this content
 abbrev pub SaidEmpty : {S : Type 0} → SourceSteps S → S → Type 0
@@ -199,26 +200,22 @@ module _
         × Asks old names last new.slots new.source
         × (new.limit ≡ old.limit)
 
-    -- one count of names that gave no output and ended at Empty: no further name came
-    abbrev pub AsksToEmpty : Bounded F S → Bounded F S → Type 0
-    AsksToEmpty old new = (names : List ℕ)
-        × (length names < old.limit)
-        × Asks old names (Some Empty) new.slots new.source
-
-    -- one that gave no output and stopped though a further name may come
-    abbrev pub AsksInPart : Bounded F S → Bounded F S → Type 0
-    AsksInPart old new = (names : List ℕ)
+    -- one count of names that gave no output, and whether it stopped though a further name may come
+    abbrev pub AsksNone : Bool → Bounded F S → Bounded F S → Type 0
+    AsksNone stopped old new = (names : List ℕ)
         × (last : Option Taken)
-        × StopsEarly old.limit names last
+        × EndsWaiting old.limit names last
+        × (stops_early last ≡ stopped)
         × Asks old names last new.slots new.source
+        × (new.limit ≡ old.limit)
 
     -- What a pending poll leaves of its task. At Empty the task is as the registration left it;
     -- where the asking stopped earlier, the task is asked to poll again.
     abbrev pub LeavesTask : (S → Context → Context → Type 0)
         → Bounded F S → Bounded F S → Context → Context → Type 0
     LeavesTask registers_poll old new cx left =
-        (AsksToEmpty old new × registers_poll old.source cx left)
-        ⊎ (AsksInPart old new × IsWoken left)
+        (AsksNone false old new × registers_poll old.source cx left)
+        ⊎ (AsksNone true old new × IsWoken left)
 
     -- one poll: the end exactly where nothing is held, and then nothing changes; the output of the
     -- last name, whose slot is emptied; or Pending, where the asking ended without an output
@@ -229,10 +226,10 @@ module _
         × AsksUntil old (Ready (i, x)) left × (new ≡ with_empty_slot left i))
     PollGives old Pending new = (0 < held_count old.slots) × AsksUntil old Pending new
 
-    -- one poll, which is pending only where no further name came
-    abbrev pub PollAsksToEmpty : Bounded F S → Poll (Option A) → Bounded F S → Type 0
-    PollAsksToEmpty old (Ready o) new = PollGives old (Ready o) new
-    PollAsksToEmpty old Pending new = (0 < held_count old.slots) × AsksToEmpty old new
+    -- one poll, and whether it stopped though a further name may come
+    abbrev pub PollAsks : Bool → Bounded F S → Poll (Option A) → Bounded F S → Type 0
+    PollAsks stopped old (Ready o) new = PollGives old (Ready o) new × (stopped ≡ false)
+    PollAsks stopped old Pending new = (0 < held_count old.slots) × AsksNone stopped old new
 
 -- What one count of names, from old to new, leaves of a set. `continues` says after which outputs
 -- the value may be polled again.

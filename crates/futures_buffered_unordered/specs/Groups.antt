@@ -1,9 +1,11 @@
--- Groups in a list, and what one poll of them is: which are asked, in what order, which leave, and
--- where the next poll begins. What it is to ask one group is a parameter, so a group can be a set
--- or a merge.
+-- Groups in a list, and what one poll of them is: which are asked, in what order, which leave, where
+-- the next poll begins, and whether one stopped. What it is to ask one group is a parameter, so a
+-- group can be a set or a merge. A group stops where it is pending at a pause of its source or at its
+-- limit of names, so that a further name may come; a name is the number of a marked slot, as the
+-- source gives it.
 use Rattle.std.specs.Prelude.{◌≡◌, ℕ, ◌+◌, ◌==◌, Bool, true, false, not, cond, List, [], ◌∷◌, ◌++◌}
 use Rattle.std.specs.Prelude.{length, take, drop, Option, Some, None, MatchOption, ◌⊎◌, ⊤, refl}
-use Rattle.std.specs.List.{AllZip, AllByRecursion, enumerate_from, count_by, list_all}
+use Rattle.std.specs.List.{AllZip, AllByRecursion, enumerate_from, count_by, list_all, list_any}
 use Rattle.std.specs.Coded.{Coded, code_by, coded×, coded_ℕ, coded_list}
 use Rattle.futures.specs.declared.task.context.Context.{Context}
 use Rattle.futures.specs.declared.task.Poll.{Poll}
@@ -36,10 +38,11 @@ groups_code {X} code =
 abbrev pub round_from : {X : Type 0} → ℕ → List X → List X
 round_from place xs = drop place xs ++ take place xs
 
--- a group's turn in one poll: what it answered, or nothing where it was not asked, and what is left
--- of it
+-- a group's turn in one poll: what it answered, or nothing where it was not asked; whether it stopped
+-- though a further name may come; and what is left of it
 pub record Turn (X A : Type 0) : Type 0 where
   pub answer : Option (Poll (Option A))
+  pub stopped : Bool
   pub left : X
 
 -- an answer without an output
@@ -62,14 +65,6 @@ is_end (Some (Ready None)) = true
 is_end (Some (Ready (Some x))) = false
 
 module _ {X A : Type 0} where
-  -- the group was not asked
-  abbrev pub NotAsked : Turn X A → Type 0
-  NotAsked turn = turn.answer ≡ None
-
-  -- the group was asked, and gave no output
-  abbrev pub GaveNoOutput : Turn X A → Type 0
-  GaveNoOutput turn = MatchOption turn.answer ⊥ NoOutput
-
   -- whether the group answered the end
   abbrev pub ended : Turn X A → Bool
   ended turn = is_end turn.answer
@@ -94,71 +89,63 @@ module _ {X A : Type 0} where
   place_after turns k Pending = stands_at turns k + 1
   place_after turns k (Ready None) = cond (k + 1 == length turns) 0 (stands_at turns k)
 
-module _ {X A : Type 0} (asks : X → Poll (Option A) → X → Type 0) where
-  -- a group that was not asked is left as it was, and one that was asked as its answer leaves it
-  abbrev pub TakesTurn : X → Turn X A → Type 0
-  TakesTurn group turn =
-      MatchOption turn.answer (turn.left ≡ group) (λ answer. asks group answer turn.left)
-
-  -- The groups had these turns, and group k was asked last. Going round from the place, first come
-  -- those that were asked and gave no output, then group k, which gave the last answer, and then
-  -- those that were not asked.
+-- How groups are asked: `asks` says whether one stopped though a further name may come, and what it
+-- may answer and be left as.
+module _ {X A : Type 0} (asks : Bool → X → Poll (Option A) → X → Type 0) where
+  -- The groups had these turns, and group k was asked last. `stopped` says whether one of them
+  -- stopped.
   pub record AsksLast
       (old : Groups X)
       (turns : List (Turn X A))
       (last : Poll (Option A))
       (not_asked : List (ℕ × Turn X A))
+      (stopped : Bool)
       (new : Groups X)
       : Type 0 where
-    pub each : AllZip TakesTurn old.listed turns
+    -- a group that was not asked is left as it was, and one that was asked as its answer leaves it
+    pub each : AllZip
+        (λ group turn. MatchOption turn.answer
+        ((turn.left ≡ group) × (turn.stopped ≡ false))
+        (λ answer. asks turn.stopped group answer turn.left))
+        old.listed turns
+    -- going round from the place, first come those that were asked and gave no output, then group
+    -- k, which gave the last answer, and then those that were not asked
     pub asked_before : List (ℕ × Turn X A)
     pub k : ℕ
+    pub last_stopped : Bool
     pub left : X
-    pub in_order : round_from old.place (enumerate_from 0 turns)
-        ≡ asked_before ++ (k, record { answer = Some last; left = left }) ∷ not_asked
-    pub no_output_before : AllByRecursion (λ (p : ℕ × Turn X A). GaveNoOutput p.1) asked_before
-    pub none_asked_after : AllByRecursion (λ (p : ℕ × Turn X A). NotAsked p.1) not_asked
+    pub in_order : round_from old.place (enumerate_from 0 turns) ≡ asked_before
+        ++ (k, record { answer = Some last; stopped = last_stopped; left = left }) ∷ not_asked
+    pub no_output_before : AllByRecursion
+        (λ (p : ℕ × Turn X A). MatchOption p.1.answer ⊥ NoOutput) asked_before
+    pub none_asked_after : AllByRecursion (λ (p : ℕ × Turn X A). p.1.answer ≡ None) not_asked
+    -- which groups stay, and where the next poll begins
     pub leaves : new.listed ≡ staying turns
     pub goes_on : new.place ≡ place_after turns k last
+    -- one of them stopped, or none did
+    pub stops : list_any (λ turn. turn.stopped) turns ≡ stopped
 
   -- all were asked and none gave an output, and `all_ended` says whether each answered the end
-  abbrev pub AsksAll : Groups X → Bool → Groups X → Type 0
-  AsksAll old all_ended new = (turns : List (Turn X A))
+  abbrev pub AsksAll : Groups X → Bool → Bool → Groups X → Type 0
+  AsksAll old all_ended stopped new = (turns : List (Turn X A))
       × (last : Poll (Option A))
       × NoOutput last
-      × AsksLast old turns last [] new
+      × AsksLast old turns last [] stopped new
       × (list_all ended turns ≡ all_ended)
 
-  -- One poll. An output is that of the group that was asked last. Without one all groups were
-  -- asked, and the answer is the end where each answered the end, as where there is no group, and
-  -- else Pending.
-  abbrev pub GroupsGive : Groups X → Poll (Option A) → Groups X → Type 0
-  GroupsGive old (Ready (Some x)) new = (turns : List (Turn X A))
+  -- One poll, and whether a group that was asked stopped. An output is that of the group that was
+  -- asked last. Without one all groups were asked, and the answer is the end where each answered the
+  -- end, as where there is no group, and else Pending.
+  abbrev pub GroupsGive : Groups X → Poll (Option A) → Bool → Groups X → Type 0
+  GroupsGive old (Ready (Some x)) stopped new = (turns : List (Turn X A))
       × (not_asked : List (ℕ × Turn X A))
-      × AsksLast old turns (Ready (Some x)) not_asked new
-  GroupsGive old (Ready None) new = ((old.listed ≡ []) × (new ≡ old)) ⊎ AsksAll old true new
-  GroupsGive old Pending new = AsksAll old false new
+      × AsksLast old turns (Ready (Some x)) not_asked stopped new
+  GroupsGive old (Ready None) stopped new =
+      ((old.listed ≡ []) × (new ≡ old) × (stopped ≡ false)) ⊎ AsksAll old true stopped new
+  GroupsGive old Pending stopped new = AsksAll old false stopped new
 
--- one of these groups stopped though a further name may come, and was left as one of those
-abbrev pub OneStopped : {X : Type 0} → (X → X → Type 0) → List X → List X → Type 0
-OneStopped stops groups left = AnyOf (λ group. AnyOf (stops group) left) groups
-
--- What polls leave of their task. Where each that was pending had no further name, the task is as
--- registrations leave it; where one stopped earlier, the task is asked to poll again.
-module _
-    {X A : Type 0}
-    (asks_to_empty : X → Poll (Option A) → X → Type 0)
-    (stops : X → X → Type 0)
-    (registers : Context → Context → Type 0)
-  where
-    -- one poll of one group
-    abbrev pub GroupLeavesTask : X → Poll (Option A) → X → Context → Context → Type 0
-    GroupLeavesTask old answer new cx left = (asks_to_empty old answer new × registers cx left)
-        ⊎ ((answer ≡ Pending) × stops old new × IsWoken left)
-
-    -- one poll of groups
-    abbrev pub GroupsLeaveTask : Groups X → Poll (Option A) → Groups X
-        → Context → Context → Type 0
-    GroupsLeaveTask old answer new cx left =
-        (GroupsGive asks_to_empty old answer new × registers cx left)
-        ⊎ (OneStopped stops old.listed new.listed × IsWoken left)
+-- What polls leave of their task, by whether one stopped though a further name may come: then the
+-- task is asked to poll again, and else it is as registrations leave it.
+abbrev pub WakesIf : Bool → (Context → Context → Type 0) → Context → Context → Type 0
+WakesIf true registers cx left = IsWoken left
+WakesIf false registers cx left = registers cx left

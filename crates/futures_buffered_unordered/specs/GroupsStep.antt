@@ -1,12 +1,11 @@
 -- How a poll asks one group of a list, and goes on to the next where that gave no output. Private
 -- calls keep to this, and no public clause cites it.
-use Rattle.std.specs.Prelude.{◌≡◌, ℕ, ◌+◌, cond, nat_lt, List, [], ◌∷◌, ◌++◌, length, take, drop}
-use Rattle.std.specs.Prelude.{Option, Some, None, ◌⊎◌}
+use Rattle.std.specs.Prelude.{◌≡◌, ℕ, ◌+◌, Bool, cond, nat_lt, List, [], ◌∷◌, ◌++◌}
+use Rattle.std.specs.Prelude.{length, take, drop, Option, Some, None}
 use Rattle.futures.specs.declared.task.context.Context.{Context}
 use Rattle.futures.specs.declared.task.Poll.{Poll}
 use Rattle.futures.specs.declared.task.Poll.TheVariants.{Ready, Pending}
-use Rattle.futures_buffered_unordered.specs.FuturesUnorderedBounded.{IsWoken}
-use Rattle.futures_buffered_unordered.specs.Groups.{Groups}
+use Rattle.futures_buffered_unordered.specs.Groups.{Groups, WakesIf}
 
 -- the place of the group that is asked next: the kept one, or the first where that is past the last
 abbrev pub next_place : {X : Type 0} → Groups X → ℕ
@@ -46,19 +45,16 @@ pub record AsksOne
       answer
       new
 
--- a group was asked, was pending, and stopped though a further name may come
-abbrev pub AsksAndStops : {X A : Type 0} → (X → Poll (Option A) → X → Type 0) → (X → X → Type 0)
-    → X → Poll (Option A) → X → Type 0
-AsksAndStops asks stops group answer left =
-    asks group answer left × ((answer ≡ Pending) × stops group left)
-
--- what asking the group at the next place leaves of the task
-abbrev pub OneLeavesTask : {X A : Type 0}
-    → (X → Poll (Option A) → X → Type 0)
-    → (X → Poll (Option A) → X → Type 0)
-    → (X → X → Type 0)
-    → (Context → Context → Type 0)
-    → Groups X → Poll (Option A) → Groups X → Context → Context → Type 0
-OneLeavesTask asks asks_to_empty stops registers old answer new cx left =
-    (AsksOne asks_to_empty old answer new × registers cx left)
-    ⊎ (AsksOne (AsksAndStops asks stops) old answer new × IsWoken left)
+-- the group at the next place was asked, and the task was taken from cx to left
+pub record AsksNext
+    {X A : Type 0}
+    (asks : Bool → X → Poll (Option A) → X → Type 0)
+    (registers : Context → Context → Type 0)
+    (old : Groups X)
+    (answer : Poll (Option A))
+    (new : Groups X)
+    (cx left : Context)
+    : Type 0 where
+  pub stopped : Bool
+  pub asked : AsksOne (asks stopped) old answer new
+  pub woken : WakesIf stopped registers cx left

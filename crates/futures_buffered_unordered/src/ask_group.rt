@@ -3,10 +3,9 @@
 //! A set that grows and a merge that grows differ in that alone.
 ghost use Rattle.std.specs.Prelude.{◌≡◌, IsTrue};
 ghost use Rattle.futures.specs.Task.{Covers};
-ghost use Rattle.futures_buffered_unordered.specs.FuturesUnorderedBounded.{AsksInPart, OnlyRegisters, PollAsksToEmpty};
-ghost use Rattle.futures_buffered_unordered.specs.FuturesUnorderedBounded.{PollGives};
+ghost use Rattle.futures_buffered_unordered.specs.FuturesUnorderedBounded.{PollAsks};
 ghost use Rattle.futures_buffered_unordered.specs.Held.{AllHeld};
-ghost use Rattle.futures_buffered_unordered.specs.FuturesUnordered.{PollsGroupTask};
+ghost use Rattle.futures_buffered_unordered.specs.FuturesUnordered.{PollsGroup};
 ghost use Rattle.futures_buffered_unordered.specs.FuturesUnorderedInvariant.{KeepsGroup};
 
 use crate::futures_unordered_bounded::FuturesUnorderedBounded;
@@ -22,7 +21,7 @@ pub trait AskGroup<F: Drop, S: NewSource> {
     ghost use Rattle.futures.specs.declared.task.Poll.{Poll};
     ghost use Rattle.futures.specs.declared.task.context.Context.{Context};
     ghost use Rattle.futures_buffered_unordered.specs.FuturesUnorderedBounded.{Bounded};
-    ghost use Rattle.std.specs.Prelude.{Option};
+    ghost use Rattle.std.specs.Prelude.{Bool, Option};
 
     /// What a group gives.
     type Output;
@@ -30,14 +29,9 @@ pub trait AskGroup<F: Drop, S: NewSource> {
     // The values that may be polled.
     ghost can_poll: { F → Type 0 };
 
-    // One poll of a group, that finds it, gives an answer and leaves it.
-    ghost asks: { Bounded F S → Poll (Option Self.Output) → Bounded F S → Type 0 };
-
-    // The same, where a poll that is pending had no further name.
-    ghost asks_to_empty: { Bounded F S → Poll (Option Self.Output) → Bounded F S → Type 0 };
-
-    // A poll that was pending, and stopped though a further name may come.
-    ghost stops: { Bounded F S → Bounded F S → Type 0 };
+    // One poll of a group, that finds it, gives an answer and leaves it; and whether it stopped though a further name
+    // may come. A poll that stops is pending.
+    ghost asks: { Bool → Bounded F S → Poll (Option Self.Output) → Bounded F S → Type 0 };
 
     // What a group that answers the end leaves of the task.
     ghost passes: { Context → Context → Type 0 };
@@ -52,11 +46,10 @@ pub trait AskGroup<F: Drop, S: NewSource> {
     ) -> Poll<Option<Self::Output>>
         requires held { AllHeld can_poll group.old.slots }
         requires registered { IsTrue is_registered → Covers cx.old (S.needs group.old.source) }
-        ensures asked { asks group.old result group.new }
         ensures keeps { KeepsGroup S.needs group.old result group.new }
         ensures pollable { AllHeld can_poll group.new.slots }
-        ensures task { PollsGroupTask asks_to_empty stops S.needs
-            (OnlyRegisters S.registers_poll) passes group.old result group.new cx.old cx.new };
+        ensures polls { PollsGroup S.ReadySource asks passes
+            group.old result group.new cx.old cx.new };
 
     // Groups that end one after another leave of the task what one may leave, and so does none.
     ghost passes_none: { (cx : Context) → passes cx cx };
@@ -75,11 +68,7 @@ impl<F: Drop, S: NewSource, R: PollOne<F, S::Waker>> AskGroup<F, S> for ByRule<'
 
     ghost can_poll = { R.can_poll };
 
-    ghost asks = { PollGives R.polled S.steps };
-
-    ghost asks_to_empty = { PollAsksToEmpty R.polled S.steps };
-
-    ghost stops = { AsksInPart R.polled S.steps };
+    ghost asks = { PollAsks R.polled S.steps };
 
     ghost passes = { λ old new. new ≡ old };
 

@@ -15,10 +15,10 @@ ghost use Rattle.futures_buffered_core.specs.Made.{MakesGroup, MakesSlots};
 ghost use Rattle.futures_buffered_core.specs.ReadyShared.{IsNewShared};
 ghost use Rattle.futures_buffered_core.specs.ReadySource.{WaitsAlike};
 ghost use Rattle.futures_buffered_unordered.specs.FuturesUnorderedBounded.{IsNewSet, OnlyRegisters};
-ghost use Rattle.futures_buffered_unordered.specs.GroupsStep.{AsksOne, OneLeavesTask, next_place};
+ghost use Rattle.futures_buffered_unordered.specs.GroupsStep.{AsksNext, next_place};
 ghost use Rattle.futures_buffered_unordered.specs.FuturesUnordered.{EachHeld, EachCovered, Growing};
 ghost use Rattle.futures_buffered_unordered.specs.FuturesUnordered.{GrowingPushes};
-ghost use Rattle.futures_buffered_unordered.specs.FuturesUnordered.{IsAtBound, IsNewGrowing, LastIsFull};
+ghost use Rattle.futures_buffered_unordered.specs.FuturesUnordered.{IsAtBound, IsNewGrowing};
 ghost use Rattle.futures_buffered_unordered.specs.FuturesUnordered.{PushesEach};
 ghost use Rattle.futures_buffered_unordered.specs.FuturesUnordered.{PushesOrStays, no_groups, held_in_all};
 ghost use Rattle.futures_buffered_unordered.specs.FuturesUnordered.{capacity_of};
@@ -210,7 +210,7 @@ impl<F: Drop, S: NewSource> FuturesUnordered<F, S> {
     // Adds an empty group behind all others. Both growths are made before the list changes.
     fn add_group(&mut self, capacity: usize) -> Result<(), NewFault>
         requires some { 0 < capacity }
-        requires full { LastIsFull self.old.groups.listed }
+        requires full { spare_places self.old.groups.listed ≡ 0 }
         ensures added { OnOk result (AddsGroup S.made capacity self.old self.new) }
         ensures same { OnErr result (self.new ≡ self.old) }
         ensures refuses { RefusesTooLarge capacity result }
@@ -254,8 +254,7 @@ impl<F: Drop, S: NewSource> FuturesUnordered<F, S> {
     /// The value comes back, and nothing has changed, where `MAX_HELD` values are held, where the new group would have
     /// more than `MAX_CAPACITY` slots, and where a request for memory was refused. Takes the same time at any capacity
     /// where the last group has a free place, and then no memory; else time and memory in proportion to the new group.
-    /// Polls nothing. Count on no wake from it: a task that waits is woken only where a group is made while a wake is
-    /// at the place of its waker.
+    /// Polls nothing. Do not count on a wake: poll the set after a push.
     pub fn push(&mut self, value: F) -> Result<(), F>
         ensures push { PushesOrStays S.marks S.made self.old value result self.new }
         ensures back { IfErr result (λ back. back ≡ value) }
@@ -359,16 +358,14 @@ impl<F: Drop, S: NewSource> FuturesUnordered<F, S> {
         requires pollable { EachHeld R.can_poll self.old.groups.listed }
         requires registered { IsTrue is_registered →
             EachCovered S.needs cx.old self.old.groups.listed }
-        ensures asked { AsksOne R.asks self.old.groups result self.new.groups }
+        ensures asked { AsksNext R.asks (OnlyRegisters S.registers_poll)
+            self.old.groups result self.new.groups cx.old cx.new }
         ensures limit { self.new.limit ≡ self.old.limit }
         ensures pollable { EachHeld R.can_poll self.new.groups.listed }
         ensures covered { OnPending result (EachCovered S.needs cx.new self.new.groups.listed) }
         ensures still_covered { IsTrue is_registered →
             EachCovered S.needs cx.new self.new.groups.listed }
         ensures passes { IfReady result (λ o. IfNone o (R.passes cx.old cx.new)) }
-        ensures leaves { OneLeavesTask R.asks R.asks_to_empty R.stops
-            (OnlyRegisters S.registers_poll)
-            self.old.groups result self.new.groups cx.old cx.new }
         ensures kept { Keeps cx.old cx.new }
     {
         let place = self.next_place();

@@ -1,6 +1,5 @@
 //! A set of groups as a stream, which says how much is left and whether it has ended.
 ghost use Rattle.std.specs.Prelude.{◌≡◌, ◌↔◌};
-ghost use Rattle.futures_buffered_unordered.specs.StreamAnswers.{StreamAnswers};
 ghost use Rattle.futures_buffered_unordered.specs.FuturesUnordered.{AnyNeeds, EachHeld, held_in_all};
 ghost use Rattle.futures_buffered_unordered.specs.PollsBounded.{itself};
 ghost use Rattle.futures_buffered_unordered.specs.PollsGrowing.{PollsGrowing};
@@ -27,9 +26,7 @@ impl<F: SlotFuture<S::Waker>, S: NewSource> Stream for FuturesUnordered<F, S> {
     /// One poll, as `poll_with` by the rule that polls the future itself.
     fn poll_next(&mut self, cx: &mut Context<'_>) -> Poll<Option<F::Output>>
         requires { EachHeld F.can_poll self.old.groups.listed }
-        ensures stream { StreamAnswers ⟦<FuturesUnordered<F, S> as Stream>⟧
-            self.old result self.new cx.old cx.new }
-        ensures polls { PollsGrowing (itself F.SlotFuture) S.ReadySource
+        ensures { PollsGrowing (itself F.SlotFuture) S.ReadySource
             self.old result self.new cx.old cx.new }
     {
         self.poll_with(&PollFuture, cx)

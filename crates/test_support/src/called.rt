@@ -3,8 +3,7 @@ ghost use Rattle.std.specs.Prelude.{◌≡◌};
 
 use futures::task::Poll;
 use futures_buffered_core::ready_source::SlotHandle;
-use futures_buffered_sets::slot_future::SlotFuture;
-use futures_buffered_sets::slot_stream::SlotStream;
+use futures_buffered_sets::{SlotFuture, SlotStream};
 
 /// Ready at its first poll, with what the closure returns. As a stream, it gives that once.
 #[derive(Drop)]

@@ -1,29 +1,23 @@
 //! Sets and queues of timed futures, filled and emptied by hand.
-use crate::polling::{poll_growing_queue, poll_growing_set, poll_queue, poll_set};
+use crate::polling::poll_next;
 use crate::timed::{Timed, ready};
+use futures::Stream;
 use futures::task::Poll;
 use futures::test::MockTask;
 use futures_buffered_core::ready_source::{NewSource, ReadySource};
-use futures_buffered_sets::futures_ordered::FuturesOrdered;
-use futures_buffered_sets::futures_ordered_bounded::FuturesOrderedBounded;
-use futures_buffered_sets::futures_unordered::FuturesUnordered;
-use futures_buffered_sets::futures_unordered_bounded::FuturesUnorderedBounded;
+use futures_buffered_sets::{
+    FuturesOrdered, FuturesOrderedBounded, FuturesUnordered, FuturesUnorderedBounded,
+};
 
 /// What holds timed futures.
-pub trait Holds: Drop {
+pub trait Holds: Stream<Item = u64> + Drop {
     /// Adds one, at the back of a queue: whether it is taken.
     fn add(&mut self, future: Timed) -> bool;
-
-    fn poll(&mut self, task: &MockTask) -> Poll<Option<u64>>;
 }
 
 impl<S: ReadySource> Holds for FuturesUnorderedBounded<Timed, S> {
     fn add(&mut self, future: Timed) -> bool {
         self.try_push(future).is_ok()
-    }
-
-    fn poll(&mut self, task: &MockTask) -> Poll<Option<u64>> {
-        poll_set(task, self)
     }
 }
 
@@ -31,29 +25,17 @@ impl<S: NewSource> Holds for FuturesUnordered<Timed, S> {
     fn add(&mut self, future: Timed) -> bool {
         self.push(future).is_ok()
     }
-
-    fn poll(&mut self, task: &MockTask) -> Poll<Option<u64>> {
-        poll_growing_set(task, self)
-    }
 }
 
 impl<S: ReadySource> Holds for FuturesOrderedBounded<Timed, S> {
     fn add(&mut self, future: Timed) -> bool {
         self.try_push_back(future).is_ok()
     }
-
-    fn poll(&mut self, task: &MockTask) -> Poll<Option<u64>> {
-        poll_queue(task, self)
-    }
 }
 
 impl<S: NewSource> Holds for FuturesOrdered<Timed, S> {
     fn add(&mut self, future: Timed) -> bool {
         self.push_back(future).is_ok()
-    }
-
-    fn poll(&mut self, task: &MockTask) -> Poll<Option<u64>> {
-        poll_growing_queue(task, self)
     }
 }
 
@@ -68,9 +50,11 @@ pub fn add_each<H: Holds>(holder: &mut H, count: u64) -> u64 {
 }
 
 /// Polls so often: how many outputs come before one that is not the next number.
-pub fn next_outputs<H: Holds>(task: &MockTask, holder: &mut H, count: u64) -> u64 {
+pub fn next_outputs<H: Holds>(task: &MockTask, holder: &mut H, count: u64) -> u64
+    requires { (held : H) → H.can_poll held }
+{
     for number in 0..count {
-        if holder.poll(task) != Poll::Ready(Some(number)) {
+        if poll_next(task, holder) != Poll::Ready(Some(number)) {
             return number;
         }
     }
@@ -78,6 +62,8 @@ pub fn next_outputs<H: Holds>(task: &MockTask, holder: &mut H, count: u64) -> u6
 }
 
 /// The outputs of so many polls come in order, and then there is none.
-pub fn is_emptied<H: Holds>(task: &MockTask, holder: &mut H, count: u64) -> bool {
-    next_outputs(task, holder, count) == count && holder.poll(task) == Poll::Ready(None)
+pub fn is_emptied<H: Holds>(task: &MockTask, holder: &mut H, count: u64) -> bool
+    requires { (held : H) → H.can_poll held }
+{
+    next_outputs(task, holder, count) == count && poll_next(task, holder) == Poll::Ready(None)
 }

@@ -1,8 +1,9 @@
-use Rattle.std.proofs.Common.{◌++◌, [], ◌∷◌, take, Some, refl, sym, ap, ◌∙◌, arith, append-nil, append_assoc}
+use Rattle.std.proofs.Common.{◌≡◌, ◌+◌, ◌++◌, [], ◌∷◌, take, Some, refl, sym, ap, ◌∙◌, arith, append-nil, append_assoc}
 use Rattle.std.proofs.lemmas.List.{take_more}
 use Rattle.std.proofs.lemmas.Option.{slice_get-get_or}
 use Rattle.futures_buffered_core.specs.declared.ready_core.Event.TheVariants.{Mark}
-use Rattle.futures_buffered_core.proofs.HistoryLemmas.{Answers-none, Answers-mark, Answers-take}
+use Rattle.futures_buffered_core.specs.History.{Answers}
+use Rattle.futures_buffered_core.proofs.HistoryLemmas.{Answers-none, Answers-push, after_mark, after_take}
 use Rattle.futures_buffered_core.proofs.ready_core.run.Goals.{in-Mark, in-Take}
 use Rattle.futures_buffered_core.proofs.ready_core.run.Goals as goal
 
@@ -24,29 +25,21 @@ mark-requires c =
 pub loop-event-preserved : goal.loop-event-preserved
 loop-event-preserved c =
     let events = c.args.events.now in
-    let at = c.loop-event.event-index in
+    let start = c.args.core.now.marked in
     let so_far = c.loop-event.invariant.answered in
-    let more = take_more events at (Mark 0) c.loop-event-test.true in
+    let before = take c.loop-event.event-index events in
+    let more = take_more events c.loop-event.event-index (Mark 0) c.loop-event-test.true in
     let room = c.loop-event.invariant.room in
-    elim c.match-event.branch [
-      | in-Mark w ↦ rw (w.core-is, more, w.in-Mark.is) (record {
-        answered = (
-          so_far.0 ++ c.match-event.reply ∷ [],
-          c.push_reserved.ensures.items ∙ rw (so_far.1) (append_assoc c.args.out.now.items so_far.0 (c.match-event.reply ∷ [])),
-          rw (w.reply-is) (Answers-mark c.args.core.now.marked (take at events) so_far.0 _ _ w.in-Mark.i w.mark.result so_far.2 w.mark.ensures.marked),
-        );
-        capacity = w.mark.ensures.capacity ∙ c.loop-event.invariant.capacity;
-        below = c.loop-event.invariant.below;
-        room = omega arith;
-      })
-      | in-Take w ↦ rw (w.core-is, more, w.in-Take.is) (record {
-        answered = (
-          so_far.0 ++ c.match-event.reply ∷ [],
-          c.push_reserved.ensures.items ∙ rw (so_far.1) (append_assoc c.args.out.now.items so_far.0 (c.match-event.reply ∷ [])),
-          rw (w.reply-is) (Answers-take c.args.core.now.marked (take at events) so_far.0 _ _ w.take.result so_far.2 w.take.ensures.taken),
-        );
-        capacity = w.take.ensures.capacity ∙ c.loop-event.invariant.capacity;
-        below = c.loop-event.invariant.below;
-        room = omega arith;
-      })
-    ]
+    let replies = so_far.0 ++ c.match-event.reply ∷ [] in
+    let turn = elim c.match-event.branch as (λ _. Answers start (take (c.loop-event.event-index + 1) events) replies c.match-event.core.marked × (c.match-event.core.capacity ≡ c.loop-event.core.capacity)) [
+      | in-Mark w ↦ rw (w.core-is, more, w.in-Mark.is, w.reply-is)
+          (Answers-push start before so_far.0 _ _ _ _ so_far.2 (λ b a same. after_mark b a same w.in-Mark.i w.mark.result _ _ w.mark.ensures.marked), w.mark.ensures.capacity)
+      | in-Take w ↦ rw (w.core-is, more, w.in-Take.is, w.reply-is)
+          (Answers-push start before so_far.0 _ _ _ _ so_far.2 (λ b a same. after_take b a same w.take.result _ _ w.take.ensures.taken), w.take.ensures.capacity)
+    ] in
+    record {
+      answered = (replies, c.push_reserved.ensures.items ∙ rw (so_far.1) (append_assoc c.args.out.now.items so_far.0 (c.match-event.reply ∷ [])), turn.0);
+      capacity = turn.1 ∙ c.loop-event.invariant.capacity;
+      below = c.loop-event.invariant.below;
+      room = omega arith;
+    }

@@ -1,4 +1,4 @@
-use Rattle.std.proofs.Common.{[], ◌∷◌, ◌++◌, inl, inr, refl, ap, arith, rules, ◌∙◌}
+use Rattle.std.proofs.Common.{[], ◌∷◌, ◌++◌, true, false, inl, inr, refl, ap, arith, rules, ◌∙◌}
 use Rattle.std.proofs.lemmas.Fn.{FoldsTo-push}
 use Rattle.futures_buffered_core.specs.SlotMap.{held_count}
 use Rattle.futures_buffered_unordered.specs.FuturesUnorderedBounded.{Bounded}
@@ -62,7 +62,7 @@ returns-in-Ready-Some-clause-task g c =
     record {
       covered = tt;
       woken = tt;
-      leaves = inl (record { ended = so.counts.0; before = c.counts.set; counts = so.counts.1; last_count = counted }, only);
+      leaves = (false, record { ended = so.counts.0; before = c.counts.set; counts = so.counts.1; last_count = (counted, refl) }, only);
       only_registered = only;
       untouched = λ none. absurd (omega (arith, counted.0, none, ap (λ (b : Bounded g.row.St.Denot g.row.S.Denot). held_count b.slots) (so.untouched none).0));
       kept = λ fact h. task.kept fact (so.kept fact h);
@@ -102,8 +102,8 @@ returns-in-Pending-clause-task g c =
       covered = task.covered;
       woken = elim task.woken [ inl woken ↦ inl woken | inr empty ↦ inr (empty.0, more empty.1) ];
       leaves = elim task.leaves [
-        | inl empty ↦ inl (record { ended = so.counts.0; before = c.counts.set; counts = so.counts.1; last_count = (counted.0, empty.0) }, more empty.1)
-        | inr part ↦ inr (refl, (so.counts.0, c.counts.set, so.counts.1, part.0), part.1)
+        | inl empty ↦ (false, record { ended = so.counts.0; before = c.counts.set; counts = so.counts.1; last_count = (counted.0, empty.0) }, more empty.1)
+        | inr part ↦ (true, record { ended = so.counts.0; before = c.counts.set; counts = so.counts.1; last_count = (counted.0, part.0) }, part.1)
       ];
       only_registered = tt;
       untouched = λ none. absurd (omega (arith, counted.0, none, ap (λ (b : Bounded g.row.St.Denot g.row.S.Denot). held_count b.slots) (so.untouched none).0));
@@ -138,7 +138,7 @@ returns-clause-task g c =
     record {
       covered = tt;
       woken = tt;
-      leaves = inl (record { ended = so.counts.0; before = c.counts.set; counts = so.counts.1; last_count = (search rules, refl) }, so.only_registered);
+      leaves = (false, record { ended = so.counts.0; before = c.counts.set; counts = so.counts.1; last_count = ((search rules, refl), refl) }, so.only_registered);
       only_registered = so.only_registered;
       untouched = λ none. (so.untouched none).1;
       kept = so.kept;

@@ -37,23 +37,16 @@ returns-in_default-step-clause-stuck c = λ k e.
       ),
     )
 
-pub returns-clause-order : goal.returns-clause-order
-returns-clause-order c =
+pub returns : goal.returns
+returns c =
     let n = c.args.capacity in let steps = c.args.steps.now in let so_far = c.loop-k.invariant in
     let all = whole n c.loop-k.machine (take c.loop-k.k steps) steps c.loop-k.replies.items so_far.capacity
     (take_all c.loop-k.k steps c.loop-k-test.false) so_far.leads so_far.replied in
-    subst (AfterEach AnswersInOrder [] steps) (sym all.1) (in_order n steps all.0)
-
-pub returns-clause-empty : goal.returns-clause-empty
-returns-clause-empty c =
-    let n = c.args.capacity in let steps = c.args.steps.now in let so_far = c.loop-k.invariant in
-    let all = whole n c.loop-k.machine (take c.loop-k.k steps) steps c.loop-k.replies.items so_far.capacity
-    (take_all c.loop-k.k steps c.loop-k-test.false) so_far.leads so_far.replied in
-    subst (AfterEach EmptyIsTrue [] steps) (sym all.1) (empties n steps all.0)
-
-pub returns-clause-pause : goal.returns-clause-pause
-returns-clause-pause c =
-    let n = c.args.capacity in let steps = c.args.steps.now in let so_far = c.loop-k.invariant in
-    let all = whole n c.loop-k.machine (take c.loop-k.k steps) steps c.loop-k.replies.items so_far.capacity
-    (take_all c.loop-k.k steps c.loop-k-test.false) so_far.leads so_far.replied in
-    subst (AfterEach PauseHasCause [] steps) (sym all.1) (pauses n steps all.0)
+    record {
+      replies = all;
+      order = subst (AfterEach AnswersInOrder [] steps) (sym all.1) (in_order n steps all.0);
+      empty = subst (AfterEach EmptyIsTrue [] steps) (sym all.1) (empties n steps all.0);
+      pause = subst (AfterEach PauseHasCause [] steps) (sym all.1) (pauses n steps all.0);
+      stuck = search rules;
+      too_large = search rules;
+    }

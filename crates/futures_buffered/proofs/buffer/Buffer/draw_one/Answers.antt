@@ -17,7 +17,7 @@ returns-in_default-push-clause-buffer g c =
     let queue = g.Q.FutureQueue in
     let was : c.args.self.now ≡ record { stream = Some c.in-Some.stream; queue = c.self.inside.queue } = let e = c.self.view_is in let k = c.in-Some.stream-is in cc in
     item_leaves stream.can_poll stream.yields queue.gives queue.is_fit queue.count queue.room queue.yields queue.can_poll queue.in_order c.args.self.now c.in-Some.stream c.poll_next.new.self c.in-Ready-Some.item c.self.inside.queue c.push.new.self was (search rules) c.requires
-    (rw c.in-Ready-Some.field-0-is at c.in-Ready-Some.ensures.value) (rw c.in-Ready-Some.field-0-is at c.in-Ready-Some.ensures.rest) (rw c.in-Ready-Some.field-0-is at c.in-Ready-Some.ensures.goes) None c.in_default-push.ensures.queue
+    (rw c.in-Ready-Some.field-0-is at c.in-Ready-Some.ensures.value) (rw c.in-Ready-Some.field-0-is at c.in-Ready-Some.ensures.rest) (rw c.in-Ready-Some.field-0-is at c.in-Ready-Some.ensures.goes) None c.in_default-push.ensures.queue c.in_default-push.ensures.adds c.push.ensures.again
 
 pub returns-in_default-push-clause-task : goal.returns-in_default-push-clause-task
 returns-in_default-push-clause-task g c =
@@ -32,7 +32,7 @@ returns-in-Some-push-clause-buffer g c =
     let queue = g.Q.FutureQueue in
     let was : c.args.self.now ≡ record { stream = Some c.in-Some.stream; queue = c.self.inside.queue } = let e = c.self.view_is in let k = c.in-Some.stream-is in cc in
     item_leaves stream.can_poll stream.yields queue.gives queue.is_fit queue.count queue.room queue.yields queue.can_poll queue.in_order c.args.self.now c.in-Some.stream c.poll_next.new.self c.in-Ready-Some.item c.self.inside.queue c.push.new.self was (search rules) c.requires
-    (rw c.in-Ready-Some.field-0-is at c.in-Ready-Some.ensures.value) (rw c.in-Ready-Some.field-0-is at c.in-Ready-Some.ensures.rest) (rw c.in-Ready-Some.field-0-is at c.in-Ready-Some.ensures.goes) (Some c.in-Some-push.answer) c.in-Some-push.ensures.queue
+    (rw c.in-Ready-Some.field-0-is at c.in-Ready-Some.ensures.value) (rw c.in-Ready-Some.field-0-is at c.in-Ready-Some.ensures.rest) (rw c.in-Ready-Some.field-0-is at c.in-Ready-Some.ensures.goes) (Some c.in-Some-push.answer) c.in-Some-push.ensures.queue c.in-Some-push.ensures.adds c.push.ensures.again
 
 pub returns-in-Some-push-clause-task : goal.returns-in-Some-push-clause-task
 returns-in-Some-push-clause-task g c =

@@ -4,13 +4,16 @@ use Rattle.futures_buffered.proofs.buffer_unordered.CompletionQueueFutureQueue.p
 pub returns-clause-queue : goal.returns-clause-queue
 returns-clause-queue g c =
     let push = c.push.ensures in
-    let marks = g.S.ReadySource.marks in
+    rw (← c.self.view_is) (record { one_more = push.count; stays = tt; same_room = push.capacity })
+
+pub returns-clause-adds : goal.returns-clause-adds
+returns-clause-adds g c =
     rw (← c.self.view_is) (record {
-      one_more = push.count;
-      adds = adds_one marks c.self.inside.set c.push.new.self c.args.future push.pushed g.F.SlotFuture.polled;
+      adds = adds_one g.S.ReadySource.marks c.self.inside.set c.push.new.self c.args.future c.push.ensures.pushed g.F.SlotFuture.polled;
       value = tt;
-      stays = tt;
       overtakes = tt;
-      same_room = push.capacity;
-      again = pushed_can marks c.self.inside.set c.push.new.self c.args.future push.pushed g.F.SlotFuture.can_poll;
     })
+
+pub returns-clause-again : goal.returns-clause-again
+returns-clause-again g c =
+    pushed_can g.S.ReadySource.marks c.self.inside.set c.push.new.self c.args.future c.push.ensures.pushed g.F.SlotFuture.can_poll (rw (← c.self.view_is) at c.requires.held) c.requires.fit

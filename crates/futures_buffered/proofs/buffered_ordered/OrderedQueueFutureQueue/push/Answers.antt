@@ -3,17 +3,21 @@ use Rattle.futures_buffered.proofs.buffered_ordered.OrderedQueueFutureQueue.push
 
 pub returns-clause-queue : goal.returns-clause-queue
 returns-clause-queue g c =
-    let future = g.F.SlotFuture in
-    let marks = g.S.ReadySource.marks in
-    let old = c.self.inside.queue in
-    let new = c.push_back.new.self in
-    let pushed = c.push_back.ensures.pushed in
+    let push = c.push_back.ensures in
     rw (← c.self.view_is) (record {
-      one_more = pushed_len marks old new c.args.future pushed;
-      adds = adds_behind future.polled marks old new c.args.future c.len.ensures.each pushed;
-      value = tt;
+      one_more = pushed_len g.S.ReadySource.marks c.self.inside.queue c.push_back.new.self c.args.future push.pushed;
       stays = tt;
-      overtakes = tt;
-      same_room = c.push_back.ensures.capacity;
-      again = pushed_can marks future.can_poll old new c.args.future pushed;
+      same_room = push.capacity;
     })
+
+pub returns-clause-adds : goal.returns-clause-adds
+returns-clause-adds g c =
+    rw (← c.self.view_is) (record {
+      adds = adds_behind g.F.SlotFuture.polled g.S.ReadySource.marks c.self.inside.queue c.push_back.new.self c.args.future c.len.ensures.each c.push_back.ensures.pushed;
+      value = tt;
+      overtakes = tt;
+    })
+
+pub returns-clause-again : goal.returns-clause-again
+returns-clause-again g c =
+    pushed_can g.S.ReadySource.marks g.F.SlotFuture.can_poll c.self.inside.queue c.push_back.new.self c.args.future c.push_back.ensures.pushed (rw (← c.self.view_is) at c.requires.held) c.requires.fit

@@ -15,8 +15,6 @@ pub returns-in-Ready-Some-clause-leaves : goal.returns-in-Ready-Some-clause-leav
 returns-in-Ready-Some-clause-leaves g c =
     let is : c.args.self.now ≡ record { buffer = record { stream = Some c.in-Some.stream; queue = c.self.inside.queue }; closure = c.self.inside.closure } = let e = c.self.view_is in let k = c.in-Some.stream-is in cc in
     record {
-      ended = tt;
-      value = tt;
       again = each_item_can g.St.Stream g.F.FnMut g.Fut.SlotFuture g.S.ReadySource c.args.self.now c.in-Some.stream c.poll_next.new.self c.in-Ready-Some.item c.self.inside.queue c.push.new.self c.self.inside.closure c.call_mut-future.new.self c.call_mut-future.result is c.requires c.push.ensures.pushed c.call_mut-future.ensures (rw c.in-Ready-Some.field-0-is at c.in-Ready-Some.ensures.value) (rw c.in-Ready-Some.field-0-is at c.in-Ready-Some.ensures.rest) (rw c.in-Ready-Some.field-0-is at c.in-Ready-Some.ensures.goes);
       same = item_ends g.St.Stream c.args.self.now c.in-Some.stream c.poll_next.new.self c.in-Ready-Some.item c.self.inside.queue c.push.new.self c.self.inside.closure c.call_mut-future.new.self is (rw c.in-Ready-Some.field-0-is at c.in-Ready-Some.ensures.rest);
       capacity = search rules;
@@ -62,8 +60,6 @@ pub returns-in-Pending-clause-leaves : goal.returns-in-Pending-clause-leaves
 returns-in-Pending-clause-leaves g c =
     let is : c.args.self.now ≡ record { buffer = record { stream = Some c.in-Some.stream; queue = c.self.inside.queue }; closure = c.self.inside.closure } = let e = c.self.view_is in let k = c.in-Some.stream-is in cc in
     record {
-      ended = tt;
-      value = tt;
       again = each_pending_can g.St.Stream g.F.FnMut g.Fut.SlotFuture g.S.ReadySource c.args.self.now c.in-Some.stream c.poll_next.new.self c.self.inside.queue c.self.inside.closure is c.requires c.in-Pending.ensures.same c.in-Pending.ensures.again;
       same = search rules;
       capacity = search rules;

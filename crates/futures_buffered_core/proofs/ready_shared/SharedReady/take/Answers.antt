@@ -1,14 +1,11 @@
 use Rattle.std.proofs.Common.{◌≡◌, ℕ, ◌++◌, ap, sym, ◌∙◌, subst}
-use Rattle.futures_buffered_core.specs.ReadyCore.{IsNameBelow}
 use Rattle.futures_buffered_core.specs.ReadyShared.{Shared, lent_after}
 use Rattle.futures_buffered_table.specs.Taking.{IsTaking}
 use Rattle.futures_buffered_core.proofs.ReadySharedLemmas.{name_below, stays}
 use Rattle.futures_buffered_core.proofs.ready_shared.SharedReady.take.Goals as goal
 
 pub lend-requires : goal.lend-requires
-lend-requires g c =
-    let here = ap (λ w. w.list.capacity) c.deref.ensures in
-    subst (λ (n : ℕ). IsNameBelow n c.take_with-taken.result) here (name_below _ _ c.take_with-taken.ensures.named)
+lend-requires g c = name_below _ _ _ c.take_with-taken.ensures.named (ap (λ w. w.list.capacity) c.deref.ensures)
 
 pub returns : goal.returns
 returns g c =
@@ -20,7 +17,7 @@ returns g c =
     let did = c.take_with-taken.ensures.shape in
     let place = stays _ c.self.inside.poll.steps _ _ _ _ c.take_with-taken.ensures.calls in
     let steps = did.1 ∙ ap (λ (v : Shared). v.taken ++ did.0) view in (
-      subst (λ (n : ℕ). IsNameBelow n c.take_with-taken.result) size (name_below _ _ c.take_with-taken.ensures.named),
+      name_below _ _ _ c.take_with-taken.ensures.named size,
       (
         did.0,
         subst (λ (x : ℕ × ℕ × ℕ). IsTaking x.0 x.1 did.0 c.take_with-taken.result x.2) (λ k. (size k, head k, left k)) did.2,

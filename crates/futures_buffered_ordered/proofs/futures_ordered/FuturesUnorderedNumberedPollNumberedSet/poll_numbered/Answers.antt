@@ -1,5 +1,6 @@
 use Rattle.std.proofs.Common.{rules}
-use Rattle.futures_buffered_unordered.proofs.FuturesUnorderedLemmas.{covered_of}
+use Rattle.futures_buffered_unordered.proofs.FuturesUnorderedStreamLemmas.{groups_give}
+use Rattle.futures_buffered_ordered.specs.Numbered.{PollsNumbered}
 use Rattle.futures_buffered_ordered.proofs.FuturesOrderedLemmas.{numbers_left}
 use Rattle.futures_buffered_ordered.proofs.futures_ordered.FuturesUnorderedNumberedPollNumberedSet.poll_numbered.Goals as goal
 
@@ -9,7 +10,7 @@ returns-clause-set g c =
     record {
       empty = search rules;
       fewer = poll.count;
-      numbers = λ i. numbers_left i g.R.PollOne.polled g.S.ReadySource.steps c.args.self.now.groups c.poll_with.new.self.groups c.poll_with.result poll.groups.gave;
+      numbers = λ i. numbers_left i g.R.PollOne.polled g.S.ReadySource.steps c.args.self.now.groups c.poll_with.new.self.groups poll.groups.stopped c.poll_with.result (groups_give (PollsNumbered g.R.PollOne.polled) g.S.ReadySource.steps _ _ _ _ poll.groups.gave);
       pollable = poll.groups.pollable;
       set = poll.groups.limit;
     }
@@ -18,6 +19,6 @@ pub returns-clause-task : goal.returns-clause-task
 returns-clause-task g c =
     let poll = c.poll_with.ensures in
     record {
-      covered = covered_of g.S.ReadySource.needs c.poll_with.new.cx c.poll_with.result c.args.self.now.groups.listed c.poll_with.new.self.groups.listed poll.groups.covered poll.ends.1 poll.count;
+      covered = poll.registered;
       kept = poll.groups.kept;
     }

@@ -6,6 +6,5 @@ use Rattle.futures_buffered_table.proofs.ready_list.ReadyList.link_stub.Goals as
 
 pub store-requires : goal.store-requires
 store-requires c =
-    may_store c.self.inside.table.shared.table_id _ c.self.inside.capacity c.self.invariant _ c.self.view_is c.args.seat.now
-    (Polls c.args.head (StubPut c.args.before)) c.requires.role.0
-    _ (λ cap. tt) refl (λ cap. let a = c.requires.role.1 in omega arith) (c.self.inside.capacity + 1) (λ _. omega arith) (λ _. refl) tt
+    may_store _ _ _ c.self.invariant _ c.self.view_is _ (Polls c.args.head (StubPut c.args.before)) c.requires.role.0 _
+    (λ cap. tt) refl (λ cap. let a = c.requires.role.1 in omega arith) (c.self.inside.capacity + 1) (λ _. omega arith) (λ _. refl) tt

@@ -6,6 +6,5 @@ use Rattle.futures_buffered_table.proofs.ready_list.ReadyList.read_first.Goals a
 
 pub load-requires : goal.load-requires
 load-requires c =
-    may_step c.self.inside.table.shared.table_id _ c.self.inside.capacity c.self.invariant _ c.self.view_is c.args.seat.now
-    (Polls c.args.head Start) c.requires.role.0
-    _ (λ cap. tt) refl (λ cap. let a = c.requires.role.1 in omega arith) 0 0 (λ found. found) (λ _. refl)
+    may_step _ _ _ c.self.invariant _ c.self.view_is _ (Polls c.args.head Start) c.requires.role.0 _ (λ cap. tt) refl
+    (λ cap. let a = c.requires.role.1 in omega arith) 0 0 (λ found. found) (λ _. refl)

@@ -5,6 +5,5 @@ use Rattle.futures_buffered_table.proofs.ready_list.ReadyList.swap_mark.Goals as
 
 pub swap-requires : goal.swap-requires
 swap-requires c =
-    may_step c.self.inside.table.shared.table_id _ c.self.inside.capacity c.self.invariant _ c.self.view_is c.args.seat.now Idle
-    c.requires.role.0
-    _ (λ cap. let a = c.requires.role.1 in omega arith) refl (λ cap. let a = c.requires.role.1 in omega arith) 1 0 (λ _. 1) (λ _. refl)
+    may_step _ _ _ c.self.invariant _ c.self.view_is _ Idle c.requires.role.0 _ (λ cap. let a = c.requires.role.1 in omega arith) refl
+    (λ cap. let a = c.requires.role.1 in omega arith) 1 0 (λ _. 1) (λ _. refl)

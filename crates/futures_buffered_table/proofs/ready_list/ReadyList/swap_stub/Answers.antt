@@ -6,6 +6,5 @@ use Rattle.futures_buffered_table.proofs.ready_list.ReadyList.swap_stub.Goals as
 
 pub swap-requires : goal.swap-requires
 swap-requires c =
-    may_step c.self.inside.table.shared.table_id _ c.self.inside.capacity c.self.invariant _ c.self.view_is c.args.seat.now
-    (Polls c.args.head StubCleared) c.requires.role
-    _ (λ cap. tt) refl (λ cap. omega arith) c.self.inside.capacity 0 (λ _. c.self.inside.capacity) (λ _. refl)
+    may_step _ _ _ c.self.invariant _ c.self.view_is _ (Polls c.args.head StubCleared) c.requires.role _ (λ cap. tt) refl
+    (λ cap. omega arith) c.self.inside.capacity 0 (λ _. c.self.inside.capacity) (λ _. refl)

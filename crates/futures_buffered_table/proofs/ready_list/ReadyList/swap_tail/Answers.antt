@@ -5,6 +5,5 @@ use Rattle.futures_buffered_table.proofs.ready_list.ReadyList.swap_tail.Goals as
 
 pub swap-requires : goal.swap-requires
 swap-requires c =
-    may_step c.self.inside.table.shared.table_id _ c.self.inside.capacity c.self.invariant _ c.self.view_is c.args.seat.now
-    (Cleared c.args.slot) c.requires.role.0
-    _ (λ cap. tt) refl (λ cap. omega arith) c.args.slot 0 (λ _. c.args.slot) (λ _. refl)
+    may_step _ _ _ c.self.invariant _ c.self.view_is _ (Cleared c.args.slot) c.requires.role.0 _ (λ cap. tt) refl
+    (λ cap. omega arith) c.args.slot 0 (λ _. c.args.slot) (λ _. refl)

@@ -11,74 +11,51 @@ returns-in_err-seat-clause-placed c = places_slots _
 
 pub touches-word-requires : goal.touches-word-requires
 touches-word-requires c =
-    let f = c.self.inside in let m : Machine = record { capacity = f.capacity; words = f.words.items; roles = f.roles.items } in
-    let read : HasRead m c.args.step c.in_ok-seat.seat c.in_ok-seat.slot c.index-role.result.now = has_read c.self.invariant
+    let read : HasRead _ c.args.step c.in_ok-seat.seat c.in_ok-seat.slot c.index-role.result.now = has_read c.self.invariant
     c.as_slice.ensures.value c.in_ok-seat.ensures c.index-role.ensures in
-    may_touch m _ _ _ _ read
+    may_touch _ _ _ _ _ read
 
 pub index-found-requires : goal.index-found-requires
 index-found-requires c =
-    let f = c.self.inside in let m : Machine = record { capacity = f.capacity; words = f.words.items; roles = f.roles.items } in
-    let read : HasRead m c.args.step c.in_ok-seat.seat c.in_ok-seat.slot c.index-role.result.now = has_read c.self.invariant
+    let read : HasRead _ c.args.step c.in_ok-seat.seat c.in_ok-seat.slot c.index-role.result.now = has_read c.self.invariant
     c.as_slice.ensures.value c.in_ok-seat.ensures c.index-role.ensures in
-    let low = word_low m _ _ _ _ read c.touches-word.result c.touches-word.ensures in search (rules, low)
+    let low = word_low _ _ _ _ _ read c.touches-word.result c.touches-word.ensures in search (rules, low)
 
 pub puts-requires : goal.puts-requires
 puts-requires c =
-    let f = c.self.inside in let m : Machine = record { capacity = f.capacity; words = f.words.items; roles = f.roles.items } in
-    let read : HasRead m c.args.step c.in_ok-seat.seat c.in_ok-seat.slot c.index-role.result.now = has_read c.self.invariant
+    let read : HasRead _ c.args.step c.in_ok-seat.seat c.in_ok-seat.slot c.index-role.result.now = has_read c.self.invariant
     c.as_slice.ensures.value c.in_ok-seat.ensures c.index-role.ensures in
-    may_put m _ _ _ _ read
+    may_put _ _ _ _ _ read
 
 pub index_mut-requires : goal.index_mut-requires
 index_mut-requires c =
-    let f = c.self.inside in let m : Machine = record { capacity = f.capacity; words = f.words.items; roles = f.roles.items } in
-    let read : HasRead m c.args.step c.in_ok-seat.seat c.in_ok-seat.slot c.index-role.result.now = has_read c.self.invariant
+    let read : HasRead _ c.args.step c.in_ok-seat.seat c.in_ok-seat.slot c.index-role.result.now = has_read c.self.invariant
     c.as_slice.ensures.value c.in_ok-seat.ensures c.index-role.ensures in
-    let low = word_low m _ _ _ _ read c.touches-word.result c.touches-word.ensures in search (rules, low)
+    let low = word_low _ _ _ _ _ read c.touches-word.result c.touches-word.ensures in search (rules, low)
 
 pub invariant_of-self : goal.invariant_of-self
 invariant_of-self c =
-    let f = c.self.inside in let m : Machine = record { capacity = f.capacity; words = f.words.items; roles = f.roles.items } in
-    let read : HasRead m c.args.step c.in_ok-seat.seat c.in_ok-seat.slot c.index-role.result.now = has_read c.self.invariant
+    let read : HasRead _ c.args.step c.in_ok-seat.seat c.in_ok-seat.slot c.index-role.result.now = has_read c.self.invariant
     c.as_slice.ensures.value c.in_ok-seat.ensures c.index-role.ensures in
-    let did : HasFound m c.in_ok-seat.slot c.index-role.result.now c.touches-word.result c.index-found.result.now c.puts.result
+    let did : HasFound _ c.in_ok-seat.slot c.index-role.result.now c.touches-word.result c.index-found.result.now c.puts.result
     c.role_after.result c.reply.result = has_found c.touches-word.ensures c.index-found.ensures c.puts.ensures c.role_after.ensures
     c.reply.ensures in
-    keeps_now m _ _ _ _ read _ _ _ _ _ did
+    keeps_now _ _ _ _ _ read _ _ _ _ _ did
 
-pub returns-clause-made : goal.returns-clause-made
-returns-clause-made c =
-    let f = c.self.inside in let m : Machine = record { capacity = f.capacity; words = f.words.items; roles = f.roles.items } in
-    let read : HasRead m c.args.step c.in_ok-seat.seat c.in_ok-seat.slot c.index-role.result.now = has_read c.self.invariant
+pub returns : goal.returns
+returns c =
+    let read : HasRead _ c.args.step c.in_ok-seat.seat c.in_ok-seat.slot c.index-role.result.now = has_read c.self.invariant
     c.as_slice.ensures.value c.in_ok-seat.ensures c.index-role.ensures in
-    let did : HasFound m c.in_ok-seat.slot c.index-role.result.now c.touches-word.result c.index-found.result.now c.puts.result
+    let did : HasFound _ c.in_ok-seat.slot c.index-role.result.now c.touches-word.result c.index-found.result.now c.puts.result
     c.role_after.result c.reply.result = has_found c.touches-word.ensures c.index-found.ensures c.puts.ensures c.role_after.ensures
     c.reply.ensures in
-    subst (λ (old : Machine). CanMake old c.args.step
-    × MakesStep old c.args.step (now m _ _ _ _ read _ _ _ _ _ did) c.reply.result) c.self.view_is
-    (read.can, makes_step m _ _ _ _ read _ _ _ _ _ did)
-
-pub returns-clause-leads : goal.returns-clause-leads
-returns-clause-leads c =
-    let f = c.self.inside in let m : Machine = record { capacity = f.capacity; words = f.words.items; roles = f.roles.items } in
-    let read : HasRead m c.args.step c.in_ok-seat.seat c.in_ok-seat.slot c.index-role.result.now = has_read c.self.invariant
-    c.as_slice.ensures.value c.in_ok-seat.ensures c.index-role.ensures in
-    let did : HasFound m c.in_ok-seat.slot c.index-role.result.now c.touches-word.result c.index-found.result.now c.puts.result
-    c.role_after.result c.reply.result = has_found c.touches-word.ensures c.index-found.ensures c.puts.ensures c.role_after.ensures
-    c.reply.ensures in
-    subst (λ (old : Machine). LeadsOn old c.args.step (now m _ _ _ _ read _ _ _ _ _ did) c.reply.result) c.self.view_is
-    (leads_there m _ _ _ _ read _ _ _ _ _ did)
-
-pub returns-clause-reached : goal.returns-clause-reached
-returns-clause-reached c =
-    let f = c.self.inside in let m : Machine = record { capacity = f.capacity; words = f.words.items; roles = f.roles.items } in
-    let read : HasRead m c.args.step c.in_ok-seat.seat c.in_ok-seat.slot c.index-role.result.now = has_read c.self.invariant
-    c.as_slice.ensures.value c.in_ok-seat.ensures c.index-role.ensures in
-    let did : HasFound m c.in_ok-seat.slot c.index-role.result.now c.touches-word.result c.index-found.result.now c.puts.result
-    c.role_after.result c.reply.result = has_found c.touches-word.ensures c.index-found.ensures c.puts.ensures c.role_after.ensures
-    c.reply.ensures in
-    (keeps_now m _ _ _ _ read _ _ _ _ _ did).reached
-
-pub returns-clause-placed : goal.returns-clause-placed
-returns-clause-placed c = places_slots _
+    record {
+      refused = search rules;
+      made =
+          subst (λ (old : Machine). CanMake old c.args.step × MakesStep old c.args.step (now _ _ _ _ _ read _ _ _ _ _ did) c.reply.result)
+          c.self.view_is (read.can, makes_step _ _ _ _ _ read _ _ _ _ _ did);
+      leads = subst (λ (old : Machine). LeadsOn old c.args.step (now _ _ _ _ _ read _ _ _ _ _ did) c.reply.result) c.self.view_is
+          (leads_there _ _ _ _ _ read _ _ _ _ _ did);
+      reached = (keeps_now _ _ _ _ _ read _ _ _ _ _ did).reached;
+      placed = places_slots _;
+    }

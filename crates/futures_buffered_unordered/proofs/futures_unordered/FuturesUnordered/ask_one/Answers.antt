@@ -4,9 +4,8 @@ use Rattle.std.proofs.lemmas.List.Elements.{All-set}
 use Rattle.futures.specs.Poll.{OnPending}
 use Rattle.futures.specs.Task.{Covers}
 use Rattle.futures_buffered_unordered.specs.Held.{AllHeld}
-use Rattle.futures_buffered_unordered.specs.FuturesUnorderedBounded.{Bounded, OnlyRegisters}
+use Rattle.futures_buffered_unordered.specs.FuturesUnorderedBounded.{Bounded}
 use Rattle.futures_buffered_unordered.specs.GroupsStep.{next_place}
-use Rattle.futures_buffered_unordered.proofs.GroupsTaskLemmas.{one_leaves}
 use Rattle.futures_buffered_unordered.proofs.GroupsStepLemmas.{one_some, one_pending, one_last, one_left, All-removed}
 use Rattle.futures_buffered_unordered.specs.FuturesUnordered.{Growing, EachHeld, EachCovered}
 use Rattle.futures_buffered_unordered.proofs.FuturesUnorderedInvariantLemmas.{keeps_pending, keeps_output, keeps_ended_last, keeps_ended, covered_asked, still_asked, covered_at, counts_asked}
@@ -52,66 +51,70 @@ invariant_of-self-else-place-len g c =
 
 pub returns-in-Pending-clause-asked : goal.returns-in-Pending-clause-asked
 returns-in-Pending-clause-asked g c =
-    let asks = g.R.AskGroup.asks in
+    let polls = c.ask-answer.ensures.polls in
+    let asks = g.R.AskGroup.asks polls.stopped in
     let here = subst (λ (v : Growing g.row.F.Denot g.row.S.Denot). c.next_place-place.result ≡ next_place v.groups) (sym c.self.view_is) c.next_place-place.ensures.value in
     let within = subst (λ (v : Growing g.row.F.Denot g.row.S.Denot). c.next_place-place.result < length v.groups.listed) (sym c.self.view_is) c.next_place-place.ensures.below in
-    rw (← c.self.view_is) (one_pending asks _ _ _ _ _ c.in-Pending.is here within c.index_mut-group.ensures.value c.ask-answer.ensures.asked)
+    rw (← c.self.view_is) (record { stopped = polls.stopped; asked = one_pending asks _ _ _ _ _ c.in-Pending.is here within c.index_mut-group.ensures.value polls.asked; woken = polls.woken })
 
 pub returns-then-is_some-clause-asked : goal.returns-then-is_some-clause-asked
 returns-then-is_some-clause-asked g c =
-    let asks = g.R.AskGroup.asks in
+    let polls = c.ask-answer.ensures.polls in
+    let asks = g.R.AskGroup.asks polls.stopped in
     let here = subst (λ (v : Growing g.row.F.Denot g.row.S.Denot). c.next_place-place.result ≡ next_place v.groups) (sym c.self.view_is) c.next_place-place.ensures.value in
     let within = subst (λ (v : Growing g.row.F.Denot g.row.S.Denot). c.next_place-place.result < length v.groups.listed) (sym c.self.view_is) c.next_place-place.ensures.below in
-    rw (← c.self.view_is) (one_some asks _ _ _ _ _ _ c.in-Ready.is (search rules) here within c.index_mut-group.ensures.value c.ask-answer.ensures.asked)
+    rw (← c.self.view_is) (record { stopped = polls.stopped; asked = one_some asks _ _ _ _ _ _ c.in-Ready.is (search rules) here within c.index_mut-group.ensures.value polls.asked; woken = polls.woken })
 
 pub returns-then-place-len-clause-asked : goal.returns-then-place-len-clause-asked
 returns-then-place-len-clause-asked g c =
-    let asks = g.R.AskGroup.asks in
+    let polls = c.ask-answer.ensures.polls in
+    let asks = g.R.AskGroup.asks polls.stopped in
     let here = subst (λ (v : Growing g.row.F.Denot g.row.S.Denot). c.next_place-place.result ≡ next_place v.groups) (sym c.self.view_is) c.next_place-place.ensures.value in
     let within = subst (λ (v : Growing g.row.F.Denot g.row.S.Denot). c.next_place-place.result < length v.groups.listed) (sym c.self.view_is) c.next_place-place.ensures.below in
-    rw (← c.self.view_is) (one_last asks _ _ _ _ _ _ c.in-Ready.is (search rules) here within (search rules) c.index_mut-group.ensures.value c.ask-answer.ensures.asked)
+    rw (← c.self.view_is) (record { stopped = polls.stopped; asked = one_last asks _ _ _ _ _ _ c.in-Ready.is (search rules) here within (search rules) c.index_mut-group.ensures.value polls.asked; woken = polls.woken })
 
 pub returns-else-place-len-clause-asked : goal.returns-else-place-len-clause-asked
 returns-else-place-len-clause-asked g c =
-    let asks = g.R.AskGroup.asks in
+    let polls = c.ask-answer.ensures.polls in
+    let asks = g.R.AskGroup.asks polls.stopped in
     let here = subst (λ (v : Growing g.row.F.Denot g.row.S.Denot). c.next_place-place.result ≡ next_place v.groups) (sym c.self.view_is) c.next_place-place.ensures.value in
     let within = subst (λ (v : Growing g.row.F.Denot g.row.S.Denot). c.next_place-place.result < length v.groups.listed) (sym c.self.view_is) c.next_place-place.ensures.below in
-    rw (← c.self.view_is) (one_left asks _ _ _ _ _ _ _ c.in-Ready.is (search rules) here within (search rules) c.index_mut-group.ensures.value c.ask-answer.ensures.asked c.drop_group.ensures)
+    rw (← c.self.view_is) (record { stopped = polls.stopped; asked = one_left asks _ _ _ _ _ _ _ c.in-Ready.is (search rules) here within (search rules) c.index_mut-group.ensures.value polls.asked c.drop_group.ensures; woken = polls.woken })
 
 pub returns-in-Pending-clause-covered : goal.returns-in-Pending-clause-covered
 returns-in-Pending-clause-covered g c =
     let here = subst (λ (v : Growing g.row.F.Denot g.row.S.Denot). c.next_place-place.result ≡ next_place v.groups) (sym c.self.view_is) c.next_place-place.ensures.value in
     let within = subst (λ (v : Growing g.row.F.Denot g.row.S.Denot). c.next_place-place.result < length v.groups.listed) (sym c.self.view_is) c.next_place-place.ensures.below in
     let kept = c.ask-answer.ensures.keeps in
-    rw c.in-Pending.is (covered_asked g.S.ReadySource.needs _ _ _ _ _ _ _ c.self.invariant here within c.index_mut-group.ensures.value kept _ (subst (λ a. OnPending a (Covers c.ask-answer.new.cx (g.S.ReadySource.needs c.ask-answer.new.group.source))) c.in-Pending.is c.ask-answer.ensures.task.covered))
+    rw c.in-Pending.is (covered_asked g.S.ReadySource.needs _ _ _ _ _ _ _ c.self.invariant here within c.index_mut-group.ensures.value kept _ (subst (λ a. OnPending a (Covers c.ask-answer.new.cx (g.S.ReadySource.needs c.ask-answer.new.group.source))) c.in-Pending.is c.ask-answer.ensures.polls.covered))
 
 pub returns-in-Pending-clause-still_covered : goal.returns-in-Pending-clause-still_covered
 returns-in-Pending-clause-still_covered g c =
     let here = subst (λ (v : Growing g.row.F.Denot g.row.S.Denot). c.next_place-place.result ≡ next_place v.groups) (sym c.self.view_is) c.next_place-place.ensures.value in
     let within = subst (λ (v : Growing g.row.F.Denot g.row.S.Denot). c.next_place-place.result < length v.groups.listed) (sym c.self.view_is) c.next_place-place.ensures.below in
     let kept = c.ask-answer.ensures.keeps in
-    λ registered. still_asked g.S.ReadySource.needs _ _ _ _ _ _ _ c.self.invariant here within c.index_mut-group.ensures.value kept _ _ c.ask-answer.ensures.task.kept (subst (λ (v : Growing g.row.F.Denot g.row.S.Denot). EachCovered g.S.ReadySource.needs c.args.cx.now v.groups.listed) (sym c.self.view_is) (c.requires.registered registered))
+    λ registered. still_asked g.S.ReadySource.needs _ _ _ _ _ _ _ c.self.invariant here within c.index_mut-group.ensures.value kept _ _ c.ask-answer.ensures.polls.kept (subst (λ (v : Growing g.row.F.Denot g.row.S.Denot). EachCovered g.S.ReadySource.needs c.args.cx.now v.groups.listed) (sym c.self.view_is) (c.requires.registered registered))
 
 pub returns-then-is_some-clause-still_covered : goal.returns-then-is_some-clause-still_covered
 returns-then-is_some-clause-still_covered g c =
     let here = subst (λ (v : Growing g.row.F.Denot g.row.S.Denot). c.next_place-place.result ≡ next_place v.groups) (sym c.self.view_is) c.next_place-place.ensures.value in
     let within = subst (λ (v : Growing g.row.F.Denot g.row.S.Denot). c.next_place-place.result < length v.groups.listed) (sym c.self.view_is) c.next_place-place.ensures.below in
     let kept = c.ask-answer.ensures.keeps in
-    λ registered. still_asked g.S.ReadySource.needs _ _ _ _ _ _ _ c.self.invariant here within c.index_mut-group.ensures.value kept _ _ c.ask-answer.ensures.task.kept (subst (λ (v : Growing g.row.F.Denot g.row.S.Denot). EachCovered g.S.ReadySource.needs c.args.cx.now v.groups.listed) (sym c.self.view_is) (c.requires.registered registered))
+    λ registered. still_asked g.S.ReadySource.needs _ _ _ _ _ _ _ c.self.invariant here within c.index_mut-group.ensures.value kept _ _ c.ask-answer.ensures.polls.kept (subst (λ (v : Growing g.row.F.Denot g.row.S.Denot). EachCovered g.S.ReadySource.needs c.args.cx.now v.groups.listed) (sym c.self.view_is) (c.requires.registered registered))
 
 pub returns-then-place-len-clause-still_covered : goal.returns-then-place-len-clause-still_covered
 returns-then-place-len-clause-still_covered g c =
     let here = subst (λ (v : Growing g.row.F.Denot g.row.S.Denot). c.next_place-place.result ≡ next_place v.groups) (sym c.self.view_is) c.next_place-place.ensures.value in
     let within = subst (λ (v : Growing g.row.F.Denot g.row.S.Denot). c.next_place-place.result < length v.groups.listed) (sym c.self.view_is) c.next_place-place.ensures.below in
     let kept = c.ask-answer.ensures.keeps in
-    λ registered. still_asked g.S.ReadySource.needs _ _ _ _ _ _ _ c.self.invariant here within c.index_mut-group.ensures.value kept _ _ c.ask-answer.ensures.task.kept (subst (λ (v : Growing g.row.F.Denot g.row.S.Denot). EachCovered g.S.ReadySource.needs c.args.cx.now v.groups.listed) (sym c.self.view_is) (c.requires.registered registered))
+    λ registered. still_asked g.S.ReadySource.needs _ _ _ _ _ _ _ c.self.invariant here within c.index_mut-group.ensures.value kept _ _ c.ask-answer.ensures.polls.kept (subst (λ (v : Growing g.row.F.Denot g.row.S.Denot). EachCovered g.S.ReadySource.needs c.args.cx.now v.groups.listed) (sym c.self.view_is) (c.requires.registered registered))
 
 pub returns-else-place-len-clause-still_covered : goal.returns-else-place-len-clause-still_covered
 returns-else-place-len-clause-still_covered g c =
     let here = subst (λ (v : Growing g.row.F.Denot g.row.S.Denot). c.next_place-place.result ≡ next_place v.groups) (sym c.self.view_is) c.next_place-place.ensures.value in
     let within = subst (λ (v : Growing g.row.F.Denot g.row.S.Denot). c.next_place-place.result < length v.groups.listed) (sym c.self.view_is) c.next_place-place.ensures.below in
     let kept = c.ask-answer.ensures.keeps in
-    λ registered. rw c.drop_group.ensures (All-removed (λ (b : Bounded g.row.F.Denot g.row.S.Denot). Covers c.ask-answer.new.cx (g.S.ReadySource.needs b.source)) _ c.next_place-place.result (still_asked g.S.ReadySource.needs _ _ _ _ _ _ _ c.self.invariant here within c.index_mut-group.ensures.value kept _ _ c.ask-answer.ensures.task.kept (subst (λ (v : Growing g.row.F.Denot g.row.S.Denot). EachCovered g.S.ReadySource.needs c.args.cx.now v.groups.listed) (sym c.self.view_is) (c.requires.registered registered))))
+    λ registered. rw c.drop_group.ensures (All-removed (λ (b : Bounded g.row.F.Denot g.row.S.Denot). Covers c.ask-answer.new.cx (g.S.ReadySource.needs b.source)) _ c.next_place-place.result (still_asked g.S.ReadySource.needs _ _ _ _ _ _ _ c.self.invariant here within c.index_mut-group.ensures.value kept _ _ c.ask-answer.ensures.polls.kept (subst (λ (v : Growing g.row.F.Denot g.row.S.Denot). EachCovered g.S.ReadySource.needs c.args.cx.now v.groups.listed) (sym c.self.view_is) (c.requires.registered registered))))
 
 pub returns-else-place-len-clause-pollable : goal.returns-else-place-len-clause-pollable
 returns-else-place-len-clause-pollable g c =
@@ -124,31 +127,3 @@ overflow_sub-self g c = grind (arith, common_steps)
 
 pub overflow_sub-self-2 : goal.overflow_sub-self-2
 overflow_sub-self-2 g c = grind (arith, common_steps)
-
-pub returns-in-Pending-clause-leaves : goal.returns-in-Pending-clause-leaves
-returns-in-Pending-clause-leaves g c =
-    let rule = g.R.AskGroup in
-    let here = subst (λ (v : Growing g.row.F.Denot g.row.S.Denot). c.next_place-place.result ≡ next_place v.groups) (sym c.self.view_is) c.next_place-place.ensures.value in
-    let within = subst (λ (v : Growing g.row.F.Denot g.row.S.Denot). c.next_place-place.result < length v.groups.listed) (sym c.self.view_is) c.next_place-place.ensures.below in
-    rw (← c.self.view_is) (one_leaves rule.asks rule.asks_to_empty rule.stops (OnlyRegisters g.S.ReadySource.registers_poll) _ _ _ _ _ _ _ (λ asks_now asked. one_pending asks_now _ _ _ _ _ c.in-Pending.is here within c.index_mut-group.ensures.value asked) c.ask-answer.ensures.asked c.ask-answer.ensures.task.leaves)
-
-pub returns-then-is_some-clause-leaves : goal.returns-then-is_some-clause-leaves
-returns-then-is_some-clause-leaves g c =
-    let rule = g.R.AskGroup in
-    let here = subst (λ (v : Growing g.row.F.Denot g.row.S.Denot). c.next_place-place.result ≡ next_place v.groups) (sym c.self.view_is) c.next_place-place.ensures.value in
-    let within = subst (λ (v : Growing g.row.F.Denot g.row.S.Denot). c.next_place-place.result < length v.groups.listed) (sym c.self.view_is) c.next_place-place.ensures.below in
-    rw (← c.self.view_is) (one_leaves rule.asks rule.asks_to_empty rule.stops (OnlyRegisters g.S.ReadySource.registers_poll) _ _ _ _ _ _ _ (λ asks_now asked. one_some asks_now _ _ _ _ _ _ c.in-Ready.is (search rules) here within c.index_mut-group.ensures.value asked) c.ask-answer.ensures.asked c.ask-answer.ensures.task.leaves)
-
-pub returns-then-place-len-clause-leaves : goal.returns-then-place-len-clause-leaves
-returns-then-place-len-clause-leaves g c =
-    let rule = g.R.AskGroup in
-    let here = subst (λ (v : Growing g.row.F.Denot g.row.S.Denot). c.next_place-place.result ≡ next_place v.groups) (sym c.self.view_is) c.next_place-place.ensures.value in
-    let within = subst (λ (v : Growing g.row.F.Denot g.row.S.Denot). c.next_place-place.result < length v.groups.listed) (sym c.self.view_is) c.next_place-place.ensures.below in
-    rw (← c.self.view_is) (one_leaves rule.asks rule.asks_to_empty rule.stops (OnlyRegisters g.S.ReadySource.registers_poll) _ _ _ _ _ _ _ (λ asks_now asked. one_last asks_now _ _ _ _ _ _ c.in-Ready.is (search rules) here within (search rules) c.index_mut-group.ensures.value asked) c.ask-answer.ensures.asked c.ask-answer.ensures.task.leaves)
-
-pub returns-else-place-len-clause-leaves : goal.returns-else-place-len-clause-leaves
-returns-else-place-len-clause-leaves g c =
-    let rule = g.R.AskGroup in
-    let here = subst (λ (v : Growing g.row.F.Denot g.row.S.Denot). c.next_place-place.result ≡ next_place v.groups) (sym c.self.view_is) c.next_place-place.ensures.value in
-    let within = subst (λ (v : Growing g.row.F.Denot g.row.S.Denot). c.next_place-place.result < length v.groups.listed) (sym c.self.view_is) c.next_place-place.ensures.below in
-    rw (← c.self.view_is) (one_leaves rule.asks rule.asks_to_empty rule.stops (OnlyRegisters g.S.ReadySource.registers_poll) _ _ _ _ _ _ _ (λ asks_now asked. one_left asks_now _ _ _ _ _ _ _ c.in-Ready.is (search rules) here within (search rules) c.index_mut-group.ensures.value asked c.drop_group.ensures) c.ask-answer.ensures.asked c.ask-answer.ensures.task.leaves)

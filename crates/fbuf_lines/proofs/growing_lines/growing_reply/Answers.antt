@@ -1,0 +1,6 @@
+use Rattle.fbuf_lines.proofs.growing_lines.growing_reply.Goals as goal
+
+pub returns-in-Poll-clause-reply : goal.returns-in-Poll-clause-reply
+returns-in-Poll-clause-reply c =
+    let poll = c.poll_with.ensures.groups in
+    rw c.in-Poll.is (c.poll_with.result, c.of_poll.ensures, (poll.stopped, poll.gave, poll.limit))
