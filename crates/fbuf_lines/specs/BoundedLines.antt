@@ -5,8 +5,7 @@ use Rattle.futures_buffered_table.specs.declared.answer.Woke.{Woke}
 use Rattle.futures_buffered_core.specs.ReadyCore.{Standing, Marks, Takes}
 use Rattle.futures_buffered_core.specs.ReadySource.{SourceSteps}
 use Rattle.futures_buffered_core.specs.SlotMap.{no_slots, slot_count, held_count}
-use Rattle.futures_buffered_unordered.specs.FuturesUnorderedBounded.{Bounded, Pushes}
-use Rattle.futures_buffered_unordered.specs.FuturesUnorderedBounded.{PollGives}
+use Rattle.futures_buffered_unordered.specs.FuturesUnorderedBounded.{Bounded, Pushes, PollGives}
 use Rattle.fbuf_lines.specs.ReadyAfter.{PollsReadyAfter}
 use Rattle.fbuf_lines.specs.Reply.{woke_reply, poll_reply}
 use Rattle.fbuf_lines.specs.declared.ready_after.ReadyAfter.{ReadyAfter}
@@ -38,8 +37,7 @@ core_steps = record { registers = λ before after. after ≡ before; takes = Tak
 
 -- one poll of the set
 abbrev pub PollsSet : ScriptBounded → PollAnswer (Option ℕ) → ScriptBounded → Type 0
-PollsSet old answer new =
-    PollGives (λ _. PollsReadyAfter) core_steps old answer new
+PollsSet old answer new = PollGives (λ _. PollsReadyAfter) core_steps old answer new
 
 -- one mark of a slot that is there
 pub record MarksSlotThere

@@ -1,14 +1,12 @@
 -- How a script writes its commands.
-use Rattle.std.specs.Prelude.{◌≡◌, ◌≢◌, ℕ, ◌^◌, ◌<◌, ◌≤◌, false, List, [], ◌∷◌, ◌++◌, ◌==◌}
-use Rattle.std.specs.Prelude.{Option, Some, None, codes, length, slice_index}
+use Rattle.std.specs.Prelude.{◌≡◌, ◌≢◌, ℕ, ◌^◌, ◌<◌, ◌≤◌, false, List, [], ◌∷◌, ◌++◌, ◌==◌, Option, Some, None, codes}
+use Rattle.std.specs.Prelude.{length, slice_index}
 use Rattle.std.specs.Borrow.{Bor}
 use Rattle.std.specs.List.{AllByRecursion, flat_map, list_any}
 use Rattle.std.specs.Fmt.{decimal}
 use Rattle.fbuf_lines.specs.declared.command.Command.{Command}
-use Rattle.fbuf_lines.specs.declared.command.Command.TheVariants.{Unordered, Ordered, Growing}
-use Rattle.fbuf_lines.specs.declared.command.Command.TheVariants.{Steps, Limit}
-use Rattle.fbuf_lines.specs.declared.command.Command.TheVariants.{Push, Back, Front, Wake, Poll}
-use Rattle.fbuf_lines.specs.declared.command.Command.TheVariants.{Len, Mark, Go, Step}
+use Rattle.fbuf_lines.specs.declared.command.Command.TheVariants.{Unordered, Ordered, Growing, Steps, Limit, Push, Back}
+use Rattle.fbuf_lines.specs.declared.command.Command.TheVariants.{Front, Wake, Poll, Len, Mark, Go, Step}
 
 -- the word that a command begins with
 abbrev pub command_word : Command → List ℕ

@@ -4,10 +4,9 @@ use Rattle.futures.specs.declared.task.Poll.{Poll as PollAnswer}
 use Rattle.futures_buffered_core.specs.ReadyCore.{Standing, Marks}
 use Rattle.futures_buffered_unordered.specs.FuturesUnorderedBounded.{PollAsks}
 use Rattle.futures_buffered_unordered.specs.Groups.{GroupsGive}
-use Rattle.futures_buffered_unordered.specs.FuturesUnordered.{Growing, GrowingPushes, IsAtBound}
-use Rattle.futures_buffered_unordered.specs.FuturesUnordered.{held_in_all, spare_places}
-use Rattle.futures_buffered_unordered.specs.declared.futures_unordered.TheConstants.{FIRST_GROUP}
-use Rattle.futures_buffered_unordered.specs.declared.futures_unordered.TheConstants.{MAX_HELD}
+use Rattle.futures_buffered_unordered.specs.FuturesUnordered.{Growing, GrowingPushes, IsAtBound, held_in_all}
+use Rattle.futures_buffered_unordered.specs.FuturesUnordered.{spare_places}
+use Rattle.futures_buffered_unordered.specs.declared.futures_unordered.TheConstants.{FIRST_GROUP, MAX_HELD}
 use Rattle.fbuf_lines.specs.Reply.{poll_reply}
 use Rattle.fbuf_lines.specs.BoundedLines.{IsNewStanding, core_steps}
 use Rattle.fbuf_lines.specs.ReadyAfter.{PollsReadyAfter}
@@ -21,8 +20,7 @@ use Rattle.fbuf_lines.specs.declared.reply.Reply.TheVariants.{Done, Count, Bad}
 abbrev pub ScriptGrowing : Type 0
 ScriptGrowing = Growing ReadyAfter Standing
 
--- one poll of the groups of a growing set, each polled as a bounded set is, whether or not one
--- stopped; the limit stays
+-- one poll of the groups of a growing set, each polled as a bounded set is, whether or not one stopped; the limit stays
 abbrev pub PollsGrowingLine : ScriptGrowing → PollAnswer (Option ℕ) → ScriptGrowing → Type 0
 PollsGrowingLine old answer new = (stopped : Bool)
     × GroupsGive (PollAsks (λ _. PollsReadyAfter) core_steps) old.groups answer stopped new.groups
@@ -41,9 +39,8 @@ GrowingGives old Poll reply new =
 GrowingGives old Len reply new = (reply ≡ Count (held_in_all old.groups.listed)) × (new ≡ old)
 GrowingGives old command reply new = (reply ≡ Bad) × (new ≡ old)
 
--- a command that may lack memory is a push where as many futures are held as a set may hold, or
--- where the last group is full
+-- a command that may lack memory is a push where as many futures are held as a set may hold, or where the last group is
+-- full
 abbrev pub GrowingMayLack : ScriptGrowing → Command → Type 0
-GrowingMayLack old (Push future) =
-    (held_in_all old.groups.listed ≡ MAX_HELD) ⊎ (spare_places old.groups.listed ≡ 0)
+GrowingMayLack old (Push future) = (held_in_all old.groups.listed ≡ MAX_HELD) ⊎ (spare_places old.groups.listed ≡ 0)
 GrowingMayLack old command = ⊥

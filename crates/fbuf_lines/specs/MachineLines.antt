@@ -12,8 +12,7 @@ use Rattle.fbuf_lines.specs.declared.reply.Reply.TheVariants.{Stuck, Bad}
 
 -- one step that the machine can make
 abbrev pub RepliesToStep : Machine → StepOf → Reply → Machine → Type 0
-RepliesToStep old step reply new =
-    (answer : StepReply) × (reply ≡ step_reply answer) × MakesStep old step new answer
+RepliesToStep old step reply new = (answer : StepReply) × (reply ≡ step_reply answer) × MakesStep old step new answer
 
 -- the step was made, or it cannot be made and nothing changed
 abbrev pub StepGives : Machine → StepOf → Reply → Machine → Type 0

@@ -6,8 +6,7 @@ use Rattle.futures_buffered_core.specs.ReadyCore.{Standing, Marks}
 use Rattle.futures_buffered_core.specs.SlotMap.{slot_count}
 use Rattle.futures_buffered_unordered.specs.FuturesUnorderedBounded.{held_in}
 use Rattle.futures_buffered_ordered.specs.OrderedEntries.{AddsBack, AddsFront, OrderedGives}
-use Rattle.futures_buffered_ordered.specs.FuturesOrderedBounded.{OrderedBounded, QueueIsFull}
-use Rattle.futures_buffered_ordered.specs.FuturesOrderedBounded.{PushesNumber, SetGives}
+use Rattle.futures_buffered_ordered.specs.FuturesOrderedBounded.{OrderedBounded, QueueIsFull, PushesNumber, SetGives}
 use Rattle.fbuf_lines.specs.ReadyAfter.{PollsReadyAfter}
 use Rattle.fbuf_lines.specs.Reply.{woke_reply, poll_reply}
 use Rattle.fbuf_lines.specs.BoundedLines.{MarksSlotThere, core_steps}
@@ -36,8 +35,7 @@ FrontGives = QueuePushGives (AddsFront (PushesNumber Marks))
 
 -- one poll of the queue
 abbrev pub PollsOrderedLine : ScriptOrdered → PollAnswer (Option ℕ) → ScriptOrdered → Type 0
-PollsOrderedLine old answer new =
-    OrderedGives (SetGives (λ _. PollsReadyAfter) core_steps) held_in old answer new
+PollsOrderedLine old answer new = OrderedGives (SetGives (λ _. PollsReadyAfter) core_steps) held_in old answer new
 
 -- one mark of a slot of the queue's set
 abbrev pub MarksQueue : ScriptOrdered → ℕ → Woke → ScriptOrdered → Type 0

@@ -9,10 +9,8 @@ use Rattle.futures_buffered_table.specs.declared.answer.Taken.TheVariants as tak
 use Rattle.futures_buffered_table.specs.declared.step.StepReply.{StepReply}
 use Rattle.futures_buffered_table.specs.declared.step.StepReply.TheVariants as replied
 use Rattle.fbuf_lines.specs.declared.reply.Reply.{Reply}
-use Rattle.fbuf_lines.specs.declared.reply.Reply.TheVariants.{Done, Full, TooLarge, Output}
-use Rattle.fbuf_lines.specs.declared.reply.Reply.TheVariants.{Pending, Ended, Fresh, Already}
-use Rattle.fbuf_lines.specs.declared.reply.Reply.TheVariants.{Count, More, Slot, Empty}
-use Rattle.fbuf_lines.specs.declared.reply.Reply.TheVariants.{Pause, Stuck, Bad}
+use Rattle.fbuf_lines.specs.declared.reply.Reply.TheVariants.{Done, Full, TooLarge, Output, Pending, Ended, Fresh}
+use Rattle.fbuf_lines.specs.declared.reply.Reply.TheVariants.{Already, Count, More, Slot, Empty, Pause, Stuck, Bad}
 
 -- the reply to a mark
 abbrev pub woke_reply : Woke → Reply

@@ -14,15 +14,14 @@ use Rattle.fbuf_lines.specs.OrderedLines.{ScriptOrdered, QueueGives, QueueMayLac
 use Rattle.fbuf_lines.specs.GrowingLines.{ScriptGrowing, GrowingGives, GrowingMayLack}
 use Rattle.fbuf_lines.specs.MachineLines.{MachineGives}
 use Rattle.fbuf_lines.specs.declared.command.Command.{Command}
-use Rattle.fbuf_lines.specs.declared.command.Command.TheVariants.{Unordered, Ordered, Growing}
-use Rattle.fbuf_lines.specs.declared.command.Command.TheVariants.{Steps, Limit}
+use Rattle.fbuf_lines.specs.declared.command.Command.TheVariants.{Unordered, Ordered, Growing, Steps, Limit}
 use Rattle.fbuf_lines.specs.declared.reply.Reply.{Reply}
 use Rattle.fbuf_lines.specs.declared.reply.Reply.TheVariants.{Done, TooLarge, Bad}
 use Rattle.fbuf_lines.specs.declared.session.Target.{Target}
 use Rattle.fbuf_lines.specs.declared.session.Target.TheVariants as target
 
--- how far a script has come: what was begun last, and the limit of the sets that are begun from
--- now on, which is how many names one poll of theirs takes at most
+-- how far a script has come: what was begun last, and the limit of the sets that are begun from now on, which is how
+-- many names one poll of theirs takes at most
 pub record ScriptSession : Type 0 where
   pub target : Target
   pub limit : ℕ
@@ -70,8 +69,7 @@ BeginsGrowing old capacity reply new =
 
 -- a target that is a machine with no step made
 abbrev pub IsNewMachine : ℕ → Target → Type 0
-IsNewMachine capacity new =
-    (machine : Machine) × IsNew capacity machine × (new ≡ target.Steps machine)
+IsNewMachine capacity new = (machine : Machine) × IsNew capacity machine × (new ≡ target.Steps machine)
 
 -- a line that begins a machine
 abbrev pub BeginsMachine : ScriptSession → ℕ → Reply → ScriptSession → Type 0
@@ -105,8 +103,7 @@ CommandGives old (Ordered capacity) reply new = BeginsQueue old capacity reply n
 CommandGives old (Growing capacity) reply new = BeginsGrowing old capacity reply new
 CommandGives old (Steps capacity) reply new = BeginsMachine old capacity reply new
 CommandGives old (Limit limit) reply new = SetsLimit old limit reply new
-CommandGives old command reply new =
-    TargetGives old.target command reply new.target × (new.limit ≡ old.limit)
+CommandGives old command reply new = TargetGives old.target command reply new.target × (new.limit ≡ old.limit)
 
 -- one line: what it asks for, or `bad`
 abbrev pub LineGives : ScriptSession → List ℕ → Reply → ScriptSession → Type 0
@@ -116,9 +113,8 @@ LineGives old line reply new =
     × MatchOption asked ((reply ≡ Bad) × (new ≡ old))
     (λ command. CommandGives old command reply new)
 
--- a command that may lack memory: it begins something that is not too large, or it is one to a
--- growing
--- set or to an ordered queue
+-- a command that may lack memory: it begins something that is not too large, or it is one to a growing set or to an
+-- ordered queue
 abbrev pub MayLackMemory : Target → Command → Type 0
 MayLackMemory old (Unordered capacity) = capacity ≤ MAX_CAPACITY
 MayLackMemory old (Ordered capacity) = capacity ≤ MAX_CAPACITY
@@ -130,8 +126,7 @@ MayLackMemory old command = ⊥
 
 -- a target is as it was, but that a queue may have a place for more entries
 abbrev pub StaysTarget : Target → Target → Type 0
-StaysTarget (target.Ordered old) new = (queue : ScriptOrdered) × Stays old queue
-    × (new ≡ target.Ordered queue)
+StaysTarget (target.Ordered old) new = (queue : ScriptOrdered) × Stays old queue × (new ≡ target.Ordered queue)
 StaysTarget old new = new ≡ old
 
 -- the same of a script, whose limit stays
@@ -140,5 +135,4 @@ StaysSession old new = StaysTarget old.target new.target × (new.limit ≡ old.l
 
 -- a line that asks for such a command
 abbrev pub LineMayLackMemory : ScriptSession → List ℕ → Type 0
-LineMayLackMemory old line =
-    (command : Command) × LineAsksFor line (Some command) × MayLackMemory old.target command
+LineMayLackMemory old line = (command : Command) × LineAsksFor line (Some command) × MayLackMemory old.target command

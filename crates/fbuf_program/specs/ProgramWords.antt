@@ -1,6 +1,5 @@
 -- What the program's words ask for, what it says of a fault, and the status that it ends with.
-use Rattle.std.specs.Prelude.{◌≡◌, ◌≢◌, ℕ, ◌≤◌, List, [], ◌∷◌, Option, Some, None, codes}
-use Rattle.std.specs.Prelude.{Result, Ok, Err, IfSome}
+use Rattle.std.specs.Prelude.{◌≡◌, ◌≢◌, ℕ, ◌≤◌, List, [], ◌∷◌, Option, Some, None, codes, Result, Ok, Err, IfSome}
 use Rattle.std.specs.Fmt.{decimal}
 use Rattle.fbuf_program.specs.Script.{AppendsReplies, AppendsPartOfReplies}
 use Rattle.fbuf_program.specs.Threads.{AppendsThreadsLine}
@@ -12,8 +11,7 @@ use Rattle.fbuf_program.specs.declared.threads.TheConstants.{MAX_THREADS, MAX_WA
 use Rattle.fbuf_program.specs.declared.program_words.Call.{Call}
 use Rattle.fbuf_program.specs.declared.program_words.Call.TheVariants.{Script, Threads}
 use Rattle.fbuf_program.specs.declared.program_words.Fault.{Fault}
-use Rattle.fbuf_program.specs.declared.program_words.Fault.TheVariants.{Usage, Memory, Read, Write}
-use Rattle.fbuf_program.specs.declared.program_words.Fault.TheVariants.{Start}
+use Rattle.fbuf_program.specs.declared.program_words.Fault.TheVariants.{Usage, Memory, Read, Write, Start}
 
 -- behind the program's name, on a line of standard error
 abbrev pub message_of : Fault → List ℕ
@@ -39,8 +37,7 @@ ended_status (Err fault) = status_of fault
 -- a run has 1 to 32 threads, of 1 to 1000000 wakes each
 abbrev pub IsInBounds : Call → Type 0
 IsInBounds Script = Unit {0}
-IsInBounds (Threads threads wakes) =
-    (1 ≤ threads) × (threads ≤ MAX_THREADS) × (1 ≤ wakes) × (wakes ≤ MAX_WAKES)
+IsInBounds (Threads threads wakes) = (1 ≤ threads) × (threads ≤ MAX_THREADS) × (1 ≤ wakes) × (wakes ≤ MAX_WAKES)
 
 -- how a call is written, behind the program's name
 abbrev pub words_of : Call → List (List ℕ)

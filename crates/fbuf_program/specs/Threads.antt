@@ -1,6 +1,5 @@
 -- The line that a run of threads writes, and the numbers that the futures of its set give.
-use Rattle.std.specs.Prelude.{◌≡◌, ℕ, ◌+◌, ◌*◌, ◌==◌, ◌≤◌, Bool, false, List, ◌++◌, Option, Some, None}
-use Rattle.std.specs.Prelude.{codes, count_by}
+use Rattle.std.specs.Prelude.{◌≡◌, ℕ, ◌+◌, ◌*◌, ◌==◌, ◌≤◌, Bool, false, List, ◌++◌, Option, Some, None, codes, count_by}
 use Rattle.std.specs.List.{flat_map, range_with_len}
 use Rattle.std.specs.Option.{option_to_list}
 use Rattle.std.specs.Fmt.{decimal}
@@ -14,9 +13,7 @@ use Rattle.fbuf_program.specs.declared.threads.AllWakes.{AllWakes}
 
 -- how many threads ran, and how many wakes they made together
 abbrev pub threads_text : ℕ → ℕ → List ℕ
-threads_text n wakes =
-    codes "threads "
-    ++ (decimal n ++ (codes " wakes " ++ (decimal wakes ++ codes " outputs")))
+threads_text n wakes = codes "threads " ++ (decimal n ++ (codes " wakes " ++ (decimal wakes ++ codes " outputs")))
 
 -- the same, what the futures answered, and the end of the line
 abbrev pub threads_line : ℕ → ℕ → List ℕ → List ℕ
@@ -33,8 +30,7 @@ times_in numbers k = count_by (λ number. number == k) numbers
 module _ {R : Type 0} where
   -- a poll leaves a future its number, which is all that it answers
   abbrev pub AnswersNumber : ℕ → AllWakes R → Poll ℕ → AllWakes R → Type 0
-  AnswersNumber slot old answer new = (new.number ≡ old.number)
-      × IfReady answer (λ number. number ≡ old.number)
+  AnswersNumber slot old answer new = (new.number ≡ old.number) × IfReady answer (λ number. number ≡ old.number)
 
   -- what a slot holds has this number
   abbrev pub is_numbered : ℕ → Option (AllWakes R) → Bool
@@ -51,8 +47,7 @@ module _ {R : Type 0} where
 
   -- a future that was held gave its number, and is gone; or none gave one
   abbrev pub GaveNumber : Slots (AllWakes R) → Option ℕ → Slots (AllWakes R) → Type 0
-  GaveNumber old given new = (k : ℕ)
-      → times_in (option_to_list given) k + times_held new k ≡ times_held old k
+  GaveNumber old given new = (k : ℕ) → times_in (option_to_list given) k + times_held new k ≡ times_held old k
 
   -- each future that is held gives its number once, and then the end comes
   pub record GiveNumbers (slots : Slots (AllWakes R)) (xs : List ℕ)

@@ -1,9 +1,8 @@
--- One call of a buffer, which draws from a stream while there is room and then polls its queue
--- once, unless a push handed back an answer; what many calls make together; and what may come. The
--- queue may be any that has a number of entries, a push and a poll.
-use Rattle.std.specs.Prelude.{◌≡◌, ℕ, ◌+◌, ◌-◌, ◌<◌, ◌≤◌, ◌^◌, List, [], ◌++◌, Option, Some, None}
-use Rattle.std.specs.Prelude.{IfSome, IfNone, IsSomeAnd, Bool, true, false, ◌⊎◌, cond, min}
-use Rattle.std.specs.Prelude.{nat_lt, refl, filter_map, flat_map}
+-- One call of a buffer, which draws from a stream while there is room and then polls its queue once, unless a push
+-- handed back an answer; what many calls make together; and what may come. The queue may be any that has a number of
+-- entries, a push and a poll.
+use Rattle.std.specs.Prelude.{◌≡◌, ℕ, ◌+◌, ◌-◌, ◌<◌, ◌≤◌, ◌^◌, List, [], ◌++◌, Option, Some, None, IfSome, IfNone}
+use Rattle.std.specs.Prelude.{IsSomeAnd, Bool, true, false, ◌⊎◌, cond, min, nat_lt, refl, filter_map, flat_map}
 use Rattle.std.specs.declared.ops.ControlFlow.{ControlFlow}
 use Rattle.std.specs.declared.ops.ControlFlow.TheVariants.{Continue, Break}
 use Rattle.std.specs.Option.{option_and_then}
@@ -36,8 +35,8 @@ buffer_code {St} {Q} stream_code queue_code =
     (λ p. record { stream = p.0; queue = p.1 })
     (λ _. refl)
 
--- one poll of a stream, in the words of `futures`: its answer was one that might come, and what may
--- come after it might come before
+-- one poll of a stream, in the words of `futures`: its answer was one that might come, and what may come after it might
+-- come before
 pub record PollsStream {St F : Type 0} (yields : St → Runs F) (old : St) (answer : Poll (Option F))
     (new : St) : Type 0 where
   pub value : IfReady answer (yields old [])
@@ -74,13 +73,11 @@ module _ {St A Q : Type 0} (polls : Q → Poll (Option A) → Q → Type 0) wher
     pub same_stream : new.stream ≡ old.stream
     pub gives : answer ≡ answer_from old.stream queue_answer
 
-  -- how a call ends once it has drawn: with the answer that was handed back, where the queue is not
-  -- polled and `task_stays` holds; or else with a poll of the queue
-  abbrev pub CallEnds : Type 0 → Option A → Buffering St Q → Poll (Option A) → Buffering St Q
-      → Type 0
+  -- how a call ends once it has drawn: with the answer that was handed back, where the queue is not polled and
+  -- `task_stays` holds; or else with a poll of the queue
+  abbrev pub CallEnds : Type 0 → Option A → Buffering St Q → Poll (Option A) → Buffering St Q → Type 0
   CallEnds task_stays None filled answer new = AsksQueue filled answer new
-  CallEnds task_stays (Some x) filled answer new =
-      (answer ≡ Ready (Some x)) × (new ≡ filled) × task_stays
+  CallEnds task_stays (Some x) filled answer new = (answer ≡ Ready (Some x)) × (new ≡ filled) × task_stays
 
 module _ {St X Q : Type 0} (next : St → Poll (Option X) → St → Type 0) (count : Q → ℕ) (n : ℕ) where
   -- the stream was polled: it had not ended, and fewer than n were held
@@ -94,8 +91,8 @@ module _ {St X Q : Type 0} (next : St → Poll (Option X) → St → Type 0) (co
   abbrev pub HasNoTurn : Buffering St Q → Type 0
   HasNoTurn old = (old.stream ≡ None) ⊎ (n ≤ count old.queue)
 
-  -- no item came: the stream was not polled, since it has ended or nothing more fits; or it was
-  -- pending; or it ended and was dropped
+  -- no item came: the stream was not polled, since it has ended or nothing more fits; or it was pending; or it ended
+  -- and was dropped
   abbrev pub DrawsNone : Buffering St Q → Buffering St Q → Type 0
   DrawsNone old new = (HasNoTurn old × (new ≡ old))
       ⊎ (((left : St) × AsksStream old Pending left × (new ≡ record old { stream = Some left }))
@@ -116,15 +113,14 @@ module _ {St X Q : Type 0} (next : St → Poll (Option X) → St → Type 0) (co
     DrawsLast old (Some answer) new = (item : X) × DrawsItem (Some answer) old item new
 
     -- at most one item is drawn, and drawing goes on only where it is held
-    abbrev pub DrawsUpToOne : Buffering St Q → ControlFlow (Option A) (Unit {0})
-        → Buffering St Q → Type 0
+    abbrev pub DrawsUpToOne : Buffering St Q → ControlFlow (Option A) (Unit {0}) → Buffering St Q → Type 0
     DrawsUpToOne old (Continue _) new = (item : X)
         × DrawsItem None old item new
         × (count new.queue ≡ count old.queue + 1)
     DrawsUpToOne old (Break given) new = DrawsLast old given new
 
-    -- these items came one after another and were pushed, each while fewer than n were held, and
-    -- then drawing ended: what was pushed stays held
+    -- these items came one after another and were pushed, each while fewer than n were held, and then drawing ended:
+    -- what was pushed stays held
     pub record DrawsAll (old : Buffering St Q) (drawn : List X) (given : Option A)
         (new : Buffering St Q) : Type 0 where
       pub full : Buffering St Q
@@ -144,8 +140,8 @@ module _ {St X Q : Type 0} (next : St → Poll (Option X) → St → Type 0) (co
       abbrev pub CallGivesWith : Buffering St Q → Poll (Option A) → Buffering St Q → Type 0
       CallGivesWith old answer new = (drawn : List X) × BufferCall old drawn answer new
 
-    -- many calls in a row, each with the items that it drew and with its answer, of which no more
-    -- is said where the queue is not polled
+    -- many calls in a row, each with the items that it drew and with its answer, of which no more is said where the
+    -- queue is not polled
     abbrev pub CallsInTurn : (Q → Poll (Option A) → Q → Type 0) → Buffering St Q
         → List (List X × Poll (Option A)) → Buffering St Q → Type 0
     CallsInTurn polls = FoldsTo (λ old call new. BufferCall polls (Unit {0}) old call.0 call.1 new)
@@ -155,8 +151,8 @@ abbrev pub handed_back : {A : Type 0} → ControlFlow (Option A) (Unit {0}) → 
 handed_back (Continue _) = None
 handed_back (Break given) = given
 
--- What drawing leaves of a buffer. `can_draw` says whether items may be drawn, `yields` what may
--- come from the buffer, and `gave` is the answer that came in place of an item, if one did.
+-- What drawing leaves of a buffer. `can_draw` says whether items may be drawn, `yields` what may come from the buffer,
+-- and `gave` is the answer that came in place of an item, if one did.
 pub record DrawsBuffer
     {St A Q : Type 0}
     (count room : Q → ℕ)
@@ -179,8 +175,8 @@ pub record DrawsBuffer
   -- what may come after it might have come behind it
   pub after : IfSome gave (λ x. After (yields old) x (yields new))
 
--- What drawing leaves of the task, which it took from cx to left. `none_came` holds where drawing
--- stopped because no item came.
+-- What drawing leaves of the task, which it took from cx to left. `none_came` holds where drawing stopped because no
+-- item came.
 pub record DrawsTask
     {St X Q : Type 0}
     (next : St → Poll (Option X) → St → Type 0)
@@ -191,23 +187,22 @@ pub record DrawsTask
     (cx left : Context)
     : Type 0 where
   -- where there is room left, the task hears of the stream, unless that has ended
-  pub covered : none_came → count new.queue < room new.queue
-      → IfSome new.stream (λ stream. Covers left (needs stream))
+  pub covered : none_came → count new.queue < room new.queue → IfSome new.stream (λ stream. Covers left (needs stream))
   -- where the stream was not polled, the task is as it was
   pub no_turn : HasNoTurn next count (room old.queue) old → left ≡ cx
   -- nothing of the task is lost
   pub kept : Keeps cx left
 
--- The stream may be polled, unless it has ended; each item that may still come is fit to be drawn;
--- and the queue may be polled.
+-- The stream may be polled, unless it has ended; each item that may still come is fit to be drawn; and the queue may be
+-- polled.
 pub record CanDraw {St X Q : Type 0} (can_next : St → Type 0) (yields : St → Runs X)
     (is_fit : X → Type 0) (can_poll : Q → Type 0) (b : Buffering St Q) : Type 0 where
   pub stream : IfSome b.stream can_next
   pub to_come : IfSome b.stream (λ stream. AllItems (yields stream) is_fit)
   pub held : can_poll b.queue
 
--- where a pending call waits: with the queue, if anything is held; with the stream, if it has not
--- ended and there is room
+-- where a pending call waits: with the queue, if anything is held; with the stream, if it has not ended and there is
+-- room
 abbrev pub WaitsAt : {St Q : Type 0} → (St → ℕ → Type 0) → (Q → ℕ → Type 0) → (Q → ℕ) → (Q → ℕ)
     → Buffering St Q → ℕ → Type 0
 WaitsAt stream_needs queue_needs count room b place =
@@ -220,13 +215,11 @@ module _ {St X A Q : Type 0} (yields : St → Runs X) (item_gives : X → A → 
   abbrev pub OneComes : Buffering St Q → A → Type 0
   OneComes b x = MayCome (comes b.queue) x ⊎ AnyItemGives item_gives (Ahead yields b.stream) x
 
-  -- as many answers as are held and as items come from the stream, each of one of these, and then
-  -- the end
+  -- as many answers as are held and as items come from the stream, each of one of these, and then the end
   abbrev pub Comes : Buffering St Q → Runs A
   Comes b = GathersWith (OneComes b) (count b.queue) (Ahead yields b.stream)
 
-  -- all that comes from the queue; then an answer of each item that comes from the stream, in
-  -- order; and then the end
+  -- all that comes from the queue; then an answer of each item that comes from the stream, in order; and then the end
   abbrev pub ComesInTurn : Buffering St Q → Runs A
   ComesInTurn b = Chains (comes b.queue) (Resolves item_gives (Ahead yields b.stream))
 
@@ -236,28 +229,23 @@ module _ {St X A Q : Type 0} (yields : St → Runs X) (item_gives : X → A → 
   BufferGives false b = Comes b
 
 -- a buffer over such a stream and such a queue can be polled
-abbrev pub CanPollBuffer : {St X A Q : Type 0}
-    → StreamOf St X → FutureQueueOf Q X A → Buffering St Q → Type 0
+abbrev pub CanPollBuffer : {St X A Q : Type 0} → StreamOf St X → FutureQueueOf Q X A → Buffering St Q → Type 0
 CanPollBuffer stream queue = CanDraw stream.can_poll stream.yields queue.is_fit queue.can_poll
 
 -- the ghost members of a buffer as a stream
-abbrev pub buffer_of : {St X A Q : Type 0}
-    → StreamOf St X → FutureQueueOf Q X A → StreamOf (Buffering St Q) A
+abbrev pub buffer_of : {St X A Q : Type 0} → StreamOf St X → FutureQueueOf Q X A → StreamOf (Buffering St Q) A
 buffer_of stream queue = stream_of
     (CanPollBuffer stream queue)
     (WaitsAt stream.needs queue.needs queue.count queue.room)
     (BufferGives stream.yields queue.gives queue.count queue.yields queue.in_order)
 
 -- a poll of the queue that takes the task from one context to another, as the queue leaves it
-abbrev pub PollsWithTask : {Q A : Type 0}
-    → (Q → Poll (Option A) → Q → Type 0)
-    → (Q → Poll (Option A) → Q → Context → Context → Type 0)
-    → Context → Context → Q → Poll (Option A) → Q → Type 0
-PollsWithTask polls leaves cx left old answer new =
-    polls old answer new × leaves old answer new cx left
+abbrev pub PollsWithTask : {Q A : Type 0} → (Q → Poll (Option A) → Q → Type 0)
+    → (Q → Poll (Option A) → Q → Context → Context → Type 0) → Context → Context → Q → Poll (Option A) → Q → Type 0
+PollsWithTask polls leaves cx left old answer new = polls old answer new × leaves old answer new cx left
 
--- One call, which took a buffer from old to new and the task from cx to left. A clause names stream
--- and queue by the ghost members of their types: `St.Stream Q.FutureQueue`.
+-- One call, which took a buffer from old to new and the task from cx to left. A clause names stream and queue by the
+-- ghost members of their types: `St.Stream Q.FutureQueue`.
 pub record PollsBuffer
     {St X A Q : Type 0}
     (stream : StreamOf St X)
@@ -267,15 +255,12 @@ pub record PollsBuffer
     (new : Buffering St Q)
     (cx left : Context)
     : Type 0 where
-  -- to what the draws took the task: nothing of it was lost, and it is as it was where the stream
-  -- was not polled
+  -- to what the draws took the task: nothing of it was lost, and it is as it was where the stream was not polled
   pub task_then : Context
   pub draws_keep : Keeps cx task_then
-  pub not_polled : HasNoTurn (PollsStream stream.yields) queue.count (queue.room old.queue) old
-      → task_then ≡ cx
-  -- what came, and who is woken: some items were drawn and are held; then a push handed back the
-  -- answer, and the task is as the draws left it; or one poll of the queue gave the answer, and made
-  -- of the task what the queue's polls do
+  pub not_polled : HasNoTurn (PollsStream stream.yields) queue.count (queue.room old.queue) old → task_then ≡ cx
+  -- what came, and who is woken: some items were drawn and are held; then a push handed back the answer, and the task
+  -- is as the draws left it; or one poll of the queue gave the answer, and made of the task what the queue's polls do
   pub gave : CallGivesWith (PollsStream stream.yields) queue.count (queue.room old.queue)
       queue.pushes (PollsWithTask queue.polls queue.leaves task_then left) (left ≡ task_then)
       old answer new
@@ -284,8 +269,8 @@ pub record PollsBuffer
   -- what stays: the queue can hold as many as before, and holds no more than that
   pub same_room : queue.room new.queue ≡ queue.room old.queue
   pub bound : queue.count new.queue ≤ queue.room new.queue
-  -- as a stream: what may come; who waits where, with the queue if anything is held, and with the
-  -- stream if it has not ended and more fits; and what may be polled again
+  -- as a stream: what may come; who waits where, with the queue if anything is held, and with the stream if it has not
+  -- ended and more fits; and what may be polled again
   pub as_stream : StreamAnswers (buffer_of stream queue) old answer new cx left
 
 -- the items that these calls drew, in order, and the outputs that they gave
@@ -295,9 +280,9 @@ all_drawn = flat_map (λ call. call.0)
 abbrev pub all_outputs : {F A : Type 0} → List (List F × Poll (Option A)) → List A
 all_outputs = filter_map (λ call. output_given call.1)
 
--- Each item drawn is accounted for once: either it gave the output at its place among those given,
--- or it became the entry at its place among those held. `matches` compares the items drawn with
--- these: by equality where the order is kept, as a permutation where it is not.
+-- Each item drawn is accounted for once: either it gave the output at its place among those given, or it became the
+-- entry at its place among those held. `matches` compares the items drawn with these: by equality where the order is
+-- kept, as a permutation where it is not.
 pub record Accounts {F A E : Type 0} (matches : List F → List F → Type 0) (gives : F → A → Type 0)
     (becomes : F → E → Type 0) (drawn : List F) (outputs : List A) (held : List E) : Type 0 where
   pub gone : List F
@@ -306,14 +291,13 @@ pub record Accounts {F A E : Type 0} (matches : List F → List F → Type 0) (g
   pub gave : AllZip gives gone outputs
   pub became : AllZip becomes kept held
 
--- what bounds the number of items left where a stream leaves so many, or has ended, and n more are
--- held: a least number past 64 bits stops there, and a greatest past them is not known
+-- what bounds the number of items left where a stream leaves so many, or has ended, and n more are held: a least number
+-- past 64 bits stops there, and a greatest past them is not known
 abbrev pub sum_below : ℕ → Option ℕ
 sum_below sum = cond (nat_lt sum (2 ^ 64)) (Some sum) None
 
 abbrev pub hint_with : ℕ → ℕ × Option ℕ → ℕ × Option ℕ
-hint_with n hint =
-    (min (hint.0 + n) (2 ^ 64 - 1), option_and_then (λ most. sum_below (most + n)) hint.1)
+hint_with n hint = (min (hint.0 + n) (2 ^ 64 - 1), option_and_then (λ most. sum_below (most + n)) hint.1)
 
 abbrev pub hint_ahead : {St : Type 0} → (St → ℕ × Option ℕ) → Option St → ℕ × Option ℕ
 hint_ahead hint None = (0, Some 0)
@@ -339,10 +323,8 @@ module _ {St X A Q : Type 0} (stream : StreamOf St X) (queue : FutureQueueOf Q X
 
   -- what they leave of the buffer
   abbrev pub LeavesBuffer : Buffering St Q → Option A → Buffering St Q → Type 0
-  LeavesBuffer = DrawsBuffer queue.count queue.room (buffer_of stream queue).can_poll
-      (buffer_of stream queue).yields
+  LeavesBuffer = DrawsBuffer queue.count queue.room (buffer_of stream queue).can_poll (buffer_of stream queue).yields
 
   -- and of the task, where drawing stopped because no item came, or for another reason
-  abbrev pub DrawingLeavesTask : Type 0 → Buffering St Q → Buffering St Q → Context → Context
-      → Type 0
+  abbrev pub DrawingLeavesTask : Type 0 → Buffering St Q → Buffering St Q → Context → Context → Type 0
   DrawingLeavesTask = DrawsTask (PollsStream stream.yields) queue.count queue.room stream.needs

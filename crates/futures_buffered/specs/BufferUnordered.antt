@@ -7,11 +7,10 @@ use Rattle.futures_buffered_core.specs.SlotMap.{Slots}
 use Rattle.futures_buffered_core.specs.declared.ready_source.ReadySource.{Ghosts as ReadySourceOf}
 use Rattle.futures_buffered_unordered.specs.declared.slot_future.SlotFuture.{Ghosts as SlotFutureOf}
 use Rattle.futures_buffered_unordered.specs.Held.{MayGive}
-use Rattle.futures_buffered_unordered.specs.FuturesUnorderedBounded.{Bounded, Pushes, PollGives}
-use Rattle.futures_buffered_unordered.specs.FuturesUnorderedBounded.{held_in}
+use Rattle.futures_buffered_unordered.specs.FuturesUnorderedBounded.{Bounded, Pushes, PollGives, held_in}
 use Rattle.futures_buffered.specs.FutureQueue.{OnlyPushes}
-use Rattle.futures_buffered.specs.Buffer.{Buffering, StreamOf, PollsStream, CallsInTurn, Accounts}
-use Rattle.futures_buffered.specs.Buffer.{all_drawn, all_outputs}
+use Rattle.futures_buffered.specs.Buffer.{Buffering, StreamOf, PollsStream, CallsInTurn, Accounts, all_drawn}
+use Rattle.futures_buffered.specs.Buffer.{all_outputs}
 use Rattle.futures_buffered.specs.TryBuffer.{PushesOk, WithErrors, futures_of}
 
 -- a pending poll of a set waits with its source
@@ -24,8 +23,7 @@ held_values m = filter_map (λ o. o) m.places
 
 -- pending polls took a future from f to g
 abbrev pub PendsTo : {F A : Type 0} → (F → Poll A → F → Type 0) → F → F → Type 0
-PendsTo {F} polled f g = (later : List F)
-    × FoldsTo (λ a b c. polled a Pending b × (c ≡ b)) f later g
+PendsTo {F} polled f g = (later : List F) × FoldsTo (λ a b c. polled a Pending b × (c ≡ b)) f later g
 
 -- the same, each with the waker of one slot
 abbrev pub WaitsInSlot : {F A : Type 0} → (ℕ → F → Poll A → F → Type 0) → F → F → Type 0
@@ -35,11 +33,9 @@ WaitsInSlot polled f g = (slot : ℕ) × PendsTo (polled slot) f g
 abbrev pub MayGiveInSlot : {F A : Type 0} → (ℕ → F → Poll A → F → Type 0) → F → A → Type 0
 MayGiveInSlot polled f x = (slot : ℕ) × MayGive (polled slot) f x
 
--- Where nothing was held at first, after any calls each item drawn either gave one of the outputs
--- or is held still, as pending polls left it: no output is of two items or of none, and no item is
--- lost.
-abbrev pub LosesNothing : {St F A S W : Type 0} → StreamOf St F → SlotFutureOf F W A
-    → ReadySourceOf S W → Type 0
+-- Where nothing was held at first, after any calls each item drawn either gave one of the outputs or is held still, as
+-- pending polls left it: no output is of two items or of none, and no item is lost.
+abbrev pub LosesNothing : {St F A S W : Type 0} → StreamOf St F → SlotFutureOf F W A → ReadySourceOf S W → Type 0
 LosesNothing {St} {F} {A} {S} stream future source =
     (n : ℕ) (old new : Buffering St (Bounded F S))
     (calls : List (List F × Poll (Option A))) → held_in old.queue ≡ 0
@@ -48,8 +44,8 @@ LosesNothing {St} {F} {A} {S} stream future source =
     → Accounts IsPermutation (MayGiveInSlot future.polled) (WaitsInSlot future.polled)
     (all_drawn calls) (all_outputs calls) (held_values new.queue.slots)
 
--- The same where the stream gives errors as well: some errors come among the outputs, and of the
--- futures drawn none is lost.
+-- The same where the stream gives errors as well: some errors come among the outputs, and of the futures drawn none is
+-- lost.
 abbrev pub TryLosesNothing : {St F T E S W : Type 0} → StreamOf St (Result F E) → SlotFutureOf F W (Result T E)
     → ReadySourceOf S W → Type 0
 TryLosesNothing {St} {F} {T} {E} {S} stream future source =

@@ -6,14 +6,13 @@ use Rattle.futures_buffered_core.specs.declared.ready_source.ReadySource.{Ghosts
 use Rattle.futures_buffered_unordered.specs.declared.slot_future.SlotFuture.{Ghosts as SlotFutureOf}
 use Rattle.futures_buffered_unordered.specs.FuturesUnorderedBounded.{held_in}
 use Rattle.futures_buffered_ordered.specs.OrderedEntries.{AddsBack, OrderedGives}
-use Rattle.futures_buffered_ordered.specs.FuturesOrderedBounded.{OrderedBounded, PushesNumber}
-use Rattle.futures_buffered_ordered.specs.FuturesOrderedBounded.{SetGives}
+use Rattle.futures_buffered_ordered.specs.FuturesOrderedBounded.{OrderedBounded, PushesNumber, SetGives}
 use Rattle.futures_buffered_ordered.specs.declared.numbered.Numbered.{Numbered}
 use Rattle.futures_buffered_ordered.specs.declared.ordered_entries.Entry.{Entry}
 use Rattle.futures_buffered_ordered.specs.declared.ordered_entries.Entry.TheVariants.{Running, Kept}
 use Rattle.futures_buffered.specs.FutureQueue.{OnlyPushes}
-use Rattle.futures_buffered.specs.Buffer.{StreamOf, Buffering, PollsStream, CallsInTurn, Accounts}
-use Rattle.futures_buffered.specs.Buffer.{all_drawn, all_outputs}
+use Rattle.futures_buffered.specs.Buffer.{StreamOf, Buffering, PollsStream, CallsInTurn, Accounts, all_drawn}
+use Rattle.futures_buffered.specs.Buffer.{all_outputs}
 use Rattle.futures_buffered.specs.BufferUnordered.{PendsTo, MayGiveInSlot, SetWaitsAt}
 use Rattle.futures_buffered.specs.TryBuffer.{PushesOk, WithErrors, futures_of}
 
@@ -29,19 +28,17 @@ queue_slots queue = slot_count queue.set.slots
 abbrev pub QueueWaitsAt : {F A S : Type 0} → (S → ℕ → Type 0) → OrderedBounded F A S → ℕ → Type 0
 QueueWaitsAt source_needs queue = SetWaitsAt source_needs queue.set
 
--- a future became an entry: a slot holds it with the number of the entry, as pending polls with the
--- waker of that slot left it; or it gave the output that is kept
-abbrev pub BecomesEntry : {F A : Type 0}
-    → (ℕ → F → Poll A → F → Type 0) → Slots (Numbered F) → F → Entry A → Type 0
+-- a future became an entry: a slot holds it with the number of the entry, as pending polls with the waker of that slot
+-- left it; or it gave the output that is kept
+abbrev pub BecomesEntry : {F A : Type 0} → (ℕ → F → Poll A → F → Type 0) → Slots (Numbered F) → F → Entry A → Type 0
 BecomesEntry {F = F} polled slots future (Running number) = (slot : ℕ) × (now : F)
     × (value_in slots slot ≡ Some (record { future = now; number = number }))
     × PendsTo (polled slot) future now
 BecomesEntry polled slots future (Kept output) = MayGiveInSlot polled future output
 
--- Where nothing was held at first, after any calls the outputs given so far are those of the first
--- items drawn, in the order of these; and the other items are the entries held, in the same order.
-abbrev pub GivesInOrder : {St F A S W : Type 0} → StreamOf St F → SlotFutureOf F W A
-    → ReadySourceOf S W → Type 0
+-- Where nothing was held at first, after any calls the outputs given so far are those of the first items drawn, in the
+-- order of these; and the other items are the entries held, in the same order.
+abbrev pub GivesInOrder : {St F A S W : Type 0} → StreamOf St F → SlotFutureOf F W A → ReadySourceOf S W → Type 0
 GivesInOrder {St} {F} {A} {S} stream future source =
     (n : ℕ) (old new : Buffering St (OrderedBounded F A S))
     (calls : List (List F × Poll (Option A))) → queue_len old.queue ≡ 0

@@ -1,8 +1,7 @@
--- One call of a `Drain`: turns, each of which polls its buffer once, up to the first output that ends
--- it, or the end. A clause names stream, queue and outputs by the ghost members of their types:
--- `St.Stream Q.FutureQueue Q.Output.DrainOutput`.
-use Rattle.std.specs.Prelude.{◌≡◌, ◌⊎◌, ℕ, ◌<◌, List, length, map, Option, Some, None}
-use Rattle.std.specs.Prelude.{IfSome, IsSomeAnd, refl}
+-- One call of a `Drain`: turns, each of which polls its buffer once, up to the first output that ends it, or the end. A
+-- clause names stream, queue and outputs by the ghost members of their types: `St.Stream Q.FutureQueue
+-- Q.Output.DrainOutput`.
+use Rattle.std.specs.Prelude.{◌≡◌, ◌⊎◌, ℕ, ◌<◌, List, length, map, Option, Some, None, IfSome, IsSomeAnd, refl}
 use Rattle.std.specs.List.{FoldsTo}
 use Rattle.std.specs.Coded.{Coded, code_by, coded×, coded_option, coded_ℕ}
 use Rattle.futures.specs.Task.{Covers, Keeps}
@@ -12,8 +11,7 @@ use Rattle.futures.specs.declared.task.Poll.TheVariants.{Ready, Pending}
 use Rattle.futures.specs.Poll.{IfReady, OnPending}
 use Rattle.futures.specs.Runs.{Runs, Ends}
 use Rattle.futures_buffered_unordered.specs.FuturesUnorderedBounded.{IsWoken}
-use Rattle.futures_buffered.specs.Buffer.{Buffering, FutureQueueOf, IsNewBuffer, PollsBuffer}
-use Rattle.futures_buffered.specs.Buffer.{StreamOf, buffer_of}
+use Rattle.futures_buffered.specs.Buffer.{Buffering, FutureQueueOf, IsNewBuffer, PollsBuffer, StreamOf, buffer_of}
 use Rattle.futures_buffered_in_flight.specs.InFlight.{FutureOf}
 use Rattle.futures_buffered_in_flight.specs.InFlightQueue.{Queued, CanPollQueue}
 pub use Rattle.futures_buffered.specs.declared.drain_output.DrainOutput.{Ghosts as DrainOutputOf}
@@ -34,10 +32,8 @@ draining_code {B} code =
     (λ _. refl)
 
 -- nothing was drawn from the stream, and one call takes so many turns at most
-abbrev pub IsNewDrain : {St Q : Type 0} → (Q → Type 0) → ℕ → St → Draining (Buffering St Q)
-    → Type 0
-IsNewDrain is_new limit stream d =
-    IsSomeAnd d.buffer (IsNewBuffer is_new stream) × (d.limit ≡ limit)
+abbrev pub IsNewDrain : {St Q : Type 0} → (Q → Type 0) → ℕ → St → Draining (Buffering St Q) → Type 0
+IsNewDrain is_new limit stream d = IsSomeAnd d.buffer (IsNewBuffer is_new stream) × (d.limit ≡ limit)
 
 -- what stays of the buffer: nothing where the turn was ready
 abbrev pub left_after : {B O : Type 0} → Option (Poll O) → B → Option B
@@ -58,8 +54,7 @@ module _ {O : Type 0} (output : DrainOutputOf O) where
     where
       -- one turn: a call of the buffer; or the end where there is none, with the task left alone
       abbrev pub DrainTurn : Option B → Option (Poll O) → Option B → Context → Context → Type 0
-      DrainTurn None answer new cx left =
-          (answer ≡ Some (Ready output.done)) × (new ≡ None) × (left ≡ cx)
+      DrainTurn None answer new cx left = (answer ≡ Some (Ready output.done)) × (new ≡ None) × (left ≡ cx)
       DrainTurn (Some buffer) answer new cx left = (after : B)
           × calls buffer (buffer_answer answer) after cx left
           × (new ≡ left_after answer after)
@@ -68,8 +63,8 @@ module _ {O : Type 0} (output : DrainOutputOf O) where
       abbrev pub DrainGoesOn : Option B × Context → Unit {0} → Option B × Context → Type 0
       DrainGoesOn old _ new = DrainTurn old.0 None new.0 old.1 new.1
 
-      -- how a call ends, where so many turns came before: with one more, which is the last; or
-      -- without, where that would be one too many, and then it is pending and the task is woken
+      -- how a call ends, where so many turns came before: with one more, which is the last; or without, where that
+      -- would be one too many, and then it is pending and the task is woken
       abbrev pub DrainEnds : ℕ → ℕ → Option B × Context → Poll O → Option B → Context → Type 0
       DrainEnds limit turns before answer new left =
           ((turns < limit) × DrainTurn before.0 (Some answer) new before.1 left)
@@ -94,8 +89,7 @@ FromBuffer yields None = Ends
 FromBuffer yields (Some buffer) = yields buffer
 
 -- each future that it holds may be polled
-abbrev pub HoldsPollable : {F A St : Type 0}
-    → FutureOf F A → Draining (Buffering St (Queued F)) → Type 0
+abbrev pub HoldsPollable : {F A St : Type 0} → FutureOf F A → Draining (Buffering St (Queued F)) → Type 0
 HoldsPollable future d = IfSome d.buffer (λ buffer. CanPollQueue future buffer.queue)
 
 -- nothing more is polled: there is no buffer, or its stream has ended and it holds nothing
@@ -112,8 +106,8 @@ module _ {B O : Type 0} (buffer : StreamOf B O) where
   DrainWaitsAt d place = IsSomeAnd d.buffer (λ b. buffer.needs b place)
 
 module _ {B O : Type 0} (output : DrainOutputOf O) (buffer : StreamOf B O) where
-  -- it may end with this answer, where outputs that end nothing may come from its buffer, and then
-  -- what comes last before that answer
+  -- it may end with this answer, where outputs that end nothing may come from its buffer, and then what comes last
+  -- before that answer
   abbrev pub DrainGives : Draining B → O → Type 0
   DrainGives d answer = (outputs : List (Unit {0})) × FromBuffer buffer.yields d.buffer
       (map (λ _. output.done) outputs) (output.last_of answer)
@@ -157,7 +151,6 @@ pub record PollsDrain
     (cx left : Context)
     : Type 0 where
   -- what came, and who is woken
-  pub called : DrainCall output (PollsBuffer stream queue)
-      old.limit old.buffer answer new.buffer cx left
+  pub called : DrainCall output (PollsBuffer stream queue) old.limit old.buffer answer new.buffer cx left
   -- what stays, what may come, who waits where, and what may be polled again
   pub leaves : LeavesDrain output (buffer_of stream queue) old answer new cx left

@@ -1,9 +1,8 @@
--- One poll of a `ForEachConcurrent`: turns, each of which draws at most one item, gives it to the
--- closure, pushes the future that came of it, and polls the set once. A clause names stream,
--- closure, futures and source by the ghost members of their types:
--- `St.Stream F.FnMut Fut.SlotFuture S.ReadySource`.
-use Rattle.std.specs.Prelude.{◌≡◌, ℕ, ◌+◌, ◌<◌, ◌≤◌, List, [], ◌∷◌, ◌++◌, length, Bool, true}
-use Rattle.std.specs.Prelude.{false, Option, Some, None, IfSome, IsSomeAnd, ◌⊎◌, refl, is_some}
+-- One poll of a `ForEachConcurrent`: turns, each of which draws at most one item, gives it to the closure, pushes the
+-- future that came of it, and polls the set once. A clause names stream, closure, futures and source by the ghost
+-- members of their types: `St.Stream F.FnMut Fut.SlotFuture S.ReadySource`.
+use Rattle.std.specs.Prelude.{◌≡◌, ℕ, ◌+◌, ◌<◌, ◌≤◌, List, [], ◌∷◌, ◌++◌, length, Bool, true, false, Option, Some, None}
+use Rattle.std.specs.Prelude.{IfSome, IsSomeAnd, ◌⊎◌, refl, is_some}
 use Rattle.std.specs.List.{FoldsTo, AllByRecursion}
 use Rattle.std.specs.Fn.{Mut}
 use Rattle.std.specs.Coded.{Coded, code_by, coded×}
@@ -15,13 +14,11 @@ use Rattle.futures.specs.Poll.{IfReady, OnPending}
 use Rattle.futures.specs.Runs.{AtEachItem, Calls}
 pub use Rattle.futures_buffered_core.specs.declared.ready_source.ReadySource.{Ghosts as ReadySourceOf}
 use Rattle.futures_buffered_unordered.specs.Held.{AllHeld}
-use Rattle.futures_buffered_unordered.specs.FuturesUnorderedBounded.{Bounded, IsWoken, Pushes}
-use Rattle.futures_buffered_unordered.specs.FuturesUnorderedBounded.{held_in, slots_in}
-use Rattle.futures_buffered_unordered.specs.PollsBounded.{PollsBounded}
+use Rattle.futures_buffered_unordered.specs.FuturesUnorderedBounded.{Bounded, IsWoken, Pushes, held_in, slots_in}
+use Rattle.futures_buffered_unordered.specs.PollsBounded.{PollsBounded, itself}
 pub use Rattle.futures_buffered_unordered.specs.declared.slot_future.SlotFuture.{Ghosts as SlotFutureOf}
-use Rattle.futures_buffered_unordered.specs.PollsBounded.{itself}
-use Rattle.futures_buffered.specs.Buffer.{Buffering, StreamOf, buffer_code, Ahead, AsksStream}
-use Rattle.futures_buffered.specs.Buffer.{DrawsNone, DrawsTask, HasNoTurn, IsNewBuffer, PollsStream}
+use Rattle.futures_buffered.specs.Buffer.{Buffering, StreamOf, buffer_code, Ahead, AsksStream, DrawsNone, DrawsTask}
+use Rattle.futures_buffered.specs.Buffer.{HasNoTurn, IsNewBuffer, PollsStream}
 
 -- the stream and the set, and the closure
 pub record ForEach (St Fn Q : Type 0) : Type 0 where
@@ -29,8 +26,7 @@ pub record ForEach (St Fn Q : Type 0) : Type 0 where
   pub closure : Fn
 
 -- its code, made of those of its parts
-abbrev pub for_each_code : {St Fn Q : Type 0}
-    → Coded St → Coded Fn → Coded Q → Coded (ForEach St Fn Q)
+abbrev pub for_each_code : {St Fn Q : Type 0} → Coded St → Coded Fn → Coded Q → Coded (ForEach St Fn Q)
 for_each_code {St} {Fn} {Q} stream_code closure_code queue_code =
     code_by
     (Buffering St Q × Fn)
@@ -51,11 +47,10 @@ moves_on None Pending = false
 
 -- it may end, where its stream may
 abbrev pub ForEachGives : {St X Fn Q : Type 0} → StreamOf St X → ForEach St Fn Q → Unit {0} → Type 0
-ForEachGives {X = X} stream b _ =
-    (items : List X) × Ahead stream.yields b.buffer.stream items None
+ForEachGives {X = X} stream b _ = (items : List X) × Ahead stream.yields b.buffer.stream items None
 
--- where a pending call waits: with the set, if a future is held; with the stream, if it has not
--- ended and a slot is free
+-- where a pending call waits: with the set, if a future is held; with the stream, if it has not ended and a slot is
+-- free
 abbrev pub ForEachWaitsAt : {St X Fn F W S : Type 0}
     → StreamOf St X → ReadySourceOf S W → ForEach St Fn (Bounded F S) → ℕ → Type 0
 ForEachWaitsAt stream source b place =
@@ -74,8 +69,8 @@ module _
     CanCall f x = closure.pre f (x, tt)
         × ((made : F) (after : Fn) → Calls closure f x made after → future.can_poll made)
 
-    -- The stream may be polled, unless it has ended; the closure may be called with each item to
-    -- come, after those before it; and each future that is held or comes of it may be polled.
+    -- The stream may be polled, unless it has ended; the closure may be called with each item to come, after those
+    -- before it; and each future that is held or comes of it may be polled.
     pub record CanForEach {S : Type 0} (b : ForEach St Fn (Bounded F S)) : Type 0 where
       pub next : IfSome b.buffer.stream stream.can_poll
       pub to_come : AtEachItem (Calls closure) (Ahead stream.yields b.buffer.stream) b.closure CanCall
@@ -106,11 +101,10 @@ module _
     (future : SlotFutureOf F W (Unit {0}))
     (source : ReadySourceOf S W)
   where
-    -- The first part of a turn. No item came: the stream was not polled, since it has ended or no
-    -- slot is free; or it was pending; or it ended and was dropped. Or one did, while a slot was
-    -- free: the closure took it, once, and the future that this made was pushed.
-    abbrev pub DrawsOnce : ForEach St Fn (Bounded F S) → Option X → ForEach St Fn (Bounded F S)
-        → Type 0
+    -- The first part of a turn. No item came: the stream was not polled, since it has ended or no slot is free; or it
+    -- was pending; or it ended and was dropped. Or one did, while a slot was free: the closure took it, once, and the
+    -- future that this made was pushed.
+    abbrev pub DrawsOnce : ForEach St Fn (Bounded F S) → Option X → ForEach St Fn (Bounded F S) → Type 0
     DrawsOnce old None new = DrawsNone (PollsStream stream.yields) held_in
         (slots_in old.buffer.queue) old.buffer new.buffer
         × (new.closure ≡ old.closure)
@@ -121,8 +115,7 @@ module _
         × Calls closure old.closure x made new.closure
         × Pushes source.marks old.buffer.queue made new.buffer.queue
 
-    -- One turn, of the for-each and of its task: what it drew, if anything, and what its poll of
-    -- the set answered.
+    -- One turn, of the for-each and of its task: what it drew, if anything, and what its poll of the set answered.
     pub record TurnGives
         (old : ForEach St Fn (Bounded F S) × Context)
         (turn : Option X × Poll (Option (Unit {0})))
@@ -130,63 +123,56 @@ module _
         : Type 0 where
       pub drawn : ForEach St Fn (Bounded F S)
       pub draws : DrawsOnce old.0 turn.0 drawn
-      -- to what the draw took the task: nothing of it was lost, and it is as it was where the
-      -- stream was not polled
+      -- to what the draw took the task: nothing of it was lost, and it is as it was where the stream was not polled
       pub task_then : Context
       pub draw_keeps : Keeps old.1 task_then
-      pub not_polled : HasNoTurn (PollsStream stream.yields) held_in
-          (slots_in old.0.buffer.queue) old.0.buffer
+      pub not_polled : HasNoTurn (PollsStream stream.yields) held_in (slots_in old.0.buffer.queue) old.0.buffer
           → task_then ≡ old.1
       -- from there the set was polled
-      pub polls_set : PollsBounded (itself future) source
-          drawn.buffer.queue turn.1 new.0.buffer.queue task_then new.1
+      pub polls_set : PollsBounded (itself future) source drawn.buffer.queue turn.1 new.0.buffer.queue task_then new.1
       pub same_stream : new.0.buffer.stream ≡ drawn.buffer.stream
       pub same_closure : new.0.closure ≡ drawn.closure
 
-    -- One poll, which took a for-each from old to new and the task from cx to left: some turns,
-    -- each of which drew an item or gave an output, and a last one.
+    -- One poll, which took a for-each from old to new and the task from cx to left: some turns, each of which drew an
+    -- item or gave an output, and a last one.
     pub record PollsForEach
         (old : ForEach St Fn (Bounded F S))
         (answer : Poll (Unit {0}))
         (new : ForEach St Fn (Bounded F S))
         (cx left : Context)
         : Type 0 where
-      -- what came: the turns before the last; of the last what it drew, if anything, and what the
-      -- set answered; and the task behind it
+      -- what came: the turns before the last; of the last what it drew, if anything, and what the set answered; and the
+      -- task behind it
       pub turns : List (Option X × Poll (Option (Unit {0})))
       pub drew : Option X
       pub set_answer : Poll (Option (Unit {0}))
       pub after : Context
       pub row : FoldsTo TurnGives (old, cx) (turns ++ (drew, set_answer) ∷ []) (new, after)
-      -- each turn before the last moved on: it drew an item or gave an output. With the last they are
-      -- at most as many as the set's limit, which also bounds the names of each poll of the set
+      -- each turn before the last moved on: it drew an item or gave an output. With the last they are at most as many
+      -- as the set's limit, which also bounds the names of each poll of the set
       pub went_on : AllByRecursion (λ turn. moves_on turn.0 turn.1 ≡ true) turns
       pub at_most : length turns < old.buffer.queue.limit
-      -- how it ended: ready where the set held nothing at last and the stream has ended, and else
-      -- pending
+      -- how it ended: ready where the set held nothing at last and the stream has ended, and else pending
       pub ended : IfReady answer (λ _. (set_answer ≡ Ready None) × (new.buffer.stream ≡ None)
           × (held_in new.buffer.queue ≡ 0))
       pub not_yet : OnPending answer (moves_on drew set_answer ≡ false
           → set_answer ≡ Ready None → new.buffer.stream ≡ None → ⊥)
-      -- who is woken: where the last turn did not move on, the task is as that turn left it, which
-      -- may have asked it to poll again; where it did, the limit is reached, and the task was asked
-      -- to poll again
+      -- who is woken: where the last turn did not move on, the task is as that turn left it, which may have asked it to
+      -- poll again; where it did, the limit is reached, and the task was asked to poll again
       pub stays : moves_on drew set_answer ≡ false → left ≡ after
       pub at_limit : moves_on drew set_answer ≡ true → (answer ≡ Pending)
           × (length turns + 1 ≡ old.buffer.queue.limit) × IsWoken left
-      -- what stays: the number of slots and the limit; and no more futures are held than there are
-      -- slots
+      -- what stays: the number of slots and the limit; and no more futures are held than there are slots
       pub capacity : slots_in new.buffer.queue ≡ slots_in old.buffer.queue
       pub limit : new.buffer.queue.limit ≡ old.buffer.queue.limit
       pub bound : held_in new.buffer.queue ≤ slots_in new.buffer.queue
-      -- who waits where: the task of a pending for-each hears of its set where a future is held, and
-      -- of its stream where that has not ended and a slot is free
+      -- who waits where: the task of a pending for-each hears of its set where a future is held, and of its stream
+      -- where that has not ended and a slot is free
       pub registered : OnPending answer (Covers left (ForEachWaitsAt stream source new))
       -- nothing of the task is lost
       pub kept : Keeps cx left
       -- what may be polled again: a pending for-each
       pub again : OnPending answer (CanForEach stream closure future new)
-      -- when it may end: it is ready only where it might end, and a pending poll adds nothing to
-      -- that
+      -- when it may end: it is ready only where it might end, and a pending poll adds nothing to that
       pub value : IfReady answer (ForEachGives stream old)
       pub same : OnPending answer (ForEachGives stream new tt → ForEachGives stream old tt)

@@ -1,6 +1,6 @@
 -- What a push and a poll leave of a queue of futures.
-use Rattle.std.specs.Prelude.{◌≡◌, ℕ, ◌+◌, ◌<◌, ◌≤◌, List, Option, Some, None, IfSome, IfNone}
-use Rattle.std.specs.Prelude.{OnSome, Bool, true, false, ◌⊎◌}
+use Rattle.std.specs.Prelude.{◌≡◌, ℕ, ◌+◌, ◌<◌, ◌≤◌, List, Option, Some, None, IfSome, IfNone, OnSome, Bool, true}
+use Rattle.std.specs.Prelude.{false, ◌⊎◌}
 use Rattle.futures.specs.declared.task.Poll.{Poll}
 use Rattle.futures.specs.Poll.{IfReady, OnPending}
 use Rattle.futures.specs.Runs.{Runs, Within, Leads, Chains, Ends}
@@ -9,8 +9,7 @@ use Rattle.futures.specs.Runs.{Runs, Within, Leads, Chains, Ends}
 abbrev pub MayCome : {A : Type 0} → Runs A → A → Type 0
 MayCome {A} source x = (before : List A) × source before (Some x)
 
--- One output more may come, of which P holds: behind all others where the order is kept, and else
--- at any place.
+-- One output more may come, of which P holds: behind all others where the order is kept, and else at any place.
 abbrev pub AddsOutput : {A : Type 0} → Bool → Runs A → (A → Type 0) → Runs A → Type 0
 AddsOutput true old P new = Within (Chains old (Leads P Ends)) new
 AddsOutput {A = A} false old P new = (x : A) → MayCome new x → MayCome old x ⊎ P x
@@ -20,8 +19,8 @@ abbrev pub OnlyPushes : {F A Q : Type 0} → (Q → F → Q → Type 0) → Q �
 OnlyPushes pushes old item None new = pushes old item new
 OnlyPushes pushes old item (Some answer) new = ⊥
 
--- What a push leaves of what a queue holds, where `given` is what it handed back. `count` says how
--- many it holds, and `room` how many it can hold.
+-- What a push leaves of what a queue holds, where `given` is what it handed back. `count` says how many it holds, and
+-- `room` how many it can hold.
 pub record PushLeavesQueue
     {A Q : Type 0}
     (count room : Q → ℕ)
@@ -36,8 +35,7 @@ pub record PushLeavesQueue
   -- the queue can hold as many as before
   pub same_room : room new ≡ room old
 
--- What a push adds to what may come from a queue, as `yields` says that. `item_gives` holds of what
--- the item may give.
+-- What a push adds to what may come from a queue, as `yields` says that. `item_gives` holds of what the item may give.
 pub record PushAddsOutput
     {A Q : Type 0}
     (in_order : Bool)

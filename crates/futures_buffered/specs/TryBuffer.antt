@@ -1,5 +1,5 @@
--- A queue of futures to which errors are given as well: each is handed back at once. The queue
--- behind it may be any that has a push.
+-- A queue of futures to which errors are given as well: each is handed back at once. The queue behind it may be any
+-- that has a push.
 use Rattle.std.specs.Prelude.{◌≡◌, List, [], ◌∷◌, map, Option, Some, Result, Ok, Err}
 use Rattle.futures_buffered_unordered.specs.Interleaves.{Interleaves}
 
@@ -10,8 +10,7 @@ PushesOk pushes old (Ok future) given new = pushes old future given new
 PushesOk pushes old (Err error) given new = (given ≡ Some (Err error)) × (new ≡ old)
 
 -- a future gives one of its outputs, and an error itself
-abbrev pub TryItemGives : {F T E : Type 0}
-    → (F → Result T E → Type 0) → Result F E → Result T E → Type 0
+abbrev pub TryItemGives : {F T E : Type 0} → (F → Result T E → Type 0) → Result F E → Result T E → Type 0
 TryItemGives gives (Ok future) x = gives future x
 TryItemGives gives (Err error) x = x ≡ Err error
 
@@ -23,5 +22,4 @@ futures_of (Err error ∷ items) = futures_of items
 
 -- what was given is what the queue gave, and between that some errors, each as an answer
 abbrev pub WithErrors : {T E : Type 0} → List (Result T E) → List (Result T E) → Type 0
-WithErrors {T} {E} outputs given =
-    (errors : List E) × Interleaves outputs (map Err errors) given
+WithErrors {T} {E} outputs given = (errors : List E) × Interleaves outputs (map Err errors) given

@@ -1,6 +1,5 @@
 -- Which replies are right, by the positions of marks and namings in a list of events.
-use Rattle.std.specs.Prelude.{◌≡◌, ℕ, ◌+◌, ◌<◌, ◌≤◌, true, List, [], ◌∷◌, ◌++◌, map, take, length}
-use Rattle.std.specs.Prelude.{Some, slice_get}
+use Rattle.std.specs.Prelude.{◌≡◌, ℕ, ◌+◌, ◌<◌, ◌≤◌, true, List, [], ◌∷◌, ◌++◌, map, take, length, Some, slice_get}
 use Rattle.futures_buffered_core.specs.ReadyCore.{is_marked}
 use Rattle.futures_buffered_core.specs.declared.ready_core.Event.{Event}
 use Rattle.futures_buffered_core.specs.declared.ready_core.Event.TheVariants as event
@@ -13,8 +12,7 @@ use Rattle.futures_buffered_table.specs.declared.answer.Taken.TheVariants.{Slot,
 abbrev pub IsNamedAt : List Reply → ℕ → ℕ → Type 0
 IsNamedAt replies r i = slice_get replies r ≡ Some (reply.Taken (Slot i))
 
--- after these events and replies, the mark of slot i at position q is unserved: no later taking was
--- answered with i
+-- after these events and replies, the mark of slot i at position q is unserved: no later taking was answered with i
 abbrev pub IsUnserved : List Event → List Reply → ℕ → ℕ → Type 0
 IsUnserved events replies q i = (slice_get events q ≡ Some (event.Mark i))
     × ((r : ℕ) → q < r → IsNamedAt replies r i → ⊥)
@@ -25,22 +23,18 @@ abbrev pub IsRight : List Event → List Reply → Event → Reply → Type 0
 IsRight events replies event.Take (reply.Taken (Slot i)) = (q : ℕ)
     × IsUnserved events replies q i
     × ((j p : ℕ) → IsUnserved events replies p j → q ≤ p)
-IsRight events replies event.Take (reply.Taken Empty) =
-    (j p : ℕ) → IsUnserved events replies p j → ⊥
+IsRight events replies event.Take (reply.Taken Empty) = (j p : ℕ) → IsUnserved events replies p j → ⊥
 IsRight events replies event.Take (reply.Taken Pause) = ⊥
 IsRight events replies event.Take (reply.Woke _) = ⊥
-IsRight events replies (event.Mark i) (reply.Woke Fresh) =
-    (p : ℕ) → IsUnserved events replies p i → ⊥
+IsRight events replies (event.Mark i) (reply.Woke Fresh) = (p : ℕ) → IsUnserved events replies p i → ⊥
 IsRight events replies (event.Mark i) (reply.Woke Already) = (p : ℕ) × IsUnserved events replies p i
 IsRight events replies (event.Mark i) (reply.Taken _) = ⊥
 
 -- the mark of i at q is unserved, and its oldest
 abbrev pub IsOldest : List Event → List Reply → ℕ → ℕ → Type 0
-IsOldest events replies q i = IsUnserved events replies q i
-    × ((p : ℕ) → IsUnserved events replies p i → q ≤ p)
+IsOldest events replies q i = IsUnserved events replies q i × ((p : ℕ) → IsUnserved events replies p i → q ≤ p)
 
--- each of these slots is marked, and they stand by their oldest unserved marks, at positions from
--- low on
+-- each of these slots is marked, and they stand by their oldest unserved marks, at positions from low on
 abbrev pub StandInOrder : List Event → List Reply → ℕ → List ℕ → Type 0
 StandInOrder events replies low [] = Unit {0}
 StandInOrder events replies low (i ∷ slots) = (q : ℕ)

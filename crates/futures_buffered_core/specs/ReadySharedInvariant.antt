@@ -4,8 +4,8 @@ use Rattle.futures_buffered_table.specs.ReadyList.{ListIdentity, Waker, Poller}
 use Rattle.futures_buffered_core.specs.ReadyShared.{WakerOfShared, waker_at}
 use Rattle.futures_buffered_core.specs.WakerPlace.{Awaited}
 
--- both seats are of the list, its wakes look where the poller waits, and where it has a slot there is
--- a waker of one to lend
+-- both seats are of the list, its wakes look where the poller waits, and where it has a slot there is a waker of one to
+-- lend
 pub record KeepsShared
     (list : ListIdentity)
     (outer awaited : Awaited)

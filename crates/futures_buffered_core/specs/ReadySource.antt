@@ -21,33 +21,28 @@ WaitsAlike needs a b = (n : ℕ) → needs a n ↔ needs b n
 module _ {S : Type 0} (marks : S → ℕ → Woke → S → Type 0) (steps : SourceSteps S)
     (needs : S → ℕ → Type 0)
   where
-    -- What holds of each source: its names are slots of its own, its calls keep their number, and no
-    -- taking or registration waits at a new place.
+    -- What holds of each source: its names are slots of its own, its calls keep their number, and no taking or
+    -- registration waits at a new place.
     pub record SourceLaws (slots : S → ℕ) : Type 0 where
       -- a slot that is named is below the capacity
       pub names_below : (old : S) (i : ℕ) (new : S) → steps.takes old (Slot i) new → i < slots old
       -- the capacity stays
-      pub mark_keeps : (old : S) (i : ℕ) (woke : Woke) (new : S) → marks old i woke new
-          → slots new ≡ slots old
-      pub take_keeps : (old : S) (taken : Taken) (new : S) → steps.takes old taken new
-          → slots new ≡ slots old
+      pub mark_keeps : (old : S) (i : ℕ) (woke : Woke) (new : S) → marks old i woke new → slots new ≡ slots old
+      pub take_keeps : (old : S) (taken : Taken) (new : S) → steps.takes old taken new → slots new ≡ slots old
       pub register_keeps : (old new : S) → steps.registers old new → slots new ≡ slots old
       -- after either call a registration waits at no more places than before
       pub take_needs : (old : S) (taken : Taken) (new : S) → steps.takes old taken new
           → (n : ℕ) → needs new n → needs old n
-      pub register_needs : (old new : S) → steps.registers old new
-          → (n : ℕ) → needs new n → needs old n
+      pub register_needs : (old new : S) → steps.registers old new → (n : ℕ) → needs new n → needs old n
 
-    -- What holds of each source that waits at the same places for good, so that sources that stand
-    -- beside one another stay so.
+    -- What holds of each source that waits at the same places for good, so that sources that stand beside one another
+    -- stay so.
     pub record WaitsForGood : Type 0 where
       -- a source at which nobody registers, since a source beside it did, is as after a registration
       pub covered : (s : S) → steps.registers s s
       -- no call changes where it waits
-      pub mark_waits : (old : S) (i : ℕ) (woke : Woke) (new : S) → marks old i woke new
-          → WaitsAlike needs old new
-      pub take_waits : (old : S) (taken : Taken) (new : S) → steps.takes old taken new
-          → WaitsAlike needs old new
+      pub mark_waits : (old : S) (i : ℕ) (woke : Woke) (new : S) → marks old i woke new → WaitsAlike needs old new
+      pub take_waits : (old : S) (taken : Taken) (new : S) → steps.takes old taken new → WaitsAlike needs old new
       pub register_waits : (old new : S) → steps.registers old new → WaitsAlike needs old new
 
 -- what a poll may make of a source at which a registration changes nothing
@@ -59,10 +54,8 @@ abbrev pub WaitsNowhere : {S : Type 0} → S → ℕ → Type 0
 WaitsNowhere source n = ⊥
 
 module _ {S : Type 0} (marks : S → ℕ → Woke → S → Type 0) (takes : S → Taken → S → Type 0) where
-  -- the laws of a source at which a registration changes nothing and waits nowhere, by those of its
-  -- marks and takings
-  abbrev pub laws_of_takes : (slots : S → ℕ)
-      → ((old : S) (i : ℕ) (new : S) → takes old (Slot i) new → i < slots old)
+  -- the laws of a source at which a registration changes nothing and waits nowhere, by those of its marks and takings
+  abbrev pub laws_of_takes : (slots : S → ℕ) → ((old : S) (i : ℕ) (new : S) → takes old (Slot i) new → i < slots old)
       → ((old : S) (i : ℕ) (woke : Woke) (new : S) → marks old i woke new → slots new ≡ slots old)
       → ((old : S) (taken : Taken) (new : S) → takes old taken new → slots new ≡ slots old)
       → SourceLaws marks (only_takes takes) WaitsNowhere slots

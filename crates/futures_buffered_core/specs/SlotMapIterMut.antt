@@ -1,5 +1,4 @@
--- What an iterator over the values of a slot map shows, and what it is once the value that it lent
--- is given back.
+-- What an iterator over the values of a slot map shows, and what it is once the value that it lent is given back.
 use mir.Syntax.{named}
 use Rattle.std.specs.Prelude.{◌≡◌, ℕ, ◌+◌, [], Option, OnSome, IfNone}
 use Rattle.std.specs.Borrow.{GName, Fml, RattleType, MutBor, LendsSo}
@@ -26,8 +25,8 @@ module _ {F : Type 0} where
       record it { map = record it.map { now = with_value it.map.now i value }; from = i + 1 }
 
 module _ (F : RattleType) (it : MutBor (SlotMapIterMut F.Denot)) where
-  -- once the borrow ends, the first slot that held a value has the last one written through it, and
-  -- was passed; at `None` nothing changes
+  -- once the borrow ends, the first slot that held a value has the last one written through it, and was passed; at
+  -- `None` nothing changes
   abbrev pub lends_next : Option (MutBor F.Denot) → Fml
   lends_next r =
       LendsSo (the_row (record { mir = named 0; lft = [] }) F) F it r

@@ -5,8 +5,7 @@ use Rattle.futures_buffered_core.specs.SlotMap.{Slots, with_value}
 use Rattle.futures_buffered_core.specs.contracts.slot_map.PinSlotMap.{the_row}
 
 module _ (F : RattleType) (s : MutBor (Slots F.Denot)) (key : ℕ) where
-  -- once the borrow ends, the slot holds the last value written through it; at `None` nothing
-  -- changes
+  -- once the borrow ends, the slot holds the last value written through it; at `None` nothing changes
   abbrev pub lends_slot : Option (MutBor F.Denot) → Fml
   lends_slot r = LendsIf (the_row F) F s r (with_value s.now key) s.now
 

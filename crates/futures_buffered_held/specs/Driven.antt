@@ -5,8 +5,8 @@ use Rattle.futures_buffered_core.specs.ReadySource.{SourceLaws, WaitsNowhere, la
 use Rattle.futures_buffered_table.specs.declared.answer.Taken.{Taken}
 use Rattle.futures_buffered_table.specs.declared.answer.Taken.TheVariants.{Slot, Empty, Pause}
 
--- The slot whose mark is oldest is named. Where no slot is marked, any slot may be named and any may
--- be marked, as outputs come. `Empty` and `Pause` leave no slot marked.
+-- The slot whose mark is oldest is named. Where no slot is marked, any slot may be named and any may be marked, as
+-- outputs come. `Empty` and `Pause` leave no slot marked.
 abbrev pub NamesFirst : List ℕ → Taken → List ℕ → Type 0
 NamesFirst (i ∷ rest) taken new = (taken ≡ Slot i) × (new ≡ rest)
 NamesFirst [] (Slot i) new = Unit {0}

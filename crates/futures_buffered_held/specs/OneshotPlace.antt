@@ -1,5 +1,5 @@
--- The rule of a one-shot, and what its steps tell. Its word is 0 while the receiver has the place
--- of the waker, 1 while it waits, 2 once the sender is done, and 3 once the receiver is gone.
+-- The rule of a one-shot, and what its steps tell. Its word is 0 while the receiver has the place of the waker, 1 while
+-- it waits, 2 once the sender is done, and 3 once the receiver is gone.
 use Rattle.std.specs.Prelude.{◌≡◌, ◌≢◌, ◌⊎◌, ℕ, zero, suc, List, [], ◌∷◌, Option, Some, None, MatchOption}
 use mathlib.Core.Option as maybe
 use mathlib.Core.Option.{some}
@@ -37,8 +37,7 @@ module _ {T : Type 0} where
   compared_view (Compared answer x) w = (answer ≡ Some x) × (w ≡ Got answer)
   compared_view v w = w ≡ v
 
--- what a one-shot is, beside the views: the seats of its ends, its word, what lies at its places,
--- and what was sent
+-- what a one-shot is, beside the views: the seats of its ends, its word, what lies at its places, and what was sent
 pub record Inside (T W : Type 0) : Type 0 where
   -- the numbers of the seats
   pub sender : ℕ
@@ -66,16 +65,14 @@ module _ {T W : Type 0} where
   -- what a seat's view says
   abbrev pub Fits : Inside T W → ℕ → View T → Type 0
   Fits x seat Spent = Unit {0}
-  Fits x seat Both = (seat ≡ x.sender) × (seat ≡ x.receiver) × (x.word ≡ 1) × (x.sent ≡ None)
-      × IsHome x.value_home
+  Fits x seat Both = (seat ≡ x.sender) × (seat ≡ x.receiver) × (x.word ≡ 1) × (x.sent ≡ None) × IsHome x.value_home
   Fits x seat Sender = (seat ≡ x.sender) × (x.word ≢ 2) × (x.sent ≡ None) × IsHome x.value_home
   Fits x seat Writing = (seat ≡ x.sender) × (x.word ≢ 2) × (x.sent ≡ None)
   Fits x seat (Sent v) = x.sent ≡ Some v
   Fits x seat Waiting = (seat ≡ x.receiver) × ((x.word ≡ 1) ⊎ IsSent x)
   Fits x seat Idle = (seat ≡ x.receiver) × ((x.word ≡ 0) ⊎ IsSent x)
   Fits x seat (Got answer) = (seat ≡ x.receiver) × (x.word ≡ 2) × (x.sent ≡ answer)
-  Fits x seat (Compared answer v) = (seat ≡ x.receiver) × (x.word ≡ 2) × (x.sent ≡ answer)
-      × (x.sent ≡ Some v)
+  Fits x seat (Compared answer v) = (seat ≡ x.receiver) × (x.word ≡ 2) × (x.sent ≡ answer) × (x.sent ≡ Some v)
 
   -- what holds between any two steps
   pub record HoldsOne (s : State (Left T W) (View T)) : Type 0 where
@@ -93,8 +90,8 @@ module _ {T W : Type 0} where
   sent_from [] = Spent
   sent_from (x ∷ xs) = sent_view (value_of x.1)
 
-  -- the sender is done. Where the receiver is gone, the seat has still what it was to send, and where it waits, the seat
-  -- has the place of the waker
+  -- the sender is done. Where the receiver is gone, the seat has still what it was to send, and where it waits, the
+  -- seat has the place of the waker
   abbrev pub finished : Me (Left T W) (View T) → ℕ → Me (Left T W) (View T) → Type 0
   finished m found n = (found ≡ 3 → n ≡ (Spent, m.1))
       × (found ≡ 1 → (y : Left T W) × (n ≡ (sent_from m.1, (1, y) ∷ rest m.1)))

@@ -5,8 +5,8 @@ use mathlib.Core.List.{IsPrefix}
 use Rattle.rtrb.specs.declared.producer.Producer.{Producer}
 use Rattle.rtrb.specs.declared.consumer.Consumer.{Consumer}
 pub use Rattle.rtrb.specs.Ring.{sent, known_free, producer_capacity, received, known_items, consumer_capacity, all_sent}
-pub use Rattle.rtrb.specs.Ring.{IsPair, Finishes, IsFinishedOf}
-pub use Rattle.rtrb.specs.Ring.{SameProducer, SameConsumer, ProducerLooked, ConsumerLooked}
+pub use Rattle.rtrb.specs.Ring.{IsPair, Finishes, IsFinishedOf, SameProducer, SameConsumer, ProducerLooked}
+pub use Rattle.rtrb.specs.Ring.{ConsumerLooked}
 use Rattle.rtrb.specs.Fifo.{Allowed}
 use Rattle.futures.specs.declared.task.Poll.{Poll}
 use Rattle.futures.specs.declared.task.Poll.TheVariants.{Ready, Pending}

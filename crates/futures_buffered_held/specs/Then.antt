@@ -22,6 +22,5 @@ module _
     Follows (First future change) (Ready y) new = ThenGoesOn future change (Ready y) new
     Follows (First future change) Pending new = ThenGoesOn future change Pending new
         ⊎ ((left : F) × first_polled future Pending left × (new ≡ First left change))
-    Follows (Second second) answer new =
-        (after : B) × second_polled second answer after × (new ≡ Second after)
+    Follows (Second second) answer new = (after : B) × second_polled second answer after × (new ≡ Second after)
     Follows Gone answer new = (answer ≡ Pending) × (new ≡ Gone)

@@ -1,8 +1,7 @@
--- What a contract sees of a set of futures in flight. A clause names the futures by the ghost members
--- of their type: `F.Future`.
-use Rattle.std.specs.Prelude.{◌≡◌, ◌+◌, ◌-◌, ◌^◌, ◌<◌, ◌≤◌, ◌⊎◌, min, ℕ}
-use Rattle.std.specs.Prelude.{List, [], Option, Some, None, IfSome, IsSomeAnd}
-use Rattle.std.specs.Prelude.{Result, Ok, Err, IfOk, IfErr, OnErr, IsErr}
+-- What a contract sees of a set of futures in flight. A clause names the futures by the ghost members of their type:
+-- `F.Future`.
+use Rattle.std.specs.Prelude.{◌≡◌, ◌+◌, ◌-◌, ◌^◌, ◌<◌, ◌≤◌, ◌⊎◌, min, ℕ, List, [], Option, Some, None, IfSome}
+use Rattle.std.specs.Prelude.{IsSomeAnd, Result, Ok, Err, IfOk, IfErr, OnErr, IsErr}
 use Rattle.futures.specs.declared.task.Poll.{Poll}
 use Rattle.futures.specs.declared.task.Poll.TheVariants.{Ready, Pending}
 use Rattle.futures.specs.declared.task.context.Context.{Context}
@@ -12,15 +11,15 @@ use Rattle.futures.specs.Poll.{OnPending}
 use Rattle.futures.specs.Queued.{AllPollable, AnyGives, GivesNoMore, Gathers, set_len, set_places}
 use Rattle.futures.specs.Runs.{Runs}
 use Rattle.futures.specs.Task.{Covers, Keeps}
-use Rattle.futures_buffered_core.specs.SlotMap.{Slots, value_in, held_count, with_slot_freed}
-use Rattle.futures_buffered_core.specs.SlotMap.{no_slots, slot_count, Inserts}
+use Rattle.futures_buffered_core.specs.SlotMap.{Slots, value_in, held_count, with_slot_freed, no_slots, slot_count}
+use Rattle.futures_buffered_core.specs.SlotMap.{Inserts}
 use Rattle.futures_buffered_in_flight.specs.declared.run.Run.{Run}
 use Rattle.futures_buffered_in_flight.specs.declared.run.Key.{Key}
 use Rattle.futures_buffered_in_flight.specs.declared.in_flight.Place.{Place}
 use Rattle.futures_buffered_in_flight.specs.declared.in_flight.Came.{Came}
 
--- the slots, each with the tag and the number of the push of its future; the futures, those that
--- were cancelled and have not ended among them, and how many these are; the number of the next push
+-- the slots, each with the tag and the number of the push of its future; the futures, those that were cancelled and
+-- have not ended among them, and how many these are; the number of the next push
 pub record Flights (F : Type 0) : Type 0 where
   pub slots : Slots Place
   pub running : Option (FuturesUnordered (Run F))
@@ -83,8 +82,7 @@ module _ {F A : Type 0} (future : FutureOf F A) where
 
   -- no future gives what it could not give before
   abbrev pub RunsGiveNoMore : Flights F → Flights F → Type 0
-  RunsGiveNoMore old new = GivesNoMore (GivesWithKey future.gives)
-      (runs_in old.running) (runs_in new.running)
+  RunsGiveNoMore old new = GivesNoMore (GivesWithKey future.gives) (runs_in old.running) (runs_in new.running)
 
   -- each future may be polled, and has the number of a push that was
   pub record CanPollAll (s : Flights F) : Type 0 where
@@ -140,14 +138,12 @@ module _ {F A : Type 0} (future : FutureOf F A) where
 
   -- an output that the future with this key may give, whose slot is free then
   pub record ComesByKey (old : Flights F) (came : Came A) (new : Flights F) : Type 0 where
-    pub was_held : value_in old.slots came.key.slot
-        ≡ Some (record { tag = came.tag; push = came.key.push })
+    pub was_held : value_in old.slots came.key.slot ≡ Some (record { tag = came.tag; push = came.key.push })
     pub gave : KeyGives old came.key came.output
     pub freed : new.slots ≡ with_slot_freed old.slots came.key.slot
     pub fewer : held_count new.slots + 1 ≡ held_count old.slots
 
-  -- the end, where nothing is held: futures that were cancelled have ended; an output; or Pending,
-  -- where some are held
+  -- the end, where nothing is held: futures that were cancelled have ended; an output; or Pending, where some are held
   abbrev pub GivesByKey : Flights F → Poll (Option (Came A)) → Flights F → Type 0
   GivesByKey old (Ready None) new = (held_count old.slots ≡ 0) × (new.slots ≡ old.slots)
       × ((old.cancelled ≡ 0) ⊎ (new.running ≡ None))
@@ -157,8 +153,7 @@ module _ {F A : Type 0} (future : FutureOf F A) where
   -- One poll, which took the set from old to new and the task from cx to left.
   pub record PollsInFlight (old : Flights F) (answer : Poll (Option (Came A))) (new : Flights F)
       (cx left : Context) : Type 0 where
-    -- an output with its key; the end exactly where nothing is held; or Pending. Who is woken is not
-    -- said
+    -- an output with its key; the end exactly where nothing is held; or Pending. Who is woken is not said
     pub gave : GivesByKey old answer new
     -- no future gives what it could not give before
     pub narrows : RunsGiveNoMore old new

@@ -1,25 +1,22 @@
--- What a contract sees of an ordered queue of futures in flight: the words on ordered queues at a
--- queue in flight. A clause names the futures by the ghost members of their type: `F.Future`.
-use Rattle.std.specs.Prelude.{◌≡◌, ◌↔◌, ◌+◌, ◌<◌, ◌≤◌, ◌^◌, ℕ, [], Option, length, IfNone, IfSome}
-use Rattle.std.specs.Prelude.{OnSome, Result, IfErr, IsErr, OnOk}
+-- What a contract sees of an ordered queue of futures in flight: the words on ordered queues at a queue in flight. A
+-- clause names the futures by the ghost members of their type: `F.Future`.
+use Rattle.std.specs.Prelude.{◌≡◌, ◌↔◌, ◌+◌, ◌<◌, ◌≤◌, ◌^◌, ℕ, [], Option, length, IfNone, IfSome, OnSome, Result}
+use Rattle.std.specs.Prelude.{IfErr, IsErr, OnOk}
 use Rattle.futures.specs.Poll.{IfReady, OnPending}
 use Rattle.futures.specs.Runs.{Runs, After, Within, Leads, Chains, Ends}
 use Rattle.futures.specs.declared.task.Poll.{Poll}
 use Rattle.futures.specs.declared.task.context.Context.{Context}
 use Rattle.futures_buffered_unordered.specs.StreamAnswers.{StreamAnswers, stream_of}
-use Rattle.futures_buffered_ordered.specs.OrderedEntries.{Ordered, AddsBack, AddsFront}
-use Rattle.futures_buffered_ordered.specs.OrderedEntries.{ComesInOrder, IsNewQueue, OrderedGives}
-use Rattle.futures_buffered_ordered.specs.OrderedEntries.{PolledSet, PollsOrdered}
+use Rattle.futures_buffered_ordered.specs.OrderedEntries.{Ordered, AddsBack, AddsFront, ComesInOrder, IsNewQueue}
+use Rattle.futures_buffered_ordered.specs.OrderedEntries.{OrderedGives, PolledSet, PollsOrdered}
 use Rattle.futures_buffered_ordered.specs.OrderedEntriesInvariant.{IsNumbered, Numbering}
 use Rattle.futures_buffered_in_flight.specs.InFlight.{FutureOf}
-use Rattle.futures_buffered_in_flight.specs.InFlightQueue.{Queued, CanPollQueue, IsNewQueued}
-use Rattle.futures_buffered_in_flight.specs.InFlightQueue.{SameRoom}
-use Rattle.futures_buffered_in_flight.specs.InFlightQueue.{NumberGives, PollsNumber, QueuesNumber}
-use Rattle.futures_buffered_in_flight.specs.InFlightQueue.{PollsQueuedTask, QueuedWaitsAt}
+use Rattle.futures_buffered_in_flight.specs.InFlightQueue.{Queued, CanPollQueue, IsNewQueued, SameRoom, NumberGives}
+use Rattle.futures_buffered_in_flight.specs.InFlightQueue.{PollsNumber, QueuesNumber, PollsQueuedTask, QueuedWaitsAt}
 use Rattle.futures_buffered_in_flight.specs.InFlightQueue.{queued_count, queued_room, queued_with}
 
--- the futures in flight, each with a number; the entries from the front to the back, where one in
--- progress has the number of its future; and how many there is a place for
+-- the futures in flight, each with a number; the entries from the front to the back, where one in progress has the
+-- number of its future; and how many there is a place for
 abbrev pub OrderedInFlight : Type 0 → Type 0 → Type 0
 OrderedInFlight F A = Ordered (Queued F) A
 
@@ -43,8 +40,8 @@ IsNewInOrder n = IsNewQueue (IsNewQueued n) n
 abbrev pub OrderedWaitsAt : {F A : Type 0} → OrderedInFlight F A → ℕ → Type 0
 OrderedWaitsAt q = QueuedWaitsAt q.set
 
--- How the queue keeps itself: the numbers are in order, it can hold one at least and holds no more
--- than it can, and there is a place for an entry of each.
+-- How the queue keeps itself: the numbers are in order, it can hold one at least and holds no more than it can, and
+-- there is a place for an entry of each.
 pub record KeepsInOrder {F A : Type 0} (q : Numbering (Queued F) A) : Type 0 where
   pub numbered : IsNumbered queued_with queued_count q
   pub some : 0 < ordered_room q.queue
@@ -79,13 +76,12 @@ module _ {F A : Type 0} (future : FutureOf F A) where
   abbrev pub CanPollOrdered : OrderedInFlight F A → Type 0
   CanPollOrdered q = CanPollQueue future q.set
 
-  -- what may come: an output of each entry, of its own future, from the front to the back, and then
-  -- the end
+  -- what may come: an output of each entry, of its own future, from the front to the back, and then the end
   abbrev pub ComesOfEach : OrderedInFlight F A → Runs A
   ComesOfEach = ComesInOrder (NumberGives future)
 
-  -- One push, from old to new: `adds` says at which end the entry of the future stands, and
-  -- `with_one` what may come where an output of one future more does.
+  -- One push, from old to new: `adds` says at which end the entry of the future stands, and `with_one` what may come
+  -- where an output of one future more does.
   pub record PushesInTurn
       (adds : OrderedInFlight F A → F → OrderedInFlight F A → Type 0)
       (with_one : (A → Type 0) → Runs A → Runs A)
@@ -155,8 +151,7 @@ module _ {F A : Type 0} (future : FutureOf F A) where
       (new : OrderedInFlight F A)
       (cx left : Context)
       : Type 0 where
-    -- the futures were polled, each output was kept in the entry of its number, and then came the
-    -- front
+    -- the futures were polled, each output was kept in the entry of its number, and then came the front
     pub polls : PollsOrdered flying_polls old answer new cx left
     -- how many are left
     pub counts : LeavesInOrder old answer new
@@ -166,8 +161,7 @@ module _ {F A : Type 0} (future : FutureOf F A) where
   GivesInTurn = OrderedGives (PollsNumber future) queued_count
 
   -- what a stream promises of one poll
-  abbrev pub AnswersInTurn : OrderedInFlight F A → Poll (Option A) → OrderedInFlight F A
-      → Context → Context → Type 0
+  abbrev pub AnswersInTurn : OrderedInFlight F A → Poll (Option A) → OrderedInFlight F A → Context → Context → Type 0
   AnswersInTurn = StreamAnswers (stream_of CanPollOrdered OrderedWaitsAt ComesOfEach)
 
   -- Polls until the output of the front came, or the end: the queue was new by then.

@@ -1,7 +1,7 @@
--- What a contract sees of a queue of futures in flight. A clause names the futures by the ghost
--- members of their type: `F.Future`.
-use Rattle.std.specs.Prelude.{◌≡◌, ◌+◌, ◌<◌, ◌≤◌, ◌⊎◌, ◌==◌, ℕ, Bool, false, List, [], ◌∷◌, length}
-use Rattle.std.specs.Prelude.{Option, Some, None, count_by}
+-- What a contract sees of a queue of futures in flight. A clause names the futures by the ghost members of their type:
+-- `F.Future`.
+use Rattle.std.specs.Prelude.{◌≡◌, ◌+◌, ◌<◌, ◌≤◌, ◌⊎◌, ◌==◌, ℕ, Bool, false, List, [], ◌∷◌, length, Option, Some, None}
+use Rattle.std.specs.Prelude.{count_by}
 use Rattle.std.specs.List.{AllByRecursion}
 use Rattle.futures.specs.Poll.{OnPending}
 use Rattle.futures.specs.Queued.{Gathers}
@@ -13,12 +13,12 @@ use Rattle.futures.specs.declared.task.context.Context.{Context}
 use Rattle.futures_buffered_core.specs.SlotMap.{Slots, value_in, held_count, slot_count}
 use Rattle.futures_buffered_ordered.specs.Numbered.{CanPollFuture, one_at, outputs_with}
 use Rattle.futures_buffered_ordered.specs.declared.numbered.Numbered.{Numbered}
-use Rattle.futures_buffered_in_flight.specs.InFlight.{FutureOf, Flights, CanPollAll, KeyGives}
-use Rattle.futures_buffered_in_flight.specs.InFlight.{IsNewInFlight, FlightsWaitAt}
+use Rattle.futures_buffered_in_flight.specs.InFlight.{FutureOf, Flights, CanPollAll, KeyGives, IsNewInFlight}
+use Rattle.futures_buffered_in_flight.specs.InFlight.{FlightsWaitAt}
 use Rattle.futures_buffered_in_flight.specs.declared.in_flight.Place.{Place}
 
--- the futures in flight, each under its number as a tag; and those that wait until there is memory
--- for them, each with its number, oldest first
+-- the futures in flight, each under its number as a tag; and those that wait until there is memory for them, each with
+-- its number, oldest first
 pub record Queued (F : Type 0) : Type 0 where
   pub set : Flights F
   pub waiting : List (Numbered F)
@@ -68,13 +68,11 @@ IsAtItsBound q = queued_room q ≤ queued_count q
 abbrev pub SameRoom : {F : Type 0} → Queued F → Queued F → Type 0
 SameRoom old new = queued_room new ≡ queued_room old
 
--- the end, where nothing is held, which changes nothing; an output that may come, with one fewer
--- held; or nothing, with as many held
-abbrev pub GivesHeld : {F A : Type 0} → (Queued F → A → Type 0)
-    → Queued F → Poll (Option A) → Queued F → Type 0
+-- the end, where nothing is held, which changes nothing; an output that may come, with one fewer held; or nothing, with
+-- as many held
+abbrev pub GivesHeld : {F A : Type 0} → (Queued F → A → Type 0) → Queued F → Poll (Option A) → Queued F → Type 0
 GivesHeld may_give old (Ready None) new = (queued_count old ≡ 0) × (new ≡ old)
-GivesHeld may_give old (Ready (Some x)) new =
-    may_give old x × (queued_count new + 1 ≡ queued_count old)
+GivesHeld may_give old (Ready (Some x)) new = may_give old x × (queued_count new + 1 ≡ queued_count old)
 GivesHeld may_give old Pending new = (0 < queued_count old) × (queued_count new ≡ queued_count old)
 
 module _ {F A : Type 0} (future : FutureOf F A) where
@@ -138,8 +136,7 @@ module _ {F A : Type 0} (future : FutureOf F A) where
     -- the queue may be polled
     pub again : CanPollQueue new
 
-  -- One poll, which took the queue from old to new, and whose output comes with the number of its
-  -- future.
+  -- One poll, which took the queue from old to new, and whose output comes with the number of its future.
   pub record PollsNumber (old : Queued F) (answer : Poll (Option (ℕ × A))) (new : Queued F)
       : Type 0 where
     -- an output, the end exactly where nothing is held, or nothing

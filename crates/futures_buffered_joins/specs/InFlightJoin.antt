@@ -1,7 +1,7 @@
--- What a contract sees of a join of futures in flight. A clause names the futures and the rule by
--- the ghost members of their types: `F.Future R.JoinRule`.
-use Rattle.std.specs.Prelude.{◌≡◌, ℕ, ◌+◌, ◌<◌, List, length, replicate, slice_get}
-use Rattle.std.specs.Prelude.{Option, Some, None, IfSome, IsSomeAnd, Result, Ok, Err}
+-- What a contract sees of a join of futures in flight. A clause names the futures and the rule by the ghost members of
+-- their types: `F.Future R.JoinRule`.
+use Rattle.std.specs.Prelude.{◌≡◌, ℕ, ◌+◌, ◌<◌, List, length, replicate, slice_get, Option, Some, None, IfSome}
+use Rattle.std.specs.Prelude.{IsSomeAnd, Result, Ok, Err}
 use Rattle.futures.specs.Poll.{IfReady, OnPending}
 use Rattle.futures.specs.Task.{Covers, Keeps}
 use Rattle.futures.specs.declared.task.Poll.{Poll}
@@ -10,14 +10,14 @@ use Rattle.futures_buffered_core.specs.Drawn.{Items}
 use Rattle.futures_buffered_core.specs.SlotMap.{held_count, slot_count}
 use Rattle.futures_buffered_table.specs.declared.answer.NewFault.{NewFault}
 use Rattle.futures_buffered_unordered.specs.Extended.{MakesFull}
-use Rattle.futures_buffered_in_flight.specs.InFlight.{FutureOf, Flights, CanPollAll, SlotGives}
-use Rattle.futures_buffered_in_flight.specs.InFlight.{AnySlotGives, FlightsWaitAt}
+use Rattle.futures_buffered_in_flight.specs.InFlight.{FutureOf, Flights, CanPollAll, SlotGives, AnySlotGives}
+use Rattle.futures_buffered_in_flight.specs.InFlight.{FlightsWaitAt}
 use Rattle.futures_buffered_joins.specs.JoinRule.{Outcome}
 use Rattle.futures_buffered_joins.specs.Join.{JoinRuleOf}
 use Rattle.futures_buffered_joins.specs.Outputs.{CameInOrder, MayComeAll, MayEndWith, WaitsOrCame}
 
--- the places of a join that has not ended: a set of the futures that it waits for, each in the slot
--- of its place, and at each place the output that has come, or nothing
+-- the places of a join that has not ended: a set of the futures that it waits for, each in the slot of its place, and
+-- at each place the output that has come, or nothing
 pub record Flying (F A : Type 0) : Type 0 where
   pub set : Flights F
   pub outputs : List (Option A)
@@ -53,18 +53,15 @@ module _ {F O : Type 0} (future : FutureOf F O) where
     pub waits_for : FliesInOrder items places.set
     pub none_done : places.outputs ≡ replicate (length items) None
 
-  -- What a constructor of a join makes of what an iterator gives, or why it makes nothing. It makes
-  -- a join that has a place for each item.
-  abbrev pub MakesFlying : {A U I : Type 0} → Items U F I → Result (Option (Flying F A)) NewFault
-      → Type 0
-  MakesFlying from = MakesFull from flying_places
-      (λ items join. IsSomeAnd join (IsNewFlying items))
+  -- What a constructor of a join makes of what an iterator gives, or why it makes nothing. It makes a join that has a
+  -- place for each item.
+  abbrev pub MakesFlying : {A U I : Type 0} → Items U F I → Result (Option (Flying F A)) NewFault → Type 0
+  MakesFlying from = MakesFull from flying_places (λ items join. IsSomeAnd join (IsNewFlying items))
 
 module _ {F R O A E B : Type 0} (future : FutureOf F O) (rule : JoinRuleOf R O A E B) where
   -- these may be all outputs: each has come, or the future that waits at its place may give it
   abbrev pub AllMayCome : Flying F A → List A → Type 0
-  AllMayCome places = MayComeAll (λ k x. SlotGives future places.set k (rule.output_of (Ok x)))
-      places.outputs
+  AllMayCome places = MayComeAll (λ k x. SlotGives future places.set k (rule.output_of (Ok x))) places.outputs
 
   -- one of the futures may give this error
   abbrev pub SomeMayFail : Flying F A → E → Type 0
@@ -74,8 +71,8 @@ module _ {F R O A E B : Type 0} (future : FutureOf F O) (rule : JoinRuleOf R O A
   abbrev pub FlyingMayGive : Option (Flying F A) → Outcome A E → Type 0
   FlyingMayGive = MayEndWith AllMayCome SomeMayFail
 
-  -- What a new join of these items may be ready with without an error: one output of each item,
-  -- each at its item's place.
+  -- What a new join of these items may be ready with without an error: one output of each item, each at its item's
+  -- place.
   abbrev pub FliesByPlace : Type 0
   FliesByPlace = (items : List F) (first : Flying F A) (outputs : List A)
       → IsNewFlying future items first
@@ -98,8 +95,7 @@ module _ {F R O A E B : Type 0} (future : FutureOf F O) (rule : JoinRuleOf R O A
 
   -- an output came: its place is filled, and its future is gone
   abbrev pub FillsPlace : Flying F A → Flying F A → Type 0
-  FillsPlace old new = FliesOn old new
-      × (held_count new.set.slots + 1 ≡ held_count old.set.slots)
+  FillsPlace old new = FliesOn old new × (held_count new.set.slots + 1 ≡ held_count old.set.slots)
 
   -- outputs came, and no future is left
   abbrev pub FillsRest : Flying F A → Flying F A → Type 0

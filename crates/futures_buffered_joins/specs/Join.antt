@@ -1,7 +1,6 @@
--- What one poll of a join makes of it and of the task that polls it. A clause names futures, rule and
--- source by the ghost members of their types: `F.SlotFuture R.JoinRule S.ReadySource`.
-use Rattle.std.specs.Prelude.{◌≡◌, ℕ, ◌<◌, List, [], map, slice_set, Option, Some, None, IfSome}
-use Rattle.std.specs.Prelude.{IsSomeAnd, Ok, Err}
+-- What one poll of a join makes of it and of the task that polls it. A clause names futures, rule and source by the
+-- ghost members of their types: `F.SlotFuture R.JoinRule S.ReadySource`.
+use Rattle.std.specs.Prelude.{◌≡◌, ℕ, ◌<◌, List, [], map, slice_set, Option, Some, None, IfSome, IsSomeAnd, Ok, Err}
 use Rattle.std.specs.List.{FoldsTo}
 use Rattle.futures.specs.Poll.{IfReady, OnPending}
 use Rattle.futures.specs.Task.{Covers, Keeps}
@@ -10,8 +9,7 @@ use Rattle.futures.specs.declared.task.Poll.{Poll}
 use Rattle.futures.specs.declared.task.Poll.TheVariants.{Ready, Pending}
 pub use Rattle.futures_buffered_core.specs.declared.ready_source.ReadySource.{Ghosts as ReadySourceOf}
 use Rattle.futures_buffered_unordered.specs.Held.{AllHeld}
-use Rattle.futures_buffered_unordered.specs.FuturesUnorderedBounded.{Bounded, held_in}
-use Rattle.futures_buffered_unordered.specs.FuturesUnorderedBounded.{with_empty_slot}
+use Rattle.futures_buffered_unordered.specs.FuturesUnorderedBounded.{Bounded, held_in, with_empty_slot}
 use Rattle.futures_buffered_unordered.specs.PollsBounded.{RegistersAndTakes, itself}
 pub use Rattle.futures_buffered_unordered.specs.declared.slot_future.SlotFuture.{Ghosts as SlotFutureOf}
 use Rattle.futures_buffered_joins.specs.Joining.{Places, IsNewJoin, CameByPlace, JoinMayGive}
@@ -30,9 +28,8 @@ module _
     (rule : JoinRuleOf R O A E B)
     (source : ReadySourceOf S W)
   where
-    -- One poll of the set, by a task, gave the output of the future at this place. That future is
-    -- gone, and what is kept of the output fills its place, where nothing had come. The other
-    -- places stay.
+    -- One poll of the set, by a task, gave the output of the future at this place. That future is gone, and what is
+    -- kept of the output fills its place, where nothing had come. The other places stay.
     pub record Fills
         (old : Places F A S × Context)
         (filled : ℕ × A)
@@ -54,12 +51,11 @@ module _
     -- a future is waited for, and one poll of the set was Pending
     pub record PollsPending (before new : Places F A S) (cx left : Context) : Type 0 where
       pub some_waiting : 0 < held_in before.set
-      pub is_pending : RegistersAndTakes (itself future) source
-          before.set Pending new.set cx left
+      pub is_pending : RegistersAndTakes (itself future) source before.set Pending new.set cx left
       pub same_outputs : new.outputs ≡ before.outputs
 
-    -- Some outputs came, one after another, and filled their places; then the poll ended, from what
-    -- that left of the join and of its task, as `ends` says.
+    -- Some outputs came, one after another, and filled their places; then the poll ended, from what that left of the
+    -- join and of its task, as `ends` says.
     pub record FillsThen
         (ends : Places F A S → Context → Type 0)
         (old : Places F A S)
@@ -71,12 +67,10 @@ module _
       pub filled : FoldsTo Fills (old, cx) row (before, between)
       pub ended : ends before between
 
-    -- How a poll ends. No future is waited for: all outputs are given, in the order of their places,
-    -- and the join has ended. A future gave an error: that is the answer, and the join has ended,
-    -- whatever it waited for. Or the set was Pending, which says who is woken. The last two arguments
-    -- are where it starts.
-    abbrev pub EndsJoin : Poll (Outcome A E) → Option (Places F A S) → Context
-        → Places F A S → Context → Type 0
+    -- How a poll ends. No future is waited for: all outputs are given, in the order of their places, and the join has
+    -- ended. A future gave an error: that is the answer, and the join has ended, whatever it waited for. Or the set was
+    -- Pending, which says who is woken. The last two arguments are where it starts.
+    abbrev pub EndsJoin : Poll (Outcome A E) → Option (Places F A S) → Context → Places F A S → Context → Type 0
     EndsJoin (Ready (Ok outputs)) new left before cx = (held_in before.set ≡ 0)
         × (before.outputs ≡ map Some outputs) × (new ≡ None) × (left ≡ cx)
     EndsJoin (Ready (Err e)) new left before cx = Fails before cx left e × (new ≡ None)
@@ -106,8 +100,7 @@ module _
       pub same : OnPending answer ((x : Outcome A E)
           → JoinMayGive future.polled rule.output_of new x → JoinMayGive future.polled rule.output_of old x)
       -- who waits where: the task of a pending join hears of its source
-      pub registered : OnPending answer
-          (Covers left (λ n. IsSomeAnd new (λ places. source.needs places.set.source n)))
+      pub registered : OnPending answer (Covers left (λ n. IsSomeAnd new (λ places. source.needs places.set.source n)))
       -- nothing of the task is lost
       pub kept : Keeps cx left
       -- what may be polled again: each future that a pending join waits for
@@ -118,8 +111,8 @@ module _
     StaysPending old left new = (cx : Context) × (after : Context)
         × JoinGives (Some old) Pending (Some left) cx after × (new ≡ left)
 
-    -- Where a join was made of these items, then after any pending polls the outputs that it is
-    -- ready with are one of each item, each at its item's place.
+    -- Where a join was made of these items, then after any pending polls the outputs that it is ready with are one of
+    -- each item, each at its item's place.
     abbrev pub JoinsByPlace : (ℕ → S → Type 0) → ℕ → Type 0
     JoinsByPlace made limit = (items : List F) (first last : Places F A S)
         (later : List (Places F A S)) (outputs : List A) (after : Option (Places F A S))

@@ -3,8 +3,7 @@ use Rattle.std.specs.Prelude.{List, Vec, Result, Ok, Err}
 use Rattle.std.specs.declared.alloc.Global.{Global}
 use Rattle.futures_buffered_joins.specs.declared.join.AllOutputs.{AllOutputs}
 
--- what an answer shows: all that was kept, in the order of the places, or the error that ended the
--- join
+-- what an answer shows: all that was kept, in the order of the places, or the error that ended the join
 abbrev pub Outcome : Type 0 → Type 0 → Type 0
 Outcome A E = Result (List A) E
 

@@ -6,8 +6,8 @@ use Rattle.futures.specs.declared.task.Poll.{Poll}
 use Rattle.futures_buffered_unordered.specs.Held.{AllHeld}
 use Rattle.futures_buffered_unordered.specs.FuturesUnorderedBounded.{held_in}
 use Rattle.futures_buffered_joins.specs.Joining.{Places}
-use Rattle.futures_buffered_joins.specs.Join.{Fails, Fills, FillsThen, JoinRuleOf, PollsPending}
-use Rattle.futures_buffered_joins.specs.Join.{ReadySourceOf, SlotFutureOf}
+use Rattle.futures_buffered_joins.specs.Join.{Fails, Fills, FillsThen, JoinRuleOf, PollsPending, ReadySourceOf}
+use Rattle.futures_buffered_joins.specs.Join.{SlotFutureOf}
 
 module _
     {F W R O A E B S : Type 0}

@@ -1,6 +1,5 @@
 -- The steps of a scene, and the law on them.
-use Rattle.std.specs.Prelude.{◌≡◌, ◌≢◌, ℕ, ◌<◌, ◌≤◌, ◌==◌, false, true, if◌then◌else◌}
-use Rattle.std.specs.Prelude.{Bool, List, [], ◌∷◌, map}
+use Rattle.std.specs.Prelude.{◌≡◌, ◌≢◌, ℕ, ◌<◌, ◌≤◌, ◌==◌, false, true, if◌then◌else◌, Bool, List, [], ◌∷◌, map}
 use Rattle.futures_buffered_table.specs.declared.answer.Taken.TheVariants.{Empty, Pause}
 use Rattle.futures_buffered_table.specs.declared.answer.Woke.TheVariants.{Fresh}
 use Rattle.futures_buffered_table.specs.declared.step.Step.{Step}
@@ -16,10 +15,9 @@ use Rattle.futures_buffered_table.specs.Schedule.{after_step, found_at, view_at}
 use Rattle.futures_buffered_table.specs.Step.{CanStep, role_at, seat_of}
 use Rattle.futures_buffered_table.specs.View.{role_of}
 use Rattle.futures_buffered_table.specs.Words.{mark}
-use Rattle.futures_buffered_lost_wakeup.specs.Scene.{Scene, at_first, with_errand}
-use Rattle.futures_buffered_lost_wakeup.specs.Scene.{Errand, Rests, Looks, Tries, Inside, Wakes}
-use Rattle.futures_buffered_lost_wakeup.specs.Scene.{Place, Bare, Keeps, WakeHas, PollerHas, BesideHas}
-use Rattle.futures_buffered_lost_wakeup.specs.Scene.{Turn, Parked, Registers, TakesBack, Asks, LaysOut}
+use Rattle.futures_buffered_lost_wakeup.specs.Scene.{Scene, at_first, with_errand, Errand, Rests, Looks, Tries, Inside}
+use Rattle.futures_buffered_lost_wakeup.specs.Scene.{Wakes, Place, Bare, Keeps, WakeHas, PollerHas, BesideHas, Turn}
+use Rattle.futures_buffered_lost_wakeup.specs.Scene.{Parked, Registers, TakesBack, Asks, LaysOut}
 
 -- the seat by which whoever holds the source marks slots itself, between polls
 abbrev pub owner_seat : ℕ
@@ -79,8 +77,8 @@ IsAway TakesBack = ⊥
 IsAway Asks = Unit {0}
 IsAway LaysOut = ⊥
 
--- who may step at the list: a wake that is not at the place, and the poller, which before it reads
--- the tail at the stub has laid its waker out
+-- who may step at the list: a wake that is not at the place, and the poller, which before it reads the tail at the stub
+-- has laid its waker out
 abbrev pub MayStep : Scene → Step → Type 0
 MayStep s (Mark seat slot) = IsBetween s seat
 MayStep s (Go seat) = IsBetween s seat
@@ -103,14 +101,11 @@ CanDo n s BesidePuts = (before : Bool) × (s.place ≡ BesideHas before)
 CanDo n s BesideMisses = IsAway s.turn
 CanDo n s Stop = (s.turn ≡ Asks) × IsAtStart (poller_role s)
 
--- a fresh wake goes to the place; one of whoever holds the source does not, since that task polls
--- again by itself
+-- a fresh wake goes to the place; one of whoever holds the source does not, since that task polls again by itself
 abbrev pub after_fresh : ℕ → Scene → Scene
-after_fresh seat s =
-    if seat == owner_seat then record s { woken = true } else with_errand s seat Looks
+after_fresh seat s = if seat == owner_seat then record s { woken = true } else with_errand s seat Looks
 
--- what a reply of the list makes of the rest: Empty ends the asking, and so does Pause, with the
--- task woken
+-- what a reply of the list makes of the rest: Empty ends the asking, and so does Pause, with the task woken
 abbrev pub after_reply : ℕ → StepReply → Scene → Scene
 after_reply seat (Woke Fresh) s = after_fresh seat s
 after_reply seat (Taken Empty) s = record s { turn = Parked }

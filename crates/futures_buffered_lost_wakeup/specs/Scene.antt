@@ -1,5 +1,5 @@
--- What takes part where wakes of slots wake a task, between two atomic steps: the ready list, what
--- each wake is about to do at the place of the task's waker, that place, the poller and the task.
+-- What takes part where wakes of slots wake a task, between two atomic steps: the ready list, what each wake is about
+-- to do at the place of the task's waker, that place, the poller and the task.
 use Rattle.std.specs.Prelude.{ℕ, ◌==◌, Bool, false, true, if◌then◌else◌}
 use Rattle.futures_buffered_table.specs.Schedule.{Moment, at_start}
 
@@ -26,8 +26,8 @@ pub data Place : Type 0 where
   WakeHas : ℕ → Place
   -- the poller has the place
   PollerHas : Place
-  -- a source beside this one has the place, for a waker of an earlier poll; and whether the task's
-  -- waker is kept there, which that one replaces
+  -- a source beside this one has the place, for a waker of an earlier poll; and whether the task's waker is kept there,
+  -- which that one replaces
   BesideHas : Bool → Place
 
 -- where the poller is
@@ -45,8 +45,7 @@ pub data Turn : Type 0 where
 
 pub record Scene : Type 0 where
   pub list : Moment
-  -- by the numbers of seats: those of the list's wake seats, and, from there on, of wakes of
-  -- sources beside this one
+  -- by the numbers of seats: those of the list's wake seats, and, from there on, of wakes of sources beside this one
   pub errands : ℕ → Errand
   pub place : Place
   -- whether the poller keeps the task's waker with itself

@@ -1,8 +1,7 @@
--- What a contract sees of a merge of the kit's streams. A clause names the streams by the ghost
--- members of their type: `St.Stream`.
-use Rattle.std.specs.Prelude.{◌≡◌, ◌+◌, ◌<◌, ◌≤◌, ◌⊎◌, ℕ, List, [], ◌∷◌, Option, Some, None}
-use Rattle.std.specs.Prelude.{IsSomeAnd, MatchOption, Result, IfErr, OnOk, OnErr}
-use Rattle.std.specs.Prelude.{IsErr, Ok, Err, length}
+-- What a contract sees of a merge of the kit's streams. A clause names the streams by the ghost members of their type:
+-- `St.Stream`.
+use Rattle.std.specs.Prelude.{◌≡◌, ◌+◌, ◌<◌, ◌≤◌, ◌⊎◌, ℕ, List, [], ◌∷◌, Option, Some, None, IsSomeAnd, MatchOption}
+use Rattle.std.specs.Prelude.{Result, IfErr, OnOk, OnErr, IsErr, Ok, Err, length}
 use Rattle.std.specs.Option.{option_len}
 use Rattle.futures.specs.declared.task.Poll.{Poll}
 use Rattle.futures.specs.declared.task.context.Context.{Context}
@@ -23,13 +22,12 @@ pub record Merged (St : Type 0) : Type 0 where
   pub running : Option (SelectAll (WithEnd St))
 
 -- the streams of the kit's set
-abbrev pub streams_in : {St : Type 0} → Option (SelectAll (WithEnd St))
-    → List (Option (StreamFuture (WithEnd St)))
+abbrev pub streams_in : {St : Type 0} → Option (SelectAll (WithEnd St)) → List (Option (StreamFuture (WithEnd St)))
 streams_in None = []
 streams_in (Some all) = all.held ∷ set_places all.inner
 
--- how many streams the kit's set counts: those that are held, and those that have told their end
--- and are still to be let go
+-- how many streams the kit's set counts: those that are held, and those that have told their end and are still to be
+-- let go
 abbrev pub stream_count : {St : Type 0} → Option (SelectAll (WithEnd St)) → ℕ
 stream_count None = 0
 stream_count (Some all) = set_len all.inner + option_len all.held
@@ -40,8 +38,7 @@ IsNewMerge n m = (m.held ≡ 0) × (m.limit ≡ n) × (m.running ≡ None)
 
 -- the place at which a pending poll waits: that of the kit's set
 abbrev pub MergedWaitsAt : {St : Type 0} → Merged St → ℕ → Type 0
-MergedWaitsAt m source = IsSomeAnd m.running
-    (λ all. (all.held ≡ None) × (source ≡ all.inner.tasks.source.id))
+MergedWaitsAt m source = IsSomeAnd m.running (λ all. (all.held ≡ None) × (source ≡ all.inner.tasks.source.id))
 
 module _ {St A : Type 0} (stream : StreamOf St A) where
   -- one of the streams may give this answer, an item or its end, now or later
@@ -61,18 +58,15 @@ module _ {St A : Type 0} (stream : StreamOf St A) where
   pub record PushesStream (old : Merged St) (pushed : St) (result : Result (Unit {0}) St)
       (new : Merged St) : Type 0 where
     -- it went in, and the kit's set has it
-    pub went_in : OnOk result ((new.held ≡ old.held + 1)
-        × (stream_count new.running ≡ stream_count old.running + 1))
+    pub went_in : OnOk result ((new.held ≡ old.held + 1) × (stream_count new.running ≡ stream_count old.running + 1))
     -- or it comes back, and as many are held as before
     pub back : IfErr result (λ back. back ≡ pushed)
-    pub stays : OnErr result ((new.held ≡ old.held)
-        × (stream_count new.running ≡ stream_count old.running))
+    pub stays : OnErr result ((new.held ≡ old.held) × (stream_count new.running ≡ stream_count old.running))
     -- where there is no room it comes back, and nothing has changed
     pub full : old.limit ≤ old.held → IsErr result × (new ≡ old)
     pub same_limit : new.limit ≡ old.limit
     -- no other stream gives what it could not give before
-    pub answers : (answer : Option A) → AnyAnswers new answer
-        → AnyAnswers old answer ⊎ MayAnswer stream pushed answer
+    pub answers : (answer : Option A) → AnyAnswers new answer → AnyAnswers old answer ⊎ MayAnswer stream pushed answer
     -- the merge may be polled
     pub again : CanPollStreams new
 
@@ -97,8 +91,7 @@ module _ {St A : Type 0} (stream : StreamOf St A) where
 
   -- one stream at most has ended, which one of them may
   abbrev pub OneStreamEndsAtMost : Merged St → Merged St → Type 0
-  OneStreamEndsAtMost old new = (new.held ≡ old.held)
-      ⊎ ((new.held + 1 ≡ old.held) × AnyAnswers old None)
+  OneStreamEndsAtMost old new = (new.held ≡ old.held) ⊎ ((new.held + 1 ≡ old.held) × AnyAnswers old None)
 
   -- no stream gives what it could not give before
   abbrev pub AnswersNoMore : Merged St → Merged St → Type 0

@@ -1,6 +1,5 @@
 -- What the streams of a merge give over many polls.
-use Rattle.std.specs.Prelude.{◌≡◌, ℕ, ◌==◌, cond, List, [], ◌∷◌, ◌++◌, Option, Some, None}
-use Rattle.std.specs.Prelude.{filter_map}
+use Rattle.std.specs.Prelude.{◌≡◌, ℕ, ◌==◌, cond, List, [], ◌∷◌, ◌++◌, Option, Some, None, filter_map}
 use Rattle.std.specs.List.{FoldsTo}
 use Rattle.futures.specs.declared.task.Poll.{Poll}
 use Rattle.futures.specs.Runs.{Runs, seconds}
@@ -31,9 +30,8 @@ streams_of [] = []
 streams_of (answered answer ∷ events) = streams_of events
 streams_of (pushed stream ∷ events) = stream ∷ streams_of events
 
--- A slot held this, and then these streams, each put in once the one before it had ended. These
--- items are all that they gave, those of one stream after those of another, and the slot holds this
--- now.
+-- A slot held this, and then these streams, each put in once the one before it had ended. These items are all that they
+-- gave, those of one stream after those of another, and the slot holds this now.
 abbrev pub HeldInTurn : {F A : Type 0} → (F → Poll (Option A) → F → Type 0)
     → Option F → List F → List A → Option F → Type 0
 HeldInTurn polled held [] items now = Became polled held items now
@@ -43,14 +41,12 @@ HeldInTurn {A = A} polled held (stream ∷ later) items now = (first : List A) �
     × HeldInTurn polled (Some stream) later rest now
 
 module _ {F A : Type 0} (polled : ℕ → F → Poll (Option A) → F → Type 0) where
-  -- these items, each beside the slot of the stream that gave it, are all that the streams gave
-  -- since the slots held the old ones
+  -- these items, each beside the slot of the stream that gave it, are all that the streams gave since the slots held
+  -- the old ones
   abbrev pub StreamsGave : Slots F → List (ℕ × A) → Slots F → Type 0
-  StreamsGave old given new = (j : ℕ)
-      → Became (polled j) (value_in old j) (items_at j given) (value_in new j)
+  StreamsGave old given new = (j : ℕ) → Became (polled j) (value_in old j) (items_at j given) (value_in new j)
 
-  -- What may come from the streams that are held: items of each in its order; and the end where
-  -- each stream has ended.
+  -- What may come from the streams that are held: items of each in its order; and the end where each stream has ended.
   abbrev pub ComesFromStreams : Slots F → Runs A
   ComesFromStreams m items (Some x) = (given : List (ℕ × A)) × (i : ℕ) × (left : Slots F)
       × (items ≡ seconds given)
@@ -71,13 +67,12 @@ module _ {F A : Type 0} (polled : ℕ → F → Poll (Option A) → F → Type 0
   -- one poll, or one push
   abbrev pub Happens : {S : Type 0} → SourceSteps S → (S → ℕ → Woke → S → Type 0)
       → Bounded F S → MergeEvent F A → Bounded F S → Type 0
-  Happens steps marks old (answered answer) new =
-      MergeGives polled steps marks old answer new
+  Happens steps marks old (answered answer) new = MergeGives polled steps marks old answer new
   Happens steps marks old (pushed stream) new = Pushes marks old stream new
 
-  -- These streams were pushed into slots that held the old ones, and these items are, each beside a
-  -- slot, all that the streams gave that this slot held one after another: at first the one that it
-  -- held, and then those that were pushed into it.
+  -- These streams were pushed into slots that held the old ones, and these items are, each beside a slot, all that the
+  -- streams gave that this slot held one after another: at first the one that it held, and then those that were pushed
+  -- into it.
   abbrev pub SlotsGaveInTurn : Slots F → List A → List F → Slots F → Type 0
   SlotsGaveInTurn old items streams new = (given : List (ℕ × A)) × (into : List (ℕ × F))
       × (items ≡ seconds given)
@@ -85,10 +80,9 @@ module _ {F A : Type 0} (polled : ℕ → F → Poll (Option A) → F → Type 0
       × ((j : ℕ) → HeldInTurn (polled j) (value_in old j) (items_at j into)
       (items_at j given) (value_in new j))
 
-  -- After any polls and pushes the items of the answers are all that the streams gave that were
-  -- held at first or pushed.
-  abbrev pub KeepsOrderWithPushes : {S : Type 0} → SourceSteps S → (S → ℕ → Woke → S → Type 0)
-      → Type 0
+  -- After any polls and pushes the items of the answers are all that the streams gave that were held at first or
+  -- pushed.
+  abbrev pub KeepsOrderWithPushes : {S : Type 0} → SourceSteps S → (S → ℕ → Woke → S → Type 0) → Type 0
   KeepsOrderWithPushes {S} steps marks = (old new : Bounded F S) (events : List (MergeEvent F A))
       → FoldsTo (Happens steps marks) old events new
       → SlotsGaveInTurn old.slots (items_in (answers_of events)) (streams_of events) new.slots

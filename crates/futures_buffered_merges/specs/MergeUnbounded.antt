@@ -1,5 +1,5 @@
--- One poll of a merge that grows, what may come from it, and what its streams give over many polls.
--- `Merging` has the poll of a bounded one.
+-- One poll of a merge that grows, what may come from it, and what its streams give over many polls. `Merging` has the
+-- poll of a bounded one.
 use Rattle.std.specs.Prelude.{◌≡◌, ◌↔◌, ℕ, Bool, List, [], ◌∷◌, ◌++◌, map, Option, Some, None, ◌⊎◌}
 use Rattle.std.specs.List.{FoldsTo, AllByRecursion}
 use Rattle.futures.specs.declared.task.context.Context.{Context}
@@ -22,9 +22,8 @@ use Rattle.futures_buffered_unordered.specs.declared.futures_unordered.TheConsta
 use Rattle.futures_buffered_merges.specs.SlotStream.{items_in}
 use Rattle.futures_buffered_merges.specs.declared.slot_stream.SlotStream.{Ghosts as SlotStreamOf}
 use Rattle.futures_buffered_merges.specs.Merging.{MergeAsks}
-use Rattle.futures_buffered_merges.specs.MergeBounded.{StreamsGave, ComesFromStreams}
-use Rattle.futures_buffered_merges.specs.MergeBounded.{SlotsGaveInTurn, MergeEvent, answered}
-use Rattle.futures_buffered_merges.specs.MergeBounded.{pushed, answers_of, streams_of}
+use Rattle.futures_buffered_merges.specs.MergeBounded.{StreamsGave, ComesFromStreams, SlotsGaveInTurn, MergeEvent}
+use Rattle.futures_buffered_merges.specs.MergeBounded.{answered, pushed, answers_of, streams_of}
 
 -- no slot holds a stream
 abbrev pub HoldsNone : {F : Type 0} → Slots F → Type 0
@@ -39,9 +38,8 @@ module _ {F A S : Type 0} (polled : ℕ → F → Poll (Option A) → F → Type
   abbrev pub ItemsComeFromGroups : List (Bounded F S) → Runs A
   ItemsComeFromGroups groups = ItemsWhere (λ x. AnyOf (λ group. GroupMayGive group x) groups)
 
-  -- These items are all that the streams of the old groups gave, of each stream in its order: those
-  -- of the first group, interleaved with those of the others. A group that is no longer listed
-  -- holds no stream.
+  -- These items are all that the streams of the old groups gave, of each stream in its order: those of the first group,
+  -- interleaved with those of the others. A group that is no longer listed holds no stream.
   abbrev pub GroupsGave : List (Bounded F S) → List A → List (Bounded F S) → Type 0
   GroupsGave [] items new = (items ≡ []) × (new ≡ [])
   GroupsGave (group ∷ groups) items new = (left : Bounded F S) × (given : List (ℕ × A))
@@ -52,9 +50,8 @@ module _ {F A S : Type 0} (polled : ℕ → F → Poll (Option A) → F → Type
       × ((new ≡ left ∷ listed) ⊎ ((new ≡ listed) × HoldsNone left.slots))
 
 -- one poll of groups of streams, whether or not one of them stopped
-abbrev pub GroupsPolled : {F A S : Type 0} → (ℕ → F → Poll (Option A) → F → Type 0)
-    → SourceSteps S → (S → ℕ → Woke → S → Type 0)
-    → Groups (Bounded F S) → Poll (Option A) → Groups (Bounded F S) → Type 0
+abbrev pub GroupsPolled : {F A S : Type 0} → (ℕ → F → Poll (Option A) → F → Type 0) → SourceSteps S
+    → (S → ℕ → Woke → S → Type 0) → Groups (Bounded F S) → Poll (Option A) → Groups (Bounded F S) → Type 0
 GroupsPolled polled steps marks old answer new = (stopped : Bool)
     × GroupsGive (MergeAsks polled steps marks) old answer stopped new
 
@@ -70,9 +67,9 @@ KeepsOrderInGroups {F} {A} {S} polled steps marks = (old new : Groups (Bounded F
 abbrev pub slots_of_each : {F S : Type 0} → List (Bounded F S) → List (Slots F)
 slots_of_each {F} {S} groups = map (λ (group : Bounded F S). group.slots) groups
 
--- These groups stood one behind another. The items are all that was given by the streams that they
--- held at first and by those pushed: what one group gave, interleaved with what the others gave. A
--- group that is no longer listed holds no stream.
+-- These groups stood one behind another. The items are all that was given by the streams that they held at first and by
+-- those pushed: what one group gave, interleaved with what the others gave. A group that is no longer listed holds no
+-- stream.
 abbrev pub GroupsGaveInTurn : {F A : Type 0} → (ℕ → F → Poll (Option A) → F → Type 0)
     → List (Slots F) → List A → List F → List (Slots F) → Type 0
 GroupsGaveInTurn polled [] items streams new = (items ≡ []) × (streams ≡ []) × (new ≡ [])
@@ -94,14 +91,11 @@ module _
   where
     -- one poll, or one push
     abbrev pub HappensInGroups : Growing F S → MergeEvent F A → Growing F S → Type 0
-    HappensInGroups old (answered answer) new =
-        GroupsPolled polled steps marks old.groups answer new.groups
-    HappensInGroups old (pushed stream) new =
-        GrowingPushes marks made FIRST_GROUP old stream new
+    HappensInGroups old (answered answer) new = GroupsPolled polled steps marks old.groups answer new.groups
+    HappensInGroups old (pushed stream) new = GrowingPushes marks made FIRST_GROUP old stream new
 
-    -- After any polls and pushes the items of the answers are all that the streams gave that were
-    -- held at first or pushed. Groups that pushes made held none at first, and stand behind the
-    -- others.
+    -- After any polls and pushes the items of the answers are all that the streams gave that were held at first or
+    -- pushed. Groups that pushes made held none at first, and stand behind the others.
     abbrev pub KeepsOrderInGroupsWithPushes : Type 0
     KeepsOrderInGroupsWithPushes = (old new : Growing F S) (events : List (MergeEvent F A))
         → FoldsTo HappensInGroups old events new
@@ -129,11 +123,9 @@ module _
         (new : Growing St S)
         (cx left : Context)
         : Type 0 where
-      -- what came, where the next poll begins, who is woken, who waits where, and what may be polled
-      -- again
+      -- what came, where the next poll begins, who is woken, who waits where, and what may be polled again
       pub groups : PollsGroups as_merge source old answer new cx left
       -- the end comes exactly where no stream is left after the poll
       pub ends : (answer ≡ Ready None) ↔ (held_in_all new.groups.listed ≡ 0)
-      -- who waits where, as a stream: the task of a pending merge hears of each group that holds a
-      -- stream
+      -- who waits where, as a stream: the task of a pending merge hears of each group that holds a stream
       pub registered : OnPending answer (Covers left (AnyNeeds source.needs new.groups.listed))

@@ -20,19 +20,16 @@ IsNoEnd (Ready None) = ⊥
 IsNoEnd Pending = ⊤
 
 module _ {F A : Type 0} (polled : F → Poll (Option A) → F → Type 0) where
-  -- Polls in a row took a stream to what it is now. They gave these items, in order, and none ended
-  -- it.
+  -- Polls in a row took a stream to what it is now. They gave these items, in order, and none ended it.
   pub record Gave (stream : F) (items : List A) (now : F) : Type 0 where
     pub answers : List (Poll (Option A))
     pub polls : FoldsTo polled stream answers now
     pub go_on : AllByRecursion IsNoEnd answers
     pub gave : items ≡ items_in answers
 
-  -- what a place held, the items that its stream gave since, and what the place holds now: a stream
-  -- as its polls left it, or nothing once a poll more ended it; a place that held nothing still
-  -- does
+  -- what a place held, the items that its stream gave since, and what the place holds now: a stream as its polls left
+  -- it, or nothing once a poll more ended it; a place that held nothing still does
   abbrev pub Became : Option F → List A → Option F → Type 0
   Became None items now = (items ≡ []) × (now ≡ None)
   Became (Some stream) items (Some now) = Gave stream items now
-  Became (Some stream) items None =
-      (last : F) × (ended : F) × Gave stream items last × polled last (Ready None) ended
+  Became (Some stream) items None = (last : F) × (ended : F) × Gave stream items last × polled last (Ready None) ended

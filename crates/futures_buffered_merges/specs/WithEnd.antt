@@ -1,5 +1,4 @@
--- What a stream may give that tells its end. A clause names the stream by the ghost members of its
--- type: `St.Stream`.
+-- What a stream may give that tells its end. A clause names the stream by the ghost members of its type: `St.Stream`.
 use Rattle.std.specs.Prelude.{List, Option, IfSome, IsSomeAnd}
 pub use Rattle.futures.specs.declared.stream.Stream.{Ghosts as StreamOf}
 use Rattle.futures.specs.Runs.{ItemsWhere}

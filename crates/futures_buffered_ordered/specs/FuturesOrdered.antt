@@ -1,5 +1,4 @@
--- What a contract sees of an ordered queue that grows: the words on ordered queues at a set that
--- grows.
+-- What a contract sees of an ordered queue that grows: the words on ordered queues at a set that grows.
 use Rattle.std.specs.Prelude.{◌≡◌, ℕ, Option, Result, ⊤}
 use Rattle.std.specs.List.{sum_by}
 use Rattle.futures.specs.declared.task.context.Context.{Context}
@@ -9,18 +8,17 @@ use Rattle.futures_buffered_table.specs.declared.answer.Woke.{Woke}
 use Rattle.futures_buffered_core.specs.Drawn.{Items}
 use Rattle.futures_buffered_core.specs.ReadyShared.{Shared, IsNewShared, MarksShared}
 use Rattle.futures_buffered_unordered.specs.Extended.{MakesGrown}
-use Rattle.futures_buffered_unordered.specs.FuturesUnordered.{AnyGroupMayGive, AnyNeeds, Growing}
-use Rattle.futures_buffered_unordered.specs.FuturesUnordered.{EachHeld, GrowingPushes, IsNewGrowing}
-use Rattle.futures_buffered_unordered.specs.FuturesUnordered.{SetMayRefuse, SetRefuses, held_in_all}
+use Rattle.futures_buffered_unordered.specs.FuturesUnordered.{AnyGroupMayGive, AnyNeeds, Growing, EachHeld}
+use Rattle.futures_buffered_unordered.specs.FuturesUnordered.{GrowingPushes, IsNewGrowing, SetMayRefuse, SetRefuses}
+use Rattle.futures_buffered_unordered.specs.FuturesUnordered.{held_in_all}
 use Rattle.futures_buffered_core.specs.declared.ready_source.ReadySource.{Ghosts as ReadySourceOf}
 use Rattle.futures_buffered_unordered.specs.declared.poll_one.PollOne.{Ghosts as PollOneOf}
 use Rattle.futures_buffered_unordered.specs.PollsGrowing.{PollsGrowing}
 use Rattle.futures_buffered_unordered.specs.declared.futures_unordered.TheConstants.{FIRST_GROUP}
 use Rattle.futures_buffered_unordered.specs.declared.futures_unordered_bounded.TheConstants.{POLL_LIMIT}
-use Rattle.futures_buffered_ordered.specs.Numbered.{CanPollFuture, PollsNumbered, held_with}
-use Rattle.futures_buffered_ordered.specs.Numbered.{of_numbered}
-use Rattle.futures_buffered_ordered.specs.OrderedEntries.{AddsBack, NumberedSetOf, Ordered, IsNewQueue}
-use Rattle.futures_buffered_ordered.specs.OrderedEntries.{PolledSet, PollsOrdered, QueueIsAtBound}
+use Rattle.futures_buffered_ordered.specs.Numbered.{CanPollFuture, PollsNumbered, held_with, of_numbered}
+use Rattle.futures_buffered_ordered.specs.OrderedEntries.{AddsBack, NumberedSetOf, Ordered, IsNewQueue, PolledSet}
+use Rattle.futures_buffered_ordered.specs.OrderedEntries.{PollsOrdered, QueueIsAtBound}
 use Rattle.futures_buffered_ordered.specs.declared.numbered.Numbered.{Numbered}
 
 -- the set that grows of numbered futures, the entries, and how many there is a place for
@@ -42,10 +40,9 @@ module _ {F S : Type 0} where
   GrowingPushesNumber marks made old future i new =
       GrowingPushes marks made FIRST_GROUP old (record { future = future; number = i }) new
 
-  -- the set is one without a group or with one, as it was asked for; there is no entry, and a place
-  -- for so many at least
-  abbrev pub IsNewGrowingQueue : {A : Type 0} → (ℕ → S → Type 0) → ℕ → ℕ → OrderedGrowing F A S
-      → Type 0
+  -- the set is one without a group or with one, as it was asked for; there is no entry, and a place for so many at
+  -- least
+  abbrev pub IsNewGrowingQueue : {A : Type 0} → (ℕ → S → Type 0) → ℕ → ℕ → OrderedGrowing F A S → Type 0
   IsNewGrowingQueue made n limit = IsNewQueue (IsNewGrowing made n limit) n
 
   -- the limit of names stays
@@ -57,8 +54,7 @@ module _ {F S : Type 0} where
   EachInProgress P set = EachHeld (CanPollFuture P) set.groups.listed
 
 -- what a constructor of a queue over shared sources makes of items, or why it makes nothing
-abbrev pub MakesSharedQueue : {U F I A : Type 0} → Items U F I
-    → Result (OrderedGrowing F A Shared) NewFault → Type 0
+abbrev pub MakesSharedQueue : {U F I A : Type 0} → Items U F I → Result (OrderedGrowing F A Shared) NewFault → Type 0
 MakesSharedQueue from = MakesGrown from FIRST_GROUP (λ n. IsNewGrowingQueue IsNewShared n POLL_LIMIT)
     (AddsBack (GrowingPushesNumber MarksShared IsNewShared)) (QueueIsAtBound SetRefuses)
 

@@ -8,17 +8,14 @@ use Rattle.futures_buffered_core.specs.SlotMap.{slot_count}
 use Rattle.futures_buffered_table.specs.declared.answer.Woke.{Woke}
 use Rattle.futures_buffered_core.specs.ReadySource.{SourceSteps}
 use Rattle.futures_buffered_unordered.specs.Held.{AllHeld, AnyMayGive}
-use Rattle.futures_buffered_unordered.specs.FuturesUnorderedBounded.{Bounded, IsNewSet, Pushes}
-use Rattle.futures_buffered_unordered.specs.FuturesUnorderedBounded.{PollGives, held_in, slots_in}
+use Rattle.futures_buffered_unordered.specs.FuturesUnorderedBounded.{Bounded, IsNewSet, Pushes, PollGives, held_in}
+use Rattle.futures_buffered_unordered.specs.FuturesUnorderedBounded.{slots_in}
 use Rattle.futures_buffered_core.specs.declared.ready_source.ReadySource.{Ghosts as ReadySourceOf}
 use Rattle.futures_buffered_unordered.specs.declared.poll_one.PollOne.{Ghosts as PollOneOf}
 use Rattle.futures_buffered_unordered.specs.PollsBounded.{PollsBounded}
-use Rattle.futures_buffered_ordered.specs.Numbered.{CanPollFuture, PollsNumbered, held_with}
-use Rattle.futures_buffered_ordered.specs.Numbered.{of_numbered}
-use Rattle.futures_buffered_ordered.specs.OrderedEntries.{Ordered, IsNewQueue, AddsEachBack}
-use Rattle.futures_buffered_ordered.specs.OrderedEntries.{BesideTask, LastStep, NumberedSetOf}
-use Rattle.futures_buffered_ordered.specs.OrderedEntries.{PolledSet, PollsOrdered}
-use Rattle.futures_buffered_ordered.specs.OrderedEntries.{SetYields, with_task}
+use Rattle.futures_buffered_ordered.specs.Numbered.{CanPollFuture, PollsNumbered, held_with, of_numbered}
+use Rattle.futures_buffered_ordered.specs.OrderedEntries.{Ordered, IsNewQueue, AddsEachBack, BesideTask, LastStep}
+use Rattle.futures_buffered_ordered.specs.OrderedEntries.{NumberedSetOf, PolledSet, PollsOrdered, SetYields, with_task}
 use Rattle.futures_buffered_ordered.specs.declared.numbered.Numbered.{Numbered}
 
 -- the bounded set of numbered futures, the entries, and how many entries there is a place for
@@ -29,8 +26,7 @@ module _ {F S : Type 0} where
   -- a future went into the set with a number
   abbrev pub PushesNumber : (S → ℕ → Woke → S → Type 0) → Bounded (Numbered F) S → F → ℕ
       → Bounded (Numbered F) S → Type 0
-  PushesNumber marks old future i new =
-      Pushes marks old (record { future = future; number = i }) new
+  PushesNumber marks old future i new = Pushes marks old (record { future = future; number = i }) new
 
   -- each slot holds a future
   abbrev pub SetIsFull : Bounded (Numbered F) S → Type 0
@@ -41,8 +37,7 @@ module _ {F S : Type 0} where
     pub capacity : slot_count new.slots ≡ slot_count old.slots
     pub limit : new.limit ≡ old.limit
 
-  -- What a push at an end makes of a queue that has fewer entries than slots: `adds` says what it is
-  -- to go in there.
+  -- What a push at an end makes of a queue that has fewer entries than slots: `adds` says what it is to go in there.
   pub record PushesEntry
       {A : Type 0}
       (adds : OrderedBounded F A S → F → OrderedBounded F A S → Type 0)
@@ -60,8 +55,7 @@ module _ {F S : Type 0} where
   QueueIsFull q = SetIsFull q.set
 
   -- no entry, and every slot free, over a source made for these slots
-  abbrev pub IsNewBoundedQueue : {A : Type 0} → (ℕ → S → Type 0) → ℕ → ℕ → OrderedBounded F A S
-      → Type 0
+  abbrev pub IsNewBoundedQueue : {A : Type 0} → (ℕ → S → Type 0) → ℕ → ℕ → OrderedBounded F A S → Type 0
   IsNewBoundedQueue made cap limit = IsNewQueue (IsNewSet made cap limit) cap
 
   -- these items were added at the back, in order, to a new queue of a slot for each
@@ -81,13 +75,11 @@ module _ {F A S : Type 0} (polled : ℕ → F → Poll A → F → Type 0) where
   SetMayGive set = AnyMayGive (PollsNumbered polled) set.slots
 
   -- what one poll of the set gives, whose output comes with its number, told of the set alone
-  abbrev pub SetGives : SourceSteps S → Bounded (Numbered F) S → Poll (Option (ℕ × A))
-      → Bounded (Numbered F) S → Type 0
+  abbrev pub SetGives : SourceSteps S → Bounded (Numbered F) S → Poll (Option (ℕ × A)) → Bounded (Numbered F) S → Type 0
   SetGives steps = PollGives (PollsNumbered polled) steps
 
 -- what the bounded set is to a queue over it
-abbrev pub bounded_numbers : {F S W : Type 0} → ReadySourceOf S W
-    → NumberedSetOf (Bounded (Numbered F) S) F
+abbrev pub bounded_numbers : {F S W : Type 0} → ReadySourceOf S W → NumberedSetOf (Bounded (Numbered F) S) F
 bounded_numbers source = record {
   count = held_in;
   with_number = held_with;
@@ -141,11 +133,9 @@ module _
         (answer : Poll (Option A)) (new : Ordered (Bounded (Numbered F) S × Context) A)
         → LastStep (BesideTask (PollsBounded (of_numbered rule) source)) old answer new → ℕ
     names_of_last old (Ready _) new step = 0
-    names_of_last old Pending new step =
-        names_taken old.set.0 Pending new.set.0 old.set.1 new.set.1 step.1
+    names_of_last old Pending new step = names_taken old.set.0 Pending new.set.0 old.set.1 new.set.1 step.1
 
-    -- each poll takes at most as many names as the limit is, for each future that is in progress as
-    -- it begins
+    -- each poll takes at most as many names as the limit is, for each future that is in progress as it begins
     abbrev pub TakesFewNames : Type 0
     TakesFewNames = (old : OrderedBounded F A S) (answer : Poll (Option A))
         (new : OrderedBounded F A S) (cx left : Context)

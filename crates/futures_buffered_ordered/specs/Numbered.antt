@@ -1,7 +1,6 @@
--- What it is to poll a future that carries the number of its entry, how many futures of a bounded
--- set carry a number, and what the calls of any set of such futures make of it.
-use Rattle.std.specs.Prelude.{◌≡◌, ℕ, ◌+◌, ◌==◌, cond, Bool, false, Option, Some, None, count_by}
-use Rattle.std.specs.Prelude.{IfNone}
+-- What it is to poll a future that carries the number of its entry, how many futures of a bounded set carry a number,
+-- and what the calls of any set of such futures make of it.
+use Rattle.std.specs.Prelude.{◌≡◌, ℕ, ◌+◌, ◌==◌, cond, Bool, false, Option, Some, None, count_by, IfNone}
 use Rattle.futures.specs.Task.{Covers, Keeps}
 use Rattle.futures.specs.Poll.{IfReady, OnPending}
 use Rattle.futures.specs.declared.task.context.Context.{Context}
@@ -20,14 +19,12 @@ CanPollFuture can_poll numbered = can_poll numbered.future
 -- the future is polled, and the number stays; an output comes with it
 abbrev pub PollsNumbered : {F A : Type 0} → (ℕ → F → Poll A → F → Type 0) → ℕ → Numbered F
     → Poll (ℕ × A) → Numbered F → Type 0
-PollsNumbered polled slot old Pending new =
-    polled slot old.future Pending new.future × (new.number ≡ old.number)
+PollsNumbered polled slot old Pending new = polled slot old.future Pending new.future × (new.number ≡ old.number)
 PollsNumbered polled slot old (Ready (i, x)) new =
     polled slot old.future (Ready x) new.future × (new.number ≡ old.number) × (i ≡ old.number)
 
 -- the rule, for futures that carry a number
-abbrev pub of_numbered : {R F W A : Type 0} → PollOneOf R F W A
-    → PollOneOf (PollNumbered R) (Numbered F) W (ℕ × A)
+abbrev pub of_numbered : {R F W A : Type 0} → PollOneOf R F W A → PollOneOf (PollNumbered R) (Numbered F) W (ℕ × A)
 of_numbered rule = record {
   can_poll = CanPollFuture rule.can_poll;
   polled = PollsNumbered rule.polled;

@@ -1,9 +1,7 @@
--- What a contract sees of an ordered queue, and what its calls make of it. The set that holds the
--- futures in progress may be any that takes a number with a future and gives it back with the
--- output.
-use Rattle.std.specs.Prelude.{◌≡◌, ◌≢◌, ◌⊎◌, ◌↔◌, ℕ, ◌+◌, ◌<◌, ◌≤◌, ◌==◌, Bool, true, false, List}
-use Rattle.std.specs.Prelude.{[], ◌∷◌, ◌++◌, length, Option, Some, None, count_by, slice_set, Result}
-use Rattle.std.specs.Prelude.{Err, IfErr, OnOk, OnErr, IsErr}
+-- What a contract sees of an ordered queue, and what its calls make of it. The set that holds the futures in progress
+-- may be any that takes a number with a future and gives it back with the output.
+use Rattle.std.specs.Prelude.{◌≡◌, ◌≢◌, ◌⊎◌, ◌↔◌, ℕ, ◌+◌, ◌<◌, ◌≤◌, ◌==◌, Bool, true, false, List, [], ◌∷◌, ◌++◌}
+use Rattle.std.specs.Prelude.{length, Option, Some, None, count_by, slice_set, Result, Err, IfErr, OnOk, OnErr, IsErr}
 use Rattle.std.specs.List.{FoldsTo, slice_get}
 use Rattle.futures.specs.Task.{Covers, Keeps}
 use Rattle.futures.specs.Poll.{OnPending}
@@ -18,9 +16,8 @@ use Rattle.futures_buffered_ordered.specs.declared.ordered_entries.Entry.{Entry}
 use Rattle.futures_buffered_ordered.specs.declared.ordered_entries.Entry.TheVariants.{Running, Kept}
 use Rattle.futures_buffered_ordered.specs.declared.ordered_entries.TheConstants.{MAX_LEN}
 
--- the set that holds the futures in progress, each with a number; the entries from the front to the
--- back, where one in progress has the number of its future; and how many entries there is a place
--- for
+-- the set that holds the futures in progress, each with a number; the entries from the front to the back, where one in
+-- progress has the number of its future; and how many entries there is a place for
 pub record Ordered (Q A : Type 0) : Type 0 where
   pub set : Q
   pub entries : List (Entry A)
@@ -48,15 +45,13 @@ module _ {A : Type 0} where
   IsUnused i entries = (k : ℕ) → slice_get entries k ≢ Some (Running i)
 
 module _ {Q A : Type 0} where
-  -- each entry in progress has a future of its own in the set, which has its number, and the set
-  -- holds no other future
+  -- each entry in progress has a future of its own in the set, which has its number, and the set holds no other future
   pub record EachHasOne (with_number : ℕ → Q → ℕ) (q : Ordered Q A) : Type 0 where
     pub as_many : (i : ℕ) → with_number i q.set ≡ count_by (runs_with i) q.entries
-    pub once : (j k i : ℕ) → slice_get q.entries j ≡ Some (Running i)
-        → slice_get q.entries k ≡ Some (Running i) → j ≡ k
+    pub once : (j k i : ℕ) → slice_get q.entries j ≡ Some (Running i) → slice_get q.entries k ≡ Some (Running i) → j ≡ k
 
-  -- n is the length of a queue, whose set holds as many futures as `count` says, and as many with a
-  -- number as `with_number` says.
+  -- n is the length of a queue, whose set holds as many futures as `count` says, and as many with a number as
+  -- `with_number` says.
   pub record IsLength (with_number : ℕ → Q → ℕ) (count : Q → ℕ) (q : Ordered Q A) (n : ℕ)
       : Type 0 where
     -- the number of entries
@@ -82,11 +77,9 @@ module _ {Q A : Type 0} where
     pub entries : new.entries ≡ old.entries
     pub room : old.room ≤ new.room
 
-  -- a push asks for memory for its entry, or the set may refuse it, or the queue is as long as it
-  -- may be
+  -- a push asks for memory for its entry, or the set may refuse it, or the queue is as long as it may be
   abbrev pub MayRefuse : (Q → Type 0) → Ordered Q A → Type 0
-  MayRefuse set_may_refuse q =
-      (q.room ≤ length q.entries) ⊎ set_may_refuse q.set ⊎ (length q.entries ≡ MAX_LEN)
+  MayRefuse set_may_refuse q = (q.room ≤ length q.entries) ⊎ set_may_refuse q.set ⊎ (length q.entries ≡ MAX_LEN)
 
   -- such a push may be refused, and no entry and no future has changed
   abbrev pub RefusesOne : (Q → Type 0) → Ordered Q A → Ordered Q A → Type 0
@@ -111,8 +104,8 @@ pub record HandsBack
   -- such a push may be refused
   pub may_refuse : MayRefuse set_may_refuse old
 
--- What a push at an end, from old to new, makes of a queue: `adds` says what it is to go in at this
--- end, `AddsBack` or `AddsFront`, over the pushes of the set.
+-- What a push at an end, from old to new, makes of a queue: `adds` says what it is to go in at this end, `AddsBack` or
+-- `AddsFront`, over the pushes of the set.
 module _
     {F Q A : Type 0}
     (adds : (Q → F → ℕ → Q → Type 0) → Ordered Q A → F → Ordered Q A → Type 0)
@@ -154,21 +147,19 @@ module _ {F Q A : Type 0} (pushes : Q → F → ℕ → Q → Type 0) where
 
   -- the future went into the set, and its entry behind all others
   abbrev pub AddsBack : Ordered Q A → F → Ordered Q A → Type 0
-  AddsBack old future new =
-      (i : ℕ) × PushesNumbered old future i new × (new.entries ≡ old.entries ++ Running i ∷ [])
+  AddsBack old future new = (i : ℕ) × PushesNumbered old future i new × (new.entries ≡ old.entries ++ Running i ∷ [])
 
   -- the future went into the set, and its entry before all others
   abbrev pub AddsFront : Ordered Q A → F → Ordered Q A → Type 0
-  AddsFront old future new =
-      (i : ℕ) × PushesNumbered old future i new × (new.entries ≡ Running i ∷ old.entries)
+  AddsFront old future new = (i : ℕ) × PushesNumbered old future i new × (new.entries ≡ Running i ∷ old.entries)
 
   -- these futures were added at the back, one after another
   abbrev pub AddsEachBack : Ordered Q A → List F → Ordered Q A → Type 0
   AddsEachBack = FoldsTo AddsBack
 
 module _ {Q A : Type 0} (gives : Q → Poll (Option (ℕ × A)) → Q → Type 0) where
-  -- while the front is in progress, the set is polled; the future with number i gives x, and its
-  -- entry, the one at this place, keeps it
+  -- while the front is in progress, the set is polled; the future with number i gives x, and its entry, the one at this
+  -- place, keeps it
   pub record SetYields (old : Ordered Q A) (out : ℕ × A) (new : Ordered Q A) : Type 0 where
     pub front_runs : starts_running old.entries ≡ true
     pub gave : gives old.set (Ready (Some out)) new.set
@@ -177,19 +168,17 @@ module _ {Q A : Type 0} (gives : Q → Poll (Option (ℕ × A)) → Q → Type 0
     pub entries : new.entries ≡ slice_set old.entries at (Kept out.1)
     pub room : new.room ≡ old.room
 
-  -- how a poll ends: there is no entry, and nothing changes; the front's output is kept already and
-  -- is given, without a poll of the set; or the front is in progress, the set is polled, and answers
-  -- Pending
+  -- how a poll ends: there is no entry, and nothing changes; the front's output is kept already and is given, without a
+  -- poll of the set; or the front is in progress, the set is polled, and answers Pending
   abbrev pub LastStep : Ordered Q A → Poll (Option A) → Ordered Q A → Type 0
   LastStep old (Ready None) new = (old.entries ≡ []) × (new ≡ old)
-  LastStep old (Ready (Some x)) new =
-      (old.entries ≡ Kept x ∷ new.entries) × (new.set ≡ old.set) × (new.room ≡ old.room)
+  LastStep old (Ready (Some x)) new = (old.entries ≡ Kept x ∷ new.entries) × (new.set ≡ old.set) × (new.room ≡ old.room)
   LastStep old Pending new =
       (starts_running old.entries ≡ true) × gives old.set Pending new.set
       × (new.entries ≡ old.entries) × (new.room ≡ old.room)
 
-  -- One poll: polls of the set that each gave an output, and then the last step. Each output is a
-  -- future less in progress.
+  -- One poll: polls of the set that each gave an output, and then the last step. Each output is a future less in
+  -- progress.
   pub record OrderedGives (count : Q → ℕ) (old : Ordered Q A) (answer : Poll (Option A))
       (new : Ordered Q A) : Type 0 where
     pub yielded : List (ℕ × A)
@@ -203,9 +192,8 @@ abbrev pub with_task : {Q A : Type 0} → Ordered Q A → Context → Ordered (Q
 with_task q cx = record { set = (q.set, cx); entries = q.entries; room = q.room }
 
 -- a poll of the set that stands beside its task
-abbrev pub BesideTask : {Q A : Type 0}
-    → (Q → Poll (Option (ℕ × A)) → Q → Context → Context → Type 0)
-    → Q × Context → Poll (Option (ℕ × A)) → Q × Context → Type 0
+abbrev pub BesideTask : {Q A : Type 0} → (Q → Poll (Option (ℕ × A)) → Q → Context → Context → Type 0) → Q × Context
+    → Poll (Option (ℕ × A)) → Q × Context → Type 0
 BesideTask gives old answer new = gives old.0 answer new.0 old.1 new.1
 
 -- how a set of numbered futures is polled
@@ -249,9 +237,9 @@ module _ {Q A : Type 0} (polls : PolledSet Q A) where
       (new : Ordered Q A)
       (cx left : Context)
       : Type 0 where
-    -- what came, and who is woken: while the front is in progress the set is polled, and each output
-    -- is kept in its entry; then comes the front's output, the end, or the set's Pending. The polls
-    -- of the set leave the task, one after another
+    -- what came, and who is woken: while the front is in progress the set is polled, and each output is kept in its
+    -- entry; then comes the front's output, the end, or the set's Pending. The polls of the set leave the task, one
+    -- after another
     pub gave : OrderedGives (BesideTask polls.gives) (λ set. polls.count set.0)
         (with_task old cx) answer (with_task new left)
     -- what stays, who waits where, and what may be polled again
@@ -263,13 +251,11 @@ InTurn gives [] = Ends
 InTurn gives (e ∷ es) = Leads (gives e) (InTurn gives es)
 
 module _ {Q A : Type 0} (may_give : Q → ℕ × A → Type 0) where
-  -- an entry in progress may give what the future with its number may give, and one that keeps an
-  -- output gives that
+  -- an entry in progress may give what the future with its number may give, and one that keeps an output gives that
   abbrev pub EntryGives : Q → Entry A → A → Type 0
   EntryGives set (Running i) y = may_give set (i, y)
   EntryGives set (Kept x) y = y ≡ x
 
-  -- what may come from a queue: an output of each entry, from the front to the back, and then the
-  -- end
+  -- what may come from a queue: an output of each entry, from the front to the back, and then the end
   abbrev pub ComesInOrder : Ordered Q A → Runs A
   ComesInOrder q = InTurn (EntryGives q.set) q.entries

@@ -1,5 +1,5 @@
--- How an ordered queue finds the entry of a future: what its numbers are, and what its calls ask and
--- keep of them. The contracts of `OrderedEntries` cite it, and those of the queues do not.
+-- How an ordered queue finds the entry of a future: what its numbers are, and what its calls ask and keep of them. The
+-- contracts of `OrderedEntries` cite it, and those of the queues do not.
 use Rattle.std.specs.Prelude.{◌≡◌, ℕ, ◌+◌, ◌-◌, ◌^◌, ◌%◌, ◌<◌, ◌≤◌, List, length, Some, count_by}
 use Rattle.std.specs.List.{slice_get}
 use Rattle.futures_buffered_ordered.specs.Numbered.{PushesInto}
@@ -17,8 +17,8 @@ pub record Numbering (Q A : Type 0) : Type 0 where
   pub queue : Ordered Q A
   pub outgoing : ℕ
 
--- Numbers rise by one from entry to entry, and wrap. The set holds as many futures of each number
--- as entries in progress have it. The length has no more than 63 bits, so no number comes twice.
+-- Numbers rise by one from entry to entry, and wrap. The set holds as many futures of each number as entries in
+-- progress have it. The length has no more than 63 bits, so no number comes twice.
 pub record KeepsNumbers
     {Q A : Type 0}
     (with_number : ℕ → Q → ℕ)
@@ -35,11 +35,9 @@ pub record KeepsNumbers
 
 -- the queue is numbered in this way
 abbrev pub IsNumbered : {Q A : Type 0} → (ℕ → Q → ℕ) → (Q → ℕ) → Numbering Q A → Type 0
-IsNumbered with_number count n =
-    KeepsNumbers with_number count n.queue.set n.queue.entries n.outgoing
+IsNumbered with_number count n = KeepsNumbers with_number count n.queue.set n.queue.entries n.outgoing
 
--- The future went into the set with number i, and its entry is still to come: there is a place for
--- it.
+-- The future went into the set with number i, and its entry is still to come: there is a place for it.
 pub record Admits
     {F Q A : Type 0}
     (numbers : NumberedSetOf Q F)

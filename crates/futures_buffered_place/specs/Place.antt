@@ -99,8 +99,8 @@ module _ {O : Type 0} where
   abbrev pub first_poller : View O
   first_poller = record { right = Alone; hand = Nothing; put = []; taken = []; busy = 0; empty = 0 }
 
-  -- the seat's next view: with the slot in its hand or not; behind a value that it takes out, or puts in; where another seat
-  -- is at the place; where none is kept
+  -- the seat's next view: with the slot in its hand or not; behind a value that it takes out, or puts in; where another
+  -- seat is at the place; where none is kept
   abbrev pub in_hand : View O → Hand → View O
   in_hand v hand = record v { hand = hand }
 

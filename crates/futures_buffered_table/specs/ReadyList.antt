@@ -38,5 +38,4 @@ AddsSteps before now shape = now.me.0.steps ≡ before.me.0.steps ++ shape
 
 -- it made the steps that put a slot into the row as its last entry
 abbrev pub PutsInRow : ℕ → Seat ℕ View → Seat ℕ View → Type 0
-PutsInRow slot before now =
-    (p : ℕ) × AddsSteps before now (LinkClear slot ∷ TailSwap slot p ∷ LinkWrite p slot ∷ [])
+PutsInRow slot before now = (p : ℕ) × AddsSteps before now (LinkClear slot ∷ TailSwap slot p ∷ LinkWrite p slot ∷ [])

@@ -1,5 +1,5 @@
--- The row of entries h ∷ rest, from the poller's head to the tail word: what follows an entry, by
--- its link or by the view of a seat that is about to write that link.
+-- The row of entries h ∷ rest, from the poller's head to the tail word: what follows an entry, by its link or by the
+-- view of a seat that is about to write that link.
 use Rattle.std.specs.Prelude.{◌≡◌, ◌⊎◌, ℕ, suc, ◌+◌, ◌<◌, ◌==◌, List, [], ◌∷◌, if◌then◌else◌}
 use Rattle.futures_buffered_table.specs.declared.view.Phase.TheVariants.{StubPut}
 use Rattle.futures_buffered_table.specs.declared.view.Role.{Role}

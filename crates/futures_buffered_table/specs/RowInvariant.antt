@@ -1,16 +1,13 @@
--- How words and views keep themselves between any two steps (`KeepsRow`). The public laws take the
--- whereabouts, the tally and the empty row from it.
+-- How words and views keep themselves between any two steps (`KeepsRow`). The public laws take the whereabouts, the
+-- tally and the empty row from it.
 use Rattle.std.specs.Prelude.{◌≡◌, ◌≢◌, ℕ, suc, ◌+◌, ◌<◌, ◌≤◌, List, ◌∷◌, length}
 use mathlib.Core.Option.{some}
 use lib.ListN.{get_elem?}
 use Rattle.futures_buffered_table.specs.declared.view.Phase.{Phase}
-use Rattle.futures_buffered_table.specs.declared.view.Phase.TheVariants.{Start, AtStub, Moved}
-use Rattle.futures_buffered_table.specs.declared.view.Phase.TheVariants.{NoNext, Last, StubCleared}
-use Rattle.futures_buffered_table.specs.declared.view.Phase.TheVariants.{StubPut, StubLinked}
-use Rattle.futures_buffered_table.specs.declared.view.Phase.TheVariants.{InHand}
+use Rattle.futures_buffered_table.specs.declared.view.Phase.TheVariants.{Start, AtStub, Moved, NoNext, Last}
+use Rattle.futures_buffered_table.specs.declared.view.Phase.TheVariants.{StubCleared, StubPut, StubLinked, InHand}
 use Rattle.futures_buffered_table.specs.declared.view.Role.{Role}
-use Rattle.futures_buffered_table.specs.declared.view.Role.TheVariants.{Idle, Won, Cleared, Swapped}
-use Rattle.futures_buffered_table.specs.declared.view.Role.TheVariants.{Polls}
+use Rattle.futures_buffered_table.specs.declared.view.Role.TheVariants.{Idle, Won, Cleared, Swapped, Polls}
 use Rattle.futures_buffered_table.specs.declared.view.View.{View}
 use Rattle.futures_buffered_table.specs.Row.{IsLinked, last_entry, next, owed, same, times, total}
 use Rattle.futures_buffered_table.specs.Words.{link, mark, tail}
@@ -54,14 +51,11 @@ pub record KeepsRow (n h : ℕ) (rest : List ℕ) (poller : ℕ) (words : List �
     Type 0 where
   pub wide : length words ≡ n + n + 2
   pub ends : last_entry h rest ≡ tail n words
-  -- each entry of the row is followed by the next, or one seat is between its tail swap and its
-  -- link write
-  pub linked : (p : ℕ) → 0 < times p (h ∷ rest) → (p ≤ n)
-      × IsLinked (next p h rest) (link n words p) (owed views p)
+  -- each entry of the row is followed by the next, or one seat is between its tail swap and its link write
+  pub linked : (p : ℕ) → 0 < times p (h ∷ rest) → (p ≤ n) × IsLinked (next p h rest) (link n words p) (owed views p)
   pub unowed : (p : ℕ) → times p (h ∷ rest) ≡ 0 → owed views p ≡ 0
   -- each slot is idle, or in the row once, or with one seat
-  pub whereabouts : (e : ℕ) → e < n → (times e (h ∷ rest) + outside n views e ≡ mark words e)
-      × (mark words e ≤ 1)
+  pub whereabouts : (e : ℕ) → e < n → (times e (h ∷ rest) + outside n views e ≡ mark words e) × (mark words e ≤ 1)
   pub stub_once : times n (h ∷ rest) + outside n views n ≤ 1
   -- the poller alone unmarks
   pub seats : (j : ℕ) (v : View) → get_elem? views j ≡ some v →

@@ -1,9 +1,8 @@
--- The rule of the atomic table (`HoldsRow`), which holds between any two steps of any threads, and
--- what a step tells the seat that makes it (`PlaysRole`) or is made with it (`PlaysNewWaker`).
+-- The rule of the atomic table (`HoldsRow`), which holds between any two steps of any threads, and what a step tells
+-- the seat that makes it (`PlaysRole`) or is made with it (`PlaysNewWaker`).
 use Rattle.std.specs.Prelude.{◌≡◌, ℕ, suc, ◌≤◌, List, []}
 use Rattle.atomic_table.specs.Table.{State, Me, Step as TableStep}
-use Rattle.futures_buffered_table.specs.declared.view.Phase.TheVariants.{Start, Moved, StubCleared}
-use Rattle.futures_buffered_table.specs.declared.view.Phase.TheVariants.{StubLinked}
+use Rattle.futures_buffered_table.specs.declared.view.Phase.TheVariants.{Start, Moved, StubCleared, StubLinked}
 use Rattle.futures_buffered_table.specs.declared.view.Role.{Role}
 use Rattle.futures_buffered_table.specs.declared.view.Role.TheVariants.{Idle, Cleared, Polls}
 use Rattle.futures_buffered_table.specs.declared.view.View.{View}
@@ -11,8 +10,7 @@ use Rattle.futures_buffered_table.specs.RowInvariant.{KeepsRow}
 use Rattle.futures_buffered_table.specs.Effect.{next_view}
 use Rattle.futures_buffered_table.specs.View.{new_waker_beside}
 
--- the words and all views, of a list for n slots, have a row that keeps itself, from the head of
--- one poller to the tail
+-- the words and all views, of a list for n slots, have a row that keeps itself, from the head of one poller to the tail
 abbrev pub HoldsRow : ℕ → State ℕ View → Type 0
 HoldsRow n s = (h : ℕ) × (rest : List ℕ) × (poller : ℕ) × KeepsRow n h rest poller s.words s.views
 
@@ -31,7 +29,7 @@ abbrev pub PlaysRole : TableStep ℕ → Me ℕ View → ℕ → Me ℕ View →
 PlaysRole s before found after = (after.0 ≡ next_view s.word before.0 found) × (after.1 ≡ before.1)
     × MayFind before.0.stub before.0.role found
 
--- the step of a wake seat that is made with it: as if a new one, which holds no slot of the table,
--- had stood beside this seat
+-- the step of a wake seat that is made with it: as if a new one, which holds no slot of the table, had stood beside
+-- this seat
 abbrev pub PlaysNewWaker : TableStep ℕ → Me ℕ View → ℕ → Me ℕ View → Type 0
 PlaysNewWaker s beside found after = PlaysRole s (new_waker_beside beside.0, []) found after

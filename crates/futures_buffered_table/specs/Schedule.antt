@@ -1,7 +1,6 @@
--- A schedule: which steps of the wake seats and one poll seat, the seat after them, are made in
--- which order. It determines every word, every view and every reply.
-use Rattle.std.specs.Prelude.{◌≡◌, ℕ, List, [], ◌∷◌, map, slice_index, slice_index_or, slice_set}
-use Rattle.std.specs.Prelude.{take}
+-- A schedule: which steps of the wake seats and one poll seat, the seat after them, are made in which order. It
+-- determines every word, every view and every reply.
+use Rattle.std.specs.Prelude.{◌≡◌, ℕ, List, [], ◌∷◌, map, slice_index, slice_index_or, slice_set, take}
 use mathlib.Core.Option.{some}
 use lib.ListN.{get_elem?}
 use Rattle.futures_buffered_table.specs.declared.step.Step.{Step}
@@ -56,8 +55,7 @@ Legal n c (s ∷ ss) = CanStep n (map role_of c.views) s × Legal n (after_step 
 -- what they are answered
 abbrev pub replies_of : ℕ → Moment → List Step → List StepReply
 replies_of n c [] = []
-replies_of n c (s ∷ ss) =
-    reply_of_role n (view_at c s).role (found_at n c s) ∷ replies_of n (after_step n c s) ss
+replies_of n c (s ∷ ss) = reply_of_role n (view_at c s).role (found_at n c s) ∷ replies_of n (after_step n c s) ss
 
 -- the steps before the k-th can be made, and it cannot
 abbrev pub IsStuckAt : ℕ → List Step → ℕ → Type 0

@@ -1,5 +1,5 @@
--- What a schedule keeps, told from its steps and their replies alone: in which order slots are
--- answered, and what Empty and Pause say. No word, link or view is spoken of.
+-- What a schedule keeps, told from its steps and their replies alone: in which order slots are answered, and what Empty
+-- and Pause say. No word, link or view is spoken of.
 use Rattle.std.specs.Prelude.{◌≡◌, ◌⊎◌, ℕ, suc, ◌<◌, ◌==◌, if◌then◌else◌, List, [], ◌∷◌, ◌++◌}
 use Rattle.futures_buffered_table.specs.declared.answer.Taken.TheVariants.{Slot, Empty, Pause}
 use Rattle.futures_buffered_table.specs.declared.step.Step.{Step}
@@ -14,8 +14,7 @@ pub record Made : Type 0 where
   pub step : Step
   pub reply : StepReply
 
--- a wake under way: its slot, and how many of its four steps are made; no wake is under way where
--- none is made
+-- a wake under way: its slot, and how many of its four steps are made; no wake is under way where none is made
 pub record Wake : Type 0 where
   pub slot : ℕ
   pub made : ℕ
@@ -83,8 +82,8 @@ abbrev pub EmptyIsTrue : List Made → Type 0
 EmptyIsTrue [] = Unit {0}
 EmptyIsTrue (t ∷ past) = t.reply ≡ Taken Empty → put_in past ≡ answered past
 
--- where a taking has just answered Pause, some waker stood between its tail swap and its link write
--- at some moment of that taking
+-- where a taking has just answered Pause, some waker stood between its tail swap and its link write at some moment of
+-- that taking
 abbrev pub PauseHasCause : List Made → Type 0
 PauseHasCause [] = Unit {0}
 PauseHasCause (t ∷ past) = t.reply ≡ Taken Pause → WakerStands past ⊎ WakerStood past

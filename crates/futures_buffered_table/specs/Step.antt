@@ -22,8 +22,8 @@ slot_of Poll = 0
 abbrev pub role_at : List Role → ℕ → Role
 role_at roles seat = slice_index_or roles seat Idle
 
--- a wake of a slot below the capacity begins at an idle wake seat, and goes on at one that is not
--- idle; the poller can always step
+-- a wake of a slot below the capacity begins at an idle wake seat, and goes on at one that is not idle; the poller can
+-- always step
 abbrev pub CanStep : ℕ → List Role → Step → Type 0
 CanStep n roles (Mark seat slot) = (seat < WAKE_SEATS) × (slot < n) × (role_at roles seat ≡ Idle)
 CanStep n roles (Go seat) = (seat < WAKE_SEATS) × (role_at roles seat ≢ Idle)

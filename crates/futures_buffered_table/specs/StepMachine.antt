@@ -53,15 +53,13 @@ IsLedTo m = (schedule : List Step) × Leads schedule m
 abbrev pub replies_to : Machine → List Step → List StepReply
 replies_to m schedule = replies_of m.capacity (at_start m.capacity) schedule
 
--- each schedule that led to the old machine leads, with the step at its end, to the new one, and
--- this reply comes last
+-- each schedule that led to the old machine leads, with the step at its end, to the new one, and this reply comes last
 abbrev pub LeadsOn : Machine → Step → Machine → StepReply → Type 0
 LeadsOn old step new reply = (schedule : List Step) → Leads schedule old →
     Leads (schedule ++ step ∷ []) new
     × (replies_to new (schedule ++ step ∷ []) ≡ replies_to old schedule ++ reply ∷ [])
 
--- with the lists of steps that a schedule which leads here makes, each slot is in its one place and
--- no mark is lost
+-- with the lists of steps that a schedule which leads here makes, each slot is in its one place and no mark is lost
 abbrev pub PlacesSlots : Machine → Type 0
 PlacesSlots m = (schedule : List Step) → Leads schedule m →
     let views = (run m.capacity (at_start m.capacity) schedule).views in

@@ -1,12 +1,10 @@
--- The shapes of a taking: which steps it makes, with what was found, for each answer. There is no
--- other shape.
--- In each, h is the poller's head before these steps, and `head` its head after them.
+-- The shapes of a taking: which steps it makes, with what was found, for each answer. There is no other shape. In each,
+-- h is the poller's head before these steps, and `head` its head after them.
 use Rattle.std.specs.Prelude.{◌≡◌, ◌≢◌, ◌<◌, ◌≤◌, ◌⊎◌, ℕ, suc, List, [], ◌∷◌, ◌++◌}
 use Rattle.futures_buffered_table.specs.declared.answer.Taken.{Taken}
 use Rattle.futures_buffered_table.specs.declared.answer.Taken.TheVariants.{Slot, Empty, Pause}
 use Rattle.futures_buffered_table.specs.declared.view.AtomicStep.{AtomicStep}
-use Rattle.futures_buffered_table.specs.declared.view.AtomicStep.TheVariants.{LinkClear, TailSwap}
-use Rattle.futures_buffered_table.specs.declared.view.AtomicStep.TheVariants.{LinkWrite, LinkRead}
+use Rattle.futures_buffered_table.specs.declared.view.AtomicStep.TheVariants.{LinkClear, TailSwap, LinkWrite, LinkRead}
 use Rattle.futures_buffered_table.specs.declared.view.AtomicStep.TheVariants.{TailRead, Unmark}
 use Rattle.atomic_table.specs.declared.shared.Seat.{Seat}
 use Rattle.futures_buffered_table.specs.declared.view.Phase.TheVariants.{Moved, Start, StubLinked}
@@ -14,11 +12,10 @@ use Rattle.futures_buffered_table.specs.declared.view.Role.TheVariants.{Polls}
 use Rattle.futures_buffered_table.specs.declared.view.View.{View}
 use Rattle.futures_buffered_table.specs.ReadyList.{AddsSteps, IsInRole, ListIdentity}
 
--- the seat is to read the link of its head, a slot: the head moved there from the stub, or the stub
--- stands behind it now
+-- the seat is to read the link of its head, a slot: the head moved there from the stub, or the stub stands behind it
+-- now
 abbrev pub ReadsSlot : ListIdentity → ℕ → Seat ℕ View → Type 0
-ReadsSlot list head seat =
-    IsInRole list (Polls head Moved) seat ⊎ IsInRole list (Polls head StubLinked) seat
+ReadsSlot list head seat = IsInRole list (Polls head Moved) seat ⊎ IsInRole list (Polls head StubLinked) seat
 
 -- the link of h names the entry `head`: the slot h is answered, its unmark the last step
 abbrev pub IsHanded : ℕ → List AtomicStep → Taken → ℕ → Type 0
@@ -31,8 +28,7 @@ IsReadAgain h shape answer head =
 
 -- h is a slot whose link named none, and another entry is the tail
 abbrev pub IsBeforeTail : ℕ → List AtomicStep → Taken → ℕ → Type 0
-IsBeforeTail h shape answer head =
-    (t : ℕ) × (t ≢ h) × (shape ≡ TailRead t ∷ []) × (answer ≡ Pause) × (head ≡ h)
+IsBeforeTail h shape answer head = (t : ℕ) × (t ≢ h) × (shape ≡ TailRead t ∷ []) × (answer ≡ Pause) × (head ≡ h)
 
 -- h is a slot whose link named none, and the tail: the stub is put in behind it
 abbrev pub IsAtTail : ℕ → ℕ → List AtomicStep → Taken → ℕ → Type 0
@@ -64,14 +60,13 @@ abbrev pub IsTaking : ℕ → ℕ → List AtomicStep → Taken → ℕ → Type
 IsTaking n h shape answer head = ((h ≡ n) × IsAtStub n shape answer head)
     ⊎ ((h ≡ n) × IsFromStub n shape answer head) ⊎ ((h ≢ n) × IsFromSlot n h shape answer head)
 
--- How a taking of a seat that had made the steps `made` changes what it calls before it can answer
--- Empty: by one call, as `leaves` says, where it takes no slot and its head is the stub, entry n;
--- else not at all. The call comes once the link of the stub is read, and before any other step.
+-- How a taking of a seat that had made the steps `made` changes what it calls before it can answer Empty: by one call,
+-- as `leaves` says, where it takes no slot and its head is the stub, entry n; else not at all. The call comes once the
+-- link of the stub is read, and before any other step.
 abbrev pub CallsAtStub : {B : Type 0} → (List AtomicStep → B → B → Type 0) → ℕ → List AtomicStep
     → Taken → ℕ → B → B → Type 0
 CallsAtStub leaves n made (Slot i) head before after = after ≡ before
-CallsAtStub leaves n made Empty head before after =
-    leaves (made ++ LinkRead n 0 ∷ []) before after
+CallsAtStub leaves n made Empty head before after = leaves (made ++ LinkRead n 0 ∷ []) before after
 CallsAtStub leaves n made Pause head before after =
     ((head ≡ n) × leaves (made ++ LinkRead n 0 ∷ []) before after)
     ⊎ ((head ≢ n) × (after ≡ before))
@@ -81,8 +76,7 @@ abbrev pub CallsFrom : {B : Type 0} → (List AtomicStep → B → B → Type 0)
     → ℕ × Taken → B → B → Type 0
 CallsFrom leaves n made result = CallsAtStub leaves n made result.1 result.0
 
--- What the part of a taking leaves that goes on from the slot at the head; its steps have this
--- shape.
+-- What the part of a taking leaves that goes on from the slot at the head; its steps have this shape.
 pub record TakesFromSlot
     (list : ListIdentity)
     (h : ℕ)
@@ -101,8 +95,7 @@ pub record TakesFromSlot
   -- a slot that is named is below the capacity
   pub named : (slot : ℕ) → answer ≡ Slot slot → slot < list.capacity
   -- the steps that it made
-  pub shape : (shape : List AtomicStep) × AddsSteps old new shape
-      × has_shape list.capacity h shape answer head
+  pub shape : (shape : List AtomicStep) × AddsSteps old new shape × has_shape list.capacity h shape answer head
 
 -- so where the link of the head named none, and where nothing is known of it yet
 abbrev pub TakesAtLast : ListIdentity → ℕ → Seat ℕ View → ℕ × Taken → Seat ℕ View → Type 0

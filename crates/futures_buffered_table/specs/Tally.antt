@@ -26,8 +26,8 @@ wins e steps = total (is_win e) steps
 abbrev pub unmarks : ℕ → List AtomicStep → ℕ
 unmarks e steps = total (is_unmark e) steps
 
--- for each slot, the mark swaps of the wake seats that found it clear are the poll seat's unmarks
--- of it, and one more where it is marked
+-- for each slot, the mark swaps of the wake seats that found it clear are the poll seat's unmarks of it, and one more
+-- where it is marked
 abbrev pub LosesNoMark : ℕ → List ℕ → List View → Type 0
 LosesNoMark n words views = (e : ℕ) → e < n →
     total (λ v. wins e v.steps) (take WAKE_SEATS views)

@@ -1,12 +1,11 @@
--- Where each slot is at one moment, by the words and all views: idle, with one wake seat that won
--- it, once in the row, or with the poller that is about to unmark it.
+-- Where each slot is at one moment, by the words and all views: idle, with one wake seat that won it, once in the row,
+-- or with the poller that is about to unmark it.
 use Rattle.std.specs.Prelude.{◌≡◌, ℕ, suc, ◌+◌, ◌<◌, ◌≤◌, List, ◌∷◌}
 use mathlib.Core.Option.{some}
 use lib.ListN.{get_elem?}
 use Rattle.futures_buffered_table.specs.declared.view.Phase.TheVariants.{StubPut, InHand}
 use Rattle.futures_buffered_table.specs.declared.view.Role.{Role}
-use Rattle.futures_buffered_table.specs.declared.view.Role.TheVariants.{Won, Cleared, Swapped}
-use Rattle.futures_buffered_table.specs.declared.view.Role.TheVariants.{Polls}
+use Rattle.futures_buffered_table.specs.declared.view.Role.TheVariants.{Won, Cleared, Swapped, Polls}
 use Rattle.futures_buffered_table.specs.declared.view.View.{View}
 use Rattle.futures_buffered_table.specs.Row.{IsLinked, last_entry, next, owed, same, times, total}
 use Rattle.futures_buffered_table.specs.Words.{link, mark, tail}
@@ -30,8 +29,8 @@ wakers e views = total (λ v. wakes_by e v.role) views
 abbrev pub takers : ℕ → List View → ℕ
 takers e views = total (λ v. takes_by e v.role) views
 
--- what a seat in this role says of the row: the poller stands at its head, and who owes the link of
--- p owes it the entry behind p
+-- what a seat in this role says of the row: the poller stands at its head, and who owes the link of p owes it the entry
+-- behind p
 abbrev pub AgreesWith : ℕ → ℕ → List ℕ → Role → Type 0
 AgreesWith n head rest (Swapped i p) = next p head rest ≡ suc i
 AgreesWith n head rest (Polls h (StubPut p)) = (h ≡ head) × (next p head rest ≡ suc n)
@@ -40,15 +39,13 @@ AgreesWith n head rest _ = Unit {0}
 
 -- the one place of each slot
 pub record Whereabouts (n : ℕ) (words : List ℕ) (views : List View) : Type 0 where
-  -- the row begins with the poller's head, goes on by links or by what one seat owes, and ends with
-  -- the tail word
+  -- the row begins with the poller's head, goes on by links or by what one seat owes, and ends with the tail word
   pub head : ℕ
   pub rest : List ℕ
-  pub linked : (p : ℕ) → 0 < times p (head ∷ rest) →
-      IsLinked (next p head rest) (link n words p) (owed views p)
+  pub linked : (p : ℕ) → 0 < times p (head ∷ rest) → IsLinked (next p head rest) (link n words p) (owed views p)
   pub ends : last_entry head rest ≡ tail n words
   pub seats : (j : ℕ) (v : View) → get_elem? views j ≡ some v → AgreesWith n head rest v.role
-  -- a slot that is not idle is once in the row, or with one wake seat, or with the poller, and no
-  -- two of these: then alone its mark is set
+  -- a slot that is not idle is once in the row, or with one wake seat, or with the poller, and no two of these: then
+  -- alone its mark is set
   pub slots : (e : ℕ) → e < n →
       (times e (head ∷ rest) + wakers e views + takers e views ≡ mark words e) × (mark words e ≤ 1)

@@ -1,6 +1,5 @@
 -- What the items of an iterator make of what they go into, one after another.
-use Rattle.std.specs.Prelude.{◌≡◌, ◌<◌, ◌≤◌, ◌⊎◌, ℕ, List, Some, Result, Err, IfOk, IfErr}
-use Rattle.std.specs.Prelude.{OnOk, max}
+use Rattle.std.specs.Prelude.{◌≡◌, ◌<◌, ◌≤◌, ◌⊎◌, ℕ, List, Some, Result, Err, IfOk, IfErr, OnOk, max}
 use Rattle.std.specs.Iterator.{YieldsThen}
 use Rattle.std.specs.List.{FoldsTo}
 use Rattle.futures_buffered_core.specs.Drawn.{Items, Draws, DrawsAndOne, SaysAtLeast, RefusesTooMany}
@@ -32,8 +31,7 @@ module _ {U F I X : Type 0} (from : Items U F I) where
     -- it is `TooLarge` only where more came
     pub large : RefusesTooMany from result
 
-  -- These items came and went in. The next one came, was refused, and had to go back. No further
-  -- one was asked for.
+  -- These items came and went in. The next one came, was refused, and had to go back. No further one was asked for.
   pub record ExtendsUntil
       (adds : X → F → X → Type 0)
       (refuses : X → X → Type 0)
@@ -83,8 +81,8 @@ module _ {U F I X : Type 0} (from : Items U F I) where
     pub large : result ≡ Err TooLarge → StopsAtBound adds is_at_bound start
 
   module _ (first : ℕ) (starts : ℕ → X → Type 0) (adds : X → F → X → Type 0) where
-    -- what began with room for as many items as the iterator said that there are at least, and
-    -- for no fewer than the first number, and then took in all that came
+    -- what began with room for as many items as the iterator said that there are at least, and for no fewer than the
+    -- first number, and then took in all that came
     abbrev pub GrowsByAllOf : X → Type 0
     GrowsByAllOf new = (items : List F) × (least : ℕ) × ((start : X)
         × Draws from items

@@ -1,6 +1,6 @@
 -- What a contract sees of a set that grows, and what its calls make of it.
-use Rattle.std.specs.Prelude.{◌≡◌, ℕ, ◌+◌, ◌-◌, ◌*◌, ◌<◌, Bool, List, [], ◌∷◌, ◌++◌, ◌⊎◌, Option}
-use Rattle.std.specs.Prelude.{IfNone, refl, Result, OnOk, OnErr}
+use Rattle.std.specs.Prelude.{◌≡◌, ℕ, ◌+◌, ◌-◌, ◌*◌, ◌<◌, Bool, List, [], ◌∷◌, ◌++◌, ◌⊎◌, Option, IfNone, refl, Result}
+use Rattle.std.specs.Prelude.{OnOk, OnErr}
 use Rattle.std.specs.List.{sum_by, All, FoldsTo}
 use Rattle.std.specs.Coded.{Coded, code_by, coded×, coded_ℕ}
 use Rattle.futures.specs.Task.{Covers, Keeps}
@@ -18,14 +18,13 @@ use Rattle.futures_buffered_core.specs.ReadyShared.{Shared, IsNewShared, MarksSh
 use Rattle.futures_buffered_core.specs.declared.ready_source.ReadySource.{Ghosts as ReadySourceOf}
 use Rattle.futures_buffered_unordered.specs.Extended.{MakesExtended, MakesGrown}
 use Rattle.futures_buffered_unordered.specs.Held.{AllHeld, AnyMayGive}
-use Rattle.futures_buffered_unordered.specs.FuturesUnorderedBounded.{Bounded, bounded_code, IsNewSet}
-use Rattle.futures_buffered_unordered.specs.FuturesUnorderedBounded.{OnlyRegisters, PushesAt, held_in}
+use Rattle.futures_buffered_unordered.specs.FuturesUnorderedBounded.{Bounded, bounded_code, IsNewSet, OnlyRegisters}
+use Rattle.futures_buffered_unordered.specs.FuturesUnorderedBounded.{PushesAt, held_in}
 use Rattle.futures_buffered_unordered.specs.Groups.{Groups, groups_code, AnyOf, WakesIf}
 use Rattle.futures_buffered_unordered.specs.declared.futures_unordered.TheConstants.{FIRST_GROUP, MAX_HELD}
 use Rattle.futures_buffered_unordered.specs.declared.futures_unordered_bounded.TheConstants.{POLL_LIMIT}
 
--- the groups, the place where the next poll begins, and how many names one poll takes from each
--- group at most
+-- the groups, the place where the next poll begins, and how many names one poll takes from each group at most
 pub record Growing (F S : Type 0) : Type 0 where
   pub groups : Groups (Bounded F S)
   pub limit : ℕ
@@ -59,8 +58,7 @@ module _ {F S : Type 0} where
 
   -- a group that holds a future waits at place n of a task's wakes
   abbrev pub AnyNeeds : (S → ℕ → Type 0) → List (Bounded F S) → ℕ → Type 0
-  AnyNeeds needs groups n =
-      AnyOf (λ (group : Bounded F S). (0 < held_in group) × needs group.source n) groups
+  AnyNeeds needs groups n = AnyOf (λ (group : Bounded F S). (0 < held_in group) × needs group.source n) groups
 
   -- the free places of the last group, where a push goes; 0 where there is no group
   abbrev pub spare_places : List (Bounded F S) → ℕ
@@ -68,16 +66,14 @@ module _ {F S : Type 0} where
   spare_places (group ∷ []) = slot_count group.slots - held_in group
   spare_places (group ∷ next ∷ groups) = spare_places (next ∷ groups)
 
-  -- 0 without groups, the group's with one, and with several what is held and the free places of
-  -- the last
+  -- 0 without groups, the group's with one, and with several what is held and the free places of the last
   abbrev pub capacity_of : List (Bounded F S) → ℕ
   capacity_of [] = 0
   capacity_of (group ∷ []) = slot_count group.slots
-  capacity_of (group ∷ next ∷ groups) =
-      held_in_all (group ∷ next ∷ groups) + spare_places (next ∷ groups)
+  capacity_of (group ∷ next ∷ groups) = held_in_all (group ∷ next ∷ groups) + spare_places (next ∷ groups)
 
-  -- how many slots a new group has behind these: twice as many as the last one, and the first
-  -- number where there is none
+  -- how many slots a new group has behind these: twice as many as the last one, and the first number where there is
+  -- none
   abbrev pub next_capacity : ℕ → List (Bounded F S) → ℕ
   next_capacity first [] = first
   next_capacity first (group ∷ []) = 2 * slot_count group.slots
@@ -92,8 +88,7 @@ module _ {F S : Type 0} where
       (value : F)
       (new : Growing F S)
       : Type 0 where
-    -- where the value goes: into the last group, if that has a free place, and else into a new one
-    -- behind all others
+    -- where the value goes: into the last group, if that has a free place, and else into a new one behind all others
     pub before : List (Bounded F S)
     pub into : Bounded F S
     pub goes_into : ((old.groups.listed ≡ before ++ into ∷ [])
@@ -109,26 +104,23 @@ module _ {F S : Type 0} where
     pub same_place : new.groups.place ≡ old.groups.place
     pub same_limit : new.limit ≡ old.limit
 
-  -- nothing more goes in: as many futures are held as a set may hold, or the last group is full and
-  -- a new one would have too many slots
+  -- nothing more goes in: as many futures are held as a set may hold, or the last group is full and a new one would
+  -- have too many slots
   abbrev pub IsAtBound : List (Bounded F S) → Type 0
   IsAtBound groups = (held_in_all groups ≡ MAX_HELD)
       ⊎ ((spare_places groups ≡ 0) × (MAX_CAPACITY < next_capacity FIRST_GROUP groups))
 
   -- these values were pushed, in order
-  abbrev pub PushesEach : (S → ℕ → Woke → S → Type 0) → (ℕ → S → Type 0)
-      → Growing F S → List F → Growing F S → Type 0
+  abbrev pub PushesEach : (S → ℕ → Woke → S → Type 0) → (ℕ → S → Type 0) → Growing F S → List F → Growing F S → Type 0
   PushesEach marks made = FoldsTo (GrowingPushes marks made FIRST_GROUP)
 
   -- nothing more goes into the set
   abbrev pub SetRefuses : Growing F S → Type 0
   SetRefuses set = IsAtBound set.groups.listed
 
-  -- a push into the set may be refused: it asks for memory for a group, or as many futures are held
-  -- as a set may hold
+  -- a push into the set may be refused: it asks for memory for a group, or as many futures are held as a set may hold
   abbrev pub SetMayRefuse : Growing F S → Type 0
-  SetMayRefuse set = (held_in_all set.groups.listed ≡ MAX_HELD)
-      ⊎ (spare_places set.groups.listed ≡ 0)
+  SetMayRefuse set = (held_in_all set.groups.listed ≡ MAX_HELD) ⊎ (spare_places set.groups.listed ≡ 0)
 
   -- What a push makes of a set that grows, or that it leaves the set as it was.
   pub record PushesOrStays
@@ -143,8 +135,7 @@ module _ {F S : Type 0} where
     -- the value went into the last group, or into one that was made behind it
     pub pushed : OnOk result (GrowingPushes marks made FIRST_GROUP old value new)
     -- one value more is held
-    pub count : OnOk result
-        (held_in_all new.groups.listed ≡ held_in_all old.groups.listed + 1)
+    pub count : OnOk result (held_in_all new.groups.listed ≡ held_in_all old.groups.listed + 1)
     -- or nothing has changed
     pub same : OnErr result (new ≡ old)
     -- then `MAX_HELD` were held, or a new group was needed
@@ -164,13 +155,12 @@ abbrev pub MakesPushed : {U F I S : Type 0} → Items U F I → (Growing F S →
 MakesPushed from pushes limit = MakesExtended from pushes SetRefuses (no_groups limit)
 
 -- what a constructor of a set over shared sources makes of items, or why it makes nothing
-abbrev pub MakesSharedSet : {U F I : Type 0} → Items U F I → Result (Growing F Shared) NewFault
-    → Type 0
+abbrev pub MakesSharedSet : {U F I : Type 0} → Items U F I → Result (Growing F Shared) NewFault → Type 0
 MakesSharedSet from = MakesGrown from FIRST_GROUP (λ n. IsNewGrowing IsNewShared n POLL_LIMIT)
     (GrowingPushes MarksShared IsNewShared FIRST_GROUP) SetRefuses
 
--- One poll of one group, which took it from old to new and its task from cx to left: `asks` says what
--- it may answer and whether it stopped, and `passes` what the end makes of the task.
+-- One poll of one group, which took it from old to new and its task from cx to left: `asks` says what it may answer and
+-- whether it stopped, and `passes` what the end makes of the task.
 pub record PollsGroup
     {F A S W : Type 0}
     (source : ReadySourceOf S W)
@@ -198,7 +188,6 @@ module _ {F A S : Type 0} (polled : ℕ → F → Poll A → F → Type 0) where
   abbrev pub AnyGroupMayGive : List (Bounded F S) → A → Type 0
   AnyGroupMayGive groups x = AnyOf (λ (group : Bounded F S). AnyMayGive polled group.slots x) groups
 
-  -- what may come from the set: as many outputs as futures are held, each from one of them, and
-  -- then the end
+  -- what may come from the set: as many outputs as futures are held, each from one of them, and then the end
   abbrev pub ComesFromGroups : List (Bounded F S) → Runs A
   ComesFromGroups groups = Gathers (AnyGroupMayGive groups) (held_in_all groups)

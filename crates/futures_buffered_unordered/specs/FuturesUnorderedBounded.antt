@@ -1,6 +1,6 @@
 -- What a contract sees of a bounded set, and what its calls make of it.
-use Rattle.std.specs.Prelude.{◌≡◌, ◌⊎◌, ℕ, ◌+◌, ◌<◌, List, ◌++◌, map, length, Option, Some, None}
-use Rattle.std.specs.Prelude.{Bool, true, false, is_some, refl, Result, OnOk, IfErr}
+use Rattle.std.specs.Prelude.{◌≡◌, ◌⊎◌, ℕ, ◌+◌, ◌<◌, List, ◌++◌, map, length, Option, Some, None, Bool, true, false}
+use Rattle.std.specs.Prelude.{is_some, refl, Result, OnOk, IfErr}
 use Rattle.std.specs.List.{FoldsTo, range_with_len}
 use Rattle.std.specs.Option.{option_to_list}
 use Rattle.std.specs.Coded.{Coded, code_by, coded×, coded_ℕ}
@@ -9,8 +9,8 @@ use Rattle.futures.specs.Poll.{IfReady, OnPending}
 use Rattle.futures.specs.declared.task.context.Context.{Context}
 use Rattle.futures.specs.declared.task.Poll.{Poll}
 use Rattle.futures.specs.declared.task.Poll.TheVariants.{Ready, Pending}
-use Rattle.futures_buffered_core.specs.SlotMap.{Slots, slots_code, held_count, slot_count, no_slots}
-use Rattle.futures_buffered_core.specs.SlotMap.{all_slots, value_in, with_slot_freed, Inserts, IsFull}
+use Rattle.futures_buffered_core.specs.SlotMap.{Slots, slots_code, held_count, slot_count, no_slots, all_slots}
+use Rattle.futures_buffered_core.specs.SlotMap.{value_in, with_slot_freed, Inserts, IsFull}
 use Rattle.futures_buffered_table.specs.declared.answer.Taken.{Taken}
 use Rattle.futures_buffered_table.specs.declared.answer.Taken.TheVariants.{Slot, Empty, Pause}
 use Rattle.futures_buffered_table.specs.declared.answer.Woke.{Woke}
@@ -41,8 +41,7 @@ held_in set = held_count set.slots
 abbrev pub slots_in : {F S : Type 0} → Bounded F S → ℕ
 slots_in set = slot_count set.slots
 
--- no value is held in n slots, the source was made for these, and one poll takes so many names at
--- most
+-- no value is held in n slots, the source was made for these, and one poll takes so many names at most
 pub record IsNewSet {F S : Type 0} (made : ℕ → S → Type 0) (n limit : ℕ)
     (set : Bounded F S) : Type 0 where
   pub none_held : set.slots ≡ no_slots n
@@ -69,8 +68,8 @@ MarksSlot marks old i new = (woke : Woke) × marks old i woke new
 abbrev pub MarksEach : {S : Type 0} → (S → ℕ → Woke → S → Type 0) → S → List ℕ → S → Type 0
 MarksEach marks = FoldsTo (MarksSlot marks)
 
--- item k is held in slot k, no slot is free, and each slot was marked, in order, in a source made
--- for this number of slots
+-- item k is held in slot k, no slot is free, and each slot was marked, in order, in a source made for this number of
+-- slots
 pub record HoldsEach
     {F S : Type 0}
     (made : ℕ → S → Type 0)
@@ -101,8 +100,7 @@ pub record PushesAt
   pub same_limit : new.limit ≡ old.limit
 
 -- the same, where it does not matter which slot that was
-abbrev pub Pushes : {F S : Type 0}
-    → (S → ℕ → Woke → S → Type 0) → Bounded F S → F → Bounded F S → Type 0
+abbrev pub Pushes : {F S : Type 0} → (S → ℕ → Woke → S → Type 0) → Bounded F S → F → Bounded F S → Type 0
 Pushes marks old value new = (i : ℕ) × PushesAt marks old i value new
 
 -- What a push makes of a set that has a free slot.
@@ -136,8 +134,7 @@ pub record PushesIfRoom
   -- there are as many slots as before
   pub capacity : slots_in new ≡ slots_in old
 
--- fewer names than the limit came, and then Empty or Pause; or as many as the limit, and nothing
--- more was asked
+-- fewer names than the limit came, and then Empty or Pause; or as many as the limit, and nothing more was asked
 abbrev pub EndsWaiting : ℕ → List ℕ → Option Taken → Type 0
 EndsWaiting limit names (Some Empty) = length names < limit
 EndsWaiting limit names (Some Pause) = length names < limit
@@ -160,8 +157,7 @@ abbrev pub IsWoken : Context → Type 0
 IsWoken cx = (s : ℕ) → Hears cx s
 
 -- the task is as registrations with sources leave it, or as it was
-abbrev pub OnlyRegisters : {S : Type 0} → (S → Context → Context → Type 0)
-    → Context → Context → Type 0
+abbrev pub OnlyRegisters : {S : Type 0} → (S → Context → Context → Type 0) → Context → Context → Type 0
 OnlyRegisters {S} registers_poll old new = (sources : List S)
     × FoldsTo (λ cx source next. registers_poll source cx next) old sources new
 
@@ -170,9 +166,9 @@ module _
     (polled : ℕ → F → Poll A → F → Type 0)
     (steps : SourceSteps S)
   where
-    -- A registration came first, with this source or with one beside it. The source then gave these
-    -- names, in order, and one last answer where there was one. The slots named were passed, in
-    -- order, which took what the slots hold to this.
+    -- A registration came first, with this source or with one beside it. The source then gave these names, in order,
+    -- and one last answer where there was one. The slots named were passed, in order, which took what the slots hold to
+    -- this.
     pub record Asks
         (old : Bounded F S)
         (names : List ℕ)
@@ -185,8 +181,8 @@ module _
       pub answers : FoldsTo steps.takes registered (map Slot names ++ option_to_list last) source
       pub passes : FoldsTo (Passes polled) old.slots names slots
 
-    -- one count of names: until one more name gave an output, which is given with its slot, or
-    -- until the asking ended without one
+    -- one count of names: until one more name gave an output, which is given with its slot, or until the asking ended
+    -- without one
     abbrev pub AsksUntil : Bounded F S → Poll (ℕ × A) → Bounded F S → Type 0
     AsksUntil old (Ready (i, x)) new = (names : List ℕ)
         × (length names < old.limit)
@@ -209,16 +205,15 @@ module _
         × Asks old names last new.slots new.source
         × (new.limit ≡ old.limit)
 
-    -- What a pending poll leaves of its task. At Empty the task is as the registration left it;
-    -- where the asking stopped earlier, the task is asked to poll again.
-    abbrev pub LeavesTask : (S → Context → Context → Type 0)
-        → Bounded F S → Bounded F S → Context → Context → Type 0
+    -- What a pending poll leaves of its task. At Empty the task is as the registration left it; where the asking
+    -- stopped earlier, the task is asked to poll again.
+    abbrev pub LeavesTask : (S → Context → Context → Type 0) → Bounded F S → Bounded F S → Context → Context → Type 0
     LeavesTask registers_poll old new cx left =
         (AsksNone false old new × registers_poll old.source cx left)
         ⊎ (AsksNone true old new × IsWoken left)
 
-    -- one poll: the end exactly where nothing is held, and then nothing changes; the output of the
-    -- last name, whose slot is emptied; or Pending, where the asking ended without an output
+    -- one poll: the end exactly where nothing is held, and then nothing changes; the output of the last name, whose
+    -- slot is emptied; or Pending, where the asking ended without an output
     abbrev pub PollGives : Bounded F S → Poll (Option A) → Bounded F S → Type 0
     PollGives old (Ready None) new = (held_count old.slots ≡ 0) × (new ≡ old)
     PollGives old (Ready (Some x)) new = (0 < held_count old.slots)
@@ -231,8 +226,8 @@ module _
     PollAsks stopped old (Ready o) new = PollGives old (Ready o) new × (stopped ≡ false)
     PollAsks stopped old Pending new = (0 < held_count old.slots) × AsksNone stopped old new
 
--- What one count of names, from old to new, leaves of a set. `continues` says after which outputs
--- the value may be polled again.
+-- What one count of names, from old to new, leaves of a set. `continues` says after which outputs the value may be
+-- polled again.
 pub record AsksSet
     {F A S : Type 0}
     (can_poll : F → Type 0)
@@ -257,8 +252,8 @@ pub record AsksSet
   pub capacity : slot_count new.slots ≡ slot_count old.slots
   pub limit : new.limit ≡ old.limit
 
--- What one count of names leaves of its task, which it took from cx to left: an output as
--- `registers` says, and Pending as `pends` does.
+-- What one count of names leaves of its task, which it took from cx to left: an output as `registers` says, and Pending
+-- as `pends` does.
 pub record AsksSetTask
     {S B : Type 0}
     (steps : SourceSteps S)
@@ -270,8 +265,7 @@ pub record AsksSetTask
     : Type 0 where
   -- the task of a pending set hears of its source
   pub covered : OnPending answer (Covers left (needs source))
-  -- where it is pending, the task was asked to poll again, or it was registered and no further name
-  -- came
+  -- where it is pending, the task was asked to poll again, or it was registered and no further name came
   pub woken : OnPending answer (IsWoken left ⊎ (SaidEmpty steps source × registers cx left))
   -- a pending one leaves the task so
   pub leaves : OnPending answer (pends cx left)

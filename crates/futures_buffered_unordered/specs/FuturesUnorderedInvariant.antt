@@ -1,7 +1,6 @@
--- How groups that grow keep themselves, and what a poll keeps of the group that it asks. No public
--- clause cites it but those of a group's poll.
-use Rattle.std.specs.Prelude.{◌≡◌, ◌≢◌, ℕ, ◌+◌, ◌<◌, ◌≤◌, List, [], ◌∷◌, ◌++◌, length, Option}
-use Rattle.std.specs.Prelude.{IfNone, slice_index_or}
+-- How groups that grow keep themselves, and what a poll keeps of the group that it asks. No public clause cites it but
+-- those of a group's poll.
+use Rattle.std.specs.Prelude.{◌≡◌, ◌≢◌, ℕ, ◌+◌, ◌<◌, ◌≤◌, List, [], ◌∷◌, ◌++◌, length, Option, IfNone, slice_index_or}
 use Rattle.std.specs.List.{All}
 use Rattle.futures.specs.Poll.{IfReady, OnPending}
 use Rattle.futures.specs.declared.task.Poll.{Poll}
@@ -9,8 +8,7 @@ use Rattle.futures_buffered_core.specs.ReadySource.{WaitsAlike}
 use Rattle.futures_buffered_core.specs.SlotMap.{slot_count}
 use Rattle.futures_buffered_table.specs.declared.answer.Woke.{Woke}
 use Rattle.futures_buffered_table.specs.declared.answer.TheConstants.{MAX_CAPACITY}
-use Rattle.futures_buffered_unordered.specs.FuturesUnorderedBounded.{Bounded, Pushes, IsNewSet}
-use Rattle.futures_buffered_unordered.specs.FuturesUnorderedBounded.{held_in}
+use Rattle.futures_buffered_unordered.specs.FuturesUnorderedBounded.{Bounded, Pushes, IsNewSet, held_in}
 use Rattle.futures_buffered_unordered.specs.Groups.{Groups}
 use Rattle.futures_buffered_unordered.specs.FuturesUnordered.{Growing, held_in_all}
 use Rattle.futures_buffered_unordered.specs.declared.futures_unordered.TheConstants.{MAX_HELD}
@@ -54,8 +52,8 @@ module _ {F S : Type 0} where
     pub same_limit : left.limit ≡ group.limit
     pub waits : WaitsAlike needs group.source left.source
 
-  -- what a poll keeps of the group that it asks: no value comes, none is left where the group
-  -- ended, and one at least where it is pending
+  -- what a poll keeps of the group that it asks: no value comes, none is left where the group ended, and one at least
+  -- where it is pending
   pub record KeepsGroup
       {A : Type 0}
       (needs : S → ℕ → Type 0)
@@ -80,8 +78,7 @@ module _ {F S : Type 0} where
     pub same_place : new.groups.place ≡ old.groups.place
     pub same_limit : new.limit ≡ old.limit
 
-  -- the value went into the last group, which had a free place; the others, the place and the limit
-  -- stay
+  -- the value went into the last group, which had a free place; the others, the place and the limit stay
   pub record PushesLast
       (marks : S → ℕ → Woke → S → Type 0)
       (old : Growing F S)

@@ -1,7 +1,7 @@
--- How a poll asks one group of a list, and goes on to the next where that gave no output. Private
--- calls keep to this, and no public clause cites it.
-use Rattle.std.specs.Prelude.{◌≡◌, ℕ, ◌+◌, Bool, cond, nat_lt, List, [], ◌∷◌, ◌++◌}
-use Rattle.std.specs.Prelude.{length, take, drop, Option, Some, None}
+-- How a poll asks one group of a list, and goes on to the next where that gave no output. Private calls keep to this,
+-- and no public clause cites it.
+use Rattle.std.specs.Prelude.{◌≡◌, ℕ, ◌+◌, Bool, cond, nat_lt, List, [], ◌∷◌, ◌++◌, length, take, drop, Option, Some}
+use Rattle.std.specs.Prelude.{None}
 use Rattle.futures.specs.declared.task.context.Context.{Context}
 use Rattle.futures.specs.declared.task.Poll.{Poll}
 use Rattle.futures.specs.declared.task.Poll.TheVariants.{Ready, Pending}
@@ -11,17 +11,13 @@ use Rattle.futures_buffered_unordered.specs.Groups.{Groups, WakesIf}
 abbrev pub next_place : {X : Type 0} → Groups X → ℕ
 next_place g = cond (nat_lt g.place (length g.listed)) g.place 0
 
--- what the list is once a group between earlier and later ones gave an answer and left this: with
--- an output the place is its own, and with Pending the next; where it ended it leaves, unless none
--- stands behind it
-abbrev pub LeavesBetween : {X A : Type 0}
-    → List X → List X → X → Poll (Option A) → Groups X → Type 0
+-- what the list is once a group between earlier and later ones gave an answer and left this: with an output the place
+-- is its own, and with Pending the next; where it ended it leaves, unless none stands behind it
+abbrev pub LeavesBetween : {X A : Type 0} → List X → List X → X → Poll (Option A) → Groups X → Type 0
 LeavesBetween earlier later left (Ready (Some x)) new =
     (new.listed ≡ earlier ++ left ∷ later) × (new.place ≡ length earlier)
-LeavesBetween earlier later left Pending new =
-    (new.listed ≡ earlier ++ left ∷ later) × (new.place ≡ length earlier + 1)
-LeavesBetween earlier [] left (Ready None) new =
-    (new.listed ≡ earlier ++ left ∷ []) × (new.place ≡ 0)
+LeavesBetween earlier later left Pending new = (new.listed ≡ earlier ++ left ∷ later) × (new.place ≡ length earlier + 1)
+LeavesBetween earlier [] left (Ready None) new = (new.listed ≡ earlier ++ left ∷ []) × (new.place ≡ 0)
 LeavesBetween earlier (next ∷ later) left (Ready None) new =
     (new.listed ≡ earlier ++ next ∷ later) × (new.place ≡ length earlier)
 
@@ -35,15 +31,9 @@ pub record AsksOne
     : Type 0 where
   pub group : X
   pub left : X
-  pub stood : old.listed
-      ≡ take (next_place old) old.listed ++ group ∷ drop (next_place old + 1) old.listed
+  pub stood : old.listed ≡ take (next_place old) old.listed ++ group ∷ drop (next_place old + 1) old.listed
   pub asked : asks group answer left
-  pub leaves : LeavesBetween
-      (take (next_place old) old.listed)
-      (drop (next_place old + 1) old.listed)
-      left
-      answer
-      new
+  pub leaves : LeavesBetween (take (next_place old) old.listed) (drop (next_place old + 1) old.listed) left answer new
 
 -- the group at the next place was asked, and the task was taken from cx to left
 pub record AsksNext

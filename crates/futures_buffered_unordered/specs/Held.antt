@@ -1,5 +1,4 @@
--- What holds of the values in slots, and what polls of them, in the order of names, make of these
--- slots.
+-- What holds of the values in slots, and what polls of them, in the order of names, make of these slots.
 use Rattle.std.specs.Prelude.{◌≡◌, ◌≢◌, ℕ, List, Option, Some, None, MatchOption, IfSome}
 use Rattle.futures.specs.declared.task.Poll.{Poll}
 use Rattle.futures.specs.declared.task.Poll.TheVariants.{Ready, Pending}
@@ -17,15 +16,15 @@ abbrev pub AllHeldBut : {F : Type 0} → ℕ → (F → Type 0) → Slots F → 
 AllHeldBut i P m = (j : ℕ) → j ≢ i → IfSome (value_in m j) P
 
 module _ {F A : Type 0} (polled : ℕ → F → Poll A → F → Type 0) where
-  -- The slot named is passed: it holds nothing, and nothing changes; or its value is polled with
-  -- the waker of the slot, is Pending, and is what that poll left. What the other slots hold stays.
+  -- The slot named is passed: it holds nothing, and nothing changes; or its value is polled with the waker of the slot,
+  -- is Pending, and is what that poll left. What the other slots hold stays.
   abbrev pub Passes : Slots F → ℕ → Slots F → Type 0
   Passes m i new = MatchOption (value_in m i)
       (new ≡ m)
       (λ f. (left : F) × polled i f Pending left × (new ≡ with_value m i left))
 
-  -- the value of slot i is polled with the waker of the slot, gives x, and is what that poll left;
-  -- what the other slots hold stays
+  -- the value of slot i is polled with the waker of the slot, gives x, and is what that poll left; what the other slots
+  -- hold stays
   pub record Yields (m : Slots F) (i : ℕ) (x : A) (new : Slots F) : Type 0 where
     pub value : F
     pub held : value_in m i ≡ Some value
@@ -46,10 +45,8 @@ MayGive {F} polled f x = (later : List F) × (last : F) × (after : F)
 
 -- one of the values that are held may give x, polled with the waker of its slot
 abbrev pub AnyMayGive : {F A : Type 0} → (ℕ → F → Poll A → F → Type 0) → Slots F → A → Type 0
-AnyMayGive {F} polled m x = (i : ℕ) × (f : F)
-    × (value_in m i ≡ Some f) × MayGive (polled i) f x
+AnyMayGive {F} polled m x = (i : ℕ) × (f : F) × (value_in m i ≡ Some f) × MayGive (polled i) f x
 
--- what may come from a set: as many outputs as values are held, each from one of the values, and
--- then the end
+-- what may come from a set: as many outputs as values are held, each from one of the values, and then the end
 abbrev pub ComesFrom : {F A : Type 0} → (ℕ → F → Poll A → F → Type 0) → Slots F → Runs A
 ComesFrom polled m = Gathers (AnyMayGive polled m) (held_count m)

@@ -1,6 +1,6 @@
--- What one poll of a bounded set makes of the set and of the task that polls it. A clause names the
--- rule and the source by the ghost members of their types: `R.PollOne S.ReadySource`, or, where each
--- future is polled itself, `(itself F.SlotFuture) S.ReadySource`.
+-- What one poll of a bounded set makes of the set and of the task that polls it. A clause names the rule and the source
+-- by the ghost members of their types: `R.PollOne S.ReadySource`, or, where each future is polled itself, `(itself
+-- F.SlotFuture) S.ReadySource`.
 use Rattle.std.specs.Prelude.{◌≡◌, ℕ, ◌+◌, ◌<◌, List, ◌++◌, map, length, Option, Some, None, OnSome, is_some}
 use Rattle.std.specs.List.{FoldsTo}
 use Rattle.std.specs.Option.{option_to_list}
@@ -35,9 +35,9 @@ registered source = record source {
   registers_poll = λ _ cx left. left ≡ cx;
 }
 
--- Where no value was ready after so many names: a name is the number of a marked slot, as the source
--- gives it. Empty: no further name came, and the task is as the registration left it. Pause, or the
--- limit: a further name may come, and the task was asked to poll again.
+-- Where no value was ready after so many names: a name is the number of a marked slot, as the source gives it. Empty:
+-- no further name came, and the task is as the registration left it. Pause, or the limit: a further name may come, and
+-- the task was asked to poll again.
 abbrev pub EndsPending : ℕ → ℕ → Option Taken → Context → Context → Type 0
 EndsPending limit count (Some Empty) cx left = (count < limit) × (left ≡ cx)
 EndsPending limit count (Some Pause) cx left = (count < limit) × IsWoken left
@@ -49,17 +49,15 @@ module _
     (rule : PollOneOf R F W A)
     (source : ReadySourceOf S W)
   where
-    -- How one count of names, at most as many as the limit, ended, by its answer: the value of one
-    -- more slot gave an output, and the task is as the registration left it; or none did.
-    abbrev pub Ends : ℕ → ℕ → Option Taken → Slots F → Poll (ℕ × A) → Slots F
-        → Context → Context → Type 0
+    -- How one count of names, at most as many as the limit, ended, by its answer: the value of one more slot gave an
+    -- output, and the task is as the registration left it; or none did.
+    abbrev pub Ends : ℕ → ℕ → Option Taken → Slots F → Poll (ℕ × A) → Slots F → Context → Context → Type 0
     Ends limit count last passed (Ready (i, x)) new cx left = (count < limit)
         × (last ≡ Some (Slot i)) × Yields rule.polled passed i x new × (left ≡ cx)
-    Ends limit count last passed Pending new cx left =
-        (new ≡ passed) × EndsPending limit count last cx left
+    Ends limit count last passed Pending new cx left = (new ≡ passed) × EndsPending limit count last cx left
 
-    -- One count of names, of a set whose task is registered: from old to new, and the task from cx
-    -- to left. No slot is emptied.
+    -- One count of names, of a set whose task is registered: from old to new, and the task from cx to left. No slot is
+    -- emptied.
     pub record TakesNames
         (old : Bounded F S)
         (answer : Poll (ℕ × A))
@@ -69,8 +67,7 @@ module _
       -- what came: these names, and a last answer where one more was asked for
       pub names : List ℕ
       pub last : Option Taken
-      pub came : FoldsTo source.steps.takes
-          old.source (map Slot names ++ option_to_list last) new.source
+      pub came : FoldsTo source.steps.takes old.source (map Slot names ++ option_to_list last) new.source
       -- the slots named were passed, in order, which took what the slots hold to this
       pub passed : Slots F
       pub passes : FoldsTo (Passes rule.polled) old.slots names passed
@@ -108,9 +105,9 @@ module _
       -- nothing of the task is lost
       pub kept : Keeps cx left
 
-    -- What a poll gives, by its answer. The end: nothing is held, and nothing changes, of the task
-    -- neither. An output: its slot is emptied. Pending: the names that came, if any, gave no output;
-    -- at Empty the task stays registered, and else it was asked to poll again.
+    -- What a poll gives, by its answer. The end: nothing is held, and nothing changes, of the task neither. An output:
+    -- its slot is emptied. Pending: the names that came, if any, gave no output; at Empty the task stays registered,
+    -- and else it was asked to poll again.
     abbrev pub Gives : Bounded F S → Poll (Option A) → Bounded F S → Context → Context → Type 0
     Gives old (Ready None) new cx left = (held_in old ≡ 0) × (new ≡ old) × (left ≡ cx)
     Gives old (Ready (Some x)) new cx left = (0 < held_in old)
@@ -133,8 +130,7 @@ module _
       -- the number of slots and the limit stay
       pub capacity : slots_in new ≡ slots_in old
       pub limit : new.limit ≡ old.limit
-      -- who waits where: the task of a pending set is registered where its source waits, or was asked
-      -- to poll again
+      -- who waits where: the task of a pending set is registered where its source waits, or was asked to poll again
       pub covered : OnPending answer (Covers left (source.needs new.source))
       -- what the task was registered for or asked to do before still stands
       pub kept : Keeps cx left

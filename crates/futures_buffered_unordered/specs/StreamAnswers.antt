@@ -12,8 +12,8 @@ abbrev pub stream_of : {T A : Type 0} → (T → Type 0) → (T → ℕ → Type
 stream_of can_poll needs yields =
     record { can_poll = can_poll; needs = needs; yields = yields }
 
--- One poll, which took a stream from old to new and the task from cx to left. A clause names the
--- stream by the ghost members of its type: `⟦<FuturesUnordered<F, S> as Stream>⟧`.
+-- One poll, which took a stream from old to new and the task from cx to left. A clause names the stream by the ghost
+-- members of its type: `⟦<FuturesUnordered<F, S> as Stream>⟧`.
 pub record StreamAnswers
     {T A : Type 0}
     (stream : StreamOf T A)
