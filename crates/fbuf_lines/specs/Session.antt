@@ -2,9 +2,7 @@
 use Rattle.std.specs.Prelude.{◌≡◌, ℕ, ◌<◌, ◌≤◌, List, Option, Some, MatchOption, ◌⊎◌}
 use Rattle.futures_buffered_table.specs.declared.answer.TheConstants.{MAX_CAPACITY}
 use Rattle.futures_buffered_table.specs.StepMachine.{Machine, IsNew}
-use Rattle.futures_buffered_unordered.specs.declared.futures_unordered_bounded.TheConstants.{
-  POLL_LIMIT,
-}
+use Rattle.futures_buffered_unordered.specs.declared.futures_unordered_bounded.TheConstants.{POLL_LIMIT}
 use Rattle.futures_buffered_ordered.specs.OrderedEntries.{Stays}
 use Rattle.futures_buffered_ordered.specs.FuturesOrderedBounded.{IsNewBoundedQueue}
 use Rattle.futures_buffered_unordered.specs.FuturesUnordered.{IsNewGrowing}
@@ -30,53 +28,31 @@ pub record ScriptSession : Type 0 where
 abbrev pub first_session : ScriptSession
 first_session = record { target = target.Nothing; limit = POLL_LIMIT }
 
--- a capacity that is too large begins nothing
-abbrev pub RefusesLarge : ScriptSession → ℕ → Reply → ScriptSession → Type 0
-RefusesLarge old capacity reply new = (reply ≡ TooLarge) × (MAX_CAPACITY < capacity) × (new ≡ old)
-
--- a line that begins a bounded set
-abbrev pub BeginsSet : ScriptSession → ℕ → Reply → ScriptSession → Type 0
-BeginsSet old capacity reply new =
+-- a line that begins a target: `is_new` says of a capacity and a limit what the target then is. A capacity that is too
+-- large begins nothing
+abbrev pub Begins : (ℕ → ℕ → Target → Type 0) → ScriptSession → ℕ → Reply → ScriptSession → Type 0
+Begins is_new old capacity reply new =
     ((reply ≡ Done) × (capacity ≤ MAX_CAPACITY)
-    × (new ≡ record old { target = target.Unordered (new_bounded capacity old.limit) }))
-    ⊎ RefusesLarge old capacity reply new
+    × is_new capacity old.limit new.target × (new.limit ≡ old.limit))
+    ⊎ ((reply ≡ TooLarge) × (MAX_CAPACITY < capacity) × (new ≡ old))
 
--- a target that is an empty ordered queue
-abbrev pub IsNewQueueTarget : ℕ → ℕ → Target → Type 0
-IsNewQueueTarget capacity limit new = (queue : ScriptOrdered)
-    × IsNewBoundedQueue IsNewStanding capacity limit queue
-    × (new ≡ target.Ordered queue)
+-- an empty bounded set
+abbrev pub IsNewSet : ℕ → ℕ → Target → Type 0
+IsNewSet capacity limit new = new ≡ target.Unordered (new_bounded capacity limit)
 
--- a line that begins an ordered queue
-abbrev pub BeginsQueue : ScriptSession → ℕ → Reply → ScriptSession → Type 0
-BeginsQueue old capacity reply new =
-    ((reply ≡ Done) × (capacity ≤ MAX_CAPACITY)
-    × IsNewQueueTarget capacity old.limit new.target × (new.limit ≡ old.limit))
-    ⊎ RefusesLarge old capacity reply new
+-- an empty ordered queue
+abbrev pub IsNewQueue : ℕ → ℕ → Target → Type 0
+IsNewQueue capacity limit new = (queue : ScriptOrdered)
+    × IsNewBoundedQueue IsNewStanding capacity limit queue × (new ≡ target.Ordered queue)
 
--- a target that is an empty growing set, with one group of this capacity, or none where that is 0
-abbrev pub IsNewGrowingTarget : ℕ → ℕ → Target → Type 0
-IsNewGrowingTarget capacity limit new = (set : ScriptGrowing)
-    × IsNewGrowing IsNewStanding capacity limit set
-    × (new ≡ target.Growing set)
+-- an empty growing set, with one group of this capacity, or none where that is 0
+abbrev pub IsNewGrowingSet : ℕ → ℕ → Target → Type 0
+IsNewGrowingSet capacity limit new = (set : ScriptGrowing)
+    × IsNewGrowing IsNewStanding capacity limit set × (new ≡ target.Growing set)
 
--- a line that begins a growing set
-abbrev pub BeginsGrowing : ScriptSession → ℕ → Reply → ScriptSession → Type 0
-BeginsGrowing old capacity reply new =
-    ((reply ≡ Done) × (capacity ≤ MAX_CAPACITY)
-    × IsNewGrowingTarget capacity old.limit new.target × (new.limit ≡ old.limit))
-    ⊎ RefusesLarge old capacity reply new
-
--- a target that is a machine with no step made
-abbrev pub IsNewMachine : ℕ → Target → Type 0
-IsNewMachine capacity new = (machine : Machine) × IsNew capacity machine × (new ≡ target.Steps machine)
-
--- a line that begins a machine
-abbrev pub BeginsMachine : ScriptSession → ℕ → Reply → ScriptSession → Type 0
-BeginsMachine old capacity reply new =
-    ((reply ≡ Done) × (capacity ≤ MAX_CAPACITY) × IsNewMachine capacity new.target
-    × (new.limit ≡ old.limit))
-    ⊎ RefusesLarge old capacity reply new
+-- a machine with no step made, which has no limit
+abbrev pub IsNewMachine : ℕ → ℕ → Target → Type 0
+IsNewMachine capacity _ new = (machine : Machine) × IsNew capacity machine × (new ≡ target.Steps machine)
 
 -- a line that sets the limit: what was begun before stays as it is, and 0 is no limit
 abbrev pub SetsLimit : ScriptSession → ℕ → Reply → ScriptSession → Type 0
@@ -98,10 +74,10 @@ TargetGives (target.Steps old) command reply new =
 
 -- a command that begins something stands always, and one that sets a limit from 1 on
 abbrev pub CommandGives : ScriptSession → Command → Reply → ScriptSession → Type 0
-CommandGives old (Unordered capacity) reply new = BeginsSet old capacity reply new
-CommandGives old (Ordered capacity) reply new = BeginsQueue old capacity reply new
-CommandGives old (Growing capacity) reply new = BeginsGrowing old capacity reply new
-CommandGives old (Steps capacity) reply new = BeginsMachine old capacity reply new
+CommandGives old (Unordered capacity) reply new = Begins IsNewSet old capacity reply new
+CommandGives old (Ordered capacity) reply new = Begins IsNewQueue old capacity reply new
+CommandGives old (Growing capacity) reply new = Begins IsNewGrowingSet old capacity reply new
+CommandGives old (Steps capacity) reply new = Begins IsNewMachine old capacity reply new
 CommandGives old (Limit limit) reply new = SetsLimit old limit reply new
 CommandGives old command reply new = TargetGives old.target command reply new.target × (new.limit ≡ old.limit)
 

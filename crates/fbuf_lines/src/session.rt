@@ -1,8 +1,8 @@
 //! What a script has begun, and what each line does to it.
 ghost use Rattle.std.specs.Prelude.{◌≡◌, ◌≤◌, IfOk, OnErr};
 ghost use Rattle.futures.specs.Task.{Keeps};
-ghost use Rattle.fbuf_lines.specs.Session.{LineGives, TargetGives, BeginsSet, BeginsQueue};
-ghost use Rattle.fbuf_lines.specs.Session.{BeginsGrowing, BeginsMachine, SetsLimit, first_session};
+ghost use Rattle.fbuf_lines.specs.Session.{LineGives, TargetGives, Begins, IsNewSet, IsNewQueue};
+ghost use Rattle.fbuf_lines.specs.Session.{IsNewGrowingSet, IsNewMachine, SetsLimit, first_session};
 ghost use Rattle.fbuf_lines.specs.Session.{MayLackMemory, LineMayLackMemory, StaysSession};
 
 use crate::bounded_lines::{ScriptSet, new_set, set_reply};
@@ -98,7 +98,7 @@ impl Session {
 
     // What was there before is dropped, unless the new one is refused.
     fn begin_unordered(&mut self, alloc: Global, capacity: usize) -> Result<Reply, AllocError>
-        ensures reply { IfOk result (λ reply. BeginsSet self.old capacity reply self.new) }
+        ensures reply { IfOk result (λ reply. Begins IsNewSet self.old capacity reply self.new) }
         ensures memory { OnErr result (self.new ≡ self.old) }
         ensures refused { OnErr result (capacity ≤ MAX_CAPACITY) }
     {
@@ -114,7 +114,7 @@ impl Session {
 
     // The same, of an ordered queue.
     fn begin_ordered(&mut self, alloc: Global, capacity: usize) -> Result<Reply, AllocError>
-        ensures reply { IfOk result (λ reply. BeginsQueue self.old capacity reply self.new) }
+        ensures reply { IfOk result (λ reply. Begins IsNewQueue self.old capacity reply self.new) }
         ensures memory { OnErr result (self.new ≡ self.old) }
         ensures refused { OnErr result (capacity ≤ MAX_CAPACITY) }
     {
@@ -130,7 +130,7 @@ impl Session {
 
     // The same, of a growing set.
     fn begin_growing(&mut self, alloc: Global, capacity: usize) -> Result<Reply, AllocError>
-        ensures reply { IfOk result (λ reply. BeginsGrowing self.old capacity reply self.new) }
+        ensures reply { IfOk result (λ reply. Begins IsNewGrowingSet self.old capacity reply self.new) }
         ensures memory { OnErr result (self.new ≡ self.old) }
         ensures refused { OnErr result (capacity ≤ MAX_CAPACITY) }
     {
@@ -146,7 +146,7 @@ impl Session {
 
     // The same, of a machine.
     fn begin_steps(&mut self, alloc: Global, capacity: usize) -> Result<Reply, AllocError>
-        ensures reply { IfOk result (λ reply. BeginsMachine self.old capacity reply self.new) }
+        ensures reply { IfOk result (λ reply. Begins IsNewMachine self.old capacity reply self.new) }
         ensures memory { OnErr result (self.new ≡ self.old) }
         ensures refused { OnErr result (capacity ≤ MAX_CAPACITY) }
     {
