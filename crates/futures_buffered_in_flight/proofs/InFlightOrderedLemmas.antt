@@ -7,6 +7,7 @@ use Rattle.futures.specs.declared.task.Poll.TheVariants.{Ready}
 use Rattle.futures.specs.declared.task.context.Context.{Context}
 use Rattle.futures_buffered_table.specs.declared.answer.TheConstants.{MAX_CAPACITY}
 use Rattle.futures_buffered_core.specs.SlotMap.{Slots, held_count, no_slots}
+use Rattle.futures_buffered_unordered.specs.StreamAnswers.{StreamAnswers, stream_of}
 use Rattle.futures_buffered_unordered.proofs.StreamAnswersLemmas.{after_item, while_pending}
 use Rattle.futures_buffered_ordered.specs.Numbered.{PollsNumberedSet, PollsNumberedTask}
 use Rattle.futures_buffered_ordered.specs.declared.numbered.Numbered.{Numbered}
@@ -16,7 +17,7 @@ use Rattle.futures_buffered_ordered.proofs.OrderedEntriesInvariantLemmas.{held_b
 use Rattle.futures_buffered_ordered.proofs.OrderedEntriesLemmas.{as_many_of, comes_before, comes_behind, empty_of, fewer_of, gives_alone, no_more_of, one_entry_more, one_entry_more_before, rest_of, same_of, unused_none, value_of}
 use Rattle.futures_buffered_in_flight.specs.InFlight.{FutureOf}
 use Rattle.futures_buffered_in_flight.specs.InFlightQueue.{Queued, CanPollQueue, IsNewQueued, NumberGives, PollsNumber, PollsQueuedTask, QueuedWaitsAt, QueuesNumber, SameRoom, IsAtItsBound, has_tag, numbered_with, tagged_with, queued_count, queued_room, queued_with}
-use Rattle.futures_buffered_in_flight.specs.InFlightOrdered.{AnswersInTurn, GivesInTurn, KeepsInOrder, LeavesInOrder, OrderedInFlight, PollsByNumber, PollsInTurn, PushesBack, PushesFront, flying_polls, ordered_count, ordered_room}
+use Rattle.futures_buffered_in_flight.specs.InFlightOrdered.{CanPollOrdered, ComesOfEach, GivesInTurn, KeepsInOrder, LeavesInOrder, OrderedInFlight, PollsByNumber, PollsInTurn, PushesBack, PushesFront, flying_polls, ordered_count, ordered_room, OrderedWaitsAt}
 use Rattle.futures_buffered_in_flight.specs.declared.in_flight.Place.{Place}
 use Rattle.futures_buffered_in_flight.proofs.InFlightQueueLemmas.{number_counts}
 
@@ -118,17 +119,20 @@ module _ {F A : Type 0} (future : FutureOf F A) where
           bound = omega (arith, same, fewer, keeps.bound);
         }
 
-    pub answers_in_turn : AnswersInTurn future old.queue answer new.queue cx after
-    answers_in_turn =
-        record {
-          value = value_of (PollsNumber future) (NumberGives future) still gave queued_count old.queue new.queue answer polled;
-          rest = rest_of (PollsNumber future) (NumberGives future) still gave queued_count old.queue new.queue answer polled;
-          same = same_of (PollsNumber future) (NumberGives future) still gave queued_count old.queue new.queue answer polled;
-          goes = after_item answer poll.queue.pollable;
-          again = while_pending answer poll.queue.pollable;
-          registered = poll.queue.covered;
-          kept = poll.queue.kept;
-        }
+  -- a poll is one of a stream
+  pub answers_in_turn : (old new : OrderedInFlight F A) (answer : Poll (Option A)) (cx after : Context) → PollsInTurn future old answer new cx after
+      → StreamAnswers (stream_of (CanPollOrdered future) OrderedWaitsAt (ComesOfEach future)) old answer new cx after
+  answers_in_turn old new answer cx after poll =
+      let given = gives_in_turn old new answer cx after poll in
+      record {
+        value = value_of (PollsNumber future) (NumberGives future) still gave queued_count old new answer given;
+        rest = rest_of (PollsNumber future) (NumberGives future) still gave queued_count old new answer given;
+        same = same_of (PollsNumber future) (NumberGives future) still gave queued_count old new answer given;
+        goes = after_item answer poll.polls.queue.pollable;
+        again = while_pending answer poll.polls.queue.pollable;
+        registered = poll.polls.queue.covered;
+        kept = poll.polls.queue.kept;
+      }
 
 -- and of what it leaves of the task
 pub polls_task : {F A : Type 0} (new : Queued F) (answer : Poll (Option (ℕ × A))) (cx left : Context) → PollsQueuedTask answer new cx left → PollsNumberedTask QueuedWaitsAt answer new cx left

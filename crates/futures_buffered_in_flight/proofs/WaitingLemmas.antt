@@ -3,8 +3,9 @@ use Rattle.std.proofs.Common.{Option, arith}
 use Rattle.futures.specs.declared.task.Poll.TheVariants.{Ready, Pending}
 use Rattle.futures.specs.declared.task.context.Context.{Context}
 use Rattle.futures_buffered_in_flight.specs.InFlight.{FutureOf, Flights, CameInFlight, PollsInFlight}
-use Rattle.futures_buffered_in_flight.specs.InFlightOrdered.{AnswersInTurn, CameInTurn, CanPollOrdered, OrderedInFlight, PollsInTurn}
+use Rattle.futures_buffered_in_flight.specs.InFlightOrdered.{CameInTurn, CanPollOrdered, OrderedInFlight, PollsInTurn}
 use Rattle.futures_buffered_in_flight.specs.declared.in_flight.Came.{Came}
+use Rattle.futures_buffered_in_flight.proofs.InFlightOrderedLemmas.{answers_in_turn}
 
 module _ {F A : Type 0} (future : FutureOf F A) where
   pub came_at_once : (old new : Flights F) (came : Option (Came A)) (cx left : Context) → PollsInFlight future old (Ready came) new cx left → CameInFlight future old came new
@@ -14,10 +15,13 @@ module _ {F A : Type 0} (future : FutureOf F A) where
   pub came_later : (old mid new : Flights F) (came : Option (Came A)) (cx left : Context) → PollsInFlight future old Pending mid cx left → CameInFlight future mid came new → CameInFlight future old came new
   came_later old mid new came cx left p c = grind arith
 
-  pub came_in_turn_at_once : (old new : OrderedInFlight F A) (came : Option A) (cx left : Context) → CanPollOrdered future old → PollsInTurn future old (Ready came) new cx left → AnswersInTurn future old (Ready came) new cx left → CameInTurn future old came new
-  came_in_turn_at_once old new came cx left can poll stream = grind arith
+  pub came_in_turn_at_once : (old new : OrderedInFlight F A) (came : Option A) (cx left : Context) → CanPollOrdered future old → PollsInTurn future old (Ready came) new cx left → CameInTurn future old came new
+  came_in_turn_at_once old new came cx left can poll =
+      let stream = answers_in_turn future old new (Ready came) cx left poll in
+      grind arith
 
   -- what may come after a pending poll might come before
-  pub came_in_turn_later : (old mid new : OrderedInFlight F A) (came : Option A) (cx left : Context) → PollsInTurn future old Pending mid cx left → AnswersInTurn future old Pending mid cx left → CameInTurn future mid came new
-      → CameInTurn future old came new
-  came_in_turn_later old mid new came cx left poll stream c = grind arith
+  pub came_in_turn_later : (old mid new : OrderedInFlight F A) (came : Option A) (cx left : Context) → PollsInTurn future old Pending mid cx left → CameInTurn future mid came new → CameInTurn future old came new
+  came_in_turn_later old mid new came cx left poll c =
+      let stream = answers_in_turn future old mid Pending cx left poll in
+      grind arith

@@ -6,7 +6,6 @@ use Rattle.futures.specs.Poll.{IfReady, OnPending}
 use Rattle.futures.specs.Runs.{Runs, After, Within, Leads, Chains, Ends}
 use Rattle.futures.specs.declared.task.Poll.{Poll}
 use Rattle.futures.specs.declared.task.context.Context.{Context}
-use Rattle.futures_buffered_unordered.specs.StreamAnswers.{StreamAnswers, stream_of}
 use Rattle.futures_buffered_ordered.specs.OrderedEntries.{Ordered, AddsBack, AddsFront, ComesInOrder, IsNewQueue}
 use Rattle.futures_buffered_ordered.specs.OrderedEntries.{OrderedGives, PolledSet, PollsOrdered}
 use Rattle.futures_buffered_ordered.specs.OrderedEntriesInvariant.{IsNumbered, Numbering}
@@ -159,10 +158,6 @@ module _ {F A : Type 0} (future : FutureOf F A) where
   -- the same, told of the queue alone
   abbrev pub GivesInTurn : OrderedInFlight F A → Poll (Option A) → OrderedInFlight F A → Type 0
   GivesInTurn = OrderedGives (PollsNumber future) queued_count
-
-  -- what a stream promises of one poll
-  abbrev pub AnswersInTurn : OrderedInFlight F A → Poll (Option A) → OrderedInFlight F A → Context → Context → Type 0
-  AnswersInTurn = StreamAnswers (stream_of CanPollOrdered OrderedWaitsAt ComesOfEach)
 
   -- Polls until the output of the front came, or the end: the queue was new by then.
   pub record CameInTurn (old : OrderedInFlight F A) (came : Option A) (new : OrderedInFlight F A)

@@ -3,7 +3,7 @@ ghost use Rattle.std.specs.Prelude.{◌≡◌, ◌↔◌, ◌<◌, ◌≤◌, If
 ghost use Rattle.futures_buffered_core.specs.Drawn.{IsFiniteSource, items_of};
 ghost use Rattle.futures_buffered_core.specs.Made.{MakesSlots};
 ghost use Rattle.futures_buffered_unordered.specs.Extended.{EachDrawn, Extends};
-ghost use Rattle.futures_buffered_in_flight.specs.InFlightOrdered.{AnswersInTurn, CanPollOrdered, IsNewInOrder};
+ghost use Rattle.futures_buffered_in_flight.specs.InFlightOrdered.{CanPollOrdered, IsNewInOrder};
 ghost use Rattle.futures_buffered_in_flight.specs.InFlightOrdered.{OrderedIsFull, PollsInTurn, PushesBack, PushesFront};
 ghost use Rattle.futures_buffered_in_flight.specs.InFlightOrdered.{PushesOrComesBack, RefusesFull, ordered_count};
 ghost use Rattle.futures_buffered_in_flight.specs.InFlightOrdered.{ordered_room};
@@ -251,8 +251,7 @@ impl<F: Future<Output = A>, A: Drop> InFlightOrdered<F, A> {
     /// where memory is still refused the task is woken at once.
     pub fn poll_output(&mut self, cx: &mut Context<'_>) -> Poll<Option<A>>
         requires { CanPollOrdered F.Future self.old }
-        ensures polls { PollsInTurn F.Future self.old result self.new cx.old cx.new }
-        ensures stream { AnswersInTurn F.Future self.old result self.new cx.old cx.new }
+        ensures { PollsInTurn F.Future self.old result self.new cx.old cx.new }
     {
         self.queue.poll_entries(&PollFuture, cx)
     }

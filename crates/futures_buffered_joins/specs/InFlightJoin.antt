@@ -112,5 +112,7 @@ module _ {F R O A E B : Type 0} (future : FutureOf F O) (rule : JoinRuleOf R O A
     pub waits : OnPending answer (IsSomeAnd old (λ was. IsSomeAnd new (WaitsOn was)))
     -- the task of a pending join hears of what it waits for
     pub registered : OnPending answer (Covers left (FlyingWaitsAt new))
+    -- a join that was ready before leaves the task as it is
+    pub untouched : old ≡ None → left ≡ cx
     -- nothing of the task is lost
     pub kept : Keeps cx left

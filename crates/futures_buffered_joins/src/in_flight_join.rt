@@ -99,8 +99,7 @@ where
     /// in proportion to the futures that it polls, and at the end to the number of places, besides the polls.
     fn poll(&mut self, cx: &mut Context<'_>) -> Poll<R::Answer>
         requires { CanPollFlying F.Future self.old }
-        ensures join { PollsFlying F.Future R.JoinRule self.old result self.new cx.old cx.new }
-        ensures untouched { self.old ≡ None → cx.new ≡ cx.old }
+        ensures { PollsFlying F.Future R.JoinRule self.old result self.new cx.old cx.new }
     {
         let Some(mut flying) = self.flying.take() else {
             return Poll::Ready(R::answer(Ok(Vec::new(self.alloc))));

@@ -6,7 +6,6 @@ ghost use Rattle.futures.specs.Poll.{IfReady, OnPending};
 ghost use Rattle.futures.specs.Task.{Covers, Keeps};
 ghost use Rattle.futures_buffered_core.specs.Drawn.{IsFiniteSource, items_of};
 ghost use Rattle.futures_buffered_unordered.specs.Extended.{EachDrawn, Extends, HoldsAllOf};
-ghost use Rattle.futures_buffered_unordered.specs.StreamAnswers.{StreamAnswers};
 ghost use Rattle.futures_buffered_merges.specs.WithEnd.{MayAnswer};
 ghost use Rattle.futures_buffered_merges.specs.InFlightMerge.{AnswersNoMore, AnyAnswers, CanPollStreams};
 ghost use Rattle.futures_buffered_merges.specs.InFlightMerge.{ComesFromMerged, HoldsStreams, IsNewMerge, PollsMerge};
@@ -251,9 +250,7 @@ impl<St: Stream<Item: Drop>> Stream for InFlightMerge<St> {
     /// its first poll of a task; where it is refused that, the task polls again until there is some.
     fn poll_next(&mut self, cx: &mut Context<'_>) -> Poll<Option<St::Item>>
         requires { CanPollStreams St.Stream self.old }
-        ensures polled { PollsMerge St.Stream self.old result self.new cx.old cx.new }
-        ensures stream { StreamAnswers ⟦<InFlightMerge<St> as Stream>⟧
-            self.old result self.new cx.old cx.new }
+        ensures { PollsMerge St.Stream self.old result self.new cx.old cx.new }
     {
         self.poll_item(cx)
     }

@@ -4,5 +4,5 @@ use Rattle.futures_buffered_in_flight.proofs.waiting.WaitingInFlightOrderedFutur
 
 pub returns-clause-value : goal.returns-clause-value
 returns-clause-value g c =
-    let came = came_in_turn_at_once g.F.Future c.in-Some.queue c.poll_output.new.self c.in-Ready.came c.args.cx.now c.poll_output.new.cx (search rules) c.in-Ready.ensures.polls c.in-Ready.ensures.stream in
+    let came = came_in_turn_at_once g.F.Future c.in-Some.queue c.poll_output.new.self c.in-Ready.came c.args.cx.now c.poll_output.new.cx (search rules) c.in-Ready.ensures in
     search (rules, came)

@@ -2,8 +2,8 @@ use Rattle.std.proofs.Common.{◌≡◌, Some, sym, ◌∙◌}
 use Rattle.futures_buffered_joins.proofs.InFlightJoinLemmas.{gives_all}
 use Rattle.futures_buffered_joins.proofs.in_flight_join.InFlightJoinFuture.poll.Goals as goal
 
-pub returns-in-Ready-Ok-clause-join : goal.returns-in-Ready-Ok-clause-join
-returns-in-Ready-Ok-clause-join g c =
+pub returns-in-Ready-Ok : goal.returns-in-Ready-Ok
+returns-in-Ready-Ok g c =
     let is : c.args.self.now ≡ Some c.in-Some.flying = sym c.self.view_is ∙ (sym c.take.ensures.value ∙ c.in-Some.is) in
     let ready = rw c.in-Ready-Ok.field-0-is at c.in-Ready-Ok.ensures.ready.filled in
     record {
@@ -11,5 +11,6 @@ returns-in-Ready-Ok-clause-join g c =
       ended = c.take.ensures.after;
       waits = tt;
       registered = tt;
+      untouched = λ none. let both = sym none ∙ is in cc;
       kept = c.in-Ready-Ok.ensures.kept;
     }

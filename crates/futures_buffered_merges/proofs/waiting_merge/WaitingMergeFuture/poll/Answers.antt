@@ -5,10 +5,10 @@ use Rattle.futures_buffered_merges.proofs.waiting_merge.WaitingMergeFuture.poll.
 pub returns-in_default-poll_next-clause-same : goal.returns-in_default-poll_next-clause-same
 returns-in_default-poll_next-clause-same g c =
     let same : c.args.self.now.merge ≡ Some c.in-Some.merge = search rules in
-    λ given came. rw same (came_later g.St.Stream c.in-Some.merge c.poll_next.new.self _ _ _ _ c.in_default-poll_next.ensures.polled came)
+    λ given came. rw same (came_later g.St.Stream c.in-Some.merge c.poll_next.new.self _ _ _ _ c.in_default-poll_next.ensures came)
 
 pub returns-clause-value : goal.returns-clause-value
 returns-clause-value g c =
     let same : c.args.self.now.merge ≡ Some c.in-Some.merge = search rules in
     let back : c.unwrap.result ≡ c.poll_next.new.self = search rules in
-    rw same (rw back (came_at_once g.St.Stream c.in-Some.merge c.poll_next.new.self c.in-Ready.came _ _ c.in-Ready.ensures.polled))
+    rw same (rw back (came_at_once g.St.Stream c.in-Some.merge c.poll_next.new.self c.in-Ready.came _ _ c.in-Ready.ensures))
