@@ -94,7 +94,7 @@ module _ {F A : Type 0} (polled : ℕ → F → Poll (Option A) → F → Type 0
 
     -- one poll
     pub item_gave : (old new : Bounded F S) (x : A) → MergeGives polled steps marks old (Ready (Some x)) new → (i : ℕ) × StreamsGave polled old.slots ((i, x) ∷ []) new.slots
-    item_gave old new x h =
+    item_gave old new x (stopped, h) =
         let last = h.last_count.1 in
         let i = last.0 in
         let asks = last.2 in
@@ -107,12 +107,12 @@ module _ {F A : Type 0} (polled : ℕ → F → Poll (Option A) → F → Type 0
         )
 
     pub pending_gave : (old new : Bounded F S) → MergeGives polled steps marks old Pending new → StreamsGave polled old.slots [] new.slots
-    pending_gave old new h =
+    pending_gave old new (stopped, h) =
         let asks = h.last_count.1 in
-        streams_on old.slots h.before.slots new.slots [] [] (counts_gave h.ended old h.before h.counts) (passed_gave asks.0 h.before.slots new.slots asks.3.passes)
+        streams_on old.slots h.before.slots new.slots [] [] (counts_gave h.ended old h.before h.counts) (passed_gave asks.0 h.before.slots new.slots asks.4.passes)
 
     pub end_gave : (old new : Bounded F S) → MergeGives polled steps marks old (Ready None) new → ((j : ℕ) → value_in new.slots j ≡ None) × StreamsGave polled old.slots [] new.slots
-    end_gave old new h =
+    end_gave old new (stopped, h) =
         let same = h.last_count.1 in (
           rw same (none_held h.before.slots h.last_count.0),
           rw same (counts_gave h.ended old h.before h.counts),

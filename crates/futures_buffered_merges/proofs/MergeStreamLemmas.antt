@@ -1,5 +1,5 @@
 -- What `futures` asks of a poll of a merge.
-use Rattle.std.specs.Prelude.{◌≡◌, ℕ, ◌<◌, Option}
+use Rattle.std.specs.Prelude.{◌<◌, Option}
 use Rattle.futures.specs.declared.task.context.Context.{Context}
 use Rattle.futures.specs.declared.task.Poll.{Poll}
 use Rattle.futures_buffered_core.specs.SlotMap.{held_count}
@@ -20,9 +20,9 @@ module _ {St W A S : Type 0} (stream : SlotStreamOf St W A) (source : ReadySourc
       → StreamAnswers (stream_of (λ merge. AllHeld stream.can_poll merge.slots) (λ merge n. (0 < held_count merge.slots) × source.needs merge.source n) (λ merge. ComesFromStreams stream.polled merge.slots)) old answer new cx left
   bounded_answers old new answer cx left it =
       record {
-        value = value_of stream.polled source.steps source.marks old new answer it.gave;
-        rest = rest_of stream.polled source.steps source.marks old new answer it.gave;
-        same = same_of stream.polled source.steps source.marks old new answer it.gave;
+        value = value_of stream.polled source.steps source.marks old new answer (it.stopped, it.gave);
+        rest = rest_of stream.polled source.steps source.marks old new answer (it.stopped, it.gave);
+        same = same_of stream.polled source.steps source.marks old new answer (it.stopped, it.gave);
         goes = after_item answer it.pollable;
         again = while_pending answer it.pollable;
         registered = covers_fewer answer left (source.needs new.source) _ (λ n waits. waits.1) it.covered;

@@ -1,5 +1,5 @@
 -- What one poll makes of the groups of a merge.
-use Rattle.std.proofs.Common.{◌≡◌, ℕ, Bool, ◌<◌, ◌≤◌, ◌↔◌, List, [], ◌∷◌, Option, Some, None, IfSome, IfNone, sym, ap, subst, arith, ◌∙◌}
+use Rattle.std.proofs.Common.{◌≡◌, ℕ, Bool, true, false, ◌<◌, ◌↔◌, List, [], ◌∷◌, Option, Some, None, IfSome, IfNone, sym, ap, subst, arith, ◌∙◌}
 use Rattle.std.specs.List.{FoldsTo}
 use Rattle.futures.specs.Poll.{IfReady, OnPending}
 use Rattle.futures.specs.Runs.{After, Within}
@@ -8,20 +8,21 @@ use Rattle.futures.specs.declared.task.context.Context.{Context}
 use Rattle.futures.specs.declared.task.Poll.{Poll}
 use Rattle.futures.specs.declared.task.Poll.TheVariants.{Ready, Pending}
 use Rattle.futures_buffered_core.specs.ReadySource.{WaitsAlike, SourceSteps}
-use Rattle.futures_buffered_core.specs.SlotMap.{held_count, slot_count}
+use Rattle.futures_buffered_core.specs.SlotMap.{held_count}
+use Rattle.futures_buffered_core.specs.declared.ready_source.ReadySource.{Ghosts as ReadySourceOf}
 use Rattle.futures_buffered_table.specs.declared.answer.Taken.{Taken}
 use Rattle.futures_buffered_table.specs.declared.answer.Woke.{Woke}
-use Rattle.futures_buffered_unordered.specs.FuturesUnorderedBounded.{Bounded, AsksUntil, held_in}
-use Rattle.futures_buffered_unordered.specs.Groups.{AnyOf, Groups, GroupsGive}
+use Rattle.futures_buffered_unordered.specs.FuturesUnorderedBounded.{Bounded, AsksUntil, OnlyRegisters, held_in}
+use Rattle.futures_buffered_unordered.specs.Groups.{AnyOf, Groups, GroupsGive, WakesIf}
 use Rattle.futures_buffered_unordered.proofs.HeldLemmas.{count-with}
-use Rattle.futures_buffered_unordered.specs.FuturesUnordered.{held_in_all, EachCovered, AnyNeeds}
-use Rattle.futures_buffered_unordered.specs.FuturesUnorderedInvariant.{KeepsGroup}
+use Rattle.futures_buffered_unordered.specs.FuturesUnordered.{held_in_all, EachCovered, AnyNeeds, PollsGroup}
 use Rattle.futures_buffered_unordered.proofs.FuturesUnorderedInvariantLemmas.{alike_self, alike_on}
 use Rattle.futures_buffered_unordered.proofs.FuturesUnorderedLemmas.{covered_of}
 use Rattle.futures_buffered_unordered.proofs.FuturesUnorderedPollLemmas.{any_left, any_output, ends_empty, groups_told}
 use Rattle.futures_buffered_unordered.proofs.FuturesUnorderedBoundedLemmas.{passed_held}
-use Rattle.futures_buffered_merges.specs.Merging.{CountEnds, LastCount, MergeAsks, MergeGives}
+use Rattle.futures_buffered_merges.specs.Merging.{CountEnds, LastAsks, MergeAsks, MergeGives, PollsMergeBounded, SlotStreamOf, unless_registered}
 use Rattle.futures_buffered_merges.specs.MergeUnbounded.{GroupMayGive, ItemsComeFromGroups}
+use Rattle.futures_buffered_merges.proofs.MergingLemmas.{only_registers}
 use Rattle.futures_buffered_merges.proofs.MergeBoundedLemmas.{value_of, rest_of, same_of, ended_of}
 
 module _ {F A S : Type 0} (needs : S → ℕ → Type 0) (polled : ℕ → F → Poll (Option A) → F → Type 0) (steps : SourceSteps S) (marks : S → ℕ → Woke → S → Type 0)
@@ -31,44 +32,38 @@ module _ {F A S : Type 0} (needs : S → ℕ → Type 0) (polled : ℕ → F →
   alike_taken (taken ∷ given) old new h = alike_on needs old h.0 new (take_waits old taken h.0 h.1) (alike_taken given h.0 new h.2)
 
   -- one count leaves the source at the same places
-  pub alike_asked : (old new : Bounded F S) (answer : Poll (ℕ × Option A)) → AsksUntil polled steps old answer new → WaitsAlike needs old.source new.source
-  alike_asked old new (Ready (i, o)) h = let asks = h.3 in alike_on needs old.source asks.registered new.source (register_waits _ _ asks.registers_first) (alike_taken _ _ _ asks.answers)
-  alike_asked old new Pending h = let asks = h.3 in alike_on needs old.source asks.registered new.source (register_waits _ _ asks.registers_first) (alike_taken _ _ _ asks.answers)
+  alike_asked : (old new : Bounded F S) (i : ℕ) (o : Option A) → AsksUntil polled steps old (Ready (i, o)) new → WaitsAlike needs old.source new.source
+  alike_asked old new i o h = let asks = h.3 in alike_on needs old.source asks.registered new.source (register_waits _ _ asks.registers_first) (alike_taken _ _ _ asks.answers)
 
   alike_ended : (old new : Bounded F S) (i : ℕ) → CountEnds polled steps marks old i new → WaitsAlike needs old.source new.source
-  alike_ended old new i h = subst (λ (b : Bounded F S). WaitsAlike needs old.source b.source) (sym h.1.2) (alike_asked old h.1.0 (Ready (i, None)) h.1.1)
+  alike_ended old new i h = subst (λ (b : Bounded F S). WaitsAlike needs old.source b.source) (sym h.1.2) (alike_asked old h.1.0 i None h.1.1)
 
   alike_counts : (slots : List ℕ) (old new : Bounded F S) → FoldsTo (CountEnds polled steps marks) old slots new → WaitsAlike needs old.source new.source
   alike_counts [] old new h = subst (λ (b : Bounded F S). WaitsAlike needs old.source b.source) h (alike_self needs old.source)
   alike_counts (i ∷ slots) old new h = alike_on needs old.source h.0.source new.source (alike_ended old h.0 i h.1) (alike_counts slots h.0 new h.2)
 
-  alike_last : (old new : Bounded F S) (answer : Poll (Option A)) → LastCount polled steps marks old answer new → WaitsAlike needs old.source new.source
-  alike_last old new (Ready None) h = subst (λ (b : Bounded F S). WaitsAlike needs old.source b.source) (sym h.1) (alike_self needs old.source)
-  alike_last old new (Ready (Some x)) h =
+  alike_last : (stopped : Bool) (old new : Bounded F S) (answer : Poll (Option A)) → LastAsks polled steps marks stopped old answer new → WaitsAlike needs old.source new.source
+  alike_last stopped old new (Ready None) h = subst (λ (b : Bounded F S). WaitsAlike needs old.source b.source) (sym h.1) (alike_self needs old.source)
+  alike_last stopped old new (Ready (Some x)) h =
       let last = h.1 in
       let marked = last.3 in
-      alike_on needs old.source last.1.source new.source (alike_asked old last.1 (Ready (last.0, Some x)) last.2) (mark_waits last.1.source last.0 marked.0 new.source marked.1)
-  alike_last old new Pending h = alike_asked old new Pending h.1
+      alike_on needs old.source last.1.source new.source (alike_asked old last.1 last.0 (Some x) last.2) (mark_waits last.1.source last.0 marked.0 new.source marked.1)
+  alike_last stopped old new Pending h = let asks = h.1.4 in alike_on needs old.source asks.registered new.source (register_waits _ _ asks.registers_first) (alike_taken _ _ _ asks.answers)
 
   -- and so does a poll
-  pub alike_merged : (old new : Bounded F S) (answer : Poll (Option A)) → MergeGives polled steps marks old answer new → WaitsAlike needs old.source new.source
-  alike_merged old new answer h = alike_on needs old.source h.before.source new.source (alike_counts h.ended old h.before h.counts) (alike_last h.before new answer h.last_count)
-
-  pub keeps_streams : (old new : Bounded F S) (answer : Poll (Option A)) → MergeGives polled steps marks old answer new → held_count new.slots ≤ held_count old.slots → OnPending answer (0 < held_count new.slots) → IfReady answer (λ o. IfNone o (held_count new.slots ≡ 0))
-      → slot_count new.slots ≡ slot_count old.slots → new.limit ≡ old.limit → KeepsGroup needs old answer new
-  keeps_streams old new answer h fewer pending ends slots limit =
-      record { fewer = fewer; pending_holds = pending; ended_is_empty = ends; same_kind = record { same_slots = slots; same_limit = limit; waits = alike_merged old new answer h } }
+  pub alike_merged : (stopped : Bool) (old new : Bounded F S) (answer : Poll (Option A)) → MergeAsks polled steps marks stopped old answer new → WaitsAlike needs old.source new.source
+  alike_merged stopped old new answer h = alike_on needs old.source h.before.source new.source (alike_counts h.ended old h.before h.counts) (alike_last stopped h.before new answer h.last_count)
 
 module _ {F A S : Type 0} (polled : ℕ → F → Poll (Option A) → F → Type 0) (steps : SourceSteps S) (marks : S → ℕ → Woke → S → Type 0) where
   -- what a group holds, by its answer
   pending_held : (old new : Bounded F S) → MergeGives polled steps marks old Pending new → 0 < held_in new
-  pending_held old new h = omega (arith, h.last_count.0, passed_held polled h.last_count.1.0 h.before.slots new.slots h.last_count.1.3.passes)
+  pending_held old new (stopped, h) = omega (arith, h.last_count.0, passed_held polled h.last_count.1.0 h.before.slots new.slots h.last_count.1.4.passes)
 
   end_held : (old new : Bounded F S) → MergeGives polled steps marks old (Ready None) new → held_in new ≡ 0
-  end_held old new h = ap (λ (b : Bounded F S). held_in b) h.last_count.1 ∙ h.last_count.0
+  end_held old new (stopped, h) = ap (λ (b : Bounded F S). held_in b) h.last_count.1 ∙ h.last_count.0
 
   item_held : (old new : Bounded F S) (x : A) → MergeGives polled steps marks old (Ready (Some x)) new → 0 < held_in new
-  item_held old new x h =
+  item_held old new x (stopped, h) =
       let last = h.last_count.1 in
       let left = last.1 in
       let asks = last.2 in
@@ -77,14 +72,8 @@ module _ {F A S : Type 0} (polled : ℕ → F → Poll (Option A) → F → Type
       omega (arith, h.last_count.0, ap (λ (b : Bounded F S). held_in b) last.4, same, passed_held polled asks.0 h.before.slots asks.2 asks.3.passes)
 
   -- a poll of groups, where it does not matter which of them stopped
-  asked_gives : (stopped : Bool) (old new : Bounded F S) (answer : Poll (Option A)) → MergeAsks polled steps marks stopped old answer new → MergeGives polled steps marks old answer new
-  asked_gives stopped old new (Ready o) h = record { ended = h.ended; before = h.before; counts = h.counts; last_count = h.last_count.0 }
-  asked_gives stopped old new Pending h =
-      let asks = h.last_count.1 in
-      record { ended = h.ended; before = h.before; counts = h.counts; last_count = (h.last_count.0, (asks.0, asks.1, asks.2, asks.4, asks.5)) }
-
   pub groups_give : (old new : Groups (Bounded F S)) (stopped : Bool) (answer : Poll (Option A)) → GroupsGive (MergeAsks polled steps marks) old answer stopped new → GroupsGive (λ _. MergeGives polled steps marks) old answer stopped new
-  groups_give old new stopped answer h = groups_told (MergeAsks polled steps marks) (λ _. MergeGives polled steps marks) asked_gives old new stopped answer h
+  groups_give old new stopped answer h = groups_told (MergeAsks polled steps marks) (λ _. MergeGives polled steps marks) (λ stopped old new answer h. (stopped, h)) old new stopped answer h
 
   module _ (old new : Groups (Bounded F S)) (stopped : Bool) where
     -- the answer is the end where no stream is left
@@ -127,8 +116,19 @@ pub covered_any : {F S A : Type 0} (needs : S → ℕ → Type 0) (cx : Context)
 covered_any needs cx (Ready o) groups covered ends = tt
 covered_any needs cx Pending groups covered ends = covered_of needs cx Pending groups groups covered ends (omega arith)
 
--- what holds after each answer that is ready holds after the end
-pub at_end : {A : Type 0} (P : Type 0) (answer : Poll (Option A)) → IfReady answer (λ _. P) → IfReady answer (λ o. IfNone o P)
-at_end P (Ready None) h = h
-at_end P (Ready (Some x)) h = tt
-at_end P Pending h = tt
+-- A poll of a group, which registers unless the task is registered, as that of a merge that grows.
+module _ {St W A S : Type 0} (stream : SlotStreamOf St W A) (source : ReadySourceOf S W) (is_registered : Bool) (old new : Bounded St S) (answer : Poll (Option A)) (cx left : Context) (it : PollsMergeBounded stream (unless_registered is_registered source) old answer new cx left) where
+  wakes : (stopped : Bool) → WakesIf stopped (OnlyRegisters (unless_registered is_registered source).registers_poll) cx left → WakesIf stopped (OnlyRegisters source.registers_poll) cx left
+  wakes true woken = woken
+  wakes false once = only_registers source is_registered once.0 cx left once.1
+
+  -- the end wakes nobody
+  at_end : (answer : Poll (Option A)) (stopped : Bool) → MergeAsks stream.polled source.steps source.marks stopped old answer new → WakesIf stopped (OnlyRegisters source.registers_poll) cx left → IfReady answer (λ o. IfNone o (OnlyRegisters source.registers_poll cx left))
+  at_end (Ready None) stopped gave woken = rw gave.last_count.2 at woken
+  at_end (Ready (Some x)) stopped gave woken = tt
+  at_end Pending stopped gave woken = tt
+
+  pub group_polls : PollsGroup source (MergeAsks stream.polled source.steps source.marks) (OnlyRegisters source.registers_poll) old answer new cx left
+  group_polls =
+      let woken = wakes it.stopped it.woken in
+      record { stopped = it.stopped; asked = it.gave; woken = woken; covered = it.covered; passed = at_end answer it.stopped it.gave woken; kept = it.kept }

@@ -1,11 +1,9 @@
 //! One poll of the streams that a set holds, of which a merge is made.
-ghost use Rattle.std.specs.Prelude.{◌≡◌, ◌<◌, ◌+◌, IfNone, IsSome};
-ghost use Rattle.futures.specs.Poll.{IfReady};
-ghost use Rattle.futures.specs.Task.{Covers};
-ghost use Rattle.futures_buffered_core.specs.SlotMap.{held_count};
-ghost use Rattle.futures_buffered_unordered.specs.FuturesUnorderedBounded.{AsksSet, AsksSetTask, AsksUntil, LeavesTask};
-ghost use Rattle.futures_buffered_merges.specs.Merging.{CanAsk, CountGives, LeavesItsTask, MergeGives, PollsStreams};
-ghost use Rattle.futures_buffered_merges.specs.Merging.{RegistersUnless};
+ghost use Rattle.std.specs.Prelude.{◌<◌};
+ghost use Rattle.futures_buffered_unordered.specs.FuturesUnorderedBounded.{held_in};
+ghost use Rattle.futures_buffered_unordered.specs.PollsBounded.{RegistersAndTakes};
+ghost use Rattle.futures_buffered_merges.specs.Merging.{CanAsk, CountPolls, PollsMergeBounded, each_stream};
+ghost use Rattle.futures_buffered_merges.specs.Merging.{unless_registered};
 
 use crate::slot_stream::{PollStream, SlotStream};
 use futures::task::{Context, Poll};
@@ -18,13 +16,9 @@ fn ask_streams<St: SlotStream<S::Waker>, S: ReadySource>(
     cx: &mut Context<'_>,
     is_registered: bool,
 ) -> Poll<(usize, Option<St::Item>)>
-    requires { CanAsk St.can_poll S.needs S.steps.registers set.old cx.old is_registered }
-    ensures polled { AsksUntil St.polled S.steps set.old result set.new }
-    ensures set { AsksSet St.can_poll St.polled IsSome set.old result set.new }
-    ensures still_covered { IfReady result (λ _. Covers cx.new (S.needs set.new.source)) }
-    ensures task { AsksSetTask S.steps S.needs (RegistersUnless S.registers_poll is_registered)
-        (LeavesTask St.polled S.steps (λ _. RegistersUnless S.registers_poll is_registered)
-        set.old set.new) set.new.source result cx.old cx.new }
+    requires { CanAsk St.SlotStream S.ReadySource set.old cx.old is_registered }
+    ensures { RegistersAndTakes (each_stream St.SlotStream) (unless_registered is_registered S.ReadySource)
+        set.old result set.new cx.old cx.new }
 {
     if is_registered {
         set.poll_first_registered(&PollStream, cx)
@@ -39,16 +33,10 @@ fn poll_count<St: SlotStream<S::Waker>, S: ReadySource>(
     cx: &mut Context<'_>,
     is_registered: bool,
 ) -> Poll<Option<St::Item>>
-    requires { CanAsk St.can_poll S.needs S.steps.registers set.old cx.old is_registered }
-    ensures counted { 0 < held_count set.old.slots
-        → CountGives St.polled S.steps S.marks set.old result set.new }
-    ensures streams { PollsStreams St.can_poll (λ was now. now ≡ was) (λ was now. now + 1 ≡ was)
-        set.old result set.new }
-    ensures still_covered { IfReady result (λ o.
-        IfNone o (Covers cx.new (S.needs set.new.source))) }
-    ensures task { AsksSetTask S.steps S.needs (RegistersUnless S.registers_poll is_registered)
-        (LeavesTask St.polled S.steps (λ _. RegistersUnless S.registers_poll is_registered)
-        set.old set.new) set.new.source result cx.old cx.new }
+    requires { CanAsk St.SlotStream S.ReadySource set.old cx.old is_registered }
+    ensures { 0 < held_in set.old
+        → CountPolls St.SlotStream (unless_registered is_registered S.ReadySource)
+        set.old result set.new cx.old cx.new }
 {
     match ask_streams(set, cx, is_registered) {
         Poll::Ready((i, Some(item))) => {
@@ -71,11 +59,8 @@ pub(crate) fn poll_streams<St: SlotStream<S::Waker>, S: ReadySource>(
     cx: &mut Context<'_>,
     is_registered: bool,
 ) -> Poll<Option<St::Item>>
-    requires { CanAsk St.can_poll S.needs S.steps.registers set.old cx.old is_registered }
-    ensures polled { MergeGives St.polled S.steps S.marks set.old result set.new }
-    ensures streams { PollsStreams St.can_poll (λ _ now. 0 < now) (λ _ now. now ≡ 0)
-        set.old result set.new }
-    ensures task { LeavesItsTask St.SlotStream S.ReadySource is_registered
+    requires { CanAsk St.SlotStream S.ReadySource set.old cx.old is_registered }
+    ensures { PollsMergeBounded St.SlotStream (unless_registered is_registered S.ReadySource)
         set.old result set.new cx.old cx.new }
 {
     'counts: while !set.is_empty() {
