@@ -1,5 +1,5 @@
 -- What one poll makes of groups, by what holds of each group that is asked.
-use Rattle.std.proofs.Common.{◌≡◌, ◌⊎◌, ℕ, zero, suc, ◌+◌, Bool, true, false, true≢false, ◌<◌, cond, ◌&&◌, ◌↔◌, MatchOption, List, [], ◌∷◌, ◌++◌, take, drop, Option, Some, None, refl, sym, ap, subst, inl, inr, arith}
+use Rattle.std.proofs.Common.{◌≡◌, ◌⊎◌, ℕ, zero, suc, ◌+◌, Bool, true, false, ◌<◌, cond, ◌&&◌, ◌↔◌, MatchOption, List, [], ◌∷◌, ◌++◌, take, drop, Option, Some, None, refl, sym, ap, subst, inl, inr, arith}
 use Rattle.std.specs.List.{AllZip, AllByRecursion, enumerate_from, list_all, sum_by}
 use Rattle.std.proofs.lemmas.List.{take-append-drop}
 use Rattle.std.proofs.lemmas.List.Sums.{sum_by-cons, sum_by-append, sum_by-take-drop}
@@ -9,7 +9,7 @@ use Rattle.futures_buffered_unordered.specs.FuturesUnorderedBounded.{Bounded, he
 use Rattle.futures_buffered_unordered.specs.Groups.{Groups, Turn, AsksLast, GroupsGive, ended, is_end, staying, round_from, NoOutput}
 use Rattle.futures_buffered_unordered.specs.Groups.{AnyOf, outputs_in}
 use Rattle.futures_buffered_unordered.specs.FuturesUnordered.{held_in_all}
-use Rattle.futures_buffered_unordered.proofs.GroupsLemmas.{TakesTurn, NotAsked, GaveNoOutput}
+use Rattle.futures_buffered_unordered.proofs.GroupsLemmas.{TakesTurn, NotAsked, GaveNoOutput, each-append, each-front}
 
 -- one of a list's parts is one of the list, and the other way round
 module _ {X : Type 0} (P : X → Type 0) where
@@ -21,13 +21,11 @@ module _ {X : Type 0} (P : X → Type 0) where
   any_take : (n : ℕ) (xs : List X) → AnyOf P (take n xs) → AnyOf P xs
   any_take zero xs any = absurd any
   any_take (suc n) [] any = any
-  any_take (suc n) (x ∷ xs) (inl here) = inl here
-  any_take (suc n) (x ∷ xs) (inr any) = inr (any_take n xs any)
+  any_take (suc n) (x ∷ xs) any = grind (arith, any_take n xs)
 
   any_append : (xs ys : List X) → AnyOf P (xs ++ ys) → AnyOf P xs ⊎ AnyOf P ys
   any_append [] ys any = inr any
-  any_append (x ∷ xs) ys (inl here) = inl (inl here)
-  any_append (x ∷ xs) ys (inr any) = elim (any_append xs ys any) [ inl a ↦ inl (inr a) | inr b ↦ inr b ]
+  any_append (x ∷ xs) ys any = grind (arith, any_append xs ys)
 
   any_between : (xs : List X) (x : X) (ys : List X) → P x → AnyOf P (xs ++ x ∷ ys)
   any_between [] x ys here = inl here
@@ -38,8 +36,7 @@ module _ {X : Type 0} (P : X → Type 0) where
 
 any_numbered : {X : Type 0} (P : X → Type 0) (n : ℕ) (xs : List X) → AnyOf (λ (p : ℕ × X). P p.1) (enumerate_from n xs) → AnyOf P xs
 any_numbered P n [] any = any
-any_numbered P n (x ∷ xs) (inl here) = inl here
-any_numbered P n (x ∷ xs) (inr any) = inr (any_numbered P (n + 1) xs any)
+any_numbered P n (x ∷ xs) any = grind (arith, any_numbered P (n + 1) xs)
 
 -- an output was given in one of the turns
 gave_output : {X A : Type 0} (asks : Bool → X → Poll (Option A) → X → Type 0) (old new : Groups X) (stopped : Bool) (x : A) (h : GroupsGive asks old (Ready (Some x)) stopped new) → AnyOf (λ (t : Turn X A). t.answer ≡ Some (Ready (Some x))) h.0
@@ -52,11 +49,9 @@ gave_output {X} {A} asks old new stopped x h =
 module _ {X A : Type 0} (asks : X → Poll (Option A) → X → Type 0) (P : X → Type 0) where
   -- what holds of a group that was asked holds of one of the groups
   any_asked : (answer : Poll (Option A)) → ((group left : X) → asks group answer left → P group) → (groups : List X) (turns : List (Turn X A)) → AllZip (TakesTurn (λ _. asks)) groups turns → AnyOf (λ (turn : Turn X A). turn.answer ≡ Some answer) turns → AnyOf P groups
-  any_asked answer holds [] [] zip any = absurd any
-  any_asked answer holds [] (t ∷ ts) zip any = absurd zip
-  any_asked answer holds (g ∷ gs) [] zip any = absurd zip
   any_asked answer holds (g ∷ gs) (t ∷ ts) zip (inl here) = inl (holds g t.left (subst (λ (o : Option (Poll (Option A))). MatchOption o ((t.left ≡ g) × (t.stopped ≡ false)) (λ a. asks g a t.left)) here zip.0))
   any_asked answer holds (g ∷ gs) (t ∷ ts) zip (inr any) = inr (any_asked answer holds gs ts zip.1 any)
+  any_asked answer holds groups turns zip any = grind arith
 
   module _ (before : (group left : X) (answer : Poll (Option A)) → asks group answer left → P left → P group) where
     before_turn : (group left : X) (b : Bool) (o : Option (Poll (Option A))) → MatchOption o ((left ≡ group) × (b ≡ false)) (λ answer. asks group answer left) → P left → P group
@@ -65,19 +60,12 @@ module _ {X A : Type 0} (asks : X → Poll (Option A) → X → Type 0) (P : X �
 
     -- what holds of a group that stays held of one before
     any_staying : (groups : List X) (turns : List (Turn X A)) → AllZip (TakesTurn (λ _. asks)) groups turns → AnyOf P (staying turns) → AnyOf P groups
-    any_staying [] [] zip any = any
-    any_staying [] (t ∷ ts) zip any = absurd zip
-    any_staying (g ∷ gs) [] zip any = absurd zip
-    any_staying (g ∷ []) (t ∷ []) zip (inl here) = inl (before_turn g t.left t.stopped t.answer zip.0 here)
-    any_staying (g ∷ []) (t ∷ []) zip (inr any) = inr any
-    any_staying (g ∷ h ∷ gs) (t ∷ []) zip any = absurd zip.1
-    any_staying (g ∷ []) (t ∷ u ∷ ts) zip any = absurd zip.1
-    any_staying (g ∷ h ∷ gs) (t ∷ u ∷ ts) zip any = by_test (ended t) (any_staying (h ∷ gs) (u ∷ ts) zip.1) any
-      where
-        by_test : (b : Bool) → (AnyOf P (staying (u ∷ ts)) → AnyOf P (h ∷ gs)) → AnyOf P (cond b (staying (u ∷ ts)) (t.left ∷ staying (u ∷ ts))) → AnyOf P (g ∷ h ∷ gs)
-        by_test true rest any = inr (rest any)
-        by_test false rest (inl here) = inl (before_turn g t.left t.stopped t.answer zip.0 here)
-        by_test false rest (inr any) = inr (rest any)
+    any_staying (g ∷ h ∷ gs) (t ∷ u ∷ ts) zip any =
+        let first = before_turn g t.left t.stopped t.answer zip.0 in
+        let rest = any_staying (h ∷ gs) (u ∷ ts) zip.1 in
+        grind arith
+    any_staying (g ∷ []) (t ∷ []) zip any = let first = before_turn g t.left t.stopped t.answer zip.0 in grind arith
+    any_staying groups turns zip any = grind arith
 
     -- one poll
     pub any_left : (old : Groups X) (answer : Poll (Option A)) (stopped : Bool) (new : Groups X) → GroupsGive (λ _. asks) old answer stopped new → AnyOf P new.listed → AnyOf P old.listed
@@ -91,40 +79,24 @@ module _ {X A : Type 0} (asks : X → Poll (Option A) → X → Type 0) (P : X �
   any_output old new stopped x h holds = any_asked (Ready (Some x)) holds old.listed h.0 h.2.each (gave_output (λ _. asks) old new stopped x h)
 
 -- each of the turns was asked, where each was that is met on the way round
-every_append : {X : Type 0} (P : X → Type 0) (xs ys : List X) → AllByRecursion P xs → AllByRecursion P ys → AllByRecursion P (xs ++ ys)
-every_append P [] ys first rest = rest
-every_append P (x ∷ xs) ys first rest = (first.0, every_append P xs ys first.1 rest)
-
-every_front : {X : Type 0} (P : X → Type 0) (xs ys : List X) → AllByRecursion P (xs ++ ys) → AllByRecursion P xs
-every_front P [] ys all = tt
-every_front P (x ∷ xs) ys all = (all.0, every_front P xs ys all.1)
-
 every_back : {X : Type 0} (P : X → Type 0) (xs ys : List X) → AllByRecursion P (xs ++ ys) → AllByRecursion P ys
 every_back P [] ys all = all
 every_back P (x ∷ xs) ys all = every_back P xs ys all.1
 
 every_round : {X : Type 0} (P : X → Type 0) (place : ℕ) (xs : List X) → AllByRecursion P (round_from place xs) → AllByRecursion P xs
 every_round P place xs all =
-    subst (AllByRecursion P) (take-append-drop place xs) (every_append P (take place xs) (drop place xs) (every_back P (drop place xs) (take place xs) all) (every_front P (drop place xs) (take place xs) all))
+    subst (AllByRecursion P) (take-append-drop place xs) (each-append P (take place xs) (drop place xs) (every_back P (drop place xs) (take place xs) all) (each-front P (drop place xs) (take place xs) all))
 
 every_numbered : {X : Type 0} (P : X → Type 0) (n : ℕ) (xs : List X) → AllByRecursion (λ (p : ℕ × X). P p.1) (enumerate_from n xs) → AllByRecursion P xs
 every_numbered P n [] all = tt
 every_numbered P n (x ∷ xs) all = (all.0, every_numbered P (n + 1) xs all.1)
 
-every_weaker : {X : Type 0} (P Q : X → Type 0) → ((x : X) → P x → Q x) → (xs : List X) → AllByRecursion P xs → AllByRecursion Q xs
-every_weaker P Q weaker [] all = tt
-every_weaker P Q weaker (x ∷ xs) all = (weaker x all.0, every_weaker P Q weaker xs all.1)
-
--- it was asked, and gave no item
-abbrev was_asked : {A : Type 0} → Option (Poll (Option A)) → Type 0
-was_asked o = MatchOption o ⊥ NoOutput
-
 module _ {X A : Type 0} where
-  all_asked : (asks : X → Poll (Option A) → X → Type 0) (old new : Groups X) (stopped : Bool) (turns : List (Turn X A)) (last : Poll (Option A)) → NoOutput last → AsksLast (λ _. asks) old turns last [] stopped new → AllByRecursion (λ (turn : Turn X A). was_asked turn.answer) turns
+  all_asked : (asks : X → Poll (Option A) → X → Type 0) (old new : Groups X) (stopped : Bool) (turns : List (Turn X A)) (last : Poll (Option A)) → NoOutput last → AsksLast (λ _. asks) old turns last [] stopped new → AllByRecursion GaveNoOutput turns
   all_asked asks old new stopped turns last none h =
-      let P = λ (p : ℕ × Turn X A). was_asked p.1.answer in
-      let met = every_append P h.asked_before ((h.k, record { answer = Some last; stopped = h.last_stopped; left = h.left }) ∷ []) (every_weaker (λ (p : ℕ × Turn X A). GaveNoOutput p.1) P (λ p g. g) h.asked_before h.no_output_before) (none, tt) in
-      every_numbered (λ (turn : Turn X A). was_asked turn.answer) 0 turns (every_round P old.place (enumerate_from 0 turns) (subst (AllByRecursion P) (sym h.in_order) met))
+      let P = λ (p : ℕ × Turn X A). GaveNoOutput p.1 in
+      let met = each-append P h.asked_before ((h.k, record { answer = Some last; stopped = h.last_stopped; left = h.left }) ∷ []) h.no_output_before (none, tt) in
+      every_numbered GaveNoOutput 0 turns (every_round P old.place (enumerate_from 0 turns) (subst (AllByRecursion P) (sym h.in_order) met))
 
 -- what all groups weigh, where an answer takes from the weight of its group
 module _ {X A : Type 0} (asks : X → Poll (Option A) → X → Type 0) (weight : X → ℕ) (out : Poll (Option A) → ℕ)
@@ -141,28 +113,23 @@ module _ {X A : Type 0} (asks : X → Poll (Option A) → X → Type 0) (weight 
   one_turn group left b (Some answer) asked = step group left answer asked
 
   end_none : (group left : X) (b : Bool) (o : Option (Poll (Option A))) → MatchOption o ((left ≡ group) × (b ≡ false)) (λ answer. asks group answer left) → is_end o ≡ true → weight left ≡ 0
-  end_none group left b None h e = absurd (true≢false (sym e))
-  end_none group left b (Some Pending) h e = absurd (true≢false (sym e))
-  end_none group left b (Some (Ready None)) h e = ended_none group left h
-  end_none group left b (Some (Ready (Some x))) h e = absurd (true≢false (sym e))
+  end_none group left b o h e = grind (arith, ended_none)
 
   abbrev of_turn : Turn X A → ℕ
   of_turn turn = turn_out turn.answer
 
   -- the groups that stay, and what the turns brought
   staying_sum : (groups : List X) (turns : List (Turn X A)) → AllZip (TakesTurn (λ _. asks)) groups turns → sum_by weight (staying turns) + sum_by of_turn turns ≡ sum_by weight groups
-  staying_sum [] [] zip = refl
-  staying_sum [] (t ∷ ts) zip = absurd zip
-  staying_sum (g ∷ gs) [] zip = absurd zip
   staying_sum (g ∷ []) (t ∷ []) zip = omega (arith, one_turn g t.left t.stopped t.answer zip.0, sum_by-cons weight t.left [], sum_by-cons of_turn t [], sum_by-cons weight g [])
-  staying_sum (g ∷ h ∷ gs) (t ∷ []) zip = absurd zip.1
-  staying_sum (g ∷ []) (t ∷ u ∷ ts) zip = absurd zip.1
   staying_sum (g ∷ h ∷ gs) (t ∷ u ∷ ts) zip =
-      by_test (ended t) (end_none g t.left t.stopped t.answer zip.0) (staying_sum (h ∷ gs) (u ∷ ts) zip.1)
-    where
-      by_test : (b : Bool) → (b ≡ true → weight t.left ≡ 0) → sum_by weight (staying (u ∷ ts)) + sum_by of_turn (u ∷ ts) ≡ sum_by weight (h ∷ gs) → sum_by weight (cond b (staying (u ∷ ts)) (t.left ∷ staying (u ∷ ts))) + sum_by of_turn (t ∷ u ∷ ts) ≡ sum_by weight (g ∷ h ∷ gs)
-      by_test true none rest = omega (arith, rest, none refl, one_turn g t.left t.stopped t.answer zip.0, sum_by-cons of_turn t (u ∷ ts), sum_by-cons weight g (h ∷ gs))
-      by_test false none rest = omega (arith, rest, one_turn g t.left t.stopped t.answer zip.0, sum_by-cons of_turn t (u ∷ ts), sum_by-cons weight t.left (staying (u ∷ ts)), sum_by-cons weight g (h ∷ gs))
+      let none = end_none g t.left t.stopped t.answer zip.0 in
+      let first = one_turn g t.left t.stopped t.answer zip.0 in
+      let rest = staying_sum (h ∷ gs) (u ∷ ts) zip.1 in
+      let turns = sum_by-cons of_turn t (u ∷ ts) in
+      let stay = sum_by-cons weight t.left (staying (u ∷ ts)) in
+      let groups = sum_by-cons weight g (h ∷ gs) in
+      grind arith
+  staying_sum groups turns zip = grind arith
 
   abbrev of_pair : ℕ × Turn X A → ℕ
   of_pair p = of_turn p.1
@@ -176,11 +143,9 @@ module _ {X A : Type 0} (asks : X → Poll (Option A) → X → Type 0) (weight 
 
   none_before : (xs : List (ℕ × Turn X A)) → AllByRecursion (λ (p : ℕ × Turn X A). GaveNoOutput p.1) xs → sum_by of_pair xs ≡ 0
   none_before [] all = refl
-  none_before (p ∷ xs) all = omega (arith, none_before xs all.1, sum_by-cons of_pair p xs, gave_none p.1.answer all.0)
-    where
-      gave_none : (o : Option (Poll (Option A))) → MatchOption o ⊥ NoOutput → turn_out o ≡ 0
-      gave_none None h = absurd h
-      gave_none (Some answer) h = no_output answer h
+  none_before (p ∷ xs) all =
+      let gave_none : turn_out p.1.answer ≡ 0 = grind (arith, no_output) in
+      omega (arith, none_before xs all.1, sum_by-cons of_pair p xs, gave_none)
 
   none_after : (xs : List (ℕ × Turn X A)) → AllByRecursion (λ (p : ℕ × Turn X A). NotAsked p.1) xs → sum_by of_pair xs ≡ 0
   none_after [] all = refl
@@ -206,22 +171,14 @@ module _ {X A : Type 0} (asks : X → Poll (Option A) → X → Type 0) (weight 
   sum_left old new stopped Pending h = omega (arith, after_last old new stopped h.0 h.1 [] h.3, no_output h.1 h.2, no_output Pending tt)
 
 no_outputs : {A : Type 0} (answer : Poll (Option A)) → NoOutput answer → outputs_in answer ≡ 0
-no_outputs Pending none = refl
-no_outputs (Ready None) none = refl
-no_outputs (Ready (Some x)) none = absurd none
+no_outputs answer none = grind arith
 
 module _ {A : Type 0} where
   ends_pending : (held : ℕ) → 0 < held → (◌≡◌ {A = Poll (Option A)} Pending (Ready None)) ↔ (held ≡ 0)
-  ends_pending held some = (λ e. absurd (not_end e), λ e. absurd (omega (arith, e, some)))
-    where
-      not_end : ◌≡◌ {A = Poll (Option A)} Pending (Ready None) → ⊥
-      not_end e = cc
+  ends_pending held some = (λ e. absurd cc, λ e. absurd (omega (arith, e, some)))
 
   ends_some : (held : ℕ) (x : A) → 0 < held → (◌≡◌ {A = Poll (Option A)} (Ready (Some x)) (Ready None)) ↔ (held ≡ 0)
-  ends_some held x some = (λ e. absurd (not_end e), λ e. absurd (omega (arith, e, some)))
-    where
-      not_end : ◌≡◌ {A = Poll (Option A)} (Ready (Some x)) (Ready None) → ⊥
-      not_end e = cc
+  ends_some held x some = (λ e. absurd cc, λ e. absurd (omega (arith, e, some)))
 
   ends_none : (held : ℕ) → held ≡ 0 → (◌≡◌ {A = Poll (Option A)} (Ready None) (Ready None)) ↔ (held ≡ 0)
   ends_none held none = (λ e. none, λ e. refl)
@@ -229,52 +186,33 @@ module _ {A : Type 0} where
 module _ {F A S : Type 0} (asks : Bounded F S → Poll (Option A) → Bounded F S → Type 0)
     (end_is_empty : (old new : Bounded F S) → asks old (Ready None) new → held_in new ≡ 0) (pending_holds : (old new : Bounded F S) → asks old Pending new → 0 < held_in new) where
   both_true : (a b : Bool) → (a && b) ≡ true → (a ≡ true) × (b ≡ true)
-  both_true true b e = (refl, e)
-  both_true false b e = absurd (true≢false (sym e))
+  both_true a b e = grind arith
 
   -- what a turn leaves
   ended_left : (group left : Bounded F S) (b : Bool) (o : Option (Poll (Option A))) → MatchOption o ((left ≡ group) × (b ≡ false)) (λ answer. asks group answer left) → is_end o ≡ true → held_in left ≡ 0
-  ended_left group left b None h e = absurd (true≢false (sym e))
-  ended_left group left b (Some Pending) h e = absurd (true≢false (sym e))
-  ended_left group left b (Some (Ready None)) h e = end_is_empty group left h
-  ended_left group left b (Some (Ready (Some x))) h e = absurd (true≢false (sym e))
+  ended_left group left b o h e = grind (arith, end_is_empty)
 
-  going_left : (group left : Bounded F S) (b : Bool) (o : Option (Poll (Option A))) → MatchOption o ((left ≡ group) × (b ≡ false)) (λ answer. asks group answer left) → was_asked o → is_end o ≡ false → 0 < held_in left
-  going_left group left b None h asked e = absurd asked
-  going_left group left b (Some Pending) h asked e = pending_holds group left h
-  going_left group left b (Some (Ready None)) h asked e = absurd (true≢false e)
-  going_left group left b (Some (Ready (Some x))) h asked e = absurd asked
+  going_left : (group left : Bounded F S) (b : Bool) (o : Option (Poll (Option A))) → MatchOption o ((left ≡ group) × (b ≡ false)) (λ answer. asks group answer left) → MatchOption o ⊥ NoOutput → is_end o ≡ false → 0 < held_in left
+  going_left group left b o h asked e = grind (arith, pending_holds)
 
   all_ended : (groups : List (Bounded F S)) (turns : List (Turn (Bounded F S) A)) → AllZip (TakesTurn (λ _. asks)) groups turns → list_all ended turns ≡ true → held_in_all (staying turns) ≡ 0
-  all_ended [] [] zip e = refl
-  all_ended [] (t ∷ ts) zip e = absurd zip
-  all_ended (g ∷ gs) [] zip e = absurd zip
   all_ended (g ∷ []) (t ∷ []) zip e = omega (arith, ended_left g t.left t.stopped t.answer zip.0 (both_true (ended t) true e).0)
-  all_ended (g ∷ h ∷ gs) (t ∷ []) zip e = absurd zip.1
-  all_ended (g ∷ []) (t ∷ u ∷ ts) zip e = absurd zip.1
   all_ended (g ∷ h ∷ gs) (t ∷ u ∷ ts) zip e =
       let both = both_true (ended t) (list_all ended (u ∷ ts)) e in
       rw both.0 (all_ended (h ∷ gs) (u ∷ ts) zip.1 both.1)
+  all_ended groups turns zip e = grind arith
 
   holds_more : (group : Bounded F S) (groups : List (Bounded F S)) → 0 < held_in group → 0 < held_in_all (group ∷ groups)
   holds_more group groups some = omega (arith, some, sum_by-cons held_in group groups)
 
-  one_goes_on : (groups : List (Bounded F S)) (turns : List (Turn (Bounded F S) A)) → AllZip (TakesTurn (λ _. asks)) groups turns → AllByRecursion (λ (turn : Turn (Bounded F S) A). was_asked turn.answer) turns → list_all ended turns ≡ false → 0 < held_in_all (staying turns)
-  one_goes_on [] [] zip asked e = absurd (true≢false e)
-  one_goes_on [] (t ∷ ts) zip asked e = absurd zip
-  one_goes_on (g ∷ gs) [] zip asked e = absurd zip
-  one_goes_on (g ∷ []) (t ∷ []) zip asked e = by_end (ended t) refl e
-    where
-      by_end : (b : Bool) → ended t ≡ b → (b && true) ≡ false → 0 < held_in_all (t.left ∷ [])
-      by_end true same e = absurd (true≢false e)
-      by_end false same e = holds_more t.left [] (going_left g t.left t.stopped t.answer zip.0 asked.0 same)
-  one_goes_on (g ∷ h ∷ gs) (t ∷ []) zip asked e = absurd zip.1
-  one_goes_on (g ∷ []) (t ∷ u ∷ ts) zip asked e = absurd zip.1
-  one_goes_on (g ∷ h ∷ gs) (t ∷ u ∷ ts) zip asked e = by_end (ended t) refl (one_goes_on (h ∷ gs) (u ∷ ts) zip.1 asked.1) e
-    where
-      by_end : (b : Bool) → ended t ≡ b → (list_all ended (u ∷ ts) ≡ false → 0 < held_in_all (staying (u ∷ ts))) → (b && list_all ended (u ∷ ts)) ≡ false → 0 < held_in_all (cond b (staying (u ∷ ts)) (t.left ∷ staying (u ∷ ts)))
-      by_end true same rest e = rest e
-      by_end false same rest e = holds_more t.left (staying (u ∷ ts)) (going_left g t.left t.stopped t.answer zip.0 asked.0 same)
+  some_stay : (b others : Bool) (left : Bounded F S) (more : List (Bounded F S)) → (b ≡ false → 0 < held_in left) → (others ≡ false → 0 < held_in_all more) → (b && others) ≡ false → 0 < held_in_all (cond b more (left ∷ more))
+  some_stay b others left more first rest e = let sum = sum_by-cons held_in left more in grind arith
+
+  one_goes_on : (groups : List (Bounded F S)) (turns : List (Turn (Bounded F S) A)) → AllZip (TakesTurn (λ _. asks)) groups turns → AllByRecursion GaveNoOutput turns → list_all ended turns ≡ false → 0 < held_in_all (staying turns)
+  one_goes_on (g ∷ []) (t ∷ []) zip asked e = let first = going_left g t.left t.stopped t.answer zip.0 asked.0 in grind (arith, holds_more)
+  one_goes_on (g ∷ h ∷ gs) (t ∷ u ∷ ts) zip asked e =
+      some_stay (ended t) (list_all ended (u ∷ ts)) t.left (staying (u ∷ ts)) (going_left g t.left t.stopped t.answer zip.0 asked.0) (one_goes_on (h ∷ gs) (u ∷ ts) zip.1 asked.1) e
+  one_goes_on groups turns zip asked e = grind arith
 
   -- a pending poll leaves a value
   groups_pending : (old new : Groups (Bounded F S)) (stopped : Bool) → GroupsGive (λ _. asks) old Pending stopped new → 0 < held_in_all new.listed
@@ -287,25 +225,17 @@ module _ {F A S : Type 0} (asks : Bounded F S → Poll (Option A) → Bounded F 
 
   -- where a group that gave an output still holds a value
   module _ (output_holds : (old new : Bounded F S) (x : A) → asks old (Ready (Some x)) new → 0 < held_in new) where
+    some_left : (x : A) (g : Bounded F S) (t : Turn (Bounded F S) A) → TakesTurn (λ _. asks) g t → t.answer ≡ Some (Ready (Some x)) → 0 < held_in t.left
+    some_left x g t takes here = output_holds g t.left x (subst (λ (o : Option (Poll (Option A))). MatchOption o ((t.left ≡ g) × (t.stopped ≡ false)) (λ a. asks g a t.left)) here takes)
+
     one_stays : (x : A) (groups : List (Bounded F S)) (turns : List (Turn (Bounded F S) A)) → AllZip (TakesTurn (λ _. asks)) groups turns → AnyOf (λ (t : Turn (Bounded F S) A). t.answer ≡ Some (Ready (Some x))) turns → 0 < held_in_all (staying turns)
-    one_stays x [] [] zip any = absurd any
-    one_stays x [] (t ∷ ts) zip any = absurd zip
-    one_stays x (g ∷ gs) [] zip any = absurd any
-    one_stays x (g ∷ []) (t ∷ []) zip (inl here) = holds_more t.left [] (some_left g t zip.0 here)
-      where
-        some_left : (g : Bounded F S) (t : Turn (Bounded F S) A) → TakesTurn (λ _. asks) g t → t.answer ≡ Some (Ready (Some x)) → 0 < held_in t.left
-        some_left g t takes here = output_holds g t.left x (subst (λ (o : Option (Poll (Option A))). MatchOption o ((t.left ≡ g) × (t.stopped ≡ false)) (λ a. asks g a t.left)) here takes)
-    one_stays x (g ∷ []) (t ∷ []) zip (inr any) = absurd any
-    one_stays x (g ∷ h ∷ gs) (t ∷ []) zip any = absurd zip.1
-    one_stays x (g ∷ []) (t ∷ u ∷ ts) zip any = absurd zip.1
-    one_stays x (g ∷ h ∷ gs) (t ∷ u ∷ ts) zip (inl here) =
-        let some = output_holds g t.left x (subst (λ (o : Option (Poll (Option A))). MatchOption o ((t.left ≡ g) × (t.stopped ≡ false)) (λ a. asks g a t.left)) here zip.0) in
-        rw (ap is_end here) (holds_more t.left (staying (u ∷ ts)) some)
-    one_stays x (g ∷ h ∷ gs) (t ∷ u ∷ ts) zip (inr any) = by_end (ended t) (one_stays x (h ∷ gs) (u ∷ ts) zip.1 any)
-      where
-        by_end : (b : Bool) → 0 < held_in_all (staying (u ∷ ts)) → 0 < held_in_all (cond b (staying (u ∷ ts)) (t.left ∷ staying (u ∷ ts)))
-        by_end true some = some
-        by_end false some = omega (arith, some, sum_by-cons held_in t.left (staying (u ∷ ts)))
+    one_stays x (g ∷ []) (t ∷ []) zip any = let first = some_left x g t zip.0 in grind (arith, holds_more)
+    one_stays x (g ∷ h ∷ gs) (t ∷ u ∷ ts) zip (inl here) = rw (ap is_end here) (holds_more t.left (staying (u ∷ ts)) (some_left x g t zip.0 here))
+    one_stays x (g ∷ h ∷ gs) (t ∷ u ∷ ts) zip (inr any) =
+        let rest = one_stays x (h ∷ gs) (u ∷ ts) zip.1 any in
+        let sum = sum_by-cons held_in t.left (staying (u ∷ ts)) in
+        grind arith
+    one_stays x groups turns zip any = grind arith
 
     -- the answer is the end where nothing is left
     pub ends_empty : (old new : Groups (Bounded F S)) (stopped : Bool) (answer : Poll (Option A)) → GroupsGive (λ _. asks) old answer stopped new → (answer ≡ Ready None) ↔ (held_in_all new.listed ≡ 0)
@@ -333,9 +263,8 @@ module _ {X A : Type 0} (asks gives : Bool → X → Poll (Option A) → X → T
 
   turns_told : (groups : List X) (turns : List (Turn X A)) → AllZip (TakesTurn asks) groups turns → AllZip (TakesTurn gives) groups turns
   turns_told [] [] zip = tt
-  turns_told [] (t ∷ ts) zip = absurd zip
-  turns_told (g ∷ gs) [] zip = absurd zip
   turns_told (g ∷ gs) (t ∷ ts) zip = (turn_told g t.left t.stopped t.answer zip.0, turns_told gs ts zip.1)
+  turns_told groups turns zip = absurd zip
 
   last_told : (old new : Groups X) (stopped : Bool) (turns : List (Turn X A)) (last : Poll (Option A)) (not_asked : List (ℕ × Turn X A)) → AsksLast asks old turns last not_asked stopped new → AsksLast gives old turns last not_asked stopped new
   last_told old new stopped turns last not_asked h =

@@ -1,10 +1,10 @@
 -- Groups in a list, and their turns: which stay and where they stand.
-use Rattle.std.proofs.Common.{◌≡◌, ◌⊎◌, ℕ, suc, ◌+◌, ◌<◌, ◌≤◌, Bool, true, false, not, ◌&&◌, ◌||◌, cond, List, [], ◌∷◌, ◌++◌, length, take, drop, Option, Some, None, MatchOption, nat_lt, true≢false, refl, sym, ap, subst, inl, inr, arith, append-nil, ◌∙◌}
+use Rattle.std.proofs.Common.{◌≡◌, ◌⊎◌, ℕ, suc, ◌+◌, ◌<◌, ◌≤◌, Bool, true, false, not, ◌&&◌, ◌||◌, cond, List, [], ◌∷◌, ◌++◌, length, take, drop, Option, Some, None, MatchOption, refl, sym, ap, subst, inl, inr, arith, append-nil, ◌∙◌}
 use Rattle.std.specs.List.{AllZip, AllByRecursion, enumerate_from, count_by, list_any}
 use Rattle.std.proofs.lemmas.List.{length-append, take_at, drop_at, length_push, take_all, drop_all}
 use Rattle.std.proofs.lemmas.List.FromFn.{length-enumerate_from}
 use Rattle.std.proofs.lemmas.List.Sums.{sum_by-cons}
-use Rattle.std.proofs.lemmas.Bool.{lt-ltb, le-ltb}
+use Rattle.std.proofs.lemmas.Bool.Decides.{nat_tests}
 use Rattle.std.proofs.lemmas.List.Folds.{list_any-append}
 use Rattle.futures.specs.declared.task.Poll.{Poll}
 use Rattle.futures.specs.declared.task.Poll.TheVariants.{Ready, Pending}
@@ -37,12 +37,8 @@ same_parts {X} ps qs rs ts same e = (
 
 -- the places go on over an appended list
 pub enumerate-append : {X : Type 0} (n : ℕ) (xs ys : List X) → enumerate_from n (xs ++ ys) ≡ enumerate_from n xs ++ enumerate_from (n + length xs) ys
-enumerate-append {X} n [] ys =
-    let same : n ≡ n + 0 = omega arith in
-    ap (λ (k : ℕ). enumerate_from k ys) same
-enumerate-append {X} n (x ∷ xs) ys =
-    let same : n + 1 + length xs ≡ n + suc (length xs) = omega arith in
-    ap (λ (l : List (ℕ × X)). (n, x) ∷ l) (enumerate-append (n + 1) xs ys ∙ ap (λ (k : ℕ). enumerate_from (n + 1) xs ++ enumerate_from k ys) same)
+enumerate-append n [] ys = grind arith
+enumerate-append n (x ∷ xs) ys = let rest = enumerate-append (n + 1) xs ys in grind arith
 
 -- a list begun at its second part is gone round from there
 pub round-at : {X : Type 0} (place : ℕ) (xs ys : List X) → (place ≡ length xs) ⊎ ((length (xs ++ ys) ≤ place) × (xs ≡ [])) → round_from place (enumerate_from 0 (xs ++ ys)) ≡ enumerate_from (length xs) ys ++ enumerate_from 0 xs
@@ -80,9 +76,8 @@ each-append P (x ∷ xs) ys all more = (all.0, each-append P xs ys all.1 more)
 
 pub zip-append : {X Y : Type 0} (R : X → Y → Type 0) (xs : List X) (ys : List Y) (us : List X) (vs : List Y) → AllZip R xs ys → AllZip R us vs → AllZip R (xs ++ us) (ys ++ vs)
 zip-append R [] [] us vs zip more = more
-zip-append R [] (y ∷ ys) us vs zip more = absurd zip
-zip-append R (x ∷ xs) [] us vs zip more = absurd zip
 zip-append R (x ∷ xs) (y ∷ ys) us vs zip more = (zip.0, zip-append R xs ys us vs zip.1 more)
+zip-append R xs ys us vs zip more = absurd zip
 
 module _ {X A : Type 0} where
   -- the turns of groups that were not asked
@@ -97,16 +92,10 @@ module _ {X A : Type 0} where
 
 module _ {X : Type 0} where
   pub cond-append : (b : Bool) (x : X) (ys zs : List X) → cond b (ys ++ zs) (x ∷ (ys ++ zs)) ≡ cond b ys (x ∷ ys) ++ zs
-  cond-append true x ys zs = refl
-  cond-append false x ys zs = refl
+  cond-append b x ys zs = grind arith
 
   pub length-cond : (b : Bool) (x : X) (n : ℕ) (ys : List X) → n ≡ length ys → cond (not b) 1 0 + n ≡ length (cond b ys (x ∷ ys))
-  length-cond true x n ys e =
-      let same : 0 + n ≡ length ys = omega (arith, e) in
-      same
-  length-cond false x n ys e =
-      let more : 1 + n ≡ suc (length ys) = omega (arith, e) in
-      more
+  length-cond b x n ys e = grind arith
 
 module _ {X : Type 0} (A : Type 0) where
   pub length-waiting : (xs : List X) → length (waiting {A = A} xs) ≡ length xs
@@ -133,19 +122,18 @@ module _ {X : Type 0} (A : Type 0) where
 module _ {X A : Type 0} where
   pub kept-append : (ps qs : List (Turn X A)) → kept (ps ++ qs) ≡ kept ps ++ kept qs
   kept-append [] qs = refl
-  kept-append (p ∷ ps) qs = ap (λ (l : List X). cond (ended p) l (p.left ∷ l)) (kept-append ps qs) ∙ cond-append (ended p) p.left (kept ps) (kept qs)
+  kept-append (p ∷ ps) qs = let rest = kept-append ps qs in grind arith
 
   -- of the groups before another stay those that have not ended
   pub staying-append : (ps : List (Turn X A)) (turn : Turn X A) (turns : List (Turn X A)) → staying (ps ++ turn ∷ turns) ≡ kept ps ++ staying (turn ∷ turns)
   staying-append [] turn turns = refl
-  staying-append (p ∷ []) turn turns = cond-append (ended p) p.left [] (staying (turn ∷ turns))
-  staying-append (p ∷ q ∷ ps) turn turns =
-      ap (λ (l : List X). cond (ended p) l (p.left ∷ l)) (staying-append (q ∷ ps) turn turns) ∙ cond-append (ended p) p.left (kept (q ∷ ps)) (staying (turn ∷ turns))
+  staying-append (p ∷ []) turn turns = grind arith
+  staying-append (p ∷ q ∷ ps) turn turns = let rest = staying-append (q ∷ ps) turn turns in grind arith
 
   -- a group that has not ended stays before groups that were not asked
   pub staying-before_waiting : (turn : Turn X A) (xs : List X) → ended turn ≡ false → staying (turn ∷ waiting xs) ≡ turn.left ∷ xs
   staying-before_waiting turn [] e = refl
-  staying-before_waiting turn (x ∷ xs) e = ap (λ (b : Bool). cond b (staying (waiting {A = A} (x ∷ xs))) (turn.left ∷ staying (waiting {A = A} (x ∷ xs)))) e ∙ ap (λ (l : List X). turn.left ∷ l) (staying-waiting A (x ∷ xs))
+  staying-before_waiting turn (x ∷ xs) e = let rest = staying-waiting A (x ∷ xs) in grind arith
 
   -- a group that has ended leaves if one stands behind it
   pub kept-push : (ps : List (Turn X A)) (turn : Turn X A) → kept (ps ++ turn ∷ []) ≡ kept ps ++ cond (ended turn) [] (turn.left ∷ [])
@@ -153,7 +141,7 @@ module _ {X A : Type 0} where
 
   pub count-kept : (ps : List (Turn X A)) → count_by (λ (turn : Turn X A). not (ended turn)) ps ≡ length (kept ps)
   count-kept [] = refl
-  count-kept (p ∷ ps) = sum_by-cons (λ (turn : Turn X A). cond (not (ended turn)) 1 0) p ps ∙ length-cond (ended p) p.left _ (kept ps) (count-kept ps)
+  count-kept (p ∷ ps) = let rest = count-kept ps in let first = sum_by-cons (λ (turn : Turn X A). cond (not (ended turn)) 1 0) p ps in grind arith
 
   -- group k stands behind those before it that stay
   pub stands-at : (ps qs : List (Turn X A)) → stands_at (ps ++ qs) (length ps) ≡ length (kept ps)
@@ -198,24 +186,11 @@ behind_last n (Ready o) = 0
 
 -- the place is that of a group
 pub next_at : {X : Type 0} (g : Groups X) (k : ℕ) → g.place ≡ k → k < length g.listed → next_place g ≡ k
-next_at g k e within = by_test (nat_lt g.place (length g.listed)) (lt-ltb g.place (length g.listed) (omega (arith, e, within)))
-  where
-    by_test : (b : Bool) → b ≡ true → cond b g.place 0 ≡ k
-    by_test true h = e
-    by_test false h = absurd (true≢false (sym h))
+next_at g k e within = grind (arith, nat_tests)
 
 -- the place is the first, or past the last group
 pub next_zero : {X : Type 0} (g : Groups X) → (length g.listed ≤ g.place) ⊎ (g.place ≡ 0) → next_place g ≡ 0
-next_zero g (inl past) = by_test (nat_lt g.place (length g.listed)) (le-ltb g.place (length g.listed) past)
-  where
-    by_test : (b : Bool) → b ≡ false → cond b g.place 0 ≡ 0
-    by_test true h = absurd (true≢false h)
-    by_test false h = refl
-next_zero g (inr first) = by_test (nat_lt g.place (length g.listed))
-  where
-    by_test : (b : Bool) → cond b g.place 0 ≡ 0
-    by_test true = first
-    by_test false = refl
+next_zero g where_at = grind (arith, nat_tests)
 
 module _ {X A : Type 0} where
   -- what stays of a group that is not the last
@@ -225,44 +200,31 @@ module _ {X A : Type 0} where
   -- a group that gave no output, with a group behind it
   pub after_group : (earlier later : List X) (left : X) (answer : Poll (Option A)) (new : Groups X) → 0 < length later → NoOutput answer → LeavesBetween earlier later left answer new
       → (new.listed ≡ earlier ++ (gone answer left ++ later)) × (new.place ≡ length earlier + length (gone answer left))
-  after_group earlier [] left answer new some none h = absurd (omega (arith, some))
-  after_group earlier (next ∷ later) left Pending new some none h = h
-  after_group earlier (next ∷ later) left (Ready None) new some none h = (h.0, omega (arith, h.1))
-  after_group earlier (next ∷ later) left (Ready (Some x)) new some none h = absurd none
+  after_group earlier later left answer new some none h = grind arith
 
   -- the last group, which gave no output
   pub after_last : (earlier : List X) (left : X) (answer : Poll (Option A)) (new : Groups X) → NoOutput answer → LeavesBetween earlier [] left answer new
       → (new.listed ≡ earlier ++ left ∷ []) × (new.place ≡ behind_last (length new.listed) answer)
-  after_last earlier left Pending new none h = (h.0, h.1 ∙ sym (length_push earlier left) ∙ sym (ap length h.0))
-  after_last earlier left (Ready None) new none h = h
-  after_last earlier left (Ready (Some x)) new none h = absurd none
+  after_last earlier left answer new none h = let long = length_push earlier left in grind arith
 
 pub ends_more : (b e pending p : Bool) → b ≡ not pending → e ≡ not p → (b && e) ≡ not (cond pending true p)
-ends_more b e true p h i = ap (λ (x : Bool). x && e) h
-ends_more b e false p h i = ap (λ (x : Bool). x && e) h ∙ i
+ends_more b e pending p h i = grind arith
 
 pub end_or_pending : {A : Type 0} (answer : Poll (Option A)) → NoOutput answer → is_end (Some answer) ≡ not (is_pending answer)
-end_or_pending Pending none = refl
-end_or_pending (Ready None) none = refl
-end_or_pending (Ready (Some x)) none = absurd none
+end_or_pending answer none = grind arith
 
 pub and_true : (b : Bool) → (b && true) ≡ b
-and_true true = refl
-and_true false = refl
+and_true b = grind arith
 
 pub and_swap : (a b c : Bool) → ((a && c) && b) ≡ ((a && b) && c)
-and_swap true true true = refl
-and_swap true true false = refl
-and_swap true false true = refl
-and_swap true false false = refl
-and_swap false b c = refl
+and_swap a b c = grind arith
 
 pub from_no_length : {X : Type 0} (xs : List X) → length xs ≡ 0 → xs ≡ []
 from_no_length [] e = refl
 from_no_length (x ∷ xs) e = absurd (omega (arith, e))
 
 pub last_of : {X : Type 0} (xs : List X) → 0 < length xs → (ys : List X) × (y : X) × (xs ≡ ys ++ y ∷ [])
-last_of [] some = absurd (omega (arith, some))
+last_of [] some = grind arith
 last_of (x ∷ []) some = ([], x, refl)
 last_of {X} (x ∷ y ∷ xs) some =
     let more = last_of (y ∷ xs) (omega arith) in
@@ -277,12 +239,11 @@ each-front P [] ys all = tt
 each-front P (x ∷ xs) ys all = (all.0, each-front P xs ys all.1)
 
 pub answered : {X A : Type 0} (o : Option (Poll (Option A))) (stopped : Bool) (left : X) → MatchOption o ⊥ NoOutput → (answer : Poll (Option A)) × NoOutput answer × (◌≡◌ {A = Turn X A} (record { answer = o; stopped = stopped; left = left }) (record { answer = Some answer; stopped = stopped; left = left }))
-answered None stopped left h = absurd h
 answered (Some answer) stopped left h = (answer, h, refl)
+answered None stopped left h = absurd h
 
 or_false : (b : Bool) → (b || false) ≡ b
-or_false true = refl
-or_false false = refl
+or_false b = grind arith
 
 -- whether one stopped, by the parts of a list of turns
 module _ {X A : Type 0} where
@@ -295,8 +256,4 @@ module _ {X A : Type 0} where
       list_any-append (λ (t : Turn X A). t.stopped) turns (turn ∷ waiting later) ∙ ap (λ (b : Bool). any_stopped turns || (turn.stopped || b)) (waiting-not_stopped A later) ∙ ap (λ (b : Bool). any_stopped turns || b) (or_false turn.stopped)
 
 pub or_last : (p q b : Bool) → ((p || b) || q) ≡ ((p || q) || b)
-or_last true q b = refl
-or_last false true true = refl
-or_last false true false = refl
-or_last false false true = refl
-or_last false false false = refl
+or_last p q b = grind arith

@@ -1,5 +1,5 @@
 -- What holds after every poll holds after each answer.
-use Rattle.std.proofs.Common.{ℕ, Option, Some, None, OnSome}
+use Rattle.std.proofs.Common.{arith, ℕ, Option, OnSome}
 use Rattle.futures.specs.Task.{Covers}
 use Rattle.futures.specs.Poll.{IfReady, OnPending}
 use Rattle.futures.specs.declared.task.context.Context.{Context}
@@ -7,13 +7,10 @@ use Rattle.futures.specs.declared.task.Poll.{Poll}
 use Rattle.futures.specs.declared.task.Poll.TheVariants.{Ready, Pending}
 
 pub after_item : {A P : Type 0} (answer : Poll (Option A)) → P → IfReady answer (λ o. OnSome o P)
-after_item (Ready (Some x)) p = p
-after_item (Ready None) p = tt
-after_item Pending p = tt
+after_item answer p = grind arith
 
 pub while_pending : {B P : Type 0} (answer : Poll B) → P → OnPending answer P
-while_pending (Ready x) p = tt
-while_pending Pending p = p
+while_pending answer p = grind arith
 
 -- a task that hears of some places hears of fewer
 pub covers_fewer : {B : Type 0} (answer : Poll B) (cx : Context) (needs fewer : ℕ → Type 0) → ((n : ℕ) → fewer n → needs n) → OnPending answer (Covers cx needs) → OnPending answer (Covers cx fewer)
