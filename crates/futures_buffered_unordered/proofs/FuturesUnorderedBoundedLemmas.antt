@@ -1,8 +1,6 @@
 -- What a poll of a bounded set has asked so far, and what it makes of what the set holds and may give.
-use Rattle.std.proofs.Common.{◌≡◌, ℕ, ◌+◌, ◌<◌, MatchOption, List, [], ◌∷◌, ◌++◌, length, Option, Some, None, IfSome, OnSome, is_some, cond, refl, sym, ap, subst, inl, inr, arith, ◌∙◌}
+use Rattle.std.proofs.Common.{◌≡◌, ℕ, ◌+◌, ◌<◌, MatchOption, List, [], ◌∷◌, ◌++◌, Option, Some, None, IfSome, OnSome, is_some, cond, refl, sym, ap, subst, arith, ◌∙◌}
 use Rattle.std.specs.List.{FoldsTo}
-use Rattle.std.proofs.lemmas.Bool.{cases_lt}
-use Rattle.std.proofs.lemmas.List.{get_or_past}
 use Rattle.std.proofs.lemmas.List.Sums.{sum_by-set}
 use Rattle.futures.specs.declared.task.context.Context.{Context}
 use Rattle.futures.specs.declared.task.Poll.{Poll}
@@ -14,7 +12,7 @@ use Rattle.futures_buffered_core.specs.ReadySource.{SourceSteps}
 use Rattle.futures_buffered_unordered.specs.Held.{AnyMayGive, ComesFrom, Passes}
 use Rattle.futures_buffered_unordered.specs.Groups.{outputs_in}
 use Rattle.futures_buffered_unordered.specs.FuturesUnorderedBounded.{Bounded, OnlyRegisters, PollGives, held_in}
-use Rattle.futures_buffered_unordered.proofs.HeldLemmas.{count-with, value_in-with_value}
+use Rattle.futures_buffered_unordered.proofs.HeldLemmas.{count-with, held_within, value_in-with_value}
 use Rattle.futures_buffered_unordered.proofs.HeldGivesLemmas.{Gathers-Within, Gathers-After, gives_passed, gives_output, gives_others}
 
 module _ {F A S : Type 0} (polled : ℕ → F → Poll A → F → Type 0) where
@@ -44,12 +42,7 @@ module _ {F A S : Type 0} (polled : ℕ → F → Poll A → F → Type 0) where
 
 -- one value fewer, once a slot that held one is free
 count-freed : {F : Type 0} (m : Slots F) (i : ℕ) (f : F) → Some f ≡ value_in m i → held_count (with_slot_freed m i) + 1 ≡ held_count m
-count-freed {F} m i f found =
-    let within : i < length m.places = elim (cases_lt i (length m.places)) [
-      | inl below ↦ below
-      | inr past ↦ let none : value_in m i ≡ None = get_or_past m.places i None past in cc
-    ] in
-    omega (arith, rw (← found) at (sum_by-set (λ (o : Option F). cond (is_some o) 1 0) m.places i None None within))
+count-freed {F} m i f found = omega (arith, rw (← found) at (sum_by-set (λ (o : Option F). cond (is_some o) 1 0) m.places i None None (held_within m i f found)))
 
 -- names without an output leave as many values as before
 pub passed_held : {F A : Type 0} (polled : ℕ → F → Poll A → F → Type 0) (names : List ℕ) (m new : Slots F) → FoldsTo (Passes polled) m names new → held_count new ≡ held_count m

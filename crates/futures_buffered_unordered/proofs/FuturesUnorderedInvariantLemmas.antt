@@ -1,7 +1,8 @@
 -- What a poll of groups keeps of their invariant.
-use Rattle.std.proofs.Common.{◌≡◌, ◌≢◌, ◌⊎◌, ℕ, zero, suc, ◌+◌, ◌-◌, Bool, true≢false, ◌<◌, ◌≤◌, nat_lt, cond, true, false, List, [], ◌∷◌, ◌++◌, length, take, drop, set, get_or, Option, IfNone, is_some, refl, sym, ap, subst, inl, inr, arith, length-set, ◌∙◌}
+use Rattle.std.proofs.Common.{◌≡◌, ◌≢◌, ℕ, zero, suc, ◌+◌, ◌-◌, ◌<◌, ◌≤◌, false, List, [], ◌∷◌, ◌++◌, length, take, drop, set, get_or, Option, IfNone, is_some, refl, sym, ap, subst, inl, inr, arith, length-set, ◌∙◌}
 use Rattle.std.specs.List.{All}
-use Rattle.std.proofs.lemmas.Bool.{cases_eq, cases_lt, lt-ltb}
+use Rattle.std.proofs.lemmas.Bool.Decides.{nat_tests}
+use Rattle.std.proofs.lemmas.Bool.{cases_eq}
 use Rattle.std.proofs.lemmas.List.{get_or-set_same, get_or-set_other, get_or-take, get_or-drop, get_or_append_left, get_or-append_right, length-append, length-take-le, length-drop}
 use Rattle.std.proofs.lemmas.List.Elements.{All-set}
 use Rattle.std.proofs.lemmas.List.Sums.{sum_by-set, sum_by-append, sum_by_more, sum_by-take-drop, get_or-le-sum_by}
@@ -20,7 +21,7 @@ use Rattle.futures_buffered_unordered.specs.FuturesUnorderedInvariant.{IsGroup, 
 
 -- what stands at a place of a list does not depend on what is read past its end
 pub same_or : {X : Type 0} (xs : List X) (k : ℕ) (d e : X) → k < length xs → get_or xs k d ≡ get_or xs k e
-same_or [] k d e lt = absurd (omega (arith, lt))
+same_or [] k d e lt = grind arith
 same_or (x ∷ xs) zero d e lt = refl
 same_or (x ∷ xs) (suc k) d e lt = same_or xs k d e (omega (arith, lt))
 
@@ -57,15 +58,7 @@ covered_at {F} {S} needs cx gs q group is within covered = subst (λ (b : Bounde
 module _ {F S : Type 0} (needs : S → ℕ → Type 0) where
   -- the place of a group that is not the one asked next is not the kept one
   other_place : (g : Groups (Bounded F S)) (q j : ℕ) → q ≡ next_place g → g.place ≤ length g.listed → j < length g.listed → j ≢ q → j ≢ g.place
-  other_place g q j here within lt other same = by_place (cases_lt g.place (length g.listed))
-    where
-      by_test : (b : Bool) → b ≡ true → q ≡ cond b g.place 0 → ⊥
-      by_test true e h = other (same ∙ sym h)
-      by_test false e h = absurd (true≢false (sym e))
-
-      by_place : (g.place < length g.listed) ⊎ (length g.listed ≤ g.place) → ⊥
-      by_place (inl below) = by_test (nat_lt g.place (length g.listed)) (lt-ltb g.place (length g.listed) below) here
-      by_place (inr past) = absurd (omega (arith, same, past, lt))
+  other_place g q j here within lt other same = grind (arith, nat_tests)
 
   module _ (gs : List (Bounded F S)) (limit held q : ℕ) (k : KeepsGroups needs (record { listed = gs; place = q }) limit held) (within : q < length gs) where
     -- the group at the place holds a future, and the next poll begins behind it
@@ -76,27 +69,14 @@ module _ {F S : Type 0} (needs : S → ℕ → Type 0) where
           some_names = k.some_names;
           each = k.each;
           alike = k.alike;
-          others = λ j e lt other. by_place j e lt (cases_eq j q);
+          others = λ j e lt other. elim (cases_eq j q) [ inl same ↦ rw (same, same_or gs q e d within) some | inr apart ↦ k.others j e lt apart ];
           counted = k.counted;
           few = k.few;
         }
-      where
-        by_place : (j : ℕ) (e : Bounded F S) → j + 1 < length gs → (j ≡ q) ⊎ (j ≢ q) → 0 < held_in (get_or gs j e)
-        by_place j e lt (inl same) = rw (same, same_or gs q e d within) some
-        by_place j e lt (inr other) = k.others j e lt other
 
     -- the group at the place is the last, and the next poll begins with the first
     pub keeps_last : q + 1 ≡ length gs → KeepsGroups needs (record { listed = gs; place = 0 }) limit held
-    keeps_last last =
-        record {
-          place_within = omega arith;
-          some_names = k.some_names;
-          each = k.each;
-          alike = k.alike;
-          others = λ j d lt other. k.others j d lt (λ same. omega (arith, same, lt, last));
-          counted = k.counted;
-          few = k.few;
-        }
+    keeps_last last = grind arith
 
     -- the group at the place holds nothing, is not the last, and leaves
     pub keeps_left : (d : Bounded F S) → held_in (get_or gs q d) ≡ 0 → q + 1 ≢ length gs → KeepsGroups needs (record { listed = take q gs ++ drop (q + 1) gs; place = q }) limit held
@@ -106,17 +86,19 @@ module _ {F S : Type 0} (needs : S → ℕ → Type 0) where
           some_names = k.some_names;
           each = All-removed (IsGroup limit) gs q k.each;
           alike = All-removed (λ (a : Bounded F S). All (λ (b : Bounded F S). WaitsAlike needs a.source b.source) (take q gs ++ drop (q + 1) gs)) gs q (λ j e lt. All-removed (λ (b : Bounded F S). WaitsAlike needs (get_or gs j e).source b.source) gs q (k.alike j e lt));
-          others = λ j e lt other. by_place j e lt other (cases_lt j q);
+          others = λ j e lt other.
+              let before = get_or_removed_before gs q j e within in
+              let behind = get_or_removed_behind gs q j e within in
+              let here = k.others j e in
+              let next = k.others (j + 1) e in
+              let longer = long in
+              grind arith;
           counted = omega (arith, k.counted, none, sum_by-append held_in (take q gs) (drop (q + 1) gs), sum_by-take-drop held_in gs (q + 1), sum_by_more held_in gs q d within);
           few = k.few;
         }
       where
         long : length (take q gs ++ drop (q + 1) gs) + 1 ≡ length gs
         long = omega (arith, within, length-append (take q gs) (drop (q + 1) gs), length-take-le q gs (omega (arith, within)), length-drop (q + 1) gs)
-
-        by_place : (j : ℕ) (e : Bounded F S) → j + 1 < length (take q gs ++ drop (q + 1) gs) → j ≢ q → (j < q) ⊎ (q ≤ j) → 0 < held_in (get_or (take q gs ++ drop (q + 1) gs) j e)
-        by_place j e lt other (inl before) = rw (get_or_removed_before gs q j e within before) (k.others j e (omega (arith, lt, long)) other)
-        by_place j e lt other (inr behind) = rw (get_or_removed_behind gs q j e within (omega (arith, other, behind))) (k.others (j + 1) e (omega (arith, lt, long)) (λ same. omega (arith, same, behind)))
 
   -- another group of its kind stands at the place of one
   module _ (gs : List (Bounded F S)) (limit q : ℕ) (group left : Bounded F S) (within : q < length gs) (is : group ≡ get_or gs q group) (kind : SameKind needs group left) where

@@ -1,7 +1,6 @@
 -- What a push makes of groups.
-use Rattle.std.proofs.Common.{◌≡◌, ◌≢◌, ◌⊎◌, ℕ, zero, suc, ◌+◌, ◌-◌, ◌*◌, ◌<◌, ◌≤◌, List, [], ◌∷◌, ◌++◌, length, take, drop, set, get_or, Option, None, is_some, cond, refl, sym, ap, subst, inl, inr, arith, length-set, ◌∙◌}
+use Rattle.std.proofs.Common.{◌≡◌, ℕ, zero, suc, ◌+◌, ◌-◌, ◌*◌, ◌<◌, ◌≤◌, List, [], ◌∷◌, ◌++◌, length, take, drop, set, get_or, Option, None, is_some, cond, refl, sym, ap, subst, inl, inr, arith, length-set, ◌∙◌}
 use Rattle.std.specs.List.{All}
-use Rattle.std.proofs.lemmas.Bool.{cases_eq}
 use Rattle.std.proofs.lemmas.List.{get_or-set_other, get_or_append_left, get_or_push, length_push, drop_all, length-replicate}
 use Rattle.std.proofs.lemmas.List.Elements.{All-push, All-tail}
 use Rattle.std.proofs.lemmas.List.Folds.{sum_by-replicate}
@@ -27,18 +26,14 @@ use Rattle.futures_buffered_unordered.proofs.FuturesUnorderedInvariantLemmas.{al
 module _ {F S : Type 0} where
   -- what is said of the last group is said of the one at the last place
   pub spare_last : (gs : List (Bounded F S)) (q : ℕ) (d : Bounded F S) → q + 1 ≡ length gs → spare_places gs ≡ slot_count (get_or gs q d).slots - held_in (get_or gs q d)
-  spare_last [] q d last = absurd (omega (arith, last))
   spare_last (g ∷ []) zero d last = refl
-  spare_last (g ∷ []) (suc q) d last = absurd (omega (arith, last))
-  spare_last (g ∷ next ∷ gs) zero d last = absurd (omega (arith, last))
   spare_last (g ∷ next ∷ gs) (suc q) d last = spare_last (next ∷ gs) q d (omega (arith, last))
+  spare_last gs q d last = absurd (omega (arith, last))
 
   pub next_last : (first : ℕ) (gs : List (Bounded F S)) (q : ℕ) (d : Bounded F S) → q + 1 ≡ length gs → next_capacity first gs ≡ 2 * slot_count (get_or gs q d).slots
-  next_last first [] q d last = absurd (omega (arith, last))
   next_last first (g ∷ []) zero d last = refl
-  next_last first (g ∷ []) (suc q) d last = absurd (omega (arith, last))
-  next_last first (g ∷ next ∷ gs) zero d last = absurd (omega (arith, last))
   next_last first (g ∷ next ∷ gs) (suc q) d last = next_last first (next ∷ gs) q d (omega (arith, last))
+  next_last first gs q d last = absurd (omega (arith, last))
 
   pub spare_some : (gs : List (Bounded F S)) → 0 < spare_places gs → 0 < length gs
   spare_some [] some = absurd (omega (arith, some))
@@ -63,7 +58,13 @@ module _ {F S : Type 0} (needs : S → ℕ → Type 0) where
         alike = All-push (λ (a : Bounded F S). All (λ (b : Bounded F S). WaitsAlike needs a.source b.source) (g.listed ++ group ∷ [])) g.listed group
             (λ j d lt. All-push (λ (b : Bounded F S). WaitsAlike needs (get_or g.listed j d).source b.source) g.listed group (k.alike j d lt) (beside j d lt))
             (All-push (λ (b : Bounded F S). WaitsAlike needs group.source b.source) g.listed group (λ j d lt. alike_back needs _ _ (beside j d lt)) (alike_self needs group.source));
-        others = λ j d lt other. subst (λ (b : Bounded F S). 0 < held_in b) (sym (get_or_append_left g.listed (group ∷ []) d j (omega (arith, lt, long)))) (by_place j d (omega (arith, lt, long)) other (cases_eq (j + 1) (length g.listed)));
+        others = λ j d lt other.
+            let before = get_or_append_left g.listed (group ∷ []) d j in
+            let last = spare_last g.listed j d in
+            let each = k.each j d in
+            let held = k.others j d in
+            let longer = long in
+            grind arith;
         counted = omega (arith, k.counted, sum_by_push held_in g.listed group, none.0);
         few = k.few;
       }
@@ -73,10 +74,6 @@ module _ {F S : Type 0} (needs : S → ℕ → Type 0) where
 
       long : length (g.listed ++ group ∷ []) ≡ length g.listed + 1
       long = length_push g.listed group
-
-      by_place : (j : ℕ) (d : Bounded F S) → j < length g.listed → j ≢ g.place → (j + 1 ≡ length g.listed) ⊎ (j + 1 ≢ length g.listed) → 0 < held_in (get_or g.listed j d)
-      by_place j d lt other (inl last) = omega (arith, full, spare_last g.listed j d last, (k.each j d lt).has_a_slot)
-      by_place j d lt other (inr before) = k.others j d (omega (arith, lt, before)) other
 
   -- the last group holds one more
   pub keeps_grown : (g : Groups (Bounded F S)) (limit held q : ℕ) (group left : Bounded F S) → KeepsGroups needs g limit held → q + 1 ≡ length g.listed → group ≡ get_or g.listed q group → SameKind needs group left → held_in left ≡ held_in group + 1 → held < MAX_HELD
@@ -191,11 +188,4 @@ module _ {F S : Type 0} (needs : S → ℕ → Type 0) (cx : Context) where
   -- a task that is registered with each group, where one holds a future, hears of what any needs
   pub covered_of : {A : Type 0} (answer : Poll (Option A)) (old groups : List (Bounded F S)) → OnPending answer (EachCovered needs cx groups) → (held_in_all old ≡ 0 → answer ≡ Ready None) → held_in_all groups + outputs_in answer ≡ held_in_all old → OnPending answer (Covers cx (AnyNeeds needs groups))
   covered_of (Ready o) old groups covered ends count = tt
-  covered_of {A} Pending old groups covered ends count = covers_any groups covered (by_count (held_in_all groups) refl)
-    where
-      not_end : ◌≡◌ {A = Poll (Option A)} Pending (Ready None) → ⊥
-      not_end e = cc
-
-      by_count : (held : ℕ) → held_in_all groups ≡ held → 0 < held_in_all groups
-      by_count zero none = absurd (not_end (ends (omega (arith, none, count))))
-      by_count (suc held) some = omega (arith, some)
+  covered_of Pending old groups covered ends count = covers_any groups covered (grind arith)

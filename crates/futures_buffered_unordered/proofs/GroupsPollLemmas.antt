@@ -4,7 +4,8 @@ use Rattle.std.specs.List.{AllZip, AllByRecursion, enumerate_from, list_all}
 use Rattle.std.proofs.lemmas.List.{append_assoc, length-append, length_push, take-append-drop, length-take-le, length-drop}
 use Rattle.std.proofs.lemmas.List.Folds.{list_all-append, list_any-append}
 use Rattle.std.proofs.lemmas.Slice.Zip.{AllZip-long}
-use Rattle.std.proofs.lemmas.Bool.{cases_lt, eq-eqb, ne_eqb}
+use Rattle.std.proofs.lemmas.Bool.Decides.{nat_tests}
+use Rattle.std.proofs.lemmas.Bool.{cases_lt}
 use Rattle.futures.specs.declared.task.Poll.{Poll}
 use Rattle.futures.specs.declared.task.Poll.TheVariants.{Ready, Pending}
 use Rattle.futures_buffered_unordered.specs.Groups.{Groups, Turn, round_from, NoOutput, is_end, ended, staying, stands_at, place_after, AsksAll, GroupsGive}
@@ -130,9 +131,12 @@ module _ {X A : Type 0} (asks : Bool → X → Poll (Option A) → X → Type 0)
           round-at old.place [] round1 begins ∙ append-nil (enumerate_from 0 round1) ∙ enumerate-append 0 so.turns (last_turn ∷ []) ∙ ap (λ (k : ℕ). enumerate_from 0 so.turns ++ (k, last_turn) ∷ []) same
 
       by_answer : (answer : Poll (Option A)) → NoOutput answer → behind_last (length now.listed) answer ≡ place_after round1 (length so.turns) answer
-      by_answer Pending none = omega (arith, ap length groups_are, length_push (kept so.turns) so.left, stands-at so.turns (last_turn ∷ []))
-      by_answer (Ready None) none = sym (ap (λ (b : Bool). cond b 0 (stands_at round1 (length so.turns))) (eq-eqb (length so.turns + 1) (length round1) (sym (length_push so.turns last_turn))))
-      by_answer (Ready (Some x)) none = absurd none
+      by_answer answer none =
+          let groups = groups_are in
+          let left = length_push (kept so.turns) so.left in
+          let turns = length_push so.turns last_turn in
+          let stands = stands-at so.turns (last_turn ∷ []) in
+          grind (arith, nat_tests)
 
   -- all were asked, and the group before the place was asked last
   end_before : (count : ℕ) (pending stopped : Bool) (now : Groups X) → (so : Second asks old count pending stopped now) → length old.listed ≤ count → so.todo ≡ [] → 0 < length so.again_turns → now.place ≡ length (kept so.again_turns) → AsksAll asks old (not pending) stopped now
@@ -209,34 +213,25 @@ module _ {X A : Type 0} (asks : Bool → X → Poll (Option A) → X → Type 0)
       not_last e = omega (arith, e, length-append so.again_turns round1, length_push so.turns last_turn, ap length found.2, length_push found.0 found.1)
 
       by_answer : (a : Poll (Option A)) → NoOutput a → length (kept found.0) + length (gone a found.1.left) ≡ place_after turns (length found.0) a
-      by_answer Pending none = omega (arith, stands)
-      by_answer (Ready None) none = omega (arith, stands, ap (λ (b : Bool). cond b 0 (stands_at turns (length found.0))) (ne_eqb (length found.0 + 1) (length turns) not_last))
-      by_answer (Ready (Some x)) none = absurd none
+      by_answer a none = let at = stands in let behind = not_last in grind (arith, nat_tests)
 
   -- all were asked
   pub so_far_end : (count : ℕ) (pending stopped : Bool) (now : Groups X) → SoFar count pending stopped now → length old.listed ≤ count → GroupsGive asks old (cond pending Pending (Ready None)) stopped now
-  so_far_end count true stopped now (inl none) all = absurd (true≢false none.2)
-  so_far_end count false stopped now (inl none) all = inl (none.0, none.1, none.3)
+  so_far_end count pending stopped now (inl none) all = grind arith
   so_far_end count pending stopped now (inr (inl so)) all =
       absurd (omega (arith, all, so.counted, so.some, AllZip-long (TakesTurn asks) so.asked so.turns so.each, ap length so.old_is, length-append so.before (so.asked ++ so.todo), length-append so.asked so.todo))
-  so_far_end count pending stopped now (inr (inr so)) all = by_pending pending (elim so.place [ inl h ↦ end_at_last count pending stopped now so all todo_is h.0 h.1 | inr h ↦ end_before count pending stopped now so all todo_is h.0 h.1 ])
+  so_far_end count pending stopped now (inr (inr so)) all = let gave : AsksAll asks old (not pending) stopped now = elim so.place [ inl h ↦ end_at_last count pending stopped now so all todo_is h.0 h.1 | inr h ↦ end_before count pending stopped now so all todo_is h.0 h.1 ] in grind arith
     where
       todo_is : so.todo ≡ []
       todo_is = from_no_length so.todo (omega (arith, all, so.counted, ap length so.old_is, length-append so.again (so.todo ++ (so.asked ++ so.last ∷ [])), length-append so.todo (so.asked ++ so.last ∷ []), length_push so.asked so.last, AllZip-long (TakesTurn asks) so.again so.again_turns so.each_again, AllZip-long (TakesTurn asks) so.asked so.turns so.each))
 
-      by_pending : (b : Bool) → AsksAll asks old (not b) stopped now → GroupsGive asks old (cond b Pending (Ready None)) stopped now
-      by_pending true h = h
-      by_pending false h = inr h
-
   -- the answer is known by the arm that it came to
   pub so_far_none_left : (count : ℕ) (pending stopped stops : Bool) (now new : Groups X) (o : Option A) → is_some o ≡ false → SoFar count pending stopped now → count < length old.listed → AsksOne (asks stops) now (Ready o) new → SoFar (count + 1) pending (stopped || stops) new
-  so_far_none_left count true stopped stops now new None e so more one = so_far_step count true stopped stops now new (Ready None) tt so more one
-  so_far_none_left count false stopped stops now new None e so more one = so_far_step count false stopped stops now new (Ready None) tt so more one
+  so_far_none_left count pending stopped stops now new None e so more one = let step = so_far_step count pending stopped stops now new (Ready None) tt so more one in grind arith
   so_far_none_left count pending stopped stops now new (Some x) e so more one = absurd (true≢false e)
 
   pub so_far_pending : (count : ℕ) (pending stopped stops : Bool) (now new : Groups X) → SoFar count pending stopped now → count < length old.listed → AsksOne (asks stops) now Pending new → SoFar (count + 1) true (stopped || stops) new
-  so_far_pending count true stopped stops now new so more one = so_far_step count true stopped stops now new Pending tt so more one
-  so_far_pending count false stopped stops now new so more one = so_far_step count false stopped stops now new Pending tt so more one
+  so_far_pending count pending stopped stops now new so more one = let step = so_far_step count pending stopped stops now new Pending tt so more one in grind arith
 
   pub so_far_some_left : (count : ℕ) (pending stopped stops : Bool) (now new : Groups X) (o : Option A) (x : A) → o ≡ Some x → SoFar count pending stopped now → count < length old.listed → AsksOne (asks stops) now (Ready o) new → GroupsGive asks old (Ready (Some x)) (stopped || stops) new
   so_far_some_left count pending stopped stops now new o x e so more one = so_far_output count pending stopped stops now new x so more (subst (λ (p : Option A). AsksOne (asks stops) now (Ready p) new) e one)

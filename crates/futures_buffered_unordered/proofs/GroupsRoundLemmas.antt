@@ -5,7 +5,7 @@ use Rattle.std.proofs.lemmas.List.{append_assoc, length-append, length_push}
 use Rattle.std.proofs.lemmas.List.Folds.{list_all-append, list_any-append}
 use Rattle.std.proofs.lemmas.Slice.Zip.{AllZip-long}
 use Rattle.futures.specs.declared.task.Poll.{Poll}
-use Rattle.futures.specs.declared.task.Poll.TheVariants.{Ready, Pending}
+use Rattle.futures.specs.declared.task.Poll.TheVariants.{Ready}
 use Rattle.futures_buffered_unordered.specs.Groups.{Groups, Turn, round_from, NoOutput, is_end, ended, staying, stands_at, GroupsGive}
 use Rattle.futures_buffered_unordered.specs.GroupsStep.{AsksOne, LeavesBetween, next_place}
 use Rattle.futures_buffered_unordered.proofs.GroupsLemmas.{any_stopped, any_stopped-push, any_stopped-waiting, or_last, waiting-not_stopped, NotAsked, GaveNoOutput, TakesTurn, enumerate-append, round-at, each-numbered, each-append, zip-append, waiting, kept, length-waiting, kept-waiting, waiting-not_asked, kept-append, staying-append, staying-before_waiting, kept-push, stands-at, AsksHere, zip-waiting, asks_here, is_pending, behind_last, next_at, next_zero, gone, after_group, after_last, ends_more, end_or_pending, and_true, and_swap}
@@ -131,13 +131,9 @@ module _ {X A : Type 0} (asks : Bool → X → Poll (Option A) → X → Type 0)
   pub second_place : (count : ℕ) (pending stopped : Bool) (now : Groups X) → (so : Second count pending stopped now) → next_place now ≡ length (kept so.again_turns)
   second_place count pending stopped now so =
       elim so.place [
-        | inl h ↦ next_zero now (behind now.place so.answer h.1) ∙ ap length (ap kept (sym h.0))
+        | inl h ↦ let behind : (length now.listed ≤ now.place) ⊎ (now.place ≡ 0) = grind arith in next_zero now behind ∙ ap length (ap kept (sym h.0))
         | inr h ↦ next_at now (length (kept so.again_turns)) h.1 (omega (arith, ap length so.now_is, length-append (kept so.again_turns) (so.todo ++ (kept so.turns ++ so.left ∷ [])), length-append so.todo (kept so.turns ++ so.left ∷ []), length_push (kept so.turns) so.left))
       ]
-    where
-      behind : (place : ℕ) (answer : Poll (Option A)) → place ≡ behind_last (length now.listed) answer → (length now.listed ≤ place) ⊎ (place ≡ 0)
-      behind place Pending e = inl (omega (arith, e))
-      behind place (Ready o) e = inr e
 
   pub second_some : (count : ℕ) (pending stopped : Bool) (now : Groups X) → (so : Second count pending stopped now) → count < length old.listed → 0 < length so.todo
   second_some count pending stopped now so more =
@@ -155,8 +151,7 @@ module _ {X A : Type 0} (asks : Bool → X → Poll (Option A) → X → Type 0)
 
   pub first_of : (xs ys : List X) (z : X) (zs : List X) → 0 < length xs → xs ++ ys ≡ z ∷ zs → (xs ≡ z ∷ drop 1 xs) × (zs ≡ drop 1 xs ++ ys)
   unfolding head_or
-  first_of [] ys z zs some e = absurd (omega (arith, some))
-  first_of (x ∷ xs) ys z zs some e = (ap (λ (w : X). w ∷ xs) (ap (head_or x) e), ap (drop 1) (sym e))
+  first_of xs ys z zs some e = grind arith
 
   -- an output after the end of the list was come to
   pub second_output : (count : ℕ) (pending stopped stops : Bool) (now new : Groups X) (x : A) → (so : Second count pending stopped now) → count < length old.listed → AsksOne (asks stops) now (Ready (Some x)) new → GroupsGive asks old (Ready (Some x)) (stopped || stops) new

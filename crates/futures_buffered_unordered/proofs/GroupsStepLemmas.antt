@@ -1,20 +1,18 @@
 -- One group of a list is asked: from what the list's calls leave to what the step says.
-use Rattle.std.proofs.Common.{◌≡◌, ◌≢◌, ℕ, suc, ◌+◌, ◌<◌, List, [], ◌∷◌, ◌++◌, length, take, drop, set, get_or, Option, Some, None, is_some, true, false, true≢false, refl, sym, ap, subst, arith, ◌∙◌}
+use Rattle.std.proofs.Common.{◌≡◌, ◌≢◌, ℕ, suc, ◌+◌, ◌<◌, List, [], ◌∷◌, ◌++◌, length, take, drop, set, get_or, Option, Some, None, is_some, true, false, refl, sym, ap, subst, arith, ◌∙◌}
 use Rattle.std.specs.List.{All}
 use Rattle.std.proofs.lemmas.List.Elements.{All-append}
-use Rattle.std.proofs.lemmas.List.{get_or-take, get_or-drop, length-take, take-append-drop, drop_more, set_split, take_at, drop_at, length-drop, length-take-le, append_assoc, length_push}
+use Rattle.std.proofs.lemmas.List.{get_or-take, get_or-drop, length-take, take-append-drop, drop_all, drop_more, set_split, take_at, drop_at, length-drop, length-take-le, append_assoc, length_push}
 use Rattle.futures.specs.declared.task.Poll.{Poll}
 use Rattle.futures.specs.declared.task.Poll.TheVariants.{Ready, Pending}
 use Rattle.futures_buffered_unordered.specs.Groups.{Groups}
 use Rattle.futures_buffered_unordered.specs.GroupsStep.{AsksOne, LeavesBetween, next_place}
 
 pub from_some : {A : Type 0} (o : Option A) → is_some o ≡ true → (x : A) × (o ≡ Some x)
-from_some (Some x) h = (x, refl)
-from_some None h = absurd (true≢false (sym h))
+from_some o h = grind arith
 
 pub from_none : {A : Type 0} (o : Option A) → is_some o ≡ false → o ≡ None
-from_none (Some x) h = absurd (true≢false h)
-from_none None h = refl
+from_none o h = grind arith
 
 pub split_at : {X : Type 0} (xs : List X) (k : ℕ) (x : X) → k < length xs → x ≡ get_or xs k x → xs ≡ take k xs ++ x ∷ drop (k + 1) xs
 split_at {X} xs k x within is =
@@ -51,12 +49,8 @@ module _ {X A : Type 0} (asks : X → Poll (Option A) → X → Type 0) (old : G
   pub one_last : (answer : Poll (Option A)) (o : Option A) → answer ≡ Ready o → is_some o ≡ false → place ≡ next_place old → place < length old.listed → place + 1 ≡ length old.listed → group ≡ get_or old.listed place group → asks group answer left
       → AsksOne asks old answer (record { listed = set old.listed place left; place = 0 })
   one_last answer o e f here within last is asked =
-      at_place answer _ here within is asked (rw (e, from_none o f) (by_rest (drop (place + 1) old.listed) (omega (arith, length-drop (place + 1) old.listed)) (split_set old.listed place left within)))
-    where
-      by_rest : (rest : List X) → length rest ≡ 0 → set old.listed place left ≡ take place old.listed ++ left ∷ rest
-          → LeavesBetween {A = A} (take place old.listed) rest left (Ready None) (record { listed = set old.listed place left; place = 0 })
-      by_rest [] none is = (is, refl)
-      by_rest (next ∷ rest) none is = absurd (omega (arith, none))
+      let none : drop (place + 1) old.listed ≡ [] = drop_all (place + 1) old.listed (omega (arith, last)) in
+      at_place answer _ here within is asked (rw (e, from_none o f, none) (split_set old.listed place left within ∙ ap (λ (rest : List X). take place old.listed ++ left ∷ rest) none, refl))
 
   pub one_left : (answer : Poll (Option A)) (o : Option A) (removed : List X) → answer ≡ Ready o → is_some o ≡ false → place ≡ next_place old → place < length old.listed → place + 1 ≢ length old.listed → group ≡ get_or old.listed place group → asks group answer left
       → removed ≡ take place (set old.listed place left) ++ drop (place + 1) (set old.listed place left)
@@ -78,8 +72,7 @@ module _ {X A : Type 0} (asks : X → Poll (Option A) → X → Type 0) (old : G
 
       by_rest : (rest : List X) → 0 < length rest → removed ≡ take place old.listed ++ rest
           → LeavesBetween {A = A} (take place old.listed) rest left (Ready None) (record { listed = removed; place = place })
-      by_rest [] some is = absurd (omega (arith, some))
-      by_rest (next ∷ rest) some is = (is, sym (length-take-le place old.listed (omega (arith, within))))
+      by_rest rest some is = let long = length-take-le place old.listed (omega (arith, within)) in grind arith
 
 -- what holds of each element still does where one was removed
 pub All-removed : {X : Type 0} (P : X → Type 0) (xs : List X) (k : ℕ) → All P xs → All P (take k xs ++ drop (k + 1) xs)

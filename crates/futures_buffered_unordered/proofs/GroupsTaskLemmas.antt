@@ -1,5 +1,5 @@
 -- What a poll of groups has asked so far, and what that leaves of its task.
-use Rattle.std.proofs.Common.{◌≡◌, ℕ, ◌+◌, ◌<◌, ◌≤◌, Bool, true, false, ◌||◌, cond, length, Option, Some, None, is_some}
+use Rattle.std.proofs.Common.{arith, ◌≡◌, ℕ, ◌+◌, ◌<◌, ◌≤◌, Bool, true, false, ◌||◌, cond, length, Option, Some, None, is_some}
 use Rattle.futures.specs.Task.{Keeps}
 use Rattle.futures.specs.declared.task.context.Context.{Context}
 use Rattle.futures.specs.declared.task.Poll.{Poll}
@@ -15,9 +15,7 @@ woken_stays mid left kept woken = λ s. kept _ (woken s)
 
 -- one asks after another, and each may stop
 pub wakes_on : (registers : Context → Context → Type 0) (first then : Bool) (cx mid left : Context) → (registers cx mid → registers mid left → registers cx left) → Keeps mid left → WakesIf first registers cx mid → WakesIf then registers mid left → WakesIf (first || then) registers cx left
-wakes_on registers true then cx mid left more kept before after = woken_stays mid left kept before
-wakes_on registers false true cx mid left more kept before after = after
-wakes_on registers false false cx mid left more kept before after = more before after
+wakes_on registers first then cx mid left more kept before after = grind (arith, woken_stays)
 
 module _ {X A : Type 0} (asks : Bool → X → Poll (Option A) → X → Type 0) (registers : Context → Context → Type 0) (old : Groups X) where
   -- the groups that were asked so far, and what they left of the task

@@ -1,8 +1,8 @@
 -- What the values in slots may still give, once some were polled.
-use Rattle.std.proofs.Common.{◌≡◌, ◌≢◌, ℕ, ◌+◌, List, [], ◌∷◌, length, Option, Some, None, MatchOption, refl, sym, subst, inl, inr, arith, ◌∙◌, set, length-set}
+use Rattle.std.proofs.Common.{◌≡◌, ◌≢◌, ℕ, ◌+◌, List, [], ◌∷◌, Option, Some, None, MatchOption, refl, sym, subst, inl, inr, arith, ◌∙◌, set, length-set}
 use Rattle.std.specs.List.{FoldsTo}
 use Rattle.std.proofs.lemmas.List.{get_or-set_same, get_or-set_other, get_or_past}
-use Rattle.std.proofs.lemmas.Bool.{cases_eq, cases_lt}
+use Rattle.std.proofs.lemmas.Bool.{cases_eq}
 use Rattle.futures.proofs.SentLemmas.{AllByRecursion_weaker}
 use Rattle.futures.specs.declared.task.Poll.{Poll}
 use Rattle.futures.specs.declared.task.Poll.TheVariants.{Pending}
@@ -24,10 +24,10 @@ module _ {A : Type 0} {P Q : A → Type 0} (weaker : (x : A) → Q x → P x) wh
 
 pub value_in-with_slot_freed : {F : Type 0} (m : Slots F) (i : ℕ) → value_in (with_slot_freed m i) i ≡ None
 value_in-with_slot_freed {F} m i =
-    elim (cases_lt i (length m.places)) [
-      | inl within ↦ get_or-set_same {A = Option F} m.places i None None within
-      | inr past ↦ get_or_past {X = Option F} (set m.places i None) i None (omega (arith, length-set {A = Option F} m.places i None))
-    ]
+    let within = get_or-set_same {A = Option F} m.places i None None in
+    let past = get_or_past {X = Option F} (set m.places i None) i None in
+    let long = length-set {A = Option F} m.places i None in
+    grind arith
 
 pub value_in-with_slot_freed_other : {F : Type 0} (m : Slots F) (i j : ℕ) → j ≢ i → value_in (with_slot_freed m i) j ≡ value_in m j
 value_in-with_slot_freed_other {F} m i j other = get_or-set_other {A = Option F} m.places i j None None other

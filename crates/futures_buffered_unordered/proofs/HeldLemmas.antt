@@ -1,8 +1,7 @@
 -- What holds of the values in slots, once one was put in, polled or taken out.
-use Rattle.std.proofs.Common.{◌≡◌, ◌≢◌, ℕ, zero, suc, ◌<◌, List, length, set, get_or, Option, Some, None, IsSome, is_some, cond, refl, ap, inl, inr, arith, length-set, ◌∙◌}
+use Rattle.std.proofs.Common.{◌≡◌, ◌≢◌, ℕ, zero, suc, ◌<◌, List, length, set, get_or, Option, Some, None, IsSome, is_some, cond, refl, ap, arith, length-set, ◌∙◌}
 use Rattle.std.proofs.lemmas.List.{get_or-set_same, get_or-set_other, get_or_past}
 use Rattle.std.proofs.lemmas.List.Sums.{sum_by-set}
-use Rattle.std.proofs.lemmas.Bool.{cases_eq, cases_lt}
 use Rattle.futures.specs.declared.task.Poll.{Poll}
 use Rattle.futures.specs.declared.task.Poll.TheVariants.{Pending}
 use Rattle.futures_buffered_core.specs.SlotMap.{Slots, Inserts, value_in, held_count, no_slots, with_value}
@@ -24,13 +23,12 @@ AllHeld-none P (suc n) (suc i) = AllHeld-none P n i
 -- a value that may be polled in place of another
 pub AllHeld-with : {F : Type 0} (P : F → Type 0) (m : Slots F) (i : ℕ) (f : F) → AllHeld P m → P f → AllHeld P (with_value m i f)
 AllHeld-with {F} P m i f all here q =
-    elim (cases_eq q i) [
-      | inl same ↦ elim (cases_lt i (length m.places)) [
-        | inl within ↦ rw (same, get_or-set_same m.places i (Some f) None within) here
-        | inr past ↦ rw (get_or_past (set m.places i (Some f)) q None (omega (arith, length-set m.places i (Some f)))) tt
-      ]
-      | inr other ↦ rw (get_or-set_other m.places i q (Some f) None other) (all q)
-    ]
+    let at_place = get_or-set_same m.places i (Some f) None in
+    let past = get_or_past (set m.places i (Some f)) q None in
+    let elsewhere = get_or-set_other m.places i q (Some f) None in
+    let long = length-set m.places i (Some f) in
+    let before = all q in
+    grind arith
 
 -- each value but that one may still be polled
 pub AllHeldBut-with : {F : Type 0} (P : F → Type 0) (m : Slots F) (i : ℕ) (f : F) → AllHeld P m → AllHeldBut i P (with_value m i f)
@@ -40,33 +38,25 @@ AllHeldBut-with P m i f all j other = rw (get_or-set_other m.places i j (Some f)
 pub AllHeld-push : {F : Type 0} (P : F → Type 0) (old : Slots F) (i : ℕ) (value : F) (new : Slots F) → Inserts old i value new → AllHeld P old → P value → AllHeld P new
 AllHeld-push {F} P old i value new inserts all here q = rw inserts.now_held (AllHeld-with P old i value all here q)
 
+-- a slot that holds a value is one of the slots
+pub held_within : {F : Type 0} (m : Slots F) (i : ℕ) (f : F) → Some f ≡ value_in m i → i < length m.places
+held_within m i f found = let past = get_or_past m.places i None in grind arith
+
 -- a slot that held a value holds the one put there
 pub value_in-with_value : {F : Type 0} (m : Slots F) (i : ℕ) (f g : F) → Some f ≡ value_in m i → value_in (with_value m i g) i ≡ Some g
-value_in-with_value {F} m i f g found = get_or-set_same m.places i (Some g) None (elim (cases_lt i (length m.places)) [
-  | inl below ↦ below
-  | inr past ↦ let none : value_in m i ≡ None = get_or_past m.places i None past in cc
-])
+value_in-with_value {F} m i f g found = get_or-set_same m.places i (Some g) None (held_within m i f found)
 
 pub some_from_end : {F A : Type 0} (polled : F → Poll A → F → Type 0) (x : A) (o : Option F) → EndsWith polled x o → IsSome o
-some_from_end polled x None h = absurd h
-some_from_end polled x (Some f) h = refl
+some_from_end polled x o h = grind arith
 
 -- as many values as before
 pub count-with : {F : Type 0} (m : Slots F) (i : ℕ) (f g : F) → Some f ≡ value_in m i → held_count (with_value m i g) ≡ held_count m
 count-with {F} m i f g found =
-    let within : i < length m.places = elim (cases_lt i (length m.places)) [
-      | inl below ↦ below
-      | inr past ↦ let none : value_in m i ≡ None = get_or_past m.places i None past in cc
-    ] in
-    omega (arith, rw (← found) at (sum_by-set (λ (o : Option F). cond (is_some o) 1 0) m.places i (Some g) None within))
+    omega (arith, rw (← found) at (sum_by-set (λ (o : Option F). cond (is_some o) 1 0) m.places i (Some g) None (held_within m i f found)))
 
 -- a slot that held a value, or none, still does
 pub same-with : {F : Type 0} (m : Slots F) (i j : ℕ) (f g : F) → Some f ≡ value_in m i → is_some (value_in (with_value m i g) j) ≡ is_some (value_in m j)
-same-with {F} m i j f g found =
-    elim (cases_eq j i) [
-      | inl same ↦ rw (same, value_in-with_value m i f g found, ← found) refl
-      | inr other ↦ rw (get_or-set_other m.places i j (Some g) None other) refl
-    ]
+same-with {F} m i j f g found = grind (arith, value_in-with_value, get_or-set_other)
 
 -- what the slots hold once a value was put in
 module _ {F : Type 0} (old new : Slots F) (i : ℕ) (value : F) (h : Inserts old i value new) where

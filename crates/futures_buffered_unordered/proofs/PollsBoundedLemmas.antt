@@ -11,12 +11,12 @@ use Rattle.futures.specs.declared.task.Poll.TheVariants.{Ready, Pending}
 use Rattle.futures.specs.Poll.{IfReady}
 use Rattle.futures_buffered_core.specs.SlotMap.{Slots, value_in, held_count, slot_count, with_value}
 use Rattle.futures_buffered_table.specs.declared.answer.Taken.{Taken}
-use Rattle.futures_buffered_table.specs.declared.answer.Taken.TheVariants.{Slot, Empty, Pause}
+use Rattle.futures_buffered_table.specs.declared.answer.Taken.TheVariants.{Slot, Empty}
 use Rattle.futures_buffered_unordered.specs.StreamAnswers.{StreamAnswers}
 use Rattle.futures_buffered_unordered.specs.Held.{AllHeld, ComesFrom, EndsWith, Passes}
 use Rattle.futures_buffered_unordered.specs.FuturesUnorderedBounded.{Bounded, Asks, AsksSet, AsksSetTask, AsksUntil, EndsWaiting, IsWoken, LeavesTask, PollGives, SaidEmpty, with_source}
 use Rattle.futures_buffered_core.specs.ReadySource.{SourceSteps}
-use Rattle.futures_buffered_unordered.specs.PollsBounded.{EndsPending, Ends, PollOneOf, PollsBounded, ReadySourceOf, RegistersAndTakes, TakesNames}
+use Rattle.futures_buffered_unordered.specs.PollsBounded.{EndsPending, PollOneOf, PollsBounded, ReadySourceOf, RegistersAndTakes, TakesNames}
 use Rattle.futures_buffered_unordered.proofs.HeldLemmas.{AllHeld-with, AllHeldBut-with, count-with, same-with, value_in-with_value, passes_free, passes_pending}
 use Rattle.futures_buffered_unordered.proofs.StreamAnswersLemmas.{after_item, while_pending, covers_fewer}
 use Rattle.futures_buffered_unordered.proofs.FuturesUnorderedBoundedLemmas.{rest_of, same_of, value_of}
@@ -148,29 +148,9 @@ takes_after {R} {F} {W} {A} {S} rule source registers before old new answer cx l
       task_then = cx;
       registers = first;
       registers_task = refl;
-      takes = record {
-        names = it.names;
-        last = it.last;
-        came = it.came;
-        passed = it.passed;
-        passes = it.passes;
-        ends = same_end answer it.ends;
-        count = it.count;
-        same_slots = it.same_slots;
-        capacity = it.capacity;
-        limit = it.limit;
-        covered = it.covered;
-        kept = it.kept;
-        pollable = it.pollable;
-        others = it.others;
-        continues = it.continues;
-      };
+      takes = grind arith;
       kept = it.kept;
     }
-  where
-    same_end : (a : Poll (ℕ × A)) → Ends rule source old.limit (length it.names) it.last it.passed a new.slots cx left → Ends rule (registered_by source registers) old.limit (length it.names) it.last it.passed a new.slots cx left
-    same_end (Ready x) h = h
-    same_end Pending h = h
 
 -- What a poll leaves of its task, by its answer: the end leaves it as it was, an output as the registration did, and Pending as a pending poll does.
 abbrev pub PollLeavesTask : {F A S : Type 0} → (ℕ → F → Poll A → F → Type 0) → SourceSteps S → (S → Context → Context → Type 0) → Bounded F S → Poll (Option A) → Bounded F S → Context → Context → Type 0
@@ -192,10 +172,7 @@ module _ {R F W A S : Type 0} (rule : PollOneOf R F W A) (source : ReadySourceOf
       }
 
   waits_of : (limit : ℕ) (names : List ℕ) (last : Option Taken) (cx left : Context) → EndsPending limit (length names) last cx left → EndsWaiting limit names last
-  waits_of limit names (Some Empty) cx left h = h.0
-  waits_of limit names (Some Pause) cx left h = h.0
-  waits_of limit names (Some (Slot i)) cx left h = h
-  waits_of limit names None cx left h = h.0
+  waits_of limit names last cx left h = grind arith
 
   pub until_of : (old new : Bounded F S) (answer : Poll (ℕ × A)) (cx left : Context) → RegistersAndTakes rule source old answer new cx left
       → AsksUntil rule.polled (record { registers = registers; takes = source.steps.takes }) old answer new
@@ -219,9 +196,8 @@ module _ {R F W A S : Type 0} (rule : PollOneOf R F W A) (source : ReadySourceOf
     where
       by_last : (last : Option Taken) → asks.takes.last ≡ last → EndsPending old.limit (length asks.takes.names) last asks.task_then left → LeavesTask rule.polled (record { registers = registers; takes = source.steps.takes }) source.registers_poll old new cx left
       by_last (Some Empty) is h = inl ((asks.takes.names, Some Empty, h.0, refl, asks_of old new Pending cx left asks (Some Empty) new.slots is asks.takes.ends.0, asks.takes.limit), rw h.1 asks.registers_task)
-      by_last (Some Pause) is h = inr ((asks.takes.names, Some Pause, h.0, refl, asks_of old new Pending cx left asks (Some Pause) new.slots is asks.takes.ends.0, asks.takes.limit), h.1)
       by_last (Some (Slot i)) is h = absurd h
-      by_last None is h = inr ((asks.takes.names, None, h.0, refl, asks_of old new Pending cx left asks None new.slots is asks.takes.ends.0, asks.takes.limit), h.1)
+      by_last last is h = inr ((asks.takes.names, last, h.0, refl, asks_of old new Pending cx left asks last new.slots is asks.takes.ends.0, asks.takes.limit), h.1)
 
   pub task_of : (old new : Bounded F S) (answer : Poll (Option A)) (cx left : Context) → PollsBounded rule source old answer new cx left
       → PollLeavesTask rule.polled (record { registers = registers; takes = source.steps.takes }) source.registers_poll old answer new cx left
@@ -230,9 +206,7 @@ module _ {R F W A S : Type 0} (rule : PollOneOf R F W A) (source : ReadySourceOf
   task_of old new Pending cx left it = leaves_of old new cx left it.gave.1
 
   pub untouched_of : (old new : Bounded F S) (answer : Poll (Option A)) (cx left : Context) → PollsBounded rule source old answer new cx left → IfReady answer (λ o. IfNone o (left ≡ cx))
-  untouched_of old new (Ready None) cx left it = it.gave.2
-  untouched_of old new (Ready (Some x)) cx left it = tt
-  untouched_of old new Pending cx left it = tt
+  untouched_of old new answer cx left it = let gave = it.gave in grind arith
 
 module _ {R F W A S : Type 0} (rule : PollOneOf R F W A) (source : ReadySourceOf S W) where
   -- a poll of a set is one of a stream
@@ -258,9 +232,7 @@ last_taken takes (t ∷ taken) last old new h = last_taken takes taken last h.0 
 module _ {R F W A S : Type 0} (rule : PollOneOf R F W A) (source : ReadySourceOf S W) where
   woken_by : (old new : Bounded F S) (cx left : Context) (asks : RegistersAndTakes rule source old Pending new cx left) (last : Option Taken) → asks.takes.last ≡ last → EndsPending old.limit (length asks.takes.names) last asks.task_then left → IsWoken left ⊎ (SaidEmpty source.steps new.source × source.registers_poll old.source cx left)
   woken_by old new cx left asks (Some Empty) is h = inr (last_taken source.steps.takes (map Slot asks.takes.names) Empty asks.source_then new.source (subst (λ (l : Option Taken). FoldsTo source.steps.takes asks.source_then (map Slot asks.takes.names ++ option_to_list l) new.source) is asks.takes.came), rw h.1 asks.registers_task)
-  woken_by old new cx left asks (Some Pause) is h = inl h.1
-  woken_by old new cx left asks (Some (Slot i)) is h = absurd h
-  woken_by old new cx left asks None is h = inl h.1
+  woken_by old new cx left asks last is h = grind arith
 
   -- what a registration and one count of names leave of the set
   pub asks_set_of : (old new : Bounded F S) (answer : Poll (ℕ × A)) (cx left : Context) → RegistersAndTakes rule source old answer new cx left → AsksSet rule.can_poll rule.polled rule.goes_on old answer new
@@ -274,8 +246,7 @@ module _ {R F W A S : Type 0} (rule : PollOneOf R F W A) (source : ReadySourceOf
 
   -- and where it gave an output, the task hears of the source still
   pub ready_covered : (old new : Bounded F S) (answer : Poll (ℕ × A)) (cx left : Context) → RegistersAndTakes rule source old answer new cx left → IfReady answer (λ _. Covers left (source.needs new.source))
-  ready_covered old new (Ready x) cx left it = it.takes.covered
-  ready_covered old new Pending cx left it = tt
+  ready_covered old new answer cx left it = let covered = it.takes.covered in grind arith
 
   -- and of the task
   pub asks_task_of : (old new : Bounded F S) (answer : Poll (ℕ × A)) (cx left : Context) → RegistersAndTakes rule source old answer new cx left

@@ -1,3 +1,4 @@
+use Rattle.std.proofs.Common.{arith}
 use Rattle.futures_buffered_unordered.specs.FuturesUnorderedBounded.{PollGives}
 use Rattle.futures_buffered_unordered.proofs.FuturesUnorderedLemmas.{covered_of}
 use Rattle.futures_buffered_unordered.proofs.FuturesUnorderedPollLemmas.{groups_counted, ends_none_held}
@@ -14,16 +15,7 @@ returns g c =
     let ends = ends_none_held (PollGives polled steps) (poll_end_is_empty polled steps) (poll_pending_holds polled steps) (poll_counted polled steps) _ _ _ _ gave in
     let count = groups_counted (PollGives polled steps) (poll_end_is_empty polled steps) (poll_pending_holds polled steps) (poll_counted polled steps) _ _ _ _ gave in
     record {
-      groups = record {
-        stopped = poll.stopped;
-        gave = poll.gave;
-        woken = poll.woken;
-        at_end = poll.at_end;
-        limit = poll.limit;
-        covered = poll.covered;
-        kept = poll.kept;
-        pollable = poll.pollable;
-      };
+      groups = grind arith;
       ends = ends;
       count = count;
       registered = covered_of g.S.ReadySource.needs c.poll_groups.new.cx c.poll_groups.result c.args.self.now.groups.listed c.poll_groups.new.self.groups.listed poll.covered ends.1 count;
