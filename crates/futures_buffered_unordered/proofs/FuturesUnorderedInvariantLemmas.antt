@@ -126,7 +126,7 @@ module _ {F S : Type 0} (needs : S → ℕ → Type 0) where
     counts_asked now before after before_is after_is now_is = omega (arith, before_is, after_is, now_is, some_asked, kept.fewer)
 
     -- once the group at the place was asked, that is the place
-    keeps_asked : (now : ℕ) → now + (held_in group - held_in left) ≡ held → KeepsGroups needs (record { listed = set g.listed q left; place = q }) limit now
+    pub keeps_asked : (now : ℕ) → now + (held_in group - held_in left) ≡ held → KeepsGroups needs (record { listed = set g.listed q left; place = q }) limit now
     keeps_asked now counts =
         record {
           place_within = omega (arith, within, length-set g.listed q left);
@@ -153,9 +153,6 @@ module _ {F S : Type 0} (needs : S → ℕ → Type 0) where
     pub keeps_pending : (now : ℕ) → now + (held_in group - held_in left) ≡ held → answer ≡ Pending → KeepsGroups needs (record { listed = set g.listed q left; place = q + 1 }) limit now
     keeps_pending now counts e =
         keeps_behind (set g.listed q left) limit now q (keeps_asked now counts) within_left left (rw (get_or-set_same g.listed q left left within) (subst (λ (a : Poll (Option A)). OnPending a (0 < held_in left)) e kept.pending_holds))
-
-    pub keeps_output : (now : ℕ) → now + (held_in group - held_in left) ≡ held → KeepsGroups needs (record { listed = set g.listed q left; place = q }) limit now
-    keeps_output now counts = keeps_asked now counts
 
     pub keeps_ended_last : (now : ℕ) → now + (held_in group - held_in left) ≡ held → q + 1 ≡ length g.listed → KeepsGroups needs (record { listed = set g.listed q left; place = 0 }) limit now
     keeps_ended_last now counts last =
