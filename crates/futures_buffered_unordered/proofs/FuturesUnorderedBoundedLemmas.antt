@@ -1,5 +1,5 @@
 -- What a poll of a bounded set has asked so far, and what it makes of what the set holds and may give.
-use Rattle.std.proofs.Common.{◌≡◌, ℕ, ◌+◌, ◌<◌, MatchOption, List, [], ◌∷◌, ◌++◌, Option, Some, None, IfSome, OnSome, is_some, cond, refl, sym, ap, subst, arith, ◌∙◌}
+use Rattle.std.proofs.Common.{◌≡◌, ℕ, ◌+◌, ◌<◌, List, [], ◌∷◌, ◌++◌, Option, Some, None, IfSome, OnSome, is_some, cond, refl, sym, ap, subst, arith, ◌∙◌}
 use Rattle.std.specs.List.{FoldsTo}
 use Rattle.std.proofs.lemmas.List.Sums.{sum_by-set}
 use Rattle.futures.specs.declared.task.context.Context.{Context}
@@ -7,7 +7,7 @@ use Rattle.futures.specs.declared.task.Poll.{Poll}
 use Rattle.futures.specs.declared.task.Poll.TheVariants.{Ready, Pending}
 use Rattle.futures.specs.Poll.{IfReady, OnPending}
 use Rattle.futures.specs.Runs.{After, Within}
-use Rattle.futures_buffered_core.specs.SlotMap.{Slots, value_in, held_count, with_value, with_slot_freed}
+use Rattle.futures_buffered_core.specs.SlotMap.{Slots, value_in, held_count, with_slot_freed}
 use Rattle.futures_buffered_core.specs.ReadySource.{SourceSteps}
 use Rattle.futures_buffered_unordered.specs.Held.{AnyMayGive, ComesFrom, Passes}
 use Rattle.futures_buffered_unordered.specs.Groups.{outputs_in}
@@ -47,11 +47,10 @@ count-freed {F} m i f found = omega (arith, rw (← found) at (sum_by-set (λ (o
 -- names without an output leave as many values as before
 pub passed_held : {F A : Type 0} (polled : ℕ → F → Poll A → F → Type 0) (names : List ℕ) (m new : Slots F) → FoldsTo (Passes polled) m names new → held_count new ≡ held_count m
 passed_held polled [] m new h = ap held_count (sym h)
-passed_held {F} polled (i ∷ names) m new h = passed_held polled names h.0 new h.2 ∙ by_value (value_in m i) refl h.1
-  where
-    by_value : (o : Option F) → value_in m i ≡ o → MatchOption o (h.0 ≡ m) (λ f. (left : F) × polled i f Pending left × (h.0 ≡ with_value m i left)) → held_count h.0 ≡ held_count m
-    by_value None e p = ap held_count p
-    by_value (Some f) e p = ap held_count p.2 ∙ count-with m i f p.0 (sym e)
+passed_held polled (i ∷ names) m new h =
+    let rest = passed_held polled names h.0 new h.2 in
+    let passes = h.1 in
+    grind (arith, count-with)
 
 module _ {F A S : Type 0} (polled : ℕ → F → Poll A → F → Type 0) (steps : SourceSteps S) where
   -- a poll of a group leaves as many values as before, but for that of the output

@@ -166,13 +166,7 @@ module _ {F S : Type 0} (made : ℕ → S → Type 0) where
   new_with n limit start set some is adds =
       inr (
         some,
-        (
-          adds.group,
-          subst (λ (v : Growing F S). IsNewSet made n v.limit adds.group) is adds.is_new,
-          ap (λ (l : List (Bounded F S)). record { groups = record { listed = l; place = set.groups.place }; limit = set.limit }) (adds.listed ∙ ap (λ (v : Growing F S). v.groups.listed ++ adds.group ∷ []) is)
-              ∙ ap (λ (k : ℕ). record { groups = record { listed = adds.group ∷ []; place = k }; limit = set.limit }) (adds.same_place ∙ ap (λ (v : Growing F S). v.groups.place) is)
-              ∙ ap (λ (k : ℕ). record { groups = record { listed = adds.group ∷ []; place = 0 }; limit = k }) (adds.same_limit ∙ ap (λ (v : Growing F S). v.limit) is),
-        ),
+        (adds.group, subst (λ (v : Growing F S). IsNewSet made n v.limit adds.group) is adds.is_new, let listed = adds.listed in let place = adds.same_place in let limit = adds.same_limit in grind arith),
       )
 
 module _ {F S : Type 0} (needs : S → ℕ → Type 0) (cx : Context) where

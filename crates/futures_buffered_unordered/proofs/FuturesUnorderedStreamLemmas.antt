@@ -1,5 +1,5 @@
 -- What a set's poll keeps of each group that it asks, what may come from the set, and the set as a stream.
-use Rattle.std.proofs.Common.{◌≡◌, ℕ, Bool, true, false, ◌+◌, ◌<◌, List, [], ◌∷◌, Option, Some, None, IfSome, IfNone, refl, sym, subst, inl, inr, arith}
+use Rattle.std.proofs.Common.{◌≡◌, ℕ, Bool, true, false, ◌+◌, List, [], ◌∷◌, Option, Some, None, IfSome, refl, sym, subst, inl, inr, arith}
 use Rattle.std.specs.List.{FoldsTo}
 use Rattle.futures.specs.Poll.{IfReady, OnPending}
 use Rattle.futures.specs.Runs.{After, Within}
@@ -10,7 +10,7 @@ use Rattle.futures_buffered_core.specs.ReadySource.{WaitsAlike, SourceSteps}
 use Rattle.futures_buffered_core.specs.SlotMap.{slot_count}
 use Rattle.futures_buffered_table.specs.declared.answer.Taken.{Taken}
 use Rattle.futures_buffered_unordered.specs.Held.{AnyMayGive}
-use Rattle.futures_buffered_unordered.specs.FuturesUnorderedBounded.{Bounded, OnlyRegisters, PollAsks, PollGives, held_in}
+use Rattle.futures_buffered_unordered.specs.FuturesUnorderedBounded.{Bounded, OnlyRegisters, PollAsks, PollGives}
 use Rattle.futures_buffered_unordered.proofs.PollsBoundedLemmas.{PollLeavesTask}
 use Rattle.futures_buffered_unordered.specs.Groups.{Groups, GroupsGive, WakesIf, outputs_in}
 use Rattle.futures_buffered_unordered.proofs.HeldGivesLemmas.{Gathers-Within, Gathers-After}
@@ -44,16 +44,9 @@ module _ {F A S : Type 0} (needs : S → ℕ → Type 0) (polled : ℕ → F →
   -- what a poll keeps of a group
   pub keeps_polled : (old new : Bounded F S) (answer : Poll (Option A)) → PollGives polled steps old answer new → slot_count new.slots ≡ slot_count old.slots → new.limit ≡ old.limit → KeepsGroup needs old answer new
   keeps_polled old new answer h slots limit =
-      record { fewer = omega (arith, poll_counted polled steps old new answer h); pending_holds = holds answer h; ended_is_empty = empty answer h; same_kind = record { same_slots = slots; same_limit = limit; waits = alike_polled old new answer h } }
-    where
-      holds : (a : Poll (Option A)) → PollGives polled steps old a new → OnPending a (0 < held_in new)
-      holds (Ready o) h = tt
-      holds Pending h = poll_pending_holds polled steps old new h
-
-      empty : (a : Poll (Option A)) → PollGives polled steps old a new → IfReady a (λ o. IfNone o (held_in new ≡ 0))
-      empty (Ready None) h = poll_end_is_empty polled steps old new h
-      empty (Ready (Some x)) h = tt
-      empty Pending h = tt
+      let holds = poll_pending_holds polled steps old new in
+      let empty = poll_end_is_empty polled steps old new in
+      record { fewer = omega (arith, poll_counted polled steps old new answer h); pending_holds = grind arith; ended_is_empty = grind arith; same_kind = record { same_slots = slots; same_limit = limit; waits = alike_polled old new answer h } }
 
 -- what a poll of a group leaves of the task, and whether it stopped: one that registers, and one of a task that is registered
 module _ {F A S : Type 0} (polled : ℕ → F → Poll A → F → Type 0) (steps : SourceSteps S) (registers_poll : S → Context → Context → Type 0) (old new : Bounded F S) (cx left : Context) where
@@ -67,8 +60,7 @@ module _ {F A S : Type 0} (polled : ℕ → F → Poll A → F → Type 0) (step
   group_leaves Pending gives (inr part) = (true, (gives.0, part.0), part.1)
 
   pub covered_leaves : (answer : Poll (Option A)) → PollGives polled steps old answer new → PollLeavesTask polled steps (λ _ before after. after ≡ before) old answer new cx left → AsksAndLeaves answer
-  covered_leaves (Ready None) gives same = (false, (gives, refl), registers_none registers_poll cx left same)
-  covered_leaves (Ready (Some x)) gives same = (false, (gives, refl), registers_none registers_poll cx left same)
+  covered_leaves (Ready o) gives same = (false, (gives, refl), registers_none registers_poll cx left (grind arith))
   covered_leaves Pending gives (inl empty) = (false, (gives.0, empty.0), registers_none registers_poll cx left empty.1)
   covered_leaves Pending gives (inr part) = (true, (gives.0, part.0), part.1)
 

@@ -1,7 +1,7 @@
 -- Groups in a list, and their turns: which stay and where they stand.
-use Rattle.std.proofs.Common.{◌≡◌, ◌⊎◌, ℕ, suc, ◌+◌, ◌<◌, ◌≤◌, Bool, true, false, not, ◌&&◌, ◌||◌, cond, List, [], ◌∷◌, ◌++◌, length, take, drop, Option, Some, None, MatchOption, refl, sym, ap, subst, inl, inr, arith, append-nil, ◌∙◌}
+use Rattle.std.proofs.Common.{◌≡◌, ◌⊎◌, ℕ, suc, ◌+◌, ◌<◌, ◌≤◌, Bool, true, false, not, ◌||◌, cond, List, [], ◌∷◌, ◌++◌, length, take, drop, Option, Some, None, MatchOption, refl, sym, ap, subst, inl, inr, arith, append-nil, ◌∙◌}
 use Rattle.std.specs.List.{AllZip, AllByRecursion, enumerate_from, count_by, list_any}
-use Rattle.std.proofs.lemmas.List.{length-append, take_at, drop_at, length_push, take_all, drop_all}
+use Rattle.std.proofs.lemmas.List.{take_at, drop_at, length_push, take_all, drop_all}
 use Rattle.std.proofs.lemmas.List.FromFn.{length-enumerate_from}
 use Rattle.std.proofs.lemmas.List.Sums.{sum_by-cons}
 use Rattle.std.proofs.lemmas.Bool.Decides.{nat_tests}
@@ -42,28 +42,19 @@ enumerate-append n (x ∷ xs) ys = let rest = enumerate-append (n + 1) xs ys in 
 
 -- a list begun at its second part is gone round from there
 pub round-at : {X : Type 0} (place : ℕ) (xs ys : List X) → (place ≡ length xs) ⊎ ((length (xs ++ ys) ≤ place) × (xs ≡ [])) → round_from place (enumerate_from 0 (xs ++ ys)) ≡ enumerate_from (length xs) ys ++ enumerate_from 0 xs
-round-at {X} place xs ys where_at = ap (round_from place) numbered ∙ turned where_at
-  where
-    firsts : List (ℕ × X)
-    firsts = enumerate_from 0 xs
-
-    seconds : List (ℕ × X)
-    seconds = enumerate_from (length xs) ys
-
-    numbered : enumerate_from 0 (xs ++ ys) ≡ firsts ++ seconds
-    numbered =
-        let same : 0 + length xs ≡ length xs = omega arith in
-        enumerate-append 0 xs ys ∙ ap (λ (k : ℕ). firsts ++ enumerate_from k ys) same
-
-    turned : (place ≡ length xs) ⊎ ((length (xs ++ ys) ≤ place) × (xs ≡ [])) → round_from place (firsts ++ seconds) ≡ seconds ++ firsts
-    turned (inl e) =
-        let long : length firsts ≡ place = length-enumerate_from 0 xs ∙ sym e in
-        ap (λ (l : List (ℕ × X)). l ++ take place (firsts ++ seconds)) (drop_at firsts seconds place long) ∙ ap (λ (l : List (ℕ × X)). seconds ++ l) (take_at firsts seconds place long)
-    turned (inr h) =
-        let none : firsts ≡ [] = ap (λ (l : List X). enumerate_from 0 l) h.1 in
-        let long : length (firsts ++ seconds) ≤ place = omega (arith, length-append firsts seconds, length-append xs ys, length-enumerate_from 0 xs, length-enumerate_from (length xs) ys, h.0) in
-        ap (λ (l : List (ℕ × X)). l ++ take place (firsts ++ seconds)) (drop_all place (firsts ++ seconds) long) ∙ take_all place (firsts ++ seconds) long
-        ∙ ap (λ (l : List (ℕ × X)). l ++ seconds) none ∙ sym (append-nil seconds) ∙ ap (λ (l : List (ℕ × X)). seconds ++ l) (sym none)
+round-at place xs ys (inl e) =
+    let numbered = enumerate-append 0 xs ys in
+    let long = length-enumerate_from 0 xs in
+    let behind = drop_at (enumerate_from 0 xs) (enumerate_from (length xs) ys) place in
+    let before = take_at (enumerate_from 0 xs) (enumerate_from (length xs) ys) place in
+    grind arith
+round-at place [] ys (inr h) =
+    let long = length-enumerate_from 0 ys in
+    let none = drop_all place (enumerate_from 0 ys) in
+    let all = take_all place (enumerate_from 0 ys) in
+    let end = append-nil (enumerate_from 0 ys) in
+    grind arith
+round-at place (x ∷ xs) ys (inr h) = grind arith
 
 -- what holds of each element holds of each with its place
 pub each-numbered : {X : Type 0} (P : X → Type 0) (n : ℕ) (xs : List X) → AllByRecursion P xs → AllByRecursion (λ (p : ℕ × X). P p.1) (enumerate_from n xs)
@@ -89,13 +80,6 @@ module _ {X A : Type 0} where
   abbrev pub kept : List (Turn X A) → List X
   kept [] = []
   kept (turn ∷ turns) = cond (ended turn) (kept turns) (turn.left ∷ kept turns)
-
-module _ {X : Type 0} where
-  pub cond-append : (b : Bool) (x : X) (ys zs : List X) → cond b (ys ++ zs) (x ∷ (ys ++ zs)) ≡ cond b ys (x ∷ ys) ++ zs
-  cond-append b x ys zs = grind arith
-
-  pub length-cond : (b : Bool) (x : X) (n : ℕ) (ys : List X) → n ≡ length ys → cond (not b) 1 0 + n ≡ length (cond b ys (x ∷ ys))
-  length-cond b x n ys e = grind arith
 
 module _ {X : Type 0} (A : Type 0) where
   pub length-waiting : (xs : List X) → length (waiting {A = A} xs) ≡ length xs
@@ -207,18 +191,6 @@ module _ {X A : Type 0} where
       → (new.listed ≡ earlier ++ left ∷ []) × (new.place ≡ behind_last (length new.listed) answer)
   after_last earlier left answer new none h = let long = length_push earlier left in grind arith
 
-pub ends_more : (b e pending p : Bool) → b ≡ not pending → e ≡ not p → (b && e) ≡ not (cond pending true p)
-ends_more b e pending p h i = grind arith
-
-pub end_or_pending : {A : Type 0} (answer : Poll (Option A)) → NoOutput answer → is_end (Some answer) ≡ not (is_pending answer)
-end_or_pending answer none = grind arith
-
-pub and_true : (b : Bool) → (b && true) ≡ b
-and_true b = grind arith
-
-pub and_swap : (a b c : Bool) → ((a && c) && b) ≡ ((a && b) && c)
-and_swap a b c = grind arith
-
 pub from_no_length : {X : Type 0} (xs : List X) → length xs ≡ 0 → xs ≡ []
 from_no_length [] e = refl
 from_no_length (x ∷ xs) e = absurd (omega (arith, e))
@@ -242,18 +214,17 @@ pub answered : {X A : Type 0} (o : Option (Poll (Option A))) (stopped : Bool) (l
 answered (Some answer) stopped left h = (answer, h, refl)
 answered None stopped left h = absurd h
 
-or_false : (b : Bool) → (b || false) ≡ b
-or_false b = grind arith
-
 -- whether one stopped, by the parts of a list of turns
 module _ {X A : Type 0} where
   pub any_stopped-push : (turns : List (Turn X A)) (turn : Turn X A) → any_stopped (turns ++ turn ∷ []) ≡ (any_stopped turns || turn.stopped)
-  any_stopped-push turns turn = list_any-append (λ (t : Turn X A). t.stopped) turns (turn ∷ []) ∙ ap (λ (b : Bool). any_stopped turns || b) (or_false turn.stopped)
+  any_stopped-push turns turn = let parts = list_any-append (λ (t : Turn X A). t.stopped) turns (turn ∷ []) in grind arith
 
   -- between turns that were not asked
   pub any_stopped-waiting : (turns : List (Turn X A)) (turn : Turn X A) (later : List X) → any_stopped (turns ++ turn ∷ waiting later) ≡ (any_stopped turns || turn.stopped)
   any_stopped-waiting turns turn later =
-      list_any-append (λ (t : Turn X A). t.stopped) turns (turn ∷ waiting later) ∙ ap (λ (b : Bool). any_stopped turns || (turn.stopped || b)) (waiting-not_stopped A later) ∙ ap (λ (b : Bool). any_stopped turns || b) (or_false turn.stopped)
+      let parts = list_any-append (λ (t : Turn X A). t.stopped) turns (turn ∷ waiting later) in
+      let none = waiting-not_stopped A later in
+      grind arith
 
 pub or_last : (p q b : Bool) → ((p || b) || q) ≡ ((p || q) || b)
 or_last p q b = grind arith

@@ -8,7 +8,7 @@ use Rattle.futures.specs.declared.task.Poll.{Poll}
 use Rattle.futures.specs.declared.task.Poll.TheVariants.{Ready}
 use Rattle.futures_buffered_unordered.specs.Groups.{Groups, Turn, round_from, NoOutput, is_end, ended, staying, stands_at, GroupsGive}
 use Rattle.futures_buffered_unordered.specs.GroupsStep.{AsksOne, LeavesBetween, next_place}
-use Rattle.futures_buffered_unordered.proofs.GroupsLemmas.{any_stopped, any_stopped-push, any_stopped-waiting, or_last, waiting-not_stopped, NotAsked, GaveNoOutput, TakesTurn, enumerate-append, round-at, each-numbered, each-append, zip-append, waiting, kept, length-waiting, kept-waiting, waiting-not_asked, kept-append, staying-append, staying-before_waiting, kept-push, stands-at, AsksHere, zip-waiting, asks_here, is_pending, behind_last, next_at, next_zero, gone, after_group, after_last, ends_more, end_or_pending, and_true, and_swap}
+use Rattle.futures_buffered_unordered.proofs.GroupsLemmas.{any_stopped, any_stopped-push, any_stopped-waiting, or_last, waiting-not_stopped, NotAsked, GaveNoOutput, TakesTurn, enumerate-append, round-at, each-numbered, each-append, zip-append, waiting, kept, length-waiting, kept-waiting, waiting-not_asked, kept-append, staying-append, staying-before_waiting, kept-push, stands-at, AsksHere, zip-waiting, asks_here, is_pending, behind_last, next_at, next_zero, gone, after_group, after_last}
 
 -- the first of a list, or else x
 head_or : {X : Type 0} → X → List X → X
@@ -257,7 +257,7 @@ module _ {X A : Type 0} (asks : Bool → X → Poll (Option A) → X → Type 0)
       stands = ap (λ (l : List (Turn X A)). stands_at l (length so.again_turns)) turns_are ∙ stands-at so.again_turns (turn ∷ (waiting here_later ++ round1))
 
   pub list_all-push : (turns : List (Turn X A)) (turn : Turn X A) → list_all ended (turns ++ turn ∷ []) ≡ (list_all ended turns && ended turn)
-  list_all-push turns turn = list_all-append ended turns (turn ∷ []) ∙ ap (λ (b : Bool). list_all ended turns && b) (and_true (ended turn))
+  list_all-push turns turn = let parts = list_all-append ended turns (turn ∷ []) in grind arith
 
   -- one more group, before the end of the list is come to
   pub first_step : (count : ℕ) (pending stopped stops : Bool) (now new : Groups X) (answer : Poll (Option A)) → NoOutput answer → (so : First count pending stopped now) → AsksOne (asks stops) now answer new
@@ -274,7 +274,7 @@ module _ {X A : Type 0} (asks : Bool → X → Poll (Option A) → X → Type 0)
       turn = record { answer = Some answer; stopped = stops; left = here.left }
 
       more_ends : (list_all ended so.turns && ended turn) ≡ not (cond pending true (is_pending answer))
-      more_ends = ends_more (list_all ended so.turns) (ended turn) pending (is_pending answer) so.ends (end_or_pending answer no_output)
+      more_ends = let ends = so.ends in grind arith
 
       by_later : (later : List X) → so.todo ≡ here.group ∷ later → LeavesBetween earlier later here.left answer new → First (count + 1) (cond pending true (is_pending answer)) (stopped || stops) new ⊎ Second (count + 1) (cond pending true (is_pending answer)) (stopped || stops) new
       by_later [] is leaves =
@@ -351,15 +351,12 @@ module _ {X A : Type 0} (asks : Bool → X → Poll (Option A) → X → Type 0)
         now_is = left_is.0 ∙ ap (λ (l : List X). kept so.again_turns ++ (gone answer here.left ++ l)) split.1 ∙ sym (append_assoc (kept so.again_turns) (gone answer here.left) (later ++ rest)) ∙ ap (λ (l : List X). l ++ (later ++ rest)) (sym kept_is);
         place = inr (omega (arith, length_push so.again_turns turn), left_is.1 ∙ sym (length-append (kept so.again_turns) (gone answer here.left)) ∙ ap length (sym kept_is));
         counted = omega (arith, so.counted, length_push so.again_turns turn);
-        ends = ap (λ (b : Bool). b && others) (list_all-push so.again_turns turn) ∙ and_swap (list_all ended so.again_turns) others (ended turn) ∙ ends_more (list_all ended so.again_turns && others) (ended turn) pending (is_pending answer) so.ends (end_or_pending answer no_output);
-        stops = ap (λ (b : Bool). b || (any_stopped so.turns || so.last_stopped)) (any_stopped-push so.again_turns turn) ∙ or_last (any_stopped so.again_turns) (any_stopped so.turns || so.last_stopped) stops ∙ ap (λ (b : Bool). b || stops) so.stops;
+        ends = let more = list_all-push so.again_turns turn in let ends = so.ends in grind arith;
+        stops = let more = any_stopped-push so.again_turns turn in let stopped_before = so.stops in grind arith;
       }
     where
       rest : List X
       rest = kept so.turns ++ so.left ∷ []
-
-      others : Bool
-      others = list_all ended so.turns && is_end (Some so.answer)
 
       here : AsksHere (asks stops) (kept so.again_turns) (so.todo ++ rest) answer new
       here = asks_here (asks stops) now new answer (kept so.again_turns) (so.todo ++ rest) one so.now_is (second_place count pending stopped now so)
