@@ -11,7 +11,7 @@ use Rattle.futures.specs.declared.task.Poll.TheVariants.{Ready, Pending}
 use Rattle.futures_buffered_unordered.specs.Groups.{Groups, Turn, round_from, NoOutput, is_end, ended, staying, stands_at, place_after, AsksAll, GroupsGive}
 use Rattle.futures_buffered_unordered.specs.GroupsStep.{AsksOne}
 use Rattle.futures_buffered_unordered.proofs.GroupsLemmas.{any_stopped, any_stopped-push, GaveNoOutput, TakesTurn, enumerate-append, round-at, each-numbered, each-append, zip-append, kept, kept-append, staying-append, kept-push, stands-at, is_pending, behind_last, next_at, next_zero, gone, from_no_length, last_of, each-last, each-front, answered}
-use Rattle.futures_buffered_unordered.proofs.GroupsRoundLemmas.{First, Second, first_step, second_step, first_output, second_output, list_all-push}
+use Rattle.futures_buffered_unordered.proofs.GroupsRoundLemmas.{First, Second, first_step, second_step, first_output, second_output, last_in_first, list_all-push}
 
 module _ {X A : Type 0} (asks : Bool → X → Poll (Option A) → X → Type 0) (old : Groups X) where
   -- nothing was asked as there is no group, or the first part of the round goes on, or the second
@@ -83,60 +83,21 @@ module _ {X A : Type 0} (asks : Bool → X → Poll (Option A) → X → Type 0)
   so_far_some count pending stopped now (inr (inr so)) more = omega (arith, ap length so.now_is, length-append (kept so.again_turns) (so.todo ++ (kept so.turns ++ so.left ∷ [])), length-append so.todo (kept so.turns ++ so.left ∷ []), length_push (kept so.turns) so.left)
 
   -- all were asked, and the last of the list was asked last
-  end_at_last : (count : ℕ) (pending stopped : Bool) (now : Groups X) → (so : Second asks old count pending stopped now) → length old.listed ≤ count → so.todo ≡ [] → so.again_turns ≡ [] → now.place ≡ behind_last (length now.listed) so.answer → AsksAll asks old (not pending) stopped now
-  end_at_last count pending stopped now so all todo_is again_is place = (
-    round1,
-    so.answer,
-    so.none_last,
-    record {
-      each = subst (λ (l : List X). AllZip (TakesTurn asks) l round1) (sym old_is) (zip-append (TakesTurn asks) so.asked so.turns _ _ so.each (so.last_asked, tt));
-      asked_before = enumerate_from 0 so.turns;
-      k = length so.turns;
-      last_stopped = so.last_stopped;
-      left = so.left;
-      in_order = order;
-      no_output_before = each-numbered GaveNoOutput 0 so.turns so.none;
-      none_asked_after = tt;
-      leaves = groups_are ∙ sym (staying-append so.turns last_turn []);
-      goes_on = place ∙ by_answer so.answer so.none_last;
-      stops = any_stopped-push so.turns last_turn ∙ ap (λ (l : List (Turn X A)). any_stopped l || (any_stopped so.turns || so.last_stopped)) (sym again_is) ∙ so.stops;
-    },
-    list_all-push asks old so.turns last_turn ∙ ap (λ (l : List (Turn X A)). list_all ended l && (list_all ended so.turns && is_end (Some so.answer))) (sym again_is) ∙ so.ends,
-  )
-    where
-      last_turn : Turn X A
-      last_turn = record { answer = Some so.answer; stopped = so.last_stopped; left = so.left }
-
-      round1 : List (Turn X A)
-      round1 = so.turns ++ last_turn ∷ []
-
-      none_again : so.again ≡ []
-      none_again = from_no_length so.again (omega (arith, AllZip-long (TakesTurn asks) so.again so.again_turns so.each_again, ap length again_is))
-
-      old_is : old.listed ≡ so.asked ++ so.last ∷ []
-      old_is = so.old_is ∙ ap (λ (l : List X). l ++ (so.todo ++ (so.asked ++ so.last ∷ []))) none_again ∙ ap (λ (l : List X). l ++ (so.asked ++ so.last ∷ [])) todo_is
-
-      groups_are : now.listed ≡ kept so.turns ++ so.left ∷ []
-      groups_are = so.now_is ∙ ap (λ (l : List (Turn X A)). kept l ++ (so.todo ++ (kept so.turns ++ so.left ∷ []))) again_is ∙ ap (λ (l : List X). l ++ (kept so.turns ++ so.left ∷ [])) todo_is
-
-      long : length round1 ≡ length old.listed
-      long = omega (arith, ap length old_is, length_push so.turns last_turn, length_push so.asked so.last, AllZip-long (TakesTurn asks) so.asked so.turns so.each)
-
-      begins : (old.place ≡ 0) ⊎ ((length round1 ≤ old.place) × (◌≡◌ {A = List (Turn X A)} [] []))
-      begins = elim so.begins [ inl e ↦ inl (omega (arith, e, length-append so.again so.todo, ap length none_again, ap length todo_is)) | inr h ↦ inr (omega (arith, long, h.0), refl) ]
-
-      order : round_from old.place (enumerate_from 0 round1) ≡ enumerate_from 0 so.turns ++ (length so.turns, last_turn) ∷ []
-      order =
-          let same : 0 + length so.turns ≡ length so.turns = omega arith in
-          round-at old.place [] round1 begins ∙ append-nil (enumerate_from 0 round1) ∙ enumerate-append 0 so.turns (last_turn ∷ []) ∙ ap (λ (k : ℕ). enumerate_from 0 so.turns ++ (k, last_turn) ∷ []) same
-
-      by_answer : (answer : Poll (Option A)) → NoOutput answer → behind_last (length now.listed) answer ≡ place_after round1 (length so.turns) answer
-      by_answer answer none =
-          let groups = groups_are in
-          let left = length_push (kept so.turns) so.left in
-          let turns = length_push so.turns last_turn in
-          let stands = stands-at so.turns (last_turn ∷ []) in
-          grind (arith, nat_tests)
+  end_at_last : (count : ℕ) (pending stopped : Bool) (now : Groups X) → (so : Second asks old count pending stopped now) → so.todo ≡ [] → so.again_turns ≡ [] → now.place ≡ behind_last (length now.listed) so.answer → AsksAll asks old (not pending) stopped now
+  end_at_last count pending stopped now so todo_is again_is place =
+      let last_turn : Turn X A = record { answer = Some so.answer; stopped = so.last_stopped; left = so.left } in
+      let none_again = from_no_length so.again (omega (arith, AllZip-long (TakesTurn asks) so.again so.again_turns so.each_again, ap length again_is)) in
+      let old_is : old.listed ≡ so.asked ++ so.last ∷ [] = rw (none_again, todo_is) at so.old_is in
+      let now_is : now.listed ≡ kept so.turns ++ so.left ∷ [] = rw (again_is, todo_is) at so.now_is in
+      let begins : (old.place ≡ 0) ⊎ ((length old.listed ≤ old.place) × (◌≡◌ {A = List X} [] [])) = elim so.begins [ inl e ↦ inl (omega (arith, e, length-append so.again so.todo, ap length none_again, ap length todo_is)) | inr h ↦ inr (h.0, refl) ] in
+      let each = zip-append (TakesTurn asks) so.asked so.turns (so.last ∷ []) (last_turn ∷ []) so.each (so.last_asked, tt) in
+      let left_long = length_push (kept so.turns) so.left in
+      let turns_long = length_push so.turns last_turn in
+      let goes_on : stands_at (so.turns ++ last_turn ∷ []) (0 + length so.turns) ≡ length (kept so.turns) → now.place ≡ place_after (so.turns ++ last_turn ∷ []) (0 + length so.turns) so.answer = λ stands. let none = so.none_last in grind (arith, nat_tests) in
+      let ends = so.ends in
+      let stops_so = so.stops in
+      let ended_is = list_all-push asks old so.turns last_turn in
+      (so.turns ++ last_turn ∷ [], so.answer, so.none_last, last_in_first asks old [] [] so.turns so.answer so.last_stopped so.left stopped now (rw old_is each) begins so.none refl now_is goes_on (grind arith), grind arith)
 
   -- all were asked, and the group before the place was asked last
   end_before : (count : ℕ) (pending stopped : Bool) (now : Groups X) → (so : Second asks old count pending stopped now) → length old.listed ≤ count → so.todo ≡ [] → 0 < length so.again_turns → now.place ≡ length (kept so.again_turns) → AsksAll asks old (not pending) stopped now
@@ -220,7 +181,7 @@ module _ {X A : Type 0} (asks : Bool → X → Poll (Option A) → X → Type 0)
   so_far_end count pending stopped now (inl none) all = grind arith
   so_far_end count pending stopped now (inr (inl so)) all =
       absurd (omega (arith, all, so.counted, so.some, AllZip-long (TakesTurn asks) so.asked so.turns so.each, ap length so.old_is, length-append so.before (so.asked ++ so.todo), length-append so.asked so.todo))
-  so_far_end count pending stopped now (inr (inr so)) all = let gave : AsksAll asks old (not pending) stopped now = elim so.place [ inl h ↦ end_at_last count pending stopped now so all todo_is h.0 h.1 | inr h ↦ end_before count pending stopped now so all todo_is h.0 h.1 ] in grind arith
+  so_far_end count pending stopped now (inr (inr so)) all = let gave : AsksAll asks old (not pending) stopped now = elim so.place [ inl h ↦ end_at_last count pending stopped now so todo_is h.0 h.1 | inr h ↦ end_before count pending stopped now so all todo_is h.0 h.1 ] in grind arith
     where
       todo_is : so.todo ≡ []
       todo_is = from_no_length so.todo (omega (arith, all, so.counted, ap length so.old_is, length-append so.again (so.todo ++ (so.asked ++ so.last ∷ [])), length-append so.todo (so.asked ++ so.last ∷ []), length_push so.asked so.last, AllZip-long (TakesTurn asks) so.again so.again_turns so.each_again, AllZip-long (TakesTurn asks) so.asked so.turns so.each))

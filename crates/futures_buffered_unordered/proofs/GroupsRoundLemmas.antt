@@ -6,7 +6,7 @@ use Rattle.std.proofs.lemmas.List.Folds.{list_all-append, list_any-append}
 use Rattle.std.proofs.lemmas.Slice.Zip.{AllZip-long}
 use Rattle.futures.specs.declared.task.Poll.{Poll}
 use Rattle.futures.specs.declared.task.Poll.TheVariants.{Ready}
-use Rattle.futures_buffered_unordered.specs.Groups.{Groups, Turn, round_from, NoOutput, is_end, ended, staying, stands_at, GroupsGive}
+use Rattle.futures_buffered_unordered.specs.Groups.{Groups, Turn, round_from, NoOutput, is_end, ended, staying, stands_at, place_after, AsksLast, GroupsGive}
 use Rattle.futures_buffered_unordered.specs.GroupsStep.{AsksOne, LeavesBetween, next_place}
 use Rattle.futures_buffered_unordered.proofs.GroupsLemmas.{any_stopped, any_stopped-push, any_stopped-waiting, or_last, waiting-not_stopped, NotAsked, GaveNoOutput, TakesTurn, enumerate-append, round-at, each-numbered, each-append, zip-append, waiting, kept, length-waiting, kept-waiting, waiting-not_asked, kept-append, staying-append, staying-before_waiting, kept-push, stands-at, AsksHere, zip-waiting, asks_here, is_pending, behind_last, next_at, next_zero, gone, after_group, after_last}
 
@@ -58,74 +58,49 @@ module _ {X A : Type 0} (asks : Bool → X → Poll (Option A) → X → Type 0)
     pub ends : (list_all ended again_turns && (list_all ended turns && is_end (Some answer))) ≡ not pending
     pub stops : (any_stopped again_turns || (any_stopped turns || last_stopped)) ≡ stopped
 
+  -- the group that was asked last stands from the place on
+  module _ (before later : List X) (turns : List (Turn X A)) (answer : Poll (Option A)) (stops : Bool) (left : X) where
+    abbrev last_turn : Turn X A
+    last_turn = record { answer = Some answer; stopped = stops; left = left }
+
+    abbrev pub first_turns : List (Turn X A)
+    first_turns = waiting before ++ (turns ++ last_turn ∷ waiting later)
+
+    pub last_in_first : (stopped : Bool) (new : Groups X) → AllZip (TakesTurn asks) old.listed first_turns → (old.place ≡ length before) ⊎ ((length old.listed ≤ old.place) × (before ≡ [])) → AllByRecursion GaveNoOutput turns
+        → staying (last_turn ∷ waiting later) ≡ left ∷ later → new.listed ≡ (before ++ kept turns) ++ left ∷ later
+        → (stands_at first_turns (length before + length turns) ≡ length (before ++ kept turns) → new.place ≡ place_after first_turns (length before + length turns) answer)
+        → (any_stopped turns || stops) ≡ stopped
+        → AsksLast asks old first_turns answer (enumerate_from (length before + length turns + 1) (waiting later) ++ enumerate_from 0 (waiting before)) stopped new
+    last_in_first stopped new each begins none stays leaves goes_on stops_is =
+        let long = AllZip-long (TakesTurn asks) old.listed first_turns each in
+        let before_long = length-waiting A before in
+        let parts = append_assoc (waiting before) turns (last_turn ∷ waiting later) in
+        let front = waiting before ++ turns in
+        let front_long = length-append (waiting {A = A} before) turns in
+        let kept_front : kept front ≡ before ++ kept turns = kept-append (waiting before) turns ∙ ap (λ (l : List X). l ++ kept turns) (kept-waiting A before) in
+        let begins_at : (old.place ≡ length (waiting {A = A} before)) ⊎ ((length first_turns ≤ old.place) × (waiting {A = A} before ≡ [])) = elim begins [ inl e ↦ inl (omega (arith, e, before_long)) | inr h ↦ inr (omega (arith, long, h.0), ap (waiting {A = A}) h.1) ] in
+        let stands : stands_at first_turns (length before + length turns) ≡ length (before ++ kept turns) = let at = stands-at front (last_turn ∷ waiting later) in grind arith in
+        record {
+          each = each;
+          asked_before = enumerate_from (length before) turns;
+          k = length before + length turns;
+          last_stopped = stops;
+          left = left;
+          in_order = let round = round-at old.place (waiting before) (turns ++ last_turn ∷ waiting later) begins_at in let numbered = enumerate-append (length before) turns (last_turn ∷ waiting later) in grind (arith, append_assoc);
+          no_output_before = each-numbered GaveNoOutput (length before) turns none;
+          none_asked_after = each-append _ (enumerate_from (length before + length turns + 1) (waiting later)) (enumerate_from 0 (waiting before)) (each-numbered NotAsked _ (waiting later) (waiting-not_asked A later)) (each-numbered NotAsked 0 (waiting before) (waiting-not_asked A before));
+          leaves = let stay = staying-append front last_turn (waiting later) in grind arith;
+          goes_on = goes_on stands;
+          stops = let all = list_any-append (λ (t : Turn X A). t.stopped) (waiting before) (turns ++ last_turn ∷ waiting later) in let none_before = waiting-not_stopped A before in let rest = any_stopped-waiting turns last_turn later in grind arith;
+        }
+
   -- an output before the end of the list is come to
   pub first_output : (count : ℕ) (pending stopped stops : Bool) (now new : Groups X) (x : A) → First count pending stopped now → AsksOne (asks stops) now (Ready (Some x)) new → GroupsGive asks old (Ready (Some x)) (stopped || stops) new
-  first_output count pending stopped stops now new x so one = (
-    turns,
-    enumerate_from (length so.before + length so.turns + 1) (waiting here.later) ++ enumerate_from 0 (waiting so.before),
-    record {
-      each = subst (λ (l : List X). AllZip (TakesTurn asks) l turns) (sym old_parts) zipped;
-      asked_before = enumerate_from (length so.before) so.turns;
-      k = length so.before + length so.turns;
-      last_stopped = stops;
-      left = here.left;
-      in_order = order;
-      no_output_before = each-numbered GaveNoOutput (length so.before) so.turns so.none;
-      none_asked_after = each-append _ (enumerate_from (length so.before + length so.turns + 1) (waiting here.later)) (enumerate_from 0 (waiting so.before)) (each-numbered NotAsked _ (waiting here.later) (waiting-not_asked A here.later)) (each-numbered NotAsked 0 (waiting so.before) (waiting-not_asked A so.before));
-      leaves = here.leaves.0 ∙ sym stays;
-      goes_on = here.leaves.1 ∙ sym stands;
-      stops = list_any-append (λ (t : Turn X A). t.stopped) (waiting so.before) behind ∙ ap (λ (b : Bool). b || any_stopped behind) (waiting-not_stopped A so.before) ∙ any_stopped-waiting so.turns turn here.later ∙ ap (λ (b : Bool). b || stops) so.stops;
-    },
-  )
-    where
-      here : AsksHere (asks stops) (so.before ++ kept so.turns) so.todo (Ready (Some x)) new
-      here = asks_here (asks stops) now new (Ready (Some x)) (so.before ++ kept so.turns) so.todo one (so.now_is ∙ sym (append_assoc so.before (kept so.turns) so.todo)) (so.place ∙ sym (length-append so.before (kept so.turns)))
-
-      turn : Turn X A
-      turn = record { answer = Some (Ready (Some x)); stopped = stops; left = here.left }
-
-      behind : List (Turn X A)
-      behind = so.turns ++ turn ∷ waiting here.later
-
-      turns : List (Turn X A)
-      turns = waiting so.before ++ behind
-
-      old_parts : old.listed ≡ so.before ++ (so.asked ++ here.group ∷ here.later)
-      old_parts = so.old_is ∙ ap (λ (l : List X). so.before ++ (so.asked ++ l)) here.rest_is
-
-      zipped : AllZip (TakesTurn asks) (so.before ++ (so.asked ++ here.group ∷ here.later)) turns
-      zipped = zip-append (TakesTurn asks) so.before (waiting so.before) _ _ (zip-waiting asks so.before) (zip-append (TakesTurn asks) so.asked so.turns _ _ so.each (here.asked, zip-waiting asks here.later))
-
-      long : length turns ≡ length old.listed
-      long = AllZip-long (TakesTurn asks) (so.before ++ (so.asked ++ here.group ∷ here.later)) turns zipped ∙ ap length (sym old_parts)
-
-      begins : (old.place ≡ length (waiting {A = A} so.before)) ⊎ ((length turns ≤ old.place) × (waiting {A = A} so.before ≡ []))
-      begins = elim so.begins [ inl e ↦ inl (e ∙ sym (length-waiting A so.before)) | inr h ↦ inr (omega (arith, long, h.0), ap (waiting {A = A}) h.1) ]
-
-      order : round_from old.place (enumerate_from 0 turns) ≡ enumerate_from (length so.before) so.turns ++ (length so.before + length so.turns, turn) ∷ (enumerate_from (length so.before + length so.turns + 1) (waiting here.later) ++ enumerate_from 0 (waiting so.before))
-      order =
-          round-at old.place (waiting so.before) behind begins
-          ∙ ap (λ (k : ℕ). enumerate_from k behind ++ enumerate_from 0 (waiting so.before)) (length-waiting A so.before)
-          ∙ ap (λ (l : List (ℕ × Turn X A)). l ++ enumerate_from 0 (waiting so.before)) (enumerate-append (length so.before) so.turns (turn ∷ waiting here.later))
-          ∙ append_assoc (enumerate_from (length so.before) so.turns) (enumerate_from (length so.before + length so.turns) (turn ∷ waiting here.later)) (enumerate_from 0 (waiting so.before))
-
-      front : List (Turn X A)
-      front = waiting so.before ++ so.turns
-
-      kept-front : kept front ≡ so.before ++ kept so.turns
-      kept-front = kept-append (waiting so.before) so.turns ∙ ap (λ (l : List X). l ++ kept so.turns) (kept-waiting A so.before)
-
-      turns_are : turns ≡ front ++ turn ∷ waiting here.later
-      turns_are = sym (append_assoc (waiting so.before) so.turns (turn ∷ waiting here.later))
-
-      stays : staying turns ≡ (so.before ++ kept so.turns) ++ here.left ∷ here.later
-      stays = ap staying turns_are ∙ staying-append front turn (waiting here.later) ∙ ap (λ (l : List X). kept front ++ l) (staying-before_waiting turn here.later refl) ∙ ap (λ (l : List X). l ++ here.left ∷ here.later) kept-front
-
-      front_long : length front ≡ length so.before + length so.turns
-      front_long = length-append (waiting {A = A} so.before) so.turns ∙ ap (λ (n : ℕ). n + length so.turns) (length-waiting A so.before)
-
-      stands : stands_at turns (length so.before + length so.turns) ≡ length (so.before ++ kept so.turns)
-      stands = ap (stands_at turns) (sym front_long) ∙ ap (λ (l : List (Turn X A)). stands_at l (length front)) turns_are ∙ stands-at front (turn ∷ waiting here.later) ∙ ap length kept-front
+  first_output count pending stopped stops now new x so one =
+      let here = asks_here (asks stops) now new (Ready (Some x)) (so.before ++ kept so.turns) so.todo one (so.now_is ∙ sym (append_assoc so.before (kept so.turns) so.todo)) (so.place ∙ sym (length-append so.before (kept so.turns))) in
+      let old_is = so.old_is ∙ ap (λ (l : List X). so.before ++ (so.asked ++ l)) here.rest_is in
+      let each = zip-append (TakesTurn asks) so.before (waiting so.before) _ _ (zip-waiting asks so.before) (zip-append (TakesTurn asks) so.asked so.turns _ _ so.each (here.asked, zip-waiting asks here.later)) in
+      (_, _, last_in_first so.before here.later so.turns (Ready (Some x)) stops here.left (stopped || stops) new (rw old_is each) so.begins so.none (staying-before_waiting (record { answer = Some (Ready (Some x)); stopped = stops; left = here.left }) here.later refl) here.leaves.0 (λ stands. here.leaves.1 ∙ sym stands) (ap (λ (b : Bool). b || stops) so.stops))
 
   -- the group that is asked next, behind those that were asked a second time round
   pub second_place : (count : ℕ) (pending stopped : Bool) (now : Groups X) → (so : Second count pending stopped now) → next_place now ≡ length (kept so.again_turns)
