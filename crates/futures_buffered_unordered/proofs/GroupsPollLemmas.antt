@@ -1,17 +1,17 @@
 -- What a poll has asked so far, and what one more group makes of it.
-use Rattle.std.proofs.Common.{◌≡◌, ◌⊎◌, ℕ, ◌+◌, ◌<◌, ◌≤◌, Bool, true, false, not, ◌&&◌, ◌||◌, cond, List, [], ◌∷◌, ◌++◌, length, take, drop, Option, Some, None, is_some, true≢false, refl, sym, ap, subst, inl, inr, arith, append-nil, ◌∙◌}
-use Rattle.std.specs.List.{AllZip, AllByRecursion, enumerate_from, list_all}
+use Rattle.std.proofs.Common.{◌≡◌, ◌≢◌, ◌⊎◌, ℕ, ◌+◌, ◌<◌, ◌≤◌, Bool, true, false, not, ◌||◌, cond, List, [], ◌∷◌, ◌++◌, length, take, drop, Option, Some, None, is_some, true≢false, refl, sym, ap, subst, inl, inr, arith, ◌∙◌}
+use Rattle.std.specs.List.{AllZip, AllByRecursion}
 use Rattle.std.proofs.lemmas.List.{append_assoc, length-append, length_push, take-append-drop, length-take-le, length-drop}
-use Rattle.std.proofs.lemmas.List.Folds.{list_all-append, list_any-append}
+use Rattle.std.proofs.lemmas.List.Folds.{list_all-append}
 use Rattle.std.proofs.lemmas.Slice.Zip.{AllZip-long}
 use Rattle.std.proofs.lemmas.Bool.Decides.{nat_tests}
 use Rattle.std.proofs.lemmas.Bool.{cases_lt}
 use Rattle.futures.specs.declared.task.Poll.{Poll}
 use Rattle.futures.specs.declared.task.Poll.TheVariants.{Ready, Pending}
-use Rattle.futures_buffered_unordered.specs.Groups.{Groups, Turn, round_from, NoOutput, is_end, ended, staying, stands_at, place_after, AsksAll, GroupsGive}
+use Rattle.futures_buffered_unordered.specs.Groups.{Groups, Turn, NoOutput, ended, stands_at, place_after, AsksAll, GroupsGive}
 use Rattle.futures_buffered_unordered.specs.GroupsStep.{AsksOne}
-use Rattle.futures_buffered_unordered.proofs.GroupsLemmas.{any_stopped, any_stopped-push, GaveNoOutput, TakesTurn, enumerate-append, round-at, each-numbered, each-append, zip-append, kept, kept-append, staying-append, kept-push, stands-at, is_pending, behind_last, next_at, next_zero, gone, from_no_length, last_of, each-last, each-front, answered}
-use Rattle.futures_buffered_unordered.proofs.GroupsRoundLemmas.{First, Second, first_step, second_step, first_output, second_output, last_in_first, list_all-push}
+use Rattle.futures_buffered_unordered.proofs.GroupsLemmas.{any_stopped-push, GaveNoOutput, TakesTurn, zip-append, kept, kept-push, is_pending, behind_last, next_at, next_zero, gone, from_no_length, last_of, each-last, each-front, answered}
+use Rattle.futures_buffered_unordered.proofs.GroupsRoundLemmas.{First, Second, first_step, second_step, first_output, second_output, last_in_first, last_in_second, list_all-push}
 
 module _ {X A : Type 0} (asks : Bool → X → Poll (Option A) → X → Type 0) (old : Groups X) where
   -- nothing was asked as there is no group, or the first part of the round goes on, or the second
@@ -100,88 +100,40 @@ module _ {X A : Type 0} (asks : Bool → X → Poll (Option A) → X → Type 0)
       (so.turns ++ last_turn ∷ [], so.answer, so.none_last, last_in_first asks old [] [] so.turns so.answer so.last_stopped so.left stopped now (rw old_is each) begins so.none refl now_is goes_on (grind arith), grind arith)
 
   -- all were asked, and the group before the place was asked last
-  end_before : (count : ℕ) (pending stopped : Bool) (now : Groups X) → (so : Second asks old count pending stopped now) → length old.listed ≤ count → so.todo ≡ [] → 0 < length so.again_turns → now.place ≡ length (kept so.again_turns) → AsksAll asks old (not pending) stopped now
-  end_before count pending stopped now so all todo_is some place = (
-    turns,
-    answer.0,
-    answer.1,
-    record {
-      each = subst (λ (l : List X). AllZip (TakesTurn asks) l turns) (sym old_is) zipped;
-      asked_before = enumerate_from (length so.again_turns) round1 ++ enumerate_from 0 found.0;
-      k = length found.0;
-      last_stopped = found.1.stopped;
-      left = found.1.left;
-      in_order = order;
-      no_output_before = each-append _ (enumerate_from (length so.again_turns) round1) (enumerate_from 0 found.0) (each-numbered GaveNoOutput _ round1 (each-append GaveNoOutput so.turns (last_turn ∷ []) so.none (so.none_last, tt))) (each-numbered GaveNoOutput 0 found.0 (each-front GaveNoOutput found.0 (found.1 ∷ []) none_again));
-      none_asked_after = tt;
-      leaves = leaves;
-      goes_on = place ∙ ap length kept_is ∙ length-append (kept found.0) (gone answer.0 found.1.left) ∙ by_answer answer.0 answer.1;
-      stops = list_any-append (λ (t : Turn X A). t.stopped) so.again_turns round1 ∙ ap (λ (b : Bool). any_stopped so.again_turns || b) (any_stopped-push so.turns last_turn) ∙ so.stops;
-    },
-    list_all-append ended so.again_turns round1 ∙ ap (λ (b : Bool). list_all ended so.again_turns && b) (list_all-push asks old so.turns last_turn) ∙ so.ends,
-  )
-    where
-      last_turn : Turn X A
-      last_turn = record { answer = Some so.answer; stopped = so.last_stopped; left = so.left }
-
-      round1 : List (Turn X A)
-      round1 = so.turns ++ last_turn ∷ []
-
-      turns : List (Turn X A)
-      turns = so.again_turns ++ round1
-
-      found : (ts : List (Turn X A)) × (t : Turn X A) × (so.again_turns ≡ ts ++ t ∷ [])
-      found = last_of so.again_turns some
-
-      none_again : AllByRecursion GaveNoOutput (found.0 ++ found.1 ∷ [])
-      none_again = subst (λ (l : List (Turn X A)). AllByRecursion GaveNoOutput l) found.2 so.none_again
-
-      answer : (answer : Poll (Option A)) × NoOutput answer × (found.1 ≡ record { answer = Some answer; stopped = found.1.stopped; left = found.1.left })
-      answer = answered found.1.answer found.1.stopped found.1.left (each-last GaveNoOutput found.0 found.1 none_again)
-
-      old_is : old.listed ≡ so.again ++ (so.asked ++ so.last ∷ [])
-      old_is = so.old_is ∙ ap (λ (l : List X). so.again ++ (l ++ (so.asked ++ so.last ∷ []))) todo_is
-
-      zipped : AllZip (TakesTurn asks) (so.again ++ (so.asked ++ so.last ∷ [])) turns
-      zipped = zip-append (TakesTurn asks) so.again so.again_turns _ _ so.each_again (zip-append (TakesTurn asks) so.asked so.turns _ _ so.each (so.last_asked, tt))
-
-      again_long : length so.again_turns ≡ length so.again
-      again_long = AllZip-long (TakesTurn asks) so.again so.again_turns so.each_again
-
-      begins : (old.place ≡ length so.again_turns) ⊎ ((length turns ≤ old.place) × (so.again_turns ≡ []))
-      begins = elim so.begins [ inl e ↦ inl (omega (arith, e, length-append so.again so.todo, ap length todo_is, again_long)) | inr h ↦ absurd (omega (arith, ap length h.1, length-append so.again so.todo, again_long, some)) ]
-
-      order : round_from old.place (enumerate_from 0 turns) ≡ (enumerate_from (length so.again_turns) round1 ++ enumerate_from 0 found.0) ++ (length found.0, record { answer = Some answer.0; stopped = found.1.stopped; left = found.1.left }) ∷ []
-      order =
-          let same : 0 + length found.0 ≡ length found.0 = omega arith in
-          round-at old.place so.again_turns round1 begins
-          ∙ ap (λ (l : List (Turn X A)). enumerate_from (length so.again_turns) round1 ++ enumerate_from 0 l) found.2
-          ∙ ap (λ (l : List (ℕ × Turn X A)). enumerate_from (length so.again_turns) round1 ++ l) (enumerate-append 0 found.0 (found.1 ∷ []) ∙ ap (λ (k : ℕ). enumerate_from 0 found.0 ++ (k, found.1) ∷ []) same ∙ ap (λ (t : Turn X A). enumerate_from 0 found.0 ++ (length found.0, t) ∷ []) answer.2)
-          ∙ sym (append_assoc (enumerate_from (length so.again_turns) round1) (enumerate_from 0 found.0) ((length found.0, record { answer = Some answer.0; stopped = found.1.stopped; left = found.1.left }) ∷ []))
-
-      kept_is : kept so.again_turns ≡ kept found.0 ++ gone answer.0 found.1.left
-      kept_is = ap kept found.2 ∙ kept-push found.0 found.1 ∙ ap (λ (t : Turn X A). kept found.0 ++ cond (ended t) [] (t.left ∷ [])) answer.2
-
-      leaves : now.listed ≡ staying turns
-      leaves =
-          so.now_is ∙ ap (λ (l : List X). kept so.again_turns ++ (l ++ (kept so.turns ++ so.left ∷ []))) todo_is
-          ∙ sym (ap staying (sym (append_assoc so.again_turns so.turns (last_turn ∷ []))) ∙ staying-append (so.again_turns ++ so.turns) last_turn [] ∙ ap (λ (l : List X). l ++ so.left ∷ []) (kept-append so.again_turns so.turns) ∙ append_assoc (kept so.again_turns) (kept so.turns) (so.left ∷ []))
-
-      stands : stands_at turns (length found.0) ≡ length (kept found.0)
-      stands = ap (λ (l : List (Turn X A)). stands_at (l ++ round1) (length found.0)) found.2 ∙ ap (λ (l : List (Turn X A)). stands_at l (length found.0)) (append_assoc found.0 (found.1 ∷ []) round1) ∙ stands-at found.0 (found.1 ∷ round1)
-
-      not_last : length found.0 + 1 ≡ length turns → ⊥
-      not_last e = omega (arith, e, length-append so.again_turns round1, length_push so.turns last_turn, ap length found.2, length_push found.0 found.1)
-
-      by_answer : (a : Poll (Option A)) → NoOutput a → length (kept found.0) + length (gone a found.1.left) ≡ place_after turns (length found.0) a
-      by_answer a none = let at = stands in let behind = not_last in grind (arith, nat_tests)
+  end_before : (count : ℕ) (pending stopped : Bool) (now : Groups X) → (so : Second asks old count pending stopped now) → so.todo ≡ [] → 0 < length so.again_turns → now.place ≡ length (kept so.again_turns) → AsksAll asks old (not pending) stopped now
+  end_before count pending stopped now so todo_is some place =
+      let found = last_of so.again_turns some in
+      let none_again = subst (AllByRecursion GaveNoOutput) found.2 so.none_again in
+      let answer : (answer : Poll (Option A)) × NoOutput answer × (found.1 ≡ record { answer = Some answer; stopped = found.1.stopped; left = found.1.left }) = answered found.1.answer found.1.stopped found.1.left (each-last GaveNoOutput found.0 found.1 none_again) in
+      let turn : Turn X A = record { answer = Some answer.0; stopped = found.1.stopped; left = found.1.left } in
+      let last_turn : Turn X A = record { answer = Some so.answer; stopped = so.last_stopped; left = so.left } in
+      let again_is : so.again_turns ≡ found.0 ++ turn ∷ [] = found.2 ∙ ap (λ (t : Turn X A). found.0 ++ t ∷ []) answer.2 in
+      let again_long = AllZip-long (TakesTurn asks) so.again so.again_turns so.each_again in
+      let old_place : old.place ≡ length so.again = elim so.begins [ inl e ↦ omega (arith, e, length-append so.again so.todo, ap length todo_is) | inr h ↦ absurd (omega (arith, ap length h.1, length-append so.again so.todo, again_long, some)) ] in
+      let kept_is = kept-push found.0 turn in
+      let now_is : now.listed ≡ kept found.0 ++ (gone answer.0 turn.left ++ (kept so.turns ++ so.left ∷ [])) = (rw (again_is, todo_is) at so.now_is) ∙ ap (λ (l : List X). l ++ (kept so.turns ++ so.left ∷ [])) kept_is ∙ append_assoc (kept found.0) (gone answer.0 turn.left) (kept so.turns ++ so.left ∷ []) in
+      let now_place : now.place ≡ length (kept found.0) + length (gone answer.0 turn.left) = (rw again_is at place) ∙ ap length kept_is ∙ length-append (kept found.0) (gone answer.0 turn.left) in
+      let turns : List (Turn X A) = (found.0 ++ turn ∷ []) ++ (so.turns ++ last_turn ∷ []) in
+      let not_last : length found.0 + 1 ≢ length turns = λ e. omega (arith, e, length-append (found.0 ++ turn ∷ []) (so.turns ++ last_turn ∷ []), length_push so.turns last_turn, length_push found.0 turn) in
+      let goes_on : stands_at turns (length found.0) ≡ length (kept found.0) → now.place ≡ place_after turns (length found.0) answer.0 = λ stands. let none = answer.1 in grind (arith, nat_tests) in
+      let stops_push = any_stopped-push found.0 turn in
+      let stops_so = rw again_is at so.stops in
+      let ends_so = rw again_is at so.ends in
+      let ends_all = list_all-append ended (found.0 ++ turn ∷ []) (so.turns ++ last_turn ∷ []) in
+      let ends_push = list_all-push asks old so.turns last_turn in (
+        turns,
+        answer.0,
+        answer.1,
+        last_in_second asks old count pending stopped now so so.again [] found.0 answer.0 turn.stopped turn.left stopped now (rw todo_is at so.old_is) old_place (subst (AllZip (TakesTurn asks) so.again) again_is so.each_again) (each-front GaveNoOutput found.0 (found.1 ∷ []) none_again) now_is goes_on (grind arith),
+        grind arith,
+      )
 
   -- all were asked
   pub so_far_end : (count : ℕ) (pending stopped : Bool) (now : Groups X) → SoFar count pending stopped now → length old.listed ≤ count → GroupsGive asks old (cond pending Pending (Ready None)) stopped now
   so_far_end count pending stopped now (inl none) all = grind arith
   so_far_end count pending stopped now (inr (inl so)) all =
       absurd (omega (arith, all, so.counted, so.some, AllZip-long (TakesTurn asks) so.asked so.turns so.each, ap length so.old_is, length-append so.before (so.asked ++ so.todo), length-append so.asked so.todo))
-  so_far_end count pending stopped now (inr (inr so)) all = let gave : AsksAll asks old (not pending) stopped now = elim so.place [ inl h ↦ end_at_last count pending stopped now so todo_is h.0 h.1 | inr h ↦ end_before count pending stopped now so all todo_is h.0 h.1 ] in grind arith
+  so_far_end count pending stopped now (inr (inr so)) all = let gave : AsksAll asks old (not pending) stopped now = elim so.place [ inl h ↦ end_at_last count pending stopped now so todo_is h.0 h.1 | inr h ↦ end_before count pending stopped now so todo_is h.0 h.1 ] in grind arith
     where
       todo_is : so.todo ≡ []
       todo_is = from_no_length so.todo (omega (arith, all, so.counted, ap length so.old_is, length-append so.again (so.todo ++ (so.asked ++ so.last ∷ [])), length-append so.todo (so.asked ++ so.last ∷ []), length_push so.asked so.last, AllZip-long (TakesTurn asks) so.again so.again_turns so.each_again, AllZip-long (TakesTurn asks) so.asked so.turns so.each))

@@ -1,14 +1,14 @@
 -- Going round the groups: those from the place on are asked first, and then those before it.
-use Rattle.std.proofs.Common.{◌≡◌, ◌⊎◌, ℕ, ◌+◌, ◌<◌, ◌≤◌, Bool, true, not, ◌&&◌, ◌||◌, cond, List, [], ◌∷◌, ◌++◌, length, drop, Option, Some, refl, sym, ap, subst, inl, inr, arith, ◌∙◌}
+use Rattle.std.proofs.Common.{◌≡◌, ◌⊎◌, ℕ, ◌+◌, ◌<◌, ◌≤◌, Bool, true, not, ◌&&◌, ◌||◌, cond, List, [], ◌∷◌, ◌++◌, length, drop, Option, Some, refl, sym, ap, inl, inr, arith, ◌∙◌}
 use Rattle.std.specs.List.{AllZip, AllByRecursion, enumerate_from, list_all}
 use Rattle.std.proofs.lemmas.List.{append_assoc, length-append, length_push}
 use Rattle.std.proofs.lemmas.List.Folds.{list_all-append, list_any-append}
 use Rattle.std.proofs.lemmas.Slice.Zip.{AllZip-long}
 use Rattle.futures.specs.declared.task.Poll.{Poll}
 use Rattle.futures.specs.declared.task.Poll.TheVariants.{Ready}
-use Rattle.futures_buffered_unordered.specs.Groups.{Groups, Turn, round_from, NoOutput, is_end, ended, staying, stands_at, place_after, AsksLast, GroupsGive}
+use Rattle.futures_buffered_unordered.specs.Groups.{Groups, Turn, NoOutput, is_end, ended, staying, stands_at, place_after, AsksLast, GroupsGive}
 use Rattle.futures_buffered_unordered.specs.GroupsStep.{AsksOne, LeavesBetween, next_place}
-use Rattle.futures_buffered_unordered.proofs.GroupsLemmas.{any_stopped, any_stopped-push, any_stopped-waiting, or_last, waiting-not_stopped, NotAsked, GaveNoOutput, TakesTurn, enumerate-append, round-at, each-numbered, each-append, zip-append, waiting, kept, length-waiting, kept-waiting, waiting-not_asked, kept-append, staying-append, staying-before_waiting, kept-push, stands-at, AsksHere, zip-waiting, asks_here, is_pending, behind_last, next_at, next_zero, gone, after_group, after_last}
+use Rattle.futures_buffered_unordered.proofs.GroupsLemmas.{any_stopped, any_stopped-push, any_stopped-waiting, waiting-not_stopped, NotAsked, GaveNoOutput, TakesTurn, enumerate-append, round-at, each-numbered, each-append, zip-append, waiting, kept, length-waiting, kept-waiting, waiting-not_asked, kept-append, staying-append, staying-before_waiting, kept-push, stands-at, AsksHere, zip-waiting, asks_here, is_pending, behind_last, next_at, next_zero, gone, after_group, after_last}
 
 -- the first of a list, or else x
 head_or : {X : Type 0} → X → List X → X
@@ -128,108 +128,61 @@ module _ {X A : Type 0} (asks : Bool → X → Poll (Option A) → X → Type 0)
   unfolding head_or
   first_of xs ys z zs some e = grind arith
 
+  -- the last of the list was asked, and the group that was asked last stands before the place
+  module _ (count : ℕ) (pending stopped_before : Bool) (now : Groups X) (so : Second count pending stopped_before now) (groups later : List X) (turns : List (Turn X A)) (answer : Poll (Option A)) (stops : Bool) (left : X) where
+    abbrev again_turns : List (Turn X A)
+    again_turns = turns ++ record { answer = Some answer; stopped = stops; left = left } ∷ waiting later
+
+    abbrev round_turns : List (Turn X A)
+    round_turns = so.turns ++ record { answer = Some so.answer; stopped = so.last_stopped; left = so.left } ∷ []
+
+    pub last_in_second : (stopped : Bool) (new : Groups X) → old.listed ≡ groups ++ (so.asked ++ so.last ∷ []) → old.place ≡ length groups → AllZip (TakesTurn asks) groups again_turns → AllByRecursion GaveNoOutput turns
+        → new.listed ≡ kept turns ++ (gone answer left ++ (later ++ (kept so.turns ++ so.left ∷ [])))
+        → (stands_at (again_turns ++ round_turns) (length turns) ≡ length (kept turns) → new.place ≡ place_after (again_turns ++ round_turns) (length turns) answer)
+        → ((any_stopped turns || stops) || (any_stopped so.turns || so.last_stopped)) ≡ stopped
+        → AsksLast asks old (again_turns ++ round_turns) answer (enumerate_from (length turns + 1) (waiting later)) stopped new
+    last_in_second stopped new old_is place each none leaves goes_on stops_is =
+        let turn : Turn X A = record { answer = Some answer; stopped = stops; left = left } in
+        let last_turn : Turn X A = record { answer = Some so.answer; stopped = so.last_stopped; left = so.left } in
+        let long = AllZip-long (TakesTurn asks) groups again_turns each in
+        let parts = append_assoc turns (turn ∷ waiting later) round_turns in
+        let stands : stands_at (again_turns ++ round_turns) (length turns) ≡ length (kept turns) = let at = stands-at turns (turn ∷ (waiting later ++ round_turns)) in grind arith in
+        record {
+          each = rw old_is (zip-append (TakesTurn asks) groups again_turns _ _ each (zip-append (TakesTurn asks) so.asked so.turns (so.last ∷ []) (last_turn ∷ []) so.each (so.last_asked, tt)));
+          asked_before = enumerate_from (length groups) round_turns ++ enumerate_from 0 turns;
+          k = length turns;
+          last_stopped = stops;
+          left = left;
+          in_order = let round = round-at old.place again_turns round_turns (inl (omega (arith, place, long))) in let numbered = enumerate-append 0 turns (turn ∷ waiting later) in grind (arith, append_assoc);
+          no_output_before = each-append _ (enumerate_from (length groups) round_turns) (enumerate_from 0 turns) (each-numbered GaveNoOutput _ round_turns (each-append GaveNoOutput so.turns (last_turn ∷ []) so.none (so.none_last, tt))) (each-numbered GaveNoOutput 0 turns none);
+          none_asked_after = each-numbered NotAsked _ (waiting later) (waiting-not_asked A later);
+          leaves =
+              let all = append_assoc again_turns so.turns (last_turn ∷ []) in
+              let stay = staying-append (again_turns ++ so.turns) last_turn [] in
+              let kept_all = kept-append again_turns so.turns in
+              let kept_again = kept-append turns (turn ∷ waiting later) in
+              let kept_later = kept-waiting A later in
+              grind (arith, append_assoc);
+          goes_on = goes_on stands;
+          stops =
+              let all = list_any-append (λ (t : Turn X A). t.stopped) again_turns round_turns in
+              let again = any_stopped-waiting turns turn later in
+              let round = any_stopped-push so.turns last_turn in
+              grind arith;
+        }
+
   -- an output after the end of the list was come to
   pub second_output : (count : ℕ) (pending stopped stops : Bool) (now new : Groups X) (x : A) → (so : Second count pending stopped now) → count < length old.listed → AsksOne (asks stops) now (Ready (Some x)) new → GroupsGive asks old (Ready (Some x)) (stopped || stops) new
-  second_output count pending stopped stops now new x so more one = (
-    turns,
-    enumerate_from (length so.again_turns + 1) (waiting here_later),
-    record {
-      each = subst (λ (l : List X). AllZip (TakesTurn asks) l turns) (sym old_parts) zipped;
-      asked_before = enumerate_from (length so.again + length so.todo) round1 ++ enumerate_from 0 so.again_turns;
-      k = length so.again_turns;
-      last_stopped = stops;
-      left = here.left;
-      in_order = order;
-      no_output_before = each-append _ (enumerate_from (length so.again + length so.todo) round1) (enumerate_from 0 so.again_turns) (each-numbered GaveNoOutput _ round1 (each-append GaveNoOutput so.turns (last_turn ∷ []) so.none (so.none_last, tt))) (each-numbered GaveNoOutput 0 so.again_turns so.none_again);
-      none_asked_after = each-numbered NotAsked _ (waiting here_later) (waiting-not_asked A here_later);
-      leaves = here.leaves.0 ∙ ap (λ (l : List X). kept so.again_turns ++ here.left ∷ l) later_is ∙ sym stays;
-      goes_on = here.leaves.1 ∙ sym stands;
-      stops =
-          list_any-append (λ (t : Turn X A). t.stopped) front round1
-          ∙ ap (λ (b : Bool). b || any_stopped round1) (any_stopped-waiting so.again_turns turn here_later)
-          ∙ ap (λ (b : Bool). (any_stopped so.again_turns || stops) || b) (any_stopped-push so.turns last_turn)
-          ∙ or_last (any_stopped so.again_turns) (any_stopped so.turns || so.last_stopped) stops
-          ∙ ap (λ (b : Bool). b || stops) so.stops;
-    },
-  )
-    where
-      last_turn : Turn X A
-      last_turn = record { answer = Some so.answer; stopped = so.last_stopped; left = so.left }
-
-      round1 : List (Turn X A)
-      round1 = so.turns ++ last_turn ∷ []
-
-      rest : List X
-      rest = kept so.turns ++ so.left ∷ []
-
-      next_is : next_place now ≡ length (kept so.again_turns)
-      next_is = second_place count pending stopped now so
-
-      here : AsksHere (asks stops) (kept so.again_turns) (so.todo ++ rest) (Ready (Some x)) new
-      here = asks_here (asks stops) now new (Ready (Some x)) (kept so.again_turns) (so.todo ++ rest) one so.now_is next_is
-
-      todo_some : 0 < length so.todo
-      todo_some = second_some count pending stopped now so more
-
-      here_later : List X
-      here_later = drop 1 so.todo
-
-      split : (so.todo ≡ here.group ∷ here_later) × (here.later ≡ here_later ++ rest)
-      split = first_of so.todo rest here.group here.later todo_some here.rest_is
-
-      later_is : here.later ≡ here_later ++ rest
-      later_is = split.1
-
-      turn : Turn X A
-      turn = record { answer = Some (Ready (Some x)); stopped = stops; left = here.left }
-
-      front : List (Turn X A)
-      front = so.again_turns ++ turn ∷ waiting here_later
-
-      turns : List (Turn X A)
-      turns = front ++ round1
-
-      old_parts : old.listed ≡ (so.again ++ here.group ∷ here_later) ++ (so.asked ++ so.last ∷ [])
-      old_parts = so.old_is ∙ ap (λ (l : List X). so.again ++ (l ++ (so.asked ++ so.last ∷ []))) split.0 ∙ sym (append_assoc so.again (here.group ∷ here_later) (so.asked ++ so.last ∷ []))
-
-      zipped : AllZip (TakesTurn asks) ((so.again ++ here.group ∷ here_later) ++ (so.asked ++ so.last ∷ [])) turns
-      zipped = zip-append (TakesTurn asks) (so.again ++ here.group ∷ here_later) front _ _ (zip-append (TakesTurn asks) so.again so.again_turns _ _ so.each_again (here.asked, zip-waiting asks here_later)) (zip-append (TakesTurn asks) so.asked so.turns _ _ so.each (so.last_asked, tt))
-
-      long : length turns ≡ length old.listed
-      long = AllZip-long (TakesTurn asks) _ turns zipped ∙ ap length (sym old_parts)
-
-      again_long : length so.again_turns ≡ length so.again
-      again_long = AllZip-long (TakesTurn asks) so.again so.again_turns so.each_again
-
-      front_long : length front ≡ length so.again + length so.todo
-      front_long = omega (arith, length-append so.again_turns (turn ∷ waiting here_later), length-waiting A here_later, again_long, ap length split.0)
-
-      begins : (old.place ≡ length front) ⊎ ((length turns ≤ old.place) × (front ≡ []))
-      begins = elim so.begins [ inl e ↦ inl (e ∙ length-append so.again so.todo ∙ sym front_long) | inr h ↦ absurd (omega (arith, ap length h.1, length-append so.again so.todo, todo_some)) ]
-
-      order : round_from old.place (enumerate_from 0 turns) ≡ (enumerate_from (length so.again + length so.todo) round1 ++ enumerate_from 0 so.again_turns) ++ (length so.again_turns, turn) ∷ enumerate_from (length so.again_turns + 1) (waiting here_later)
-      order =
-          let same : 0 + length so.again_turns ≡ length so.again_turns = omega arith in
-          round-at old.place front round1 begins
-          ∙ ap (λ (k : ℕ). enumerate_from k round1 ++ enumerate_from 0 front) front_long
-          ∙ ap (λ (l : List (ℕ × Turn X A)). enumerate_from (length so.again + length so.todo) round1 ++ l) (enumerate-append 0 so.again_turns (turn ∷ waiting here_later) ∙ ap (λ (k : ℕ). enumerate_from 0 so.again_turns ++ enumerate_from k (turn ∷ waiting here_later)) same)
-          ∙ sym (append_assoc (enumerate_from (length so.again + length so.todo) round1) (enumerate_from 0 so.again_turns) (enumerate_from (length so.again_turns) (turn ∷ waiting here_later)))
-
-      turns_are : turns ≡ so.again_turns ++ turn ∷ (waiting here_later ++ round1)
-      turns_are = append_assoc so.again_turns (turn ∷ waiting here_later) round1
-
-      stays_behind : staying (turn ∷ (waiting here_later ++ round1)) ≡ here.left ∷ (here_later ++ rest)
-      stays_behind =
-          ap staying (sym (append_assoc (turn ∷ waiting here_later) so.turns (last_turn ∷ [])))
-          ∙ staying-append ((turn ∷ waiting here_later) ++ so.turns) last_turn []
-          ∙ ap (λ (l : List X). l ++ so.left ∷ []) (kept-append (turn ∷ waiting here_later) so.turns ∙ ap (λ (l : List X). here.left ∷ (l ++ kept so.turns)) (kept-waiting A here_later))
-          ∙ append_assoc (here.left ∷ here_later) (kept so.turns) (so.left ∷ [])
-
-      stays : staying turns ≡ kept so.again_turns ++ here.left ∷ (here_later ++ rest)
-      stays = ap staying turns_are ∙ staying-append so.again_turns turn (waiting here_later ++ round1) ∙ ap (λ (l : List X). kept so.again_turns ++ l) stays_behind
-
-      stands : stands_at turns (length so.again_turns) ≡ length (kept so.again_turns)
-      stands = ap (λ (l : List (Turn X A)). stands_at l (length so.again_turns)) turns_are ∙ stands-at so.again_turns (turn ∷ (waiting here_later ++ round1))
+  second_output count pending stopped stops now new x so more one =
+      let rest = kept so.turns ++ so.left ∷ [] in
+      let here = asks_here (asks stops) now new (Ready (Some x)) (kept so.again_turns) (so.todo ++ rest) one so.now_is (second_place count pending stopped now so) in
+      let todo_some = second_some count pending stopped now so more in
+      let split = first_of so.todo rest here.group here.later todo_some here.rest_is in
+      let later = drop 1 so.todo in
+      let old_is : old.listed ≡ (so.again ++ here.group ∷ later) ++ (so.asked ++ so.last ∷ []) = so.old_is ∙ ap (λ (l : List X). so.again ++ (l ++ (so.asked ++ so.last ∷ []))) split.0 ∙ sym (append_assoc so.again (here.group ∷ later) (so.asked ++ so.last ∷ [])) in
+      let place : old.place ≡ length (so.again ++ here.group ∷ later) = elim so.begins [ inl e ↦ e ∙ ap (λ (l : List X). length (so.again ++ l)) split.0 | inr h ↦ absurd (omega (arith, ap length h.1, length-append so.again so.todo, todo_some)) ] in
+      let stopped_so = so.stops in
+      (_, _, last_in_second count pending stopped now so (so.again ++ here.group ∷ later) later so.again_turns (Ready (Some x)) stops here.left (stopped || stops) new old_is place (zip-append (TakesTurn asks) so.again so.again_turns _ _ so.each_again (here.asked, zip-waiting asks later)) so.none_again (here.leaves.0 ∙ ap (λ (l : List X). kept so.again_turns ++ here.left ∷ l) split.1) (λ stands. here.leaves.1 ∙ sym stands) (grind arith))
 
   pub list_all-push : (turns : List (Turn X A)) (turn : Turn X A) → list_all ended (turns ++ turn ∷ []) ≡ (list_all ended turns && ended turn)
   list_all-push turns turn = let parts = list_all-append ended turns (turn ∷ []) in grind arith
