@@ -15,31 +15,6 @@ use Rattle.futures_buffered_unordered.specs.FuturesUnorderedBounded.{Bounded, On
 use Rattle.futures_buffered_unordered.proofs.HeldLemmas.{count-with, held_within, value_in-with_value}
 use Rattle.futures_buffered_unordered.proofs.HeldGivesLemmas.{Gathers-Within, Gathers-After, gives_passed, gives_output, gives_others}
 
-module _ {F A S : Type 0} (polled : ℕ → F → Poll A → F → Type 0) where
-  -- one poll
-  pub value_of : (steps : SourceSteps S) (old new : Bounded F S) (answer : Poll (Option A)) → PollGives polled steps old answer new → IfReady answer (ComesFrom polled old.slots [])
-  value_of steps old new (Ready None) h = record { each = tt; ends = sym h.0 }
-  value_of steps old new (Ready (Some x)) h =
-      let asks = h.1.2 in
-      record { each = tt; ends = (gives_passed polled asks.0 _ _ x asks.3.passes (gives_output polled _ _ _ x asks.4), h.0) }
-  value_of steps old new Pending h = tt
-
-  pub rest_of : (steps : SourceSteps S) (old new : Bounded F S) (answer : Poll (Option A)) → PollGives polled steps old answer new
-      → IfReady answer (λ o. OnSome o (held_count new.slots + 1 ≡ held_count old.slots)) → IfReady answer (λ o. IfSome o (λ x. After (ComesFrom polled old.slots) x (ComesFrom polled new.slots)))
-  rest_of steps old new (Ready None) h fewer = tt
-  rest_of steps old new (Ready (Some x)) h fewer =
-      let asks = h.1.2 in
-      let passed = λ (y : A). gives_passed polled asks.0 old.slots asks.2 y asks.3.passes in
-      Gathers-After {A = A} {P = AnyMayGive polled old.slots} {Q = AnyMayGive polled new.slots} (λ (y : A) (any : AnyMayGive polled new.slots y). passed y (gives_others polled _ _ _ x y asks.4 (subst (λ (b : Bounded F S). AnyMayGive polled b.slots y) h.1.3 any))) _ _ x fewer (passed x (gives_output polled _ _ _ x asks.4))
-  rest_of steps old new Pending h fewer = tt
-
-  pub same_of : (steps : SourceSteps S) (old new : Bounded F S) (answer : Poll (Option A)) → PollGives polled steps old answer new
-      → OnPending answer (held_count new.slots ≡ held_count old.slots) → OnPending answer (Within (ComesFrom polled old.slots) (ComesFrom polled new.slots))
-  same_of steps old new (Ready o) h same = tt
-  same_of steps old new Pending h same =
-      let asks = h.1 in
-      Gathers-Within {A = A} {P = AnyMayGive polled old.slots} {Q = AnyMayGive polled new.slots} (λ (y : A) (any : AnyMayGive polled new.slots y). gives_passed polled asks.0 _ _ y asks.3.passes any) _ _ same
-
 -- one value fewer, once a slot that held one is free
 count-freed : {F : Type 0} (m : Slots F) (i : ℕ) (f : F) → Some f ≡ value_in m i → held_count (with_slot_freed m i) + 1 ≡ held_count m
 count-freed {F} m i f found = omega (arith, rw (← found) at (sum_by-set (λ (o : Option F). cond (is_some o) 1 0) m.places i None None (held_within m i f found)))
@@ -87,6 +62,23 @@ module _ {F A S : Type 0} (polled : ℕ → F → Poll A → F → Type 0) (step
   poll_still y group left Pending h any =
       let asks = h.1 in
       gives_passed polled asks.0 _ _ y asks.3.passes any
+
+  -- one poll
+  pub value_of : (old new : Bounded F S) (answer : Poll (Option A)) → PollGives polled steps old answer new → IfReady answer (ComesFrom polled old.slots [])
+  value_of old new (Ready None) h = record { each = tt; ends = sym h.0 }
+  value_of old new (Ready (Some x)) h = record { each = tt; ends = (poll_gave x old new h, h.0) }
+  value_of old new Pending h = tt
+
+  pub rest_of : (old new : Bounded F S) (answer : Poll (Option A)) → PollGives polled steps old answer new
+      → IfReady answer (λ o. OnSome o (held_count new.slots + 1 ≡ held_count old.slots)) → IfReady answer (λ o. IfSome o (λ x. After (ComesFrom polled old.slots) x (ComesFrom polled new.slots)))
+  rest_of old new (Ready None) h fewer = tt
+  rest_of old new (Ready (Some x)) h fewer = Gathers-After {A = A} {P = AnyMayGive polled old.slots} {Q = AnyMayGive polled new.slots} (λ y. poll_still y old new (Ready (Some x)) h) _ _ x fewer (poll_gave x old new h)
+  rest_of old new Pending h fewer = tt
+
+  pub same_of : (old new : Bounded F S) (answer : Poll (Option A)) → PollGives polled steps old answer new
+      → OnPending answer (held_count new.slots ≡ held_count old.slots) → OnPending answer (Within (ComesFrom polled old.slots) (ComesFrom polled new.slots))
+  same_of old new (Ready o) h same = tt
+  same_of old new Pending h same = Gathers-Within {A = A} {P = AnyMayGive polled old.slots} {Q = AnyMayGive polled new.slots} (λ y. poll_still y old new Pending h) _ _ same
 
 -- no registration, and one
 pub registers_none : {S : Type 0} (registers_poll : S → Context → Context → Type 0) (old new : Context) → new ≡ old → OnlyRegisters registers_poll old new

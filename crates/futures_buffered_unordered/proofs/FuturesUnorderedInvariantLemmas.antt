@@ -117,13 +117,9 @@ module _ {F S : Type 0} (needs : S → ℕ → Type 0) where
         (λ j d lt. All-set (λ (b : Bounded F S). WaitsAlike needs (get_or gs j d).source b.source) gs q left (to_left alike j d lt) (alike j d lt))
 
   module _ {A : Type 0} (g : Groups (Bounded F S)) (limit held q : ℕ) (group left : Bounded F S) (answer : Poll (Option A)) (k : KeepsGroups needs g limit held) (here : q ≡ next_place g) (within : q < length g.listed) (is : group ≡ get_or g.listed q group) (kept : KeepsGroup needs group answer left) where
-    -- no more values left the group than are held
-    pub some_asked : held_in group - held_in left ≤ held
-    some_asked = omega (arith, k.counted, get_or-le-sum_by held_in g.listed q group within, ap (λ (b : Bounded F S). held_in b) is, kept.fewer)
-
     -- what is held now, by the numbers that were counted before and after
     pub counts_asked : (now before after : ℕ) → before ≡ held_in group → after ≡ held_in left → now ≡ held - (before - after) → now + (held_in group - held_in left) ≡ held
-    counts_asked now before after before_is after_is now_is = omega (arith, before_is, after_is, now_is, some_asked, kept.fewer)
+    counts_asked now before after before_is after_is now_is = omega (arith, before_is, after_is, now_is, k.counted, get_or-le-sum_by held_in g.listed q group within, ap (λ (b : Bounded F S). held_in b) is, kept.fewer)
 
     -- once the group at the place was asked, that is the place
     pub keeps_asked : (now : ℕ) → now + (held_in group - held_in left) ≡ held → KeepsGroups needs (record { listed = set g.listed q left; place = q }) limit now

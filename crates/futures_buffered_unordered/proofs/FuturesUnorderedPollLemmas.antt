@@ -1,5 +1,5 @@
 -- What one poll makes of groups, by what holds of each group that is asked.
-use Rattle.std.proofs.Common.{◌≡◌, ◌⊎◌, ℕ, zero, suc, ◌+◌, Bool, true, false, ◌<◌, cond, ◌&&◌, ◌↔◌, MatchOption, List, [], ◌∷◌, ◌++◌, take, drop, Option, Some, None, refl, sym, ap, subst, inl, inr, arith}
+use Rattle.std.proofs.Common.{◌≡◌, ◌≢◌, ◌⊎◌, ℕ, zero, suc, ◌+◌, Bool, true, false, ◌<◌, cond, ◌&&◌, ◌↔◌, MatchOption, List, [], ◌∷◌, ◌++◌, take, drop, Option, Some, None, refl, sym, ap, subst, inl, inr, arith}
 use Rattle.std.specs.List.{AllZip, AllByRecursion, enumerate_from, list_all, sum_by}
 use Rattle.std.proofs.lemmas.List.{take-append-drop}
 use Rattle.std.proofs.lemmas.List.Sums.{sum_by-cons, sum_by-append, sum_by-take-drop}
@@ -174,20 +174,14 @@ no_outputs : {A : Type 0} (answer : Poll (Option A)) → NoOutput answer → out
 no_outputs answer none = grind arith
 
 module _ {A : Type 0} where
-  ends_pending : (held : ℕ) → 0 < held → (◌≡◌ {A = Poll (Option A)} Pending (Ready None)) ↔ (held ≡ 0)
-  ends_pending held some = (λ e. absurd cc, λ e. absurd (omega (arith, e, some)))
-
-  ends_some : (held : ℕ) (x : A) → 0 < held → (◌≡◌ {A = Poll (Option A)} (Ready (Some x)) (Ready None)) ↔ (held ≡ 0)
-  ends_some held x some = (λ e. absurd cc, λ e. absurd (omega (arith, e, some)))
+  goes_on : (answer : Poll (Option A)) (held : ℕ) → answer ≢ Ready None → 0 < held → (answer ≡ Ready None) ↔ (held ≡ 0)
+  goes_on answer held other some = (λ e. absurd (other e), λ e. absurd (omega (arith, e, some)))
 
   ends_none : (held : ℕ) → held ≡ 0 → (◌≡◌ {A = Poll (Option A)} (Ready None) (Ready None)) ↔ (held ≡ 0)
   ends_none held none = (λ e. none, λ e. refl)
 
 module _ {F A S : Type 0} (asks : Bounded F S → Poll (Option A) → Bounded F S → Type 0)
     (end_is_empty : (old new : Bounded F S) → asks old (Ready None) new → held_in new ≡ 0) (pending_holds : (old new : Bounded F S) → asks old Pending new → 0 < held_in new) where
-  both_true : (a b : Bool) → (a && b) ≡ true → (a ≡ true) × (b ≡ true)
-  both_true a b e = grind arith
-
   -- what a turn leaves
   ended_left : (group left : Bounded F S) (b : Bool) (o : Option (Poll (Option A))) → MatchOption o ((left ≡ group) × (b ≡ false)) (λ answer. asks group answer left) → is_end o ≡ true → held_in left ≡ 0
   ended_left group left b o h e = grind (arith, end_is_empty)
@@ -196,10 +190,8 @@ module _ {F A S : Type 0} (asks : Bounded F S → Poll (Option A) → Bounded F 
   going_left group left b o h asked e = grind (arith, pending_holds)
 
   all_ended : (groups : List (Bounded F S)) (turns : List (Turn (Bounded F S) A)) → AllZip (TakesTurn (λ _. asks)) groups turns → list_all ended turns ≡ true → held_in_all (staying turns) ≡ 0
-  all_ended (g ∷ []) (t ∷ []) zip e = omega (arith, ended_left g t.left t.stopped t.answer zip.0 (both_true (ended t) true e).0)
-  all_ended (g ∷ h ∷ gs) (t ∷ u ∷ ts) zip e =
-      let both = both_true (ended t) (list_all ended (u ∷ ts)) e in
-      rw both.0 (all_ended (h ∷ gs) (u ∷ ts) zip.1 both.1)
+  all_ended (g ∷ []) (t ∷ []) zip e = let first = ended_left g t.left t.stopped t.answer zip.0 in grind arith
+  all_ended (g ∷ h ∷ gs) (t ∷ u ∷ ts) zip e = let rest = all_ended (h ∷ gs) (u ∷ ts) zip.1 in grind arith
   all_ended groups turns zip e = grind arith
 
   holds_more : (group : Bounded F S) (groups : List (Bounded F S)) → 0 < held_in group → 0 < held_in_all (group ∷ groups)
@@ -240,8 +232,8 @@ module _ {F A S : Type 0} (asks : Bounded F S → Poll (Option A) → Bounded F 
     -- the answer is the end where nothing is left
     pub ends_empty : (old new : Groups (Bounded F S)) (stopped : Bool) (answer : Poll (Option A)) → GroupsGive (λ _. asks) old answer stopped new → (answer ≡ Ready None) ↔ (held_in_all new.listed ≡ 0)
     ends_empty old new stopped (Ready None) h = ends_none _ (groups_ended old new stopped h)
-    ends_empty old new stopped (Ready (Some x)) h = ends_some _ x (rw h.2.leaves (one_stays x old.listed h.0 h.2.each (gave_output (λ _. asks) old new stopped x h)))
-    ends_empty old new stopped Pending h = ends_pending _ (groups_pending old new stopped h)
+    ends_empty old new stopped (Ready (Some x)) h = goes_on _ _ (λ e. cc) (rw h.2.leaves (one_stays x old.listed h.0 h.2.each (gave_output (λ _. asks) old new stopped x h)))
+    ends_empty old new stopped Pending h = goes_on _ _ (λ e. cc) (groups_pending old new stopped h)
 
   -- where an output is of one of the values, and nothing else is lost
   module _ (counted : (old new : Bounded F S) (answer : Poll (Option A)) → asks old answer new → held_in new + outputs_in answer ≡ held_in old) where
@@ -252,8 +244,8 @@ module _ {F A S : Type 0} (asks : Bounded F S → Poll (Option A) → Bounded F 
     -- the answer is the end where nothing was held
     pub ends_none_held : (old new : Groups (Bounded F S)) (stopped : Bool) (answer : Poll (Option A)) → GroupsGive (λ _. asks) old answer stopped new → (answer ≡ Ready None) ↔ (held_in_all old.listed ≡ 0)
     ends_none_held old new stopped (Ready None) h = ends_none _ (omega (arith, groups_counted old new stopped (Ready None) h, groups_ended old new stopped h))
-    ends_none_held old new stopped (Ready (Some x)) h = ends_some _ x (omega (arith, groups_counted old new stopped (Ready (Some x)) h))
-    ends_none_held old new stopped Pending h = ends_pending _ (omega (arith, groups_counted old new stopped Pending h, groups_pending old new stopped h))
+    ends_none_held old new stopped (Ready (Some x)) h = goes_on _ _ (λ e. cc) (omega (arith, groups_counted old new stopped (Ready (Some x)) h))
+    ends_none_held old new stopped Pending h = goes_on _ _ (λ e. cc) (omega (arith, groups_counted old new stopped Pending h, groups_pending old new stopped h))
 
 -- what is told of each group that is asked may be told otherwise
 module _ {X A : Type 0} (asks gives : Bool → X → Poll (Option A) → X → Type 0) (told : (stopped : Bool) (old new : X) (answer : Poll (Option A)) → asks stopped old answer new → gives stopped old answer new) where

@@ -10,11 +10,6 @@ use Rattle.futures_buffered_unordered.specs.Groups.{Groups, Turn, NoOutput, is_e
 use Rattle.futures_buffered_unordered.specs.GroupsStep.{AsksOne, LeavesBetween, next_place}
 use Rattle.futures_buffered_unordered.proofs.GroupsLemmas.{any_stopped, any_stopped-push, any_stopped-waiting, waiting-not_stopped, NotAsked, GaveNoOutput, TakesTurn, enumerate-append, round-at, each-numbered, each-append, zip-append, waiting, kept, length-waiting, kept-waiting, waiting-not_asked, kept-append, staying-append, staying-before_waiting, kept-push, stands-at, AsksHere, zip-waiting, asks_here, is_pending, behind_last, next_at, next_zero, gone, after_group, after_last}
 
--- the first of a list, or else x
-head_or : {X : Type 0} → X → List X → X
-head_or x [] = x
-head_or x (y ∷ ys) = y
-
 module _ {X A : Type 0} (asks : Bool → X → Poll (Option A) → X → Type 0) (old : Groups X) where
   -- the groups from the place on are asked, and one of them is next
   pub record First (count : ℕ) (pending stopped : Bool) (now : Groups X) : Type 0 where
@@ -125,7 +120,6 @@ module _ {X A : Type 0} (asks : Bool → X → Poll (Option A) → X → Type 0)
       )
 
   pub first_of : (xs ys : List X) (z : X) (zs : List X) → 0 < length xs → xs ++ ys ≡ z ∷ zs → (xs ≡ z ∷ drop 1 xs) × (zs ≡ drop 1 xs ++ ys)
-  unfolding head_or
   first_of xs ys z zs some e = grind arith
 
   -- the last of the list was asked, and the group that was asked last stands before the place

@@ -12,14 +12,6 @@ ask_one-requires-clause-some g c =
     let long = ap (λ (v : Growing g.row.F.Denot g.row.S.Denot). length v.groups.listed) c.self.view_is in
     so_far_some g.R.AskGroup.asks c.args.self.now.groups _ _ _ _ c.loop-asked.invariant.so_far.1 (omega (arith, long))
 
-pub ask_one-requires-clause-pollable : goal.ask_one-requires-clause-pollable
-ask_one-requires-clause-pollable g c =
-    c.loop-asked.invariant.pollable
-
-pub ask_one-requires-clause-registered : goal.ask_one-requires-clause-registered
-ask_one-requires-clause-registered g c =
-    c.loop-asked.invariant.covered
-
 pub loop-asked-init : goal.loop-asked-init
 loop-asked-init g c =
     let within = subst (λ (v : Growing g.row.F.Denot g.row.S.Denot). v.groups.place ≤ length v.groups.listed) c.self.view_is c.self.invariant.place_within in

@@ -1,15 +1,8 @@
+use Rattle.std.proofs.Common.{arith}
 use Rattle.futures_buffered_unordered.proofs.FuturesUnorderedStreamLemmas.{answers_as_stream}
 use Rattle.futures_buffered_unordered.proofs.growing_stream.FuturesUnorderedStream.TheImpl.Goals as goal
 
 pub poll_next-tells : goal.poll_next-tells
 poll_next-tells g x c =
     let answers = answers_as_stream _ g.S.ReadySource _ _ _ _ _ c.ensures in
-    record {
-      value = answers.value;
-      rest = answers.rest;
-      goes = answers.goes;
-      again = answers.again;
-      same = answers.same;
-      registered = answers.registered;
-      kept = answers.kept;
-    }
+    grind arith
