@@ -166,7 +166,14 @@ module _ {F S : Type 0} (made : ℕ → S → Type 0) where
   new_with n limit start set some is adds =
       inr (
         some,
-        (adds.group, subst (λ (v : Growing F S). IsNewSet made n v.limit adds.group) is adds.is_new, let listed = adds.listed in let place = adds.same_place in let limit = adds.same_limit in grind arith),
+        (
+          adds.group,
+          subst (λ (v : Growing F S). IsNewSet made n v.limit adds.group) is adds.is_new,
+          let listed = adds.listed in
+          let place = adds.same_place in
+          let limit = adds.same_limit in
+          grind arith,
+        ),
       )
 
 module _ {F S : Type 0} (needs : S → ℕ → Type 0) (cx : Context) where

@@ -125,7 +125,10 @@ module _ {X A : Type 0} where
 
   pub count-kept : (ps : List (Turn X A)) → count_by (λ (turn : Turn X A). not (ended turn)) ps ≡ length (kept ps)
   count-kept [] = refl
-  count-kept (p ∷ ps) = let rest = count-kept ps in let first = sum_by-cons (λ (turn : Turn X A). cond (not (ended turn)) 1 0) p ps in grind arith
+  count-kept (p ∷ ps) =
+      let rest = count-kept ps in
+      let first = sum_by-cons (λ (turn : Turn X A). cond (not (ended turn)) 1 0) p ps in
+      grind arith
 
   -- group k stands behind those before it that stay
   pub stands-at : (ps qs : List (Turn X A)) → stands_at (ps ++ qs) (length ps) ≡ length (kept ps)

@@ -133,7 +133,9 @@ module _ {X A : Type 0} (asks : Bool → X → Poll (Option A) → X → Type 0)
   so_far_end count pending stopped now (inl none) all = grind arith
   so_far_end count pending stopped now (inr (inl so)) all =
       absurd (omega (arith, all, so.counted, so.some, AllZip-long (TakesTurn asks) so.asked so.turns so.each, ap length so.old_is, length-append so.before (so.asked ++ so.todo), length-append so.asked so.todo))
-  so_far_end count pending stopped now (inr (inr so)) all = let gave : AsksAll asks old (not pending) stopped now = elim so.place [ inl h ↦ end_at_last count pending stopped now so todo_is h.0 h.1 | inr h ↦ end_before count pending stopped now so todo_is h.0 h.1 ] in grind arith
+  so_far_end count pending stopped now (inr (inr so)) all =
+      let gave : AsksAll asks old (not pending) stopped now = elim so.place [ inl h ↦ end_at_last count pending stopped now so todo_is h.0 h.1 | inr h ↦ end_before count pending stopped now so todo_is h.0 h.1 ] in
+      grind arith
     where
       todo_is : so.todo ≡ []
       todo_is = from_no_length so.todo (omega (arith, all, so.counted, ap length so.old_is, length-append so.again (so.todo ++ (so.asked ++ so.last ∷ [])), length-append so.todo (so.asked ++ so.last ∷ []), length_push so.asked so.last, AllZip-long (TakesTurn asks) so.again so.again_turns so.each_again, AllZip-long (TakesTurn asks) so.asked so.turns so.each))

@@ -81,12 +81,19 @@ module _ {X A : Type 0} (asks : Bool → X → Poll (Option A) → X → Type 0)
           k = length before + length turns;
           last_stopped = stops;
           left = left;
-          in_order = let round = round-at old.place (waiting before) (turns ++ last_turn ∷ waiting later) begins_at in let numbered = enumerate-append (length before) turns (last_turn ∷ waiting later) in grind (arith, append_assoc);
+          in_order =
+              let round = round-at old.place (waiting before) (turns ++ last_turn ∷ waiting later) begins_at in
+              let numbered = enumerate-append (length before) turns (last_turn ∷ waiting later) in
+              grind (arith, append_assoc);
           no_output_before = each-numbered GaveNoOutput (length before) turns none;
           none_asked_after = each-append _ (enumerate_from (length before + length turns + 1) (waiting later)) (enumerate_from 0 (waiting before)) (each-numbered NotAsked _ (waiting later) (waiting-not_asked A later)) (each-numbered NotAsked 0 (waiting before) (waiting-not_asked A before));
           leaves = let stay = staying-append front last_turn (waiting later) in grind arith;
           goes_on = goes_on stands;
-          stops = let all = list_any-append (λ (t : Turn X A). t.stopped) (waiting before) (turns ++ last_turn ∷ waiting later) in let none_before = waiting-not_stopped A before in let rest = any_stopped-waiting turns last_turn later in grind arith;
+          stops =
+              let all = list_any-append (λ (t : Turn X A). t.stopped) (waiting before) (turns ++ last_turn ∷ waiting later) in
+              let none_before = waiting-not_stopped A before in
+              let rest = any_stopped-waiting turns last_turn later in
+              grind arith;
         }
 
   -- an output before the end of the list is come to
@@ -147,7 +154,10 @@ module _ {X A : Type 0} (asks : Bool → X → Poll (Option A) → X → Type 0)
           k = length turns;
           last_stopped = stops;
           left = left;
-          in_order = let round = round-at old.place again_turns round_turns (inl (omega (arith, place, long))) in let numbered = enumerate-append 0 turns (turn ∷ waiting later) in grind (arith, append_assoc);
+          in_order =
+              let round = round-at old.place again_turns round_turns (inl (omega (arith, place, long))) in
+              let numbered = enumerate-append 0 turns (turn ∷ waiting later) in
+              grind (arith, append_assoc);
           no_output_before = each-append _ (enumerate_from (length groups) round_turns) (enumerate_from 0 turns) (each-numbered GaveNoOutput _ round_turns (each-append GaveNoOutput so.turns (last_turn ∷ []) so.none (so.none_last, tt))) (each-numbered GaveNoOutput 0 turns none);
           none_asked_after = each-numbered NotAsked _ (waiting later) (waiting-not_asked A later);
           leaves =
@@ -273,8 +283,14 @@ module _ {X A : Type 0} (asks : Bool → X → Poll (Option A) → X → Type 0)
         now_is = left_is.0 ∙ ap (λ (l : List X). kept so.again_turns ++ (gone answer here.left ++ l)) split.1 ∙ sym (append_assoc (kept so.again_turns) (gone answer here.left) (later ++ rest)) ∙ ap (λ (l : List X). l ++ (later ++ rest)) (sym kept_is);
         place = inr (omega (arith, length_push so.again_turns turn), left_is.1 ∙ sym (length-append (kept so.again_turns) (gone answer here.left)) ∙ ap length (sym kept_is));
         counted = omega (arith, so.counted, length_push so.again_turns turn);
-        ends = let more = list_all-push so.again_turns turn in let ends = so.ends in grind arith;
-        stops = let more = any_stopped-push so.again_turns turn in let stopped_before = so.stops in grind arith;
+        ends =
+            let more = list_all-push so.again_turns turn in
+            let ended_before = so.ends in
+            grind arith;
+        stops =
+            let more = any_stopped-push so.again_turns turn in
+            let stopped_before = so.stops in
+            grind arith;
       }
     where
       rest : List X
