@@ -238,8 +238,7 @@ module _ {X A : Type 0} (asks : Bool → X → Poll (Option A) → X → Type 0)
       by_later (next ∷ later) is leaves =
           let left_is = after_group earlier (next ∷ later) here.left answer new (omega arith) no_output leaves in
           let kept_is = kept-push so.turns turn in
-          let now_is : new.listed ≡ so.before ++ (kept (so.turns ++ turn ∷ []) ++ next ∷ later) = left_is.0 ∙ append_assoc so.before (kept so.turns) (gone answer here.left ++ next ∷ later)
-          ∙ ap (λ (l : List X). so.before ++ l) (sym (append_assoc (kept so.turns) (gone answer here.left) (next ∷ later)) ∙ ap (λ (l : List X). l ++ next ∷ later) (sym kept_is)) in
+          let now_is : new.listed ≡ so.before ++ (kept (so.turns ++ turn ∷ []) ++ next ∷ later) = let listed = left_is.0 in grind (arith, append_assoc) in
           let place_is : new.place ≡ length so.before + length (kept (so.turns ++ turn ∷ [])) = omega (arith, left_is.1, length-append so.before (kept so.turns), ap length kept_is, length-append (kept so.turns) (gone answer here.left)) in
           inl (record {
             before = so.before;

@@ -2,7 +2,7 @@
 use Rattle.std.proofs.Common.{◌≡◌, ◌≢◌, ℕ, suc, ◌+◌, ◌<◌, List, [], ◌∷◌, ◌++◌, length, take, drop, set, get_or, Option, Some, None, is_some, true, false, refl, sym, ap, subst, arith, ◌∙◌}
 use Rattle.std.specs.List.{All}
 use Rattle.std.proofs.lemmas.List.Elements.{All-append}
-use Rattle.std.proofs.lemmas.List.{get_or-take, get_or-drop, length-take, take-append-drop, drop_all, drop_more, set_split, take_at, drop_at, length-drop, length-take-le, append_assoc, length_push}
+use Rattle.std.proofs.lemmas.List.{get_or-take, get_or-drop, length-take, take-append-drop, take-set, drop-set-lt, drop_all, drop_more, set_split, length-drop, length-take-le}
 use Rattle.futures.specs.declared.task.Poll.{Poll}
 use Rattle.futures.specs.declared.task.Poll.TheVariants.{Ready, Pending}
 use Rattle.futures_buffered_unordered.specs.Groups.{Groups}
@@ -56,20 +56,9 @@ module _ {X A : Type 0} (asks : X → Poll (Option A) → X → Type 0) (old : G
       → removed ≡ take place (set old.listed place left) ++ drop (place + 1) (set old.listed place left)
       → AsksOne asks old answer (record { listed = removed; place = place })
   one_left answer o removed e f here within more is asked without =
-      at_place answer _ here within is asked (rw (e, from_none o f) (by_rest (drop (place + 1) old.listed) (omega (arith, length-drop (place + 1) old.listed, some_more)) (without ∙ now)))
+      let now : removed ≡ take place old.listed ++ drop (place + 1) old.listed = rw (take-set old.listed place left, drop-set-lt (place + 1) old.listed place left (omega arith)) at without in
+      at_place answer _ here within is asked (rw (e, from_none o f) (by_rest (drop (place + 1) old.listed) (omega (arith, length-drop (place + 1) old.listed, within, more)) now))
     where
-      some_more : place + 1 < length old.listed
-      some_more = omega (arith, within, more)
-
-      now : take place (set old.listed place left) ++ drop (place + 1) (set old.listed place left) ≡ take place old.listed ++ drop (place + 1) old.listed
-      now =
-          let is_set = split_set old.listed place left within in
-          let taken = length-take-le place old.listed (omega (arith, within)) in
-          let front : take place (set old.listed place left) ≡ take place old.listed = rw is_set (take_at (take place old.listed) (left ∷ drop (place + 1) old.listed) place taken) in
-          let pushed : length (take place old.listed ++ left ∷ []) ≡ place + 1 = length_push (take place old.listed) left ∙ ap (λ (n : ℕ). n + 1) taken in
-          let back : drop (place + 1) (set old.listed place left) ≡ drop (place + 1) old.listed = rw (is_set, ← append_assoc (take place old.listed) (left ∷ []) (drop (place + 1) old.listed)) (drop_at (take place old.listed ++ left ∷ []) (drop (place + 1) old.listed) (place + 1) pushed) in
-          rw (front, back) refl
-
       by_rest : (rest : List X) → 0 < length rest → removed ≡ take place old.listed ++ rest
           → LeavesBetween {A = A} (take place old.listed) rest left (Ready None) (record { listed = removed; place = place })
       by_rest rest some is = let long = length-take-le place old.listed (omega (arith, within)) in grind arith
