@@ -1,8 +1,7 @@
 -- What a poll of groups keeps of their invariant.
-use Rattle.std.proofs.Common.{◌≡◌, ◌≢◌, ℕ, zero, suc, ◌+◌, ◌-◌, ◌<◌, ◌≤◌, false, List, [], ◌∷◌, ◌++◌, length, take, drop, set, get_or, Option, IfNone, is_some, refl, sym, ap, subst, inl, inr, arith, length-set, ◌∙◌}
+use Rattle.std.proofs.Common.{◌≡◌, ◌≢◌, ℕ, zero, suc, ◌+◌, ◌-◌, ◌<◌, ◌≤◌, false, List, [], ◌∷◌, ◌++◌, length, take, drop, set, get_or, Option, IfNone, is_some, refl, sym, ap, subst, arith, length-set, ◌∙◌}
 use Rattle.std.specs.List.{All}
 use Rattle.std.proofs.lemmas.Bool.Decides.{nat_tests}
-use Rattle.std.proofs.lemmas.Bool.{cases_eq}
 use Rattle.std.proofs.lemmas.List.{get_or-set_same, get_or-set_other, get_or-take, get_or-drop, get_or_append_left, get_or-append_right, length-append, length-take-le, length-drop}
 use Rattle.std.proofs.lemmas.List.Elements.{All-set}
 use Rattle.std.proofs.lemmas.List.Sums.{sum_by-set, sum_by-append, sum_by_more, sum_by-take-drop, get_or-le-sum_by}
@@ -63,16 +62,7 @@ module _ {F S : Type 0} (needs : S → ℕ → Type 0) where
   module _ (gs : List (Bounded F S)) (limit held q : ℕ) (k : KeepsGroups needs (record { listed = gs; place = q }) limit held) (within : q < length gs) where
     -- the group at the place holds a future, and the next poll begins behind it
     pub keeps_behind : (d : Bounded F S) → 0 < held_in (get_or gs q d) → KeepsGroups needs (record { listed = gs; place = q + 1 }) limit held
-    keeps_behind d some =
-        record {
-          place_within = omega (arith, within);
-          some_names = k.some_names;
-          each = k.each;
-          alike = k.alike;
-          others = λ j e lt other. elim (cases_eq j q) [ inl same ↦ rw (same, same_or gs q e d within) some | inr apart ↦ k.others j e lt apart ];
-          counted = k.counted;
-          few = k.few;
-        }
+    keeps_behind d some = let same = same_or gs q in grind arith
 
     -- the group at the place is the last, and the next poll begins with the first
     pub keeps_last : q + 1 ≡ length gs → KeepsGroups needs (record { listed = gs; place = 0 }) limit held

@@ -55,8 +55,7 @@ module _ {X A : Type 0} (asks : X → Poll (Option A) → X → Type 0) (P : X �
 
   module _ (before : (group left : X) (answer : Poll (Option A)) → asks group answer left → P left → P group) where
     before_turn : (group left : X) (b : Bool) (o : Option (Poll (Option A))) → MatchOption o ((left ≡ group) × (b ≡ false)) (λ answer. asks group answer left) → P left → P group
-    before_turn group left b None same here = subst P same.0 here
-    before_turn group left b (Some answer) asked here = before group left answer asked here
+    before_turn group left b o asked here = grind (arith, before)
 
     -- what holds of a group that stays held of one before
     any_staying : (groups : List X) (turns : List (Turn X A)) → AllZip (TakesTurn (λ _. asks)) groups turns → AnyOf P (staying turns) → AnyOf P groups
@@ -109,8 +108,7 @@ module _ {X A : Type 0} (asks : X → Poll (Option A) → X → Type 0) (weight 
   turn_out (Some answer) = out answer
 
   one_turn : (group left : X) (b : Bool) (o : Option (Poll (Option A))) → MatchOption o ((left ≡ group) × (b ≡ false)) (λ answer. asks group answer left) → weight left + turn_out o ≡ weight group
-  one_turn group left b None same = omega (arith, ap weight same.0)
-  one_turn group left b (Some answer) asked = step group left answer asked
+  one_turn group left b o asked = grind (arith, step)
 
   end_none : (group left : X) (b : Bool) (o : Option (Poll (Option A))) → MatchOption o ((left ≡ group) × (b ≡ false)) (λ answer. asks group answer left) → is_end o ≡ true → weight left ≡ 0
   end_none group left b o h e = grind (arith, ended_none)
@@ -250,8 +248,7 @@ module _ {F A S : Type 0} (asks : Bounded F S → Poll (Option A) → Bounded F 
 -- what is told of each group that is asked may be told otherwise
 module _ {X A : Type 0} (asks gives : Bool → X → Poll (Option A) → X → Type 0) (told : (stopped : Bool) (old new : X) (answer : Poll (Option A)) → asks stopped old answer new → gives stopped old answer new) where
   turn_told : (group left : X) (b : Bool) (o : Option (Poll (Option A))) → MatchOption o ((left ≡ group) × (b ≡ false)) (λ answer. asks b group answer left) → MatchOption o ((left ≡ group) × (b ≡ false)) (λ answer. gives b group answer left)
-  turn_told group left b None h = h
-  turn_told group left b (Some answer) h = told b group left answer h
+  turn_told group left b o h = grind (arith, told)
 
   turns_told : (groups : List X) (turns : List (Turn X A)) → AllZip (TakesTurn asks) groups turns → AllZip (TakesTurn gives) groups turns
   turns_told [] [] zip = tt

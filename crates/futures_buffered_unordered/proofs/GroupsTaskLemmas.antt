@@ -4,18 +4,13 @@ use Rattle.futures.specs.Task.{Keeps}
 use Rattle.futures.specs.declared.task.context.Context.{Context}
 use Rattle.futures.specs.declared.task.Poll.{Poll}
 use Rattle.futures.specs.declared.task.Poll.TheVariants.{Ready, Pending}
-use Rattle.futures_buffered_unordered.specs.FuturesUnorderedBounded.{IsWoken}
 use Rattle.futures_buffered_unordered.specs.Groups.{Groups, GroupsGive, WakesIf}
 use Rattle.futures_buffered_unordered.specs.GroupsStep.{AsksNext}
 use Rattle.futures_buffered_unordered.proofs.GroupsPollLemmas.{SoFar, so_far_end, so_far_none, so_far_none_left, so_far_pending, so_far_some_left}
 
--- a task that was woken stays so until its poll ends
-pub woken_stays : (mid left : Context) → Keeps mid left → IsWoken mid → IsWoken left
-woken_stays mid left kept woken = λ s. kept _ (woken s)
-
--- one asks after another, and each may stop
+-- one asks after another, and each may stop; a task that was woken stays so until its poll ends
 pub wakes_on : (registers : Context → Context → Type 0) (first then : Bool) (cx mid left : Context) → (registers cx mid → registers mid left → registers cx left) → Keeps mid left → WakesIf first registers cx mid → WakesIf then registers mid left → WakesIf (first || then) registers cx left
-wakes_on registers first then cx mid left more kept before after = grind (arith, woken_stays)
+wakes_on registers first then cx mid left more kept before after = grind arith
 
 module _ {X A : Type 0} (asks : Bool → X → Poll (Option A) → X → Type 0) (registers : Context → Context → Type 0) (old : Groups X) where
   -- the groups that were asked so far, and what they left of the task

@@ -171,9 +171,6 @@ module _ {R F W A S : Type 0} (rule : PollOneOf R F W A) (source : ReadySourceOf
         passes = rw same asks.takes.passes;
       }
 
-  waits_of : (limit : ℕ) (names : List ℕ) (last : Option Taken) (cx left : Context) → EndsPending limit (length names) last cx left → EndsWaiting limit names last
-  waits_of limit names last cx left h = grind arith
-
   pub until_of : (old new : Bounded F S) (answer : Poll (ℕ × A)) (cx left : Context) → RegistersAndTakes rule source old answer new cx left
       → AsksUntil rule.polled (record { registers = registers; takes = source.steps.takes }) old answer new
   until_of old new (Ready (i, x)) cx left asks =
@@ -181,7 +178,8 @@ module _ {R F W A S : Type 0} (rule : PollOneOf R F W A) (source : ReadySourceOf
       (it.names, it.ends.0, it.passed, asks_of old new (Ready (i, x)) cx left asks (Some (Slot i)) it.passed it.ends.1 refl, it.ends.2, it.limit)
   until_of old new Pending cx left asks =
       let it = asks.takes in
-      (it.names, it.last, waits_of old.limit it.names it.last _ _ it.ends.1, asks_of old new Pending cx left asks it.last new.slots refl it.ends.0, it.limit)
+      let waits : EndsWaiting old.limit it.names it.last = let ended = it.ends.1 in grind arith in
+      (it.names, it.last, waits, asks_of old new Pending cx left asks it.last new.slots refl it.ends.0, it.limit)
 
   pub gives_of : (old new : Bounded F S) (answer : Poll (Option A)) (cx left : Context) → PollsBounded rule source old answer new cx left
       → PollGives rule.polled (record { registers = registers; takes = source.steps.takes }) old answer new
