@@ -170,9 +170,9 @@ module _ {F S : Type 0} (made : ℕ → S → Type 0) where
           adds.group,
           subst (λ (v : Growing F S). IsNewSet made n v.limit adds.group) is adds.is_new,
           let listed = adds.listed in
-          let place = adds.same_place in
-          let limit = adds.same_limit in
-          grind arith,
+              let place = adds.same_place in
+              let limit = adds.same_limit in
+              grind arith,
         ),
       )
 
