@@ -1,5 +1,5 @@
 -- From one count of names of a set to a poll of its streams.
-use Rattle.std.proofs.Common.{◌≡◌, ◌+◌, ℕ, Bool, true, false, List, [], ◌∷◌, Option, Some, None, IfNone, OnSome, ◌<◌, refl, ap, subst, inl, inr, arith, ◌∙◌}
+use Rattle.std.proofs.Common.{◌≡◌, ◌+◌, ℕ, Bool, true, false, List, [], ◌∷◌, Option, Some, None, IfNone, OnSome, ◌<◌, refl, ap, subst, arith, ◌∙◌}
 use Rattle.std.specs.List.{FoldsTo}
 use Rattle.futures.specs.Poll.{IfReady, OnPending}
 use Rattle.futures.specs.Task.{Covers, Keeps}
@@ -7,13 +7,13 @@ use Rattle.futures.specs.declared.task.context.Context.{Context}
 use Rattle.futures.specs.declared.task.Poll.{Poll}
 use Rattle.futures.specs.declared.task.Poll.TheVariants.{Ready, Pending}
 use Rattle.futures_buffered_core.specs.SlotMap.{Slots}
-use Rattle.futures_buffered_unordered.specs.FuturesUnorderedBounded.{Bounded, AsksNone, LeavesTask, MarksSlot, OnlyRegisters, held_in, slots_in, with_empty_slot, with_source}
+use Rattle.futures_buffered_unordered.specs.FuturesUnorderedBounded.{Bounded, MarksSlot, OnlyRegisters, held_in, slots_in, with_empty_slot, with_source}
 use Rattle.futures_buffered_unordered.specs.Groups.{WakesIf}
 use Rattle.futures_buffered_unordered.specs.Held.{AllHeld}
 use Rattle.futures_buffered_unordered.specs.PollsBounded.{ReadySourceOf, RegistersAndTakes}
 use Rattle.futures_buffered_unordered.proofs.FuturesUnorderedBoundedLemmas.{registers_more, registers_none, registers_once}
 use Rattle.futures_buffered_unordered.proofs.GroupsTaskLemmas.{wakes_on}
-use Rattle.futures_buffered_unordered.proofs.PollsBoundedLemmas.{leaves_of, until_of}
+use Rattle.futures_buffered_unordered.proofs.PollsBoundedLemmas.{stops_of, until_of}
 use Rattle.futures_buffered_merges.specs.Merging.{CountPolls, LastAsks, PollsMergeBounded, SlotStreamOf, each_stream, unless_registered}
 
 -- two sets that differ in their source alone
@@ -65,15 +65,11 @@ module _ {St W A S : Type 0} (stream : SlotStreamOf St W A) (source : ReadySourc
         let until = until_of (each_stream stream) source source.steps.registers (λ a b h. h) old left (Ready (i, Some x)) cx after asks in
         rw same (polls_once old (Ready (Some x)) (with_source left new.source) cx after false (some, (i, left, until, marked, refl), refl) (registers_once source.registers_poll cx after old.source (rw it.ends.3 asks.registers_task)) touched it.count (omega (arith, it.count, some)) tt tt it.capacity it.limit tt asks.kept (it.continues refl))
 
-    -- whether a pending count stopped though a further name may come
-    stops : (new : Bounded St S) → LeavesTask stream.polled source.steps source.registers_poll old new cx after → (stopped : Bool) × AsksNone stream.polled source.steps stopped old new × WakesIf stopped (OnlyRegisters source.registers_poll) cx after
-    stops new (inl empty) = (false, empty.0, registers_once source.registers_poll cx after old.source empty.1)
-    stops new (inr part) = (true, part.0, part.1)
-
+    -- a count that is pending
     pub count_pending : (new : Bounded St S) → RegistersAndTakes (each_stream stream) source old Pending new cx after → PollsMergeBounded stream source old Pending new cx after
     count_pending new asks =
         let it = asks.takes in
-        let (stopped, gave, woken) = stops new (leaves_of (each_stream stream) source source.steps.registers (λ a b h. h) old new cx after asks) in
+        let (stopped, gave, woken) = stops_of (each_stream stream) source source.steps.registers (λ a b h. h) (OnlyRegisters source.registers_poll) old new cx after (λ s then once. registers_once source.registers_poll cx then s once) asks in
         polls_once old Pending new cx after stopped (some, gave) woken touched it.count tt (omega (arith, it.count, some)) tt it.capacity it.limit it.covered asks.kept it.pollable
 
     -- a count that ended a stream, and then any poll

@@ -1,6 +1,6 @@
 -- One poll of the streams that a set holds, of which a merge is made.
-use Rattle.std.specs.Prelude.{◌≡◌, ℕ, ◌<◌, ◌≤◌, Bool, false, cond, IsTrue, List, Option, Some, None, IsSome}
-use Rattle.std.specs.Prelude.{IfNone, OnSome}
+use Rattle.std.specs.Prelude.{◌≡◌, ℕ, ◌<◌, ◌≤◌, Bool, false, cond, IsTrue, List, Option, Some, None, IsSome, IfNone}
+use Rattle.std.specs.Prelude.{OnSome}
 use Rattle.std.specs.List.{FoldsTo}
 use Rattle.futures.specs.Poll.{IfReady, OnPending}
 use Rattle.futures.specs.Task.{Covers, Keeps}
@@ -13,8 +13,8 @@ use Rattle.futures_buffered_core.specs.declared.ready_source.ReadySource.{Ghosts
 pub use Rattle.futures_buffered_merges.specs.declared.slot_stream.SlotStream.{Ghosts as SlotStreamOf}
 use Rattle.futures_buffered_merges.specs.declared.slot_stream.PollStream.{PollStream}
 use Rattle.futures_buffered_unordered.specs.FuturesUnorderedBounded.{Bounded, AsksNone, AsksUntil, MarksSlot}
-use Rattle.futures_buffered_unordered.specs.FuturesUnorderedBounded.{OnlyRegisters, held_in, slots_in}
-use Rattle.futures_buffered_unordered.specs.FuturesUnorderedBounded.{with_empty_slot, with_source}
+use Rattle.futures_buffered_unordered.specs.FuturesUnorderedBounded.{OnlyRegisters, held_in, slots_in, with_empty_slot}
+use Rattle.futures_buffered_unordered.specs.FuturesUnorderedBounded.{with_source}
 use Rattle.futures_buffered_unordered.specs.Groups.{WakesIf}
 use Rattle.futures_buffered_unordered.specs.Held.{AllHeld}
 use Rattle.futures_buffered_unordered.specs.declared.poll_one.PollOne.{Ghosts as PollOneOf}

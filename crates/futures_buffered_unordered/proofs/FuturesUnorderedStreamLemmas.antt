@@ -1,5 +1,5 @@
 -- What a set's poll keeps of each group that it asks, what may come from the set, and the set as a stream.
-use Rattle.std.proofs.Common.{◌≡◌, ℕ, Bool, true, false, ◌+◌, List, [], ◌∷◌, Option, Some, None, IfSome, refl, sym, subst, inl, inr, arith}
+use Rattle.std.proofs.Common.{◌≡◌, ℕ, Bool, ◌+◌, List, [], ◌∷◌, Option, Some, None, IfSome, refl, sym, subst, arith}
 use Rattle.std.specs.List.{FoldsTo}
 use Rattle.futures.specs.Poll.{IfReady, OnPending}
 use Rattle.futures.specs.Runs.{After, Within}
@@ -10,11 +10,10 @@ use Rattle.futures_buffered_core.specs.ReadySource.{WaitsAlike, SourceSteps}
 use Rattle.futures_buffered_core.specs.SlotMap.{slot_count}
 use Rattle.futures_buffered_table.specs.declared.answer.Taken.{Taken}
 use Rattle.futures_buffered_unordered.specs.Held.{AnyMayGive}
-use Rattle.futures_buffered_unordered.specs.FuturesUnorderedBounded.{Bounded, OnlyRegisters, PollAsks, PollGives}
-use Rattle.futures_buffered_unordered.proofs.PollsBoundedLemmas.{PollLeavesTask}
-use Rattle.futures_buffered_unordered.specs.Groups.{Groups, GroupsGive, WakesIf, outputs_in}
+use Rattle.futures_buffered_unordered.specs.FuturesUnorderedBounded.{Bounded, PollAsks, PollGives}
+use Rattle.futures_buffered_unordered.specs.Groups.{Groups, GroupsGive, outputs_in}
 use Rattle.futures_buffered_unordered.proofs.HeldGivesLemmas.{Gathers-Within, Gathers-After}
-use Rattle.futures_buffered_unordered.proofs.FuturesUnorderedBoundedLemmas.{registers_none, registers_once, poll_counted, poll_pending_holds, poll_end_is_empty, poll_gave, poll_still}
+use Rattle.futures_buffered_unordered.proofs.FuturesUnorderedBoundedLemmas.{poll_counted, poll_pending_holds, poll_end_is_empty, poll_gave, poll_still}
 use Rattle.futures_buffered_unordered.specs.FuturesUnordered.{AnyNeeds, EachHeld, Growing, held_in_all}
 use Rattle.futures_buffered_unordered.specs.PollsBounded.{PollOneOf, ReadySourceOf}
 use Rattle.futures_buffered_unordered.specs.PollsGrowing.{PollsGrowing}
@@ -47,22 +46,6 @@ module _ {F A S : Type 0} (needs : S → ℕ → Type 0) (polled : ℕ → F →
       let holds = poll_pending_holds polled steps old new in
       let empty = poll_end_is_empty polled steps old new in
       record { fewer = omega (arith, poll_counted polled steps old new answer h); pending_holds = grind arith; ended_is_empty = grind arith; same_kind = record { same_slots = slots; same_limit = limit; waits = alike_polled old new answer h } }
-
--- what a poll of a group leaves of the task, and whether it stopped: one that registers, and one of a task that is registered
-module _ {F A S : Type 0} (polled : ℕ → F → Poll A → F → Type 0) (steps : SourceSteps S) (registers_poll : S → Context → Context → Type 0) (old new : Bounded F S) (cx left : Context) where
-  abbrev AsksAndLeaves : Poll (Option A) → Type 0
-  AsksAndLeaves answer = (stopped : Bool) × PollAsks polled steps stopped old answer new × WakesIf stopped (OnlyRegisters registers_poll) cx left
-
-  pub group_leaves : (answer : Poll (Option A)) → PollGives polled steps old answer new → PollLeavesTask polled steps registers_poll old answer new cx left → AsksAndLeaves answer
-  group_leaves (Ready None) gives same = (false, (gives, refl), registers_none registers_poll cx left same)
-  group_leaves (Ready (Some x)) gives once = (false, (gives, refl), registers_once registers_poll cx left old.source once)
-  group_leaves Pending gives (inl empty) = (false, (gives.0, empty.0), registers_once registers_poll cx left old.source empty.1)
-  group_leaves Pending gives (inr part) = (true, (gives.0, part.0), part.1)
-
-  pub covered_leaves : (answer : Poll (Option A)) → PollGives polled steps old answer new → PollLeavesTask polled steps (λ _ before after. after ≡ before) old answer new cx left → AsksAndLeaves answer
-  covered_leaves (Ready o) gives same = (false, (gives, refl), registers_none registers_poll cx left (grind arith))
-  covered_leaves Pending gives (inl empty) = (false, (gives.0, empty.0), registers_none registers_poll cx left empty.1)
-  covered_leaves Pending gives (inr part) = (true, (gives.0, part.0), part.1)
 
 -- a poll of groups, where it does not matter which of them stopped
 module _ {F A S : Type 0} (polled : ℕ → F → Poll A → F → Type 0) (steps : SourceSteps S) where

@@ -1,5 +1,5 @@
 -- A poll of a bounded set: what it has asked so far, how it ends, and what a caller takes from its record.
-use Rattle.std.proofs.Common.{◌≡◌, ◌⊎◌, ℕ, ◌+◌, ◌<◌, List, [], ◌∷◌, ◌++◌, map, length, Option, Some, None, IfNone, is_some, refl, sym, ap, subst, inl, inr, arith, append-nil, length-set, ◌∙◌}
+use Rattle.std.proofs.Common.{◌≡◌, ℕ, ◌+◌, ◌<◌, List, [], ◌∷◌, ◌++◌, map, length, Option, Some, None, IfNone, is_some, refl, sym, ap, subst, arith, append-nil, length-set, ◌∙◌}
 use Rattle.std.specs.List.{FoldsTo}
 use Rattle.std.specs.Option.{option_to_list}
 use Rattle.std.proofs.lemmas.Fn.{FoldsTo-push}
@@ -11,11 +11,11 @@ use Rattle.futures.specs.declared.task.Poll.TheVariants.{Ready, Pending}
 use Rattle.futures.specs.Poll.{IfReady}
 use Rattle.futures_buffered_core.specs.SlotMap.{Slots, value_in, held_count, slot_count, with_value}
 use Rattle.futures_buffered_table.specs.declared.answer.Taken.{Taken}
-use Rattle.futures_buffered_table.specs.declared.answer.Taken.TheVariants.{Slot, Empty}
+use Rattle.futures_buffered_table.specs.declared.answer.Taken.TheVariants.{Slot, Empty, Pause}
 use Rattle.futures_buffered_unordered.specs.StreamAnswers.{StreamAnswers}
 use Rattle.futures_buffered_unordered.specs.Held.{AllHeld, ComesFrom, EndsWith, Passes}
-use Rattle.futures_buffered_unordered.specs.FuturesUnorderedBounded.{Bounded, Asks, AsksSet, AsksSetTask, AsksUntil, EndsWaiting, IsWoken, LeavesTask, PollGives, SaidEmpty, with_source}
-use Rattle.futures_buffered_core.specs.ReadySource.{SourceSteps}
+use Rattle.futures_buffered_unordered.specs.FuturesUnorderedBounded.{Bounded, Asks, AsksNone, AsksUntil, EndsWaiting, PollAsks, PollGives, with_source}
+use Rattle.futures_buffered_unordered.specs.Groups.{WakesIf}
 use Rattle.futures_buffered_unordered.specs.PollsBounded.{EndsPending, PollOneOf, PollsBounded, ReadySourceOf, RegistersAndTakes, TakesNames}
 use Rattle.futures_buffered_unordered.proofs.HeldLemmas.{AllHeld-with, AllHeldBut-with, count-with, same-with, value_in-with_value, passes_free, passes_pending}
 use Rattle.futures_buffered_unordered.proofs.StreamAnswersLemmas.{after_item, while_pending, covers_fewer}
@@ -152,12 +152,6 @@ takes_after {R} {F} {W} {A} {S} rule source registers before old new answer cx l
       kept = it.kept;
     }
 
--- What a poll leaves of its task, by its answer: the end leaves it as it was, an output as the registration did, and Pending as a pending poll does.
-abbrev pub PollLeavesTask : {F A S : Type 0} → (ℕ → F → Poll A → F → Type 0) → SourceSteps S → (S → Context → Context → Type 0) → Bounded F S → Poll (Option A) → Bounded F S → Context → Context → Type 0
-PollLeavesTask polled steps registers_poll old (Ready None) new cx left = left ≡ cx
-PollLeavesTask polled steps registers_poll old (Ready (Some x)) new cx left = registers_poll old.source cx left
-PollLeavesTask polled steps registers_poll old Pending new cx left = LeavesTask polled steps registers_poll old new cx left
-
 -- What a caller takes from the record of a poll, who speaks of the value alone: the relation of
 -- values, by any registration that this one may be.
 module _ {R F W A S : Type 0} (rule : PollOneOf R F W A) (source : ReadySourceOf S W) (registers : S → S → Type 0) (within : (a b : S) → source.steps.registers a b → registers a b) where
@@ -187,21 +181,29 @@ module _ {R F W A S : Type 0} (rule : PollOneOf R F W A) (source : ReadySourceOf
   gives_of old new (Ready (Some x)) cx left it = (it.gave.0, (it.gave.1.0, it.gave.1.1, until_of old it.gave.1.1 (Ready (it.gave.1.0, x)) cx left it.gave.1.2, it.gave.1.3))
   gives_of old new Pending cx left it = (it.gave.0, until_of old new Pending cx left it.gave.1)
 
-  -- and what becomes of the task, for who tells it apart
-  pub leaves_of : (old new : Bounded F S) (cx left : Context) → RegistersAndTakes rule source old Pending new cx left
-      → LeavesTask rule.polled (record { registers = registers; takes = source.steps.takes }) source.registers_poll old new cx left
-  leaves_of old new cx left asks = by_last asks.takes.last refl asks.takes.ends.1
+  -- A pending count of names, with whether it stopped, and what it leaves of the task: `told` says
+  -- so of what a registration makes of the task.
+  pub stops_of : (told : Context → Context → Type 0) (old new : Bounded F S) (cx left : Context) → ((s : S) (then : Context) → source.registers_poll s cx then → told cx then) → RegistersAndTakes rule source old Pending new cx left
+      → (stopped : Bool) × AsksNone rule.polled (record { registers = registers; takes = source.steps.takes }) stopped old new × WakesIf stopped told cx left
+  stops_of told old new cx left tells asks = by_last asks.takes.last refl asks.takes.ends.1
     where
-      by_last : (last : Option Taken) → asks.takes.last ≡ last → EndsPending old.limit (length asks.takes.names) last asks.task_then left → LeavesTask rule.polled (record { registers = registers; takes = source.steps.takes }) source.registers_poll old new cx left
-      by_last (Some Empty) is h = inl ((asks.takes.names, Some Empty, h.0, refl, asks_of old new Pending cx left asks (Some Empty) new.slots is asks.takes.ends.0, asks.takes.limit), rw h.1 asks.registers_task)
+      by_last : (last : Option Taken) → asks.takes.last ≡ last → EndsPending old.limit (length asks.takes.names) last asks.task_then left
+          → (stopped : Bool) × AsksNone rule.polled (record { registers = registers; takes = source.steps.takes }) stopped old new × WakesIf stopped told cx left
+      by_last (Some Empty) is h = (false, (asks.takes.names, Some Empty, h.0, refl, asks_of old new Pending cx left asks (Some Empty) new.slots is asks.takes.ends.0, asks.takes.limit), rw h.1 (tells asks.source_then asks.task_then asks.registers_task))
+      by_last (Some Pause) is h = (true, (asks.takes.names, Some Pause, h.0, refl, asks_of old new Pending cx left asks (Some Pause) new.slots is asks.takes.ends.0, asks.takes.limit), h.1)
       by_last (Some (Slot i)) is h = absurd h
-      by_last last is h = inr ((asks.takes.names, last, h.0, refl, asks_of old new Pending cx left asks last new.slots is asks.takes.ends.0, asks.takes.limit), h.1)
+      by_last None is h = (true, (asks.takes.names, None, h.0, refl, asks_of old new Pending cx left asks None new.slots is asks.takes.ends.0, asks.takes.limit), h.1)
 
-  pub task_of : (old new : Bounded F S) (answer : Poll (Option A)) (cx left : Context) → PollsBounded rule source old answer new cx left
-      → PollLeavesTask rule.polled (record { registers = registers; takes = source.steps.takes }) source.registers_poll old answer new cx left
-  task_of old new (Ready None) cx left it = it.gave.2
-  task_of old new (Ready (Some x)) cx left it = let asks = it.gave.1.2 in rw asks.takes.ends.3 asks.registers_task
-  task_of old new Pending cx left it = leaves_of old new cx left it.gave.1
+  -- the same of any poll, whose end leaves the task alone
+  pub asked_of : (told : Context → Context → Type 0) (old new : Bounded F S) (answer : Poll (Option A)) (cx left : Context) → (left ≡ cx → told cx left) → ((s : S) (then : Context) → source.registers_poll s cx then → told cx then) → PollsBounded rule source old answer new cx left
+      → (stopped : Bool) × PollAsks rule.polled (record { registers = registers; takes = source.steps.takes }) stopped old answer new × WakesIf stopped told cx left
+  asked_of told old new (Ready None) cx left none tells it = (false, ((it.gave.0, it.gave.1), refl), none it.gave.2)
+  asked_of told old new (Ready (Some x)) cx left none tells it =
+      let asks = it.gave.1.2 in
+      (false, (gives_of old new (Ready (Some x)) cx left it, refl), rw asks.takes.ends.3 (tells asks.source_then asks.task_then asks.registers_task))
+  asked_of told old new Pending cx left none tells it =
+      let stops = stops_of told old new cx left tells it.gave.1 in
+      (stops.0, (it.gave.0, stops.1), stops.2)
 
   pub untouched_of : (old new : Bounded F S) (answer : Poll (Option A)) (cx left : Context) → PollsBounded rule source old answer new cx left → IfReady answer (λ o. IfNone o (left ≡ cx))
   untouched_of old new answer cx left it = let gave = it.gave in grind arith
@@ -219,42 +221,5 @@ module _ {R F W A S : Type 0} (rule : PollOneOf R F W A) (source : ReadySourceOf
         goes = after_item answer it.pollable;
         again = while_pending answer it.pollable;
         registered = covers_fewer answer left (source.needs new.source) _ (λ n waits. waits.1) it.covered;
-        kept = it.kept;
-      }
-
--- What a caller takes who tells the set and the task apart.
-last_taken : {S : Type 0} (takes : S → Taken → S → Type 0) (taken : List Taken) (last : Taken) (old new : S) → FoldsTo takes old (taken ++ last ∷ []) new → (before : S) × takes before last new
-last_taken takes [] last old new h = (old, rw (← h.2) h.1)
-last_taken takes (t ∷ taken) last old new h = last_taken takes taken last h.0 new h.2
-
-module _ {R F W A S : Type 0} (rule : PollOneOf R F W A) (source : ReadySourceOf S W) where
-  woken_by : (old new : Bounded F S) (cx left : Context) (asks : RegistersAndTakes rule source old Pending new cx left) (last : Option Taken) → asks.takes.last ≡ last → EndsPending old.limit (length asks.takes.names) last asks.task_then left → IsWoken left ⊎ (SaidEmpty source.steps new.source × source.registers_poll old.source cx left)
-  woken_by old new cx left asks (Some Empty) is h = inr (last_taken source.steps.takes (map Slot asks.takes.names) Empty asks.source_then new.source (subst (λ (l : Option Taken). FoldsTo source.steps.takes asks.source_then (map Slot asks.takes.names ++ option_to_list l) new.source) is asks.takes.came), rw h.1 asks.registers_task)
-  woken_by old new cx left asks last is h = grind arith
-
-  -- what a registration and one count of names leave of the set
-  pub asks_set_of : (old new : Bounded F S) (answer : Poll (ℕ × A)) (cx left : Context) → RegistersAndTakes rule source old answer new cx left → AsksSet rule.can_poll rule.polled rule.goes_on old answer new
-  asks_set_of old new answer cx left it =
-      let takes = it.takes in
-      record { pollable = takes.pollable; others = takes.others; goes_on = takes.continues; last = held answer takes; count = takes.count; same_slots = takes.same_slots; capacity = takes.capacity; limit = takes.limit }
-    where
-      held : (a : Poll (ℕ × A)) → TakesNames rule source (with_source old it.source_then) a new it.task_then left → IfReady a (λ p. EndsWith (rule.polled p.0) p.1 (value_in new.slots p.0))
-      held (Ready (i, x)) takes = takes_held rule source (with_source old it.source_then) new i x it.task_then left takes
-      held Pending takes = tt
-
-  -- and where it gave an output, the task hears of the source still
-  pub ready_covered : (old new : Bounded F S) (answer : Poll (ℕ × A)) (cx left : Context) → RegistersAndTakes rule source old answer new cx left → IfReady answer (λ _. Covers left (source.needs new.source))
-  ready_covered old new answer cx left it = let covered = it.takes.covered in grind arith
-
-  -- and of the task
-  pub asks_task_of : (old new : Bounded F S) (answer : Poll (ℕ × A)) (cx left : Context) → RegistersAndTakes rule source old answer new cx left
-      → AsksSetTask source.steps source.needs (source.registers_poll old.source) (LeavesTask rule.polled source.steps source.registers_poll old new) new.source answer cx left
-  asks_task_of old new (Ready (i, x)) cx left it = record { covered = tt; woken = tt; leaves = tt; only_registered = rw it.takes.ends.3 it.registers_task; kept = it.kept }
-  asks_task_of old new Pending cx left it =
-      record {
-        covered = it.takes.covered;
-        woken = woken_by old new cx left it it.takes.last refl it.takes.ends.1;
-        leaves = leaves_of rule source source.steps.registers (λ a b h. h) old new cx left it;
-        only_registered = tt;
         kept = it.kept;
       }

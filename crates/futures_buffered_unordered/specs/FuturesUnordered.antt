@@ -139,8 +139,7 @@ module _ {F S : Type 0} where
     -- or nothing has changed
     pub same : OnErr result (new ≡ old)
     -- then `MAX_HELD` were held, or a new group was needed
-    pub may_refuse : OnErr result
-        ((held_in_all old.groups.listed ≡ MAX_HELD) ⊎ (spare_places old.groups.listed ≡ 0))
+    pub may_refuse : OnErr result ((held_in_all old.groups.listed ≡ MAX_HELD) ⊎ (spare_places old.groups.listed ≡ 0))
 
   -- one group of so many slots, or none where that number is 0
   abbrev pub IsNewGrowing : (ℕ → S → Type 0) → ℕ → ℕ → Growing F S → Type 0

@@ -1,21 +1,20 @@
 -- What a contract sees of a bounded set, and what its calls make of it.
-use Rattle.std.specs.Prelude.{◌≡◌, ◌⊎◌, ℕ, ◌+◌, ◌<◌, List, ◌++◌, map, length, Option, Some, None, Bool, true, false}
-use Rattle.std.specs.Prelude.{is_some, refl, Result, OnOk, IfErr}
+use Rattle.std.specs.Prelude.{◌≡◌, ℕ, ◌+◌, ◌<◌, List, ◌++◌, map, length, Option, Some, None, Bool, true, false, refl}
+use Rattle.std.specs.Prelude.{Result, OnOk, IfErr}
 use Rattle.std.specs.List.{FoldsTo, range_with_len}
 use Rattle.std.specs.Option.{option_to_list}
 use Rattle.std.specs.Coded.{Coded, code_by, coded×, coded_ℕ}
-use Rattle.futures.specs.Task.{Covers, Hears, Keeps}
-use Rattle.futures.specs.Poll.{IfReady, OnPending}
+use Rattle.futures.specs.Task.{Hears}
 use Rattle.futures.specs.declared.task.context.Context.{Context}
 use Rattle.futures.specs.declared.task.Poll.{Poll}
 use Rattle.futures.specs.declared.task.Poll.TheVariants.{Ready, Pending}
 use Rattle.futures_buffered_core.specs.SlotMap.{Slots, slots_code, held_count, slot_count, no_slots, all_slots}
-use Rattle.futures_buffered_core.specs.SlotMap.{value_in, with_slot_freed, Inserts, IsFull}
+use Rattle.futures_buffered_core.specs.SlotMap.{with_slot_freed, Inserts, IsFull}
 use Rattle.futures_buffered_table.specs.declared.answer.Taken.{Taken}
 use Rattle.futures_buffered_table.specs.declared.answer.Taken.TheVariants.{Slot, Empty, Pause}
 use Rattle.futures_buffered_table.specs.declared.answer.Woke.{Woke}
 use Rattle.futures_buffered_core.specs.ReadySource.{SourceSteps}
-use Rattle.futures_buffered_unordered.specs.Held.{AllHeld, AllHeldBut, EndsWith, Passes, Yields}
+use Rattle.futures_buffered_unordered.specs.Held.{Passes, Yields}
 
 -- what each slot holds, the content of the source, and how many names one poll takes at most
 pub record Bounded (F S : Type 0) : Type 0 where
@@ -148,10 +147,6 @@ stops_early (Some Pause) = true
 stops_early (Some Empty) = false
 stops_early (Some (Slot i)) = false
 
--- a taking that answered Empty may have left this content
-abbrev pub SaidEmpty : {S : Type 0} → SourceSteps S → S → Type 0
-SaidEmpty {S} steps new = (before : S) × steps.takes before Empty new
-
 -- the task was asked to poll again
 abbrev pub IsWoken : Context → Type 0
 IsWoken cx = (s : ℕ) → Hears cx s
@@ -205,13 +200,6 @@ module _
         × Asks old names last new.slots new.source
         × (new.limit ≡ old.limit)
 
-    -- What a pending poll leaves of its task. At Empty the task is as the registration left it; where the asking
-    -- stopped earlier, the task is asked to poll again.
-    abbrev pub LeavesTask : (S → Context → Context → Type 0) → Bounded F S → Bounded F S → Context → Context → Type 0
-    LeavesTask registers_poll old new cx left =
-        (AsksNone false old new × registers_poll old.source cx left)
-        ⊎ (AsksNone true old new × IsWoken left)
-
     -- one poll: the end exactly where nothing is held, and then nothing changes; the output of the last name, whose
     -- slot is emptied; or Pending, where the asking ended without an output
     abbrev pub PollGives : Bounded F S → Poll (Option A) → Bounded F S → Type 0
@@ -225,51 +213,3 @@ module _
     abbrev pub PollAsks : Bool → Bounded F S → Poll (Option A) → Bounded F S → Type 0
     PollAsks stopped old (Ready o) new = PollGives old (Ready o) new × (stopped ≡ false)
     PollAsks stopped old Pending new = (0 < held_count old.slots) × AsksNone stopped old new
-
--- What one count of names, from old to new, leaves of a set. `continues` says after which outputs the value may be
--- polled again.
-pub record AsksSet
-    {F A S : Type 0}
-    (can_poll : F → Type 0)
-    (polled : ℕ → F → Poll A → F → Type 0)
-    (continues : A → Type 0)
-    (old : Bounded F S)
-    (answer : Poll (ℕ × A))
-    (new : Bounded F S)
-    : Type 0 where
-  -- where none was ready, each value can be polled again
-  pub pollable : OnPending answer (AllHeld can_poll new.slots)
-  -- where one was, each other value can be polled again
-  pub others : IfReady answer (λ p. AllHeldBut p.0 can_poll new.slots)
-  -- and that one too, if it continues after such an output
-  pub goes_on : IfReady answer (λ p. continues p.1 → AllHeld can_poll new.slots)
-  -- its slot holds what was left by the poll that gave the output
-  pub last : IfReady answer (λ p. EndsWith (polled p.0) p.1 (value_in new.slots p.0))
-  -- no value comes and none goes
-  pub count : held_count new.slots ≡ held_count old.slots
-  pub same_slots : (j : ℕ) → is_some (value_in new.slots j) ≡ is_some (value_in old.slots j)
-  -- the number of slots and the limit stay
-  pub capacity : slot_count new.slots ≡ slot_count old.slots
-  pub limit : new.limit ≡ old.limit
-
--- What one count of names leaves of its task, which it took from cx to left: an output as `registers` says, and Pending
--- as `pends` does.
-pub record AsksSetTask
-    {S B : Type 0}
-    (steps : SourceSteps S)
-    (needs : S → ℕ → Type 0)
-    (registers pends : Context → Context → Type 0)
-    (source : S)
-    (answer : Poll B)
-    (cx left : Context)
-    : Type 0 where
-  -- the task of a pending set hears of its source
-  pub covered : OnPending answer (Covers left (needs source))
-  -- where it is pending, the task was asked to poll again, or it was registered and no further name came
-  pub woken : OnPending answer (IsWoken left ⊎ (SaidEmpty steps source × registers cx left))
-  -- a pending one leaves the task so
-  pub leaves : OnPending answer (pends cx left)
-  -- one that gave an output only registered it
-  pub only_registered : IfReady answer (λ _. registers cx left)
-  -- nothing of the task is lost
-  pub kept : Keeps cx left

@@ -1,6 +1,8 @@
+use Rattle.futures_buffered_unordered.specs.FuturesUnorderedBounded.{OnlyRegisters}
 use Rattle.futures_buffered_unordered.specs.PollsBounded.{registered}
-use Rattle.futures_buffered_unordered.proofs.FuturesUnorderedStreamLemmas.{covered_leaves, group_leaves, keeps_polled}
-use Rattle.futures_buffered_unordered.proofs.PollsBoundedLemmas.{gives_of, task_of, untouched_of}
+use Rattle.futures_buffered_unordered.proofs.FuturesUnorderedBoundedLemmas.{registers_none, registers_once}
+use Rattle.futures_buffered_unordered.proofs.FuturesUnorderedStreamLemmas.{keeps_polled}
+use Rattle.futures_buffered_unordered.proofs.PollsBoundedLemmas.{asked_of, gives_of, untouched_of}
 use Rattle.futures_buffered_unordered.proofs.ask_group.ByRuleAskGroup.ask.Goals as goal
 
 pub returns-then-is_registered-clause-keeps : goal.returns-then-is_registered-clause-keeps
@@ -21,7 +23,7 @@ pub returns-then-is_registered-clause-polls : goal.returns-then-is_registered-cl
 returns-then-is_registered-clause-polls g c =
     let source = g.S.ReadySource in
     let poll = c.poll_registered.ensures in
-    let asks = covered_leaves g.R.PollOne.polled source.steps source.registers_poll _ _ _ _ _ (gives_of g.R.PollOne (registered source) source.steps.registers (λ a b same. rw same (g.met.S.NewSource.waits.covered a)) _ _ _ _ _ poll) (task_of g.R.PollOne (registered source) source.steps.registers (λ a b same. rw same (g.met.S.NewSource.waits.covered a)) _ _ _ _ _ poll) in
+    let asks = asked_of g.R.PollOne (registered source) source.steps.registers (λ a b same. rw same (g.met.S.NewSource.waits.covered a)) (OnlyRegisters source.registers_poll) _ _ _ _ _ (registers_none source.registers_poll _ _) (λ s then same. registers_none source.registers_poll _ then same) poll in
     record {
       stopped = asks.0;
       asked = asks.1;
@@ -35,7 +37,7 @@ pub returns-else-is_registered-clause-polls : goal.returns-else-is_registered-cl
 returns-else-is_registered-clause-polls g c =
     let source = g.S.ReadySource in
     let poll = c.poll_with.ensures in
-    let asks = group_leaves g.R.PollOne.polled source.steps source.registers_poll _ _ _ _ _ (gives_of g.R.PollOne source source.steps.registers (λ a b h. h) _ _ _ _ _ poll) (task_of g.R.PollOne source source.steps.registers (λ a b h. h) _ _ _ _ _ poll) in
+    let asks = asked_of g.R.PollOne source source.steps.registers (λ a b h. h) (OnlyRegisters source.registers_poll) _ _ _ _ _ (registers_none source.registers_poll _ _) (λ s then once. registers_once source.registers_poll _ then s once) poll in
     record {
       stopped = asks.0;
       asked = asks.1;
