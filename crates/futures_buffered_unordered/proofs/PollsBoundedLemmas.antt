@@ -1,5 +1,5 @@
 -- A poll of a bounded set: what it has asked so far, how it ends, and what a caller takes from its record.
-use Rattle.std.proofs.Common.{◌≡◌, ℕ, ◌+◌, ◌<◌, List, [], ◌∷◌, ◌++◌, map, length, Option, Some, None, IfNone, is_some, refl, sym, ap, subst, arith, append-nil, length-set, ◌∙◌}
+use Rattle.std.proofs.Common.{◌≡◌, ℕ, ◌+◌, ◌<◌, Bool, true, false, List, [], ◌∷◌, ◌++◌, map, length, Option, Some, None, IfNone, is_some, refl, sym, ap, subst, arith, append-nil, length-set, ◌∙◌}
 use Rattle.std.specs.List.{FoldsTo}
 use Rattle.std.specs.Option.{option_to_list}
 use Rattle.std.proofs.lemmas.Fn.{FoldsTo-push}
@@ -189,7 +189,7 @@ module _ {R F W A S : Type 0} (rule : PollOneOf R F W A) (source : ReadySourceOf
     where
       by_last : (last : Option Taken) → asks.takes.last ≡ last → EndsPending old.limit (length asks.takes.names) last asks.task_then left
           → (stopped : Bool) × AsksNone rule.polled (record { registers = registers; takes = source.steps.takes }) stopped old new × WakesIf stopped told cx left
-      by_last (Some Empty) is h = (false, (asks.takes.names, Some Empty, h.0, refl, asks_of old new Pending cx left asks (Some Empty) new.slots is asks.takes.ends.0, asks.takes.limit), rw h.1 (tells asks.source_then asks.task_then asks.registers_task))
+      by_last (Some Empty) is h = (false, (asks.takes.names, Some Empty, h.0, refl, asks_of old new Pending cx left asks (Some Empty) new.slots is asks.takes.ends.0, asks.takes.limit), rw h.1 (tells old.source asks.task_then asks.registers_task))
       by_last (Some Pause) is h = (true, (asks.takes.names, Some Pause, h.0, refl, asks_of old new Pending cx left asks (Some Pause) new.slots is asks.takes.ends.0, asks.takes.limit), h.1)
       by_last (Some (Slot i)) is h = absurd h
       by_last None is h = (true, (asks.takes.names, None, h.0, refl, asks_of old new Pending cx left asks None new.slots is asks.takes.ends.0, asks.takes.limit), h.1)
@@ -200,7 +200,7 @@ module _ {R F W A S : Type 0} (rule : PollOneOf R F W A) (source : ReadySourceOf
   asked_of told old new (Ready None) cx left none tells it = (false, ((it.gave.0, it.gave.1), refl), none it.gave.2)
   asked_of told old new (Ready (Some x)) cx left none tells it =
       let asks = it.gave.1.2 in
-      (false, (gives_of old new (Ready (Some x)) cx left it, refl), rw asks.takes.ends.3 (tells asks.source_then asks.task_then asks.registers_task))
+      (false, (gives_of old new (Ready (Some x)) cx left it, refl), rw asks.takes.ends.3 (tells old.source asks.task_then asks.registers_task))
   asked_of told old new Pending cx left none tells it =
       let stops = stops_of told old new cx left tells it.gave.1 in
       (stops.0, (it.gave.0, stops.1), stops.2)
