@@ -14,7 +14,6 @@ pub use Rattle.futures_buffered_merges.specs.declared.slot_stream.SlotStream.{Gh
 use Rattle.futures_buffered_merges.specs.declared.slot_stream.PollStream.{PollStream}
 use Rattle.futures_buffered_unordered.specs.FuturesUnorderedBounded.{Bounded, AsksNone, AsksUntil, MarksSlot}
 use Rattle.futures_buffered_unordered.specs.FuturesUnorderedBounded.{OnlyRegisters, held_in, slots_in, with_empty_slot}
-use Rattle.futures_buffered_unordered.specs.FuturesUnorderedBounded.{with_source}
 use Rattle.futures_buffered_unordered.specs.Groups.{WakesIf}
 use Rattle.futures_buffered_unordered.specs.Held.{AllHeld}
 use Rattle.futures_buffered_unordered.specs.declared.poll_one.PollOne.{Ghosts as PollOneOf}
@@ -55,7 +54,7 @@ module _
         × ((i : ℕ) × (left : Bounded F S)
         × AsksUntil polled steps old (Ready (i, Some x)) left
         × MarksSlot marks left.source i new.source
-        × (new ≡ with_source left new.source))
+        × (new ≡ record left { source = new.source }))
         × (stopped ≡ false)
     LastAsks stopped old Pending new = (0 < held_in old) × AsksNone polled steps stopped old new
     LastAsks stopped old (Ready None) new = (held_in old ≡ 0) × (new ≡ old) × (stopped ≡ false)
