@@ -24,8 +24,7 @@ new_standing capacity = record { capacity = capacity; marked = [] }
 
 -- no future, every place free, no slot marked
 abbrev pub new_bounded : ℕ → ℕ → ScriptBounded
-new_bounded capacity limit =
-    record { slots = no_slots capacity; source = new_standing capacity; limit = limit }
+new_bounded capacity limit = record { slots = no_slots capacity; source = new_standing capacity; limit = limit }
 
 -- a ready core that was just made
 abbrev pub IsNewStanding : ℕ → Standing → Type 0

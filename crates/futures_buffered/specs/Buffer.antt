@@ -190,7 +190,7 @@ pub record DrawsTask
   pub covered : none_came → count new.queue < room new.queue → IfSome new.stream (λ stream. Covers left (needs stream))
   -- where the stream was not polled, the task is as it was
   pub no_turn : HasNoTurn next count (room old.queue) old → left ≡ cx
-  -- nothing of the task is lost
+  -- what the task was registered for or asked to do before still stands
   pub kept : Keeps cx left
 
 -- The stream may be polled, unless it has ended; each item that may still come is fit to be drawn; and the queue may be
@@ -270,7 +270,7 @@ pub record PollsBuffer
   pub same_room : queue.room new.queue ≡ queue.room old.queue
   pub bound : queue.count new.queue ≤ queue.room new.queue
   -- as a stream: what may come; who waits where, with the queue if anything is held, and with the stream if it has not
-  -- ended and more fits; and what may be polled again
+  -- ended and more fits; and that it may be polled again, after an output or Pending
   pub as_stream : StreamAnswers (buffer_of stream queue) old answer new cx left
 
 -- the items that these calls drew, in order, and the outputs that they gave

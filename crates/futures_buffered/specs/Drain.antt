@@ -106,8 +106,7 @@ module _ {B O : Type 0} (buffer : StreamOf B O) where
   DrainWaitsAt d place = IsSomeAnd d.buffer (λ b. buffer.needs b place)
 
 module _ {B O : Type 0} (output : DrainOutputOf O) (buffer : StreamOf B O) where
-  -- it may end with this answer, where outputs that end nothing may come from its buffer, and then what comes last
-  -- before that answer
+  -- it may end with this answer if its buffer may give some outputs that end nothing, and then `last_of` the answer
   abbrev pub DrainGives : Draining B → O → Type 0
   DrainGives d answer = (outputs : List (Unit {0})) × FromBuffer buffer.yields d.buffer
       (map (λ _. output.done) outputs) (output.last_of answer)
@@ -134,7 +133,7 @@ module _ {B O : Type 0} (output : DrainOutputOf O) (buffer : StreamOf B O) where
     pub again : OnPending answer (CanDrain buffer new)
     -- who waits where: the task of a pending drain hears of its buffer
     pub registered : OnPending answer (Covers left (DrainWaitsAt buffer new))
-    -- nothing of the task is lost
+    -- what the task was registered for or asked to do before still stands
     pub kept : Keeps cx left
     -- the limit stays
     pub limit : new.limit ≡ old.limit

@@ -142,7 +142,7 @@ module _
         (cx left : Context)
         : Type 0 where
       -- what came: the turns before the last; of the last what it drew, if anything, and what the set answered; and the
-      -- task behind it
+      -- task as that turn left it
       pub turns : List (Option X × Poll (Option (Unit {0})))
       pub drew : Option X
       pub set_answer : Poll (Option (Unit {0}))
@@ -169,7 +169,7 @@ module _
       -- who waits where: the task of a pending for-each hears of its set where a future is held, and of its stream
       -- where that has not ended and a slot is free
       pub registered : OnPending answer (Covers left (ForEachWaitsAt stream source new))
-      -- nothing of the task is lost
+      -- what the task was registered for or asked to do before still stands
       pub kept : Keeps cx left
       -- what may be polled again: a pending for-each
       pub again : OnPending answer (CanForEach stream closure future new)

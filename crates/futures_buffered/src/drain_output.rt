@@ -7,7 +7,7 @@ pub trait DrainOutput: Drop {
     // What a drain is ready with at its end. An output that is this ends nothing.
     ghost done: { Self };
 
-    // What comes last of a buffer whose drain is ready with this: the end, or this.
+    // The last answer of a buffer whose drain is ready with this: the end (`None`), or this output.
     ghost last_of: { Self → Option Self };
 
     /// What a drain is ready with at its end.

@@ -37,7 +37,7 @@ pub trait FutureQueue<I>: Drop {
     // What a poll may answer, and make of it.
     ghost polls: { Self → Poll (Option Self.Output) → Self → Type 0 };
 
-    // One poll, that finds it and the task, gives an answer and leaves them.
+    // The same poll, with the task that it finds and leaves.
     ghost leaves: { Self → Poll (Option Self.Output) → Self → Context → Context → Type 0 };
 
     // The items that may be pushed.

@@ -150,7 +150,8 @@ module _ {F A : Type 0} (future : FutureOf F A) where
       (new : OrderedInFlight F A)
       (cx left : Context)
       : Type 0 where
-    -- the futures were polled, each output was kept in the entry of its number, and then came the front
+    -- the futures were polled, and each output was kept in the entry of its number; then came the front's output, the
+    -- end, or Pending. Who is woken is not said
     pub polls : PollsOrdered flying_polls old answer new cx left
     -- how many are left
     pub counts : LeavesInOrder old answer new

@@ -174,5 +174,5 @@ pub record PollsQueuedTask {F A : Type 0} (answer : Poll (Option A)) (new : Queu
     (cx left : Context) : Type 0 where
   -- the task of a pending queue hears of what it waits for
   pub registered : OnPending answer (Covers left (QueuedWaitsAt new))
-  -- nothing of the task is lost
+  -- what the task was registered for or asked to do before still stands
   pub kept : Keeps cx left

@@ -36,7 +36,7 @@ abbrev pub FlyingWaitsAt : {F A : Type 0} → Option (Flying F A) → ℕ → Ty
 FlyingWaitsAt join source = IsSomeAnd join (λ places. FlightsWaitAt places.set source)
 
 module _ {F O : Type 0} (future : FutureOf F O) where
-  -- each future of the join may be polled; one that has ended may be polled too
+  -- each future of the join may be polled; a join that has ended may be polled too
   abbrev pub CanPollFlying : {A : Type 0} → Option (Flying F A) → Type 0
   CanPollFlying join = IfSome join (λ places. CanPollAll future places.set)
 
@@ -104,15 +104,16 @@ module _ {F R O A E B : Type 0} (future : FutureOf F O) (rule : JoinRuleOf R O A
   -- One poll of a join, which took it from old to new and the task from cx to left.
   pub record PollsFlying (old : Option (Flying F A)) (answer : Poll B) (new : Option (Flying F A))
       (cx left : Context) : Type 0 where
-    -- it is ready with all outputs, or with an error that a future gave
+    -- it is ready with what it might give: all outputs, an error, or, once it had ended, no outputs. Who is woken is
+    -- not said
     pub gave : IfReady answer (λ x. FlyingMayGive old (rule.seen x))
     -- a join that was ready holds nothing more
     pub ended : IfReady answer (λ _. new ≡ None)
-    -- a pending join waits for a future, and none is lost
+    -- a pending join waits for a future, none is lost, and each may be polled again
     pub waits : OnPending answer (IsSomeAnd old (λ was. IsSomeAnd new (WaitsOn was)))
     -- the task of a pending join hears of what it waits for
     pub registered : OnPending answer (Covers left (FlyingWaitsAt new))
     -- a join that was ready before leaves the task as it is
     pub untouched : old ≡ None → left ≡ cx
-    -- nothing of the task is lost
+    -- what the task was registered for or asked to do before still stands
     pub kept : Keeps cx left

@@ -101,7 +101,7 @@ module _
           → JoinMayGive future.polled rule.output_of new x → JoinMayGive future.polled rule.output_of old x)
       -- who waits where: the task of a pending join hears of its source
       pub registered : OnPending answer (Covers left (λ n. IsSomeAnd new (λ places. source.needs places.set.source n)))
-      -- nothing of the task is lost
+      -- what the task was registered for or asked to do before still stands
       pub kept : Keeps cx left
       -- what may be polled again: each future that a pending join waits for
       pub again : OnPending answer (IfSome new (λ places. AllHeld future.can_poll places.set.slots))

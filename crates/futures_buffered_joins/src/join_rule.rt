@@ -17,7 +17,7 @@ pub trait JoinRule<O> {
     /// With what the join is ready.
     type Answer;
 
-    // Backwards: the output of which this is kept, or the output that ends the join with this error.
+    // The inverse of `keep`: the output of which this is kept, or the output that ends the join with this error.
     ghost output_of: { Result Self.Kept Self.Error → O };
 
     // What an answer shows.

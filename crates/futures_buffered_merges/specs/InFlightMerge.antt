@@ -97,7 +97,7 @@ module _ {St A : Type 0} (stream : StreamOf St A) where
   abbrev pub AnswersNoMore : Merged St → Merged St → Type 0
   AnswersNoMore old new = (answer : Option A) → AnyAnswers new answer → AnyAnswers old answer
 
-  -- an item that one of the streams may give, the end where nothing is held, or nothing
+  -- an item that one of the streams may give; the end, exactly where nothing is held after the poll; or Pending
   abbrev pub GivesAnswer : Merged St → Poll (Option A) → Merged St → Type 0
   GivesAnswer old answer new = IfReady answer (λ o. MatchOption o (new.held ≡ 0)
       (λ x. (new.held ≡ old.held) × (0 < old.held) × AnyAnswers old (Some x)))
@@ -106,7 +106,7 @@ module _ {St A : Type 0} (stream : StreamOf St A) where
   -- One poll, which took the merge from old to new and the task from cx to left.
   pub record PollsMerge (old : Merged St) (answer : Poll (Option A)) (new : Merged St)
       (cx left : Context) : Type 0 where
-    -- an item, the end exactly where nothing is held, or nothing
+    -- an item; the end, exactly where nothing is held after this poll; or Pending. Who is woken is not said
     pub gave : GivesAnswer old answer new
     -- a stream leaves only as it ends
     pub ended : OneStreamEndsAtMost old new
@@ -117,7 +117,7 @@ module _ {St A : Type 0} (stream : StreamOf St A) where
     pub again : CanPollStreams new
     -- the task of a pending merge hears of what it waits for
     pub registered : OnPending answer (Covers left (MergedWaitsAt new))
-    -- nothing of the task is lost
+    -- what the task was registered for or asked to do before still stands
     pub kept : Keeps cx left
 
   -- Polls until an item came or the end: the merge was new by then.

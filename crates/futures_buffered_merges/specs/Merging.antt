@@ -118,7 +118,7 @@ module _
       pub limit : new.limit ≡ old.limit
       -- who waits where: the task of a pending merge is registered where its source waits, or was asked to poll again
       pub covered : OnPending answer (Covers left (source.needs new.source))
-      -- nothing of the task is lost
+      -- what the task was registered for or asked to do before still stands
       pub kept : Keeps cx left
       -- what may be polled again: each stream that is held
       pub pollable : AllHeld stream.can_poll new.slots

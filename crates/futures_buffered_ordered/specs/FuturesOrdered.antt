@@ -82,7 +82,7 @@ module _
     (rule : PollOneOf R F W A)
     (source : ReadySourceOf S W)
   where
-    -- how it is polled, where `rule` says how one future is
+    -- how the set of a queue is polled, where `rule` says how one future is
     abbrev pub growing_polls : PolledSet (Growing (Numbered F) S) A
     growing_polls = record {
       count = held_in_groups;

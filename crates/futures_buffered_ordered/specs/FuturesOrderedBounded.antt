@@ -96,7 +96,7 @@ module _
     (rule : PollOneOf R F W A)
     (source : ReadySourceOf S W)
   where
-    -- how it is polled, where `rule` says how one future is
+    -- how the set of a queue is polled, where `rule` says how one future is
     abbrev pub bounded_polls : PolledSet (Bounded (Numbered F) S) A
     bounded_polls = record {
       count = held_in;

@@ -102,5 +102,5 @@ pub record PollsNumberedTask
     : Type 0 where
   -- the task of a pending set hears of what it waits for
   pub covered : OnPending answer (Covers left (needs new))
-  -- nothing of the task is lost
+  -- what the task was registered for or asked to do before still stands
   pub kept : Keeps cx left

@@ -225,7 +225,7 @@ module _ {Q A : Type 0} (polls : PolledSet Q A) where
     pub holds : OnPending answer (0 < polls.count new.set)
     -- who waits where: the task of a pending queue hears of what its set waits for
     pub covered : OnPending answer (Covers left (polls.needs new.set))
-    -- nothing of the task is lost
+    -- what the task was registered for or asked to do before still stands
     pub kept : Keeps cx left
     -- what may be polled again: each future in progress
     pub pollable : polls.can_poll new.set
@@ -238,8 +238,8 @@ module _ {Q A : Type 0} (polls : PolledSet Q A) where
       (cx left : Context)
       : Type 0 where
     -- what came, and who is woken: while the front is in progress the set is polled, and each output is kept in its
-    -- entry; then comes the front's output, the end, or the set's Pending. The polls of the set leave the task, one
-    -- after another
+    -- entry; then comes the front's output, the end, or the set's Pending. Each poll of the set says who is woken; an
+    -- end, or a front that was kept, leaves the task alone
     pub gave : OrderedGives (BesideTask polls.gives) (λ set. polls.count set.0)
         (with_task old cx) answer (with_task new left)
     -- what stays, who waits where, and what may be polled again

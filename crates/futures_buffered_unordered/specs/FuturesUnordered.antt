@@ -180,7 +180,7 @@ pub record PollsGroup
   pub covered : OnPending answer (Covers left (source.needs new.source))
   -- the end leaves the task so
   pub passed : IfReady answer (λ o. IfNone o (passes cx left))
-  -- nothing of the task is lost
+  -- what the task was registered for or asked to do before still stands
   pub kept : Keeps cx left
 
 module _ {F A S : Type 0} (polled : ℕ → F → Poll A → F → Type 0) where

@@ -147,7 +147,9 @@ stops_early (Some Pause) = true
 stops_early (Some Empty) = false
 stops_early (Some (Slot i)) = false
 
--- the task was asked to poll again
+-- The task was asked to poll again, so it hears of each source. In the kit's words `Hears cx s` says that a poll has
+-- registered at source s or has asked for another poll; `Covers`, that it has so at each source that is needed; and
+-- `Keeps`, that what was registered and asked for before still stands.
 abbrev pub IsWoken : Context → Type 0
 IsWoken cx = (s : ℕ) → Hears cx s
 
@@ -161,9 +163,9 @@ module _
     (polled : ℕ → F → Poll A → F → Type 0)
     (steps : SourceSteps S)
   where
-    -- A registration came first, with this source or with one beside it. The source then gave these names, in order,
-    -- and one last answer where there was one. The slots named were passed, in order, which took what the slots hold to
-    -- this.
+    -- What a poll asks, told of the set alone. A registration came first, with this source or with one beside it. The
+    -- source then gave these names, in order, and one last answer where there was one. The slots named were passed, in
+    -- order, which took what the slots hold to this.
     pub record Asks
         (old : Bounded F S)
         (names : List ℕ)
@@ -200,8 +202,8 @@ module _
         × Asks old names last new.slots new.source
         × (new.limit ≡ old.limit)
 
-    -- one poll: the end exactly where nothing is held, and then nothing changes; the output of the last name, whose
-    -- slot is emptied; or Pending, where the asking ended without an output
+    -- one poll, told of the set alone: the end exactly where nothing is held, and then nothing changes; the output of
+    -- the last name, whose slot is emptied; or Pending, where the asking ended without an output
     abbrev pub PollGives : Bounded F S → Poll (Option A) → Bounded F S → Type 0
     PollGives old (Ready None) new = (held_count old.slots ≡ 0) × (new ≡ old)
     PollGives old (Ready (Some x)) new = (0 < held_count old.slots)

@@ -56,8 +56,9 @@ module _
         × (last ≡ Some (Slot i)) × Yields rule.polled passed i x new × (left ≡ cx)
     Ends limit count last passed Pending new cx left = (new ≡ passed) × EndsPending limit count last cx left
 
-    -- One count of names, of a set whose task is registered: from old to new, and the task from cx to left. No slot is
-    -- emptied.
+    -- One count of names, of a set whose task is registered: names are asked for, and the value of each is polled,
+    -- until one is ready, no further name comes, or as many came as the limit is. It took the set from old to new, and
+    -- the task from cx to left. No slot is emptied.
     pub record TakesNames
         (old : Bounded F S)
         (answer : Poll (ℕ × A))
@@ -102,7 +103,7 @@ module _
       pub registers_task : source.registers_poll old.source cx task_then
       -- what the count of names made of these
       pub takes : TakesNames (with_source old source_then) answer new task_then left
-      -- nothing of the task is lost
+      -- what the task was registered for or asked to do before still stands
       pub kept : Keeps cx left
 
     -- What a poll gives, by its answer. The end: nothing is held, and nothing changes, of the task neither. An output:

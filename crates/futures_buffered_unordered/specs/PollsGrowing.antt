@@ -1,5 +1,5 @@
--- What one poll of groups makes of them and of the task that polls them. A clause names the source by the ghost members
--- of its type, and so the rule by which one value is polled, or how a group is asked: `R.PollOne S.ReadySource`,
+-- What one poll of groups makes of them and of the task that polls them. A clause names the rule by which one value is
+-- polled, or how a group is asked, and the source, by the ghost members of their types: `R.PollOne S.ReadySource`,
 -- `R.AskGroup S.ReadySource`.
 use Rattle.std.specs.Prelude.{◌≡◌, ◌↔◌, ◌+◌, Bool, Option, None, IfNone}
 use Rattle.std.specs.List.{All}
@@ -39,7 +39,7 @@ pub record PollsGroups
   -- who waits where: the task of pending groups is registered where each of their sources waits, or was asked to poll
   -- again
   pub covered : OnPending answer (All (λ group. Covers left (source.needs group.source)) new.groups.listed)
-  -- nothing of the task is lost
+  -- what the task was registered for or asked to do before still stands
   pub kept : Keeps cx left
   -- what may be polled again: each value that is held
   pub pollable : EachHeld ask.can_poll new.groups.listed

@@ -425,9 +425,10 @@ impl<F: Drop, S: NewSource> FuturesUnordered<F, S> {
     /// One poll of the set, where `rule` says how one held value is polled.
     ///
     /// `Ready(None)` where nothing is held. Else each group that stands as the poll begins is asked once, in turn,
-    /// until one gives an output. A group that is asked and holds nothing is dropped, unless it is the last. Registers
-    /// the task once, and takes no memory where the calls of the sources take none. Takes time in proportion to the
-    /// number of groups, to the names taken and to the slots of groups that are dropped, besides the polls.
+    /// until one gives an output; `Pending` where none does. Where one paused or came to its limit, the task is woken
+    /// at once, also beside an output. A group that is asked and holds nothing is dropped, unless it is the last.
+    /// Registers the task once, and takes no memory where the calls of the sources take none. Takes time in proportion
+    /// to the number of groups, to the names taken and to the slots of groups that are dropped, besides the polls.
     pub fn poll_with<R: PollOne<F, S::Waker>>(
         &mut self,
         rule: &R,
