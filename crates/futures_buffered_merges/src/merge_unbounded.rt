@@ -207,8 +207,8 @@ impl<St: SlotStream<S::Waker>, S: NewSource> Stream for MergeUnbounded<St, S> {
     /// One poll: each group that stands as the poll begins is asked once, in turn, until one gives an item.
     ///
     /// A stream that gives an item stays, and its slot is marked. A stream that ends is dropped. A group that is asked
-    /// and holds nothing any more is dropped, unless it is the last. `Ready(None)` where no stream is held any more, and
-    /// else `Pending`; where a group paused or came to its limit, the task is woken at once, also beside an item. A
+    /// and holds nothing any more is dropped, unless it is the last. `Ready(None)` where no stream is held any more,
+    /// and else `Pending`; where a group paused or came to its limit, the task is woken at once, also beside an item. A
     /// group that is asked registers the task, at each of its counts, until one is pending. Takes no memory but what
     /// the calls of the source take. Takes time in proportion to the number of groups, to the names taken and to the
     /// slots of groups that are dropped, besides the polls.
