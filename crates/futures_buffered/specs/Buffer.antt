@@ -43,7 +43,7 @@ pub record PollsStream {St F : Type 0} (yields : St → Runs F) (old : St) (answ
   pub rest : IfReady answer (λ o. IfSome o (λ x. After (yields old) x (yields new)))
   pub same : OnPending answer (Within (yields old) (yields new))
 
--- what may come from a stream, and nothing more once it has ended
+-- what may come from a stream, and the end at once where there is none any more
 abbrev pub Ahead : {St F : Type 0} → (St → Runs F) → Option St → Runs F
 Ahead yields None = Ends
 Ahead yields (Some stream) = yields stream

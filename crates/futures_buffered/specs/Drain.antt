@@ -9,9 +9,9 @@ use Rattle.futures.specs.declared.task.context.Context.{Context}
 use Rattle.futures.specs.declared.task.Poll.{Poll}
 use Rattle.futures.specs.declared.task.Poll.TheVariants.{Ready, Pending}
 use Rattle.futures.specs.Poll.{IfReady, OnPending}
-use Rattle.futures.specs.Runs.{Runs, Ends}
 use Rattle.futures_buffered_unordered.specs.FuturesUnorderedBounded.{IsWoken}
-use Rattle.futures_buffered.specs.Buffer.{Buffering, FutureQueueOf, IsNewBuffer, PollsBuffer, StreamOf, buffer_of}
+use Rattle.futures_buffered.specs.Buffer.{Ahead, Buffering, FutureQueueOf, IsNewBuffer, PollsBuffer, StreamOf}
+use Rattle.futures_buffered.specs.Buffer.{buffer_of}
 use Rattle.futures_buffered_in_flight.specs.InFlight.{FutureOf}
 use Rattle.futures_buffered_in_flight.specs.InFlightQueue.{Queued, CanPollQueue}
 pub use Rattle.futures_buffered.specs.declared.drain_output.DrainOutput.{Ghosts as DrainOutputOf}
@@ -63,13 +63,6 @@ module _ {O : Type 0} (output : DrainOutputOf O) where
       abbrev pub DrainGoesOn : Option B × Context → Unit {0} → Option B × Context → Type 0
       DrainGoesOn old _ new = DrainTurn old.0 None new.0 old.1 new.1
 
-      -- how a call ends, where so many turns came before: with one more, which is the last; or without, where that
-      -- would be one too many, and then it is pending and the task is woken
-      abbrev pub DrainEnds : ℕ → ℕ → Option B × Context → Poll O → Option B → Context → Type 0
-      DrainEnds limit turns before answer new left =
-          ((turns < limit) × DrainTurn before.0 (Some answer) new before.1 left)
-          ⊎ ((turns ≡ limit) × (answer ≡ Pending) × (new ≡ before.0) × IsWoken left)
-
       -- one call: some turns, in each of which an output came that ends nothing, and its end
       pub record DrainCall
           (limit : ℕ)
@@ -81,12 +74,10 @@ module _ {O : Type 0} (output : DrainOutputOf O) where
         pub turns : List (Unit {0})
         pub before : Option B × Context
         pub row : FoldsTo DrainGoesOn (old, cx) turns before
-        pub ends : DrainEnds limit (length turns) before answer new left
-
--- what may come from the buffer, and the end at once where there is none
-abbrev pub FromBuffer : {B A : Type 0} → (B → Runs A) → Option B → Runs A
-FromBuffer yields None = Ends
-FromBuffer yields (Some buffer) = yields buffer
+        -- it ends with one more turn, the last; or without, where that would be one too many, and then it is pending
+        -- and the task is woken
+        pub ends : ((length turns < limit) × DrainTurn before.0 (Some answer) new before.1 left)
+            ⊎ ((length turns ≡ limit) × (answer ≡ Pending) × (new ≡ before.0) × IsWoken left)
 
 -- each future that it holds may be polled
 abbrev pub HoldsPollable : {F A St : Type 0} → FutureOf F A → Draining (Buffering St (Queued F)) → Type 0
@@ -108,7 +99,7 @@ module _ {B O : Type 0} (buffer : StreamOf B O) where
 module _ {B O : Type 0} (output : DrainOutputOf O) (buffer : StreamOf B O) where
   -- it may end with this answer if its buffer may give some outputs that end nothing, and then `last_of` the answer
   abbrev pub DrainGives : Draining B → O → Type 0
-  DrainGives d answer = (outputs : List (Unit {0})) × FromBuffer buffer.yields d.buffer
+  DrainGives d answer = (outputs : List (Unit {0})) × Ahead buffer.yields d.buffer
       (map (λ _. output.done) outputs) (output.last_of answer)
 
   -- What a turn that goes on leaves of a drain.
