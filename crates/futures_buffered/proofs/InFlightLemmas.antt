@@ -11,8 +11,8 @@ use Rattle.futures_buffered_unordered.specs.StreamAnswers.{StreamAnswers, stream
 use Rattle.futures_buffered_unordered.proofs.HeldGivesLemmas.{Gathers-Within, Gathers-After}
 use Rattle.futures_buffered_in_flight.specs.InFlight.{FutureOf}
 use Rattle.futures_buffered_ordered.specs.declared.numbered.Numbered.{Numbered}
-use Rattle.futures_buffered_in_flight.specs.InFlightOrdered.{CanPollOrdered, ComesOfEach, GivesInTurn, OrderedInFlight, OrderedWaitsAt, PollsInTurn, PushesBack, ordered_count, ordered_room}
-use Rattle.futures_buffered_in_flight.proofs.InFlightOrderedLemmas.{answers_in_turn, gives_in_turn}
+use Rattle.futures_buffered_in_flight.specs.InFlightOrdered.{ComesOfEach, GivesInTurn, OrderedInFlight, PollsInTurn, PushesBack, ordered_count, ordered_room}
+use Rattle.futures_buffered_in_flight.proofs.InFlightOrderedLemmas.{gives_in_turn}
 use Rattle.futures_buffered_in_flight.specs.InFlightQueue.{Queued, SomeOf, AnyQueuedGives, NumberGives, CanPollQueue, ComesFromQueue, HoldsWithinRoom, PollsQueued, PollsQueuedTask, PushesQueued, QueuedWaitsAt, queued_count, queued_room}
 use Rattle.futures_buffered.specs.FutureQueue.{AddsOutput, PollLeavesQueue, PushAddsOutput, PushLeavesQueue}
 
@@ -96,7 +96,3 @@ poll_leaves_ordered future old new answer cx left poll =
 
 pub poll_gives_ordered : {F A : Type 0} (future : FutureOf F A) (old new : OrderedInFlight F A) (answer : Poll (Option A)) (cx left : Context) → PollsInTurn future old answer new cx left → GivesInTurn future old answer new
 poll_gives_ordered future old new answer cx left poll = gives_in_turn future old new answer cx left poll
-
-pub poll_answers_ordered : {F A : Type 0} (future : FutureOf F A) (old new : OrderedInFlight F A) (answer : Poll (Option A)) (cx left : Context) → PollsInTurn future old answer new cx left
-    → StreamAnswers (stream_of (CanPollOrdered future) OrderedWaitsAt (ComesOfEach future)) old answer new cx left
-poll_answers_ordered future old new answer cx left poll = answers_in_turn future old new answer cx left poll

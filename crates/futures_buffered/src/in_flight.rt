@@ -102,7 +102,7 @@ impl<F: Future<Output = A>, A: Drop> FutureQueue<F> for InFlightOrdered<F, A> {
         None
     }
 
-    #[tactic(auto, using(crate::proofs::InFlightLemmas::poll_leaves_ordered, crate::proofs::InFlightLemmas::poll_gives_ordered, crate::proofs::InFlightLemmas::poll_answers_ordered))]
+    #[tactic(auto, using(crate::proofs::InFlightLemmas::poll_leaves_ordered, crate::proofs::InFlightLemmas::poll_gives_ordered))]
     fn poll_output(&mut self, cx: &mut Context<'_>) -> Poll<Option<A>> {
         InFlightOrdered::poll_output(self, cx)
     }
