@@ -49,12 +49,17 @@ module _
     (rule : PollOneOf R F W A)
     (source : ReadySourceOf S W)
   where
+    -- each value may be polled, and the task is registered where the source waits
+    pub record CanPollRegistered (old : Bounded F S) (cx : Context) : Type 0 where
+      pub held : AllHeld rule.can_poll old.slots
+      pub registered : Covers cx (source.needs old.source)
+
     -- How one count of names, at most as many as the limit, ended, by its answer: the value of one more slot gave an
     -- output, and the task is as the registration left it; or none did.
-    abbrev pub Ends : ℕ → ℕ → Option Taken → Slots F → Poll (ℕ × A) → Slots F → Context → Context → Type 0
-    Ends limit count last passed (Ready (i, x)) new cx left = (count < limit)
+    abbrev pub NamesEnd : ℕ → ℕ → Option Taken → Slots F → Poll (ℕ × A) → Slots F → Context → Context → Type 0
+    NamesEnd limit count last passed (Ready (i, x)) new cx left = (count < limit)
         × (last ≡ Some (Slot i)) × Yields rule.polled passed i x new × (left ≡ cx)
-    Ends limit count last passed Pending new cx left = (new ≡ passed) × EndsPending limit count last cx left
+    NamesEnd limit count last passed Pending new cx left = (new ≡ passed) × EndsPending limit count last cx left
 
     -- One count of names, of a set whose task is registered: names are asked for, and the value of each is polled,
     -- until one is ready, no further name comes, or as many came as the limit is. It took the set from old to new, and
@@ -73,7 +78,7 @@ module _
       pub passed : Slots F
       pub passes : FoldsTo (Passes rule.polled) old.slots names passed
       -- what the last answer made of that, and who is woken
-      pub ends : Ends old.limit (length names) last passed answer new.slots cx left
+      pub ends : NamesEnd old.limit (length names) last passed answer new.slots cx left
       -- what stays: each slot holds a value where it held one, and the limit
       pub count : held_in new ≡ held_in old
       pub same_slots : (j : ℕ) → is_some (value_in new.slots j) ≡ is_some (value_in old.slots j)

@@ -4,7 +4,6 @@
 //! marked slots from the set's source, at most as many as its limit, and polls what these slots hold until one is
 //! ready. A slot that nobody marked costs nothing.
 ghost use Rattle.std.specs.Prelude.{◌≡◌, ◌<◌, ◌≤◌, ◌+◌, ◌==◌, ◌↔◌, IfOk, IsSome, IsTrue};
-ghost use Rattle.futures.specs.Task.{Covers};
 ghost use Rattle.futures_buffered_core.specs.Drawn.{IsFiniteSource, items_of};
 ghost use Rattle.futures_buffered_core.specs.Made.{MakesSlots};
 ghost use Rattle.futures_buffered_core.specs.ReadyShared.{IsNewShared, MarksShared};
@@ -14,8 +13,8 @@ ghost use Rattle.futures_buffered_unordered.specs.Held.{AllHeld};
 ghost use Rattle.futures_buffered_unordered.specs.FuturesUnorderedBounded.{HoldsEach, IsNewSet, Pushes, PushesIfRoom};
 ghost use Rattle.futures_buffered_unordered.specs.FuturesUnorderedBounded.{PushesOne, emptied, slots_in};
 ghost use Rattle.futures_buffered_unordered.specs.FuturesUnorderedBounded.{with_empty_slot};
-ghost use Rattle.futures_buffered_unordered.specs.PollsBounded.{PollsBounded, RegistersAndTakes, TakesNames};
-ghost use Rattle.futures_buffered_unordered.specs.PollsBounded.{registered};
+ghost use Rattle.futures_buffered_unordered.specs.PollsBounded.{CanPollRegistered, PollsBounded};
+ghost use Rattle.futures_buffered_unordered.specs.PollsBounded.{RegistersAndTakes, TakesNames, registered};
 ghost use Rattle.futures_buffered_unordered.specs.Extended.{Extends, MakesFull};
 
 use crate::poll_one::PollOne;
@@ -277,8 +276,7 @@ impl<F: Drop, S: ReadySource> FuturesUnorderedBounded<F, S> {
         rule: &R,
         cx: &mut Context<'_>,
     ) -> Poll<(usize, R::Output)>
-        requires held { AllHeld R.can_poll self.old.slots }
-        requires registered { Covers cx.old (S.needs self.old.source) }
+        requires { CanPollRegistered R.PollOne S.ReadySource self.old cx.old }
         ensures { TakesNames R.PollOne S.ReadySource self.old result self.new cx.old cx.new }
     {
         'names: for _count in 0..self.limit {
@@ -363,8 +361,7 @@ impl<F: Drop, S: ReadySource> FuturesUnorderedBounded<F, S> {
         rule: &R,
         cx: &mut Context<'_>,
     ) -> Poll<Option<R::Output>>
-        requires held { AllHeld R.can_poll self.old.slots }
-        requires registered { Covers cx.old (S.needs self.old.source) }
+        requires { CanPollRegistered R.PollOne S.ReadySource self.old cx.old }
         ensures { PollsBounded R.PollOne (registered S.ReadySource)
             self.old result self.new cx.old cx.new }
     {
