@@ -194,7 +194,9 @@ impl PollerWaker<Waker> {
         ensures back { TakesBack self.old.own self.old.did self.new.did }
     {
         if self.own.is_none() {
-            self.own = self.shared.kept.take_out(&mut self.seat);
+            if let Some(kept) = self.shared.kept.take_out(&mut self.seat) {
+                self.own = Some(kept);
+            }
         }
         let _: Poll<()> = cx.register(&self.shared.source, &mut self.own);
     }
