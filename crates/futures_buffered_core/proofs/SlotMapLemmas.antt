@@ -1,80 +1,195 @@
 -- What each call leaves of the places and the free ones.
-use Rattle.std.proofs.Common.{◌≡◌, ℕ, ◌+◌, ◌<◌, ◌≤◌, Bool, false, cond, eqb, List, [], ◌∷◌, map, length, get_or, set, replicate, Option, Some, None, is_some, IsSome, count_by, refl, sym, ap, ◌∙◌, arith, length-set}
+use Rattle.std.proofs.Common.{◌≡◌, ◌≢◌, true≢false, MatchOption, ℕ, zero, suc, ◌+◌, ◌-◌, ◌<◌, ◌≤◌, Bool, false, cond, eqb, List, [], ◌∷◌, ◌++◌, map, length, get_or, set, replicate, Option, Some, None, is_some, IsSome, count_by, refl, sym, ap, subst, ◌∙◌, arith, length-set}
 use Rattle.std.specs.Option.{is_none}
-use Rattle.std.specs.List.{list_any, range_with_len}
-use Rattle.std.proofs.lemmas.List.{length-replicate, map-set, length-map, get_or-map, get_or_past, get_or-replicate}
+use Rattle.std.specs.List.{list_any, range_with_len, IsDistinct}
+use Rattle.std.proofs.lemmas.Bool.{or_parts}
+use Rattle.std.proofs.lemmas.List.{length-replicate, map-set, length-map, get_or-map, get_or_past, get_or-replicate, get_or-set_same, get_or-set_other, get_or_read}
 use Rattle.std.proofs.Math.Seq.{map-set_same}
-use Rattle.std.proofs.lemmas.List.FromFn.{length-range_with_len}
+use Rattle.std.proofs.lemmas.List.FromFn.{length-map-range_with_len, get_or-map-range_with_len, map-range_with_len_more}
 use Rattle.std.proofs.lemmas.List.Folds.{sum_by-replicate}
-use Rattle.std.proofs.lemmas.List.Sums.{sum_by-set, sum_by-cons}
+use Rattle.std.proofs.lemmas.List.Sums.{sum_by-set, sum_by-cons, count_by-le-length}
 use Rattle.std.proofs.lemmas.Bool.Decides.{nat_tests}
-use Rattle.futures_buffered_core.specs.SlotMap.{Slots, IsFirstHeld}
-use Rattle.futures_buffered_core.specs.SlotMapInvariant.{KeepsPlaces}
+use Rattle.std.proofs.lemmas.Map.Keys.{IsDistinct-head}
+use Rattle.futures_buffered_core.specs.declared.slot_map.Place.{Place}
+use Rattle.futures_buffered_core.specs.declared.slot_map.Place.TheVariants.{Free, Held}
+use Rattle.futures_buffered_core.specs.SlotMap.{Slots, IsFirstHeld, Inserts, no_slots, all_slots, with_value, with_slot_freed}
+use Rattle.futures_buffered_core.specs.SlotMapInvariant.{value_of, next_free, free_from, free_list, slots_of, KeepsPlaces, new_places}
 use Rattle.futures_buffered_core.proofs.RangeLemmas.{listed_range, range_distinct}
-use Rattle.futures_buffered_core.proofs.KeepsOnceLemmas.{KeepsOnce-first, KeepsOnce-take, KeepsOnce-marked, KeepsOnce-return, KeepsOnce-none}
+use Rattle.futures_buffered_core.proofs.KeepsOnceLemmas.{KeepsOnce-first, KeepsOnce-take, KeepsOnce-marked, KeepsOnce-return, KeepsOnce-none, absent_rest}
+
+-- what is asked of a value, where there is one
+pub at_some : {A : Type 0} (o : Option A) (P Q : Type 0) → IsSome o → Q → MatchOption o P (λ _. Q)
+at_some (Some _) P Q some q = q
+at_some None P Q some q = absurd (true≢false (sym some))
+
+module _ (F : Type 0) where
+  length-new_places : (n : ℕ) → length (new_places {F = F} n) ≡ n
+  length-new_places n = length-map-range_with_len (λ (i : ℕ). Free (i + 1)) 0 n
+
+  -- each new place names the one after it
+  free_from-new : (n a m : ℕ) → a + m ≡ n → free_from (new_places {F = F} n) a m ≡ range_with_len a m
+  free_from-new n a zero e = refl
+  free_from-new n a (suc m) e =
+      let named : get_or (new_places {F = F} n) a (Free 0) ≡ Free (a + 1) = get_or-map-range_with_len (λ (i : ℕ). Free (i + 1)) 0 n a a (Free 0) (omega arith) (omega arith) in
+      rw named (ap (λ (rest : List ℕ). a ∷ rest) (free_from-new n (a + 1) m (omega arith)))
 
 module _ {F : Type 0} where
-  -- a slot that holds something is there
-  pub value_within : (places : List (Option F)) (i : ℕ) → IsSome (get_or places i None) → i < length places
-  value_within places i some = grind (arith, get_or_past)
+  -- a write at a place that is not among the next n leaves these
+  free_from-set : (places : List (Place F)) (first n i : ℕ) (new : Place F) → list_any (eqb i) (free_from places first n) ≡ false → free_from (set places i new) first n ≡ free_from places first n
+  free_from-set places first zero i new absent = refl
+  free_from-set places first (suc n) i new absent =
+      let next = next_free (get_or places first (Free 0)) in
+      let parts = or_parts (eqb i first) (list_any (eqb i) (free_from places next n)) absent in
+      let read : get_or (set places i new) first (Free 0) ≡ get_or places first (Free 0) = grind (arith, nat_tests, get_or-set_other) in
+      rw read (ap (λ (rest : List ℕ). first ∷ rest) (free_from-set places next n i new parts.1))
 
-  count-set : (places : List (Option F)) (i : ℕ) (new : Option F) → i < length places → count_by is_some (set places i new) + cond (is_some (get_or places i None)) 1 0 ≡ count_by is_some places + cond (is_some new) 1 0
-  count-set places i new within = sum_by-set (λ o. cond (is_some o) 1 0) places i new None within
+  -- how many values there are once this place was written
+  count-set : (places : List (Place F)) (i : ℕ) (new : Place F) → i < length places → count_by is_some (map value_of (set places i new)) + cond (is_some (get_or (map value_of places) i None)) 1 0 ≡ count_by is_some (map value_of places) + cond (is_some (value_of new)) 1 0
+  count-set places i new within =
+      rw (map-set value_of places i new) (sum_by-set (λ o. cond (is_some o) 1 0) (map value_of places) i (value_of new) None (omega (arith, length-map places value_of)))
+
+  -- a slot that holds something is there
+  pub value_within : (values : List (Option F)) (i : ℕ) → IsSome (get_or values i None) → i < length values
+  value_within values i some = grind (arith, get_or_past)
+
+  pub held_within : (places : List (Place F)) (i : ℕ) → IsSome (get_or (map value_of places) i None) → i < length places
+  held_within places i some = omega (arith, length-map places value_of, value_within (map value_of places) i some)
+
+  -- its mark is clear
+  clear_mark : (places : List (Place F)) (i : ℕ) → IsSome (get_or (map value_of places) i None) → get_or (map is_none (map value_of places)) i false ≡ false
+  clear_mark places i some =
+      let read = get_or-map is_none (map value_of places) i None false (omega (arith, length-map places value_of, held_within places i some)) in
+      grind arith
+
+  -- the free places, where there is one
+  listed : (places : List (Place F)) (first len : ℕ) → len < length places → free_list places first len ≡ first ∷ free_from places (next_free (get_or places first (Free 0))) (length places - (len + 1))
+  listed places first len room = let more : length places - len ≡ suc (length places - (len + 1)) = omega arith in rw more refl
+
+  pub held_at_most : (places : List (Place F)) (first len : ℕ) → KeepsPlaces places first len → len ≤ length places
+  held_at_most places first len kept =
+      omega (arith, kept.counted, count_by-le-length is_some (map value_of places), length-map places value_of)
+
+  pub some_free : (places : List (Place F)) (first len : ℕ) → len < length places → free_list places first len ≢ []
+  some_free places first len room none = let e = listed places first len room in absurd (cc)
 
   -- what the first free place holds
-  pub first_is_empty : (places : List (Option F)) (free rest : List ℕ) (room i : ℕ) → KeepsPlaces places free room → free ≡ i ∷ rest → (i < length places) × (get_or places i None ≡ None)
-  first_is_empty places free rest room i kept e =
-      let within : i < length places = omega (arith, length-map places is_none, KeepsOnce-first (map is_none places) free rest room i kept.once e) in
-      let marked = KeepsOnce-marked (map is_none places) free rest room i kept.once e in
-      let empty = get_or-map is_none places i None false within in
+  pub first_is_empty : (places : List (Place F)) (first len : ℕ) → KeepsPlaces places first len → len < length places → (first < length places) × (get_or (map value_of places) first None ≡ None)
+  first_is_empty places first len kept room =
+      let values = map value_of places in
+      let within : first < length places = omega (arith, length-map places value_of, length-map values is_none, KeepsOnce-first (map is_none values) _ _ _ first kept.once (listed places first len room)) in
+      let marked = KeepsOnce-marked (map is_none values) _ _ _ first kept.once (listed places first len room) in
+      let empty = get_or-map is_none values first None false (omega (arith, length-map places value_of)) in
       (within, grind arith)
 
-  pub KeepsPlaces-insert : (places : List (Option F)) (free rest : List ℕ) (room i : ℕ) (value : F) → KeepsPlaces places free room → free ≡ i ∷ rest → KeepsPlaces (set places i (Some value)) rest room
-  KeepsPlaces-insert places free rest room i value kept e =
-      let first = first_is_empty places free rest room i kept e in
+  -- what a read of the first free place gives
+  pub first_read : (places : List (Place F)) (first len : ℕ) (read : Place F) → KeepsPlaces places first len → len < length places → read ≡ get_or places first read → (value_of read ≡ None) × (next_free read ≡ next_free (get_or places first (Free 0)))
+  first_read places first len read kept room is =
+      let empty = first_is_empty places first len kept room in (
+        ap value_of is ∙ sym (get_or-map value_of places first read None empty.0) ∙ empty.1,
+        ap next_free (get_or_read places first read empty.0 is (Free 0)),
+      )
+
+  -- those after the first one, once it was written
+  after_insert : (places : List (Place F)) (first len : ℕ) (new : Place F) → KeepsPlaces places first len → len < length places → free_list (set places first new) (next_free (get_or places first (Free 0))) (len + 1) ≡ free_from places (next_free (get_or places first (Free 0))) (length places - (len + 1))
+  after_insert places first len new kept room =
+      let next = next_free (get_or places first (Free 0)) in
+      let rest = free_from places next (length places - (len + 1)) in
+      let distinct = subst (IsDistinct eqb) (listed places first len room) kept.once.distinct in
+      rw (length-set places first new) (free_from-set places next (length places - (len + 1)) first new (absent_rest first rest (IsDistinct-head eqb first rest distinct)))
+
+  pub KeepsPlaces-insert : (places : List (Place F)) (first len : ℕ) (value : F) → KeepsPlaces places first len → len < length places → KeepsPlaces (set places first (Held value)) (next_free (get_or places first (Free 0))) (len + 1)
+  KeepsPlaces-insert places first len value kept room =
+      let values = map value_of places in
+      let empty = first_is_empty places first len kept room in
       record {
-        once = rw (map-set is_none places i (Some value)) (KeepsOnce-take (map is_none places) free rest room i kept.once e);
-        total = omega (arith, kept.total, ap length e, length-set places i (Some value), rw first.1 at (count-set places i (Some value) first.0));
+        once = rw (after_insert places first len (Held value) kept room, map-set value_of places first (Held value), map-set is_none values first (Some value), length-set places first (Held value)) (KeepsOnce-take (map is_none values) _ _ _ first kept.once (listed places first len room));
+        counted = omega (arith, kept.counted, rw empty.1 at (count-set places first (Held value) empty.0));
       }
 
-  not_none : (o : Option F) → IsSome o → is_none o ≡ false
-  not_none o some = grind arith
-
-  pub KeepsPlaces-write : (places : List (Option F)) (free : List ℕ) (room i : ℕ) (value : F) → KeepsPlaces places free room → IsSome (get_or places i None) → KeepsPlaces (set places i (Some value)) free room
-  KeepsPlaces-write places free room i value kept some =
-      let within = value_within places i some in
+  pub Inserts-first : (places : List (Place F)) (first len : ℕ) (value : F) → KeepsPlaces places first len → len < length places → Inserts (slots_of places first len) first value (slots_of (set places first (Held value)) (next_free (get_or places first (Free 0))) (len + 1))
+  Inserts-first places first len value kept room =
+      let empty = first_is_empty places first len kept room in
       record {
-        once = rw (map-set_same is_none places i (Some value) None (sym (not_none (get_or places i None) some))) kept.once;
-        total = omega (arith, kept.total, length-set places i (Some value), rw some at (count-set places i (Some value) within));
+        within = omega (arith, length-map places value_of, empty.0);
+        first_free = rw (after_insert places first len (Held value) kept room) (listed places first len room);
+        was_empty = empty.1;
+        now_held = map-set value_of places first (Held value);
       }
 
-  pub KeepsPlaces-remove : (places : List (Option F)) (free : List ℕ) (room i : ℕ) → KeepsPlaces places free room → IsSome (get_or places i None) → KeepsPlaces (set places i None) (i ∷ free) room
-  KeepsPlaces-remove places free room i kept some =
-      let within = value_within places i some in
-      let clear = get_or-map is_none places i None false within ∙ not_none (get_or places i None) some in
+  -- a place that holds something is not among the free ones
+  held_not_listed : (places : List (Place F)) (first len i : ℕ) → KeepsPlaces places first len → IsSome (get_or (map value_of places) i None) → list_any (eqb i) (free_list places first len) ≡ false
+  held_not_listed places first len i kept some = sym (kept.once.exact i) ∙ clear_mark places i some
+
+  -- the free places once one was written that holds something
+  after_write : (places : List (Place F)) (first len i : ℕ) (new : Place F) → KeepsPlaces places first len → IsSome (get_or (map value_of places) i None) → free_from (set places i new) first (length places - len) ≡ free_list places first len
+  after_write places first len i new kept some =
+      free_from-set places first (length places - len) i new (held_not_listed places first len i kept some)
+
+  pub slots_of-write : (places : List (Place F)) (first len i : ℕ) (value : F) → KeepsPlaces places first len → IsSome (get_or (map value_of places) i None) → slots_of (set places i (Held value)) first len ≡ with_value (slots_of places first len) i value
+  slots_of-write places first len i value kept some =
+      rw (length-set places i (Held value), after_write places first len i (Held value) kept some, map-set value_of places i (Held value)) refl
+
+  pub KeepsPlaces-write : (places : List (Place F)) (first len i : ℕ) (value : F) → KeepsPlaces places first len → IsSome (get_or (map value_of places) i None) → KeepsPlaces (set places i (Held value)) first len
+  KeepsPlaces-write places first len i value kept some =
+      let values = map value_of places in
+      let within = held_within places i some in
+      let read = get_or-map is_none values i None false (omega (arith, length-map places value_of)) in
+      let same : false ≡ is_none (get_or values i None) = sym (clear_mark places i some) ∙ read in
       record {
-        once = rw (map-set is_none places i None) (KeepsOnce-return (map is_none places) free room i kept.once (omega (arith, length-map places is_none)) clear);
-        total = omega (arith, kept.total, length-set {A = Option F} places i None, rw some at (count-set places i None within));
+        once = rw (length-set places i (Held value), after_write places first len i (Held value) kept some, map-set value_of places i (Held value), map-set_same is_none values i (Some value) None same) kept.once;
+        counted = omega (arith, kept.counted, rw some at (count-set places i (Held value) within));
       }
 
-  -- one value more
-  pub count-insert : (places : List (Option F)) (i : ℕ) (value : F) → i < length places → get_or places i None ≡ None → count_by is_some (set places i (Some value)) ≡ count_by is_some places + 1
-  count-insert places i value within none = omega (arith, rw none at (count-set places i (Some value) within))
+  -- one value less
+  pub count-remove : (places : List (Place F)) (first i : ℕ) → IsSome (get_or (map value_of places) i None) → count_by is_some (map value_of (set places i (Free first))) + 1 ≡ count_by is_some (map value_of places)
+  count-remove places first i some = omega (arith, rw some at (count-set places i (Free first) (held_within places i some)))
 
-  pub KeepsPlaces-room : (places : List (Option F)) (free : List ℕ) (room i : ℕ) → KeepsPlaces places free room → IsSome (get_or places i None) → length free < room
-  KeepsPlaces-room places free room i kept some =
-      let within = value_within places i some in
-      omega (arith, kept.total, kept.once.fits, length-map places is_none, rw some at (count-set places i None within))
+  -- the free places once this one was freed
+  after_remove : (places : List (Place F)) (first len i : ℕ) → KeepsPlaces places first len → IsSome (get_or (map value_of places) i None) → free_list (set places i (Free first)) i (len - 1) ≡ i ∷ free_list places first len
+  after_remove places first len i kept some =
+      let within = held_within places i some in
+      let held = count-remove places first i some in
+      let most = count_by-le-length is_some (map value_of places) in
+      let more : length places - (len - 1) ≡ suc (length places - len) = omega (arith, kept.counted, length-map places value_of) in
+      rw (length-set places i (Free first), more, get_or-set_same places i (Free first) (Free 0) within) (ap (λ (rest : List ℕ). i ∷ rest) (after_write places first len i (Free first) kept some))
 
-  pub KeepsPlaces-new : (n room : ℕ) → n ≤ room → KeepsPlaces {F = F} (replicate n None) (range_with_len 0 n) room
-  KeepsPlaces-new n room fits =
+  pub slots_of-remove : (places : List (Place F)) (first len i : ℕ) → KeepsPlaces places first len → IsSome (get_or (map value_of places) i None) → slots_of (set places i (Free first)) i (len - 1) ≡ with_slot_freed (slots_of places first len) i
+  slots_of-remove places first len i kept some =
+      rw (after_remove places first len i kept some, map-set value_of places i (Free first)) refl
+
+  pub KeepsPlaces-remove : (places : List (Place F)) (first len i : ℕ) → KeepsPlaces places first len → IsSome (get_or (map value_of places) i None) → KeepsPlaces (set places i (Free first)) i (len - 1)
+  KeepsPlaces-remove places first len i kept some =
+      let values = map value_of places in
+      let within = held_within places i some in
+      let marked = KeepsOnce-return (map is_none values) _ _ i kept.once (omega (arith, length-map places value_of, length-map values is_none)) (clear_mark places i some) in
       record {
-        once = record {
+        once = rw (after_remove places first len i kept some, map-set value_of places i (Free first), map-set is_none values i None, length-set places i (Free first)) marked;
+        counted = omega (arith, kept.counted, count-remove places first i some);
+      }
+
+  -- one place more
+  pub new_places_push : (n : ℕ) → new_places {F = F} (n + 1) ≡ new_places n ++ Free (n + 1) ∷ []
+  new_places_push n = map-range_with_len_more (λ (i : ℕ). Free (i + 1)) 0 n n (omega arith)
+
+  values-new : (a n : ℕ) → map value_of (map (λ (i : ℕ). Free (i + 1)) (range_with_len a n)) ≡ replicate {A = Option F} n None
+  values-new a zero = refl
+  values-new a (suc n) = ap (λ (rest : List (Option F)). None ∷ rest) (values-new (a + 1) n)
+
+  pub slots_of-new : (n : ℕ) → slots_of (new_places {F = F} n) 0 0 ≡ no_slots n
+  slots_of-new n =
+      let all : length (new_places {F = F} n) - 0 ≡ n = omega (arith, length-new_places F n) in
+      rw (all, values-new 0 n, free_from-new F n 0 n (omega arith)) refl
+
+  pub KeepsPlaces-new : (n : ℕ) → KeepsPlaces (new_places {F = F} n) 0 0
+  KeepsPlaces-new n =
+      let list = ap (λ (m : Slots F). m.free) (slots_of-new n) in
+      record {
+        once = rw (list, values-new 0 n, length-new_places F n) (record {
           distinct = range_distinct 0 n;
           exact = exact;
           fits = omega (arith, length-map (replicate {A = Option F} n None) is_none, length-replicate {A = Option F} n None);
-        };
-        total = omega (arith, sum_by-replicate (λ (o : Option F). cond (is_some o) 1 0) n None, length-range_with_len 0 n, length-replicate {A = Option F} n None);
+        });
+        counted = rw (values-new 0 n) (omega (arith, sum_by-replicate (λ (o : Option F). cond (is_some o) 1 0) n None));
       }
     where
       exact : (q : ℕ) → get_or (map is_none (replicate {A = Option F} n None)) q false ≡ list_any (eqb q) (range_with_len 0 n)
@@ -89,6 +204,10 @@ first_held_once m start i j first other = grind arith
 
 -- a map whose places all hold a value has no free one
 module _ {F : Type 0} where
+  values-held : (values : List F) → map value_of (map Held values) ≡ map Some values
+  values-held [] = refl
+  values-held (value ∷ values) = ap (λ (rest : List (Option F)). Some value ∷ rest) (values-held values)
+
   map-is_none : (values : List F) → map is_none (map Some values) ≡ replicate (length values) false
   map-is_none [] = refl
   map-is_none (value ∷ values) = ap (λ (marks : List Bool). false ∷ marks) (map-is_none values)
@@ -97,9 +216,15 @@ module _ {F : Type 0} where
   count-all [] = refl
   count-all (value ∷ values) = omega (arith, count-all values, sum_by-cons (λ (o : Option F). cond (is_some o) 1 0) (Some value) (map Some values))
 
-  pub KeepsPlaces-all : (values : List F) (room : ℕ) → length values ≤ room → KeepsPlaces (map Some values) [] room
-  KeepsPlaces-all values room fits =
+  none_free : (values : List F) → free_list (map Held values) (length (map Held values)) (length (map Held values)) ≡ []
+  none_free values = let none : length (map Held values) - length (map Held values) ≡ 0 = omega arith in rw none refl
+
+  pub slots_of-all : (values : List F) → slots_of (map Held values) (length (map Held values)) (length (map Held values)) ≡ all_slots values
+  slots_of-all values = rw (none_free values, values-held values) refl
+
+  pub KeepsPlaces-all : (values : List F) → KeepsPlaces (map Held values) (length (map Held values)) (length (map Held values))
+  KeepsPlaces-all values =
       record {
-        once = rw (map-is_none values) (KeepsOnce-none (length values) room fits);
-        total = omega (arith, count-all values, length-map values Some);
+        once = rw (none_free values, values-held values, map-is_none values) (KeepsOnce-none (length values) (length (map Held values)) (omega (arith, length-map values Held)));
+        counted = rw (values-held values) (omega (arith, count-all values, length-map values Held));
       }

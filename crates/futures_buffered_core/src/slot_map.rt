@@ -3,20 +3,17 @@
 //! A value goes into the first free slot and stays there until it is removed. For a new map the free slots are 0, 1, 2
 //! and so on; a slot that a removal frees is the first to be used again. No call but the constructors takes memory.
 ghost use Rattle.std.specs.Prelude.{◌≡◌, ◌≢◌, ◌+◌, ◌<◌, ◌≤◌, [], IfOk, IfErr, OnOk, MatchOption, IfSome, IfNone, ℕ};
-ghost use Rattle.std.specs.Prelude.{◌^◌, List, IsTrue, ◌↔◌, ◌==◌, replicate, is_some, IsSome};
-ghost use Rattle.std.specs.List.{range_with_len};
-ghost use Rattle.std.specs.VecDeque.{deque_capacity};
+ghost use Rattle.std.specs.Prelude.{◌^◌, List, IsTrue, ◌↔◌, ◌==◌, is_some, IsSome};
 ghost use Rattle.std.specs.Option.{option_copied_mut};
-ghost use Rattle.std.specs.Option.Follows.{option_follows_value};
-ghost use Rattle.std.specs.Borrow.{sem};
+ghost use Rattle.std.specs.Borrow.{Lends, sem};
 ghost use Rattle.futures_buffered_core.specs.Made.{MakesSlots};
 ghost use Rattle.futures_buffered_core.specs.Drawn.{Draws, IsFiniteSource, RefusesTooMany, items_of};
 ghost use Rattle.futures_buffered_core.specs.SlotMap.{value_in, held_count, slot_count, no_slots, all_slots};
 ghost use Rattle.futures_buffered_core.specs.SlotMap.{with_slot_freed, IsFull, Inserts, IsFirstHeld, NoneHeldFrom};
+ghost use Rattle.futures_buffered_core.specs.SlotMapInvariant.{value_of, next_free, new_places};
 
 use crate::ready_core::{MAX_CAPACITY, NewFault};
 use std::alloc::{AllocError, Global};
-use std::collections::VecDeque;
 use std::marker::Model;
 
 /// Values in slots whose number never changes.
@@ -25,8 +22,18 @@ use std::marker::Model;
 /// one slot, and those that ask how much is held, take the same time at any capacity, besides what they call and drop.
 #[derive(Drop)]
 pub struct PinSlotMap<F> {
-    places: Vec<Option<F>>,
-    free: VecDeque<usize>,
+    places: Vec<Place<F>>,
+    // The free place that is used next. Says nothing where none is free.
+    first_free: usize,
+    // How many places hold a value.
+    len: usize,
+}
+
+#[derive(Drop)]
+enum Place<F> {
+    // The free place that is used after this one. Says nothing at the last of them.
+    Free(usize),
+    Held(F),
 }
 
 impl<F> Model for PinSlotMap<F> {
@@ -36,48 +43,55 @@ impl<F> Model for PinSlotMap<F> {
 
     ghost coded = { slots_code F.code };
 
-    ghost use Rattle.std.specs.VecDeque.{deque_capacity};
-    ghost use Rattle.futures_buffered_core.specs.SlotMapInvariant.{KeepsPlaces};
+    ghost use Rattle.futures_buffered_core.specs.SlotMapInvariant.{slots_of, KeepsPlaces};
 
-    ghost view = { λ m. record { places = m.places.items; free = m.free.items } };
+    ghost view = { λ m. slots_of m.places.items m.first_free m.len };
 
-    ghost invariant = { λ m. KeepsPlaces m.places.items m.free.items (deque_capacity m.free) };
+    ghost invariant = { λ m. KeepsPlaces m.places.items m.first_free m.len };
 }
 
-fn value_of<F>(place: &mut Option<F>) -> &mut F
-    requires { IsSome place.old }
-    ensures* lends { sem 𝓛 (option_follows_value F.row place.entry result) }
-    ensures value { place.old ≡ Some result.now }
-{
-    match place {
-        Some(value) => value,
-        None => unreachable!(),
+impl<F> Place<F> {
+    ghost use Rattle.futures_buffered_core.specs.contracts.slot_map.Place.{the_row};
+
+    fn holds(&self) -> bool
+        ensures { result ≡ is_some (value_of self.now) }
+    {
+        matches!(self, Place::Held(_))
+    }
+
+    // The place that a free one names.
+    fn next(&self) -> usize
+        requires { value_of self.now ≡ None }
+        ensures { result ≡ next_free self.now }
+    {
+        match self {
+            Place::Free(next) => *next,
+            Place::Held(_) => unreachable!(),
+        }
+    }
+
+    fn value_mut(&mut self) -> &mut F
+        requires { IsSome (value_of self.old) }
+        ensures* lends { sem 𝓛 (Lends (the_row F.row) F.row self.entry result Place.Held) }
+        ensures value { value_of self.old ≡ Some result.now }
+    {
+        match self {
+            Place::Held(value) => value,
+            Place::Free(_) => unreachable!(),
+        }
     }
 }
 
-/// `n` places without a value. Takes time and memory in proportion to `n`.
-///
-/// Public for the joins, whose outputs stand at places as well.
-pub fn empty_places<F>(alloc: Global, n: usize) -> Result<Vec<Option<F>>, AllocError>
-    ensures { IfOk result (λ v. v.items ≡ replicate n None) }
+// Each names the one after it.
+#[tactic(auto, using(crate::proofs::SlotMapLemmas::new_places_push))]
+fn free_places<F>(alloc: Global, n: usize) -> Result<Vec<Place<F>>, AllocError>
+    ensures { IfOk result (λ places. places.items ≡ new_places n) }
 {
     let mut places = Vec::with_capacity(alloc, n)?;
-    for _ in 0..n {
-        places.push_reserved(None);
+    for i in 0..n {
+        places.push_reserved(Place::Free(i + 1));
     }
     Ok(places)
-}
-
-#[tactic(auto, using(crate::proofs::RangeLemmas::range_push))]
-fn free_places(alloc: Global, n: usize) -> Result<VecDeque<usize>, AllocError>
-    ensures items { IfOk result (λ q. q.items ≡ range_with_len 0 n) }
-    ensures room { IfOk result (λ q. deque_capacity q ≡ n) }
-{
-    let mut free = VecDeque::with_capacity(alloc, n)?;
-    for i in 0..n {
-        free.push_back_reserved(i);
-    }
-    Ok(free)
 }
 
 impl<F: Drop> PinSlotMap<F> {
@@ -93,14 +107,18 @@ impl<F: Drop> PinSlotMap<F> {
         if capacity > MAX_CAPACITY {
             return Err(NewFault::TooLarge);
         }
-        let places = empty_places(alloc, capacity)?;
-        let free = free_places(alloc, capacity)?;
-        Ok(PinSlotMap { places, free })
+        let places = free_places(alloc, capacity)?;
+        Ok(PinSlotMap {
+            places,
+            first_free: 0,
+            len: 0,
+        })
     }
 
     /// A map without a free slot, which has item k in slot k, and as many slots as there are items.
     ///
-    /// Takes time and memory in proportion to that number. Where it is refused, the items that came are dropped.
+    /// Takes time and memory in proportion to that number, at once the memory for those that the iterator says come at
+    /// least. Where it is refused, the items that came are dropped.
     pub fn from_iter<I: IntoIterator<Item = F>>(alloc: Global, iter: I) -> Result<Self, NewFault>
         requires { IsFiniteSource (items_of I.IntoIterator I.IntoIter.Iterator iter) }
         ensures full { IfOk result (λ m. (items : List F)
@@ -108,17 +126,25 @@ impl<F: Drop> PinSlotMap<F> {
         ensures fits { IfOk result (λ m. slot_count m ≤ MAX_CAPACITY) }
         ensures large { RefusesTooMany (items_of I.IntoIterator I.IntoIter.Iterator iter) result }
     {
+        let iter = iter.into_iter();
+        let (least, _most) = iter.size_hint();
         let mut places = Vec::new(alloc);
+        // Where this is refused, the pushes find room themselves.
+        let _reserved = places.reserve_exact(least.min(MAX_CAPACITY));
         for item in iter {
             if places.len() == MAX_CAPACITY {
                 return Err(NewFault::TooLarge);
             }
-            let Ok(()) = places.push(Some(item)) else {
+            let Ok(()) = places.push(Place::Held(item)) else {
                 return Err(NewFault::Memory);
             };
         }
-        let free = VecDeque::with_capacity(alloc, places.len())?;
-        Ok(PinSlotMap { places, free })
+        let len = places.len();
+        Ok(PinSlotMap {
+            places,
+            first_free: len,
+            len,
+        })
     }
 
     /// The number of slots, free or not.
@@ -132,7 +158,7 @@ impl<F: Drop> PinSlotMap<F> {
     pub fn len(&self) -> usize
         ensures { result ≡ held_count self.now }
     {
-        self.capacity() - self.free.len()
+        self.len
     }
 
     /// Whether no value is held.
@@ -155,10 +181,13 @@ impl<F: Drop> PinSlotMap<F> {
         ensures full { IfErr result (λ back.
             (back ≡ arg) × (self.new ≡ self.old) × IsFull self.old) }
     {
-        let Some(i) = self.free.pop_front() else {
+        if self.len == self.places.len() {
             return Err(arg);
-        };
-        self.places[i] = Some(f(arg));
+        }
+        let i = self.first_free;
+        self.first_free = self.places[i].next();
+        self.places[i] = Place::Held(f(arg));
+        self.len += 1;
         Ok(i)
     }
 
@@ -170,8 +199,9 @@ impl<F: Drop> PinSlotMap<F> {
             → held_count self.new + 1 ≡ held_count self.old }
     {
         if self.holds(key) {
-            self.places[key] = None;
-            self.free.push_front_reserved(key);
+            self.places[key] = Place::Free(self.first_free);
+            self.first_free = key;
+            self.len -= 1;
         }
     }
 
@@ -181,11 +211,11 @@ impl<F: Drop> PinSlotMap<F> {
     pub fn clear(&mut self)
         ensures { self.new ≡ no_slots (slot_count self.old) }
     {
-        self.free.clear();
         for i in 0..self.places.len() {
-            self.places[i] = None;
-            self.free.push_back_reserved(i);
+            self.places[i] = Place::Free(i + 1);
         }
+        self.first_free = 0;
+        self.len = 0;
     }
 
     /// The value of a slot, for writing. `None` where the slot is free or not there.
@@ -218,7 +248,7 @@ impl<F: Drop> PinSlotMap<F> {
         ensures fits { IfSome result (λ i. i + 1 < 2 ^ 64) }
     {
         for i in from..self.places.len() {
-            if self.places[i].is_some() {
+            if self.holds(i) {
                 return Some(i);
             }
         }
@@ -228,7 +258,7 @@ impl<F: Drop> PinSlotMap<F> {
     fn holds(&self, key: usize) -> bool
         ensures { result ≡ is_some (value_in self.now key) }
     {
-        key < self.places.len() && self.places[key].is_some()
+        key < self.places.len() && self.places[key].holds()
     }
 
     fn value_mut(&mut self, key: usize) -> &mut F
@@ -236,7 +266,7 @@ impl<F: Drop> PinSlotMap<F> {
         ensures* writes_back { sem 𝓛 (lends_value F.row self.entry key result) }
         ensures value { value_in self.old key ≡ Some result.now }
     {
-        value_of(&mut self.places[key])
+        self.places[key].value_mut()
     }
 }
 

@@ -20,7 +20,7 @@ use futures::stream::FuturesUnordered;
 use futures::task::{Context, Poll};
 use futures::{Future, Stream};
 use futures_buffered_core::ready_core::NewFault;
-use futures_buffered_core::slot_map::{PinSlotMap, empty_places};
+use futures_buffered_core::slot_map::PinSlotMap;
 use std::alloc::Global;
 use std::marker::Model;
 
@@ -123,7 +123,7 @@ impl<F: Drop> InFlight<F> {
         if !self.handles.is_empty() {
             return true;
         }
-        let Ok(handles) = empty_places(self.alloc, self.slots.capacity()) else {
+        let Ok(handles) = (0..self.slots.capacity()).map(|_| None).collect(self.alloc) else {
             return false;
         };
         self.handles = handles;

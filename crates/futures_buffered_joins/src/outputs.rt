@@ -2,7 +2,6 @@
 ghost use Rattle.std.specs.Prelude.{◌≡◌, ◌<◌, Some, None, IsSome, IfOk, length, map, replicate, slice_index_or};
 ghost use Rattle.std.specs.Prelude.{slice_set};
 
-use futures_buffered_core::slot_map::empty_places;
 use std::alloc::{AllocError, Global};
 use std::marker::Model;
 
@@ -26,6 +25,17 @@ impl<A> Model for Outputs<A> {
 
     ghost invariant = { λ s. (s.gathered.items ≡ [])
         × (length s.places.items ≤ vec_capacity s.gathered) };
+}
+
+// `n` places at which nothing has come. Takes time and memory in proportion to `n`.
+fn empty_places<A>(alloc: Global, n: usize) -> Result<Vec<Option<A>>, AllocError>
+    ensures { IfOk result (λ v. v.items ≡ replicate n None) }
+{
+    let mut places = Vec::with_capacity(alloc, n)?;
+    for _ in 0..n {
+        places.push_reserved(None);
+    }
+    Ok(places)
 }
 
 impl<A: Drop> Outputs<A> {

@@ -1,7 +1,6 @@
-use Rattle.std.proofs.Common.{◌≡◌}
-use Rattle.std.specs.List.{range_with_len}
-use Rattle.std.specs.VecDeque.{deque_capacity, deque_len}
+use Rattle.std.proofs.Common.{◌≡◌, vec_len, vec_capacity}
+use Rattle.futures_buffered_core.specs.SlotMapInvariant.{new_places}
 use Rattle.futures_buffered_core.proofs.slot_map.free_places.Given as goal
 
 abbrev pub invariant-loop-i : goal.invariant-loop-i
-invariant-loop-i l = record { items : l.free.items ≡ range_with_len 0 l.i; len : deque_len l.free ≡ l.i; room : deque_capacity l.free ≡ l.n }
+invariant-loop-i g l = record { items : l.places.items ≡ new_places l.i; len : vec_len l.places ≡ l.i; room : vec_capacity l.places ≡ l.n }

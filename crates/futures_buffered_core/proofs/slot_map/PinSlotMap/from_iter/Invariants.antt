@@ -1,9 +1,10 @@
-use Rattle.std.proofs.Common.{◌≡◌, ◌≤◌, Some, map, vec_len}
+use Rattle.std.proofs.Common.{◌≡◌, ◌≤◌, map, vec_len}
 use Rattle.futures_buffered_table.specs.declared.answer.TheConstants.{MAX_CAPACITY}
+use Rattle.futures_buffered_core.specs.declared.slot_map.Place.TheVariants.{Held}
 use Rattle.futures_buffered_core.proofs.slot_map.PinSlotMap.from_iter.Given as goal
 
 abbrev pub invariant-loop-item : goal.invariant-loop-item
 invariant-loop-item g l = (goal.iterator-loop-item g).can_next l.item-iterator
     × (goal.iterator-loop-item g).is_finite l.item-iterator
-    × (l.places.items ≡ map Some l.yielded)
+    × (l.places.items ≡ map Held l.yielded)
     × (vec_len l.places ≤ MAX_CAPACITY)

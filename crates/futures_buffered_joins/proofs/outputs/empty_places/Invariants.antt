@@ -1,5 +1,5 @@
 use Rattle.std.proofs.Common.{◌≡◌, replicate, None, vec_capacity}
-use Rattle.futures_buffered_core.proofs.slot_map.empty_places.Given as goal
+use Rattle.futures_buffered_joins.proofs.outputs.empty_places.Given as goal
 
 abbrev pub invariant-loop : goal.invariant-loop
 invariant-loop g l = record { items : l.places.items ≡ replicate l.counter None; room : vec_capacity l.places ≡ l.n }
