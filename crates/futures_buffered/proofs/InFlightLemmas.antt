@@ -9,11 +9,11 @@ use Rattle.futures.specs.declared.task.context.Context.{Context}
 use Rattle.futures_buffered_core.specs.SlotMap.{Slots, value_in, held_count}
 use Rattle.futures_buffered_unordered.specs.StreamAnswers.{StreamAnswers, stream_of}
 use Rattle.futures_buffered_unordered.proofs.HeldGivesLemmas.{Gathers-Within, Gathers-After}
-use Rattle.futures_buffered_in_flight.specs.InFlight.{FutureOf}
+use Rattle.futures_buffered_in_flight.specs.InFlight.{FlightsWaitAt, FutureOf}
 use Rattle.futures_buffered_ordered.specs.declared.numbered.Numbered.{Numbered}
-use Rattle.futures_buffered_in_flight.specs.InFlightOrdered.{ComesOfEach, GivesInTurn, OrderedInFlight, PollsInTurn, PushesBack, ordered_count, ordered_room}
+use Rattle.futures_buffered_in_flight.specs.InFlightOrdered.{ComesOfEach, GivesInTurn, OrderedInFlight, PollsInTurn, PushesBack}
 use Rattle.futures_buffered_in_flight.proofs.InFlightOrderedLemmas.{gives_in_turn}
-use Rattle.futures_buffered_in_flight.specs.InFlightQueue.{Queued, SomeOf, AnyQueuedGives, NumberGives, CanPollQueue, ComesFromQueue, HoldsWithinRoom, PollsQueued, PollsQueuedTask, PushesQueued, QueuedWaitsAt, queued_count, queued_room}
+use Rattle.futures_buffered_in_flight.specs.InFlightQueue.{Queued, SomeOf, AnyQueuedGives, NumberGives, CanPollQueue, ComesFromQueue, PollsQueued, PushesQueued, queued_count, queued_room}
 use Rattle.futures_buffered.specs.FutureQueue.{AddsOutput, PollLeavesQueue, PushAddsOutput, PushLeavesQueue}
 
 some_held : {P : Type 0} (m : Slots P) (i : ℕ) (p : P) → value_in m i ≡ Some p → 0 < held_count m
@@ -23,6 +23,13 @@ some_held {P} m i p found =
       | inr past ↦ let none : value_in m i ≡ None = get_or_past m.places i None past in cc
     ] in
     omega (arith, rw found at (get_or-le-sum_by (λ (o : Option P). cond (is_some o) 1 0) m.places i None within))
+
+-- how many an ordered queue holds, and how many it can hold
+abbrev entry_count : {F A : Type 0} → OrderedInFlight F A → ℕ
+entry_count q = length q.entries
+
+abbrev entry_room : {F A : Type 0} → OrderedInFlight F A → ℕ
+entry_room q = queued_room q.set
 
 module _ {F A : Type 0} (future : FutureOf F A) where
   waiting_counts : (fs : List (Numbered F)) (out : ℕ × A) → SomeOf future fs out → 0 < length fs
@@ -53,16 +60,15 @@ module _ {F A : Type 0} (future : FutureOf F A) where
   pub push_adds : (old new : Queued F) (f : F) → PushesQueued future old f new → PushAddsOutput false (ComesFromQueue future) (future.gives f) old None new
   push_adds old new f p = record { adds = adds old new f p; value = tt; overtakes = tt }
 
-  pub poll_leaves : (old new : Queued F) (answer : Poll (Option A)) → PollsQueued future old answer new → HoldsWithinRoom new → PollLeavesQueue queued_count queued_room old answer new
-  poll_leaves old new (Ready None) p within = record { empty = p.gave; fewer = tt; same_count = tt; same_room = p.same_room; some = within.0; bound = within.1 }
-  poll_leaves old new (Ready (Some x)) p within = record { empty = tt; fewer = p.gave.1; same_count = tt; same_room = p.same_room; some = within.0; bound = within.1 }
-  poll_leaves old new Pending p within = record { empty = tt; fewer = tt; same_count = p.gave.1; same_room = p.same_room; some = within.0; bound = within.1 }
+  pub poll_leaves : (old new : Queued F) (answer : Poll (Option A)) (cx left : Context) → PollsQueued future old answer new cx left → PollLeavesQueue queued_count queued_room old answer new
+  poll_leaves old new (Ready None) cx left p = record { empty = p.gave; fewer = tt; same_count = tt; same_room = p.same_room; some = p.some; bound = p.bound }
+  poll_leaves old new (Ready (Some x)) cx left p = record { empty = tt; fewer = p.gave.1; same_count = tt; same_room = p.same_room; some = p.some; bound = p.bound }
+  poll_leaves old new Pending cx left p = record { empty = tt; fewer = tt; same_count = p.gave.1; same_room = p.same_room; some = p.some; bound = p.bound }
 
-  pub answers : (old new : Queued F) (answer : Poll (Option A)) (cx left : Context) → PollsQueued future old answer new → PollsQueuedTask answer new cx left
-      → StreamAnswers (stream_of (CanPollQueue future) QueuedWaitsAt (ComesFromQueue future)) old answer new cx left
-  answers old new (Ready None) cx left p task =
-      record { value = record { each = tt; ends = let k = p.gave.0 in omega (arith, k) }; rest = tt; same = tt; goes = tt; again = tt; registered = tt; kept = task.kept }
-  answers old new (Ready (Some x)) cx left p task =
+  pub answers : (old new : Queued F) (answer : Poll (Option A)) (cx left : Context) → PollsQueued future old answer new cx left → StreamAnswers (stream_of (CanPollQueue future) (λ (q : Queued F). FlightsWaitAt q.set) (ComesFromQueue future)) old answer new cx left
+  answers old new (Ready None) cx left p =
+      record { value = record { each = tt; ends = let k = p.gave.0 in omega (arith, k) }; rest = tt; same = tt; goes = tt; again = tt; registered = tt; kept = p.kept }
+  answers old new (Ready (Some x)) cx left p =
       record {
         value = comes_first old x p.gave.0;
         rest = Gathers-After p.narrows (queued_count old) (queued_count new) x p.gave.1 p.gave.0;
@@ -70,29 +76,28 @@ module _ {F A : Type 0} (future : FutureOf F A) where
         goes = p.again;
         again = tt;
         registered = tt;
-        kept = task.kept;
+        kept = p.kept;
       }
-  answers old new Pending cx left p task =
+  answers old new Pending cx left p =
       record {
         value = tt;
         rest = tt;
         same = Gathers-Within p.narrows (queued_count old) (queued_count new) p.gave.1;
         goes = tt;
         again = p.again;
-        registered = task.registered;
-        kept = task.kept;
+        registered = p.registered;
+        kept = p.kept;
       }
 
-  pub push_leaves_ordered : (old new : OrderedInFlight F A) (f : F) → PushesBack future old f new → PushLeavesQueue {A = A} ordered_count ordered_room old None new
+  pub push_leaves_ordered : (old new : OrderedInFlight F A) (f : F) → PushesBack future old f new → PushLeavesQueue {A = A} entry_count entry_room old None new
   push_leaves_ordered old new f p = record { one_more = p.one_more; stays = tt; same_room = p.same_room }
 
   pub push_adds_ordered : (old new : OrderedInFlight F A) (f : F) → PushesBack future old f new → PushAddsOutput true (ComesOfEach future) (future.gives f) old None new
   push_adds_ordered old new f p = record { adds = p.comes; value = tt; overtakes = tt }
 
-pub poll_leaves_ordered : {F A : Type 0} (future : FutureOf F A) (old new : OrderedInFlight F A) (answer : Poll (Option A)) (cx left : Context) → PollsInTurn future old answer new cx left → PollLeavesQueue ordered_count ordered_room old answer new
+pub poll_leaves_ordered : {F A : Type 0} (future : FutureOf F A) (old new : OrderedInFlight F A) (answer : Poll (Option A)) (cx left : Context) → PollsInTurn future old answer new cx left → PollLeavesQueue entry_count entry_room old answer new
 poll_leaves_ordered future old new answer cx left poll =
-    let p = poll.counts in
-    record { empty = p.empty; fewer = p.fewer; same_count = p.same_count; same_room = p.same_room; some = p.some; bound = p.bound }
+    record { empty = poll.empty; fewer = poll.fewer; same_count = poll.same_count; same_room = poll.same_room; some = poll.some; bound = poll.bound }
 
 pub poll_gives_ordered : {F A : Type 0} (future : FutureOf F A) (old new : OrderedInFlight F A) (answer : Poll (Option A)) (cx left : Context) → PollsInTurn future old answer new cx left → GivesInTurn future old answer new
 poll_gives_ordered future old new answer cx left poll = gives_in_turn future old new answer cx left poll

@@ -1,10 +1,9 @@
 //! Futures of the kit in plain sight, as what a buffer holds.
 ghost use Rattle.futures_buffered_in_flight.specs.InFlightOrdered.{CanPollOrdered, ComesOfEach, GivesInTurn};
 ghost use Rattle.futures_buffered_in_flight.specs.InFlightOrdered.{OrderedWaitsAt, PollsInTurn, PushesBack};
-ghost use Rattle.futures_buffered_in_flight.specs.InFlightOrdered.{ordered_count, ordered_room};
-ghost use Rattle.futures_buffered_in_flight.specs.InFlightQueue.{CanPollQueue, ComesFromQueue, PollsQueued};
-ghost use Rattle.futures_buffered_in_flight.specs.InFlightQueue.{PollsQueuedTask, PushesQueued, QueuedWaitsAt};
-ghost use Rattle.futures_buffered_in_flight.specs.InFlightQueue.{queued_count, queued_room};
+ghost use Rattle.futures_buffered_in_flight.specs.InFlight.{FlightsWaitAt};
+ghost use Rattle.futures_buffered_in_flight.specs.InFlightQueue.{CanPollQueue, ComesFromQueue, OfSomeTask};
+ghost use Rattle.futures_buffered_in_flight.specs.InFlightQueue.{PollsQueued, PushesQueued, queued_count, queued_room};
 ghost use Rattle.futures_buffered.specs.FutureQueue.{OnlyPushes};
 
 use crate::buffer::Buffer;
@@ -25,9 +24,9 @@ impl<F: Future<Output: Drop>> FutureQueue<F> for InFlightQueue<F> {
 
     ghost pushes = { OnlyPushes (PushesQueued F.Future) };
 
-    ghost polls = { PollsQueued F.Future };
+    ghost polls = { OfSomeTask (PollsQueued F.Future) };
 
-    ghost leaves = { λ _ answer new cx left. PollsQueuedTask answer new cx left };
+    ghost leaves = { PollsQueued F.Future };
 
     ghost is_fit = { F.can_poll };
 
@@ -39,7 +38,7 @@ impl<F: Future<Output: Drop>> FutureQueue<F> for InFlightQueue<F> {
 
     ghost in_order = { false };
 
-    ghost needs = { QueuedWaitsAt };
+    ghost needs = { λ q. FlightsWaitAt q.set };
 
     fn len(&self) -> usize {
         InFlightQueue::len(self)
@@ -62,13 +61,13 @@ impl<F: Future<Output: Drop>> FutureQueue<F> for InFlightQueue<F> {
 }
 
 impl<F: Future<Output = A>, A: Drop> FutureQueue<F> for InFlightOrdered<F, A> {
-    ghost use Rattle.std.specs.Prelude.{true};
+    ghost use Rattle.std.specs.Prelude.{true, length};
 
     type Output = A;
 
-    ghost count = { ordered_count };
+    ghost count = { λ q. length q.entries };
 
-    ghost room = { ordered_room };
+    ghost room = { λ q. queued_room q.set };
 
     ghost pushes = { OnlyPushes (PushesBack F.Future) };
 

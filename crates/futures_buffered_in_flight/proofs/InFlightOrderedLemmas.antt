@@ -1,12 +1,14 @@
 -- What the calls of an ordered queue of futures in flight leave of it.
-use Rattle.std.proofs.Common.{◌≡◌, ◌<◌, ◌≤◌, ℕ, List, [], length, cond, is_some, Option, Some, None, inl, inr, ap, ◌∙◌, arith}
+use Rattle.std.proofs.Common.{◌≡◌, ◌≢◌, ◌<◌, ◌≤◌, ℕ, List, [], length, cond, is_some, Option, Some, None, inl, inr, ap, ◌∙◌, arith}
 use Rattle.std.proofs.lemmas.List.{length-replicate}
 use Rattle.std.proofs.lemmas.List.Folds.{sum_by-replicate}
 use Rattle.futures.specs.declared.task.Poll.{Poll}
-use Rattle.futures.specs.declared.task.Poll.TheVariants.{Ready}
+use Rattle.futures.specs.declared.task.Poll.TheVariants.{Ready, Pending}
+use Rattle.futures.specs.Poll.{OnPending}
 use Rattle.futures.specs.declared.task.context.Context.{Context}
 use Rattle.futures_buffered_table.specs.declared.answer.TheConstants.{MAX_CAPACITY}
 use Rattle.futures_buffered_core.specs.SlotMap.{Slots, held_count, no_slots}
+use Rattle.futures_buffered_unordered.specs.FuturesUnorderedBounded.{IsWoken}
 use Rattle.futures_buffered_unordered.specs.StreamAnswers.{StreamAnswers, stream_of}
 use Rattle.futures_buffered_unordered.proofs.StreamAnswersLemmas.{after_item, while_pending}
 use Rattle.futures_buffered_ordered.specs.Numbered.{PollsNumberedSet, PollsNumberedTask}
@@ -15,14 +17,14 @@ use Rattle.futures_buffered_ordered.specs.OrderedEntries.{AddsBack, AddsFront, I
 use Rattle.futures_buffered_ordered.specs.OrderedEntriesInvariant.{IsNumbered, Numbering}
 use Rattle.futures_buffered_ordered.proofs.OrderedEntriesInvariantLemmas.{held_by_entries, new_is_numbered}
 use Rattle.futures_buffered_ordered.proofs.OrderedEntriesLemmas.{as_many_of, comes_before, comes_behind, empty_of, fewer_of, gives_alone, no_more_of, one_entry_more, one_entry_more_before, rest_of, same_of, unused_none, value_of}
-use Rattle.futures_buffered_in_flight.specs.InFlight.{FutureOf}
-use Rattle.futures_buffered_in_flight.specs.InFlightQueue.{Queued, CanPollQueue, IsNewQueued, NumberGives, PollsNumber, PollsQueuedTask, QueuedWaitsAt, QueuesNumber, SameRoom, IsAtItsBound, has_tag, numbered_with, tagged_with, queued_count, queued_room, queued_with}
-use Rattle.futures_buffered_in_flight.specs.InFlightOrdered.{CanPollOrdered, ComesOfEach, GivesInTurn, KeepsInOrder, LeavesInOrder, OrderedInFlight, PollsByNumber, PollsInTurn, PushesBack, PushesFront, flying_polls, ordered_count, ordered_room, OrderedWaitsAt}
+use Rattle.futures_buffered_in_flight.specs.InFlight.{FlightsWaitAt, FutureOf}
+use Rattle.futures_buffered_in_flight.specs.InFlightQueue.{Queued, CanPollQueue, IsNewQueued, NumberGives, OfSomeTask, PollsByNumber, QueuesNumber, SameRoom, IsAtItsBound, has_tag, queued_count, queued_room, queued_with}
+use Rattle.futures_buffered_in_flight.specs.InFlightOrdered.{CanPollOrdered, ComesOfEach, GivesInTurn, KeepsInOrder, OrderedInFlight, PollsInTurn, PushesBack, PushesFront, flying_polls, OrderedWaitsAt}
 use Rattle.futures_buffered_in_flight.specs.declared.in_flight.Place.{Place}
-use Rattle.futures_buffered_in_flight.proofs.InFlightQueueLemmas.{number_counts}
+use Rattle.futures_buffered_in_flight.proofs.InFlightQueueLemmas.{number_counts, numbered_with, tagged_with}
 
 -- a queue of which no push is refused
-pub has_room : {F A : Type 0} (q : Numbering (Queued F) A) → KeepsInOrder q → ordered_count q.queue < ordered_room q.queue → MayRefuse IsAtItsBound q.queue → ⊥
+pub has_room : {F A : Type 0} (q : Numbering (Queued F) A) → KeepsInOrder q → length q.queue.entries < queued_room q.queue.set → MayRefuse IsAtItsBound q.queue → ⊥
 has_room q keeps fewer (inl full) = absurd (omega (arith, full, keeps.fits, fewer))
 has_room q keeps fewer (inr (inl full)) = absurd (omega (arith, full, fewer, held_by_entries queued_with queued_count q.queue.set q.queue.entries q.outgoing keeps.numbered))
 has_room q keeps fewer (inr (inr long)) = absurd (omega (arith, long, keeps.small, fewer))
@@ -31,8 +33,8 @@ has_room q keeps fewer (inr (inr long)) = absurd (omega (arith, long, keeps.smal
 pub new_keeps : {F A : Type 0} (q : Numbering (Queued F) A) (set : Queued F) (n : ℕ) → 0 < n → IsNewQueued n set → q.queue.set ≡ set → q.queue.entries ≡ [] → q.outgoing ≡ 0 → n ≤ q.queue.room → n ≤ MAX_CAPACITY → KeepsInOrder q
 new_keeps {F} q set n some new is none first room small =
     let slots : queued_room set ≡ n = ap length (ap (λ s. s.places) new.1.0) ∙ length-replicate n None in
-    let same : ordered_room q.queue ≡ n = ap (λ (s : Queued F). queued_room s) is ∙ slots in
-    let empty : ordered_count q.queue ≡ 0 = ap length none in
+    let same : queued_room q.queue.set ≡ n = ap (λ (s : Queued F). queued_room s) is ∙ slots in
+    let empty : length q.queue.entries ≡ 0 = ap length none in
     let none_held : held_count {F = Place} (no_slots n) ≡ 0 = sum_by-replicate (λ (o : Option Place). cond (is_some o) 1 0) n None ∙ omega arith in
     record {
       numbered = new_is_numbered queued_with queued_count q set is none first
@@ -48,15 +50,23 @@ new_keeps {F} q set n some new is none first room small =
 
 module _ {F A : Type 0} (future : FutureOf F A) where
   -- what an ordered queue asks of a poll of the futures
-  pub polls_set : (old new : Queued F) (answer : Poll (Option (ℕ × A))) → PollsNumber future old answer new → PollsNumberedSet (CanPollQueue future) queued_count queued_with SameRoom old answer new
-  polls_set old new answer p = grind arith
+  pub polls_set : (old new : Queued F) (answer : Poll (Option (ℕ × A))) (cx left : Context) → PollsByNumber future old answer new cx left → PollsNumberedSet (CanPollQueue future) queued_count queued_with SameRoom old answer new
+  polls_set old new answer cx left p = grind arith
+
+  -- and of what it leaves of the task
+  pub polls_task : (old new : Queued F) (answer : Poll (Option (ℕ × A))) (cx left : Context) → PollsByNumber future old answer new cx left → PollsNumberedTask (λ (q : Queued F). FlightsWaitAt q.set) answer new cx left
+  polls_task old new answer cx left p = record { covered = p.registered; kept = p.kept }
+
+  -- one poll of the futures, told of the queue alone
+  abbrev Gave : Queued F → Poll (Option (ℕ × A)) → Queued F → Type 0
+  Gave = OfSomeTask (PollsByNumber future)
 
   -- what was given might be given, and what may still be given might be given before
-  gave : (old new : Queued F) (out : ℕ × A) → PollsNumber future old (Ready (Some out)) new → NumberGives future old out
-  gave old new out p = p.gave.0
+  gave : (old new : Queued F) (out : ℕ × A) → Gave old (Ready (Some out)) new → NumberGives future old out
+  gave old new out p = p.2.gave.0
 
-  still : (old new : Queued F) (answer : Poll (Option (ℕ × A))) → PollsNumber future old answer new → (out : ℕ × A) → NumberGives future new out → NumberGives future old out
-  still old new answer p = p.narrows
+  still : (old new : Queued F) (answer : Poll (Option (ℕ × A))) → Gave old answer new → (out : ℕ × A) → NumberGives future new out → NumberGives future old out
+  still old new answer p = p.2.narrows
 
   -- no future may give an output with a number that no entry has
   none_with : (old : Numbering (Queued F) A) (i : ℕ) → KeepsInOrder old → IsUnused i old.queue.entries → (y : A) → NumberGives future old.queue.set (i, y) → ⊥
@@ -84,10 +94,15 @@ module _ {F A : Type 0} (future : FutureOf F A) where
 
   -- one poll, told of the queue alone
   alone : (old new : OrderedInFlight F A) (answer : Poll (Option A)) (cx after : Context) → PollsOrdered (flying_polls future) old answer new cx after → GivesInTurn future old answer new
-  alone old new answer cx after poll = gives_alone (PollsByNumber future) (PollsNumber future) (λ a b given before later h. h.gave) queued_count old new answer cx after poll.gave
+  alone old new answer cx after poll = gives_alone (PollsByNumber future) Gave (λ a b given before later h. (before, later, h)) queued_count old new answer cx after poll.gave
 
   pub gives_in_turn : (old new : OrderedInFlight F A) (answer : Poll (Option A)) (cx after : Context) → PollsInTurn future old answer new cx after → GivesInTurn future old answer new
   gives_in_turn old new answer cx after poll = alone old new answer cx after poll.polls
+
+  -- the last poll of the futures says who is woken
+  wakes : (old new : OrderedInFlight F A) (answer : Poll (Option A)) (cx after : Context) → PollsOrdered (flying_polls future) old answer new cx after → OnPending answer (new.set.waiting ≢ [] → IsWoken after)
+  wakes old new (Ready o) cx after poll = tt
+  wakes old new Pending cx after poll = poll.gave.last_step.1.woken
 
   module _ (old new : Numbering (Queued F) A) (answer : Poll (Option A)) (keeps : KeepsInOrder old) (cx after : Context) (poll : PollsOrdered (flying_polls future) old.queue answer new.queue cx after) where
     polled : GivesInTurn future old.queue answer new.queue
@@ -97,7 +112,7 @@ module _ {F A : Type 0} (future : FutureOf F A) where
     polled_keeps numbered =
         let same = poll.queue.set in
         let room = poll.queue.room in
-        let fewer = no_more_of (PollsNumber future) queued_count old.queue new.queue answer polled in
+        let fewer = no_more_of Gave queued_count old.queue new.queue answer polled in
         record {
           numbered = numbered;
           some = omega (arith, same, keeps.some);
@@ -106,14 +121,16 @@ module _ {F A : Type 0} (future : FutureOf F A) where
           small = omega (arith, same, keeps.small);
         }
 
-    pub leaves_in_order : LeavesInOrder old.queue answer new.queue
-    leaves_in_order =
+    pub polls_in_turn : PollsInTurn future old.queue answer new.queue cx after
+    polls_in_turn =
         let same = poll.queue.set in
-        let fewer = no_more_of (PollsNumber future) queued_count old.queue new.queue answer polled in
+        let fewer = no_more_of Gave queued_count old.queue new.queue answer polled in
         record {
-          empty = empty_of (PollsNumber future) queued_count old.queue new.queue answer polled;
-          fewer = fewer_of (PollsNumber future) queued_count old.queue new.queue answer polled;
-          same_count = as_many_of (PollsNumber future) queued_count old.queue new.queue answer polled;
+          polls = poll;
+          woken = wakes old.queue new.queue answer cx after poll;
+          empty = empty_of Gave queued_count old.queue new.queue answer polled;
+          fewer = fewer_of Gave queued_count old.queue new.queue answer polled;
+          same_count = as_many_of Gave queued_count old.queue new.queue answer polled;
           same_room = same;
           some = omega (arith, same, keeps.some);
           bound = omega (arith, same, fewer, keeps.bound);
@@ -125,15 +142,11 @@ module _ {F A : Type 0} (future : FutureOf F A) where
   answers_in_turn old new answer cx after poll =
       let given = gives_in_turn old new answer cx after poll in
       record {
-        value = value_of (PollsNumber future) (NumberGives future) still gave queued_count old new answer given;
-        rest = rest_of (PollsNumber future) (NumberGives future) still gave queued_count old new answer given;
-        same = same_of (PollsNumber future) (NumberGives future) still gave queued_count old new answer given;
+        value = value_of Gave (NumberGives future) still gave queued_count old new answer given;
+        rest = rest_of Gave (NumberGives future) still gave queued_count old new answer given;
+        same = same_of Gave (NumberGives future) still gave queued_count old new answer given;
         goes = after_item answer poll.polls.queue.pollable;
         again = while_pending answer poll.polls.queue.pollable;
         registered = poll.polls.queue.covered;
         kept = poll.polls.queue.kept;
       }
-
--- and of what it leaves of the task
-pub polls_task : {F A : Type 0} (new : Queued F) (answer : Poll (Option (ℕ × A))) (cx left : Context) → PollsQueuedTask answer new cx left → PollsNumberedTask QueuedWaitsAt answer new cx left
-polls_task new answer cx left p = record { covered = p.registered; kept = p.kept }

@@ -1,18 +1,21 @@
 -- What a push, a start and a poll leave of a queue of futures in flight.
-use Rattle.std.proofs.Common.{get_or, length-set, set, ◌≡◌, ◌+◌, ◌<◌, ◌==◌, ℕ, Bool, cond, List, [], ◌∷◌, ◌++◌, length, IsSome, Option, Some, None, refl, sym, subst, ap, ap₂, ◌∙◌, ◌⊎◌, inl, inr, arith}
+use Rattle.std.proofs.Common.{count_by, get_or, length-set, set, ◌≡◌, ◌≢◌, ◌+◌, ◌<◌, ◌≤◌, ◌==◌, ℕ, Bool, cond, List, [], ◌∷◌, ◌++◌, length, IsSome, Option, Some, None, refl, sym, subst, ap, ap₂, ◌∙◌, ◌⊎◌, inl, inr, arith}
 use Rattle.std.specs.List.{AllByRecursion, sum_by}
 use Rattle.std.proofs.lemmas.List.{get_or-set_same, get_or-set_other, length_push}
 use Rattle.std.proofs.lemmas.List.Sums.{get_or-le-sum_by, sum_by-cons, sum_by-set, sum_by_push}
 use Rattle.std.proofs.lemmas.Bool.{cases_eq, eq-eqb}
 use Rattle.futures.specs.declared.task.Poll.{Poll}
 use Rattle.futures.specs.declared.task.Poll.TheVariants.{Ready, Pending}
+use Rattle.futures.specs.declared.task.context.Context.{Context}
+use Rattle.futures.specs.Task.{Covers, Keeps, Lasting}
 use Rattle.futures_buffered_core.specs.SlotMap.{Slots, value_in, held_count, slot_count, with_slot_freed, Inserts}
 use Rattle.futures_buffered_core.proofs.SlotMapLemmas.{value_within}
 use Rattle.futures_buffered_unordered.proofs.HeldGivesLemmas.{value_in-with_slot_freed, value_in-with_slot_freed_other, None-Some}
+use Rattle.futures_buffered_unordered.specs.FuturesUnorderedBounded.{IsWoken}
 use Rattle.futures_buffered_ordered.specs.Numbered.{CanPollFuture, one_at}
 use Rattle.futures_buffered_ordered.specs.declared.numbered.Numbered.{Numbered}
-use Rattle.futures_buffered_in_flight.specs.InFlight.{FutureOf, Flights, KeyGives, CanPollAll, EntersAt, StaysAsItWas, ComesByKey, RunsGiveNoMore}
-use Rattle.futures_buffered_in_flight.specs.InFlightQueue.{Queued, SomeOf, AnyTaggedGives, NumberGives, CanPollQueue, PollsNumber, PollsQueued, QueuesNumber, PushesQueued, Starts, HoldsWithinRoom, GivesHeld, QueueGivesNoMore, has_tag, numbered_with, queued_count, queued_with, tagged_with}
+use Rattle.futures_buffered_in_flight.specs.InFlight.{FutureOf, Flights, FlightsWaitAt, KeyGives, CanPollAll, EntersAt, PollsInFlight, StaysAsItWas, RunsGiveNoMore}
+use Rattle.futures_buffered_in_flight.specs.InFlightQueue.{Queued, SomeOf, AnyTaggedGives, NumberGives, AnyQueuedGives, CanPollQueue, PollsByNumber, PollsQueued, QueuesNumber, PushesQueued, Starts, GivesHeld, has_tag, queued_count, queued_room, queued_with}
 use Rattle.futures_buffered_in_flight.specs.declared.in_flight.Came.{Came}
 use Rattle.futures_buffered_in_flight.specs.declared.in_flight.Place.{Place}
 use Rattle.futures_buffered_in_flight.specs.declared.run.Key.{Key}
@@ -20,7 +23,15 @@ use Rattle.futures_buffered_in_flight.specs.declared.run.Key.{Key}
 one_self : (i : ℕ) → one_at i i ≡ 1
 one_self i = ap (λ (b : Bool). cond b 1 0) (eq-eqb i i refl)
 
--- how many slots have a tag, before and after a call
+-- how many slots have a tag
+abbrev pub tagged_with : ℕ → Slots Place → ℕ
+tagged_with i slots = count_by (has_tag i) slots.places
+
+-- how many of these have number i
+abbrev pub numbered_with : {F : Type 0} → ℕ → List (Numbered F) → ℕ
+numbered_with {F} i fs = count_by (λ (f : Numbered F). f.number == i) fs
+
+-- and how many slots have it before and after a call
 module _ (i : ℕ) where
   abbrev in_slot : Option Place → ℕ
   in_slot o = cond (has_tag i o) 1 0
@@ -42,6 +53,10 @@ module _ (i : ℕ) where
   tag_counts m s push holds =
       let own : in_slot (get_or m.places s None) ≡ 1 = ap in_slot holds ∙ one_self i in
       omega (arith, own, get_or-le-sum_by in_slot m.places s None (there m s _ holds))
+
+none_of : {X : Type 0} (xs : List X) → length xs ≡ 0 → xs ≡ []
+none_of [] none = refl
+none_of (x ∷ xs) none = absurd (omega (arith, none))
 
 Some-same : {P : Type 0} {a b : P} → Some a ≡ Some b → a ≡ b
 Some-same e = cc
@@ -99,6 +114,10 @@ module _ {F A : Type 0} (future : FutureOf F A) where
     where
       holds : value_in new.slots key.slot ≡ Some (record { tag = tag; push = key.push })
       holds = ap (λ ps. get_or ps key.slot None) p.went_in.now_held ∙ get_or-set_same old.slots.places key.slot (Some (record { tag = tag; push = key.push })) None p.went_in.within
+
+  -- a poll that keeps what the task was asked for
+  woken_still : (old new : Queued F) (asked left : Context) → new.waiting ≡ old.waiting → (old.waiting ≢ [] → IsWoken asked) → Keeps asked left → new.waiting ≢ [] → IsWoken left
+  woken_still old new asked left same woken kept some s = kept (Lasting.hears s) (woken (λ none. some (same ∙ none)) s)
 
   still_waiting : (old new : Queued F) → CanPollQueue future old → new.waiting ≡ old.waiting → AllByRecursion (CanPollFuture future.can_poll) new.waiting
   still_waiting old new can same = subst (λ fs. AllByRecursion (CanPollFuture future.can_poll) fs) (sym same) can.waiting
@@ -160,46 +179,80 @@ module _ {F A : Type 0} (future : FutureOf F A) where
   put_back old new can same stays again = grind arith
 
   -- an output came of the set
-  pub polled_output : (old new : Queued F) (came : Came A) → CanPollQueue future old → new.waiting ≡ old.waiting → ComesByKey future old.set came new.set → RunsGiveNoMore future old.set new.set → CanPollAll future new.set
-      → PollsNumber future old (Ready (Some (came.tag, came.output))) new
-  polled_output old new came can same y narrows again =
+  pub polled_output : (old new : Queued F) (came : Came A) (cx asked left : Context) → 0 < queued_room old → queued_count old ≤ queued_room old → CanPollQueue future old → new.waiting ≡ old.waiting → (old.waiting ≢ [] → IsWoken asked) → Keeps cx asked → PollsInFlight future old.set (Ready (Some came)) new.set asked left
+      → PollsByNumber future old (Ready (Some (came.tag, came.output))) new cx left
+  polled_output old new came cx asked left room_for bound can same woken kept p =
+      let room : slot_count new.set.slots ≡ slot_count old.set.slots = ap (λ (s : Slots Place). length s.places) p.gave.freed ∙ length-set old.set.slots.places came.key.slot None in
+      let fewer = p.gave.fewer in
+      let waits = ap length same in
       record {
-        gave = (inr (came.key.slot, came.key.push, y.was_held, y.gave), omega (arith, y.fewer, ap length same));
-        numbers = λ i. omega (arith, ap (λ fs. numbered_with i fs) same, ap (λ slots. tagged_with i slots) y.freed, tags_freed i old.set.slots came.key.slot _ y.was_held);
+        gave = (inr (came.key.slot, came.key.push, p.gave.was_held, p.gave.gave), omega (arith, fewer, waits));
+        numbers = λ i. omega (arith, ap (λ fs. numbered_with i fs) same, ap (λ slots. tagged_with i slots) p.gave.freed, tags_freed i old.set.slots came.key.slot _ p.gave.was_held);
         narrows = λ out h. elim h [
           | inl waits ↦ inl (rw same at waits)
-          | inr runs ↦ inr (tags_after old.set new.set came.key.slot y.freed narrows out runs)
+          | inr runs ↦ inr (tags_after old.set new.set came.key.slot p.gave.freed p.narrows out runs)
         ];
-        same_room = ap (λ (s : Slots Place). length s.places) y.freed ∙ length-set old.set.slots.places came.key.slot None;
-        again = record { flying = again; waiting = still_waiting old new can same };
+        same_room = room;
+        some = omega (arith, room, room_for);
+        bound = omega (arith, room, bound, fewer, waits);
+        registered = tt;
+        woken = woken_still old new asked left same woken p.kept;
+        kept = λ fact h. p.kept fact (kept fact h);
+        again = record { flying = p.again; waiting = still_waiting old new can same };
       }
 
   -- no output came of the set
-  pub polled_none : (old new : Queued F) → 0 < length old.waiting + held_count old.set.slots → CanPollQueue future old → new.waiting ≡ old.waiting → new.set.slots ≡ old.set.slots → RunsGiveNoMore future old.set new.set → CanPollAll future new.set
-      → PollsNumber future old Pending new
-  polled_none old new some can same slots narrows again = grind arith
+  pub polled_none : (old new : Queued F) (cx asked left : Context) → 0 < queued_count old → 0 < queued_room old → queued_count old ≤ queued_room old → CanPollQueue future old → new.waiting ≡ old.waiting → (old.waiting ≢ [] → IsWoken asked) → Keeps cx asked → new.set.slots ≡ old.set.slots → RunsGiveNoMore future old.set new.set
+      → CanPollAll future new.set → Covers left (FlightsWaitAt new.set) → Keeps asked left → PollsByNumber future old Pending new cx left
+  polled_none old new cx asked left some room bound can same woken kept slots narrows again registered keeps =
+      let woken_on = woken_still old new asked left same woken keeps in
+      let kept_on : Keeps cx left = λ fact h. keeps fact (kept fact h) in
+      grind arith
+
+  -- nothing is held
+  pub ends_empty : (q : Queued F) (cx : Context) → queued_count q ≡ 0 → 0 < queued_room q → queued_count q ≤ queued_room q → CanPollQueue future q → PollsByNumber future q (Ready None) q cx cx
+  ends_empty q cx none room bound can =
+      record {
+        gave = (none, refl);
+        numbers = λ i. omega arith;
+        narrows = λ out h. h;
+        same_room = refl;
+        some = room;
+        bound = bound;
+        registered = tt;
+        woken = λ waits. absurd (waits (none_of q.waiting (omega (arith, none))));
+        kept = λ fact h. h;
+        again = can;
+      }
 
   -- a poll of what the starts left
-  pub starts_then : (old mid new : Queued F) (answer : Poll (Option (ℕ × A))) → 0 < queued_count old → Starts future old mid → PollsNumber future mid answer new → PollsNumber future old answer new
-  starts_then old mid new answer some s p =
-      record { gave = gave answer p.gave; numbers = λ i. p.numbers i ∙ s.numbers i; narrows = λ out h. s.narrows out (p.narrows out h); same_room = p.same_room ∙ s.same_room; again = p.again }
+  pub starts_then : (old mid new : Queued F) (answer : Poll (Option (ℕ × A))) (cx left : Context) → 0 < queued_count old → Starts future old mid → PollsByNumber future mid answer new cx left → PollsByNumber future old answer new cx left
+  starts_then old mid new answer cx left held s p =
+      record {
+        gave = gave answer p.gave;
+        numbers = λ i. p.numbers i ∙ s.numbers i;
+        narrows = λ out h. s.narrows out (p.narrows out h);
+        same_room = p.same_room ∙ s.same_room;
+        some = p.some;
+        bound = p.bound;
+        registered = p.registered;
+        woken = p.woken;
+        kept = p.kept;
+        again = p.again;
+      }
     where
       gave : (answer : Poll (Option (ℕ × A))) → GivesHeld (NumberGives future) mid answer new → GivesHeld (NumberGives future) old answer new
       gave answer g = let narrows = s.narrows in let same = s.same_count in grind arith
 
-  -- a poll leaves no more than there is room for
-  pub within_room : (old new : Queued F) (answer : Poll (Option (ℕ × A))) → HoldsWithinRoom old → PollsNumber future old answer new → HoldsWithinRoom new
-  within_room old new answer within p = grind arith
-
-  narrows_any : (old new : Queued F) (answer : Poll (Option (ℕ × A))) → PollsNumber future old answer new → QueueGivesNoMore future old new
-  narrows_any old new answer p x h = (h.0, p.narrows (h.0, x) h.1)
+  narrows_any : (old new : Queued F) → ((out : ℕ × A) → NumberGives future new out → NumberGives future old out) → (x : A) → AnyQueuedGives future new x → AnyQueuedGives future old x
+  narrows_any old new narrows x h = (h.0, narrows (h.0, x) h.1)
 
   -- a poll of which the number is not told
-  pub polled_any : (old new : Queued F) (out : ℕ × A) → PollsNumber future old (Ready (Some out)) new → PollsQueued future old (Ready (Some out.1)) new
-  polled_any old new out p = grind arith
+  pub polled_any : (old new : Queued F) (out : ℕ × A) (cx left : Context) → PollsByNumber future old (Ready (Some out)) new cx left → PollsQueued future old (Ready (Some out.1)) new cx left
+  polled_any old new out cx left p = record { gave = ((out.0, p.gave.0), p.gave.1); narrows = narrows_any old new p.narrows; same_room = p.same_room; some = p.some; bound = p.bound; registered = tt; woken = p.woken; kept = p.kept; again = p.again }
 
-  pub ended_any : (old new : Queued F) → PollsNumber future old (Ready None) new → PollsQueued future old (Ready None) new
-  ended_any old new p = record { gave = p.gave; narrows = narrows_any old new (Ready None) p; same_room = p.same_room; again = p.again }
+  pub ended_any : (old new : Queued F) (cx left : Context) → PollsByNumber future old (Ready None) new cx left → PollsQueued future old (Ready None) new cx left
+  ended_any old new cx left p = record { gave = p.gave; narrows = narrows_any old new p.narrows; same_room = p.same_room; some = p.some; bound = p.bound; registered = tt; woken = p.woken; kept = p.kept; again = p.again }
 
-  pub pending_any : (old new : Queued F) → PollsNumber future old Pending new → PollsQueued future old Pending new
-  pending_any old new p = record { gave = p.gave; narrows = narrows_any old new Pending p; same_room = p.same_room; again = p.again }
+  pub pending_any : (old new : Queued F) (cx left : Context) → PollsByNumber future old Pending new cx left → PollsQueued future old Pending new cx left
+  pending_any old new cx left p = record { gave = p.gave; narrows = narrows_any old new p.narrows; same_room = p.same_room; some = p.some; bound = p.bound; registered = p.registered; woken = p.woken; kept = p.kept; again = p.again }

@@ -1,17 +1,18 @@
 -- What a contract sees of an ordered queue of futures in flight: the words on ordered queues at a queue in flight. A
 -- clause names the futures by the ghost members of their type: `F.Future`.
-use Rattle.std.specs.Prelude.{◌≡◌, ◌↔◌, ◌+◌, ◌<◌, ◌≤◌, ◌^◌, ℕ, [], Option, length, IfNone, IfSome, OnSome, Result}
+use Rattle.std.specs.Prelude.{◌≡◌, ◌≢◌, ◌↔◌, ◌+◌, ◌<◌, ◌≤◌, ◌^◌, ℕ, [], Option, length, IfNone, IfSome, OnSome, Result}
 use Rattle.std.specs.Prelude.{IfErr, IsErr, OnOk}
 use Rattle.futures.specs.Poll.{IfReady, OnPending}
 use Rattle.futures.specs.Runs.{Runs, After, Within, Leads, Chains, Ends}
 use Rattle.futures.specs.declared.task.Poll.{Poll}
 use Rattle.futures.specs.declared.task.context.Context.{Context}
+use Rattle.futures_buffered_unordered.specs.FuturesUnorderedBounded.{IsWoken}
 use Rattle.futures_buffered_ordered.specs.OrderedEntries.{Ordered, AddsBack, AddsFront, ComesInOrder, IsNewQueue}
 use Rattle.futures_buffered_ordered.specs.OrderedEntries.{OrderedGives, PolledSet, PollsOrdered}
 use Rattle.futures_buffered_ordered.specs.OrderedEntriesInvariant.{IsNumbered, Numbering}
-use Rattle.futures_buffered_in_flight.specs.InFlight.{FutureOf}
+use Rattle.futures_buffered_in_flight.specs.InFlight.{FlightsWaitAt, FutureOf}
 use Rattle.futures_buffered_in_flight.specs.InFlightQueue.{Queued, CanPollQueue, IsNewQueued, SameRoom, NumberGives}
-use Rattle.futures_buffered_in_flight.specs.InFlightQueue.{PollsNumber, QueuesNumber, PollsQueuedTask, QueuedWaitsAt}
+use Rattle.futures_buffered_in_flight.specs.InFlightQueue.{OfSomeTask, PollsByNumber, QueuesNumber}
 use Rattle.futures_buffered_in_flight.specs.InFlightQueue.{queued_count, queued_room, queued_with}
 
 -- the futures in flight, each with a number; the entries from the front to the back, where one in progress has the
@@ -19,17 +20,9 @@ use Rattle.futures_buffered_in_flight.specs.InFlightQueue.{queued_count, queued_
 abbrev pub OrderedInFlight : Type 0 → Type 0 → Type 0
 OrderedInFlight F A = Ordered (Queued F) A
 
--- how many are held, in progress or waiting for their turn
-abbrev pub ordered_count : {F A : Type 0} → OrderedInFlight F A → ℕ
-ordered_count q = length q.entries
-
--- how many can be held
-abbrev pub ordered_room : {F A : Type 0} → OrderedInFlight F A → ℕ
-ordered_room q = queued_room q.set
-
 -- as many are held as can be
 abbrev pub OrderedIsFull : {F A : Type 0} → OrderedInFlight F A → Type 0
-OrderedIsFull q = ordered_room q ≤ ordered_count q
+OrderedIsFull q = queued_room q.set ≤ length q.entries
 
 -- there is room for n, no future, and no entry
 abbrev pub IsNewInOrder : {F A : Type 0} → ℕ → OrderedInFlight F A → Type 0
@@ -37,30 +30,16 @@ IsNewInOrder n = IsNewQueue (IsNewQueued n) n
 
 -- the place at which a pending poll waits
 abbrev pub OrderedWaitsAt : {F A : Type 0} → OrderedInFlight F A → ℕ → Type 0
-OrderedWaitsAt q = QueuedWaitsAt q.set
+OrderedWaitsAt q = FlightsWaitAt q.set.set
 
 -- How the queue keeps itself: the numbers are in order, it can hold one at least and holds no more than it can, and
 -- there is a place for an entry of each.
 pub record KeepsInOrder {F A : Type 0} (q : Numbering (Queued F) A) : Type 0 where
   pub numbered : IsNumbered queued_with queued_count q
-  pub some : 0 < ordered_room q.queue
-  pub bound : ordered_count q.queue ≤ ordered_room q.queue
-  pub fits : ordered_room q.queue ≤ q.queue.room
-  pub small : ordered_room q.queue < 2 ^ 62
-
--- How many one poll leaves, which took the queue from old to new.
-pub record LeavesInOrder {F A : Type 0} (old : OrderedInFlight F A) (answer : Poll (Option A))
-    (new : OrderedInFlight F A) : Type 0 where
-  -- the end comes only where nothing is held, and changes nothing
-  pub empty : IfReady answer (λ o. IfNone o ((ordered_count old ≡ 0) × (new ≡ old)))
-  -- an output leaves one fewer
-  pub fewer : IfReady answer (λ o. OnSome o (ordered_count new + 1 ≡ ordered_count old))
-  -- a pending poll leaves as many as before
-  pub same_count : OnPending answer (ordered_count new ≡ ordered_count old)
-  -- it can hold as many as before, one at least, and holds no more
-  pub same_room : ordered_room new ≡ ordered_room old
-  pub some : 0 < ordered_room new
-  pub bound : ordered_count new ≤ ordered_room new
+  pub some : 0 < queued_room q.queue.set
+  pub bound : length q.queue.entries ≤ queued_room q.queue.set
+  pub fits : queued_room q.queue.set ≤ q.queue.room
+  pub small : queued_room q.queue.set < 2 ^ 62
 
 -- an output of one more comes behind all that comes
 abbrev pub ComesLast : {A : Type 0} → (A → Type 0) → Runs A → Runs A
@@ -90,11 +69,11 @@ module _ {F A : Type 0} (future : FutureOf F A) where
       : Type 0 where
     -- the future went in, and its entry at this end
     pub added : adds old pushed new
-    pub one_more : ordered_count new ≡ ordered_count old + 1
+    pub one_more : length new.entries ≡ length old.entries + 1
     -- an output of the future may come there, and else what might come before
     pub comes : Within (with_one (future.gives pushed) (ComesOfEach old)) (ComesOfEach new)
     -- it can hold as many as before
-    pub same_room : ordered_room new ≡ ordered_room old
+    pub same_room : queued_room new.set ≡ queued_room old.set
     -- the queue may be polled
     pub again : CanPollOrdered new
 
@@ -123,24 +102,14 @@ module _ {F A : Type 0} (future : FutureOf F A) where
     -- the queue may be polled
     pub again : CanPollOrdered new
 
-  -- one poll of the futures, over them and the task: an output comes with the number of its future
-  pub record PollsByNumber
-      (old : Queued F)
-      (answer : Poll (Option (ℕ × A)))
-      (new : Queued F)
-      (cx left : Context)
-      : Type 0 where
-    pub gave : PollsNumber future old answer new
-    pub task : PollsQueuedTask answer new cx left
-
   -- how the futures in flight are polled
   abbrev pub flying_polls : PolledSet (Queued F) A
   flying_polls = record {
     count = queued_count;
     keeps = SameRoom;
     can_poll = CanPollQueue future;
-    gives = PollsByNumber;
-    needs = QueuedWaitsAt;
+    gives = PollsByNumber future;
+    needs = λ q. FlightsWaitAt q.set;
   }
 
   -- One poll, which took the queue from old to new and the task from cx to left.
@@ -151,14 +120,23 @@ module _ {F A : Type 0} (future : FutureOf F A) where
       (cx left : Context)
       : Type 0 where
     -- the futures were polled, and each output was kept in the entry of its number; then came the front's output, the
-    -- end, or Pending. Who is woken is not said
+    -- end, or Pending
     pub polls : PollsOrdered flying_polls old answer new cx left
-    -- how many are left
-    pub counts : LeavesInOrder old answer new
+    -- where futures of a pending queue wait for memory, the task was asked to poll again
+    pub woken : OnPending answer (new.set.waiting ≢ [] → IsWoken left)
+    -- the end comes only where nothing is held, and changes nothing; an output leaves one fewer
+    pub empty : IfReady answer (λ o. IfNone o ((length old.entries ≡ 0) × (new ≡ old)))
+    pub fewer : IfReady answer (λ o. OnSome o (length new.entries + 1 ≡ length old.entries))
+    -- a pending poll leaves as many as before
+    pub same_count : OnPending answer (length new.entries ≡ length old.entries)
+    -- it can hold as many as before, one at least, and holds no more than it can
+    pub same_room : SameRoom old.set new.set
+    pub some : 0 < queued_room new.set
+    pub bound : length new.entries ≤ queued_room new.set
 
   -- the same, told of the queue alone
   abbrev pub GivesInTurn : OrderedInFlight F A → Poll (Option A) → OrderedInFlight F A → Type 0
-  GivesInTurn = OrderedGives (PollsNumber future) queued_count
+  GivesInTurn = OrderedGives (OfSomeTask (PollsByNumber future)) queued_count
 
   -- Polls until the output of the front came, or the end: the queue was new by then.
   pub record CameInTurn (old : OrderedInFlight F A) (came : Option A) (new : OrderedInFlight F A)
@@ -168,9 +146,9 @@ module _ {F A : Type 0} (future : FutureOf F A) where
     -- what may come after it might have come behind it
     pub rest : IfSome came (λ x. After (ComesOfEach old) x (ComesOfEach new))
     -- the end comes exactly where nothing is held, and changes nothing
-    pub empty : IfNone came ((ordered_count old ≡ 0) × (new ≡ old))
-    pub fewer : OnSome came (ordered_count new + 1 ≡ ordered_count old)
+    pub empty : IfNone came ((length old.entries ≡ 0) × (new ≡ old))
+    pub fewer : OnSome came (length new.entries + 1 ≡ length old.entries)
     -- it can hold as many as before
-    pub same_room : ordered_room new ≡ ordered_room old
+    pub same_room : queued_room new.set ≡ queued_room old.set
     -- the queue may be polled
     pub again : CanPollOrdered new

@@ -1,6 +1,6 @@
 -- What a contract sees of a queue of futures in flight. A clause names the futures by the ghost members of their type:
 -- `F.Future`.
-use Rattle.std.specs.Prelude.{◌≡◌, ◌+◌, ◌<◌, ◌≤◌, ◌⊎◌, ◌==◌, ℕ, Bool, false, List, [], ◌∷◌, length, Option, Some, None}
+use Rattle.std.specs.Prelude.{◌≡◌, ◌≢◌, ◌+◌, ◌<◌, ◌≤◌, ◌⊎◌, ◌==◌, ℕ, Bool, false, List, [], ◌∷◌, length, Option, Some, None}
 use Rattle.std.specs.Prelude.{count_by}
 use Rattle.std.specs.List.{AllByRecursion}
 use Rattle.futures.specs.Poll.{OnPending}
@@ -10,7 +10,8 @@ use Rattle.futures.specs.Task.{Covers, Keeps}
 use Rattle.futures.specs.declared.task.Poll.{Poll}
 use Rattle.futures.specs.declared.task.Poll.TheVariants.{Ready, Pending}
 use Rattle.futures.specs.declared.task.context.Context.{Context}
-use Rattle.futures_buffered_core.specs.SlotMap.{Slots, value_in, held_count, slot_count}
+use Rattle.futures_buffered_core.specs.SlotMap.{value_in, held_count, slot_count}
+use Rattle.futures_buffered_unordered.specs.FuturesUnorderedBounded.{IsWoken}
 use Rattle.futures_buffered_ordered.specs.Numbered.{CanPollFuture, one_at, outputs_with}
 use Rattle.futures_buffered_ordered.specs.declared.numbered.Numbered.{Numbered}
 use Rattle.futures_buffered_in_flight.specs.InFlight.{FutureOf, Flights, CanPollAll, KeyGives, IsNewInFlight}
@@ -32,17 +33,9 @@ abbrev pub has_tag : ℕ → Option Place → Bool
 has_tag i None = false
 has_tag i (Some place) = place.tag == i
 
--- how many slots hold a future under tag i
-abbrev pub tagged_with : ℕ → Slots Place → ℕ
-tagged_with i slots = count_by (has_tag i) slots.places
-
--- how many of these have number i
-abbrev pub numbered_with : {F : Type 0} → ℕ → List (Numbered F) → ℕ
-numbered_with {F} i fs = count_by (λ (f : Numbered F). f.number == i) fs
-
--- how many futures are held with number i
+-- how many futures are held with number i, waiting or in flight
 abbrev pub queued_with : {F : Type 0} → ℕ → Queued F → ℕ
-queued_with i q = numbered_with i q.waiting + tagged_with i q.set.slots
+queued_with {F} i q = count_by (λ (f : Numbered F). f.number == i) q.waiting + count_by (has_tag i) q.set.slots.places
 
 -- how many can be held
 abbrev pub queued_room : {F : Type 0} → Queued F → ℕ
@@ -51,14 +44,6 @@ queued_room q = slot_count q.set.slots
 -- there is room for n, and no future
 abbrev pub IsNewQueued : {F : Type 0} → ℕ → Queued F → Type 0
 IsNewQueued n q = (q.waiting ≡ []) × IsNewInFlight n q.set
-
--- the place at which a pending poll waits
-abbrev pub QueuedWaitsAt : {F : Type 0} → Queued F → ℕ → Type 0
-QueuedWaitsAt q = FlightsWaitAt q.set
-
--- it can hold one at least, and holds no more than it can
-abbrev pub HoldsWithinRoom : {F : Type 0} → Queued F → Type 0
-HoldsWithinRoom q = (0 < queued_room q) × (queued_count q ≤ queued_room q)
 
 -- it holds as many as it can
 abbrev pub IsAtItsBound : {F : Type 0} → Queued F → Type 0
@@ -99,14 +84,6 @@ module _ {F A : Type 0} (future : FutureOf F A) where
   abbrev pub ComesFromQueue : Queued F → Runs A
   ComesFromQueue q = Gathers (AnyQueuedGives q) (queued_count q)
 
-  -- no future gives what none with its number could give before
-  abbrev pub NumbersGiveNoMore : Queued F → Queued F → Type 0
-  NumbersGiveNoMore old new = (out : ℕ × A) → NumberGives new out → NumberGives old out
-
-  -- no future gives what none could give before
-  abbrev pub QueueGivesNoMore : Queued F → Queued F → Type 0
-  QueueGivesNoMore old new = (x : A) → AnyQueuedGives new x → AnyQueuedGives old x
-
   -- each future may be polled
   pub record CanPollQueue (q : Queued F) : Type 0 where
     pub flying : CanPollAll future q.set
@@ -136,28 +113,54 @@ module _ {F A : Type 0} (future : FutureOf F A) where
     -- the queue may be polled
     pub again : CanPollQueue new
 
-  -- One poll, which took the queue from old to new, and whose output comes with the number of its future.
-  pub record PollsNumber (old : Queued F) (answer : Poll (Option (ℕ × A))) (new : Queued F)
+  -- One poll, which took the queue from old to new and the task from cx to left, and whose output comes with the number
+  -- of its future.
+  pub record PollsByNumber
+      (old : Queued F)
+      (answer : Poll (Option (ℕ × A)))
+      (new : Queued F)
+      (cx left : Context)
       : Type 0 where
     -- an output, the end exactly where nothing is held, or nothing
     pub gave : GivesHeld NumberGives old answer new
     -- its number leaves with it, and of each other number there are as many as before
     pub numbers : (i : ℕ) → queued_with i new + outputs_with i answer ≡ queued_with i old
     -- no future gives what none with its number could give before
-    pub narrows : NumbersGiveNoMore old new
-    -- it can hold as many as before
+    pub narrows : (out : ℕ × A) → NumberGives new out → NumberGives old out
+    -- it can hold as many as before, one at least, and holds no more than it can
     pub same_room : SameRoom old new
+    pub some : 0 < queued_room new
+    pub bound : queued_count new ≤ queued_room new
+    -- the task of a pending queue hears of what it waits for
+    pub registered : OnPending answer (Covers left (FlightsWaitAt new.set))
+    -- where futures wait for memory, the task was asked to poll again
+    pub woken : new.waiting ≢ [] → IsWoken left
+    -- what the task was registered for or asked to do before still stands
+    pub kept : Keeps cx left
     -- the queue may be polled
     pub again : CanPollQueue new
 
-  -- One poll, which took the queue from old to new.
-  pub record PollsQueued (old : Queued F) (answer : Poll (Option A)) (new : Queued F) : Type 0 where
+  -- One poll, which took the queue from old to new and the task from cx to left.
+  pub record PollsQueued
+      (old : Queued F)
+      (answer : Poll (Option A))
+      (new : Queued F)
+      (cx left : Context)
+      : Type 0 where
     -- an output, the end exactly where nothing is held, or nothing
     pub gave : GivesHeld AnyQueuedGives old answer new
     -- no future gives what none could give before
-    pub narrows : QueueGivesNoMore old new
-    -- it can hold as many as before
+    pub narrows : (x : A) → AnyQueuedGives new x → AnyQueuedGives old x
+    -- it can hold as many as before, one at least, and holds no more than it can
     pub same_room : SameRoom old new
+    pub some : 0 < queued_room new
+    pub bound : queued_count new ≤ queued_room new
+    -- the task of a pending queue hears of what it waits for
+    pub registered : OnPending answer (Covers left (FlightsWaitAt new.set))
+    -- where futures wait for memory, the task was asked to poll again
+    pub woken : new.waiting ≢ [] → IsWoken left
+    -- what the task was registered for or asked to do before still stands
+    pub kept : Keeps cx left
     -- the queue may be polled
     pub again : CanPollQueue new
 
@@ -165,14 +168,10 @@ module _ {F A : Type 0} (future : FutureOf F A) where
   pub record Starts (old new : Queued F) : Type 0 where
     pub same_count : queued_count new ≡ queued_count old
     pub numbers : (i : ℕ) → queued_with i new ≡ queued_with i old
-    pub narrows : NumbersGiveNoMore old new
+    pub narrows : (out : ℕ × A) → NumberGives new out → NumberGives old out
     pub same_room : SameRoom old new
     pub again : CanPollQueue new
 
--- What a poll leaves of the task, which it took from cx to left.
-pub record PollsQueuedTask {F A : Type 0} (answer : Poll (Option A)) (new : Queued F)
-    (cx left : Context) : Type 0 where
-  -- the task of a pending queue hears of what it waits for
-  pub registered : OnPending answer (Covers left (QueuedWaitsAt new))
-  -- what the task was registered for or asked to do before still stands
-  pub kept : Keeps cx left
+-- the same poll, told of the queue alone: it was of some task
+abbrev pub OfSomeTask : {Q B : Type 0} → (Q → B → Q → Context → Context → Type 0) → Q → B → Q → Type 0
+OfSomeTask polls old answer new = (cx : Context) × (left : Context) × polls old answer new cx left

@@ -1,12 +1,12 @@
 //! Futures of the kit in flight, in a queue whose outputs come in the order of the pushes.
-ghost use Rattle.std.specs.Prelude.{◌≡◌, ◌↔◌, ◌<◌, ◌≤◌, IfOk, IsTrue};
+ghost use Rattle.std.specs.Prelude.{◌≡◌, ◌↔◌, ◌<◌, ◌≤◌, IfOk, IsTrue, length};
 ghost use Rattle.futures_buffered_core.specs.Drawn.{IsFiniteSource, items_of};
 ghost use Rattle.futures_buffered_core.specs.Made.{MakesSlots};
 ghost use Rattle.futures_buffered_unordered.specs.Extended.{EachDrawn, Extends};
 ghost use Rattle.futures_buffered_in_flight.specs.InFlightOrdered.{CanPollOrdered, IsNewInOrder};
 ghost use Rattle.futures_buffered_in_flight.specs.InFlightOrdered.{OrderedIsFull, PollsInTurn, PushesBack, PushesFront};
-ghost use Rattle.futures_buffered_in_flight.specs.InFlightOrdered.{PushesOrComesBack, RefusesFull, ordered_count};
-ghost use Rattle.futures_buffered_in_flight.specs.InFlightOrdered.{ordered_room};
+ghost use Rattle.futures_buffered_in_flight.specs.InFlightOrdered.{PushesOrComesBack, RefusesFull};
+ghost use Rattle.futures_buffered_in_flight.specs.InFlightQueue.{queued_room};
 
 use crate::in_flight_queue::InFlightQueue;
 use futures::Future;
@@ -70,8 +70,8 @@ impl<F: Future<Output: Drop>> NumberedSet for InFlightQueue<F> {
 }
 
 impl<F: Future<Output: Drop>> PollNumberedSet<PollFuture> for InFlightQueue<F> {
-    ghost use Rattle.futures_buffered_in_flight.specs.InFlightQueue.{CanPollQueue, QueuedWaitsAt};
-    ghost use Rattle.futures_buffered_in_flight.specs.InFlightOrdered.{PollsByNumber};
+    ghost use Rattle.futures_buffered_in_flight.specs.InFlight.{FlightsWaitAt};
+    ghost use Rattle.futures_buffered_in_flight.specs.InFlightQueue.{CanPollQueue, PollsByNumber};
 
     type Output = F::Output;
 
@@ -79,7 +79,7 @@ impl<F: Future<Output: Drop>> PollNumberedSet<PollFuture> for InFlightQueue<F> {
 
     ghost gives = { PollsByNumber F.Future };
 
-    ghost needs = { QueuedWaitsAt };
+    ghost needs = { λ q. FlightsWaitAt q.set };
 
     #[tactic(auto, using(crate::proofs::InFlightOrderedLemmas::polls_set, crate::proofs::InFlightOrderedLemmas::polls_task))]
     fn poll_numbered(
@@ -115,22 +115,22 @@ impl<F: Drop, A: Drop> Model for InFlightOrdered<F, A> {
 impl<F: Drop, A: Drop> InFlightOrdered<F, A> {
     /// How many are held: futures in progress, and outputs that wait for their turn.
     pub fn len(&self) -> usize
-        ensures value { result ≡ ordered_count self.now }
-        ensures bound { ordered_count self.now ≤ ordered_room self.now }
+        ensures value { result ≡ length self.now.entries }
+        ensures bound { length self.now.entries ≤ queued_room self.now.set }
     {
         self.queue.len()
     }
 
     /// Whether nothing is held.
     pub fn is_empty(&self) -> bool
-        ensures { IsTrue result ↔ (ordered_count self.now ≡ 0) }
+        ensures { IsTrue result ↔ (length self.now.entries ≡ 0) }
     {
         self.queue.is_empty()
     }
 
     /// How many can be held, which never changes.
     pub fn capacity(&self) -> usize
-        ensures { result ≡ ordered_room self.now }
+        ensures { result ≡ queued_room self.now.set }
     {
         self.queue.set.capacity()
     }
@@ -189,7 +189,7 @@ impl<F: Future<Output = A>, A: Drop> InFlightOrdered<F, A> {
     /// As `try_push_back`, for a queue that is not full.
     #[tactic(auto, using(crate::proofs::InFlightOrderedLemmas::pushes_back, crate::proofs::InFlightOrderedLemmas::has_room))]
     pub fn push_back(&mut self, future: F)
-        requires room { ordered_count self.old < ordered_room self.old }
+        requires room { length self.old.entries < queued_room self.old.set }
         requires held { CanPollOrdered F.Future self.old }
         requires fit { F.can_poll future }
         ensures { PushesBack F.Future self.old future self.new }
@@ -203,7 +203,7 @@ impl<F: Future<Output = A>, A: Drop> InFlightOrdered<F, A> {
     /// As `try_push_front`, for a queue that is not full.
     #[tactic(auto, using(crate::proofs::InFlightOrderedLemmas::pushes_front, crate::proofs::InFlightOrderedLemmas::has_room))]
     pub fn push_front(&mut self, future: F)
-        requires room { ordered_count self.old < ordered_room self.old }
+        requires room { length self.old.entries < queued_room self.old.set }
         requires held { CanPollOrdered F.Future self.old }
         requires fit { F.can_poll future }
         ensures { PushesFront F.Future self.old future self.new }
@@ -222,7 +222,7 @@ impl<F: Future<Output = A>, A: Drop> InFlightOrdered<F, A> {
         requires each { EachDrawn (items_of I.IntoIterator I.IntoIter.Iterator iter) F.can_poll }
         ensures extends { Extends (items_of I.IntoIterator I.IntoIter.Iterator iter)
             (PushesBack F.Future) RefusesFull self.old result self.new }
-        ensures same_room { ordered_room self.new ≡ ordered_room self.old }
+        ensures same_room { queued_room self.new.set ≡ queued_room self.old.set }
         ensures again { CanPollOrdered F.Future self.new }
     {
         for future in iter {
@@ -236,8 +236,8 @@ impl<F: Future<Output = A>, A: Drop> InFlightOrdered<F, A> {
     /// Drops each future that is in progress, and each output that waits for its turn, in this call. Takes no memory,
     /// and time in proportion to the capacity, besides the drops.
     pub fn clear(&mut self)
-        ensures none { IsNewInOrder (ordered_room self.old) self.new }
-        ensures same_room { ordered_room self.new ≡ ordered_room self.old }
+        ensures none { IsNewInOrder (queued_room self.old.set) self.new }
+        ensures same_room { queued_room self.new.set ≡ queued_room self.old.set }
         ensures can_poll { CanPollOrdered F.Future self.new }
     {
         self.queue.set.clear();

@@ -1,6 +1,6 @@
 //! The ordered queue as a stream, which says how much is left and whether it has ended.
 ghost use Rattle.futures_buffered_in_flight.specs.InFlightOrdered.{CanPollOrdered, ComesOfEach};
-ghost use Rattle.futures_buffered_in_flight.specs.InFlightOrdered.{OrderedWaitsAt, PollsInTurn, ordered_count};
+ghost use Rattle.futures_buffered_in_flight.specs.InFlightOrdered.{OrderedWaitsAt, PollsInTurn};
 
 use crate::in_flight_ordered::InFlightOrdered;
 use futures::task::{Context, Poll};
@@ -28,9 +28,9 @@ impl<F: Future<Output = A>, A: Drop> Stream for InFlightOrdered<F, A> {
 
 /// Whether nothing is held, so that the next poll gives the end. A push after that starts it again.
 impl<F: Future<Output = A>, A: Drop> FusedStream for InFlightOrdered<F, A> {
-    ghost use Rattle.std.specs.Prelude.{◌≡◌};
+    ghost use Rattle.std.specs.Prelude.{◌≡◌, length};
 
-    ghost is_over = { λ queue. ordered_count queue ≡ 0 };
+    ghost is_over = { λ queue. length queue.entries ≡ 0 };
 
     fn is_terminated(&self) -> bool {
         self.is_empty()
@@ -38,9 +38,9 @@ impl<F: Future<Output = A>, A: Drop> FusedStream for InFlightOrdered<F, A> {
 }
 
 impl<F: Drop, A: Drop> SizeHint for InFlightOrdered<F, A> {
-    ghost use Rattle.std.specs.Prelude.{Some};
+    ghost use Rattle.std.specs.Prelude.{Some, length};
 
-    ghost items_left = { λ queue. (ordered_count queue, Some (ordered_count queue)) };
+    ghost items_left = { λ queue. (length queue.entries, Some (length queue.entries)) };
 
     fn size_hint(&self) -> (usize, Option<usize>) {
         (self.len(), Some(self.len()))

@@ -1,10 +1,10 @@
 //! Futures of the kit in flight, in a queue that never hands one back.
-ghost use Rattle.std.specs.Prelude.{◌≡◌, ◌<◌, ◌≤◌, ◌+◌, ◌↔◌, IfOk, IsTrue};
-ghost use Rattle.futures.specs.Poll.{OnPending};
-ghost use Rattle.futures.specs.Task.{Covers, Keeps};
+ghost use Rattle.std.specs.Prelude.{◌≡◌, ◌≢◌, ◌<◌, ◌≤◌, ◌+◌, ◌↔◌, [], IfOk, IsTrue};
+ghost use Rattle.futures.specs.Task.{Keeps};
 ghost use Rattle.futures_buffered_core.specs.Made.{MakesSlots};
-ghost use Rattle.futures_buffered_in_flight.specs.InFlightQueue.{CanPollQueue, HoldsWithinRoom, IsNewQueued};
-ghost use Rattle.futures_buffered_in_flight.specs.InFlightQueue.{PollsNumber, PollsQueued, PollsQueuedTask};
+ghost use Rattle.futures_buffered_unordered.specs.FuturesUnorderedBounded.{IsWoken};
+ghost use Rattle.futures_buffered_in_flight.specs.InFlightQueue.{CanPollQueue, IsNewQueued};
+ghost use Rattle.futures_buffered_in_flight.specs.InFlightQueue.{PollsByNumber, PollsQueued};
 ghost use Rattle.futures_buffered_in_flight.specs.InFlightQueue.{QueuesNumber, PushesQueued, Starts, queued_count};
 ghost use Rattle.futures_buffered_in_flight.specs.InFlightQueue.{queued_room};
 
@@ -48,7 +48,8 @@ impl<F: Drop> InFlightQueue<F> {
     /// How many futures are held.
     pub fn len(&self) -> usize
         ensures value { result ≡ queued_count self.now }
-        ensures bound { HoldsWithinRoom self.now }
+        ensures some { 0 < queued_room self.now }
+        ensures bound { queued_count self.now ≤ queued_room self.now }
     {
         self.waiting.len() + self.set.len()
     }
@@ -153,21 +154,22 @@ impl<F: Future<Output: Drop>> InFlightQueue<F> {
 
     // Has the task poll again where some are waiting still.
     fn ask_again(&self, cx: &mut Context<'_>)
-        ensures { Keeps cx.old cx.new }
+        ensures woken { self.now.waiting ≢ [] → IsWoken cx.new }
+        ensures kept { Keeps cx.old cx.new }
     {
         if !self.waiting.is_empty() {
             let _: Poll<()> = cx.yield_now();
         }
     }
 
-    // One poll of the set, of a queue that holds some.
+    // One poll of the set, of a queue that holds some. Where some are waiting still, the task polls again.
     #[tactic(auto, using(crate::proofs::InFlightQueueLemmas::polled_output, crate::proofs::InFlightQueueLemmas::polled_none))]
     fn poll_flying(&mut self, cx: &mut Context<'_>) -> Poll<Option<(usize, F::Output)>>
         requires held { CanPollQueue F.Future self.old }
         requires some { 0 < queued_count self.old }
-        ensures polled { PollsNumber F.Future self.old result self.new }
-        ensures task { PollsQueuedTask result self.new cx.old cx.new }
+        ensures { PollsByNumber F.Future self.old result self.new cx.old cx.new }
     {
+        self.ask_again(cx);
         match self.set.poll_next_keyed(cx) {
             Poll::Pending => return Poll::Pending,
             Poll::Ready(Some(came)) => return Poll::Ready(Some((came.tag, came.output))),
@@ -178,18 +180,15 @@ impl<F: Future<Output: Drop>> InFlightQueue<F> {
     }
 
     /// As `poll_output`, where an output comes with the number of its future.
-    #[tactic(auto, using(crate::proofs::InFlightQueueLemmas::starts_then, crate::proofs::InFlightQueueLemmas::within_room))]
+    #[tactic(auto, using(crate::proofs::InFlightQueueLemmas::starts_then, crate::proofs::InFlightQueueLemmas::ends_empty))]
     pub fn poll_with_number(&mut self, cx: &mut Context<'_>) -> Poll<Option<(usize, F::Output)>>
         requires { CanPollQueue F.Future self.old }
-        ensures polled { PollsNumber F.Future self.old result self.new }
-        ensures task { PollsQueuedTask result self.new cx.old cx.new }
-        ensures bound { HoldsWithinRoom self.new }
+        ensures { PollsByNumber F.Future self.old result self.new cx.old cx.new }
     {
         if self.len() == 0 {
             return Poll::Ready(None);
         }
         self.start_all();
-        self.ask_again(cx);
         self.poll_flying(cx)
     }
 
@@ -199,9 +198,7 @@ impl<F: Future<Output: Drop>> InFlightQueue<F> {
     #[tactic(auto, using(crate::proofs::InFlightQueueLemmas::polled_any, crate::proofs::InFlightQueueLemmas::ended_any, crate::proofs::InFlightQueueLemmas::pending_any))]
     pub fn poll_output(&mut self, cx: &mut Context<'_>) -> Poll<Option<F::Output>>
         requires { CanPollQueue F.Future self.old }
-        ensures polled { PollsQueued F.Future self.old result self.new }
-        ensures task { PollsQueuedTask result self.new cx.old cx.new }
-        ensures bound { HoldsWithinRoom self.new }
+        ensures { PollsQueued F.Future self.old result self.new cx.old cx.new }
     {
         match self.poll_with_number(cx) {
             Poll::Pending => Poll::Pending,

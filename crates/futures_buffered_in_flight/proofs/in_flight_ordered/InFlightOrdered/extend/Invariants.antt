@@ -1,6 +1,7 @@
 use Rattle.std.specs.Prelude.{◌≡◌}
 use Rattle.std.specs.List.{FoldsTo}
-use Rattle.futures_buffered_in_flight.specs.InFlightOrdered.{CanPollOrdered, PushesBack, ordered_room}
+use Rattle.futures_buffered_in_flight.specs.InFlightOrdered.{CanPollOrdered, PushesBack}
+use Rattle.futures_buffered_in_flight.specs.InFlightQueue.{queued_room}
 use Rattle.futures_buffered_in_flight.proofs.in_flight_ordered.InFlightOrdered.extend.Given as goal
 
 abbrev pub invariant-loop-future : goal.invariant-loop-future
@@ -8,4 +9,4 @@ invariant-loop-future g l = (goal.iterator-loop-future g).can_next l.future-iter
     × (goal.iterator-loop-future g).is_finite l.future-iterator
     × FoldsTo (PushesBack g.F.Future) l.fn.self l.yielded l.self
     × CanPollOrdered g.F.Future l.self
-    × (ordered_room l.self ≡ ordered_room l.fn.self)
+    × (queued_room l.self.set ≡ queued_room l.fn.self.set)

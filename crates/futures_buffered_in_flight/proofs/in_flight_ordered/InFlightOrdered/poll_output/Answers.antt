@@ -1,4 +1,4 @@
-use Rattle.futures_buffered_in_flight.proofs.InFlightOrderedLemmas.{leaves_in_order, polled_keeps}
+use Rattle.futures_buffered_in_flight.proofs.InFlightOrderedLemmas.{polled_keeps, polls_in_turn}
 use Rattle.futures_buffered_in_flight.proofs.in_flight_ordered.InFlightOrdered.poll_output.Goals as goal
 
 pub invariant_of-self : goal.invariant_of-self
@@ -8,8 +8,7 @@ invariant_of-self g c =
 
 pub returns : goal.returns
 returns g c =
-    let poll = c.poll_entries.ensures in
-    rw (← c.self.view_is) (record {
-      polls = record { gave = poll.polls.gave; queue = record { set = poll.polls.queue.set; room = poll.polls.queue.room; holds = poll.polls.queue.holds; covered = poll.polls.queue.covered; kept = poll.polls.queue.kept; pollable = poll.polls.queue.pollable } };
-      counts = leaves_in_order g.F.Future c.self.inside.queue c.poll_entries.new.self c.poll_entries.result c.self.invariant c.args.cx.now c.poll_entries.new.cx poll.polls;
-    })
+    let poll = c.poll_entries.ensures.polls in
+    rw (← c.self.view_is)
+    (polls_in_turn g.F.Future c.self.inside.queue c.poll_entries.new.self c.poll_entries.result c.self.invariant c.args.cx.now c.poll_entries.new.cx
+    (record { gave = poll.gave; queue = record { set = poll.queue.set; room = poll.queue.room; holds = poll.queue.holds; covered = poll.queue.covered; kept = poll.queue.kept; pollable = poll.queue.pollable } }))

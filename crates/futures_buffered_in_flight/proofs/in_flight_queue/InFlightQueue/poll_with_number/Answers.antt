@@ -1,11 +1,10 @@
 use Rattle.std.proofs.Common.{rules}
-use Rattle.futures_buffered_in_flight.proofs.InFlightQueueLemmas.{starts_then, within_room}
+use Rattle.futures_buffered_in_flight.proofs.InFlightQueueLemmas.{ends_empty, starts_then}
 use Rattle.futures_buffered_in_flight.proofs.in_flight_queue.InFlightQueue.poll_with_number.Goals as goal
 
-pub returns-clause-polled : goal.returns-clause-polled
-returns-clause-polled g c = starts_then g.F.Future c.args.self.now c.start_all.new.self c.poll_flying.new.self c.poll_flying.result (search rules) c.start_all.ensures c.poll_flying.ensures.polled
+pub returns-then-len-eq0 : goal.returns-then-len-eq0
+returns-then-len-eq0 g c = ends_empty g.F.Future c.args.self.now c.args.cx.now (search rules) c.len.ensures.some c.len.ensures.bound c.requires
 
-pub returns-clause-bound : goal.returns-clause-bound
-returns-clause-bound g c =
-    let polled = starts_then g.F.Future c.args.self.now c.start_all.new.self c.poll_flying.new.self c.poll_flying.result (search rules) c.start_all.ensures c.poll_flying.ensures.polled in
-    within_room g.F.Future c.args.self.now c.poll_flying.new.self c.poll_flying.result c.len.ensures.bound polled
+pub returns : goal.returns
+returns g c =
+    starts_then g.F.Future c.args.self.now c.start_all.new.self c.poll_flying.new.self c.poll_flying.result c.args.cx.now c.poll_flying.new.cx (search rules) c.start_all.ensures c.poll_flying.ensures
