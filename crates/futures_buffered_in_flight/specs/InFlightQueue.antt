@@ -1,7 +1,7 @@
 -- What a contract sees of a queue of futures in flight. A clause names the futures by the ghost members of their type:
 -- `F.Future`.
-use Rattle.std.specs.Prelude.{◌≡◌, ◌≢◌, ◌+◌, ◌<◌, ◌≤◌, ◌⊎◌, ◌==◌, ℕ, Bool, false, List, [], ◌∷◌, length, Option, Some, None}
-use Rattle.std.specs.Prelude.{count_by}
+use Rattle.std.specs.Prelude.{◌≡◌, ◌≢◌, ◌+◌, ◌<◌, ◌≤◌, ◌⊎◌, ◌==◌, ℕ, Bool, false, List, [], ◌∷◌, length, Option, Some}
+use Rattle.std.specs.Prelude.{None, count_by}
 use Rattle.std.specs.List.{AllByRecursion}
 use Rattle.futures.specs.Poll.{OnPending}
 use Rattle.futures.specs.Queued.{Gathers}
@@ -172,6 +172,6 @@ module _ {F A : Type 0} (future : FutureOf F A) where
     pub same_room : SameRoom old new
     pub again : CanPollQueue new
 
--- the same poll, told of the queue alone: it was of some task
+-- a poll, told of the queue alone: it was of some task
 abbrev pub OfSomeTask : {Q B : Type 0} → (Q → B → Q → Context → Context → Type 0) → Q → B → Q → Type 0
 OfSomeTask polls old answer new = (cx : Context) × (left : Context) × polls old answer new cx left
