@@ -117,8 +117,8 @@ impl<F: Drop> PinSlotMap<F> {
 
     /// A map without a free slot, which has item k in slot k, and as many slots as there are items.
     ///
-    /// Takes time and memory in proportion to that number, at once the memory for those that the iterator says come at
-    /// least. Where it is refused, the items that came are dropped.
+    /// Takes time and memory in proportion to that number, and asks at once for the memory of those that the iterator
+    /// says come at least. Where a map is refused, the items that came are dropped.
     pub fn from_iter<I: IntoIterator<Item = F>>(alloc: Global, iter: I) -> Result<Self, NewFault>
         requires { IsFiniteSource (items_of I.IntoIterator I.IntoIter.Iterator iter) }
         ensures full { IfOk result (λ m. (items : List F)

@@ -157,8 +157,9 @@ module _ {F A : Type 0} (future : FutureOf F A) where
     pub gave : GivesByKey old answer new
     -- no future gives what it could not give before
     pub narrows : RunsGiveNoMore old new
-    -- no key is given again, and a future that was cancelled and has ended takes up no room
+    -- no key is given again
     pub keys : new.next ≡ old.next
+    -- a pending poll ends at most one of the futures that were cancelled, whose room is free then; the end leaves none
     pub room : LeavesCancelled old answer new
     -- the set may be polled
     pub again : CanPollAll new

@@ -119,8 +119,8 @@ module _ {F A : Type 0} (future : FutureOf F A) where
       (new : OrderedInFlight F A)
       (cx left : Context)
       : Type 0 where
-    -- the futures were polled, and each output was kept in the entry of its number; then came the front's output, the
-    -- end, or Pending
+    -- while the front is in progress the futures are polled, and each output is kept in the entry of its number; then
+    -- comes the front's output, the end, or Pending
     pub polls : PollsOrdered flying_polls old answer new cx left
     -- where futures of a pending queue wait for memory, the task was asked to poll again
     pub woken : OnPending answer (new.set.waiting ≢ [] → IsWoken left)

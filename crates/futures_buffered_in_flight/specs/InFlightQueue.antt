@@ -131,7 +131,7 @@ module _ {F A : Type 0} (future : FutureOf F A) where
     pub same_room : SameRoom old new
     pub some : 0 < queued_room new
     pub bound : queued_count new ≤ queued_room new
-    -- the task of a pending queue hears of what it waits for
+    -- the task of a pending queue is registered where it waits, or was asked to poll again
     pub registered : OnPending answer (Covers left (FlightsWaitAt new.set))
     -- where futures wait for memory, the task was asked to poll again
     pub woken : new.waiting ≢ [] → IsWoken left
@@ -155,7 +155,7 @@ module _ {F A : Type 0} (future : FutureOf F A) where
     pub same_room : SameRoom old new
     pub some : 0 < queued_room new
     pub bound : queued_count new ≤ queued_room new
-    -- the task of a pending queue hears of what it waits for
+    -- the task of a pending queue is registered where it waits, or was asked to poll again
     pub registered : OnPending answer (Covers left (FlightsWaitAt new.set))
     -- where futures wait for memory, the task was asked to poll again
     pub woken : new.waiting ≢ [] → IsWoken left

@@ -36,7 +36,7 @@ stream_count (Some all) = set_len all.inner + option_len all.held
 abbrev pub IsNewMerge : {St : Type 0} → ℕ → Merged St → Type 0
 IsNewMerge n m = (m.held ≡ 0) × (m.limit ≡ n) × (m.running ≡ None)
 
--- the place at which a pending poll waits: that of the kit's set
+-- the place at which a pending poll waits: that of the kit's set, while the set keeps no stream beside (`all.held`)
 abbrev pub MergedWaitsAt : {St : Type 0} → Merged St → ℕ → Type 0
 MergedWaitsAt m source = IsSomeAnd m.running (λ all. (all.held ≡ None) × (source ≡ all.inner.tasks.source.id))
 
@@ -108,14 +108,14 @@ module _ {St A : Type 0} (stream : StreamOf St A) where
       (cx left : Context) : Type 0 where
     -- an item; the end, exactly where nothing is held after this poll; or Pending. Who is woken is not said
     pub gave : GivesAnswer old answer new
-    -- a stream leaves only as it ends
+    -- one stream at most leaves, where one of them may end; which of them is not said
     pub ended : OneStreamEndsAtMost old new
     -- no stream gives what it could not give before
     pub narrows : AnswersNoMore old new
     pub same_limit : new.limit ≡ old.limit
     -- the merge may be polled
     pub again : CanPollStreams new
-    -- the task of a pending merge hears of what it waits for
+    -- the task of a pending merge is registered where it waits, or was asked to poll again
     pub registered : OnPending answer (Covers left (MergedWaitsAt new))
     -- what the task was registered for or asked to do before still stands
     pub kept : Keeps cx left

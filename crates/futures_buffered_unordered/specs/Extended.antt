@@ -31,7 +31,7 @@ module _ {U F I X : Type 0} (from : Items U F I) where
     -- it is `TooLarge` only where more came
     pub large : RefusesTooMany from result
 
-  -- These items came and went in. The next one came, was refused, and had to go back. No further one was asked for.
+  -- These items came and went in, and the next one that came, `back`, was refused.
   pub record ExtendsUntil
       (adds : X → F → X → Type 0)
       (refuses : X → X → Type 0)
@@ -65,7 +65,7 @@ module _ {U F I X : Type 0} (from : Items U F I) where
       : Type 0 where
     -- all that came went in, in order
     pub all : OnOk result (HoldsAllOf (FoldsTo adds old) new)
-    -- or the first that was refused came back, and no further one was asked for
+    -- or the first that was refused came back, behind those that went in
     pub stops : IfErr result (λ back. ExtendsUntil adds refuses old back new)
 
   -- What a constructor makes that adds each item to what begins so, or why it makes nothing.
