@@ -93,18 +93,18 @@ module _ {F A : Type 0} (future : FutureOf F A) where
       }
 
   -- one poll, told of the queue alone
-  alone : (old new : OrderedInFlight F A) (answer : Poll (Option A)) (cx after : Context) → PollsOrdered (flying_polls future) old answer new cx after → GivesInTurn future old answer new
+  alone : (old new : OrderedInFlight F A) (answer : Poll (Option A)) (cx after : Context) → PollsOrdered queued_count SameRoom (flying_polls future) old answer new cx after → GivesInTurn future old answer new
   alone old new answer cx after poll = gives_alone (PollsByNumber future) Gave (λ a b given before later h. (before, later, h)) queued_count old new answer cx after poll.gave
 
   pub gives_in_turn : (old new : OrderedInFlight F A) (answer : Poll (Option A)) (cx after : Context) → PollsInTurn future old answer new cx after → GivesInTurn future old answer new
   gives_in_turn old new answer cx after poll = alone old new answer cx after poll.polls
 
   -- the last poll of the futures says who is woken
-  wakes : (old new : OrderedInFlight F A) (answer : Poll (Option A)) (cx after : Context) → PollsOrdered (flying_polls future) old answer new cx after → OnPending answer (new.set.waiting ≢ [] → IsWoken after)
+  wakes : (old new : OrderedInFlight F A) (answer : Poll (Option A)) (cx after : Context) → PollsOrdered queued_count SameRoom (flying_polls future) old answer new cx after → OnPending answer (new.set.waiting ≢ [] → IsWoken after)
   wakes old new (Ready o) cx after poll = tt
   wakes old new Pending cx after poll = poll.gave.last_step.1.woken
 
-  module _ (old new : Numbering (Queued F) A) (answer : Poll (Option A)) (keeps : KeepsInOrder old) (cx after : Context) (poll : PollsOrdered (flying_polls future) old.queue answer new.queue cx after) where
+  module _ (old new : Numbering (Queued F) A) (answer : Poll (Option A)) (keeps : KeepsInOrder old) (cx after : Context) (poll : PollsOrdered queued_count SameRoom (flying_polls future) old.queue answer new.queue cx after) where
     polled : GivesInTurn future old.queue answer new.queue
     polled = alone old.queue new.queue answer cx after poll
 

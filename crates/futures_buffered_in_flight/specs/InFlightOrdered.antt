@@ -7,9 +7,11 @@ use Rattle.futures.specs.Runs.{Runs, After, Within, Leads, Chains, Ends}
 use Rattle.futures.specs.declared.task.Poll.{Poll}
 use Rattle.futures.specs.declared.task.context.Context.{Context}
 use Rattle.futures_buffered_unordered.specs.FuturesUnorderedBounded.{IsWoken}
+use Rattle.futures_buffered_unordered.specs.declared.poll_one.PollFuture.{PollFuture}
 use Rattle.futures_buffered_ordered.specs.OrderedEntries.{Ordered, AddsBack, AddsFront, ComesInOrder, IsNewQueue}
-use Rattle.futures_buffered_ordered.specs.OrderedEntries.{OrderedGives, PolledSet, PollsOrdered}
+use Rattle.futures_buffered_ordered.specs.OrderedEntries.{OrderedGives, PollsOrdered}
 use Rattle.futures_buffered_ordered.specs.OrderedEntriesInvariant.{IsNumbered, Numbering}
+use Rattle.futures_buffered_ordered.specs.declared.numbered_set.NumberedPolls.{Ghosts as NumberedPollsOf}
 use Rattle.futures_buffered_in_flight.specs.InFlight.{FlightsWaitAt, FutureOf}
 use Rattle.futures_buffered_in_flight.specs.InFlightQueue.{Queued, CanPollQueue, IsNewQueued, SameRoom, NumberGives}
 use Rattle.futures_buffered_in_flight.specs.InFlightQueue.{OfSomeTask, PollsByNumber, QueuesNumber}
@@ -103,10 +105,8 @@ module _ {F A : Type 0} (future : FutureOf F A) where
     pub again : CanPollOrdered new
 
   -- how the futures in flight are polled
-  abbrev pub flying_polls : PolledSet (Queued F) A
+  abbrev pub flying_polls : NumberedPollsOf (Queued F) PollFuture A
   flying_polls = record {
-    count = queued_count;
-    keeps = SameRoom;
     can_poll = CanPollQueue future;
     gives = PollsByNumber future;
     needs = λ q. FlightsWaitAt q.set;
@@ -121,7 +121,7 @@ module _ {F A : Type 0} (future : FutureOf F A) where
       : Type 0 where
     -- while the front is in progress the futures are polled, and each output is kept in the entry of its number; then
     -- comes the front's output, the end, or Pending
-    pub polls : PollsOrdered flying_polls old answer new cx left
+    pub polls : PollsOrdered queued_count SameRoom flying_polls old answer new cx left
     -- where futures of a pending queue wait for memory, the task was asked to poll again
     pub woken : OnPending answer (new.set.waiting ≢ [] → IsWoken left)
     -- the end comes only where nothing is held, and changes nothing; an output leaves one fewer

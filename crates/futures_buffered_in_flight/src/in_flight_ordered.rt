@@ -13,7 +13,7 @@ use futures::Future;
 use futures::task::{Context, Poll};
 use futures_buffered_core::ready_core::NewFault;
 use futures_buffered_ordered::numbered::Numbered;
-use futures_buffered_ordered::numbered_set::{NumberedSet, PollNumberedSet};
+use futures_buffered_ordered::numbered_set::{NumberedPolls, NumberedSet, PollNumberedSet};
 use futures_buffered_ordered::ordered_entries::OrderedEntries;
 use futures_buffered_unordered::poll_one::PollFuture;
 use std::alloc::Global;
@@ -69,7 +69,7 @@ impl<F: Future<Output: Drop>> NumberedSet for InFlightQueue<F> {
     ghost keeps_on = { λ a b c first then. then ∙ first };
 }
 
-impl<F: Future<Output: Drop>> PollNumberedSet<PollFuture> for InFlightQueue<F> {
+impl<F: Future<Output: Drop>> NumberedPolls<PollFuture> for InFlightQueue<F> {
     ghost use Rattle.futures_buffered_in_flight.specs.InFlight.{FlightsWaitAt};
     ghost use Rattle.futures_buffered_in_flight.specs.InFlightQueue.{CanPollQueue, PollsByNumber};
 
@@ -80,7 +80,9 @@ impl<F: Future<Output: Drop>> PollNumberedSet<PollFuture> for InFlightQueue<F> {
     ghost gives = { PollsByNumber F.Future };
 
     ghost needs = { λ q. FlightsWaitAt q.set };
+}
 
+impl<F: Future<Output: Drop>> PollNumberedSet<PollFuture> for InFlightQueue<F> {
     #[tactic(auto, using(crate::proofs::InFlightOrderedLemmas::polls_set, crate::proofs::InFlightOrderedLemmas::polls_task))]
     fn poll_numbered(
         &mut self,

@@ -8,7 +8,7 @@ use Rattle.futures.specs.declared.task.Poll.TheVariants.{Ready}
 use Rattle.futures_buffered_core.specs.ReadySource.{SourceSteps}
 use Rattle.futures_buffered_unordered.specs.FuturesUnorderedBounded.{Bounded, PollGives, held_in}
 use Rattle.futures_buffered_unordered.specs.Groups.{Groups, GroupsGive}
-use Rattle.futures_buffered_unordered.specs.FuturesUnordered.{Growing, IsNewGrowing, held_in_all}
+use Rattle.futures_buffered_unordered.specs.FuturesUnordered.{AnyNeeds, Growing, IsNewGrowing, held_in_all}
 use Rattle.futures_buffered_core.specs.declared.ready_source.ReadySource.{Ghosts as ReadySourceOf}
 use Rattle.futures_buffered_unordered.specs.declared.poll_one.PollOne.{Ghosts as PollOneOf}
 use Rattle.futures_buffered_unordered.specs.PollsGrowing.{PollsGrowing}
@@ -16,10 +16,10 @@ use Rattle.futures_buffered_unordered.proofs.FuturesUnorderedLemmas.{new_holds_n
 use Rattle.futures_buffered_unordered.proofs.FuturesUnorderedStreamLemmas.{gave, groups_give, still}
 use Rattle.futures_buffered_unordered.proofs.FuturesUnorderedPollLemmas.{sum_left}
 use Rattle.futures_buffered_ordered.specs.Numbered.{PollsNumbered, held_with, of_numbered, outputs_with}
-use Rattle.futures_buffered_ordered.specs.OrderedEntries.{OrderedGives}
+use Rattle.futures_buffered_ordered.specs.OrderedEntries.{NumberedPollsOf, OrderedGives, PollsOrdered}
 use Rattle.futures_buffered_ordered.specs.declared.numbered.Numbered.{Numbered}
 use Rattle.futures_buffered_ordered.proofs.NumberedLemmas.{numbers_polled, numbers_ended, numbers_none, brings_none}
-use Rattle.futures_buffered_ordered.specs.FuturesOrdered.{held_in_groups, held_in_groups_with, GrowingMayGive, OrderedGrowing, PollsOrderedGrowing}
+use Rattle.futures_buffered_ordered.specs.FuturesOrdered.{held_in_groups, held_in_groups_with, EachInProgress, GrowingMayGive, OrderedGrowing, SameLimit}
 use Rattle.futures_buffered_ordered.proofs.OrderedEntriesLemmas.{gives_alone}
 
 module _ {F A S : Type 0} (i : ℕ) (polled : ℕ → F → Poll A → F → Type 0) (steps : SourceSteps S) where
@@ -49,6 +49,15 @@ module _ {F A S : Type 0} (polled : ℕ → F → Poll A → F → Type 0) (step
   pub groups_still : (old new : Growing (Numbered F) S) (answer : Poll (Option (ℕ × A))) → GroupsAlone old answer new → (z : ℕ × A) → GrowingMayGive polled new z → GrowingMayGive polled old z
   groups_still old new answer h z = still (PollsNumbered polled) steps old.groups new.groups h.0 answer h.1 z
 
--- one poll of the queue, told of it alone
-pub queue_gives_of : {R F W A S : Type 0} (rule : PollOneOf R F W A) (source : ReadySourceOf S W) (old new : OrderedGrowing F A S) (answer : Poll (Option A)) (cx left : Context) → PollsOrderedGrowing rule source old answer new cx left → OrderedGives (GroupsAlone rule.polled source.steps) held_in_groups old answer new
-queue_gives_of rule source old new answer cx left poll = gives_alone (PollsGrowing (of_numbered rule) source) (GroupsAlone rule.polled source.steps) (λ a b given before after h. (h.groups.stopped, groups_give (PollsNumbered rule.polled) source.steps a.groups b.groups h.groups.stopped given h.groups.gave)) held_in_groups old new answer cx left poll.gave
+module _ {R F W A S : Type 0} (rule : PollOneOf R F W A) (source : ReadySourceOf S W) where
+  -- how the set of a queue is polled, where `rule` says how one future is
+  abbrev pub growing_polls : NumberedPollsOf (Growing (Numbered F) S) R A
+  growing_polls = record {
+    can_poll = EachInProgress rule.can_poll;
+    gives = PollsGrowing (of_numbered rule) source;
+    needs = λ set. AnyNeeds source.needs set.groups.listed;
+  }
+
+  -- one poll of the queue, told of it alone
+  pub queue_gives_of : (old new : OrderedGrowing F A S) (answer : Poll (Option A)) (cx left : Context) → PollsOrdered held_in_groups SameLimit growing_polls old answer new cx left → OrderedGives (GroupsAlone rule.polled source.steps) held_in_groups old answer new
+  queue_gives_of old new answer cx left poll = gives_alone (PollsGrowing (of_numbered rule) source) (GroupsAlone rule.polled source.steps) (λ a b given before after h. (h.groups.stopped, groups_give (PollsNumbered rule.polled) source.steps a.groups b.groups h.groups.stopped given h.groups.gave)) held_in_groups old new answer cx left poll.gave

@@ -1,5 +1,5 @@
 -- What `futures` asks of a poll of an ordered queue, by any rule.
-use Rattle.std.specs.Prelude.{◌≡◌, ℕ, ◌<◌, Option}
+use Rattle.std.specs.Prelude.{◌<◌, Option}
 use Rattle.futures.specs.declared.task.context.Context.{Context}
 use Rattle.futures.specs.declared.task.Poll.{Poll}
 use Rattle.futures_buffered_unordered.specs.FuturesUnordered.{AnyNeeds}
@@ -8,11 +8,11 @@ use Rattle.futures_buffered_core.specs.declared.ready_source.ReadySource.{Ghosts
 use Rattle.futures_buffered_unordered.specs.declared.poll_one.PollOne.{Ghosts as PollOneOf}
 use Rattle.futures_buffered_unordered.specs.StreamAnswers.{StreamAnswers, stream_of}
 use Rattle.futures_buffered_unordered.proofs.StreamAnswersLemmas.{after_item, while_pending}
-use Rattle.futures_buffered_ordered.specs.OrderedEntries.{ComesInOrder}
+use Rattle.futures_buffered_ordered.specs.OrderedEntries.{ComesInOrder, PollsOrdered}
 use Rattle.futures_buffered_ordered.specs.FuturesOrderedBounded.{EachRunning, OrderedBounded, PollsOrderedBounded, SetGives, SetMayGive}
-use Rattle.futures_buffered_ordered.specs.FuturesOrdered.{EachInProgress, GrowingMayGive, OrderedGrowing, PollsOrderedGrowing, held_in_groups}
+use Rattle.futures_buffered_ordered.specs.FuturesOrdered.{EachInProgress, GrowingMayGive, OrderedGrowing, SameLimit, held_in_groups}
 use Rattle.futures_buffered_ordered.proofs.FuturesOrderedBoundedLemmas.{queue_gives_of, set_gave, set_still}
-use Rattle.futures_buffered_ordered.proofs.FuturesOrderedLemmas.{GroupsAlone, groups_gave, groups_still}
+use Rattle.futures_buffered_ordered.proofs.FuturesOrderedLemmas.{GroupsAlone, groups_gave, groups_still, growing_polls}
 use Rattle.futures_buffered_ordered.proofs.FuturesOrderedLemmas.{queue_gives_of as growing_gives_of}
 use Rattle.futures_buffered_ordered.proofs.OrderedEntriesLemmas.{value_of, rest_of, same_of}
 
@@ -33,7 +33,7 @@ module _ {R F W A S : Type 0} (rule : PollOneOf R F W A) (source : ReadySourceOf
         kept = it.queue.kept;
       }
 
-  pub growing_answers : (old new : OrderedGrowing F A S) (answer : Poll (Option A)) (cx left : Context) → PollsOrderedGrowing rule source old answer new cx left
+  pub growing_answers : (old new : OrderedGrowing F A S) (answer : Poll (Option A)) (cx left : Context) → PollsOrdered held_in_groups SameLimit (growing_polls rule source) old answer new cx left
       → StreamAnswers (stream_of (λ q. EachInProgress rule.can_poll q.set) (λ q. AnyNeeds source.needs q.set.groups.listed) (ComesInOrder (GrowingMayGive rule.polled))) old answer new cx left
   growing_answers old new answer cx left it =
       let gives = growing_gives_of rule source old new answer cx left it in

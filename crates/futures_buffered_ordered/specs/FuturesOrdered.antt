@@ -1,24 +1,21 @@
 -- What a contract sees of an ordered queue that grows: the words on ordered queues at a set that grows.
-use Rattle.std.specs.Prelude.{◌≡◌, ℕ, Option, Result, ⊤}
+use Rattle.std.specs.Prelude.{◌≡◌, ℕ, Result, ⊤}
 use Rattle.std.specs.List.{sum_by}
-use Rattle.futures.specs.declared.task.context.Context.{Context}
 use Rattle.futures.specs.declared.task.Poll.{Poll}
 use Rattle.futures_buffered_table.specs.declared.answer.NewFault.{NewFault}
 use Rattle.futures_buffered_table.specs.declared.answer.Woke.{Woke}
 use Rattle.futures_buffered_core.specs.Drawn.{Items}
 use Rattle.futures_buffered_core.specs.ReadyShared.{Shared, IsNewShared, MarksShared}
 use Rattle.futures_buffered_unordered.specs.Extended.{MakesGrown}
-use Rattle.futures_buffered_unordered.specs.FuturesUnordered.{AnyGroupMayGive, AnyNeeds, Growing, EachHeld}
+use Rattle.futures_buffered_unordered.specs.FuturesUnordered.{AnyGroupMayGive, Growing, EachHeld}
 use Rattle.futures_buffered_unordered.specs.FuturesUnordered.{GrowingPushes, IsNewGrowing, SetMayRefuse, SetRefuses}
 use Rattle.futures_buffered_unordered.specs.FuturesUnordered.{held_in_all}
 use Rattle.futures_buffered_core.specs.declared.ready_source.ReadySource.{Ghosts as ReadySourceOf}
-use Rattle.futures_buffered_unordered.specs.declared.poll_one.PollOne.{Ghosts as PollOneOf}
-use Rattle.futures_buffered_unordered.specs.PollsGrowing.{PollsGrowing}
 use Rattle.futures_buffered_unordered.specs.declared.futures_unordered.TheConstants.{FIRST_GROUP}
 use Rattle.futures_buffered_unordered.specs.declared.futures_unordered_bounded.TheConstants.{POLL_LIMIT}
-use Rattle.futures_buffered_ordered.specs.Numbered.{CanPollFuture, PollsNumbered, held_with, of_numbered}
-use Rattle.futures_buffered_ordered.specs.OrderedEntries.{AddsBack, NumberedSetOf, Ordered, IsNewQueue, PolledSet}
-use Rattle.futures_buffered_ordered.specs.OrderedEntries.{PollsOrdered, QueueIsAtBound}
+use Rattle.futures_buffered_ordered.specs.Numbered.{CanPollFuture, PollsNumbered, held_with}
+use Rattle.futures_buffered_ordered.specs.OrderedEntries.{AddsBack, NumberedSetOf, Ordered, IsNewQueue}
+use Rattle.futures_buffered_ordered.specs.OrderedEntries.{QueueIsAtBound}
 use Rattle.futures_buffered_ordered.specs.declared.numbered.Numbered.{Numbered}
 
 -- the set that grows of numbered futures, the entries, and how many there is a place for
@@ -76,23 +73,3 @@ growing_numbers source made = record {
   takes = λ _. ⊤;
   is_fit = λ _. ⊤;
 }
-
-module _
-    {R F W A S : Type 0}
-    (rule : PollOneOf R F W A)
-    (source : ReadySourceOf S W)
-  where
-    -- how the set of a queue is polled, where `rule` says how one future is
-    abbrev pub growing_polls : PolledSet (Growing (Numbered F) S) A
-    growing_polls = record {
-      count = held_in_groups;
-      keeps = SameLimit;
-      can_poll = EachInProgress rule.can_poll;
-      gives = PollsGrowing (of_numbered rule) source;
-      needs = λ set. AnyNeeds source.needs set.groups.listed;
-    }
-
-    -- One poll of a queue that grows, over the queue and the task.
-    abbrev pub PollsOrderedGrowing : OrderedGrowing F A S → Poll (Option A) → OrderedGrowing F A S
-        → Context → Context → Type 0
-    PollsOrderedGrowing = PollsOrdered growing_polls

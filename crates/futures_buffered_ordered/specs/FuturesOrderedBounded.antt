@@ -15,7 +15,8 @@ use Rattle.futures_buffered_unordered.specs.declared.poll_one.PollOne.{Ghosts as
 use Rattle.futures_buffered_unordered.specs.PollsBounded.{PollsBounded}
 use Rattle.futures_buffered_ordered.specs.Numbered.{CanPollFuture, PollsNumbered, held_with, of_numbered}
 use Rattle.futures_buffered_ordered.specs.OrderedEntries.{Ordered, IsNewQueue, AddsEachBack, BesideTask, LastStep}
-use Rattle.futures_buffered_ordered.specs.OrderedEntries.{NumberedSetOf, PolledSet, PollsOrdered, SetYields, with_task}
+use Rattle.futures_buffered_ordered.specs.OrderedEntries.{NumberedPollsOf, NumberedSetOf, PollsOrdered, SetYields}
+use Rattle.futures_buffered_ordered.specs.OrderedEntries.{with_task}
 use Rattle.futures_buffered_ordered.specs.declared.numbered.Numbered.{Numbered}
 
 -- the bounded set of numbered futures, the entries, and how many entries there is a place for
@@ -97,19 +98,17 @@ module _
     (source : ReadySourceOf S W)
   where
     -- how the set of a queue is polled, where `rule` says how one future is
-    abbrev pub bounded_polls : PolledSet (Bounded (Numbered F) S) A
+    abbrev pub bounded_polls : NumberedPollsOf (Bounded (Numbered F) S) R A
     bounded_polls = record {
-      count = held_in;
-      keeps = SameSize;
       can_poll = EachRunning rule.can_poll;
       gives = PollsBounded (of_numbered rule) source;
       needs = λ set n. (0 < held_in set) × source.needs set.source n;
     }
 
-    -- One poll of a bounded queue, over the queue and the task.
+    -- One poll of a bounded queue, over the queue and the task, for definitions and laws: they can quote no impl.
     abbrev pub PollsOrderedBounded : OrderedBounded F A S → Poll (Option A) → OrderedBounded F A S
         → Context → Context → Type 0
-    PollsOrderedBounded = PollsOrdered bounded_polls
+    PollsOrderedBounded = PollsOrdered held_in SameSize bounded_polls
 
     -- how many names one poll of the set took
     abbrev pub names_taken : (old : Bounded (Numbered F) S) (answer : Poll (Option (ℕ × A)))

@@ -12,6 +12,7 @@ use Rattle.futures.specs.Runs.{Runs, Leads, Ends}
 use Rattle.futures_buffered_table.specs.declared.answer.NewFault.{NewFault}
 use Rattle.futures_buffered_table.specs.declared.answer.NewFault.TheVariants.{TooLarge}
 pub use Rattle.futures_buffered_ordered.specs.declared.numbered_set.NumberedSet.{Ghosts as NumberedSetOf}
+pub use Rattle.futures_buffered_ordered.specs.declared.numbered_set.NumberedPolls.{Ghosts as NumberedPollsOf}
 use Rattle.futures_buffered_ordered.specs.declared.ordered_entries.Entry.{Entry}
 use Rattle.futures_buffered_ordered.specs.declared.ordered_entries.Entry.TheVariants.{Running, Kept}
 use Rattle.futures_buffered_ordered.specs.declared.ordered_entries.TheConstants.{MAX_LEN}
@@ -196,20 +197,9 @@ abbrev pub BesideTask : {Q A : Type 0} → (Q → Poll (Option (ℕ × A)) → Q
     → Poll (Option (ℕ × A)) → Q × Context → Type 0
 BesideTask gives old answer new = gives old.0 answer new.0 old.1 new.1
 
--- how a set of numbered futures is polled
-pub record PolledSet (Q A : Type 0) : Type 1 where
-  -- how many futures are held
-  pub count : Q → ℕ
-  -- what a poll keeps of it
-  pub keeps : Q → Q → Type 0
-  -- each future that is held may be polled
-  pub can_poll : Q → Type 0
-  -- one poll, that finds the set and the task, gives an answer and leaves them
-  pub gives : Q → Poll (Option (ℕ × A)) → Q → Context → Context → Type 0
-  -- where a set that is pending waits
-  pub needs : Q → ℕ → Type 0
-
-module _ {Q A : Type 0} (polls : PolledSet Q A) where
+-- A set holds as many futures as `count` says, and its calls keep of it what `keeps` says. `polls` is what its type has
+-- as `NumberedPolls<R>`, where R is the rule by which one held future is polled.
+module _ {Q R A : Type 0} (count : Q → ℕ) (keeps : Q → Q → Type 0) (polls : NumberedPollsOf Q R A) where
   -- What one poll leaves of a queue and of the task.
   pub record LeavesQueue
       {B : Type 0}
@@ -219,10 +209,10 @@ module _ {Q A : Type 0} (polls : PolledSet Q A) where
       (cx left : Context)
       : Type 0 where
     -- what stays: of the set what `keeps` says, and a place for as many entries
-    pub set : polls.keeps old.set new.set
+    pub set : keeps old.set new.set
     pub room : new.room ≡ old.room
     -- a pending queue has a future in progress
-    pub holds : OnPending answer (0 < polls.count new.set)
+    pub holds : OnPending answer (0 < count new.set)
     -- who waits where: the task of a pending queue hears of what its set waits for
     pub covered : OnPending answer (Covers left (polls.needs new.set))
     -- what the task was registered for or asked to do before still stands
@@ -240,7 +230,7 @@ module _ {Q A : Type 0} (polls : PolledSet Q A) where
     -- what came, and who is woken: while the front is in progress the set is polled, and each output is kept in its
     -- entry; then comes the front's output, the end, or the set's Pending. Each poll of the set says who is woken; an
     -- end, or a front that was kept, leaves the task alone
-    pub gave : OrderedGives (BesideTask polls.gives) (λ set. polls.count set.0)
+    pub gave : OrderedGives (BesideTask polls.gives) (λ set. count set.0)
         (with_task old cx) answer (with_task new left)
     -- what stays, who waits where, and what may be polled again
     pub queue : LeavesQueue old answer new cx left

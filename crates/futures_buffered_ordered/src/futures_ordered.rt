@@ -12,18 +12,18 @@ ghost use Rattle.futures_buffered_unordered.specs.PollsGrowing.{PollsGrowing};
 ghost use Rattle.futures_buffered_unordered.specs.Extended.{Extends};
 ghost use Rattle.futures_buffered_ordered.specs.OrderedEntries.{AddsBack, AddsFront, AddsOrStays, IsLength};
 ghost use Rattle.futures_buffered_ordered.specs.OrderedEntries.{PushesOrHandsBack, QueueIsAtBound};
-ghost use Rattle.futures_buffered_ordered.specs.OrderedEntries.{RefusesOne};
+ghost use Rattle.futures_buffered_ordered.specs.OrderedEntries.{PollsOrdered, RefusesOne};
 ghost use Rattle.futures_buffered_ordered.specs.OrderedEntries.{without_entries};
 ghost use Rattle.futures_buffered_ordered.specs.FuturesOrdered.{EachInProgress, GrowingPushesNumber};
 ghost use Rattle.futures_buffered_ordered.specs.FuturesOrdered.{IsNewGrowingQueue};
-ghost use Rattle.futures_buffered_ordered.specs.FuturesOrdered.{PollsOrderedGrowing, SameLimit};
+ghost use Rattle.futures_buffered_ordered.specs.FuturesOrdered.{SameLimit};
 ghost use Rattle.futures_buffered_ordered.specs.FuturesOrdered.{growing_numbers};
 ghost use Rattle.futures_buffered_ordered.specs.FuturesOrdered.{held_in_groups, held_in_groups_with};
 ghost use Rattle.futures_buffered_ordered.specs.FuturesOrdered.{MakesSharedQueue};
 ghost use Rattle.futures_buffered_ordered.specs.Numbered.{of_numbered};
 
 use crate::numbered::{Numbered, PollNumbered};
-use crate::numbered_set::{NumberedSet, PollNumberedSet};
+use crate::numbered_set::{NumberedPolls, NumberedSet, PollNumberedSet};
 use crate::ordered_entries::{MAX_LEN, OrderedEntries};
 use futures::task::{Context, Poll};
 use futures_buffered_core::ready_core::{MAX_CAPACITY, NewFault};
@@ -81,7 +81,7 @@ impl<T: Drop, S: NewSource> NumberedSet for FuturesUnordered<Numbered<T>, S> {
     ghost keeps_on = { λ a b c first then. then ∙ first };
 }
 
-impl<T: Drop, S: NewSource, R: PollOne<T, S::Waker>> PollNumberedSet<R>
+impl<T: Drop, S: NewSource, R: PollOne<T, S::Waker>> NumberedPolls<R>
     for FuturesUnordered<Numbered<T>, S> {
     type Output = R::Output;
 
@@ -90,7 +90,10 @@ impl<T: Drop, S: NewSource, R: PollOne<T, S::Waker>> PollNumberedSet<R>
     ghost gives = { PollsGrowing (of_numbered R.PollOne) S.ReadySource };
 
     ghost needs = { λ set. AnyNeeds S.needs set.groups.listed };
+}
 
+impl<T: Drop, S: NewSource, R: PollOne<T, S::Waker>> PollNumberedSet<R>
+    for FuturesUnordered<Numbered<T>, S> {
     fn poll_numbered(
         &mut self,
         rule: &R,
@@ -233,7 +236,8 @@ impl<T: Drop, A: Drop, S: NewSource> GrowingQueue<T, A, S> {
         cx: &mut Context<'_>,
     ) -> Poll<Option<A>>
         requires { EachInProgress R.can_poll self.old.set }
-        ensures { PollsOrderedGrowing R.PollOne S.ReadySource
+        ensures { PollsOrdered held_in_groups SameLimit
+            ⟦<FuturesUnordered<Numbered<T>, S> as NumberedPolls<R>>⟧
             self.old result self.new cx.old cx.new }
     {
         self.queue.poll_entries(rule, cx)

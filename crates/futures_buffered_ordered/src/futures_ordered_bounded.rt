@@ -12,14 +12,14 @@ ghost use Rattle.futures_buffered_unordered.specs.Extended.{Extends, MakesFull};
 ghost use Rattle.futures_buffered_unordered.specs.PollsBounded.{PollsBounded};
 ghost use Rattle.futures_buffered_ordered.specs.Numbered.{held_with, of_numbered};
 ghost use Rattle.futures_buffered_ordered.specs.OrderedEntries.{AddsBack, AddsFront, IsLength, PushesOrHandsBack};
-ghost use Rattle.futures_buffered_ordered.specs.OrderedEntries.{RefusesOne, without_entries};
+ghost use Rattle.futures_buffered_ordered.specs.OrderedEntries.{PollsOrdered, RefusesOne, without_entries};
 ghost use Rattle.futures_buffered_ordered.specs.FuturesOrderedBounded.{EachRunning, HoldsInOrder, IsNewBoundedQueue};
-ghost use Rattle.futures_buffered_ordered.specs.FuturesOrderedBounded.{PollsOrderedBounded, PushesEntry, PushesNumber};
+ghost use Rattle.futures_buffered_ordered.specs.FuturesOrderedBounded.{PushesEntry, PushesNumber};
 ghost use Rattle.futures_buffered_ordered.specs.FuturesOrderedBounded.{QueueIsFull, SameSize, SetIsFull, TakesFewNames};
 ghost use Rattle.futures_buffered_ordered.specs.FuturesOrderedBounded.{bounded_numbers};
 
 use crate::numbered::{Numbered, PollNumbered};
-use crate::numbered_set::{NumberedSet, PollNumberedSet};
+use crate::numbered_set::{NumberedPolls, NumberedSet, PollNumberedSet};
 use crate::ordered_entries::OrderedEntries;
 pub use crate::ordered_entries::{Entry, MAX_LEN};
 use futures::task::{Context, Poll};
@@ -79,7 +79,7 @@ impl<T: Drop, S: ReadySource> NumberedSet for FuturesUnorderedBounded<Numbered<T
     } };
 }
 
-impl<T: Drop, S: ReadySource, R: PollOne<T, S::Waker>> PollNumberedSet<R>
+impl<T: Drop, S: ReadySource, R: PollOne<T, S::Waker>> NumberedPolls<R>
     for FuturesUnorderedBounded<Numbered<T>, S> {
     type Output = R::Output;
 
@@ -88,7 +88,10 @@ impl<T: Drop, S: ReadySource, R: PollOne<T, S::Waker>> PollNumberedSet<R>
     ghost gives = { PollsBounded (of_numbered R.PollOne) S.ReadySource };
 
     ghost needs = { λ set n. (0 < held_in set) × S.needs set.source n };
+}
 
+impl<T: Drop, S: ReadySource, R: PollOne<T, S::Waker>> PollNumberedSet<R>
+    for FuturesUnorderedBounded<Numbered<T>, S> {
     fn poll_numbered(
         &mut self,
         rule: &R,
@@ -259,7 +262,8 @@ impl<T: Drop, A: Drop, S: ReadySource> BoundedQueue<T, A, S> {
         cx: &mut Context<'_>,
     ) -> Poll<Option<A>>
         requires { EachRunning R.can_poll self.old.set }
-        ensures { PollsOrderedBounded R.PollOne S.ReadySource
+        ensures { PollsOrdered held_in SameSize
+            ⟦<FuturesUnorderedBounded<Numbered<T>, S> as NumberedPolls<R>>⟧
             self.old result self.new cx.old cx.new }
     {
         self.queue.poll_entries(rule, cx)

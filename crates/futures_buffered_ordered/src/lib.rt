@@ -3,7 +3,7 @@
 //! In the order in which to read them:
 //!
 //! - `numbered`: a future with the number of its entry, and the rule by which it is polled.
-//! - `numbered_set`: `NumberedSet`, what a queue asks of the set that holds its futures in progress.
+//! - `numbered_set`: `NumberedSet` and `NumberedPolls`, what a queue asks of the set of its futures in progress.
 //! - `ordered_entries`: `OrderedEntries`, the entries of a queue over any such set.
 //! - `futures_ordered_bounded`: `FuturesOrderedBounded`, a queue over a bounded set, with additions at both ends.
 //! - `ordered_stream`: the same queue as a stream.

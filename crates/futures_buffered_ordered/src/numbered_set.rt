@@ -56,8 +56,12 @@ pub trait NumberedSet: Drop {
     ghost keeps_on: { (a b c : Self) → keeps a b → keeps b c → keeps a c };
 }
 
-/// A numbered set under a rule by which one held future is polled. Its output comes with its number.
-pub trait PollNumberedSet<R>: NumberedSet {
+/// What a poll of a set of numbered futures asks, gives and leaves, under a rule by which one held future is polled. An
+/// output comes with the number of its future.
+///
+/// An impl says it by the words of the set's own poll. It has no calls, and stands apart from `NumberedSet` so that the
+/// contract of a queue's poll can quote it whole.
+pub trait NumberedPolls<R>: Drop {
     ghost use Rattle.futures.specs.declared.task.Poll.{Poll};
     ghost use Rattle.futures.specs.declared.task.context.Context.{Context};
 
@@ -72,7 +76,10 @@ pub trait PollNumberedSet<R>: NumberedSet {
 
     // Where a set that is pending waits.
     ghost needs: { Self → ℕ → Type 0 };
+}
 
+/// A numbered set that is polled in this way.
+pub trait PollNumberedSet<R>: NumberedSet + NumberedPolls<R> {
     /// One poll of the set. `Ready(None)` where nothing is held. Takes no memory but what the calls of its sources
     /// take.
     fn poll_numbered(
@@ -80,9 +87,9 @@ pub trait PollNumberedSet<R>: NumberedSet {
         rule: &R,
         cx: &mut Context<'_>,
     ) -> Poll<Option<(usize, Self::Output)>>
-        requires { can_poll self.old }
-        ensures gave { gives self.old result self.new cx.old cx.new }
-        ensures set { PollsNumberedSet can_poll Self.count Self.with_number Self.keeps
+        requires { Self.can_poll self.old }
+        ensures gave { Self.gives self.old result self.new cx.old cx.new }
+        ensures set { PollsNumberedSet Self.can_poll Self.count Self.with_number Self.keeps
             self.old result self.new }
-        ensures task { PollsNumberedTask needs result self.new cx.old cx.new };
+        ensures task { PollsNumberedTask Self.needs result self.new cx.old cx.new };
 }

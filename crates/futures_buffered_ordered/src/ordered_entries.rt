@@ -258,13 +258,7 @@ impl<Q: NumberedSet, A: Drop> OrderedEntries<Q, A> {
             (with_task self.old.queue cx.old) Poll.Pending (with_task self.new.queue cx.new)) }
         ensures fewer { IfReady result (λ _.
             Q.count self.new.queue.set + 1 ≡ Q.count self.old.queue.set) }
-        ensures queue { LeavesQueue (record {
-          count = Q.count;
-          keeps = Q.keeps;
-          can_poll = Q.can_poll;
-          gives = Q.gives;
-          needs = Q.needs;
-        })
+        ensures queue { LeavesQueue Q.count Q.keeps Q.NumberedPolls
             self.old.queue result self.new.queue cx.old cx.new }
         ensures numbered { IsNumbered Q.with_number Q.count self.new }
     {
@@ -289,13 +283,7 @@ impl<Q: NumberedSet, A: Drop> OrderedEntries<Q, A> {
     where
         Q: PollNumberedSet<R, Output = A>,
         requires { CanPollEntries Q.can_poll Q.with_number Q.count self.old }
-        ensures polls { PollsOrdered (record {
-          count = Q.count;
-          keeps = Q.keeps;
-          can_poll = Q.can_poll;
-          gives = Q.gives;
-          needs = Q.needs;
-        })
+        ensures polls { PollsOrdered Q.count Q.keeps Q.NumberedPolls
             self.old.queue result self.new.queue cx.old cx.new }
         ensures numbered { IsNumbered Q.with_number Q.count self.new }
     {

@@ -1,15 +1,18 @@
 //! The ordered queue that grows as a stream, which says how much is left and whether it has ended.
 ghost use Rattle.std.specs.Prelude.{◌≡◌, length};
 ghost use Rattle.futures_buffered_unordered.specs.FuturesUnordered.{AnyNeeds};
-ghost use Rattle.futures_buffered_unordered.specs.PollsBounded.{itself};
-ghost use Rattle.futures_buffered_ordered.specs.OrderedEntries.{ComesInOrder};
-ghost use Rattle.futures_buffered_ordered.specs.FuturesOrdered.{EachInProgress, GrowingMayGive, PollsOrderedGrowing};
+ghost use Rattle.futures_buffered_ordered.specs.OrderedEntries.{ComesInOrder, PollsOrdered};
+ghost use Rattle.futures_buffered_ordered.specs.FuturesOrdered.{EachInProgress, GrowingMayGive, SameLimit};
+ghost use Rattle.futures_buffered_ordered.specs.FuturesOrdered.{held_in_groups};
 
 use crate::futures_ordered::GrowingQueue;
+use crate::numbered::Numbered;
+use crate::numbered_set::NumberedPolls;
 use futures::Stream;
 use futures::task::{Context, Poll};
 use futures_buffered_core::ready_source::NewSource;
 use futures_buffered_unordered::fused::{FusedStream, SizeHint};
+use futures_buffered_unordered::futures_unordered::FuturesUnordered;
 use futures_buffered_unordered::poll_one::PollFuture;
 use futures_buffered_unordered::slot_future::SlotFuture;
 use std::fmt;
@@ -31,7 +34,8 @@ where
     /// One poll, as `poll_with` by the rule that polls the future itself.
     fn poll_next(&mut self, cx: &mut Context<'_>) -> Poll<Option<A>>
         requires { EachInProgress T.can_poll self.old.set }
-        ensures { PollsOrderedGrowing (itself T.SlotFuture) S.ReadySource
+        ensures { PollsOrdered held_in_groups SameLimit
+            ⟦<FuturesUnordered<Numbered<T>, S> as NumberedPolls<PollFuture>>⟧
             self.old result self.new cx.old cx.new }
     {
         self.poll_with(&PollFuture, cx)

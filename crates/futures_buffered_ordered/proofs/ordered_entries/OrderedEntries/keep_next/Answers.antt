@@ -29,7 +29,7 @@ returns-in-Ready-Some-clause-gave g c =
       (number, c.in-Ready-Some.output),
       record {
         front_runs = runs;
-        gave = subst (λ (o : Option (ℕ × g.row.A.Denot)). g.Q.PollNumberedSet.gives c.self.inside.set (Ready o) c.poll_numbered.new.self c.args.cx.now c.poll_numbered.new.cx) c.in-Ready-Some.field-0-is c.in-Ready-Some.ensures.gave;
+        gave = subst (λ (o : Option (ℕ × g.row.A.Denot)). g.Q.NumberedPolls.gives c.self.inside.set (Ready o) c.poll_numbered.new.self c.args.cx.now c.poll_numbered.new.cx) c.in-Ready-Some.field-0-is c.in-Ready-Some.ensures.gave;
         at = place_of c.self.inside.outgoing number;
         was_running = there;
         entries = refl;

@@ -8,7 +8,7 @@ use Rattle.futures_buffered_ordered.proofs.ordered_entries.OrderedEntries.poll_e
 abbrev pub invariant-loop-self : goal.invariant-loop-self
 invariant-loop-self g l =
     let set = g.Q.NumberedSet in
-    let polls = g.Q.PollNumberedSet in
+    let polls = g.Q.NumberedPolls in
     record {
       row : (yielded : List (ℕ × g.row.A.Denot)) × FoldsTo (SetYields (BesideTask polls.gives)) (with_task l.fn.self.queue l.fn.cx) yielded (with_task l.self.queue l.cx)
           × (length yielded + set.count l.self.queue.set ≡ set.count l.fn.self.queue.set);
