@@ -8,8 +8,8 @@ use Rattle.futures.specs.Task.{Lasting, Covers, Keeps, Hears}
 use Rattle.futures.specs.Runs.{Runs, After, Within, Ends, Leads, Chains, Resolves, firsts}
 use Rattle.futures.specs.Buffered.{GathersWith}
 use Rattle.futures.specs.Poll.{IfReady}
-use Rattle.futures_buffered_unordered.specs.StreamAnswers.{StreamAnswers}
-use Rattle.futures_buffered.specs.FutureQueue.{MayCome, AddsOutput, PollLeavesQueue, PushAddsOutput, PushLeavesQueue}
+use Rattle.futures_buffered_unordered.specs.StreamAnswers.{StreamAnswers, stream_of}
+use Rattle.futures_buffered.specs.FutureQueue.{MayCome, AddsOutput, PollsFutureQueue, PushAddsOutput, PushLeavesQueue}
 use Rattle.futures_buffered.specs.Buffer.{Buffering, FutureQueueOf, StreamOf, Ahead, AsksStream, DrawsAll, DrawsBuffer, DrawsTask, HasNoTurn, CallGivesWith, PollsBuffer, PollsStream, PollsWithTask, CanDraw, WaitsAt, OneComes, Comes, BufferGives, buffer_of, answer_from, answer_of_none}
 
 None-Some : {X F : Type 0} {f : F} → None ≡ Some f → X
@@ -323,27 +323,27 @@ call_of next count n pushes polls task_stays old filled stream queue left queue_
 )
 
 -- where the queue gave the end and the stream has ended, nothing is held
-ended_by : {St A Q : Type 0} (count room : Q → ℕ) (stream : Option St) (queue left : Q) (queue_answer : Poll (Option A)) → PollLeavesQueue count room queue queue_answer left → IfReady (answer_from stream queue_answer) (λ o. IfNone o ((stream ≡ None) × (count left ≡ 0)))
-ended_by count room stream queue left (Ready (Some x)) it = tt
-ended_by count room None queue left (Ready None) it = (refl, rw it.empty.1 it.empty.0)
-ended_by count room (Some s) queue left (Ready None) it = tt
-ended_by count room stream queue left Pending it = tt
+ended_by : {St A Q : Type 0} (count : Q → ℕ) (stream : Option St) (queue left : Q) (queue_answer : Poll (Option A)) → IfReady queue_answer (λ o. IfNone o ((count queue ≡ 0) × (left ≡ queue))) → IfReady (answer_from stream queue_answer) (λ o. IfNone o ((stream ≡ None) × (count left ≡ 0)))
+ended_by count stream queue left (Ready (Some x)) empty = tt
+ended_by count None queue left (Ready None) empty = (refl, rw empty.1 empty.0)
+ended_by count (Some s) queue left (Ready None) empty = tt
+ended_by count stream queue left Pending empty = tt
 
 -- a call that ended with a poll of the queue
 pub poll_of : {St X A Q : Type 0} (source : StreamOf St X) (by : FutureQueueOf Q X A) (old filled : Buffering St Q) (stream : Option St) (queue left : Q) (queue_answer answer : Poll (Option A)) (cx task_then after : Context)
-    → filled ≡ record { stream = stream; queue = queue } → (items : List X) × DrawsAll (PollsStream source.yields) by.count (by.room old.queue) by.pushes old items None filled → by.polls queue queue_answer left → by.leaves queue queue_answer left task_then after
-    → PollLeavesQueue by.count by.room queue queue_answer left → answer ≡ answer_from stream queue_answer → Keeps cx task_then → (HasNoTurn (PollsStream source.yields) by.count (by.room old.queue) old → task_then ≡ cx) → by.room filled.queue ≡ by.room old.queue
+    → filled ≡ record { stream = stream; queue = queue } → (items : List X) × DrawsAll (PollsStream source.yields) by.count (by.room old.queue) by.pushes old items None filled
+    → PollsFutureQueue by.polls by.count by.room (stream_of by.can_poll by.needs by.yields) queue queue_answer left task_then after → answer ≡ answer_from stream queue_answer → Keeps cx task_then → (HasNoTurn (PollsStream source.yields) by.count (by.room old.queue) old → task_then ≡ cx) → by.room filled.queue ≡ by.room old.queue
     → StreamAnswers (buffer_of source by) old answer (record { stream = stream; queue = left }) cx after
     → PollsBuffer source by old answer (record { stream = stream; queue = left }) cx after
-poll_of source by old filled stream queue left queue_answer answer cx task_then after is draws polled left_so it gives kept not_polled same_room as_stream =
+poll_of source by old filled stream queue left queue_answer answer cx task_then after is draws polled gives kept not_polled same_room as_stream =
     record {
       task_then = task_then;
       draws_keep = kept;
       not_polled = not_polled;
-      gave = call_of (PollsStream source.yields) by.count (by.room old.queue) by.pushes (PollsWithTask by.polls by.leaves task_then after) (after ≡ task_then) old filled stream queue left queue_answer answer is draws (polled, left_so) gives;
-      ended = rw gives (ended_by by.count by.room stream queue left queue_answer it);
-      same_room = it.same_room ∙ rw is at same_room;
-      bound = it.bound;
+      gave = call_of (PollsStream source.yields) by.count (by.room old.queue) by.pushes (PollsWithTask by.polls task_then after) (after ≡ task_then) old filled stream queue left queue_answer answer is draws polled.polled gives;
+      ended = rw gives (ended_by by.count stream queue left queue_answer polled.empty);
+      same_room = polled.same_room ∙ rw is at same_room;
+      bound = polled.bound;
       as_stream = as_stream;
     }
 

@@ -3,15 +3,20 @@ use Rattle.std.proofs.Common.{◌≡◌, ◌⊎◌, ℕ, ◌<◌, [], length, Op
 use Rattle.std.proofs.lemmas.List.{get_or-set_same, get_or-set_other, get_or_past}
 use Rattle.std.proofs.lemmas.List.Sums.{get_or-le-sum_by}
 use Rattle.std.proofs.lemmas.Bool.{cases_eq, cases_lt}
+use Rattle.futures.specs.declared.task.context.Context.{Context}
 use Rattle.futures.specs.declared.task.Poll.{Poll}
 use Rattle.futures.specs.declared.task.Poll.TheVariants.{Ready, Pending}
 use Rattle.futures.specs.Poll.{IfReady}
 use Rattle.futures_buffered_core.specs.SlotMap.{Slots, value_in, held_count, with_value, Inserts}
 use Rattle.futures_buffered_table.specs.declared.answer.Woke.{Woke}
 use Rattle.futures_buffered_core.specs.ReadySource.{SourceSteps}
+use Rattle.futures_buffered_core.specs.declared.ready_source.ReadySource.{Ghosts as ReadySourceOf}
+use Rattle.futures_buffered_unordered.specs.declared.slot_future.SlotFuture.{Ghosts as SlotFutureOf}
 use Rattle.futures_buffered_unordered.specs.Held.{MayGive, AllHeld, ComesFrom}
 use Rattle.futures_buffered_unordered.specs.FuturesUnorderedBounded.{Bounded, Pushes, PollGives, held_in}
+use Rattle.futures_buffered_unordered.specs.PollsBounded.{PollsBounded, itself}
 use Rattle.futures_buffered_unordered.proofs.HeldLemmas.{AllHeld-push}
+use Rattle.futures_buffered_unordered.proofs.PollsBoundedLemmas.{gives_of}
 use Rattle.futures_buffered.specs.FutureQueue.{AddsOutput}
 use Rattle.futures_buffered.specs.BufferUnordered.{MayGiveInSlot}
 
@@ -49,6 +54,10 @@ module _ {F S : Type 0} (marks : S → ℕ → Woke → S → Type 0) (old new :
   -- each future may be polled, where those held and the new one may be
   pub pushed_can : (can_poll : F → Type 0) → AllHeld can_poll old.slots → can_poll f → AllHeld can_poll new.slots
   pushed_can can_poll held fit = AllHeld-push can_poll old.slots pushed.0 f new.slots pushed.1.inserted held fit
+
+-- a poll, told of the set alone
+pub set_alone : {F A S W : Type 0} (future : SlotFutureOf F W A) (source : ReadySourceOf S W) (old new : Bounded F S) (answer : Poll (Option A)) (cx left : Context) → PollsBounded (itself future) source old answer new cx left → PollGives future.polled source.steps old answer new
+set_alone future source old new answer cx left poll = gives_of (itself future) source source.steps.registers (λ a b h. h) old new answer cx left poll
 
 -- a poll that finds no future changes nothing
 pub empty_polled : {F A S : Type 0} (polled : ℕ → F → Poll A → F → Type 0) (steps : SourceSteps S) (old new : Bounded F S) (answer : Poll (Option A)) → PollGives polled steps old answer new → IfReady answer (λ o. IfNone o ((held_in old ≡ 0) × (new ≡ old)))

@@ -22,9 +22,12 @@ use Rattle.futures_buffered_ordered.specs.OrderedEntries.{AddsBack, ComesInOrder
 use Rattle.futures_buffered_ordered.specs.FuturesOrderedBounded.{EachRunning, OrderedBounded, PollsOrderedBounded, PushesNumber, SetGives, SetMayGive}
 use Rattle.futures_buffered_core.specs.declared.ready_source.ReadySource.{Ghosts as ReadySourceOf}
 use Rattle.futures_buffered_unordered.specs.declared.poll_one.PollOne.{Ghosts as PollOneOf}
+use Rattle.futures_buffered_unordered.specs.declared.slot_future.SlotFuture.{Ghosts as SlotFutureOf}
+use Rattle.futures_buffered_unordered.specs.PollsBounded.{itself}
 use Rattle.futures_buffered_ordered.specs.declared.numbered.Numbered.{Numbered}
 use Rattle.futures_buffered_ordered.specs.declared.ordered_entries.Entry.{Entry}
 use Rattle.futures_buffered_ordered.specs.declared.ordered_entries.Entry.TheVariants.{Running, Kept}
+use Rattle.futures_buffered_ordered.proofs.FuturesOrderedBoundedLemmas.{queue_gives_of}
 use Rattle.futures_buffered_ordered.proofs.NumberedLemmas.{in_slot, in_slots}
 use Rattle.futures_buffered_ordered.proofs.OrderedEntriesInvariantLemmas.{entry_with}
 use Rattle.futures_buffered.specs.FutureQueue.{AddsOutput}
@@ -214,6 +217,10 @@ module _ {F A S : Type 0} (polled : ℕ → F → Poll A → F → Type 0) (step
   pub same_polled : (old new : OrderedBounded F A S) (answer : Poll (Option A)) → OrderedGives (SetGives polled steps) held_in old answer new → OnPending answer (queue_len new ≡ queue_len old)
   same_polled old new (Ready o) h = tt
   same_polled old new Pending h = pending_len old new h
+
+-- a poll, told of the queue alone
+pub queue_alone : {F A S W : Type 0} (future : SlotFutureOf F W A) (source : ReadySourceOf S W) (old new : OrderedBounded F A S) (answer : Poll (Option A)) (cx left : Context) → PollsOrderedBounded (itself future) source old answer new cx left → OrderedGives (SetGives future.polled source.steps) held_in old answer new
+queue_alone future source old new answer cx left poll = queue_gives_of (itself future) source old new answer cx left poll
 
 -- the task of a pending queue hears of the source of its set
 pub waits_covered : {R F W A S : Type 0} (rule : PollOneOf R F W A) (source : ReadySourceOf S W) (old new : OrderedBounded F A S) (answer : Poll (Option A)) (cx left : Context) → PollsOrderedBounded rule source old answer new cx left → OnPending answer (Covers left (source.needs new.set.source))

@@ -11,10 +11,10 @@ use Rattle.futures_buffered_unordered.specs.StreamAnswers.{StreamAnswers, stream
 use Rattle.futures_buffered_unordered.proofs.HeldGivesLemmas.{Gathers-Within, Gathers-After}
 use Rattle.futures_buffered_in_flight.specs.InFlight.{FlightsWaitAt, FutureOf}
 use Rattle.futures_buffered_ordered.specs.declared.numbered.Numbered.{Numbered}
-use Rattle.futures_buffered_in_flight.specs.InFlightOrdered.{ComesOfEach, GivesInTurn, OrderedInFlight, PollsInTurn, PushesBack}
-use Rattle.futures_buffered_in_flight.proofs.InFlightOrderedLemmas.{gives_in_turn}
+use Rattle.futures_buffered_in_flight.specs.InFlightOrdered.{CanPollOrdered, ComesOfEach, OrderedInFlight, OrderedWaitsAt, PollsInTurn, PushesBack}
+use Rattle.futures_buffered_in_flight.proofs.InFlightOrderedLemmas.{answers_in_turn}
 use Rattle.futures_buffered_in_flight.specs.InFlightQueue.{Queued, SomeOf, AnyQueuedGives, NumberGives, CanPollQueue, ComesFromQueue, PollsQueued, PushesQueued, queued_count, queued_room}
-use Rattle.futures_buffered.specs.FutureQueue.{AddsOutput, PollLeavesQueue, PushAddsOutput, PushLeavesQueue}
+use Rattle.futures_buffered.specs.FutureQueue.{AddsOutput, PollsFutureQueue, PushAddsOutput, PushLeavesQueue}
 
 some_held : {P : Type 0} (m : Slots P) (i : ℕ) (p : P) → value_in m i ≡ Some p → 0 < held_count m
 some_held {P} m i p found =
@@ -60,12 +60,7 @@ module _ {F A : Type 0} (future : FutureOf F A) where
   pub push_adds : (old new : Queued F) (f : F) → PushesQueued future old f new → PushAddsOutput false (ComesFromQueue future) (future.gives f) old None new
   push_adds old new f p = record { adds = adds old new f p; value = tt; overtakes = tt }
 
-  pub poll_leaves : (old new : Queued F) (answer : Poll (Option A)) (cx left : Context) → PollsQueued future old answer new cx left → PollLeavesQueue queued_count queued_room old answer new
-  poll_leaves old new (Ready None) cx left p = record { empty = p.gave; fewer = tt; same_count = tt; same_room = p.same_room; some = p.some; bound = p.bound }
-  poll_leaves old new (Ready (Some x)) cx left p = record { empty = tt; fewer = p.gave.1; same_count = tt; same_room = p.same_room; some = p.some; bound = p.bound }
-  poll_leaves old new Pending cx left p = record { empty = tt; fewer = tt; same_count = p.gave.1; same_room = p.same_room; some = p.some; bound = p.bound }
-
-  pub answers : (old new : Queued F) (answer : Poll (Option A)) (cx left : Context) → PollsQueued future old answer new cx left → StreamAnswers (stream_of (CanPollQueue future) (λ (q : Queued F). FlightsWaitAt q.set) (ComesFromQueue future)) old answer new cx left
+  answers : (old new : Queued F) (answer : Poll (Option A)) (cx left : Context) → PollsQueued future old answer new cx left → StreamAnswers (stream_of (CanPollQueue future) (λ (q : Queued F). FlightsWaitAt q.set) (ComesFromQueue future)) old answer new cx left
   answers old new (Ready None) cx left p =
       record { value = record { each = tt; ends = let k = p.gave.0 in omega (arith, k) }; rest = tt; same = tt; goes = tt; again = tt; registered = tt; kept = p.kept }
   answers old new (Ready (Some x)) cx left p =
@@ -89,15 +84,32 @@ module _ {F A : Type 0} (future : FutureOf F A) where
         kept = p.kept;
       }
 
+  -- a poll is one of what a buffer holds
+  pub polls_queue : (old new : Queued F) (answer : Poll (Option A)) (cx left : Context) → PollsQueued future old answer new cx left
+      → PollsFutureQueue (PollsQueued future) queued_count queued_room (stream_of (CanPollQueue future) (λ (q : Queued F). FlightsWaitAt q.set) (ComesFromQueue future)) old answer new cx left
+  polls_queue old new (Ready None) cx left p =
+      record { polled = p; empty = p.gave; fewer = tt; same_count = tt; same_room = p.same_room; some = p.some; bound = p.bound; as_stream = answers old new (Ready None) cx left p }
+  polls_queue old new (Ready (Some x)) cx left p =
+      record { polled = p; empty = tt; fewer = p.gave.1; same_count = tt; same_room = p.same_room; some = p.some; bound = p.bound; as_stream = answers old new (Ready (Some x)) cx left p }
+  polls_queue old new Pending cx left p =
+      record { polled = p; empty = tt; fewer = tt; same_count = p.gave.1; same_room = p.same_room; some = p.some; bound = p.bound; as_stream = answers old new Pending cx left p }
+
   pub push_leaves_ordered : (old new : OrderedInFlight F A) (f : F) → PushesBack future old f new → PushLeavesQueue {A = A} entry_count entry_room old None new
   push_leaves_ordered old new f p = record { one_more = p.one_more; stays = tt; same_room = p.same_room }
 
   pub push_adds_ordered : (old new : OrderedInFlight F A) (f : F) → PushesBack future old f new → PushAddsOutput true (ComesOfEach future) (future.gives f) old None new
   push_adds_ordered old new f p = record { adds = p.comes; value = tt; overtakes = tt }
 
-pub poll_leaves_ordered : {F A : Type 0} (future : FutureOf F A) (old new : OrderedInFlight F A) (answer : Poll (Option A)) (cx left : Context) → PollsInTurn future old answer new cx left → PollLeavesQueue entry_count entry_room old answer new
-poll_leaves_ordered future old new answer cx left poll =
-    record { empty = poll.empty; fewer = poll.fewer; same_count = poll.same_count; same_room = poll.same_room; some = poll.some; bound = poll.bound }
-
-pub poll_gives_ordered : {F A : Type 0} (future : FutureOf F A) (old new : OrderedInFlight F A) (answer : Poll (Option A)) (cx left : Context) → PollsInTurn future old answer new cx left → GivesInTurn future old answer new
-poll_gives_ordered future old new answer cx left poll = gives_in_turn future old new answer cx left poll
+pub polls_queue_ordered : {F A : Type 0} (future : FutureOf F A) (old new : OrderedInFlight F A) (answer : Poll (Option A)) (cx left : Context) → PollsInTurn future old answer new cx left
+    → PollsFutureQueue (PollsInTurn future) entry_count entry_room (stream_of (CanPollOrdered future) OrderedWaitsAt (ComesOfEach future)) old answer new cx left
+polls_queue_ordered future old new answer cx left poll =
+    record {
+      polled = poll;
+      empty = poll.empty;
+      fewer = poll.fewer;
+      same_count = poll.same_count;
+      same_room = poll.same_room;
+      some = poll.some;
+      bound = poll.bound;
+      as_stream = answers_in_turn future old new answer cx left poll;
+    }

@@ -239,10 +239,10 @@ buffer_of stream queue = stream_of
     (WaitsAt stream.needs queue.needs queue.count queue.room)
     (BufferGives stream.yields queue.gives queue.count queue.yields queue.in_order)
 
--- a poll of the queue that takes the task from one context to another, as the queue leaves it
-abbrev pub PollsWithTask : {Q A : Type 0} → (Q → Poll (Option A) → Q → Type 0)
-    → (Q → Poll (Option A) → Q → Context → Context → Type 0) → Context → Context → Q → Poll (Option A) → Q → Type 0
-PollsWithTask polls leaves cx left old answer new = polls old answer new × leaves old answer new cx left
+-- a poll of the queue that takes the task from cx to left
+abbrev pub PollsWithTask : {Q A : Type 0} → (Q → Poll (Option A) → Q → Context → Context → Type 0)
+    → Context → Context → Q → Poll (Option A) → Q → Type 0
+PollsWithTask polls cx left old answer new = polls old answer new cx left
 
 -- One call, which took a buffer from old to new and the task from cx to left. A clause names stream and queue by the
 -- ghost members of their types: `St.Stream Q.FutureQueue`.
@@ -262,8 +262,7 @@ pub record PollsBuffer
   -- what came, and who is woken: some items were drawn and are held; then a push handed back the answer, and the task
   -- is as the draws left it; or one poll of the queue gave the answer, and made of the task what the queue's polls do
   pub gave : CallGivesWith (PollsStream stream.yields) queue.count (queue.room old.queue)
-      queue.pushes (PollsWithTask queue.polls queue.leaves task_then left) (left ≡ task_then)
-      old answer new
+      queue.pushes (PollsWithTask queue.polls task_then left) (left ≡ task_then) old answer new
   -- the end comes only where the stream has ended and nothing is held
   pub ended : IfReady answer (λ o. IfNone o ((new.stream ≡ None) × (queue.count new.queue ≡ 0)))
   -- what stays: the queue can hold as many as before, and holds no more than that

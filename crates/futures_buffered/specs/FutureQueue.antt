@@ -1,9 +1,11 @@
--- What a push and a poll leave of a queue of futures.
+-- What a push leaves of a queue of futures, and what a poll makes of it and of the task.
 use Rattle.std.specs.Prelude.{◌≡◌, ℕ, ◌+◌, ◌<◌, ◌≤◌, List, Option, Some, None, IfSome, IfNone, OnSome, Bool, true}
 use Rattle.std.specs.Prelude.{false, ◌⊎◌}
+use Rattle.futures.specs.declared.task.context.Context.{Context}
 use Rattle.futures.specs.declared.task.Poll.{Poll}
 use Rattle.futures.specs.Poll.{IfReady, OnPending}
 use Rattle.futures.specs.Runs.{Runs, Within, Leads, Chains, Ends}
+use Rattle.futures_buffered_unordered.specs.StreamAnswers.{StreamAnswers, StreamOf}
 
 -- x may come, at once or after others
 abbrev pub MayCome : {A : Type 0} → Runs A → A → Type 0
@@ -52,15 +54,22 @@ pub record PushAddsOutput
   -- and comes before what is held, so that the order is not kept
   pub overtakes : OnSome given (in_order ≡ false)
 
--- What a poll leaves of what a queue holds.
-pub record PollLeavesQueue
+-- One poll, which took a queue from old to new and the task from cx to left. `polls` is what the queue says of each of
+-- its polls, `count` says how many it holds, and `room` how many it can hold. `stream` has its ghost members as a
+-- stream.
+pub record PollsFutureQueue
     {A Q : Type 0}
+    (polls : Q → Poll (Option A) → Q → Context → Context → Type 0)
     (count room : Q → ℕ)
+    (stream : StreamOf Q A)
     (old : Q)
     (answer : Poll (Option A))
     (new : Q)
+    (cx left : Context)
     : Type 0 where
-  -- the end comes only where the queue holds nothing, and changes nothing
+  -- what came, and who is woken
+  pub polled : polls old answer new cx left
+  -- what stays: the end comes only where the queue holds nothing, and changes nothing
   pub empty : IfReady answer (λ o. IfNone o ((count old ≡ 0) × (new ≡ old)))
   -- an output leaves one fewer
   pub fewer : IfReady answer (λ o. OnSome o (count new + 1 ≡ count old))
@@ -69,5 +78,7 @@ pub record PollLeavesQueue
   -- the queue can hold as many as before, one at least
   pub same_room : room new ≡ room old
   pub some : 0 < room new
-  -- the queue holds no more than that
+  -- and holds no more than that
   pub bound : count new ≤ room new
+  -- as a stream: what may come; who waits where; and that it may be polled again, after an output or Pending
+  pub as_stream : StreamAnswers stream old answer new cx left

@@ -1,8 +1,7 @@
 //! Some futures of a stream at a time, whose outputs come as they finish.
 ghost use Rattle.std.specs.Prelude.{false};
 ghost use Rattle.futures_buffered_unordered.specs.Held.{AllHeld, ComesFrom};
-ghost use Rattle.futures_buffered_unordered.specs.FuturesUnorderedBounded.{Pushes, PollGives, IsNewSet, held_in};
-ghost use Rattle.futures_buffered_unordered.specs.FuturesUnorderedBounded.{slots_in};
+ghost use Rattle.futures_buffered_unordered.specs.FuturesUnorderedBounded.{Pushes, IsNewSet, held_in, slots_in};
 ghost use Rattle.futures_buffered_unordered.specs.PollsBounded.{PollsBounded, itself};
 ghost use Rattle.futures_buffered.specs.FutureQueue.{OnlyPushes};
 ghost use Rattle.futures_buffered.specs.BufferUnordered.{LosesNothing, MayGiveInSlot, SetWaitsAt};
@@ -60,9 +59,7 @@ impl<F: SlotFuture<S::Waker>, S: ReadySource> FutureQueue<F> for CompletionQueue
 
     ghost pushes = { OnlyPushes (Pushes S.marks) };
 
-    ghost polls = { PollGives F.polled S.steps };
-
-    ghost leaves = { PollsBounded (itself F.SlotFuture) S.ReadySource };
+    ghost polls = { PollsBounded (itself F.SlotFuture) S.ReadySource };
 
     ghost is_fit = { F.can_poll };
 
@@ -100,7 +97,7 @@ pub type BufferUnordered<St, S> = Buffer<St, CompletionQueue<<St as Stream>::Ite
 /// After any calls of one buffer that held nothing at first, each item drawn either gave one of the outputs given, or
 /// is held still: no output is of two items or of none, and no item is lost.
 ///
-/// A law of the relations in the contract of a poll. Its body is empty.
+/// A law of the relations in the contract of a poll, told of the set alone. Its body is empty.
 pub fn calls_lose_nothing<St: Stream, S: ReadySource>()
 where
     St::Item: SlotFuture<S::Waker>,

@@ -1,10 +1,9 @@
 //! Some futures of a stream at a time, whose outputs come in the order of the items.
 ghost use Rattle.std.specs.Prelude.{true};
-ghost use Rattle.futures_buffered_unordered.specs.FuturesUnorderedBounded.{held_in};
 ghost use Rattle.futures_buffered_unordered.specs.PollsBounded.{itself};
-ghost use Rattle.futures_buffered_ordered.specs.OrderedEntries.{AddsBack, ComesInOrder, OrderedGives};
+ghost use Rattle.futures_buffered_ordered.specs.OrderedEntries.{AddsBack, ComesInOrder};
 ghost use Rattle.futures_buffered_ordered.specs.FuturesOrderedBounded.{EachRunning, IsNewBoundedQueue};
-ghost use Rattle.futures_buffered_ordered.specs.FuturesOrderedBounded.{PollsOrderedBounded, PushesNumber, SetGives};
+ghost use Rattle.futures_buffered_ordered.specs.FuturesOrderedBounded.{PollsOrderedBounded, PushesNumber};
 ghost use Rattle.futures_buffered_ordered.specs.FuturesOrderedBounded.{SetMayGive};
 ghost use Rattle.futures_buffered.specs.FutureQueue.{OnlyPushes};
 ghost use Rattle.futures_buffered.specs.BufferUnordered.{MayGiveInSlot};
@@ -69,9 +68,7 @@ where
 
     ghost pushes = { OnlyPushes (AddsBack (PushesNumber S.marks)) };
 
-    ghost polls = { OrderedGives (SetGives F.polled S.steps) held_in };
-
-    ghost leaves = { PollsOrderedBounded (itself F.SlotFuture) S.ReadySource };
+    ghost polls = { PollsOrderedBounded (itself F.SlotFuture) S.ReadySource };
 
     ghost is_fit = { F.can_poll };
 
@@ -118,7 +115,7 @@ pub type BufferedOrdered<St, S> = Buffer<
 /// After any calls of one buffer that held nothing at first, the outputs given so far are those of the first items
 /// drawn, in the order in which these were drawn, and the other items are held still, in that order.
 ///
-/// A law of the relations in the contract of a poll. Its body is empty.
+/// A law of the relations in the contract of a poll, told of the queue alone. Its body is empty.
 pub fn calls_give_in_order<St: Stream, S: ReadySource>()
 where
     St::Item: SlotFuture<S::Waker>,

@@ -5,8 +5,8 @@
 //! which errors can be given as well.
 ghost use Rattle.std.specs.Prelude.{◌≡◌, ◌<◌, ◌≤◌, ℕ, Bool, List, Option};
 ghost use Rattle.futures_buffered_core.specs.Made.{MakesSlots};
-ghost use Rattle.futures_buffered_unordered.specs.StreamAnswers.{StreamAnswers, stream_of};
-ghost use Rattle.futures_buffered.specs.FutureQueue.{PollLeavesQueue, PushAddsOutput, PushLeavesQueue};
+ghost use Rattle.futures_buffered_unordered.specs.StreamAnswers.{stream_of};
+ghost use Rattle.futures_buffered.specs.FutureQueue.{PollsFutureQueue, PushAddsOutput, PushLeavesQueue};
 
 use futures::task::{Context, Poll};
 use futures_buffered_core::ready_core::NewFault;
@@ -16,8 +16,9 @@ use std::alloc::Global;
 /// Holds some futures at a time, and gives an output of each.
 ///
 /// Beside the calls an impl states what they may do: relations between what it holds before, the answer, and what it
-/// holds after. A push adds one output to those that may come, in the place that `in_order` says, or hands one back at
-/// once. `len` and `capacity` poll nothing, and take the same time at any number held.
+/// holds after, and of a poll also between its task before and after. A push adds one output to those that may come, in
+/// the place that `in_order` says, or hands one back at once. `len` and `capacity` poll nothing, and take the same time
+/// at any number held.
 pub trait FutureQueue<I>: Drop {
     ghost use Rattle.futures.specs.declared.task.Poll.{Poll};
     ghost use Rattle.futures.specs.declared.task.context.Context.{Context};
@@ -34,11 +35,8 @@ pub trait FutureQueue<I>: Drop {
     // What a push may hand back, and make of it.
     ghost pushes: { Self → I → Option Self.Output → Self → Type 0 };
 
-    // What a poll may answer, and make of it.
-    ghost polls: { Self → Poll (Option Self.Output) → Self → Type 0 };
-
-    // The same poll, with the task that it finds and leaves.
-    ghost leaves: { Self → Poll (Option Self.Output) → Self → Context → Context → Type 0 };
+    // What a poll may answer, and make of it and of its task.
+    ghost polls: { Self → Poll (Option Self.Output) → Self → Context → Context → Type 0 };
 
     // The items that may be pushed.
     ghost is_fit: { I → Type 0 };
@@ -83,11 +81,8 @@ pub trait FutureQueue<I>: Drop {
     /// take.
     fn poll_output(&mut self, cx: &mut Context<'_>) -> Poll<Option<Self::Output>>
         requires { can_poll self.old }
-        ensures polled { polls self.old result self.new }
-        ensures queue { PollLeavesQueue count room self.old result self.new }
-        ensures stream { StreamAnswers (stream_of can_poll needs yields)
-            self.old result self.new cx.old cx.new }
-        ensures leaves { leaves self.old result self.new cx.old cx.new };
+        ensures { PollsFutureQueue polls count room (stream_of can_poll needs yields)
+            self.old result self.new cx.old cx.new };
 
     /// What a buffer over such a queue is called where it is printed.
     fn buffer_name() -> &'static str {

@@ -1,8 +1,8 @@
 //! Futures of the kit in plain sight, as what a buffer holds.
-ghost use Rattle.futures_buffered_in_flight.specs.InFlightOrdered.{CanPollOrdered, ComesOfEach, GivesInTurn};
-ghost use Rattle.futures_buffered_in_flight.specs.InFlightOrdered.{OrderedWaitsAt, PollsInTurn, PushesBack};
+ghost use Rattle.futures_buffered_in_flight.specs.InFlightOrdered.{CanPollOrdered, ComesOfEach, OrderedWaitsAt};
+ghost use Rattle.futures_buffered_in_flight.specs.InFlightOrdered.{PollsInTurn, PushesBack};
 ghost use Rattle.futures_buffered_in_flight.specs.InFlight.{FlightsWaitAt};
-ghost use Rattle.futures_buffered_in_flight.specs.InFlightQueue.{CanPollQueue, ComesFromQueue, OfSomeTask};
+ghost use Rattle.futures_buffered_in_flight.specs.InFlightQueue.{CanPollQueue, ComesFromQueue};
 ghost use Rattle.futures_buffered_in_flight.specs.InFlightQueue.{PollsQueued, PushesQueued, queued_count, queued_room};
 ghost use Rattle.futures_buffered.specs.FutureQueue.{OnlyPushes};
 
@@ -24,9 +24,7 @@ impl<F: Future<Output: Drop>> FutureQueue<F> for InFlightQueue<F> {
 
     ghost pushes = { OnlyPushes (PushesQueued F.Future) };
 
-    ghost polls = { OfSomeTask (PollsQueued F.Future) };
-
-    ghost leaves = { PollsQueued F.Future };
+    ghost polls = { PollsQueued F.Future };
 
     ghost is_fit = { F.can_poll };
 
@@ -54,7 +52,6 @@ impl<F: Future<Output: Drop>> FutureQueue<F> for InFlightQueue<F> {
         None
     }
 
-    #[tactic(auto, using(crate::proofs::InFlightLemmas::poll_leaves, crate::proofs::InFlightLemmas::answers))]
     fn poll_output(&mut self, cx: &mut Context<'_>) -> Poll<Option<F::Output>> {
         InFlightQueue::poll_output(self, cx)
     }
@@ -71,9 +68,7 @@ impl<F: Future<Output = A>, A: Drop> FutureQueue<F> for InFlightOrdered<F, A> {
 
     ghost pushes = { OnlyPushes (PushesBack F.Future) };
 
-    ghost polls = { GivesInTurn F.Future };
-
-    ghost leaves = { PollsInTurn F.Future };
+    ghost polls = { PollsInTurn F.Future };
 
     ghost is_fit = { F.can_poll };
 
@@ -101,7 +96,6 @@ impl<F: Future<Output = A>, A: Drop> FutureQueue<F> for InFlightOrdered<F, A> {
         None
     }
 
-    #[tactic(auto, using(crate::proofs::InFlightLemmas::poll_leaves_ordered, crate::proofs::InFlightLemmas::poll_gives_ordered))]
     fn poll_output(&mut self, cx: &mut Context<'_>) -> Poll<Option<A>> {
         InFlightOrdered::poll_output(self, cx)
     }

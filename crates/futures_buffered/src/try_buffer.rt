@@ -60,8 +60,6 @@ where
 
     ghost polls = { Q.polls };
 
-    ghost leaves = { Q.leaves };
-
     ghost is_fit = { λ item. IfOk item Q.is_fit };
 
     ghost can_poll = { Q.can_poll };

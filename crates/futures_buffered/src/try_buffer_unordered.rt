@@ -14,7 +14,7 @@ pub type TryBufferUnordered<St, F, S> = TryBuffer<St, CompletionQueue<F, S>>;
 /// After any calls of one such buffer that held nothing at first, each future drawn either gave one of the outputs
 /// given, or is held still. What else was given are errors, between the outputs.
 ///
-/// A law of the relations in the contract of a poll. Its body is empty.
+/// A law of the relations in the contract of a poll, told of the set alone. Its body is empty.
 pub fn try_calls_lose_nothing<St, F, T, E, S: ReadySource>()
 where
     St: Stream<Item = Result<F, E>>,

@@ -20,7 +20,7 @@ pub type TryBufferedOrdered<St, F, S> = TryBuffer<
 /// futures drawn, in the order in which these were drawn, and the other futures are held still, in that order. What
 /// else was given are errors, between the outputs.
 ///
-/// A law of the relations in the contract of a poll. Its body is empty.
+/// A law of the relations in the contract of a poll, told of the queue alone. Its body is empty.
 pub fn try_calls_give_in_order<St, F, T, E, S: ReadySource>()
 where
     St: Stream<Item = Result<F, E>>,
