@@ -11,7 +11,7 @@ use Rattle.futures_buffered_core.specs.SlotMap.{Slots, held_count, no_slots}
 use Rattle.futures_buffered_unordered.specs.FuturesUnorderedBounded.{IsWoken}
 use Rattle.futures_buffered_unordered.specs.StreamAnswers.{StreamAnswers, stream_of}
 use Rattle.futures_buffered_unordered.proofs.StreamAnswersLemmas.{after_item, while_pending}
-use Rattle.futures_buffered_ordered.specs.Numbered.{PollsNumberedSet, PollsNumberedTask}
+use Rattle.futures_buffered_ordered.specs.Numbered.{PollsNumberedSet}
 use Rattle.futures_buffered_ordered.specs.declared.numbered.Numbered.{Numbered}
 use Rattle.futures_buffered_ordered.specs.OrderedEntries.{AddsBack, AddsFront, IsUnused, MayRefuse, PollsOrdered}
 use Rattle.futures_buffered_ordered.specs.OrderedEntriesInvariant.{IsNumbered, Numbering}
@@ -50,12 +50,17 @@ new_keeps {F} q set n some new is none first room small =
 
 module _ {F A : Type 0} (future : FutureOf F A) where
   -- what an ordered queue asks of a poll of the futures
-  pub polls_set : (old new : Queued F) (answer : Poll (Option (ℕ × A))) (cx left : Context) → PollsByNumber future old answer new cx left → PollsNumberedSet (CanPollQueue future) queued_count queued_with SameRoom old answer new
-  polls_set old new answer cx left p = grind arith
-
-  -- and of what it leaves of the task
-  pub polls_task : (old new : Queued F) (answer : Poll (Option (ℕ × A))) (cx left : Context) → PollsByNumber future old answer new cx left → PollsNumberedTask (λ (q : Queued F). FlightsWaitAt q.set) answer new cx left
-  polls_task old new answer cx left p = record { covered = p.registered; kept = p.kept }
+  pub polls_set : (old new : Queued F) (answer : Poll (Option (ℕ × A))) (cx left : Context) → PollsByNumber future old answer new cx left → PollsNumberedSet (flying_polls future) queued_count queued_with SameRoom old answer new cx left
+  polls_set old new answer cx left p = record {
+    gave = p;
+    empty = (grind arith);
+    fewer = (grind arith);
+    numbers = p.numbers;
+    set = p.same_room;
+    covered = p.registered;
+    kept = p.kept;
+    pollable = p.again;
+  }
 
   -- one poll of the futures, told of the queue alone
   abbrev Gave : Queued F → Poll (Option (ℕ × A)) → Queued F → Type 0

@@ -11,7 +11,7 @@ use Rattle.futures_buffered_unordered.specs.declared.poll_one.PollFuture.{PollFu
 use Rattle.futures_buffered_ordered.specs.OrderedEntries.{Ordered, AddsBack, AddsFront, ComesInOrder, IsNewQueue}
 use Rattle.futures_buffered_ordered.specs.OrderedEntries.{OrderedGives, PollsOrdered}
 use Rattle.futures_buffered_ordered.specs.OrderedEntriesInvariant.{IsNumbered, Numbering}
-use Rattle.futures_buffered_ordered.specs.declared.numbered_set.NumberedPolls.{Ghosts as NumberedPollsOf}
+use Rattle.futures_buffered_ordered.specs.declared.numbered_polls.NumberedPolls.{Ghosts as NumberedPollsOf}
 use Rattle.futures_buffered_in_flight.specs.InFlight.{FlightsWaitAt, FutureOf}
 use Rattle.futures_buffered_in_flight.specs.InFlightQueue.{Queued, CanPollQueue, IsNewQueued, SameRoom, NumberGives}
 use Rattle.futures_buffered_in_flight.specs.InFlightQueue.{OfSomeTask, PollsByNumber, QueuesNumber}

@@ -13,7 +13,8 @@ use futures::Future;
 use futures::task::{Context, Poll};
 use futures_buffered_core::ready_core::NewFault;
 use futures_buffered_ordered::numbered::Numbered;
-use futures_buffered_ordered::numbered_set::{NumberedPolls, NumberedSet, PollNumberedSet};
+use futures_buffered_ordered::numbered_polls::NumberedPolls;
+use futures_buffered_ordered::numbered_set::{NumberedSet, PollNumberedSet};
 use futures_buffered_ordered::ordered_entries::OrderedEntries;
 use futures_buffered_unordered::poll_one::PollFuture;
 use std::alloc::Global;
@@ -83,7 +84,7 @@ impl<F: Future<Output: Drop>> NumberedPolls<PollFuture> for InFlightQueue<F> {
 }
 
 impl<F: Future<Output: Drop>> PollNumberedSet<PollFuture> for InFlightQueue<F> {
-    #[tactic(auto, using(crate::proofs::InFlightOrderedLemmas::polls_set, crate::proofs::InFlightOrderedLemmas::polls_task))]
+    #[tactic(auto, using(crate::proofs::InFlightOrderedLemmas::polls_set))]
     fn poll_numbered(
         &mut self,
         _rule: &PollFuture,

@@ -15,8 +15,8 @@ use Rattle.futures_buffered_unordered.specs.PollsGrowing.{PollsGrowing}
 use Rattle.futures_buffered_unordered.proofs.FuturesUnorderedLemmas.{new_holds_none}
 use Rattle.futures_buffered_unordered.proofs.FuturesUnorderedStreamLemmas.{gave, groups_give, still}
 use Rattle.futures_buffered_unordered.proofs.FuturesUnorderedPollLemmas.{sum_left}
-use Rattle.futures_buffered_ordered.specs.Numbered.{PollsNumbered, held_with, of_numbered, outputs_with}
-use Rattle.futures_buffered_ordered.specs.OrderedEntries.{NumberedPollsOf, OrderedGives, PollsOrdered}
+use Rattle.futures_buffered_ordered.specs.Numbered.{NumberedPollsOf, PollsNumbered, held_with, of_numbered, outputs_with}
+use Rattle.futures_buffered_ordered.specs.OrderedEntries.{OrderedGives, PollsOrdered}
 use Rattle.futures_buffered_ordered.specs.declared.numbered.Numbered.{Numbered}
 use Rattle.futures_buffered_ordered.proofs.NumberedLemmas.{numbers_polled, numbers_ended, numbers_none, brings_none}
 use Rattle.futures_buffered_ordered.specs.FuturesOrdered.{held_in_groups, held_in_groups_with, EachInProgress, GrowingMayGive, OrderedGrowing, SameLimit}

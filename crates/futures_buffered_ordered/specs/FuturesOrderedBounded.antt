@@ -13,9 +13,9 @@ use Rattle.futures_buffered_unordered.specs.FuturesUnorderedBounded.{slots_in}
 use Rattle.futures_buffered_core.specs.declared.ready_source.ReadySource.{Ghosts as ReadySourceOf}
 use Rattle.futures_buffered_unordered.specs.declared.poll_one.PollOne.{Ghosts as PollOneOf}
 use Rattle.futures_buffered_unordered.specs.PollsBounded.{PollsBounded}
-use Rattle.futures_buffered_ordered.specs.Numbered.{CanPollFuture, PollsNumbered, held_with, of_numbered}
+use Rattle.futures_buffered_ordered.specs.Numbered.{CanPollFuture, NumberedPollsOf, PollsNumbered, held_with, of_numbered}
 use Rattle.futures_buffered_ordered.specs.OrderedEntries.{Ordered, IsNewQueue, AddsEachBack, BesideTask, LastStep}
-use Rattle.futures_buffered_ordered.specs.OrderedEntries.{NumberedPollsOf, NumberedSetOf, PollsOrdered, SetYields}
+use Rattle.futures_buffered_ordered.specs.OrderedEntries.{NumberedSetOf, PollsOrdered, SetYields}
 use Rattle.futures_buffered_ordered.specs.OrderedEntries.{with_task}
 use Rattle.futures_buffered_ordered.specs.declared.numbered.Numbered.{Numbered}
 

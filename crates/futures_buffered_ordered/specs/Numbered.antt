@@ -11,6 +11,7 @@ use Rattle.futures_buffered_unordered.specs.Groups.{outputs_in}
 use Rattle.futures_buffered_unordered.specs.declared.poll_one.PollOne.{Ghosts as PollOneOf}
 use Rattle.futures_buffered_ordered.specs.declared.numbered.Numbered.{Numbered}
 use Rattle.futures_buffered_ordered.specs.declared.numbered.PollNumbered.{PollNumbered}
+pub use Rattle.futures_buffered_ordered.specs.declared.numbered_polls.NumberedPolls.{Ghosts as NumberedPollsOf}
 
 -- the future may be polled
 abbrev pub CanPollFuture : {F : Type 0} → (F → Type 0) → Numbered F → Type 0
@@ -70,37 +71,33 @@ pub record PushesInto
   -- this stays of the set
   pub set : keeps old new
 
--- What one poll, from old to new, leaves of a set.
+-- One poll of a set of numbered futures, which took it from old to new and the task from cx to left. `polls` is what the
+-- type has as `NumberedPolls<R>`; the set holds as many futures as `count` says, as many with a number as `with_number`
+-- says, and its calls keep of it what `keeps` says.
 pub record PollsNumberedSet
-    {Q A : Type 0}
-    (can_poll : Q → Type 0)
+    {Q R A : Type 0}
+    (polls : NumberedPollsOf Q R A)
     (count : Q → ℕ)
     (with_number : ℕ → Q → ℕ)
     (keeps : Q → Q → Type 0)
     (old : Q)
     (answer : Poll (Option (ℕ × A)))
     (new : Q)
+    (cx left : Context)
     : Type 0 where
+  -- what came, and who is woken
+  pub gave : polls.gives old answer new cx left
   -- the end comes only where nothing is held
   pub empty : IfReady answer (λ o. IfNone o (count old ≡ 0))
-  -- an output leaves one future fewer, and any other answer as many as before
+  -- what stays: an output leaves one future fewer, and any other answer as many as before
   pub fewer : count new + outputs_in answer ≡ count old
   -- its number leaves with it, and of each other number there are as many as before
   pub numbers : (i : ℕ) → with_number i new + outputs_with i answer ≡ with_number i old
-  -- each future that is held can be polled again
-  pub pollable : can_poll new
   -- this stays of the set
   pub set : keeps old new
-
--- What that poll leaves of its task, which it took from cx to left: `needs` says where the set waits.
-pub record PollsNumberedTask
-    {Q A : Type 0}
-    (needs : Q → ℕ → Type 0)
-    (answer : Poll (Option (ℕ × A)))
-    (new : Q)
-    (cx left : Context)
-    : Type 0 where
-  -- the task of a pending set hears of what it waits for
-  pub covered : OnPending answer (Covers left (needs new))
+  -- who waits where: the task of a pending set hears of what it waits for
+  pub covered : OnPending answer (Covers left (polls.needs new))
   -- what the task was registered for or asked to do before still stands
   pub kept : Keeps cx left
+  -- what may be polled again: each future that is held
+  pub pollable : polls.can_poll new

@@ -12,7 +12,7 @@ use Rattle.futures.specs.Runs.{Runs, Leads, Ends}
 use Rattle.futures_buffered_table.specs.declared.answer.NewFault.{NewFault}
 use Rattle.futures_buffered_table.specs.declared.answer.NewFault.TheVariants.{TooLarge}
 pub use Rattle.futures_buffered_ordered.specs.declared.numbered_set.NumberedSet.{Ghosts as NumberedSetOf}
-pub use Rattle.futures_buffered_ordered.specs.declared.numbered_set.NumberedPolls.{Ghosts as NumberedPollsOf}
+use Rattle.futures_buffered_ordered.specs.declared.numbered_polls.NumberedPolls.{Ghosts as NumberedPollsOf}
 use Rattle.futures_buffered_ordered.specs.declared.ordered_entries.Entry.{Entry}
 use Rattle.futures_buffered_ordered.specs.declared.ordered_entries.Entry.TheVariants.{Running, Kept}
 use Rattle.futures_buffered_ordered.specs.declared.ordered_entries.TheConstants.{MAX_LEN}

@@ -1,12 +1,14 @@
 -- How an ordered queue finds the entry of a future: what its numbers are, and what its calls ask and keep of them. The
 -- contracts of `OrderedEntries` cite it, and those of the queues do not.
-use Rattle.std.specs.Prelude.{◌≡◌, ℕ, ◌+◌, ◌-◌, ◌^◌, ◌%◌, ◌<◌, ◌≤◌, List, length, Some, count_by}
+use Rattle.std.specs.Prelude.{◌≡◌, ℕ, ◌+◌, ◌-◌, ◌^◌, ◌%◌, ◌<◌, ◌≤◌, List, length, Option, Some, count_by}
 use Rattle.std.specs.List.{slice_get}
-use Rattle.futures_buffered_ordered.specs.Numbered.{PushesInto}
+use Rattle.futures.specs.declared.task.Poll.{Poll}
+use Rattle.futures.specs.declared.task.context.Context.{Context}
+use Rattle.futures_buffered_ordered.specs.Numbered.{NumberedPollsOf, PushesInto}
 use Rattle.futures_buffered_ordered.specs.declared.ordered_entries.Entry.{Entry}
 use Rattle.futures_buffered_ordered.specs.declared.ordered_entries.Entry.TheVariants.{Running}
 use Rattle.futures_buffered_ordered.specs.declared.ordered_entries.TheConstants.{MAX_LEN}
-use Rattle.futures_buffered_ordered.specs.OrderedEntries.{NumberedSetOf, Ordered, is_running, runs_with}
+use Rattle.futures_buffered_ordered.specs.OrderedEntries.{NumberedSetOf, Ordered, PollsOrdered, is_running, runs_with}
 
 -- the place of the entry with this number, where the front has the number outgoing and numbers wrap
 abbrev pub place_of : ℕ → ℕ → ℕ
@@ -80,3 +82,20 @@ pub record CanPollEntries
   pub can : can_poll n.queue.set
   -- the numbers are in order
   pub numbered : IsNumbered with_number count n
+
+-- One poll, which took a numbered queue from old to new and the task from cx to left.
+pub record PollsEntries
+    {Q R A : Type 0}
+    (with_number : ℕ → Q → ℕ)
+    (count : Q → ℕ)
+    (keeps : Q → Q → Type 0)
+    (polls_set : NumberedPollsOf Q R A)
+    (old : Numbering Q A)
+    (answer : Poll (Option A))
+    (new : Numbering Q A)
+    (cx left : Context)
+    : Type 0 where
+  -- what it is of the queue
+  pub polls : PollsOrdered count keeps polls_set old.queue answer new.queue cx left
+  -- the numbers are in order
+  pub numbered : IsNumbered with_number count new

@@ -23,7 +23,8 @@ ghost use Rattle.futures_buffered_ordered.specs.FuturesOrdered.{MakesSharedQueue
 ghost use Rattle.futures_buffered_ordered.specs.Numbered.{of_numbered};
 
 use crate::numbered::{Numbered, PollNumbered};
-use crate::numbered_set::{NumberedPolls, NumberedSet, PollNumberedSet};
+use crate::numbered_polls::NumberedPolls;
+use crate::numbered_set::{NumberedSet, PollNumberedSet};
 use crate::ordered_entries::{MAX_LEN, OrderedEntries};
 use futures::task::{Context, Poll};
 use futures_buffered_core::ready_core::{MAX_CAPACITY, NewFault};

@@ -19,7 +19,8 @@ ghost use Rattle.futures_buffered_ordered.specs.FuturesOrderedBounded.{QueueIsFu
 ghost use Rattle.futures_buffered_ordered.specs.FuturesOrderedBounded.{bounded_numbers};
 
 use crate::numbered::{Numbered, PollNumbered};
-use crate::numbered_set::{NumberedPolls, NumberedSet, PollNumberedSet};
+use crate::numbered_polls::NumberedPolls;
+use crate::numbered_set::{NumberedSet, PollNumberedSet};
 use crate::ordered_entries::OrderedEntries;
 pub use crate::ordered_entries::{Entry, MAX_LEN};
 use futures::task::{Context, Poll};

@@ -3,7 +3,8 @@
 //! In the order in which to read them:
 //!
 //! - `numbered`: a future with the number of its entry, and the rule by which it is polled.
-//! - `numbered_set`: `NumberedSet` and `NumberedPolls`, what a queue asks of the set of its futures in progress.
+//! - `numbered_polls`: `NumberedPolls`, how a set of such futures is polled.
+//! - `numbered_set`: `NumberedSet` and `PollNumberedSet`, what a queue asks of the set of its futures in progress.
 //! - `ordered_entries`: `OrderedEntries`, the entries of a queue over any such set.
 //! - `futures_ordered_bounded`: `FuturesOrderedBounded`, a queue over a bounded set, with additions at both ends.
 //! - `ordered_stream`: the same queue as a stream.
@@ -14,6 +15,7 @@
 pub mod futures_ordered;
 pub mod futures_ordered_bounded;
 pub mod numbered;
+pub mod numbered_polls;
 pub mod numbered_set;
 pub mod ordered_entries;
 mod ordered_growing_stream;

@@ -1,8 +1,9 @@
 //! What an ordered queue asks of the set that holds its futures in progress.
 ghost use Rattle.std.specs.Prelude.{◌≡◌, ◌↔◌, ℕ, Option, OnOk, OnErr, IfErr, IsErr, IsTrue};
-ghost use Rattle.futures_buffered_ordered.specs.Numbered.{PollsNumberedSet, PollsNumberedTask, PushesInto};
+ghost use Rattle.futures_buffered_ordered.specs.Numbered.{PollsNumberedSet, PushesInto};
 
 use crate::numbered::Numbered;
+use crate::numbered_polls::NumberedPolls;
 use futures::task::{Context, Poll};
 
 /// A set that takes a number with each future.
@@ -56,29 +57,7 @@ pub trait NumberedSet: Drop {
     ghost keeps_on: { (a b c : Self) → keeps a b → keeps b c → keeps a c };
 }
 
-/// What a poll of a set of numbered futures asks, gives and leaves, under a rule by which one held future is polled. An
-/// output comes with the number of its future.
-///
-/// An impl says it by the words of the set's own poll. It has no calls, and stands apart from `NumberedSet` so that the
-/// contract of a queue's poll can quote it whole.
-pub trait NumberedPolls<R>: Drop {
-    ghost use Rattle.futures.specs.declared.task.Poll.{Poll};
-    ghost use Rattle.futures.specs.declared.task.context.Context.{Context};
-
-    /// What a future gives when it is done.
-    type Output;
-
-    // Each future that is held may be polled.
-    ghost can_poll: { Self → Type 0 };
-
-    // One poll, that finds the set and the task, gives an answer and leaves them.
-    ghost gives: { Self → Poll (Option (ℕ × Self.Output)) → Self → Context → Context → Type 0 };
-
-    // Where a set that is pending waits.
-    ghost needs: { Self → ℕ → Type 0 };
-}
-
-/// A numbered set that is polled in this way.
+/// A numbered set under a rule by which one held future is polled, as its `NumberedPolls` says.
 pub trait PollNumberedSet<R>: NumberedSet + NumberedPolls<R> {
     /// One poll of the set. `Ready(None)` where nothing is held. Takes no memory but what the calls of its sources
     /// take.
@@ -88,8 +67,6 @@ pub trait PollNumberedSet<R>: NumberedSet + NumberedPolls<R> {
         cx: &mut Context<'_>,
     ) -> Poll<Option<(usize, Self::Output)>>
         requires { Self.can_poll self.old }
-        ensures gave { Self.gives self.old result self.new cx.old cx.new }
-        ensures set { PollsNumberedSet Self.can_poll Self.count Self.with_number Self.keeps
-            self.old result self.new }
-        ensures task { PollsNumberedTask Self.needs result self.new cx.old cx.new };
+        ensures { PollsNumberedSet Self.NumberedPolls Self.count Self.with_number Self.keeps
+            self.old result self.new cx.old cx.new };
 }

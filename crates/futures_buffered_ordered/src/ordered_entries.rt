@@ -9,12 +9,12 @@ ghost use Rattle.futures_buffered_core.specs.Drawn.{IsFiniteSource, items_of};
 ghost use Rattle.futures_buffered_unordered.specs.Extended.{Extends};
 ghost use Rattle.futures_buffered_ordered.specs.declared.ordered_entries.Entry.TheVariants.{Kept};
 ghost use Rattle.futures_buffered_ordered.specs.OrderedEntries.{AddsBack, AddsFront, BesideTask, HandsBack, LastStep};
-ghost use Rattle.futures_buffered_ordered.specs.OrderedEntries.{LeavesQueue, MayRefuse, PollsOrdered};
+ghost use Rattle.futures_buffered_ordered.specs.OrderedEntries.{LeavesQueue, MayRefuse};
 ghost use Rattle.futures_buffered_ordered.specs.OrderedEntries.{PushesOrHandsBack, QueueIsAtBound, RefusesOne};
 ghost use Rattle.futures_buffered_ordered.specs.OrderedEntries.{SetYields, Stays, starts_running, with_task};
 ghost use Rattle.futures_buffered_ordered.specs.OrderedEntries.{without_entries};
 ghost use Rattle.futures_buffered_ordered.specs.OrderedEntriesInvariant.{AddingKeeps, Admits, CanPollEntries};
-ghost use Rattle.futures_buffered_ordered.specs.OrderedEntriesInvariant.{IsNumbered};
+ghost use Rattle.futures_buffered_ordered.specs.OrderedEntriesInvariant.{IsNumbered, PollsEntries};
 
 use crate::numbered::Numbered;
 use crate::numbered_set::{NumberedSet, PollNumberedSet};
@@ -283,9 +283,8 @@ impl<Q: NumberedSet, A: Drop> OrderedEntries<Q, A> {
     where
         Q: PollNumberedSet<R, Output = A>,
         requires { CanPollEntries Q.can_poll Q.with_number Q.count self.old }
-        ensures polls { PollsOrdered Q.count Q.keeps Q.NumberedPolls
-            self.old.queue result self.new.queue cx.old cx.new }
-        ensures numbered { IsNumbered Q.with_number Q.count self.new }
+        ensures { PollsEntries Q.with_number Q.count Q.keeps Q.NumberedPolls
+            self.old result self.new cx.old cx.new }
     {
         while self.front_runs() {
             match self.keep_next(rule, cx) {

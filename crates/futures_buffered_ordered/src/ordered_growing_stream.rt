@@ -7,7 +7,7 @@ ghost use Rattle.futures_buffered_ordered.specs.FuturesOrdered.{held_in_groups};
 
 use crate::futures_ordered::GrowingQueue;
 use crate::numbered::Numbered;
-use crate::numbered_set::NumberedPolls;
+use crate::numbered_polls::NumberedPolls;
 use futures::Stream;
 use futures::task::{Context, Poll};
 use futures_buffered_core::ready_source::NewSource;

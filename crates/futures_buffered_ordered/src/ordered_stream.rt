@@ -6,7 +6,7 @@ ghost use Rattle.futures_buffered_ordered.specs.FuturesOrderedBounded.{EachRunni
 
 use crate::futures_ordered_bounded::BoundedQueue;
 use crate::numbered::Numbered;
-use crate::numbered_set::NumberedPolls;
+use crate::numbered_polls::NumberedPolls;
 use futures::Stream;
 use futures::task::{Context, Poll};
 use futures_buffered_core::ready_source::ReadySource;

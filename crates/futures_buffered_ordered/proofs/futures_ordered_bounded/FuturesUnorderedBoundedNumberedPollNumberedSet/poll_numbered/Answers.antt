@@ -2,19 +2,17 @@ use Rattle.futures_buffered_ordered.proofs.FuturesOrderedBoundedLemmas.{set_cove
 use Rattle.futures_buffered_ordered.proofs.NumberedLemmas.{numbers_polled}
 use Rattle.futures_buffered_ordered.proofs.futures_ordered_bounded.FuturesUnorderedBoundedNumberedPollNumberedSet.poll_numbered.Goals as goal
 
-pub returns-clause-set : goal.returns-clause-set
-returns-clause-set g c =
+pub returns : goal.returns
+returns g c =
     let source = g.S.ReadySource in
     let poll = c.poll_with.ensures in
     record {
+      gave = poll;
       empty = set_empty _ source _ _ _ _ _ poll;
       fewer = set_fewer _ source _ _ _ _ _ poll;
       numbers = λ i. numbers_polled i g.R.PollOne.polled source.steps c.args.self.now c.poll_with.new.self c.poll_with.result (set_gives_of g.R.PollOne source _ _ _ _ _ poll);
-      pollable = poll.pollable;
       set = record { capacity = poll.capacity; limit = poll.limit };
+      covered = set_covered _ source _ _ _ _ _ poll;
+      kept = poll.kept;
+      pollable = poll.pollable;
     }
-
-pub returns-clause-task : goal.returns-clause-task
-returns-clause-task g c =
-    let poll = c.poll_with.ensures in
-    record { covered = set_covered _ g.S.ReadySource _ _ _ _ _ poll; kept = poll.kept }

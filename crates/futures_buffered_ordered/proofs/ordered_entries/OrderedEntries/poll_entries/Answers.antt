@@ -23,34 +23,40 @@ loop-self-preserved g c =
       numbered = c.keep_next.ensures.numbered;
     }
 
-pub returns-in-Pending-clause-polls : goal.returns-in-Pending-clause-polls
-returns-in-Pending-clause-polls g c =
+pub returns-in-Pending : goal.returns-in-Pending
+returns-in-Pending g c =
     let so = c.loop-self.invariant in
     let left = c.in-Pending.ensures.queue in
     record {
-      gave = record { yielded = so.row.0; before = with_task c.loop-self.self.queue c.loop-self.cx; row = so.row.1; count_left = so.row.2; last_step = c.in-Pending.ensures.waits };
-      queue = record {
-        set = g.met.Q.NumberedSet.keeps_on _ _ _ so.keeps left.set;
-        room = left.room ∙ so.same_room;
-        holds = left.holds;
-        covered = left.covered;
-        kept = λ fact h. left.kept fact (so.kept fact h);
-        pollable = left.pollable;
+      polls = record {
+        gave = record { yielded = so.row.0; before = with_task c.loop-self.self.queue c.loop-self.cx; row = so.row.1; count_left = so.row.2; last_step = c.in-Pending.ensures.waits };
+        queue = record {
+          set = g.met.Q.NumberedSet.keeps_on _ _ _ so.keeps left.set;
+          room = left.room ∙ so.same_room;
+          holds = left.holds;
+          covered = left.covered;
+          kept = λ fact h. left.kept fact (so.kept fact h);
+          pollable = left.pollable;
+        };
       };
+      numbered = c.in-Pending.ensures.numbered;
     }
 
-pub returns-clause-polls : goal.returns-clause-polls
-returns-clause-polls g c =
+pub returns : goal.returns
+returns g c =
     let so = c.loop-self.invariant in
     let same = c.pop_kept.ensures.set in
     record {
-      gave = record { yielded = so.row.0; before = with_task c.loop-self.self.queue c.loop-self.cx; row = so.row.1; count_left = so.row.2; last_step = last_from g.Q.NumberedPolls.gives c.loop-self.self.queue c.pop_kept.new.self.queue c.loop-self.cx c.pop_kept.result c.pop_kept.ensures.front same };
-      queue = record {
-        set = subst (g.Q.NumberedSet.keeps c.args.self.now.queue.set) (sym same) so.keeps;
-        room = search rules;
-        holds = tt;
-        covered = tt;
-        kept = so.kept;
-        pollable = subst g.Q.NumberedPolls.can_poll (sym same) so.pollable;
+      polls = record {
+        gave = record { yielded = so.row.0; before = with_task c.loop-self.self.queue c.loop-self.cx; row = so.row.1; count_left = so.row.2; last_step = last_from g.Q.NumberedPolls.gives c.loop-self.self.queue c.pop_kept.new.self.queue c.loop-self.cx c.pop_kept.result c.pop_kept.ensures.front same };
+        queue = record {
+          set = subst (g.Q.NumberedSet.keeps c.args.self.now.queue.set) (sym same) so.keeps;
+          room = search rules;
+          holds = tt;
+          covered = tt;
+          kept = so.kept;
+          pollable = subst g.Q.NumberedPolls.can_poll (sym same) so.pollable;
+        };
       };
+      numbered = c.pop_kept.ensures.numbered;
     }
