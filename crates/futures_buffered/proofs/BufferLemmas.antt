@@ -7,7 +7,7 @@ use Rattle.futures.specs.declared.task.context.Context.{Context}
 use Rattle.futures.specs.Task.{Lasting, Covers, Keeps, Hears}
 use Rattle.futures.specs.Runs.{Runs, After, Within, Ends, Leads, Chains, Resolves, firsts}
 use Rattle.futures.specs.Buffered.{GathersWith}
-use Rattle.futures.specs.Poll.{IfReady}
+use Rattle.futures.specs.Poll.{IfReady, OnPending}
 use Rattle.futures_buffered_unordered.specs.StreamAnswers.{StreamAnswers, stream_of}
 use Rattle.futures_buffered.specs.FutureQueue.{MayCome, AddsOutput, PollsFutureQueue, PushAddsOutput, PushLeavesQueue}
 use Rattle.futures_buffered.specs.Buffer.{Buffering, FutureQueueOf, StreamOf, Ahead, AsksStream, DrawsAll, DrawsBuffer, DrawsTask, HasNoTurn, CallGivesWith, PollsBuffer, PollsStream, PollsWithTask, CanDraw, WaitsAt, OneComes, Comes, BufferGives, buffer_of, answer_from, answer_of_none}
@@ -329,6 +329,16 @@ ended_by count None queue left (Ready None) empty = (refl, rw empty.1 empty.0)
 ended_by count (Some s) queue left (Ready None) empty = tt
 ended_by count stream queue left Pending empty = tt
 
+some-ne-none-of : {St : Type 0} (s : St) → Some s ≡ None → ⊥
+some-ne-none-of s e = cc
+
+-- where it was pending, and the stream has ended, something is held
+waits_by : {St A : Type 0} (stream : Option St) (queue_answer : Poll (Option A)) (held : ℕ) → OnPending queue_answer (0 < held) → OnPending (answer_from stream queue_answer) (stream ≡ None → 0 < held)
+waits_by stream (Ready (Some x)) held holds = tt
+waits_by None (Ready None) held holds = tt
+waits_by (Some s) (Ready None) held holds = λ e. absurd (some-ne-none-of s e)
+waits_by stream Pending held holds = λ _. holds
+
 -- a call that ended with a poll of the queue
 pub poll_of : {St X A Q : Type 0} (source : StreamOf St X) (by : FutureQueueOf Q X A) (old filled : Buffering St Q) (stream : Option St) (queue left : Q) (queue_answer answer : Poll (Option A)) (cx task_then after : Context)
     → filled ≡ record { stream = stream; queue = queue } → (items : List X) × DrawsAll (PollsStream source.yields) by.count (by.room old.queue) by.pushes old items None filled
@@ -342,6 +352,7 @@ poll_of source by old filled stream queue left queue_answer answer cx task_then 
       not_polled = not_polled;
       gave = call_of (PollsStream source.yields) by.count (by.room old.queue) by.pushes (PollsWithTask by.polls task_then after) (after ≡ task_then) old filled stream queue left queue_answer answer is draws polled.polled gives;
       ended = rw gives (ended_by by.count stream queue left queue_answer polled.empty);
+      waits = rw gives (waits_by stream queue_answer (by.count left) polled.holds);
       same_room = polled.same_room ∙ rw is at same_room;
       bound = polled.bound;
       as_stream = as_stream;

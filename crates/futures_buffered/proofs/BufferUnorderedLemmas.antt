@@ -6,7 +6,7 @@ use Rattle.std.proofs.lemmas.Bool.{cases_eq, cases_lt}
 use Rattle.futures.specs.declared.task.context.Context.{Context}
 use Rattle.futures.specs.declared.task.Poll.{Poll}
 use Rattle.futures.specs.declared.task.Poll.TheVariants.{Ready, Pending}
-use Rattle.futures.specs.Poll.{IfReady}
+use Rattle.futures.specs.Poll.{IfReady, OnPending}
 use Rattle.futures_buffered_core.specs.SlotMap.{Slots, value_in, held_count, with_value, Inserts}
 use Rattle.futures_buffered_table.specs.declared.answer.Woke.{Woke}
 use Rattle.futures_buffered_core.specs.ReadySource.{SourceSteps}
@@ -64,3 +64,8 @@ pub empty_polled : {F A S : Type 0} (polled : ℕ → F → Poll A → F → Typ
 empty_polled polled steps old new (Ready None) h = h
 empty_polled polled steps old new (Ready (Some x)) h = tt
 empty_polled polled steps old new Pending h = tt
+
+-- a pending set holds a future
+pub pending_holds : {F A S W : Type 0} (future : SlotFutureOf F W A) (source : ReadySourceOf S W) (old new : Bounded F S) (answer : Poll (Option A)) (cx left : Context) → PollsBounded (itself future) source old answer new cx left → OnPending answer (0 < held_in new)
+pending_holds future source old new (Ready o) cx left poll = tt
+pending_holds future source old new Pending cx left poll = omega (arith, poll.gave.0, poll.same)

@@ -159,6 +159,11 @@ pushed_len {F} {A} {S} marks old new item pushed = ap (λ (l : List (Entry A)). 
 pub pushed_can : {F A S : Type 0} (marks : S → ℕ → Woke → S → Type 0) (can_poll : F → Type 0) (old new : OrderedBounded F A S) (item : F) → AddsBack (PushesNumber marks) old item new → EachRunning can_poll old.set → can_poll item → EachRunning can_poll new.set
 pushed_can marks can_poll old new item added held fit = AllHeld-push (CanPollFuture can_poll) old.set.slots added.1.pushed.0 (record { future = item; number = added.0 }) new.set.slots added.1.pushed.1.inserted held fit
 
+-- a front that runs is an entry
+pub starts_some : {A : Type 0} (es : List (Entry A)) → starts_running es ≡ true → 0 < length es
+starts_some [] e = cc
+starts_some (x ∷ xs) e = omega arith
+
 no_start : {A : Type 0} (es : List (Entry A)) → length es ≡ 0 → starts_running es ≡ true → ⊥
 no_start [] none runs = cc
 no_start (e ∷ es) none runs = omega (arith, none)
@@ -217,6 +222,10 @@ module _ {F A S : Type 0} (polled : ℕ → F → Poll A → F → Type 0) (step
   pub same_polled : (old new : OrderedBounded F A S) (answer : Poll (Option A)) → OrderedGives (SetGives polled steps) held_in old answer new → OnPending answer (queue_len new ≡ queue_len old)
   same_polled old new (Ready o) h = tt
   same_polled old new Pending h = pending_len old new h
+
+  pub pending_holds : (old new : OrderedBounded F A S) (answer : Poll (Option A)) → OrderedGives (SetGives polled steps) held_in old answer new → OnPending answer (0 < queue_len new)
+  pending_holds old new (Ready o) h = tt
+  pending_holds old new Pending h = subst (λ (es : List (Entry A)). 0 < length es) (sym h.last_step.2) (starts_some h.before.entries h.last_step.0)
 
 -- a poll, told of the queue alone
 pub queue_alone : {F A S W : Type 0} (future : SlotFutureOf F W A) (source : ReadySourceOf S W) (old new : OrderedBounded F A S) (answer : Poll (Option A)) (cx left : Context) → PollsOrderedBounded (itself future) source old answer new cx left → OrderedGives (SetGives future.polled source.steps) held_in old answer new

@@ -1,20 +1,23 @@
 -- What a push and a poll of a queue of futures in flight are to a buffer.
-use Rattle.std.proofs.Common.{◌≡◌, ◌<◌, ℕ, List, [], ◌∷◌, inl, inr, length, Option, Some, None, is_some, cond, false, true, arith}
+use Rattle.std.proofs.Common.{◌≡◌, ◌<◌, ℕ, List, [], ◌∷◌, inl, inr, length, Option, Some, None, is_some, cond, false, true, sym, subst, arith}
 use Rattle.std.proofs.lemmas.List.{get_or_past}
 use Rattle.std.proofs.lemmas.List.Sums.{get_or-le-sum_by}
 use Rattle.std.proofs.lemmas.Bool.{cases_lt}
 use Rattle.futures.specs.declared.task.Poll.{Poll}
 use Rattle.futures.specs.declared.task.Poll.TheVariants.{Ready, Pending}
 use Rattle.futures.specs.declared.task.context.Context.{Context}
+use Rattle.futures.specs.Poll.{OnPending}
 use Rattle.futures_buffered_core.specs.SlotMap.{Slots, value_in, held_count}
 use Rattle.futures_buffered_unordered.specs.StreamAnswers.{StreamAnswers, stream_of}
 use Rattle.futures_buffered_unordered.proofs.HeldGivesLemmas.{Gathers-Within, Gathers-After}
 use Rattle.futures_buffered_in_flight.specs.InFlight.{FlightsWaitAt, FutureOf}
 use Rattle.futures_buffered_ordered.specs.declared.numbered.Numbered.{Numbered}
+use Rattle.futures_buffered_ordered.specs.declared.ordered_entries.Entry.{Entry}
 use Rattle.futures_buffered_in_flight.specs.InFlightOrdered.{CanPollOrdered, ComesOfEach, OrderedInFlight, OrderedWaitsAt, PollsInTurn, PushesBack}
 use Rattle.futures_buffered_in_flight.proofs.InFlightOrderedLemmas.{answers_in_turn}
 use Rattle.futures_buffered_in_flight.specs.InFlightQueue.{Queued, SomeOf, AnyQueuedGives, NumberGives, CanPollQueue, ComesFromQueue, PollsQueued, PushesQueued, queued_count, queued_room}
 use Rattle.futures_buffered.specs.FutureQueue.{AddsOutput, PollsFutureQueue, PushAddsOutput, PushLeavesQueue}
+use Rattle.futures_buffered.proofs.BufferedOrderedLemmas.{starts_some}
 
 some_held : {P : Type 0} (m : Slots P) (i : ℕ) (p : P) → value_in m i ≡ Some p → 0 < held_count m
 some_held {P} m i p found =
@@ -88,11 +91,11 @@ module _ {F A : Type 0} (future : FutureOf F A) where
   pub polls_queue : (old new : Queued F) (answer : Poll (Option A)) (cx left : Context) → PollsQueued future old answer new cx left
       → PollsFutureQueue (PollsQueued future) queued_count queued_room (stream_of (CanPollQueue future) (λ (q : Queued F). FlightsWaitAt q.set) (ComesFromQueue future)) old answer new cx left
   polls_queue old new (Ready None) cx left p =
-      record { polled = p; empty = p.gave; fewer = tt; same_count = tt; same_room = p.same_room; some = p.some; bound = p.bound; as_stream = answers old new (Ready None) cx left p }
+      record { polled = p; empty = p.gave; holds = tt; fewer = tt; same_count = tt; same_room = p.same_room; some = p.some; bound = p.bound; as_stream = answers old new (Ready None) cx left p }
   polls_queue old new (Ready (Some x)) cx left p =
-      record { polled = p; empty = tt; fewer = p.gave.1; same_count = tt; same_room = p.same_room; some = p.some; bound = p.bound; as_stream = answers old new (Ready (Some x)) cx left p }
+      record { polled = p; empty = tt; holds = tt; fewer = p.gave.1; same_count = tt; same_room = p.same_room; some = p.some; bound = p.bound; as_stream = answers old new (Ready (Some x)) cx left p }
   polls_queue old new Pending cx left p =
-      record { polled = p; empty = tt; fewer = tt; same_count = p.gave.1; same_room = p.same_room; some = p.some; bound = p.bound; as_stream = answers old new Pending cx left p }
+      record { polled = p; empty = tt; holds = omega (arith, p.gave.0, p.gave.1); fewer = tt; same_count = p.gave.1; same_room = p.same_room; some = p.some; bound = p.bound; as_stream = answers old new Pending cx left p }
 
   pub push_leaves_ordered : (old new : OrderedInFlight F A) (f : F) → PushesBack future old f new → PushLeavesQueue {A = A} entry_count entry_room old None new
   push_leaves_ordered old new f p = record { one_more = p.one_more; stays = tt; same_room = p.same_room }
@@ -100,12 +103,20 @@ module _ {F A : Type 0} (future : FutureOf F A) where
   pub push_adds_ordered : (old new : OrderedInFlight F A) (f : F) → PushesBack future old f new → PushAddsOutput true (ComesOfEach future) (future.gives f) old None new
   push_adds_ordered old new f p = record { adds = p.comes; value = tt; overtakes = tt }
 
+-- a pending queue has a future in progress, and so an entry
+in_turn_holds : {F A : Type 0} (future : FutureOf F A) (old new : OrderedInFlight F A) (answer : Poll (Option A)) (cx left : Context) → PollsInTurn future old answer new cx left → OnPending answer (0 < length new.entries)
+in_turn_holds future old new (Ready o) cx left p = tt
+in_turn_holds {A = A} future old new Pending cx left p =
+    let last = p.polls.gave.last_step in
+    subst (λ (es : List (Entry A)). 0 < length es) (sym last.2) (starts_some p.polls.gave.before.entries last.0)
+
 pub polls_queue_ordered : {F A : Type 0} (future : FutureOf F A) (old new : OrderedInFlight F A) (answer : Poll (Option A)) (cx left : Context) → PollsInTurn future old answer new cx left
     → PollsFutureQueue (PollsInTurn future) entry_count entry_room (stream_of (CanPollOrdered future) OrderedWaitsAt (ComesOfEach future)) old answer new cx left
 polls_queue_ordered future old new answer cx left poll =
     record {
       polled = poll;
       empty = poll.empty;
+      holds = in_turn_holds future old new answer cx left poll;
       fewer = poll.fewer;
       same_count = poll.same_count;
       same_room = poll.same_room;

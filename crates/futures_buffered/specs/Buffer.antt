@@ -263,8 +263,9 @@ pub record PollsBuffer
   -- is as the draws left it; or one poll of the queue gave the answer, and made of the task what the queue's polls do
   pub gave : CallGivesWith (PollsStream stream.yields) queue.count (queue.room old.queue)
       queue.pushes (PollsWithTask queue.polls task_then left) (left ≡ task_then) old answer new
-  -- the end comes only where the stream has ended and nothing is held
+  -- the end comes exactly where the stream has ended and nothing is held
   pub ended : IfReady answer (λ o. IfNone o ((new.stream ≡ None) × (queue.count new.queue ≡ 0)))
+  pub waits : OnPending answer (new.stream ≡ None → 0 < queue.count new.queue)
   -- what stays: the queue can hold as many as before, and holds no more than that
   pub same_room : queue.room new.queue ≡ queue.room old.queue
   pub bound : queue.count new.queue ≤ queue.room new.queue

@@ -69,9 +69,10 @@ pub record PollsFutureQueue
     : Type 0 where
   -- what came, and who is woken
   pub polled : polls old answer new cx left
-  -- what stays: the end comes only where the queue holds nothing, and changes nothing
+  -- the end comes exactly where the queue holds nothing, and changes nothing
   pub empty : IfReady answer (λ o. IfNone o ((count old ≡ 0) × (new ≡ old)))
-  -- an output leaves one fewer
+  pub holds : OnPending answer (0 < count new)
+  -- what stays: an output leaves one fewer
   pub fewer : IfReady answer (λ o. OnSome o (count new + 1 ≡ count old))
   -- a pending poll leaves as many as before
   pub same_count : OnPending answer (count new ≡ count old)

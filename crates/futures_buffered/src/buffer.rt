@@ -22,8 +22,8 @@ use std::ops::ControlFlow;
 /// Futures of a stream, at most as many at a time as its queue has room for.
 ///
 /// A contract sees the stream, or nothing once it has ended, and what it sees of the queue. A poll takes no memory but
-/// what the stream, the futures and the source's calls take. A stream that ended is dropped at once. Calls that poll
-/// nothing take the same time at any number held.
+/// what the polls of stream and futures take, and the calls of the source, or of the kit's set. A stream that ended is
+/// dropped at once. Calls that poll nothing take the same time at any number held.
 #[derive(Drop)]
 pub struct Buffer<St: Drop, Q: Drop> {
     stream: Option<St>,
@@ -186,9 +186,9 @@ impl<St: Stream, Q: FutureQueue<St::Item>> Stream for Buffer<St, Q> {
     /// Where a push hands back an answer, that is the answer instead: what was drawn stays held, and the stream goes
     /// on. `Ready(None)` where the stream has ended and nothing is held, and then again.
     ///
-    /// Takes no memory but what the stream, the futures and the source's calls take, and waits for nobody where these
-    /// do not. Takes time in proportion to the items drawn and the names that one poll of the queue takes, besides the
-    /// polls.
+    /// Takes no memory but what the polls of stream and futures take, and the calls of the source, or of the kit's set,
+    /// and waits for nobody where these do not. Takes time in proportion to the items drawn and the names that one poll
+    /// of the queue takes, besides the polls.
     fn poll_next(&mut self, cx: &mut Context<'_>) -> Poll<Option<Q::Output>>
         requires { CanPollBuffer St.Stream Q.FutureQueue self.old }
         ensures { PollsBuffer St.Stream Q.FutureQueue self.old result self.new cx.old cx.new }

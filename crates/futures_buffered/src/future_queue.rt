@@ -77,8 +77,8 @@ pub trait FutureQueue<I>: Drop {
         ensures adds { PushAddsOutput in_order yields (gives item) self.old result self.new }
         ensures again { can_poll self.new };
 
-    /// One poll. `Ready(None)` where nothing is held. Takes no memory but what the futures and the calls of a source
-    /// take.
+    /// One poll. `Ready(None)` where nothing is held. Takes no memory but what the futures take, and the calls of a
+    /// source, or of the kit's set.
     fn poll_output(&mut self, cx: &mut Context<'_>) -> Poll<Option<Self::Output>>
         requires { can_poll self.old }
         ensures { PollsFutureQueue polls count room (stream_of can_poll needs yields)

@@ -94,6 +94,7 @@ returns-in-Some g c =
       not_polled = filled.task.no_turn;
       gave = (draws.0, record { given = Some c.in-Some.answer; filled = c.fill.new.self; draws = draws.1; ends = (refl, refl, refl) });
       ended = tt;
+      waits = tt;
       same_room = filled.buffer.same_room;
       bound = filled.buffer.bound;
       as_stream = record {

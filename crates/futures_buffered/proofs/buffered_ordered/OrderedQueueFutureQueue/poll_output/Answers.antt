@@ -1,6 +1,6 @@
 use Rattle.futures_buffered_unordered.specs.PollsBounded.{itself}
 use Rattle.futures_buffered_ordered.proofs.OrderedStreamLemmas.{bounded_answers}
-use Rattle.futures_buffered.proofs.BufferedOrderedLemmas.{queue_alone, still_fits, empty_polled, fewer_polled, same_polled, waits_covered}
+use Rattle.futures_buffered.proofs.BufferedOrderedLemmas.{queue_alone, still_fits, empty_polled, pending_holds, fewer_polled, same_polled, waits_covered}
 use Rattle.futures_buffered.proofs.buffered_ordered.OrderedQueueFutureQueue.poll_output.Goals as goal
 
 pub invariant_of-self : goal.invariant_of-self
@@ -25,6 +25,7 @@ returns g c =
     rw (← c.self.view_is) (record {
       polled = poll;
       empty = empty_polled polled source.steps old new answer gives;
+      holds = pending_holds polled source.steps old new answer gives;
       fewer = fewer_polled polled source.steps old new answer gives;
       same_count = same_polled polled source.steps old new answer gives;
       same_room = same_room;
