@@ -1,5 +1,5 @@
 -- The step of each role stays in range, and keeps the row (`KeepsRow`).
-use Rattle.std.proofs.Common.{◌≡◌, ◌≢◌, ℕ, zero, suc, ◌+◌, ◌<◌, ◌≤◌, List, [], ◌∷◌, length, set, get_or, refl, sym, ap, ◌∙◌, ⊎_elim, arith, ◌++◌, subst, append-nil, ◌⊎◌, inl, inr, get_or-set_same, length-set}
+use Rattle.std.proofs.Common.{◌≡◌, ◌≢◌, ℕ, zero, suc, ◌+◌, ◌<◌, ◌≤◌, List, [], ◌∷◌, length, set, get_or, refl, sym, ap, ◌∙◌, ⊎_elim, arith, ◌++◌, subst, append-nil, ◌⊎◌, inl, inr}
 use Rattle.std.specs.Prelude.{if◌then◌else◌, ◌==◌}
 use mathlib.Core.Option.{some, some-injective}
 use lib.ListN.{get_elem?}
@@ -14,14 +14,13 @@ use Rattle.std.proofs.lemmas.Bool.{eqb-true, eqb-false}
 use Rattle.futures_buffered_table.specs.declared.view.AtomicStep.{AtomicStep}
 use Rattle.futures_buffered_table.specs.declared.view.AtomicStep.TheVariants.{MarkSwap, LinkClear, TailSwap, LinkWrite, LinkRead, TailRead, Unmark}
 use Rattle.futures_buffered_table.specs.Effect.{InRange, after_first_read, after_slot_read, next_role, put_by_role, step_of_role, word_of_role}
-use Rattle.futures_buffered_table.proofs.RowLemmas.{Flows, next_first, next_last, row_slots, same_else, same_here, slots_put, slots_put_stub, slots_slot, slots_stub, total-append, total_none, total_some}
+use Rattle.futures_buffered_table.proofs.RowLemmas.{Flows, next_first, next_last, row_slots, same_else, same_here, slots_put, slots_put_stub, slots_slot, slots_stub, total_none, total_some}
 use Rattle.futures_buffered_table.specs.RowInvariant.{FitsPhase, FitsRole, KeepsRow, outside, outside_by}
-use Rattle.futures_buffered_table.proofs.RowInvariantLemmas.{clears, goes_on, links_up, puts_in, quiet, takes_stub, tells_same, unmarks_slot, wins_mark, head_low}
+use Rattle.futures_buffered_table.proofs.RowInvariantLemmas.{clears, goes_on, links_up, puts_in, quiet, takes_stub, unmarks_slot, wins_mark, head_low}
 use Rattle.futures_buffered_table.specs.Words.{link, mark, tail, tail_at}
-use Rattle.futures_buffered_table.specs.Row.{last_entry, next, owed, owed_by, same, times, total}
+use Rattle.futures_buffered_table.specs.Row.{last_entry, next, owed, owed_by, same, times}
 use Rattle.futures_buffered_table.specs.Tally.{is_unmark, is_win}
-use Rattle.futures_buffered_table.proofs.ListLemmas.{by_test, place_low, set_twice}
-use Rattle.atomic_table.proofs.Lists.{set_here}
+use Rattle.futures_buffered_table.proofs.ListLemmas.{by_test}
 
 pub word_range : (n slot : ℕ) (role : Role) → slot ≤ n → InRange n role → word_of_role n slot role < n + n + 2
 word_range n slot role le ok = grind arith
@@ -37,8 +36,6 @@ still_polls n h NoNext found = by_test (λ role. (head : ℕ) × (next_phase : P
     (λ _. (h, Start, refl))
 still_polls n h Moved zero = (h, NoNext, refl)
 still_polls n h StubLinked zero = (h, Start, refl)
-still_polls n h (StubPut p) found = by_test (λ role. (head : ℕ) × (next_phase : Phase) × (role ≡ Polls head next_phase)) (p == h) _ _
-    (λ _. (n, InHand h, refl)) (λ _. (h, StubLinked, refl))
 still_polls n h phase found = (_, _, refl)
 
 pub role_range : (n : ℕ) (words : List ℕ) (h : ℕ) (rest : List ℕ) (poller j : ℕ) (role : Role) → h ≤ n →
@@ -282,84 +279,6 @@ module _ (n h : ℕ) (rest : List ℕ) (poller : ℕ) (words : List ℕ) (views 
   behind p q [] is some_next = let a : next p h rest ≡ 0 = ap (next p h) is in absurd (omega arith)
   behind p q (x ∷ xs) is some_next = subst (λ (l : List ℕ). 0 < length l) (sym is) (omega arith)
 
-  -- the stub is linked behind p
-  abbrev linked_view : ℕ → View
-  linked_view p = record { stub = n; role = Polls h StubLinked; steps = steps ++ LinkWrite p n ∷ [] }
-
-  links_stub : (p : ℕ) → get_elem? views poller ≡ some (poller_in (StubPut p)) →
-      KeepsRow n h rest poller (set words (n + p) (suc n)) (set views poller (linked_view p))
-  links_stub p at = let ok = ok_of (StubPut p) at in
-      links_up n h rest poller words views R poller (poller_in (StubPut p)) (linked_view p) (LinkWrite p n) at refl
-      (λ ne. absurd (ne refl)) n p (omega arith) ok.1 ok.2 (λ x. refl) (λ x. refl) (λ q. refl) (λ q. refl) (λ x. refl) (λ x. refl)
-      (refl, refl, (ok.0, behind p n rest refl ok.2))
-
-  -- and where p is the head itself, the head moves on to the stub, as if its link had been read
-  abbrev moved : ℕ → View
-  moved p = record { stub = n; role = Polls n (InHand h); steps = steps ++ LinkWrite p n ∷ [] }
-
-  abbrev moved_by_read : ℕ → View
-  moved_by_read p = record {
-    stub = n;
-    role = Polls n (InHand h);
-    steps = (steps ++ LinkWrite p n ∷ []) ++ LinkRead h (suc n) ∷ [];
-  }
-
-  abbrev now_linked : ℕ → List ℕ
-  now_linked p = set words (n + p) (suc n)
-
-  abbrev views_read : ℕ → List View
-  views_read p = set (set views poller (linked_view p)) poller (moved_by_read p)
-
-  stub_behind_head : (p : ℕ) → get_elem? views poller ≡ some (poller_in (StubPut p)) → p ≡ h →
-      PollKeepsRow (StubPut p) (set words (n + p) (suc n)) (Polls n (InHand h)) (LinkWrite p n)
-  stub_behind_head p at is_head = go rest refl
-    where
-      ok : FitsPhase n words h rest (StubPut p)
-      ok = ok_of (StubPut p) at
-
-      follows : next h h rest ≡ suc n
-      follows = subst (λ (x : ℕ). next x h rest ≡ suc n) is_head ok.2
-
-      named : link n (now_linked p) h ≡ suc n
-      named = ap (λ (x : ℕ). get_or (now_linked p) (n + x) 0) (sym is_head)
-          ∙ get_or-set_same words (n + p) (suc n) 0 (let a = R.wide in let b = ok.1 in omega arith)
-
-      seat_low : poller < length views
-      seat_low = place_low views poller (poller_in (StubPut p)) at
-
-      linked_at : get_elem? (set views poller (linked_view p)) poller ≡ some (linked_view p)
-      linked_at = set_here views poller (linked_view p) seat_low
-
-      read_at : get_elem? (views_read p) poller ≡ some (moved_by_read p)
-      read_at = set_here (set views poller (linked_view p)) poller (moved_by_read p) (let a = length-set views poller (linked_view p) in
-          let b = seat_low in omega arith)
-
-      views_are : set (views_read p) poller (moved p) ≡ set views poller (moved p)
-      views_are = set_twice (set views poller (linked_view p)) poller (moved_by_read p) (moved p) ∙ set_twice views poller (linked_view p) (moved p)
-
-      go : (r : List ℕ) → rest ≡ r → PollKeepsRow (StubPut p) (now_linked p) (Polls n (InHand h)) (LinkWrite p n)
-      go [] is = let a : next h h rest ≡ 0 = ap (next h h) is in let b = follows in absurd (omega arith)
-      go (x ∷ xs) is =
-          let a : next h h rest ≡ suc x = ap (next h h) is ∙ next_first h x xs in
-          let x_is : x ≡ n = let b = follows in omega arith in
-          let rest_is : rest ≡ n ∷ xs = is ∙ ap (λ (y : ℕ). y ∷ xs) x_is in
-          let linked : KeepsRow n h (n ∷ xs) poller (now_linked p) (set views poller (linked_view p)) =
-          subst (λ (r : List ℕ). KeepsRow n h r poller (now_linked p) (set views poller (linked_view p))) rest_is (links_stub p at) in
-          let on : KeepsRow n n xs poller (now_linked p) (views_read p) = goes_on n h n xs poller (now_linked p) (set views poller (linked_view p)) linked
-          (linked_view p) (moved_by_read p) (LinkRead h (suc n)) linked_at refl (λ z. let d = named in omega arith) (λ e. refl) (λ e _. refl)
-          (same_else n h (λ z. let d = ok.0 in omega arith)) (λ q. refl) (λ q. refl) (λ e. refl) (λ e. refl)
-          (λ le _ _. (refl, refl, (le, ok.0))) in
-          let same : KeepsRow n n xs poller (now_linked p) (set (views_read p) poller (moved p)) = tells_same n n xs poller (now_linked p) (views_read p) on poller
-          (moved_by_read p) (moved p) read_at refl (λ e. sym (no_more (is_win e) refl)) (λ e. sym (no_more (is_unmark e) refl)) in (
-            n,
-            xs,
-            subst (KeepsRow n n xs poller (now_linked p)) views_are same,
-            slot_out n xs ok.0 rest_is,
-          )
-        where
-          no_more : (f : AtomicStep → ℕ) → f (LinkRead h (suc n)) ≡ 0 → total f (moved_by_read p).steps ≡ total f (moved p).steps
-          no_more f none = let b = total-append f (moved p).steps (LinkRead h (suc n) ∷ []) in omega arith
-
   -- where the head's link names none, the row has one entry, or a waker stands between its tail swap and its link write
   pub row_ends_or_waker_stands : (phase : Phase) → get_elem? views poller ≡ some (poller_in phase) → owed_by h (Polls h phase) ≡ 0 →
       link n words h ≡ 0 → (rest ≡ []) ⊎ SomeWakerStands views
@@ -409,10 +328,11 @@ module _ (n h : ℕ) (rest : List ℕ) (poller : ℕ) (words : List ℕ) (views 
             (λ le z. (refl, refl, ((ok_of StubCleared at).0, le, z))),
         slots_put_stub n (h ∷ rest),
       ))
-  poll_keeps slot (StubPut p) at found is = by_test
-      (λ (r : Role). PollKeepsRow (StubPut p) (set words (n + p) (suc n)) r (LinkWrite p n)) (p == h) (Polls n (InHand h)) (Polls h StubLinked)
-      (λ t. stub_behind_head p at (eqb-true p h t))
-      (λ _. (h, rest, links_stub p at, stays))
+  poll_keeps slot (StubPut p) at found is = let ok = ok_of (StubPut p) at in
+      let now = links_up n h rest poller words views R poller (poller_in (StubPut p))
+      (record { stub = n; role = Polls h StubLinked; steps = steps ++ LinkWrite p n ∷ [] }) (LinkWrite p n) at refl
+      (λ ne. absurd (ne refl)) n p (omega arith) ok.1 ok.2 (λ x. refl) (λ x. refl) (λ q. refl) (λ q. refl) (λ x. refl) (λ x. refl)
+      (refl, refl, (ok.0, behind p n rest refl ok.2)) in (h, rest, now, stays)
   poll_keeps slot StubLinked at found is = read_on StubLinked Start at (ok_of StubLinked at).0 (λ e. refl) (λ p. refl) (λ e. refl)
       (λ p. refl) (head_low n h rest poller words views R) stays (λ q xs e. slot_out q xs (ok_of StubLinked at).0 e) found is
   poll_keeps slot (InHand i) at found is = let ok = ok_of (InHand i) at in

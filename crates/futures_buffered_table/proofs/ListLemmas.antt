@@ -1,5 +1,5 @@
 -- Lists, read by place, and a choice by a test.
-use Rattle.std.proofs.Common.{◌≡◌, ◌⊎◌, ℕ, zero, suc, ◌+◌, ◌<◌, List, [], ◌∷◌, ◌++◌, length, set, get_or, replicate, Bool, true, false, refl, sym, ap, inl, inr, ⊎_elim, arith}
+use Rattle.std.proofs.Common.{◌≡◌, ◌⊎◌, ℕ, zero, suc, ◌+◌, ◌<◌, List, [], ◌∷◌, ◌++◌, length, get_or, replicate, Bool, true, false, refl, sym, ap, inl, inr, ⊎_elim, arith}
 use Rattle.std.specs.Prelude.{if◌then◌else◌}
 use Rattle.std.proofs.lemmas.List.{get_or_default, length-append, length-replicate}
 use mathlib.Core.Option.{some, some-injective, some-ne-none}
@@ -28,11 +28,6 @@ earlier_or_last zero a b (suc j) x e = absurd (some-ne-none x (sym e))
 earlier_or_last (suc k) a b zero x e = inl (omega arith, some-injective a x e)
 earlier_or_last (suc k) a b (suc j) x e = ⊎_elim (λ (t : (j < k) × (a ≡ x)). inl (omega (arith, t.0), t.1)) (λ (t : (j ≡ k)
     × (b ≡ x)). inr (ap suc t.0, t.1)) (earlier_or_last k a b j x e)
-
-pub set_twice : {X : Type 0} (xs : List X) (i : ℕ) (a b : X) → set (set xs i a) i b ≡ set xs i b
-set_twice [] i a b = refl
-set_twice (x ∷ xs) zero a b = refl
-set_twice {X = X} (x ∷ xs) (suc i) a b = ap (λ (l : List X). x ∷ l) (set_twice xs i a b)
 
 pub if_yes : {X : Type 0} (b : Bool) (x y : X) → b ≡ true → (if b then x else y) ≡ x
 if_yes b x y e = grind arith

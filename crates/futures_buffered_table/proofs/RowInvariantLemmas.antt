@@ -271,33 +271,6 @@ module _ (n h : ℕ) (rest : List ℕ) (poller : ℕ) (words : List ℕ) (views 
       sets_mark i 0 lt (omega arith) (λ e lt'. grind (arith, at_i, off_i, same_cases)) (grind (arith, same_else)) same_owed
       (λ e lt'. grind (arith, at_i, off_i, same_cases))
 
--- a view of the same role, with as many wins and unmarks, tells the same
-pub tells_same : (n h : ℕ) (rest : List ℕ) (poller : ℕ) (words : List ℕ) (views : List View) → KeepsRow n h rest poller words views →
-    (id : ℕ) (v w : View) → get_elem? views id ≡ some v → w.role ≡ v.role → ((e : ℕ) → wins e w.steps ≡ wins e v.steps)
-    → ((e : ℕ) → unmarks e w.steps ≡ unmarks e v.steps) → KeepsRow n h rest poller words (set views id w)
-tells_same n h rest poller words views R id v w at role same_wins same_unmarks = record {
-  wide = R.wide;
-  ends = R.ends;
-  linked = λ p some_p. subst (λ (x : ℕ). (p ≤ n) × IsLinked (next p h rest) (link n words p) x)
-      (sym (adds_up (λ (u : View). owed_by p u.role) (ap (owed_by p) role))) (R.linked p some_p);
-  unowed = λ p none. adds_up (λ (u : View). owed_by p u.role) (ap (owed_by p) role) ∙ R.unowed p none;
-  whereabouts = λ e lt. let a = adds_up (λ (u : View). outside_by n e u.role) (ap (outside_by n e) role) in
-      let b = R.whereabouts e lt in (omega arith, b.1);
-  stub_once = let a = adds_up (λ (u : View). outside_by n n u.role) (ap (outside_by n n) role) in let b = R.stub_once in omega arith;
-  seats = λ j u e. ⊎_elim
-      (λ (t : (j ≡ id) × (w ≡ u)). subst (λ (y : ℕ × View). FitsRole n words h rest poller y.0 y.1.role
-      × (y.0 ≢ poller → (x : ℕ) → unmarks x y.1.steps ≡ 0)) (λ i. (sym t.0 i, t.1 i)) (
-        subst (FitsRole n words h rest poller id) (sym role) (R.seats id v at).0,
-        λ ne x. same_unmarks x ∙ (R.seats id v at).1 ne x,
-      ))
-      (λ (t : (j ≢ id) × (get_elem? views j ≡ some u)). R.seats j u t.1) (at_set views id j w u e);
-  tallied = λ e lt. let a = adds_up (λ (u : View). wins e u.steps) (same_wins e) in
-      let b = adds_up (λ (u : View). unmarks e u.steps) (same_unmarks e) in let c = R.tallied e lt in omega arith;
-}
-  where
-    adds_up : (f : View → ℕ) → f w ≡ f v → total f (set views id w) ≡ total f views
-    adds_up f is = let a = total_set f views id v w at in omega arith
-
 -- the poller's head moves on to the entry that its link names; where it was a slot, the poller has it then
 module _ (n h q : ℕ) (rest : List ℕ) (poller : ℕ) (words : List ℕ) (views : List View) (R : KeepsRow n h (q ∷ rest) poller words views)
     (v w : View) (m : AtomicStep) (at : get_elem? views poller ≡ some v) (ws : w.steps ≡ v.steps ++ m ∷ []) where

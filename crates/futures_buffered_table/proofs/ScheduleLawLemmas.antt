@@ -7,7 +7,7 @@ use lib.ListN.{get_elem?}
 use Rattle.atomic_table.proofs.Lists.{at_set, set_else, set_here}
 use Rattle.futures_buffered_table.specs.declared.view.AtomicStep.{AtomicStep}
 use Rattle.futures_buffered_table.specs.declared.view.Phase.{Phase}
-use Rattle.futures_buffered_table.specs.declared.view.Phase.TheVariants.{Start, AtStub, Moved, NoNext, StubPut, StubLinked}
+use Rattle.futures_buffered_table.specs.declared.view.Phase.TheVariants.{Start, AtStub, Moved, NoNext, StubLinked}
 use Rattle.futures_buffered_table.specs.declared.view.Role.{Role}
 use Rattle.futures_buffered_table.specs.declared.view.Role.TheVariants.{Idle, Won, Cleared, Swapped, Polls}
 use Rattle.futures_buffered_table.specs.declared.view.View.{View}
@@ -28,7 +28,7 @@ use Rattle.futures_buffered_table.specs.RowInvariant.{FitsRole, KeepsRow}
 use Rattle.futures_buffered_table.proofs.WordsLemmas.{tail_kept}
 use Rattle.futures_buffered_table.specs.View.{role_of, spent_view}
 use Rattle.futures_buffered_table.specs.Row.{owed_by}
-use Rattle.futures_buffered_table.proofs.ListLemmas.{by_test, elem_at, place_low, if_yes, if_no}
+use Rattle.futures_buffered_table.proofs.ListLemmas.{elem_at, place_low, if_yes, if_no}
 use Rattle.std.proofs.Math.ListN.{get_or-map}
 use Rattle.futures_buffered_table.proofs.ViewLemmas.{each_first}
 use Rattle.futures_buffered_table.specs.declared.step.TheConstants.{WAKE_SEATS}
@@ -203,8 +203,6 @@ module _ (n h : ℕ) (rest : List ℕ) (words : List ℕ) (views : List View) (R
       grind (arith, alone, slots_stub, append-nil)
   poll_case Moved at takes flow zero is = (tt, (tt, none_behind Moved at refl (sym is) 0))
   poll_case NoNext at takes flow f is = grind arith
-  poll_case (StubPut p) at takes flow f is =
-      (tt, by_test (TellsRole (made (StubPut p) f ∷ past) (now_tail (StubPut p) f)) (p == h) _ _ (λ _. tt) (λ _. tt))
   poll_case StubLinked at takes flow zero is =
       let ok = (R.seats WAKE_SEATS _ at).0.2 in let or = row_ends_or_waker_stands n h rest WAKE_SEATS words views R steps StubLinked at refl (sym is) in
       grind arith

@@ -59,10 +59,6 @@ abbrev pub after_slot_read : ℕ → Phase → ℕ → Role
 after_slot_read h none zero = Polls h none
 after_slot_read h none (suc q) = Polls q (InHand h)
 
--- the poller has linked the stub behind p: where p is its own head, it knows without a read that the head moves on
-abbrev pub after_stub_link : ℕ → ℕ → ℕ → Role
-after_stub_link n h p = if p == h then Polls n (InHand h) else Polls h StubLinked
-
 -- what the seat is after the step
 abbrev pub next_role : ℕ → ℕ → Role → ℕ → Role
 next_role n slot Idle zero = Won slot
@@ -76,7 +72,7 @@ next_role n slot (Polls h Moved) found = after_slot_read h NoNext found
 next_role n slot (Polls h NoNext) found = if found == h then Polls h Last else Polls h Start
 next_role n slot (Polls h Last) found = Polls h StubCleared
 next_role n slot (Polls h StubCleared) found = Polls h (StubPut found)
-next_role n slot (Polls h (StubPut p)) found = after_stub_link n h p
+next_role n slot (Polls h (StubPut p)) found = Polls h StubLinked
 next_role n slot (Polls h StubLinked) found = after_slot_read h Start found
 next_role n slot (Polls h (InHand e)) found = Polls h Start
 

@@ -21,7 +21,7 @@ ReadsSlot list head seat = IsInRole list (Polls head Moved) seat ⊎ IsInRole li
 abbrev pub IsHanded : ℕ → List AtomicStep → Taken → ℕ → Type 0
 IsHanded h shape answer head = (shape ≡ LinkRead h (suc head) ∷ Unmark h ∷ []) × (answer ≡ Slot h)
 
--- the stub stands behind the slot h, after others, and the link of h is read again: it names none, or h is answered
+-- the stub stands behind the slot h, whose link is read again: it names none, or h is answered
 abbrev pub IsReadAgain : ℕ → List AtomicStep → Taken → ℕ → Type 0
 IsReadAgain h shape answer head =
     ((shape ≡ LinkRead h 0 ∷ []) × (answer ≡ Pause) × (head ≡ h)) ⊎ IsHanded h shape answer head
@@ -30,17 +30,11 @@ IsReadAgain h shape answer head =
 abbrev pub IsBeforeTail : ℕ → List AtomicStep → Taken → ℕ → Type 0
 IsBeforeTail h shape answer head = (t : ℕ) × (t ≢ h) × (shape ≡ TailRead t ∷ []) × (answer ≡ Pause) × (head ≡ h)
 
--- The stub was put in behind p. Where p is the slot h itself, h is answered at once, and the stub is the head. Else the
--- link of h is read again.
-abbrev pub IsBehind : ℕ → ℕ → ℕ → List AtomicStep → Taken → ℕ → Type 0
-IsBehind n h p shape answer head = ((p ≡ h) × (shape ≡ Unmark h ∷ []) × (answer ≡ Slot h) × (head ≡ n))
-    ⊎ ((p ≢ h) × IsReadAgain h shape answer head)
-
--- h is a slot whose link named none, and the tail: the stub is put in behind it, or behind what came meanwhile
+-- h is a slot whose link named none, and the tail: the stub is put in behind it
 abbrev pub IsAtTail : ℕ → ℕ → List AtomicStep → Taken → ℕ → Type 0
 IsAtTail n h shape answer head = (p : ℕ) × (rest : List AtomicStep)
     × (shape ≡ TailRead h ∷ LinkClear n ∷ TailSwap n p ∷ LinkWrite p n ∷ rest)
-    × IsBehind n h p rest answer head
+    × IsReadAgain h rest answer head
 
 -- h is a slot, and its link named none
 abbrev pub IsAtLast : ℕ → ℕ → List AtomicStep → Taken → ℕ → Type 0

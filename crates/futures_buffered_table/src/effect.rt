@@ -78,7 +78,6 @@ pub fn role_after(n: usize, slot: usize, role: Role, found: u64) -> Role
             Phase::NoNext if found as usize == head => Role::Polls(head, Phase::Last),
             Phase::Last => Role::Polls(head, Phase::StubCleared),
             Phase::StubCleared => Role::Polls(head, Phase::StubPut(found as usize)),
-            Phase::StubPut(before) if before == head => Role::Polls(n, Phase::InHand(head)),
             Phase::StubPut(_) => Role::Polls(head, Phase::StubLinked),
             Phase::StubLinked => after_link(head, Phase::Start, found),
             Phase::AtStub | Phase::NoNext | Phase::InHand(_) => Role::Polls(head, Phase::Start),

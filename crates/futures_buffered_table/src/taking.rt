@@ -12,7 +12,7 @@ ghost use Rattle.futures_buffered_table.specs.declared.view.Phase.TheVariants.{S
 ghost use Rattle.futures_buffered_table.specs.declared.view.Phase.TheVariants.{StubLinked};
 ghost use Rattle.futures_buffered_table.specs.declared.view.Phase.TheVariants.{InHand};
 ghost use Rattle.futures_buffered_table.specs.declared.view.Role.TheVariants.{Polls};
-ghost use Rattle.futures_buffered_table.specs.Effect.{after_stub_link, next_role};
+ghost use Rattle.futures_buffered_table.specs.Effect.{next_role};
 ghost use Rattle.futures_buffered_table.specs.Taking.{CallsAtStub, CallsFrom, IsTaking, ReadsSlot};
 ghost use Rattle.futures_buffered_table.specs.Taking.{TakesAtLast, TakesAtSlot};
 
@@ -119,7 +119,7 @@ impl ReadyList {
     fn link_stub(&self, seat: &mut Seat<u8, View>, head: usize, before: usize)
         requires role { IsInRole self.now (Polls head (StubPut before)) seat.old
             × (before ≤ self.now.capacity) }
-        ensures role { IsInRole self.now (after_stub_link self.now.capacity head before) seat.new }
+        ensures role { IsInRole self.now (Polls head StubLinked) seat.new }
         ensures adds { AddsSteps seat.old seat.new (LinkWrite before self.now.capacity ∷ []) }
     {
         self.table
@@ -127,7 +127,7 @@ impl ReadyList {
             .store::<SeatStep>(seat, self.capacity + before, self.capacity as u64 + 1);
     }
 
-    // Reads the link of the head, a slot: it moved there from the stub, or the stub stands behind it now, after others.
+    // Reads the link of the head, a slot: it moved there from the stub, or the stub stands behind it now.
     fn read_slot(&self, seat: &mut Seat<u8, View>, head: usize) -> usize
         requires role { ReadsSlot self.now head seat.old × (head ≤ self.now.capacity) }
         ensures low { result ≤ self.now.capacity + 1 }
@@ -173,11 +173,6 @@ impl ReadyList {
         self.clear_stub(seat, head);
         let before = self.swap_stub(seat, head);
         self.link_stub(seat, head, before);
-        if before == head {
-            // The link of the head is the one just written: it names the stub.
-            self.unmark(seat, self.capacity, head);
-            return (self.capacity, Taken::Slot(head));
-        }
         let next = self.read_slot(seat, head);
         if next == 0 {
             return (head, Taken::Pause);
