@@ -33,7 +33,8 @@ pub trait SlotWaker: SlotHandle {
 /// Names slots that were marked.
 ///
 /// Beside the calls a source states what they may do: relations between its content before, the answer, and its content
-/// after. Each named slot is below the capacity, and the capacity stays: these are laws below.
+/// after. Each named slot is below the capacity, and the capacity stays: these are laws below. Only the calls that make
+/// a source may allocate, and no call may wait for another thread.
 pub trait ReadySource: Drop {
     /// What wakes one slot.
     type Waker: SlotHandle;
@@ -62,7 +63,7 @@ pub trait ReadySource: Drop {
         requires { i < slots self.old }
         ensures { marks self.old i result self.new };
 
-    /// Asks for a name. Whether it takes memory the source says.
+    /// Asks for a name. Does not allocate.
     fn take(&mut self) -> Taken
         ensures { steps.takes self.old result self.new };
 
@@ -100,8 +101,8 @@ pub trait NewSource: ReadySource {
     // What a new source of this capacity may be.
     ghost made: { ℕ → Self → Type 0 };
 
-    /// A source of `cap` slots. Takes time and memory in proportion to `cap`, so that no later mark takes any. Whether
-    /// a taking does the source says.
+    /// A source of `cap` slots. Takes time and memory in proportion to `cap`, so that no later mark or
+    /// taking allocates.
     fn make(env: &Self::Env, alloc: Global, cap: usize) -> Result<Self, NewFault>
         ensures { MakesSlots cap (made cap) result };
 

@@ -22,7 +22,7 @@ use std::marker::{Model, PhantomData};
 /// future's place, or as soon as an output ends it.
 ///
 /// A contract sees the places, or nothing once the join has ended: a set of the futures that are waited for, each in
-/// the slot of its place, and the outputs that have come. A poll takes no memory but what the calls of the source take.
+/// the slot of its place, and the outputs that have come. A poll does not allocate.
 /// Once the join has ended, early too, it holds nothing, and further polls give what shows an empty vector.
 #[derive(Drop)]
 pub struct JoinBy<R, F: Drop, A: Drop, S: ReadySource> {
@@ -53,8 +53,8 @@ where
 {
     /// A join of these futures, in their order, over a source made for them. Nothing is polled.
     ///
-    /// Takes time and memory in proportion to their number, all that the join ever needs but what the calls of the
-    /// source take. Where it is refused, the futures that came are dropped.
+    /// Takes time and memory in proportion to their number, all that the join ever needs.
+    /// Where it is refused, the futures that came are dropped.
     pub fn over<I: IntoIterator<Item = F>>(
         env: &S::Env,
         alloc: Global,
@@ -93,9 +93,8 @@ where
     /// that error, and the other futures and all outputs are dropped in this call. In both cases it holds nothing more:
     /// its source is dropped, which may wake the task, and later polls give no outputs, and poll nothing.
     ///
-    /// Takes no memory but what the calls of the source take, and waits for nobody where they do not. Takes time in
-    /// proportion to the names that its polls of the set take, and at the end to the number of places, besides the
-    /// polls.
+    /// Does not allocate, and waits for no other thread. Takes time in proportion to the names that its polls of the set
+    /// take, and at the end to the number of places, besides the polls.
     fn poll(&mut self, cx: &mut Context<'_>) -> Poll<R::Answer>
         requires { IfSome self.old (λ places. AllHeld F.can_poll places.set.slots) }
         ensures { PollsJoin F.SlotFuture R.JoinRule S.ReadySource

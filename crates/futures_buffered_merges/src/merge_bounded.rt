@@ -29,8 +29,7 @@ use std::alloc::Global;
 /// Streams in slots, over a source that names the slots to poll.
 ///
 /// A contract sees what each slot holds and which slots are free, the content of the source, and the limit of names of
-/// one count. Once the merge is made its calls take no memory but what those of the source take, and they wait for
-/// nobody where those of the source do not.
+/// one count. Once the merge is made its calls do not allocate, and wait for no other thread.
 pub type MergeBounded<St, S> = MergeOf<FuturesUnorderedBounded<St, S>>;
 
 /// The same merge, by its short name.
@@ -178,7 +177,7 @@ impl<St: SlotStream<S::Waker>, S: ReadySource> Stream for MergeBounded<St, S> {
     /// A stream that gives an item stays, and its slot is marked. A stream that ends is dropped, and where another is
     /// still held a new count begins. `Ready(None)` where no stream is held, at first or any more. `Pending` where no
     /// further name came, the source paused, or a count reached the limit; at a pause and at the limit the task is
-    /// woken at once. Takes no memory but what the calls of the source take, and time in proportion to the names taken,
+    /// woken at once. Does not allocate, and takes time in proportion to the names taken,
     /// besides the polls.
     fn poll_next(&mut self, cx: &mut Context<'_>) -> Poll<Option<St::Item>>
         requires { AllHeld St.can_poll self.old.slots }

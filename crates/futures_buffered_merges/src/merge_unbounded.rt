@@ -35,9 +35,9 @@ use std::alloc::Global;
 /// Streams in groups of slots.
 ///
 /// A contract sees the groups, each with what its slots hold, the content of its source and its limit; the place where
-/// the next poll begins; and the limit of names of one count. Only a push that makes a group, a constructor that
-/// pushes, and the calls of the source take memory. The calls wait for nobody where those of the source do not, and
-/// those that ask how much is held or fits take the same time at any number of groups.
+/// the next poll begins; and the limit of names of one count. Only a push that makes a group and a constructor
+/// that pushes allocate. No call waits for another thread, and those that ask how much is held or fits take the same
+/// time at any number of groups.
 pub type MergeUnbounded<St, S> = MergeOf<FuturesUnordered<St, S>>;
 
 impl<St: Drop, S: NewSource> StreamSet for FuturesUnordered<St, S> {
@@ -209,8 +209,8 @@ impl<St: SlotStream<S::Waker>, S: NewSource> Stream for MergeUnbounded<St, S> {
     /// A stream that gives an item stays, and its slot is marked. A stream that ends is dropped. A group that is asked
     /// and holds nothing any more is dropped, unless it is the last. `Ready(None)` where no stream is held any more,
     /// and else `Pending`; where a group paused or came to its limit, the task is woken at once, also beside an item. A
-    /// group that is asked registers the task, at each of its counts, until one is pending. Takes no memory but what
-    /// the calls of the source take. Takes time in proportion to the number of groups, to the names taken and to the
+    /// group that is asked registers the task, at each of its counts, until one is pending. Does not allocate.
+    /// Takes time in proportion to the number of groups, to the names taken and to the
     /// slots of groups that are dropped, besides the polls.
     fn poll_next(&mut self, cx: &mut Context<'_>) -> Poll<Option<St::Item>>
         requires { EachHeld St.can_poll self.old.groups.listed }

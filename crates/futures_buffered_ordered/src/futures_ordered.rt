@@ -111,7 +111,7 @@ impl<T: Drop, S: NewSource, R: PollOne<T, S::Waker>> PollNumberedSet<R>
 /// says no more than which entry and which future have it. A push, the keeping of an output, its yielding, and calls
 /// that ask how much is held take the same time at any length and any number of groups; where a push finds as many
 /// entries as there is room for, the list grows, and where the last group is full, the set does, which over many pushes
-/// is the same time for each. The calls wait for nobody where those of the source do not.
+/// is the same time for each. No call waits for another thread.
 #[derive(Drop)]
 pub struct GrowingQueue<T: Drop, A: Drop, S: NewSource> {
     queue: OrderedEntries<FuturesUnordered<Numbered<T>, S>, A>,
@@ -229,7 +229,7 @@ impl<T: Drop, A: Drop, S: NewSource> GrowingQueue<T, A, S> {
     ///
     /// `Ready(None)` where there is no entry. A front whose output is kept leaves with it, and the set is not asked.
     /// Else the set is polled again and again: each output that it gives is kept in its entry, until the front's has
-    /// come and is yielded, or the set answers `Pending`. Takes no memory but what the calls of the source take. Takes
+    /// come and is yielded, or the set answers `Pending`. Does not allocate. Takes
     /// the time of the set's polls, of which there is at most one more than outputs came.
     pub fn poll_with<R: PollOne<T, S::Waker, Output = A>>(
         &mut self,

@@ -108,8 +108,7 @@ impl<T: Drop, S: ReadySource, R: PollOne<T, S::Waker>> PollNumberedSet<R>
 /// back, where one in progress has the number of its future, and how many entries there is a place for. Outputs that
 /// are kept take no slot, so `len` may pass `capacity`. A push, the keeping of an output, its yielding, and calls that
 /// ask how much is held take the same time at any length; where a push finds as many entries as there is room for, the
-/// list grows, which over many pushes is the same time for each. The calls wait for nobody where those of the source do
-/// not.
+/// list grows, which over many pushes is the same time for each. No call waits for another thread.
 #[derive(Drop)]
 pub struct BoundedQueue<T: Drop, A: Drop, S: ReadySource> {
     queue: OrderedEntries<FuturesUnorderedBounded<Numbered<T>, S>, A>,
@@ -255,7 +254,7 @@ impl<T: Drop, A: Drop, S: ReadySource> BoundedQueue<T, A, S> {
     ///
     /// `Ready(None)` where there is no entry. A front whose output is kept leaves with it, and the source is not asked.
     /// Else the set is polled again and again: each output that it gives is kept in its entry, until the front's has
-    /// come and is yielded, or the set answers `Pending`. Takes no memory but what the calls of the source take. Takes
+    /// come and is yielded, or the set answers `Pending`. Does not allocate. Takes
     /// at most `limit` names for each future in progress, and the time of the polls of what these hold.
     pub fn poll_with<R: PollOne<T, S::Waker, Output = A>>(
         &mut self,

@@ -59,8 +59,7 @@ pub trait NumberedSet: Drop {
 
 /// A numbered set under a rule by which one held future is polled, as its `NumberedPolls` says.
 pub trait PollNumberedSet<R>: NumberedSet + NumberedPolls<R> {
-    /// One poll of the set. `Ready(None)` where nothing is held. Takes no memory but what the calls of its sources
-    /// take.
+    /// One poll of the set. `Ready(None)` where nothing is held. Does not allocate.
     fn poll_numbered(
         &mut self,
         rule: &R,

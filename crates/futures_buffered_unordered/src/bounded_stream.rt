@@ -24,9 +24,8 @@ impl<F: SlotFuture<S::Waker>, S: ReadySource> Stream for FuturesUnorderedBounded
 
     /// One poll, as `poll_with` by the rule that polls the future itself.
     ///
-    /// Takes no memory where the calls of the source take none. Takes at most as many names as the set's limit and
-    /// polls only what these slots hold, so its time is that of these takings and polls, at any capacity. Holds no lock
-    /// of the source while it polls a future.
+    /// Does not allocate. Takes at most as many names as the set's limit and polls only what these slots hold, so its
+    /// time is that of these takings and polls, at any capacity. Holds no lock of the source while it polls a future.
     fn poll_next(&mut self, cx: &mut Context<'_>) -> Poll<Option<F::Output>>
         requires { AllHeld F.can_poll self.old.slots }
         ensures { PollsBounded (itself F.SlotFuture) S.ReadySource

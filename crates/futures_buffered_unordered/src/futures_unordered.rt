@@ -49,9 +49,9 @@ const _: () = prove!(FIRST_GROUP == 32);
 /// Futures in groups of slots, or streams.
 ///
 /// A contract sees the groups, each a bounded set, the place where the next poll begins, and the limit of names that
-/// one poll takes from each group. Only the calls that make a set and a push that makes a group take memory, besides
-/// what the calls of a source take, and no call waits for anybody where those do not. Calls that ask how much is held
-/// or fits take the same time at any number of groups. A merge that grows is made of one too.
+/// one poll takes from each group. Only the calls that make a set and a push that makes a group allocate, and no call
+/// waits for another thread. Calls that ask how much is held or fits take the same time at any number of groups. A
+/// merge that grows is made of one too.
 #[derive(Drop)]
 pub struct FuturesUnordered<F: Drop, S: NewSource> {
     groups: Vec<FuturesUnorderedBounded<F, S>>,
@@ -427,8 +427,8 @@ impl<F: Drop, S: NewSource> FuturesUnordered<F, S> {
     /// `Ready(None)` where nothing is held. Else each group that stands as the poll begins is asked once, in turn,
     /// until one gives an output; `Pending` where none does. Where one paused or came to its limit, the task is woken
     /// at once, also beside an output. A group that is asked and holds nothing is dropped, unless it is the last.
-    /// Registers the task once, and takes no memory where the calls of the sources take none. Takes time in proportion
-    /// to the number of groups, to the names taken and to the slots of groups that are dropped, besides the polls.
+    /// Registers the task once, and does not allocate. Takes time in proportion to the number of groups, to the names
+    /// taken and to the slots of groups that are dropped, besides the polls.
     pub fn poll_with<R: PollOne<F, S::Waker>>(
         &mut self,
         rule: &R,

@@ -34,9 +34,8 @@ const _: () = prove!(POLL_LIMIT == 61);
 /// Futures in slots, over a source that names the slots to poll.
 ///
 /// A contract sees what each slot holds and which slots are free, the content of the source, and the limit of names of
-/// one poll. Once the set is made, its calls but `make_sibling` take no memory, and none waits for anybody, where those
-/// of the source do neither, as those of `CoreSource` and `SharedReady`. A push, and calls that ask how much is held,
-/// take the same time at any capacity.
+/// one poll. Once the set is made, no call but `make_sibling` allocates, and none waits for another thread. A push, and
+/// calls that ask how much is held, take the same time at any capacity.
 #[derive(Drop)]
 pub struct FuturesUnorderedBounded<F: Drop, S: ReadySource> {
     slots: PinSlotMap<F>,
@@ -330,8 +329,7 @@ impl<F: Drop, S: ReadySource> FuturesUnorderedBounded<F, S> {
     /// `Ready(None)` where nothing is held, and then nothing was asked. Else names are taken from the source and the
     /// values named are polled, in that order, until one is ready: it is yielded, and its slot is freed. `Pending`
     /// where no further name came or the limit was reached; where the source paused and at the limit the task is woken
-    /// at once. Takes no memory where the calls of the source take none, and time in proportion to the names taken,
-    /// besides the polls.
+    /// at once. Does not allocate, and takes time in proportion to the names taken, besides the polls.
     pub fn poll_with<R: PollOne<F, S::Waker>>(
         &mut self,
         rule: &R,
