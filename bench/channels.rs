@@ -9,7 +9,7 @@ use futures::task::Context;
 use futures_buffered_core::ready_shared::SharedReady;
 use futures_buffered_held::spsc;
 use futures_buffered_merges::merge_bounded::MergeBounded;
-use futures_buffered_merges::{ForeignMerge, foreign_merge};
+use futures_buffered::in_flight::{MergeBounded as KitMerge, merge};
 use std::alloc::Global;
 
 // No item takes more polls than this.
@@ -35,14 +35,14 @@ pub trait Channel: Drop {
 impl Channel for kit::Sender<u64> {
     type Receiver = kit::Receiver<u64>;
 
-    type Merge = Items<ForeignMerge<kit::Receiver<u64>>>;
+    type Merge = Items<KitMerge<kit::Receiver<u64>>>;
 
     fn open(alloc: Global, room: usize) -> Option<(kit::Sender<u64>, Self::Receiver)> {
         kit::channel(alloc, room).ok()
     }
 
     fn merge(alloc: Global, receivers: Vec<Self::Receiver>) -> Option<Self::Merge> {
-        Some(Items::new(foreign_merge(alloc, receivers).ok()?))
+        Some(Items::new(merge(alloc, receivers).ok()?))
     }
 
     fn send(&mut self) {

@@ -1,12 +1,11 @@
-//! One-shots, from channel to output: those of the kit in the kit's own set, in flight and in a set over the source
-//! that has futures of the kit polled, and those of this library in a set over the shared source.
+//! One-shots, from channel to output: those of the kit in the kit's own set, in flight, and those of this library in a set over the shared source.
 use crate::holders::{Holder, Set, poll_often};
 use crate::report::Workload;
 use futures::channel::oneshot as kit;
 use futures::stream::FuturesUnordered as KitSet;
 use futures::task::Context;
 use futures::{Future, Stream};
-use futures_buffered_held::{Foreign, ForeignSet, oneshot};
+use futures_buffered_held::oneshot;
 use futures_buffered_in_flight::InFlight;
 use std::alloc::Global;
 use std::marker::Model;
@@ -81,16 +80,6 @@ impl Holder<kit::Receiver<u64>> for Flights {
 
     fn gives(&mut self, cx: &mut Context<'_>) -> bool {
         self.0.poll_next(cx).is_ready()
-    }
-}
-
-impl Holder<kit::Receiver<u64>> for ForeignSet<kit::Receiver<u64>> {
-    fn add(&mut self, receiver: kit::Receiver<u64>) {
-        let _ = self.try_push(Foreign::new(receiver));
-    }
-
-    fn gives(&mut self, cx: &mut Context<'_>) -> bool {
-        self.poll_next(cx).is_ready()
     }
 }
 

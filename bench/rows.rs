@@ -16,10 +16,10 @@ use futures::StreamExt;
 use futures::channel::{mpsc, oneshot as kit};
 use futures::stream::FuturesUnordered as KitSet;
 use futures::task::Waker;
-use futures_buffered::BufferedStreamExt;
+use futures_buffered::in_flight::BufferedStreamExt;
 use futures_buffered::buffer::Buffer;
 use futures_buffered_core::ready_shared::SharedWaker;
-use futures_buffered_held::{foreign_set, oneshot, spsc};
+use futures_buffered_held::{oneshot, spsc};
 use futures_buffered_merges::merge_bounded::MergeBounded;
 use std::alloc::{AllocError, AllocGlobal};
 use std::io;
@@ -118,9 +118,6 @@ impl<R: Clock + RandomSource + AllocGlobal, O: io::Write> Report<'_, R, O> {
             self.timed("kit set", of_kit, slots, OneShots::new(alloc, made, slots))?;
             let made = OneShots::new(alloc, Flights::new(alloc, slots), slots);
             self.timed("in flight", of_kit, slots, made)?;
-            let made = foreign_set::<kit::Receiver<u64>, _>(alloc, slots).ok();
-            let made = OneShots::new(alloc, made, slots);
-            self.timed("driven set", of_kit, slots, made)?;
             let made = Set::<oneshot::Receiver<u64>>::new(alloc, slots).ok();
             let made = OneShots::new(alloc, made, slots);
             self.timed("shared set", of_own, slots, made)?;
@@ -137,7 +134,7 @@ impl<R: Clock + RandomSource + AllocGlobal, O: io::Write> Report<'_, R, O> {
             let made = Channels::<Selected>::new(alloc, 16, burst);
             self.timed("kit merge", of_kit, burst, made)?;
             let made = Channels::<mpsc::Sender<u64>>::new(alloc, 16, burst);
-            self.timed("foreign merge", of_kit, burst, made)?;
+            self.timed("in_flight merge", of_kit, burst, made)?;
             let made = Channels::<spsc::Sender<u64>>::new(alloc, 16, burst);
             self.timed("merge", of_own, burst, made)?;
         }
@@ -163,10 +160,10 @@ impl<R: Clock + RandomSource + AllocGlobal, O: io::Write> Report<'_, R, O> {
         let (alloc, name) = (self.rt.alloc(), "an output of a ready future, at most held");
         for n in SIZES {
             let made: Option<Ordered> = Buffer::over(&(), alloc, Ready, n.max(1)).ok();
-            self.timed("buffered_ordered", name, n, made)?;
+            self.timed("in_flight buffered_ordered", name, n, made)?;
         }
         let made: Option<Unordered> = Buffer::over(&(), alloc, Ready, 100).ok();
-        self.timed("buffered_unordered", name, 100, made)?;
+        self.timed("in_flight buffered_unordered", name, 100, made)?;
         let (of, name) = ("for_each_concurrent", "an item, at most held");
         self.timed(of, name, 100, Some(ForEach(alloc)))
     }
@@ -179,16 +176,16 @@ impl<R: Clock + RandomSource + AllocGlobal, O: io::Write> Report<'_, R, O> {
         if let Ok(stream) = Sent(alloc).buffered(alloc, n) {
             self.timed("kit buffered", name, n, Some(Items::new(stream)))?;
         }
-        if let Ok(stream) = Sent(alloc).foreign_buffered_ordered(alloc, n) {
+        if let Ok(stream) = Sent(alloc).buffered_ordered(alloc, n) {
             let made = Some(Items::new(stream));
-            self.timed("foreign_buffered_ordered", name, n, made)?;
+            self.timed("in_flight buffered_ordered", name, n, made)?;
         }
         if let Ok(stream) = Sent(alloc).buffer_unordered(alloc, n) {
             self.timed("kit buffer_unordered", name, n, Some(Items::new(stream)))?;
         }
-        if let Ok(stream) = Sent(alloc).foreign_buffered_unordered(alloc, n) {
+        if let Ok(stream) = Sent(alloc).buffered_unordered(alloc, n) {
             let made = Some(Items::new(stream));
-            self.timed("foreign_buffered_unordered", name, n, made)?;
+            self.timed("in_flight buffered_unordered", name, n, made)?;
         }
         Ok(())
     }

@@ -128,10 +128,6 @@ fn main(rt: HostRuntime) -> Result<(), anyhow::Error> {
         "in_flight_polled" => in_flight::polled(&rt, a),
         "in_flight_cleared" => in_flight::cleared(&rt, a, b),
         "in_flight_cancelled" => in_flight::cancelled(&rt, a),
-        "foreign_polled" => foreigns::polled(&rt, a),
-        "foreign_cleared" => foreigns::cleared(&rt, a, b),
-        "foreign_cleared_groups" => foreigns::cleared_groups(&rt, a),
-        "foreign_beside" => foreigns::beside(&rt, a),
         _ => scene_of_kind(&rt, &asked),
     }
 }

@@ -7,7 +7,7 @@ use crossbeam_channel::{Sender, unbounded};
 use futures::StreamExt;
 use futures::channel::oneshot;
 use futures::executor::block_on;
-use futures_buffered::{Foreign, GrowingForeignSet};
+use futures_buffered::in_flight::{FuturesUnorderedBounded, Kept};
 use std::alloc::Global;
 use std::collections::BTreeMap;
 use std::env::Env;
@@ -77,13 +77,15 @@ fn crawl<R>(rt: &R, jobs: &Sender<Job, Global>, pages: &mut Pages) -> Result<(),
 where
     R: Wait + RandomSource + AllocGlobal,
 {
-    let mut under_way = GrowingForeignSet::over((), rt.alloc(), UNDER_WAY)?;
+    let mut under_way = Kept::new(FuturesUnorderedBounded::new(rt.alloc(), UNDER_WAY)?);
     for _ in rt.forever() {
-        if under_way.len() < UNDER_WAY {
+        if !under_way.get().is_full() {
             if let Some(name) = pages.waiting.pop() {
                 let (answer, receiver) = oneshot::channel(rt.alloc())?;
                 let _ = jobs.send(rt, Job { name, answer });
-                under_way.add(Foreign::new(receiver))?;
+                if under_way.try_push(receiver).is_err() {
+                    bail!("there is no memory for a page");
+                }
                 continue;
             }
         }

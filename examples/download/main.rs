@@ -8,7 +8,7 @@ use crate::download::Download;
 use anyhow::bail;
 use bytes::Bytes;
 use futures::{StreamExt, stream};
-use futures_buffered::BufferedStreamExt;
+use futures_buffered::in_flight::BufferedStreamExt;
 use std::alloc::Global;
 use std::env::Env;
 use std::net::{Ipv4Addr, SocketAddr};
@@ -72,7 +72,7 @@ fn main(rt: HostRuntime) -> Result<(), anyhow::Error> {
         let connect = TcpStream::connect(&rt, server, &reactor);
         downloads.push(Download::new(alloc, connect, request_for(alloc, document)?))?;
     }
-    let answers = stream::iter(downloads).foreign_buffered_ordered(alloc, limit)?;
+    let answers = stream::iter(downloads).buffered_ordered(alloc, limit)?;
     let answers = runtime.block_on(&rt, answers.collect(alloc))??;
     for (number, answer) in answers.into_iter().enumerate() {
         let answer = answer?;

@@ -7,7 +7,7 @@ use anyhow::bail;
 use futures::channel::mpsc::{Sender, channel};
 use futures::executor::block_on;
 use futures::{StreamExt, future, stream};
-use futures_buffered::foreign_merge;
+use futures_buffered::in_flight::IterExt;
 use std::alloc::Global;
 use std::env::Env;
 use std::io::Print;
@@ -107,7 +107,7 @@ fn main(rt: HostRuntime) -> Result<(), anyhow::Error> {
         threads.push(thread)?;
         streams.push(receiver)?;
     }
-    let merged = foreign_merge(rt.alloc(), streams)?;
+    let merged = streams.merge(rt.alloc())?;
     let counted = merged.for_each(|line| {
         if let Some(source) = sources.get_mut(line.source) {
             source.count = source.count.saturating_add(1);

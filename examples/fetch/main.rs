@@ -8,7 +8,7 @@ use bytes::BytesMut;
 use futures::channel::mpsc::{UnboundedReceiver, unbounded};
 use futures::executor::block_on;
 use futures::{StreamExt, stream};
-use futures_buffered::BufferedStreamExt;
+use futures_buffered::in_flight::BufferedStreamExt;
 use std::alloc::{AllocError, Global};
 use std::cell::Cell;
 use std::env::Env;
@@ -60,7 +60,7 @@ where
         let answer = answer_to(rt, name.as_str()).unwrap_or(BytesMut::new(rt.alloc()));
         write_all(pipe, answer)
     });
-    let writings = writings.foreign_buffered_unordered(rt.alloc(), SENDING)?;
+    let writings = writings.buffered_unordered(rt.alloc(), SENDING)?;
     block_on(rt, writings.count())?;
     Ok(())
 }
@@ -103,7 +103,7 @@ fn main(rt: HostRuntime) -> Result<(), anyhow::Error> {
         let _ = sender.unbounded_send(request);
         read_to_end(end, BytesMut::new(rt.alloc()))
     });
-    let answers = readings.foreign_buffered_ordered(rt.alloc(), UNDER_WAY)?;
+    let answers = readings.buffered_ordered(rt.alloc(), UNDER_WAY)?;
     let (mut came, mut most) = (0usize, 0usize);
     let answers = answers.inspect(|_| {
         most = most.max(asked.get().saturating_sub(came));

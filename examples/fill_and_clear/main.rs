@@ -9,7 +9,7 @@ use crate::download::Download;
 use anyhow::bail;
 use bytes::Bytes;
 use futures::StreamExt;
-use futures_buffered::{Foreign, ForeignSet, foreign_set};
+use futures_buffered::in_flight::{FuturesUnorderedBounded, Kept};
 use std::alloc::Global;
 use std::env::Env;
 use std::net::{Ipv4Addr, Net, SocketAddr};
@@ -53,11 +53,11 @@ fn fill<R: Net + AllocGlobal>(
     rt: &R,
     runtime: &LocalRuntime,
     server: SocketAddr,
-    set: &mut ForeignSet<Download>,
+    set: &mut Kept<FuturesUnorderedBounded<Download>>,
 ) -> io::Result<()> {
-    for _ in set.len()..set.capacity() {
+    for _ in set.get().len()..set.get().capacity() {
         let request = download_of(rt, runtime, server, "/late")?;
-        let _ = set.try_push(Foreign::new(request));
+        let _ = set.try_push(request);
     }
     Ok(())
 }
@@ -84,15 +84,15 @@ where
 fn main(rt: HostRuntime) -> Result<(), anyhow::Error> {
     let (server, limit) = settings(&rt)?;
     let mut runtime = LocalRuntime::new(&rt)?;
-    let mut set = foreign_set(rt.alloc(), limit)?;
+    let mut set = Kept::new(FuturesUnorderedBounded::new(rt.alloc(), limit)?);
     for _ in 0..ROUNDS {
         fill(&rt, &runtime, server, &mut set)?;
         let moment = Duration::from_millis(MILLISECONDS);
         let first = runtime.handle().time().timeout(&rt, moment, set.next())?;
         let _nothing_came = runtime.block_on(&rt, first)?.is_err();
-        report(&rt, &mut runtime, server, set.len())?;
+        report(&rt, &mut runtime, server, set.get().len())?;
         set.clear();
-        report(&rt, &mut runtime, server, set.len())?;
+        report(&rt, &mut runtime, server, set.get().len())?;
     }
     Ok(())
 }

@@ -8,7 +8,7 @@ mod download;
 use crate::download::{Asked, Download};
 use anyhow::bail;
 use futures::{StreamExt, stream};
-use futures_buffered::BufferedStreamExt;
+use futures_buffered::in_flight::BufferedStreamExt;
 use http_body_util::Empty;
 use hyper::{Request, header};
 use std::alloc::Global;
@@ -74,7 +74,7 @@ fn main(rt: HostRuntime) -> Result<(), anyhow::Error> {
         let connect = TcpStream::connect(&rt, server, &reactor);
         Download::new(alloc, keys, connect, request)
     });
-    let answers = downloads.foreign_buffered_ordered(alloc, limit)?;
+    let answers = downloads.buffered_ordered(alloc, limit)?;
     let answers = runtime.block_on(&rt, answers.collect(alloc))??;
     for (number, document) in answers.into_iter().enumerate() {
         println!(&rt; "document {number}: {} bytes", document?.len())?;

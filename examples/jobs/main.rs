@@ -13,7 +13,7 @@ use crossbeam_channel::{Receiver, unbounded};
 use futures::channel::oneshot;
 use futures::executor::block_on;
 use futures::{StreamExt, stream};
-use futures_buffered::BufferedStreamExt;
+use futures_buffered::in_flight::BufferedStreamExt;
 use std::alloc::{AllocError, Global};
 use std::env::Env;
 use std::random::RandomSource;
@@ -86,7 +86,8 @@ where
     requires { 0 < n }
 {
     let countings = countings_of(rt, files, rt.alloc(), list)?;
-    let counts = stream::iter(countings).buffered_ordered(rt.alloc(), n)?;
+    let countings = stream::iter(countings);
+    let counts = futures_buffered::BufferedStreamExt::buffered_ordered(countings, rt.alloc(), n)?;
     let counts = block_on(&rt, counts.collect(rt.alloc()))??;
     let mut lines = 0usize;
     for count in counts {
@@ -113,7 +114,7 @@ fn main(rt: HostRuntime) -> Result<(), anyhow::Error> {
         let _ = sender.send(&rt, job);
         answer
     });
-    let counts = asked.foreign_buffered_ordered(rt.alloc(), n)?;
+    let counts = asked.buffered_ordered(rt.alloc(), n)?;
     let counts = block_on(&rt, counts.collect(rt.alloc()))??;
     let mut words = 0usize;
     for (path, count) in list.lines().zip(counts) {

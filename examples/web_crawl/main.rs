@@ -12,7 +12,7 @@ use crate::visit::Visit;
 use anyhow::bail;
 use bytes::Bytes;
 use futures::StreamExt;
-use futures_buffered::{Foreign, ForeignSet, foreign_set};
+use futures_buffered::in_flight::{FuturesUnorderedBounded, Kept};
 use std::alloc::{AllocError, Global};
 use std::collections::BTreeSet;
 use std::env::Env;
@@ -26,7 +26,7 @@ use tokio::runtime::LocalRuntime;
 use tokio::time::Timeout;
 
 // The requests in flight.
-type Visits = ForeignSet<Visit<Timeout<Download>>>;
+type Visits = Kept<FuturesUnorderedBounded<Visit<Timeout<Download>>>>;
 
 // What the program's words ask for.
 #[derive(Drop)]
@@ -126,16 +126,17 @@ fn crawl<R>(
 where
     R: Wait + Clock + Net + RandomSource + AllocGlobal,
 {
-    let mut visits: Visits = foreign_set(rt.alloc(), settings.limit)?;
+    let set = FuturesUnorderedBounded::new(rt.alloc(), settings.limit)?;
+    let mut visits: Visits = Kept::new(set);
     for _ in rt.forever() {
-        if !visits.is_full() {
+        if !visits.get().is_full() {
             if let Some(name) = pages.waiting.pop() {
                 let page = download_of(rt, runtime, settings.server, name.as_str())?;
                 let page = runtime
                     .handle()
                     .time()
                     .timeout(rt, settings.deadline, page)?;
-                let _ = visits.try_push(Foreign::new(Visit::new(rt.alloc(), name, page)));
+                let _ = visits.try_push(Visit::new(rt.alloc(), name, page));
                 continue;
             }
         }

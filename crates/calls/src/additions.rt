@@ -2,7 +2,7 @@
 //! the values must be back; then the call is made once more.
 use crate::answer::{Reply, append_reply};
 use crate::command::{End, Query};
-use crate::numbers::{number, push_numbers};
+use crate::numbers::push_numbers;
 use crate::session::Session;
 use crate::shared_world::SharedWorld;
 use crate::subject::{Call, Subject};
@@ -140,37 +140,6 @@ impl Session {
             self.push_each(object, end)
         } else {
             Reply::Nothing
-        };
-        append_reply(&mut self.reply, reply);
-    }
-
-    fn beside_once<O: Subject>(&mut self, object: &mut O, slots: usize) -> Reply {
-        object.call(Call::Beside(slots), &self.world, &mut self.reply.string)
-    }
-
-    // Memory was refused to the source beside.
-    fn beside_again<O: Subject>(&mut self, object: &mut O, slots: usize) -> Reply {
-        if !self.is_as_before(object) {
-            return Reply::Changed;
-        }
-        let reply = self.beside_once(object, slots);
-        self.count_refused(reply);
-        reply
-    }
-
-    fn beside<O: Subject>(&mut self, object: &mut O, slots: usize) -> Reply {
-        self.describe_before(object);
-        match self.beside_once(object, slots) {
-            Reply::Refused => self.beside_again(object, slots),
-            reply => reply,
-        }
-    }
-
-    /// Has the object keep a source beside its own, of as many slots as the line says.
-    pub fn make_sibling<O: Subject>(&mut self, object: &mut O, rest: &str) {
-        let reply = match number(rest) {
-            Some(slots) => self.beside(object, slots),
-            None => Reply::Nothing,
         };
         append_reply(&mut self.reply, reply);
     }

@@ -25,7 +25,6 @@ pub enum Command {
     DropSender,
     Push(End),
     Extend,
-    Beside,
     Clear,
     Drop,
     Ask(Query),
@@ -52,13 +51,12 @@ pub enum Kind {
     TryBufferedOrdered,
     ForEach,
     TryForEach,
-    ForeignSet,
-    ForeignQueue,
+    InFlight,
+    InFlightOrdered,
     ForeignJoin,
     ForeignTryJoin,
     ForeignMerge,
     ForeignBufferedOrdered,
-    ForeignSource,
 }
 
 /// Where a future is added: sets and merges have no ends.
@@ -99,13 +97,12 @@ fn kind_of(word: &str) -> Option<Kind> {
         "try_buffered_ordered" => Kind::TryBufferedOrdered,
         "for_each" => Kind::ForEach,
         "try_for_each" => Kind::TryForEach,
-        "foreign_set" => Kind::ForeignSet,
-        "foreign_queue" => Kind::ForeignQueue,
+        "in_flight" => Kind::InFlight,
+        "in_flight_ordered" => Kind::InFlightOrdered,
         "foreign_join" => Kind::ForeignJoin,
         "foreign_try_join" => Kind::ForeignTryJoin,
         "foreign_merge" => Kind::ForeignMerge,
         "foreign_buffered_ordered" => Kind::ForeignBufferedOrdered,
-        "foreign_source" => Kind::ForeignSource,
         _ => return None,
     })
 }
@@ -114,13 +111,12 @@ fn kind_of(word: &str) -> Option<Kind> {
 pub fn is_foreign(kind: Kind) -> bool {
     matches!(
         kind,
-        Kind::ForeignSet
-            | Kind::ForeignQueue
+        Kind::InFlight
+            | Kind::InFlightOrdered
             | Kind::ForeignJoin
             | Kind::ForeignTryJoin
             | Kind::ForeignMerge
-            | Kind::ForeignBufferedOrdered
-            | Kind::ForeignSource,
+            | Kind::ForeignBufferedOrdered,
     )
 }
 
@@ -174,7 +170,6 @@ pub fn command_of(word: &str) -> Option<Command> {
         "push_back" => Command::Push(End::Back),
         "push_front" => Command::Push(End::Front),
         "extend" => Command::Extend,
-        "beside" => Command::Beside,
         "clear" => Command::Clear,
         "drop" => Command::Drop,
         _ => match kind_of(word) {

@@ -1,7 +1,8 @@
-//! What holds futures and streams of the kit: a set and a queue over `Driven`, and the source itself; and joins, a
-//! merge and a buffer of them in plain sight.
-use crate::answer::{Answer, Reply, of_debug, of_growth, of_next, of_outputs, of_results};
-use crate::command::Query;
+//! What holds futures and streams of the kit: a set, a queue, joins, a merge and a buffer.
+use crate::answer::{
+    Answer, Reply, of_debug, of_growth, of_listed, of_next, of_outputs, of_push, of_results,
+};
+use crate::command::{End, Query};
 use crate::lines::run_made;
 use crate::session::Session;
 use crate::shared_world::SharedWorld;
@@ -11,48 +12,106 @@ use crate::task_script::{KitFuture, KitStream, KitTryFuture};
 use crate::values::{Output, new_value, new_values};
 use futures::task::{Context, Poll};
 use futures::{Future, Stream};
+use futures_buffered::in_flight::{
+    BufferedOrdered, BufferedStreamExt, FuturesOrderedBounded, FuturesUnorderedBounded, Kept,
+    MergeUnbounded, join_all, merge_unbounded, try_join_all,
+};
 use futures_buffered::in_flight_join::InFlightJoin;
 use futures_buffered::join::AllOutputs;
 use futures_buffered::try_join::UntilError;
-use futures_buffered::{
-    BufferedStreamExt, ForeignBufferedOrdered, GrowingForeignMerge, foreign_join_all,
-    foreign_try_join_all, growing_foreign_merge,
-};
 use futures_buffered_core::ready_core::NewFault;
-use futures_buffered_core::ready_source::{NewSource, ReadySource};
-use futures_buffered_held::{Driven, GrowingForeignQueue, GrowingForeignSet};
-use futures_buffered_sets::{FuturesOrdered, FuturesUnordered};
-use std::alloc::Global;
 use std::marker::Model;
 
-/// Begins a growing set, whose first group has as many slots as the line says.
+/// A set that keeps that its futures may be polled.
+type KitSet = Kept<FuturesUnorderedBounded<KitFuture>>;
+
+impl Subject for KitSet {
+    fn poll(&mut self, cx: &mut Context<'_>, _outputs: &mut Vec<u64>) -> Answer {
+        of_next(self.poll_next(cx))
+    }
+
+    fn call(&mut self, call: Call<'_>, world: &SharedWorld, text: &mut String) -> Reply {
+        match call {
+            Call::Push(End::Any, id) => match new_value(world, id) {
+                Some(value) => {
+                    let pushed = self.try_push(value).map(|_key| ());
+                    of_listed(pushed, self.get().is_full())
+                }
+                None => Reply::Nothing,
+            },
+            Call::Clear => {
+                self.clear();
+                Reply::Ok
+            }
+            Call::Ask(Query::Len) => Reply::Number(self.get().len()),
+            Call::Ask(Query::Capacity) => Reply::Number(self.get().capacity()),
+            Call::Ask(Query::IsFull) => Reply::Is(self.get().is_full()),
+            Call::Ask(Query::Debug) => of_debug(write!(text, "{:?}", self.get())),
+            _ => Reply::Nothing,
+        }
+    }
+}
+
+/// Begins a set of as many slots as the line says.
 pub fn run_set(
     session: &mut Session,
     numbers: &[usize],
     lines: &[&str],
 ) -> Result<usize, NewFault> {
     let n = numbers.first().copied().unwrap_or(0);
-    let made: Result<GrowingForeignSet<KitFuture>, NewFault> = FuturesUnordered::over(
-        (),
+    let set: FuturesUnorderedBounded<KitFuture> = FuturesUnorderedBounded::new(
         session.options.alloc,
         n,
-    );
-    run_made(session, made, lines)
+    )?;
+    run_made(session, Ok(Kept::new(set)), lines)
 }
 
-/// Begins a growing queue, whose first group has as many slots as the line says.
+/// A queue that keeps that its futures may be polled.
+type KitQueue = Kept<FuturesOrderedBounded<KitFuture>>;
+
+impl Subject for KitQueue {
+    fn poll(&mut self, cx: &mut Context<'_>, _outputs: &mut Vec<u64>) -> Answer {
+        of_next(self.poll_next(cx))
+    }
+
+    fn call(&mut self, call: Call<'_>, world: &SharedWorld, text: &mut String) -> Reply {
+        match call {
+            Call::Push(End::Back, id) => match new_value(world, id) {
+                Some(value) => of_push(self.try_push_back(value)),
+                None => Reply::Nothing,
+            },
+            Call::Push(End::Front, id) => match new_value(world, id) {
+                Some(value) => of_push(self.try_push_front(value)),
+                None => Reply::Nothing,
+            },
+            Call::Clear => {
+                self.clear();
+                Reply::Ok
+            }
+            Call::Ask(Query::Len) => Reply::Number(self.get().len()),
+            Call::Ask(Query::Capacity) => Reply::Number(self.get().capacity()),
+            Call::Ask(Query::IsFull) => Reply::Is(self.get().is_full()),
+            Call::Ask(Query::Debug) => of_debug(write!(text, "{:?}", self.get())),
+            _ => Reply::Nothing,
+        }
+    }
+}
+
+/// Begins a queue with room for as many as the line says.
 pub fn run_queue(
     session: &mut Session,
     numbers: &[usize],
     lines: &[&str],
 ) -> Result<usize, NewFault> {
     let n = numbers.first().copied().unwrap_or(0);
-    let made: Result<GrowingForeignQueue<KitFuture>, NewFault> = FuturesOrdered::over(
-        (),
+    if n == 0 {
+        return Ok(0);
+    }
+    let queue: FuturesOrderedBounded<KitFuture> = FuturesOrderedBounded::new(
         session.options.alloc,
         n,
-    );
-    run_made(session, made, lines)
+    )?;
+    run_made(session, Ok(Kept::new(queue)), lines)
 }
 
 /// A join of futures of the kit that may be polled.
@@ -87,7 +146,7 @@ impl Subject for Joined<AllOutputs, KitFuture, Output> {
 
 pub fn run_join(session: &mut Session, ids: &[usize], lines: &[&str]) -> Result<usize, NewFault> {
     let futures: Vec<KitFuture> = new_values(&session.world, ids);
-    let join = foreign_join_all(session.options.alloc, futures)?;
+    let join = join_all(session.options.alloc, futures)?;
     run_made(session, Ok(Joined { join }), lines)
 }
 
@@ -110,14 +169,14 @@ pub fn run_try_join(
     lines: &[&str],
 ) -> Result<usize, NewFault> {
     let futures: Vec<KitTryFuture> = new_values(&session.world, ids);
-    let join = foreign_try_join_all(session.options.alloc, futures)?;
+    let join = try_join_all(session.options.alloc, futures)?;
     run_made(session, Ok(Joined { join }), lines)
 }
 
 /// A merge of streams of the kit. A call of a subject asks nothing of it, so each stream may be polled at any time.
 #[derive(Drop)]
 struct KitMerge {
-    merge: GrowingForeignMerge<KitStream>,
+    merge: MergeUnbounded<KitStream>,
 }
 
 impl Model for KitMerge {
@@ -150,7 +209,7 @@ impl Subject for KitMerge {
 /// Begins a merge without a limit of the streams of the line.
 pub fn run_merge(session: &mut Session, ids: &[usize], lines: &[&str]) -> Result<usize, NewFault> {
     let streams: Vec<KitStream> = new_values(&session.world, ids);
-    let merge = growing_foreign_merge(session.options.alloc, streams)?;
+    let merge = merge_unbounded(session.options.alloc, streams)?;
     run_made(session, Ok(KitMerge { merge }), lines)
 }
 
@@ -158,7 +217,7 @@ pub fn run_merge(session: &mut Session, ids: &[usize], lines: &[&str]) -> Result
 /// there.
 #[derive(Drop)]
 struct KitBuffer {
-    buffer: Option<ForeignBufferedOrdered<FutureSource<KitFuture>>>,
+    buffer: Option<BufferedOrdered<FutureSource<KitFuture>>>,
 }
 
 impl Model for KitBuffer {
@@ -169,7 +228,7 @@ impl Model for KitBuffer {
     ghost view = { λ _. tt };
 
     ghost invariant = { λ b. IfSome b.buffer
-        ⟦<ForeignBufferedOrdered<FutureSource<KitFuture>> as Stream>⟧.can_poll };
+        ⟦<BufferedOrdered<FutureSource<KitFuture>> as Stream>⟧.can_poll };
 }
 
 impl Subject for KitBuffer {
@@ -200,60 +259,6 @@ pub fn run_buffer(
     }
     let (alloc, hint) = (session.options.alloc, session.options.hint);
     let source: FutureSource<KitFuture> = FutureSource::new(&session.world, hint)?;
-    let buffer = Some(source.foreign_buffered_ordered(alloc, n)?);
+    let buffer = Some(source.buffered_ordered(alloc, n)?);
     run_made(session, Ok(KitBuffer { buffer }), lines)
-}
-
-/// A source, and those that were made beside it.
-#[derive(Drop)]
-struct Sources {
-    source: Driven<KitFuture>,
-    beside: Vec<Driven<KitFuture>>,
-}
-
-impl Sources {
-    fn make_sibling(&mut self, alloc: Global, slots: usize) -> Result<(), NewFault> {
-        let source = self.source.make_sibling(alloc, slots)?;
-        match self.beside.push(source) {
-            Ok(()) => Ok(()),
-            Err(_) => Err(NewFault::Memory),
-        }
-    }
-}
-
-impl Subject for Sources {
-    fn poll(&mut self, _cx: &mut Context<'_>, _outputs: &mut Vec<u64>) -> Answer {
-        Answer::Nothing
-    }
-
-    fn call(&mut self, call: Call<'_>, world: &SharedWorld, text: &mut String) -> Reply {
-        match call {
-            Call::Beside(slots) => match self.make_sibling(world.alloc, slots) {
-                Ok(()) => Reply::Ok,
-                Err(NewFault::TooLarge) => Reply::Full,
-                Err(NewFault::Memory) => Reply::Refused,
-            },
-            Call::Ask(Query::Capacity) => Reply::Number(self.source.capacity()),
-            Call::Ask(Query::Debug) => of_debug(write!(text, "{:?}", self.source)),
-            _ => Reply::Nothing,
-        }
-    }
-}
-
-fn new_sources(alloc: Global, slots: usize) -> Result<Sources, NewFault> {
-    Ok(Sources {
-        source: Driven::make(&(), alloc, slots)?,
-        beside: Vec::new(alloc),
-    })
-}
-
-/// Begins a source of as many slots as the line says, which no set has.
-pub fn run_source(
-    session: &mut Session,
-    numbers: &[usize],
-    lines: &[&str],
-) -> Result<usize, NewFault> {
-    let slots = numbers.first().copied().unwrap_or(0);
-    let made = new_sources(session.options.alloc, slots);
-    run_made(session, made, lines)
 }

@@ -39,12 +39,11 @@ pub fn run_kind(
         Kind::TryBufferedOrdered => run_try_ordered_buffer(session, numbers, lines),
         Kind::ForEach => run_for_each(session, numbers, lines),
         Kind::TryForEach => run_try_for_each(session, numbers, lines),
-        Kind::ForeignSet => foreigns::run_set(session, numbers, lines),
-        Kind::ForeignQueue => foreigns::run_queue(session, numbers, lines),
+        Kind::InFlight => foreigns::run_set(session, numbers, lines),
+        Kind::InFlightOrdered => foreigns::run_queue(session, numbers, lines),
         Kind::ForeignJoin => foreigns::run_join(session, numbers, lines),
         Kind::ForeignTryJoin => foreigns::run_try_join(session, numbers, lines),
         Kind::ForeignMerge => foreigns::run_merge(session, numbers, lines),
         Kind::ForeignBufferedOrdered => foreigns::run_buffer(session, numbers, lines),
-        Kind::ForeignSource => foreigns::run_source(session, numbers, lines),
     }
 }

@@ -43,7 +43,6 @@ impl Session {
             Command::Drain => self.drain(object, rest),
             Command::Push(end) => self.push(object, end, rest),
             Command::Extend => self.extend(object, rest),
-            Command::Beside => self.make_sibling(object, rest),
             Command::Clear => self.clear(object),
             Command::Ask(query) => self.query(object, query),
             Command::Drop => self.append_drop(),

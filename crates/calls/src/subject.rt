@@ -11,8 +11,6 @@ pub enum Call<'a> {
     Push(End, usize),
     /// To take those with these numbers.
     Extend(&'a [usize]),
-    /// To have a source of so many slots beside its own, which it keeps.
-    Beside(usize),
     /// To drop what it holds.
     Clear,
     Ask(Query),

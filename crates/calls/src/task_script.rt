@@ -1,4 +1,4 @@
-//! Scripts that are polled with a task's context, and what sets over `Driven` hold: futures and streams of the kit.
+//! Scripts that are polled with a task's context: futures and streams of the kit.
 ghost use Rattle.std.specs.Prelude.{◌≡◌};
 ghost use Rattle.futures.specs.Task.{IsArmed, Keeps};
 ghost use Rattle.futures.specs.Poll.{OnPending};
@@ -8,7 +8,6 @@ use crate::step::Action;
 use crate::values::{Output, Scripted};
 use futures::task::{Context, Poll, Source};
 use futures::{Future, Stream};
-use futures_buffered_held::Foreign;
 
 /// A script that is polled with a task's context.
 #[derive(Drop)]
@@ -95,12 +94,6 @@ impl Future for KitFuture {
 impl Scripted for KitFuture {
     fn new(script: Script) -> KitFuture {
         KitFuture(TaskScript::new(script))
-    }
-}
-
-impl Scripted for Foreign<KitFuture> {
-    fn new(script: Script) -> Foreign<KitFuture> {
-        Foreign::new(KitFuture::new(script))
     }
 }
 

@@ -1,30 +1,20 @@
 //! Adaptors of a stream of futures, as methods of the stream.
 //!
-//! Each stands on its type's `over`, with a shared source, so that what it holds is woken from any thread; or, where
-//! its name begins with `foreign`, holds the kit's futures in plain sight, in an `InFlightQueue` or an
-//! `InFlightOrdered`.
-ghost use Rattle.std.specs.Prelude.{◌<◌, IfOk};
+//! Each stands on its type's `over`, with a shared source, so that what it holds is woken from any thread.
+ghost use Rattle.std.specs.Prelude.{◌<◌};
 ghost use Rattle.futures_buffered_core.specs.Made.{MakesSlots};
 ghost use Rattle.futures_buffered_core.specs.ReadyShared.{IsNewShared};
-ghost use Rattle.futures_buffered_in_flight.specs.InFlightOrdered.{CanPollOrdered, IsNewInOrder};
-ghost use Rattle.futures_buffered_in_flight.specs.InFlightQueue.{CanPollQueue, IsNewQueued};
 ghost use Rattle.futures_buffered.specs.Buffer.{IsNewBuffer};
-ghost use Rattle.futures_buffered.specs.Drain.{HoldsPollable, IsNewDrain};
 ghost use Rattle.futures_buffered.specs.ForEachConcurrent.{IsNewForEach};
 ghost use Rattle.futures_buffered_unordered.specs.FuturesUnorderedBounded.{IsNewSet};
 ghost use Rattle.futures_buffered_ordered.specs.FuturesOrderedBounded.{IsNewBoundedQueue};
 
-use crate::buffer::Buffer;
 pub use crate::buffer_unordered::BufferUnordered;
 pub use crate::buffered_ordered::BufferedOrdered;
-use crate::drain::Drain;
-pub use crate::for_each_concurrent::{ForEachConcurrent, ForeignForEachConcurrent};
-pub use crate::in_flight::{ForeignBufferUnordered, ForeignBufferedOrdered};
-use futures::stream::StreamExt;
-use futures::{Future, Stream};
+pub use crate::for_each_concurrent::ForEachConcurrent;
+use futures::Stream;
 use futures_buffered_core::ready_core::NewFault;
 use futures_buffered_core::ready_shared::{SharedReady, SharedWaker};
-use futures_buffered_in_flight::{InFlightOrdered, InFlightQueue};
 use futures_buffered_unordered::SlotFuture;
 use futures_buffered_unordered::futures_unordered_bounded::POLL_LIMIT;
 use std::alloc::Global;
@@ -64,48 +54,6 @@ pub trait BufferedStreamExt: Stream + Sized {
         BufferUnordered::over(&(), alloc, self, n)
     }
 
-    /// As `buffered_ordered`, of a stream of futures of the kit, which stand in a queue of their own. A future may
-    /// contain closures.
-    ///
-    /// Takes time and memory in proportion to `n`. It refuses as `buffered_ordered` does. A poll takes the memory that
-    /// the kit's set takes for each future, and does without where that is refused: the future waits, and the task is
-    /// woken.
-    final fn foreign_buffered_ordered(
-        self,
-        alloc: Global,
-        n: usize,
-    ) -> Result<ForeignBufferedOrdered<Self>, NewFault>
-    where
-        Self::Item: Future<Output: Drop>,
-        requires { 0 < n }
-        ensures made { MakesSlots n (IsNewBuffer (IsNewInOrder n) self) result }
-        ensures held { IfOk result (λ b. CanPollOrdered Self.Item.Future b.queue) }
-    {
-        let queue = InFlightOrdered::new(alloc, n)?;
-        Ok(Buffer::with_queue(self, queue))
-    }
-
-    /// As `buffered_unordered`, of a stream of futures of the kit, which stand in a set of their own. A future may
-    /// contain closures.
-    ///
-    /// Takes time and memory in proportion to `n`. It refuses as `buffered_unordered` does. A poll takes the memory
-    /// that the kit's set takes for each future, and does without where that is refused: the future waits, and the task
-    /// is woken.
-    final fn foreign_buffered_unordered(
-        self,
-        alloc: Global,
-        n: usize,
-    ) -> Result<ForeignBufferUnordered<Self>, NewFault>
-    where
-        Self::Item: Future<Output: Drop>,
-        requires { 0 < n }
-        ensures made { MakesSlots n (IsNewBuffer (IsNewQueued n) self) result }
-        ensures held { IfOk result (λ b. CanPollQueue Self.Item.Future b.queue) }
-    {
-        let queue = InFlightQueue::new(alloc, n)?;
-        Ok(Buffer::with_queue(self, queue))
-    }
-
     /// Calls `f` with each item of this stream, once and in order, and runs the futures that it makes, at most `limit`
     /// at a time. Nothing is polled.
     ///
@@ -126,30 +74,6 @@ pub trait BufferedStreamExt: Stream + Sized {
         ensures { MakesSlots limit (IsNewForEach (IsNewSet IsNewShared limit POLL_LIMIT) self f) result }
     {
         ForEachConcurrent::over(&(), alloc, self, limit, f)
-    }
-
-    /// As `for_each_concurrent`, where `f` makes futures of the kit, which stand in a set of their own. A future may
-    /// contain closures.
-    ///
-    /// Takes time and memory in proportion to `limit`. It refuses as `for_each_concurrent` does. A poll takes the
-    /// memory that the kit's set takes for each future, and does without where that is refused: the future waits, and
-    /// the task is woken.
-    final fn foreign_for_each_concurrent<Fut, F>(
-        self,
-        alloc: Global,
-        limit: usize,
-        f: F,
-    ) -> Result<ForeignForEachConcurrent<Self, F, Fut>, NewFault>
-    where
-        F: FnMut(Self::Item) -> Fut + Drop,
-        Fut: Future<Output = ()>,
-        requires { 0 < limit }
-        ensures made { MakesSlots limit (IsNewDrain (IsNewQueued limit) POLL_LIMIT
-            (record { stream = self; f = f })) result }
-        ensures held { IfOk result (HoldsPollable Fut.Future) }
-    {
-        let queue = InFlightQueue::new(alloc, limit)?;
-        Ok(Drain::over_buffer(Buffer::with_queue(self.map(f), queue), POLL_LIMIT))
     }
 }
 

@@ -7,14 +7,11 @@ ghost use Rattle.futures_buffered.specs.ForEachConcurrent.{IsNewForEach, CanForE
 ghost use Rattle.futures_buffered.specs.ForEachConcurrent.{DrawLeaves, DrawLeavesTask};
 ghost use Rattle.futures_buffered.specs.ForEachConcurrent.{ForEachGives, ForEachWaitsAt, PollsForEach};
 
-use crate::drain::Drain;
-use futures::stream::Map;
 use futures::task::{Context, Poll};
 use futures::{Future, Stream};
 use futures_buffered_core::ready_core::NewFault;
 use futures_buffered_core::ready_shared::SharedReady;
 use futures_buffered_core::ready_source::{NewSource, ReadySource};
-use futures_buffered_in_flight::InFlightQueue;
 use futures_buffered_unordered::futures_unordered_bounded::{FuturesUnorderedBounded, POLL_LIMIT};
 use futures_buffered_unordered::{FusedFuture, SlotFuture};
 use std::alloc::Global;
@@ -51,12 +48,6 @@ impl<St: Drop, F: Drop, Fut: Drop, S: ReadySource> Model for ForEachConcurrent<S
 
     ghost invariant = { λ s. (0 < slots_in s.queue) × (1 ≤ s.queue.limit) };
 }
-
-/// Gives each item of a stream to a closure, once and in order, and runs the futures of the kit that it makes, in plain
-/// sight, at most as many at a time as its queue has room for.
-///
-/// The stream with the closure is the kit's `Map`. A `Buffer` draws from it, and a `Drain` polls that to its end.
-pub type ForeignForEachConcurrent<St, F, Fut> = Drain<Map<St, F>, InFlightQueue<Fut>>;
 
 impl<St: Drop, F: Drop, Fut: Drop, S: ReadySource> ForEachConcurrent<St, F, Fut, S> {
     /// Over this stream and closure, with at most `n` futures at a time and a source made for them. Nothing is polled.

@@ -1,122 +1,59 @@
-//! Futures of the kit in plain sight, as what a buffer holds.
-ghost use Rattle.futures_buffered_in_flight.specs.InFlightOrdered.{CanPollOrdered, ComesOfEach, OrderedWaitsAt};
-ghost use Rattle.futures_buffered_in_flight.specs.InFlightOrdered.{PollsInTurn, PushesBack};
-ghost use Rattle.futures_buffered_in_flight.specs.InFlight.{FlightsWaitAt};
-ghost use Rattle.futures_buffered_in_flight.specs.InFlightQueue.{CanPollQueue, ComesFromQueue};
-ghost use Rattle.futures_buffered_in_flight.specs.InFlightQueue.{PollsQueued, PushesQueued, queued_count, queued_room};
-ghost use Rattle.futures_buffered.specs.FutureQueue.{OnlyPushes};
-
+//! The sets, queues, joins, merges and adaptors of this library for the kit's futures and streams, under the names that
+//! those of slots have.
+//!
+//! What clients wait for are futures of the kit: sockets, timers, requests. So most programs write
+//! `use futures_buffered::in_flight::BufferedStreamExt;`, and then `stream.buffered_ordered(alloc, n)`. Each type holds
+//! such futures as they are, in the kit's own set, so a future may contain closures.
+//!
+//! - `buffered`, `try_buffered`: `BufferedStreamExt` and `BufferedTryStreamExt`, the adaptors as methods of a stream.
+//! - `iter_ext`: `IterExt`, sets, queues, joins and merges as methods of what gives the items.
+//! - `queues`: the queues of the crate below, as what a buffer holds.
 use crate::buffer::Buffer;
-use crate::future_queue::FutureQueue;
-use crate::try_buffer::TryBuffer;
-use futures::task::{Context, Poll};
+use crate::drain::Drain;
+use crate::try_buffer::{TryBuffer, TryQueue};
+use futures::stream::{Map, MapOk};
 use futures::{Future, Stream};
 use futures_buffered_in_flight::{InFlightOrdered, InFlightQueue};
 
-impl<F: Future<Output: Drop>> FutureQueue<F> for InFlightQueue<F> {
-    ghost use Rattle.std.specs.Prelude.{false};
+pub mod buffered;
+pub mod iter_ext;
+mod queues;
+pub mod try_buffered;
 
-    type Output = F::Output;
+pub use buffered::BufferedStreamExt;
+pub use futures_buffered_in_flight::{
+    Came, InFlight as FuturesUnorderedBounded, Kept, Key, Waiting,
+};
+pub use futures_buffered_joins::in_flight_join::{JoinAll, TryJoinAll, join_all, try_join_all};
+pub use futures_buffered_merges::WaitingMerge;
+pub use futures_buffered_merges::in_flight_merge::{
+    MergeBounded, MergeUnbounded, merge, merge_unbounded,
+};
+pub use iter_ext::IterExt;
+pub use try_buffered::BufferedTryStreamExt;
 
-    ghost count = { queued_count };
-
-    ghost room = { queued_room };
-
-    ghost pushes = { OnlyPushes (PushesQueued F.Future) };
-
-    ghost polls = { PollsQueued F.Future };
-
-    ghost is_fit = { F.can_poll };
-
-    ghost can_poll = { CanPollQueue F.Future };
-
-    ghost gives = { F.gives };
-
-    ghost yields = { ComesFromQueue F.Future };
-
-    ghost in_order = { false };
-
-    ghost needs = { λ q. FlightsWaitAt q.set };
-
-    fn len(&self) -> usize {
-        InFlightQueue::len(self)
-    }
-
-    fn capacity(&self) -> usize {
-        InFlightQueue::capacity(self)
-    }
-
-    #[tactic(auto, using(crate::proofs::InFlightLemmas::push_leaves, crate::proofs::InFlightLemmas::push_adds))]
-    fn push(&mut self, future: F) -> Option<F::Output> {
-        InFlightQueue::push(self, future);
-        None
-    }
-
-    fn poll_output(&mut self, cx: &mut Context<'_>) -> Poll<Option<F::Output>> {
-        InFlightQueue::poll_output(self, cx)
-    }
-}
-
-impl<F: Future<Output = A>, A: Drop> FutureQueue<F> for InFlightOrdered<F, A> {
-    ghost use Rattle.std.specs.Prelude.{true, length};
-
-    type Output = A;
-
-    ghost count = { λ q. length q.entries };
-
-    ghost room = { λ q. queued_room q.set };
-
-    ghost pushes = { OnlyPushes (PushesBack F.Future) };
-
-    ghost polls = { PollsInTurn F.Future };
-
-    ghost is_fit = { F.can_poll };
-
-    ghost can_poll = { CanPollOrdered F.Future };
-
-    ghost gives = { F.gives };
-
-    ghost yields = { ComesOfEach F.Future };
-
-    ghost in_order = { true };
-
-    ghost needs = { OrderedWaitsAt };
-
-    fn len(&self) -> usize {
-        InFlightOrdered::len(self)
-    }
-
-    fn capacity(&self) -> usize {
-        InFlightOrdered::capacity(self)
-    }
-
-    #[tactic(auto, using(crate::proofs::InFlightLemmas::push_leaves_ordered, crate::proofs::InFlightLemmas::push_adds_ordered))]
-    fn push(&mut self, future: F) -> Option<A> {
-        InFlightOrdered::push_back(self, future);
-        None
-    }
-
-    fn poll_output(&mut self, cx: &mut Context<'_>) -> Poll<Option<A>> {
-        InFlightOrdered::poll_output(self, cx)
-    }
-}
+/// Futures of the kit, at most as many at a time as there is room for, whose outputs come in the order of the pushes.
+pub type FuturesOrderedBounded<F> = InFlightOrdered<F, <F as Future>::Output>;
 
 /// Futures of the kit of a stream, at most as many at a time as its queue has room for, whose outputs come as they
 /// finish.
-pub type ForeignBufferUnordered<St> = Buffer<St, InFlightQueue<<St as Stream>::Item>>;
+pub type BufferUnordered<St> = Buffer<St, InFlightQueue<<St as Stream>::Item>>;
 
 /// The same of a stream that gives errors as well.
-pub type ForeignTryBufferUnordered<St, F> = TryBuffer<St, InFlightQueue<F>>;
+pub type TryBufferUnordered<St, F> = TryBuffer<St, InFlightQueue<F>>;
 
 /// Futures of the kit of a stream, whose outputs come in the order in which the stream gave the futures. At most as
 /// many as its queue has room for are held at a time, where an output that waits for its turn counts as held.
-pub type ForeignBufferedOrdered<St> = Buffer<
-    St,
-    InFlightOrdered<<St as Stream>::Item, <<St as Stream>::Item as Future>::Output>,
->;
+pub type BufferedOrdered<St> = Buffer<St, FuturesOrderedBounded<<St as Stream>::Item>>;
 
 /// The same of a stream that gives errors as well. An error comes as soon as it is met, before what is held.
-pub type ForeignTryBufferedOrdered<St, F> = TryBuffer<
-    St,
-    InFlightOrdered<F, <F as Future>::Output>,
->;
+pub type TryBufferedOrdered<St, F> = TryBuffer<St, FuturesOrderedBounded<F>>;
+
+/// Gives each item of a stream to a closure, once and in order, and runs the futures of the kit that it makes, in plain
+/// sight, at most as many at a time as its queue has room for.
+///
+/// The stream with the closure is the kit's `Map`. A `Buffer` draws from it, and a `Drain` polls that to its end.
+pub type ForEachConcurrent<St, F, Fut> = Drain<Map<St, F>, InFlightQueue<Fut>>;
+
+/// The same of a stream that gives errors as well, up to the first error.
+pub type TryForEachConcurrent<St, F, Fut> = Drain<MapOk<St, F>, TryQueue<InFlightQueue<Fut>>>;

@@ -35,7 +35,7 @@ pub mod drain;
 pub mod drain_output;
 pub mod for_each_concurrent;
 pub mod future_queue;
-mod in_flight;
+pub mod in_flight;
 pub mod iter_ext;
 pub mod try_buffer;
 pub mod try_buffer_unordered;
@@ -49,7 +49,7 @@ pub use buffered::BufferedStreamExt;
 pub use buffered_ordered::{BufferedOrdered, OrderedQueue};
 pub use drain::Drain;
 pub use drain_output::DrainOutput;
-pub use for_each_concurrent::{ForEachConcurrent, ForeignForEachConcurrent};
+pub use for_each_concurrent::ForEachConcurrent;
 pub use future_queue::{FutureQueue, NewQueue};
 pub use futures_buffered_core::core_source::CoreSource;
 pub use futures_buffered_core::ready_core::{
@@ -62,26 +62,12 @@ pub use futures_buffered_core::slot_map::PinSlotMap;
 pub use futures_buffered_core::{
     core_source, ready_core, ready_shared, ready_source, ready_table, script_source, slot_map,
 };
-pub use futures_buffered_held::{
-    Driven, Either, Foreign, ForeignQueue, ForeignSet, ForeignStream, GrowingForeignQueue,
-    GrowingForeignSet, driven, foreign, foreign_queue, foreign_set, foreign_sets, foreign_stream,
-    future, growing_foreign_queue, growing_foreign_set, mailbox, oneshot, spsc, stream,
-};
+pub use futures_buffered_held::{Either, future, oneshot, spsc, stream};
 pub use futures_buffered_in_flight::{
-    Came, InFlight, InFlightOrdered, InFlightQueue, Key, Waiting,
+    Came, InFlight, InFlightOrdered, InFlightQueue, Kept, Key, Waiting,
 };
 pub use futures_buffered_joins::in_flight_join;
-pub use futures_buffered_joins::in_flight_join::{
-    ForeignJoin, ForeignTryJoin, foreign_join_all, foreign_try_join_all,
-};
-pub use futures_buffered_merges::{
-    ForeignMerge, GrowingForeignMerge, InFlightMerge, WaitingMerge, foreign_merge,
-    growing_foreign_merge,
-};
-pub use in_flight::{
-    ForeignBufferUnordered, ForeignBufferedOrdered, ForeignTryBufferUnordered,
-    ForeignTryBufferedOrdered,
-};
+pub use futures_buffered_merges::{InFlightMerge, WaitingMerge};
 // Sets, queues, joins and merges.
 pub use futures_buffered_sets::{
     FusedFuture, FusedStream, FuturesOrdered, FuturesOrderedBounded, FuturesUnordered,

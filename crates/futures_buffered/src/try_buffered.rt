@@ -1,30 +1,21 @@
 //! Adaptors of a stream of futures and errors, as methods of the stream.
 //!
-//! Each stands on its type's `over`, with a shared source, so that what it holds is woken from any thread; or, where
-//! its name begins with `foreign`, holds the kit's futures in plain sight, in an `InFlightQueue` or an
-//! `InFlightOrdered`.
+//! Each stands on its type's `over`, with a shared source, so that what it holds is woken from any thread.
 ghost use Rattle.futures_buffered_unordered.specs.FuturesUnorderedBounded.{IsNewSet};
-ghost use Rattle.std.specs.Prelude.{◌<◌, IfOk};
+ghost use Rattle.std.specs.Prelude.{◌<◌};
 ghost use Rattle.futures_buffered_core.specs.Made.{MakesSlots};
 ghost use Rattle.futures_buffered_core.specs.ReadyShared.{IsNewShared};
-ghost use Rattle.futures_buffered_in_flight.specs.InFlightOrdered.{CanPollOrdered, IsNewInOrder};
-ghost use Rattle.futures_buffered_in_flight.specs.InFlightQueue.{CanPollQueue, IsNewQueued};
 ghost use Rattle.futures_buffered.specs.Buffer.{IsNewBuffer};
-ghost use Rattle.futures_buffered.specs.Drain.{HoldsPollable, IsNewDrain};
+ghost use Rattle.futures_buffered.specs.Drain.{IsNewDrain};
 ghost use Rattle.futures_buffered_ordered.specs.FuturesOrderedBounded.{IsNewBoundedQueue};
 
-use crate::buffer::Buffer;
-use crate::drain::Drain;
-pub use crate::in_flight::{ForeignTryBufferUnordered, ForeignTryBufferedOrdered};
-use crate::try_buffer::TryQueue;
 pub use crate::try_buffer_unordered::TryBufferUnordered;
 pub use crate::try_buffered_ordered::TryBufferedOrdered;
-pub use crate::try_for_each_concurrent::{ForeignTryForEachConcurrent, TryForEachConcurrent};
+pub use crate::try_for_each_concurrent::TryForEachConcurrent;
+use futures::Stream;
 use futures::stream::TryStreamExt;
-use futures::{Future, Stream};
 use futures_buffered_core::ready_core::NewFault;
 use futures_buffered_core::ready_shared::{SharedReady, SharedWaker};
-use futures_buffered_in_flight::{InFlightOrdered, InFlightQueue};
 use futures_buffered_unordered::SlotFuture;
 use futures_buffered_unordered::futures_unordered_bounded::POLL_LIMIT;
 use std::alloc::Global;
@@ -69,54 +60,6 @@ pub trait BufferedTryStreamExt: Stream + Sized {
         TryBufferUnordered::over(&(), alloc, self, n)
     }
 
-    /// As `try_buffered_ordered`, of a stream of futures of the kit and errors. The futures stand in a queue of their
-    /// own, and may contain closures.
-    ///
-    /// Takes time and memory in proportion to `n`. It refuses as `try_buffered_ordered` does. A poll takes the memory
-    /// that the kit's set takes for each future, and does without where that is refused: the future waits, and the task
-    /// is woken.
-    final fn foreign_try_buffered_ordered<F, T, E>(
-        self,
-        alloc: Global,
-        n: usize,
-    ) -> Result<ForeignTryBufferedOrdered<Self, F>, NewFault>
-    where
-        Self: Stream<Item = Result<F, E>>,
-        F: Future<Output = Result<T, E>>,
-        T: Drop,
-        E: Drop,
-        requires { 0 < n }
-        ensures made { MakesSlots n (IsNewBuffer (IsNewInOrder n) self) result }
-        ensures held { IfOk result (λ b. CanPollOrdered F.Future b.queue) }
-    {
-        let queue = InFlightOrdered::new(alloc, n)?;
-        Ok(Buffer::with_queue(self, TryQueue::over(queue)))
-    }
-
-    /// As `try_buffered_unordered`, of a stream of futures of the kit and errors. The futures stand in a set of their
-    /// own, and may contain closures.
-    ///
-    /// Takes time and memory in proportion to `n`. It refuses as `try_buffered_unordered` does. A poll takes the memory
-    /// that the kit's set takes for each future, and does without where that is refused: the future waits, and the task
-    /// is woken.
-    final fn foreign_try_buffered_unordered<F, T, E>(
-        self,
-        alloc: Global,
-        n: usize,
-    ) -> Result<ForeignTryBufferUnordered<Self, F>, NewFault>
-    where
-        Self: Stream<Item = Result<F, E>>,
-        F: Future<Output = Result<T, E>>,
-        T: Drop,
-        E: Drop,
-        requires { 0 < n }
-        ensures made { MakesSlots n (IsNewBuffer (IsNewQueued n) self) result }
-        ensures held { IfOk result (λ b. CanPollQueue F.Future b.queue) }
-    {
-        let queue = InFlightQueue::new(alloc, n)?;
-        Ok(Buffer::with_queue(self, TryQueue::over(queue)))
-    }
-
     /// Calls `f` with each `Ok` item of this stream, once and in order, and runs the futures that it makes, at most
     /// `limit` at a time, up to the first error, of the stream or of a future. Nothing is polled.
     ///
@@ -140,32 +83,6 @@ pub trait BufferedTryStreamExt: Stream + Sized {
             (record { stream = self; f = f })) result }
     {
         TryForEachConcurrent::over(&(), alloc, self.map_ok(f), limit)
-    }
-
-    /// As `try_for_each_concurrent`, where `f` makes futures of the kit, which stand in a set of their own. A future
-    /// may contain closures.
-    ///
-    /// Takes time and memory in proportion to `limit`. It refuses as `try_for_each_concurrent` does. A poll takes the
-    /// memory that the kit's set takes for each future, and does without where that is refused: the future waits, and
-    /// the task is woken.
-    final fn foreign_try_for_each_concurrent<T, E, Fut, F>(
-        self,
-        alloc: Global,
-        limit: usize,
-        f: F,
-    ) -> Result<ForeignTryForEachConcurrent<Self, F, Fut>, NewFault>
-    where
-        Self: Stream<Item = Result<T, E>>,
-        E: Drop,
-        F: FnMut(T) -> Fut + Drop,
-        Fut: Future<Output = Result<(), E>>,
-        requires { 0 < limit }
-        ensures made { MakesSlots limit (IsNewDrain (IsNewQueued limit) POLL_LIMIT
-            (record { stream = self; f = f })) result }
-        ensures held { IfOk result (HoldsPollable Fut.Future) }
-    {
-        let queue = TryQueue::over(InFlightQueue::new(alloc, limit)?);
-        Ok(Drain::over_buffer(Buffer::with_queue(self.map_ok(f), queue), POLL_LIMIT))
     }
 }
 

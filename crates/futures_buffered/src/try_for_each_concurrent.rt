@@ -7,7 +7,6 @@ use crate::buffer_unordered::CompletionQueue;
 use crate::drain::Drain;
 use crate::try_buffer::TryQueue;
 use futures::stream::MapOk;
-use futures_buffered_in_flight::InFlightQueue;
 
 /// Polls a buffer that gives `Ok(())` and errors, to its end or to the first error.
 pub type TryDrain<St, Q> = Drain<St, Q>;
@@ -17,10 +16,4 @@ pub type TryDrain<St, Q> = Drain<St, Q>;
 pub type TryForEachConcurrent<St, F, Fut, S> = TryDrain<
     MapOk<St, F>,
     TryQueue<CompletionQueue<Fut, S>>,
->;
-
-/// The same of futures of the kit, in plain sight, at most as many at a time as its queue has room for.
-pub type ForeignTryForEachConcurrent<St, F, Fut> = TryDrain<
-    MapOk<St, F>,
-    TryQueue<InFlightQueue<Fut>>,
 >;

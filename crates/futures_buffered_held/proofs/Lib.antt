@@ -1,3 +1,2 @@
-pub mod MailboxLemmas
 pub mod OneshotPlaceLemmas
 pub mod SpscLemmas

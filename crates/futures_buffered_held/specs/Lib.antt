@@ -4,9 +4,6 @@ pub mod Map
 pub mod Either
 pub mod Iter
 pub mod Then
-pub mod Given
-pub mod Mailbox
-pub mod Driven
 pub mod OneshotPlace
 pub mod Oneshot
 pub mod Spsc

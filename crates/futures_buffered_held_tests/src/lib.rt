@@ -1,17 +1,14 @@
-//! Tests of what a slot can hold, by public calls alone: the futures and streams that come with the library, and those
-//! of the kit. No crate stands on this one.
+//! Tests of what a slot can hold, by public calls alone: the futures and streams that come with the library. No crate
+//! stands on this one.
 //!
 //! - `values`: values, closures, one of two, and the items of an iterator.
 //! - `oneshots`: what a one-shot answers, whom it wakes, and what is dropped.
 //! - `oneshot_threads`, `oneshot_rounds`: one-shots that are sent from threads, and a send and a poll that meet in one
 //!   round after another.
 //! - `spsc`, `spsc_threads`: channels from one sender, also where that is on a thread.
-//! - `driven`: futures of the kit.
 //! - `rounds`, `same`: rounds in which a thread acts, what a source names, and assertions as calls.
 #![tactic(auto)]
 
-#[cfg(test)]
-mod driven;
 #[cfg(test)]
 mod oneshot_rounds;
 #[cfg(test)]

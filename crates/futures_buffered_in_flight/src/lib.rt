@@ -9,6 +9,7 @@
 //! - `in_flight_queue`: `InFlightQueue`, the set as what an adaptor holds: a push never hands a future back.
 //! - `in_flight_ordered`: `InFlightOrdered`, a queue with pushes at both ends, whose outputs come from the front;
 //!   `in_flight_ordered_stream` is the same queue as a stream.
+//! - `kept`: `Kept`, which keeps that a set or a queue may be polled, for loops by hand.
 //! - `waiting`: `Waiting`, which holds a set or an ordered queue while a task waits for its next output, and gives it
 //!   back.
 #![tactic(auto)]
@@ -18,11 +19,13 @@ pub mod in_flight_ordered;
 mod in_flight_ordered_stream;
 pub mod in_flight_queue;
 mod in_flight_stream;
+pub mod kept;
 pub mod run;
 pub mod waiting;
 
 pub use in_flight::{Came, InFlight};
 pub use in_flight_ordered::InFlightOrdered;
 pub use in_flight_queue::InFlightQueue;
+pub use kept::Kept;
 pub use run::Key;
 pub use waiting::Waiting;

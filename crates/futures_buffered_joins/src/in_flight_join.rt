@@ -46,10 +46,10 @@ impl<R, F, A> Model for InFlightJoin<R, F, A> {
 }
 
 /// A join of the kit's futures.
-pub type ForeignJoin<F> = InFlightJoin<AllOutputs, F, <F as Future>::Output>;
+pub type JoinAll<F> = InFlightJoin<AllOutputs, F, <F as Future>::Output>;
 
 /// A join of the kit's futures that may fail.
-pub type ForeignTryJoin<F> = InFlightJoin<UntilError, F, <<F as Future>::Output as TryOutput>::Ok>;
+pub type TryJoinAll<F> = InFlightJoin<UntilError, F, <<F as Future>::Output as TryOutput>::Ok>;
 
 impl<R, F, A> InFlightJoin<R, F, A>
 where
@@ -155,24 +155,21 @@ where
 
 /// A join of these futures of the kit, in their order, which is ready with all outputs. It is `InFlightJoin::over`, and
 /// refuses as that does.
-pub fn foreign_join_all<I: IntoIterator<Item: Future<Output: Drop>>>(
+pub fn join_all<I: IntoIterator<Item: Future<Output: Drop>>>(
     alloc: Global,
     iter: I,
-) -> Result<ForeignJoin<I::Item>, NewFault>
+) -> Result<JoinAll<I::Item>, NewFault>
     requires finite { IsFiniteSource (items_of I.IntoIterator I.IntoIter.Iterator iter) }
     requires fit { EachDrawn (items_of I.IntoIterator I.IntoIter.Iterator iter) I.Item.can_poll }
     ensures made { MakesFlying I.Item.Future (items_of I.IntoIterator I.IntoIter.Iterator iter) result }
     ensures can_poll { IfOk result (CanPollFlying I.Item.Future) }
 {
-    ForeignJoin::over(alloc, iter)
+    JoinAll::over(alloc, iter)
 }
 
-/// As `foreign_join_all`, of futures that may fail: it is ready as soon as one gives an error, and drops the others
+/// As `join_all`, of futures that may fail: it is ready as soon as one gives an error, and drops the others
 /// then.
-pub fn foreign_try_join_all<F, A, E, I>(
-    alloc: Global,
-    iter: I,
-) -> Result<ForeignTryJoin<F>, NewFault>
+pub fn try_join_all<F, A, E, I>(alloc: Global, iter: I) -> Result<TryJoinAll<F>, NewFault>
 where
     F: Future<Output = Result<A, E>>,
     A: Drop,
@@ -183,5 +180,5 @@ where
     ensures made { MakesFlying F.Future (items_of I.IntoIterator I.IntoIter.Iterator iter) result }
     ensures can_poll { IfOk result (CanPollFlying F.Future) }
 {
-    ForeignTryJoin::over(alloc, iter)
+    TryJoinAll::over(alloc, iter)
 }

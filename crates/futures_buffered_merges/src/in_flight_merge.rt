@@ -283,20 +283,20 @@ impl<St: Drop> fmt::Debug for InFlightMerge<St> {
     }
 }
 
-/// A merge of streams of the kit, of which `foreign_merge` makes a full one.
-pub type ForeignMerge<St> = InFlightMerge<St>;
+/// A merge of streams of the kit, of which `merge` makes a full one.
+pub type MergeBounded<St> = InFlightMerge<St>;
 
 /// A merge of streams of the kit without a limit.
-pub type GrowingForeignMerge<St> = InFlightMerge<St>;
+pub type MergeUnbounded<St> = InFlightMerge<St>;
 
 /// A merge without a limit, of the streams that this iterator gives, in its order.
 ///
 /// Takes time and memory in proportion to their number. `Memory` where a request for memory was refused, and then the
 /// streams that came are dropped.
-pub fn growing_foreign_merge<St: Stream<Item: Drop>, I: IntoIterator<Item = St>>(
+pub fn merge_unbounded<St: Stream<Item: Drop>, I: IntoIterator<Item = St>>(
     alloc: Global,
     iter: I,
-) -> Result<GrowingForeignMerge<St>, NewFault>
+) -> Result<MergeUnbounded<St>, NewFault>
     requires finite { IsFiniteSource (items_of I.IntoIterator I.IntoIter.Iterator iter) }
     requires each { EachDrawn (items_of I.IntoIterator I.IntoIter.Iterator iter) St.can_poll }
     ensures holds { IfOk result
@@ -310,19 +310,19 @@ pub fn growing_foreign_merge<St: Stream<Item: Drop>, I: IntoIterator<Item = St>>
     }
 }
 
-/// As `growing_foreign_merge`, with room for as many streams as came, so that no further one can be pushed before one
+/// As `merge_unbounded`, with room for as many streams as came, so that no further one can be pushed before one
 /// of them has ended.
-pub fn foreign_merge<St: Stream<Item: Drop>, I: IntoIterator<Item = St>>(
+pub fn merge<St: Stream<Item: Drop>, I: IntoIterator<Item = St>>(
     alloc: Global,
     iter: I,
-) -> Result<ForeignMerge<St>, NewFault>
+) -> Result<MergeBounded<St>, NewFault>
     requires finite { IsFiniteSource (items_of I.IntoIterator I.IntoIter.Iterator iter) }
     requires each { EachDrawn (items_of I.IntoIterator I.IntoIter.Iterator iter) St.can_poll }
     ensures holds { IfOk result
         (HoldsAllOf (items_of I.IntoIterator I.IntoIter.Iterator iter) (HoldsStreams St.Stream)) }
     ensures limit { IfOk result (λ merge. merge.limit ≡ merge.held) }
 {
-    let mut merge = growing_foreign_merge(alloc, iter)?;
+    let mut merge = merge_unbounded(alloc, iter)?;
     merge.limit = merge.held;
     Ok(merge)
 }

@@ -5,7 +5,7 @@ use futures::channel::oneshot::{Canceled, Receiver, Sender, channel};
 use futures::executor::block_on;
 use futures::future::ready;
 use futures::{FutureExt, Stream, StreamExt, TryFutureExt, stream};
-use futures_buffered::{BufferedStreamExt, BufferedTryStreamExt, foreign_try_join_all};
+use futures_buffered::in_flight::{BufferedStreamExt, BufferedTryStreamExt, try_join_all};
 use std::alloc::{AllocError, AllocGlobal, Global};
 use std::random::RandomSource;
 use std::sync::atomic::Ordering::SeqCst;
@@ -71,7 +71,7 @@ where
 #[test]
 fn in_the_order_of_the_stream(rt: HostRuntime) -> Result<(), Fail> {
     let (senders, receivers) = twenty(rt.alloc())?;
-    let outputs = stream::iter(receivers).foreign_buffered_ordered(rt.alloc(), 4)?;
+    let outputs = stream::iter(receivers).buffered_ordered(rt.alloc(), 4)?;
     let all = all_of(&rt, senders, outputs)?;
     assert_same(&rt, (all.len(), are_in_order(&all)), (20, true));
     Ok(())
@@ -80,7 +80,7 @@ fn in_the_order_of_the_stream(rt: HostRuntime) -> Result<(), Fail> {
 #[test]
 fn as_they_finish(rt: HostRuntime) -> Result<(), Fail> {
     let (senders, receivers) = twenty(rt.alloc())?;
-    let outputs = stream::iter(receivers).foreign_buffered_unordered(rt.alloc(), 4)?;
+    let outputs = stream::iter(receivers).buffered_unordered(rt.alloc(), 4)?;
     let all = all_of(&rt, senders, outputs)?;
     assert_same(&rt, (all.len(), sum_of(&all)), (20, 190));
     Ok(())
@@ -90,7 +90,7 @@ fn as_they_finish(rt: HostRuntime) -> Result<(), Fail> {
 fn in_the_order_of_a_stream_that_may_fail(rt: HostRuntime) -> Result<(), Fail> {
     let (senders, receivers) = twenty(rt.alloc())?;
     let jobs = stream::iter(receivers).map(Ok::<_, Canceled>);
-    let outputs = jobs.foreign_try_buffered_ordered(rt.alloc(), 4)?;
+    let outputs = jobs.try_buffered_ordered(rt.alloc(), 4)?;
     let all = all_of(&rt, senders, outputs)?;
     assert_same(&rt, (all.len(), are_in_order(&all)), (20, true));
     Ok(())
@@ -100,7 +100,7 @@ fn in_the_order_of_a_stream_that_may_fail(rt: HostRuntime) -> Result<(), Fail> {
 fn as_those_of_a_stream_that_may_fail_finish(rt: HostRuntime) -> Result<(), Fail> {
     let (senders, receivers) = twenty(rt.alloc())?;
     let jobs = stream::iter(receivers).map(Ok::<_, Canceled>);
-    let outputs = jobs.foreign_try_buffered_unordered(rt.alloc(), 4)?;
+    let outputs = jobs.try_buffered_unordered(rt.alloc(), 4)?;
     let all = all_of(&rt, senders, outputs)?;
     assert_same(&rt, (all.len(), sum_of(&all)), (20, 190));
     Ok(())
@@ -110,10 +110,15 @@ fn as_those_of_a_stream_that_may_fail_finish(rt: HostRuntime) -> Result<(), Fail
 fn for_each_item(rt: HostRuntime) -> Result<(), Fail> {
     let sum = new_counter(rt.alloc())?;
     let added = Arc::try_clone(&sum)?;
-    let all = stream::iter(0..20u64).foreign_for_each_concurrent(rt.alloc(), 4, move |n: u64| {
-        added.fetch_add(n, SeqCst);
-        ready(n).map(|_| ())
-    })?;
+    let all = BufferedStreamExt::for_each_concurrent(
+        stream::iter(0..20u64),
+        rt.alloc(),
+        4,
+        move |n: u64| {
+            added.fetch_add(n, SeqCst);
+            ready(n).map(|_| ())
+        },
+    )?;
     block_on(&rt, all)?;
     assert_same(&rt, sum.load(SeqCst), 190);
     Ok(())
@@ -125,7 +130,7 @@ fn for_each_item_up_to_an_error(rt: HostRuntime) -> Result<(), Fail> {
     let calls = new_counter(rt.alloc())?;
     let counted = Arc::try_clone(&calls)?;
     let numbers = stream::iter(0..100u64).map(Ok::<_, u64>);
-    let all = numbers.foreign_try_for_each_concurrent(rt.alloc(), 4, move |n: u64| {
+    let all = numbers.try_for_each_concurrent(rt.alloc(), 4, move |n: u64| {
         counted.fetch_add(1, SeqCst);
         ready(Ok(n)).and_then(|n| ready(if n == 13 { Err(n) } else { Ok(()) }))
     })?;
@@ -149,7 +154,7 @@ fn sent<R: AllocGlobal>(rt: &R, value: u64) -> Result<Receiver<u64>, AllocError>
 #[test]
 fn a_join_that_may_fail(rt: HostRuntime) -> Result<(), Fail> {
     let receivers = vec![in rt.alloc(); sent(&rt, 4)?, sent(&rt, 5)?]?;
-    let all = block_on(&rt, foreign_try_join_all(rt.alloc(), receivers)?)?;
+    let all = block_on(&rt, try_join_all(rt.alloc(), receivers)?)?;
     let sum = all.map(|all| all.iter().fold(0u64, |sum, one| sum.wrapping_add(*one)));
     assert_same(&rt, sum, Ok(9));
     Ok(())

@@ -7,7 +7,8 @@ use futures::Stream;
 use futures::channel::mpsc::{UnboundedReceiver, UnboundedSender, unbounded};
 use futures::task::{Context, Poll};
 use futures::test::MockTask;
-use futures_buffered::{InFlightMerge, foreign_merge};
+use futures_buffered::InFlightMerge;
+use futures_buffered::in_flight::merge;
 use std::alloc::AllocGlobal;
 use std::process::Abort;
 use std::test::Fail;
@@ -105,7 +106,7 @@ fn a_merge_of_two(rt: HostRuntime) -> Result<(), Fail> {
     let (_first, one) = unbounded::<u64>(rt.alloc())?;
     let (_second, other) = unbounded::<u64>(rt.alloc())?;
     let streams = vec![in rt.alloc(); one, other]?;
-    let mut merge = foreign_merge(rt.alloc(), streams)?;
+    let mut merge = merge(rt.alloc(), streams)?;
     let (_third, went_in) = push(&rt, &mut merge)?;
     assert_same(&rt, (merge.len(), merge.capacity(), went_in), (2, 2, false));
     Ok(())

@@ -3,9 +3,8 @@ use crate::show::{print_all, print_next};
 use futures::channel::mpsc::{TrySendError, UnboundedReceiver, UnboundedSender, unbounded};
 use futures::channel::oneshot::{Canceled, Receiver, channel};
 use futures::executor::block_on;
-use futures::{FutureExt, StreamExt, future, stream};
-use futures_buffered::future::{map, then};
-use futures_buffered::{BufferedStreamExt, Foreign, foreign_join_all, foreign_merge, foreign_set};
+use futures::{FutureExt, StreamExt, stream};
+use futures_buffered::in_flight::{BufferedStreamExt, FuturesUnorderedBounded, IterExt, join_all};
 use std::alloc::{AllocError, AllocGlobal, Global};
 use std::io::Print;
 use std::random::RandomSource;
@@ -16,11 +15,8 @@ where
     R: Wait + RandomSource + AllocGlobal + Print,
 {
     let (sender, receiver) = channel::<u64>(rt.alloc())?;
-    let mut set = foreign_set(rt.alloc(), 8)?;
-    set.push(map(
-        Foreign::new(receiver),
-        |sent: Result<u64, Canceled>| sent.unwrap_or(0),
-    ));
+    let mut set = FuturesUnorderedBounded::new(rt.alloc(), 8)?;
+    let _key = set.try_push(receiver.map(|sent| sent.unwrap_or(0))).ok();
     let _ = sender.send(7);
     print_next(rt, &mut set)
 }
@@ -29,13 +25,14 @@ pub fn one_after_another<R>(rt: &R) -> Result<(), anyhow::Error>
 where
     R: Wait + RandomSource + AllocGlobal + Print,
 {
-    let mut set = foreign_set(rt.alloc(), 8)?;
+    let mut set = FuturesUnorderedBounded::new(rt.alloc(), 8)?;
     let (first, second) = (sent(rt.alloc(), 40)?, sent(rt.alloc(), 2)?);
-    set.push(then(Foreign::new(first), move |one: Result<u64, Canceled>| {
-        map(Foreign::new(second), move |other: Result<u64, Canceled>| {
+    let both = first.then(move |one: Result<u64, Canceled>| {
+        second.map(move |other: Result<u64, Canceled>| {
             other.unwrap_or(0).wrapping_add(one.unwrap_or(0))
         })
-    }));
+    });
+    let _key = set.try_push(both).ok();
     print_next(rt, &mut set)
 }
 
@@ -53,7 +50,7 @@ where
     let alloc = rt.alloc();
     let receivers = vec![in alloc; sent(alloc, 1)?, sent(alloc, 2)?, sent(alloc, 3)?]?;
     let requests = stream::iter(receivers).map(|receiver| receiver.map(|sent| sent.unwrap_or(0)));
-    print_all(rt, requests.foreign_buffered_ordered(alloc, 2)?)
+    print_all(rt, requests.buffered_ordered(alloc, 2)?)
 }
 
 pub fn joined<R>(rt: &R) -> Result<(), anyhow::Error>
@@ -65,22 +62,7 @@ where
     let jobs = receivers
         .into_iter()
         .map(|receiver| receiver.map(|sent| sent.unwrap_or(0)));
-    println!(rt; "{:?}", block_on(rt, foreign_join_all(alloc, jobs)?)?)?;
-    Ok(())
-}
-
-pub fn ended_early<R>(rt: &R) -> Result<(), anyhow::Error>
-where
-    R: Wait + RandomSource + AllocGlobal + Print,
-{
-    let mut set = foreign_set(rt.alloc(), 8)?;
-    let (sender, receiver) = channel::<u64>(rt.alloc())?;
-    let (job, handle) = future::abortable(rt.alloc(), receiver)?;
-    set.push(Foreign::new(job));
-    handle.abort();
-    drop(handle);
-    print_next(rt, &mut set)?;
-    println!(rt; "nobody receives: {}", sender.is_canceled())?;
+    println!(rt; "{:?}", block_on(rt, join_all(alloc, jobs)?)?)?;
     Ok(())
 }
 
@@ -108,7 +90,7 @@ where
         items_of(alloc, &[10])?,
         items_of(alloc, &[20])?,
     ]?;
-    let merge = foreign_merge(alloc, streams)?;
+    let merge = streams.merge(alloc)?;
     let mut items = block_on(rt, merge.collect(alloc))??;
     items.sort_unstable();
     println!(rt; "{items:?}")?;

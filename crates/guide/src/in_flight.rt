@@ -7,7 +7,8 @@ use crate::show::print_all;
 use anyhow::bail;
 use futures::channel::oneshot::{Canceled, channel};
 use futures::{Future, FutureExt, StreamExt, future, stream};
-use futures_buffered::{BufferedStreamExt, InFlight, InFlightOrdered};
+use futures_buffered::in_flight::BufferedStreamExt;
+use futures_buffered::{InFlight, InFlightOrdered};
 use std::alloc::AllocGlobal;
 use std::io::{self, Print};
 use std::random::RandomSource;
@@ -20,7 +21,7 @@ where
     let alloc = rt.alloc();
     let receivers = vec![in alloc; sent(alloc, 1)?]?;
     let requests = stream::iter(receivers).map(|receiver| receiver.map(|sent| sent.unwrap_or(0)));
-    print_all(rt, requests.foreign_buffered_unordered(alloc, 8)?)
+    print_all(rt, requests.buffered_unordered(alloc, 8)?)
 }
 
 pub fn told_by_keys<R>(rt: &R) -> Result<(), anyhow::Error>

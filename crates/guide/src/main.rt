@@ -50,7 +50,6 @@ fn main(rt: HostRuntime) -> Result<(), anyhow::Error> {
     in_flight::summed(&rt)?;
     in_flight::at_both_ends(&rt)?;
     in_flight::digits(&rt)?;
-    foreign::ended_early(&rt)?;
     foreign::three_channels(&rt)?;
     sources::one_caller(&rt)?;
     sources::listed_names(&rt)?;

@@ -1,0 +1,88 @@
+//! Adaptors of a stream of the kit's futures, as methods of the stream.
+//!
+//! Each holds the futures in plain sight, in an `InFlightQueue` or an `InFlightOrdered`. A future may contain closures.
+ghost use Rattle.std.specs.Prelude.{◌<◌, IfOk};
+ghost use Rattle.futures_buffered_core.specs.Made.{MakesSlots};
+ghost use Rattle.futures_buffered_in_flight.specs.InFlightOrdered.{CanPollOrdered, IsNewInOrder};
+ghost use Rattle.futures_buffered_in_flight.specs.InFlightQueue.{CanPollQueue, IsNewQueued};
+ghost use Rattle.futures_buffered.specs.Buffer.{IsNewBuffer};
+ghost use Rattle.futures_buffered.specs.Drain.{HoldsPollable, IsNewDrain};
+
+use crate::buffer::Buffer;
+use crate::drain::Drain;
+use crate::in_flight::{BufferUnordered, BufferedOrdered, ForEachConcurrent};
+use futures::stream::StreamExt;
+use futures::{Future, Stream};
+use futures_buffered_core::ready_core::NewFault;
+use futures_buffered_in_flight::{InFlightOrdered, InFlightQueue};
+use futures_buffered_unordered::futures_unordered_bounded::POLL_LIMIT;
+use std::alloc::Global;
+
+/// Adaptors that keep some futures of a stream in progress.
+pub trait BufferedStreamExt: Stream + Sized {
+    /// The outputs of this stream's futures in the order of the stream, with at most `n` held at a time: in progress,
+    /// or done and waiting for their turn. Nothing is polled.
+    ///
+    /// Takes time and memory in proportion to `n`. The stream is dropped where it is refused. A poll takes the memory
+    /// that the kit's set takes for each future, and does without where that is refused: the future waits, and the task
+    /// is woken.
+    final fn buffered_ordered(
+        self,
+        alloc: Global,
+        n: usize,
+    ) -> Result<BufferedOrdered<Self>, NewFault>
+    where
+        Self::Item: Future<Output: Drop>,
+        requires { 0 < n }
+        ensures made { MakesSlots n (IsNewBuffer (IsNewInOrder n) self) result }
+        ensures held { IfOk result (λ b. CanPollOrdered Self.Item.Future b.queue) }
+    {
+        let queue = InFlightOrdered::new(alloc, n)?;
+        Ok(Buffer::with_queue(self, queue))
+    }
+
+    /// The outputs of this stream's futures as they finish, with at most `n` in progress at a time. Nothing is polled.
+    ///
+    /// Takes time and memory as `buffered_ordered` does, and refuses as that does.
+    final fn buffered_unordered(
+        self,
+        alloc: Global,
+        n: usize,
+    ) -> Result<BufferUnordered<Self>, NewFault>
+    where
+        Self::Item: Future<Output: Drop>,
+        requires { 0 < n }
+        ensures made { MakesSlots n (IsNewBuffer (IsNewQueued n) self) result }
+        ensures held { IfOk result (λ b. CanPollQueue Self.Item.Future b.queue) }
+    {
+        let queue = InFlightQueue::new(alloc, n)?;
+        Ok(Buffer::with_queue(self, queue))
+    }
+
+    /// Calls `f` with each item of this stream, once and in order, and runs the futures that it makes, at most `limit`
+    /// at a time. Nothing is polled.
+    ///
+    /// `futures::StreamExt` has a method of this name too. Where both traits are in scope it is called by its path:
+    /// `BufferedStreamExt::for_each_concurrent(stream, alloc, limit, f)`.
+    ///
+    /// Takes time and memory as `buffered_ordered` does. Stream and closure are dropped where they are refused.
+    final fn for_each_concurrent<Fut, F>(
+        self,
+        alloc: Global,
+        limit: usize,
+        f: F,
+    ) -> Result<ForEachConcurrent<Self, F, Fut>, NewFault>
+    where
+        F: FnMut(Self::Item) -> Fut + Drop,
+        Fut: Future<Output = ()>,
+        requires { 0 < limit }
+        ensures made { MakesSlots limit (IsNewDrain (IsNewQueued limit) POLL_LIMIT
+            (record { stream = self; f = f })) result }
+        ensures held { IfOk result (HoldsPollable Fut.Future) }
+    {
+        let queue = InFlightQueue::new(alloc, limit)?;
+        Ok(Drain::over_buffer(Buffer::with_queue(self.map(f), queue), POLL_LIMIT))
+    }
+}
+
+impl<St: Stream> BufferedStreamExt for St {}

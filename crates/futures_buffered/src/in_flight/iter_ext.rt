@@ -1,0 +1,79 @@
+//! Joins and merges of the kit's futures and streams as methods of what gives the items.
+ghost use Rattle.std.specs.Prelude.{◌≡◌, ◌^◌, ◌-◌, IfOk};
+ghost use Rattle.futures_buffered_core.specs.Drawn.{IsFiniteSource, items_of};
+ghost use Rattle.futures_buffered_unordered.specs.Extended.{EachDrawn, HoldsAllOf};
+ghost use Rattle.futures_buffered_joins.specs.InFlightJoin.{CanPollFlying, MakesFlying};
+ghost use Rattle.futures_buffered_merges.specs.InFlightMerge.{HoldsStreams};
+
+use crate::in_flight::{JoinAll, MergeBounded, MergeUnbounded, TryJoinAll};
+use futures::{Future, Stream};
+use futures_buffered_core::ready_core::NewFault;
+use std::alloc::Global;
+
+/// Joins and merges of what an iterator gives, where it ends.
+pub trait IterExt: IntoIterator + Sized {
+    /// A join of these futures, ready with all outputs, each at its future's place. It is the function `join_all`, and
+    /// refuses as that does.
+    ///
+    /// Takes time and memory in proportion to the number of futures.
+    final fn join_all(self, alloc: Global) -> Result<JoinAll<Self::Item>, NewFault>
+    where
+        Self::Item: Future<Output: Drop>,
+        requires finite { IsFiniteSource (items_of Self.IntoIterator Self.IntoIter.Iterator self) }
+        requires fit { EachDrawn (items_of Self.IntoIterator Self.IntoIter.Iterator self) Self.Item.can_poll }
+        ensures made { MakesFlying Self.Item.Future (items_of Self.IntoIterator Self.IntoIter.Iterator self) result }
+        ensures can_poll { IfOk result (CanPollFlying Self.Item.Future) }
+    {
+        futures_buffered_joins::in_flight_join::join_all(alloc, self)
+    }
+
+    /// A join of these futures, which may fail: ready with all outputs, each at its future's place, or with the first
+    /// error that comes. It is the function `try_join_all`, and refuses as that does.
+    ///
+    /// Takes time and memory in proportion to the number of futures.
+    final fn try_join_all<T, E>(self, alloc: Global) -> Result<TryJoinAll<Self::Item>, NewFault>
+    where
+        Self::Item: Future<Output = Result<T, E>>,
+        T: Drop,
+        E: Drop,
+        requires finite { IsFiniteSource (items_of Self.IntoIterator Self.IntoIter.Iterator self) }
+        requires fit { EachDrawn (items_of Self.IntoIterator Self.IntoIter.Iterator self) Self.Item.can_poll }
+        ensures made { MakesFlying Self.Item.Future (items_of Self.IntoIterator Self.IntoIter.Iterator self) result }
+        ensures can_poll { IfOk result (CanPollFlying Self.Item.Future) }
+    {
+        futures_buffered_joins::in_flight_join::try_join_all(alloc, self)
+    }
+
+    /// A merge of these streams, with room for as many as came. It is the function `merge`, and refuses as that does.
+    ///
+    /// Takes time and memory in proportion to the number of streams.
+    final fn merge(self, alloc: Global) -> Result<MergeBounded<Self::Item>, NewFault>
+    where
+        Self::Item: Stream<Item: Drop>,
+        requires finite { IsFiniteSource (items_of Self.IntoIterator Self.IntoIter.Iterator self) }
+        requires each { EachDrawn (items_of Self.IntoIterator Self.IntoIter.Iterator self) Self.Item.can_poll }
+        ensures holds { IfOk result
+            (HoldsAllOf (items_of Self.IntoIterator Self.IntoIter.Iterator self) (HoldsStreams Self.Item.Stream)) }
+        ensures limit { IfOk result (λ merge. merge.limit ≡ merge.held) }
+    {
+        futures_buffered_merges::in_flight_merge::merge(alloc, self)
+    }
+
+    /// A merge of these streams, and of any number that are pushed later. It is the function `merge_unbounded`, and
+    /// refuses as that does.
+    ///
+    /// Takes time and memory in proportion to the number of streams.
+    final fn merge_unbounded(self, alloc: Global) -> Result<MergeUnbounded<Self::Item>, NewFault>
+    where
+        Self::Item: Stream<Item: Drop>,
+        requires finite { IsFiniteSource (items_of Self.IntoIterator Self.IntoIter.Iterator self) }
+        requires each { EachDrawn (items_of Self.IntoIterator Self.IntoIter.Iterator self) Self.Item.can_poll }
+        ensures holds { IfOk result
+            (HoldsAllOf (items_of Self.IntoIterator Self.IntoIter.Iterator self) (HoldsStreams Self.Item.Stream)) }
+        ensures limit { IfOk result (λ merge. merge.limit ≡ 2 ^ 64 - 1) }
+    {
+        futures_buffered_merges::in_flight_merge::merge_unbounded(alloc, self)
+    }
+}
+
+impl<I: IntoIterator> IterExt for I {}

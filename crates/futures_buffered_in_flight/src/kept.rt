@@ -1,0 +1,160 @@
+//! Futures in flight that keep that they may be polled, so that a loop need not say so.
+ghost use Rattle.std.specs.Prelude.{◌≡◌, None, IfNone, IfSome};
+ghost use Rattle.futures_buffered_core.specs.SlotMap.{no_slots, slot_count};
+ghost use Rattle.futures_buffered_in_flight.specs.InFlight.{Cancels, ComesFromSlots, FlightsWaitAt, PollsInFlight};
+ghost use Rattle.futures_buffered_in_flight.specs.InFlight.{PushesInFlight};
+ghost use Rattle.futures_buffered_in_flight.specs.InFlightOrdered.{ComesOfEach, OrderedWaitsAt, PollsInTurn};
+ghost use Rattle.futures_buffered_in_flight.specs.InFlightOrdered.{IsNewInOrder, PushesBack, PushesFront};
+ghost use Rattle.futures_buffered_in_flight.specs.InFlightOrdered.{PushesOrComesBack};
+ghost use Rattle.futures_buffered_in_flight.specs.InFlightQueue.{queued_room};
+
+use crate::in_flight::{Came, InFlight};
+use crate::in_flight_ordered::InFlightOrdered;
+use crate::run::Key;
+use futures::task::{Context, Poll};
+use futures::{Future, Stream};
+use std::marker::Model;
+
+/// A set or a queue that may be polled at any time. A loop over it takes no invariant.
+///
+/// A contract sees the set or the queue. The prover does not take one whose futures contain closures: there a loop says
+/// itself that the futures may be polled.
+#[derive(Drop)]
+pub struct Kept<S: Stream> {
+    held: S,
+}
+
+impl<S: Stream> Model for Kept<S> {
+    ghost Value = { S };
+
+    ghost view = { λ k. k.held };
+
+    ghost invariant = { λ k. S.can_poll k.held };
+}
+
+impl<S: Stream> Kept<S> {
+    /// Keeps this set or queue, which may be polled.
+    pub fn new(held: S) -> Kept<S>
+        requires { S.can_poll held }
+        ensures { result ≡ held }
+    {
+        Kept { held }
+    }
+
+    /// The set or the queue, for calls that only read.
+    pub fn get(&self) -> &S
+        ensures { result.now ≡ self.now }
+    {
+        &self.held
+    }
+
+    /// The set or the queue itself.
+    pub fn into_inner(self) -> S
+        ensures same { result ≡ self }
+        ensures can_poll { S.can_poll result }
+    {
+        let Kept { held } = self;
+        held
+    }
+}
+
+impl<F: Future<Output: Drop>> Kept<InFlight<F>> {
+    /// As `InFlight::try_push`.
+    pub fn try_push(&mut self, future: F) -> Result<Key, F>
+        requires { F.can_poll future }
+        ensures { PushesInFlight F.Future self.old future 0 result self.new }
+    {
+        self.held.try_push(future)
+    }
+
+    /// As `InFlight::try_push_abortable`.
+    pub fn try_push_abortable(&mut self, future: F) -> Result<Key, F>
+        requires { F.can_poll future }
+        ensures { PushesInFlight F.Future self.old future 0 result self.new }
+    {
+        self.held.try_push_abortable(future)
+    }
+
+    /// As `InFlight::poll_next_keyed`.
+    pub fn poll_next_keyed(&mut self, cx: &mut Context<'_>) -> Poll<Option<Came<F::Output>>>
+        ensures { PollsInFlight F.Future self.old result self.new cx.old cx.new }
+    {
+        self.held.poll_next_keyed(cx)
+    }
+
+    /// As `InFlight::cancel`.
+    pub fn cancel(&mut self, key: Key) -> Option<usize>
+        ensures none { IfNone result (self.new ≡ self.old) }
+        ensures some { IfSome result (λ tag. Cancels F.Future self.old key tag self.new) }
+    {
+        self.held.cancel(key)
+    }
+
+    /// As `InFlight::clear`.
+    pub fn clear(&mut self)
+        ensures slots { self.new.slots ≡ no_slots (slot_count self.old.slots) }
+        ensures none { (self.new.running ≡ None) × (self.new.cancelled ≡ 0) }
+        ensures keys { self.new.next ≡ self.old.next }
+    {
+        self.held.clear();
+    }
+}
+
+impl<F: Future<Output: Drop>> Stream for Kept<InFlight<F>> {
+    type Item = F::Output;
+
+    ghost needs = { FlightsWaitAt };
+
+    ghost yields = { ComesFromSlots F.Future };
+
+    /// One poll, as `poll_next_keyed`, without key and tag.
+    #[tactic(auto, using(crate::proofs::InFlightLemmas::comes_first, crate::proofs::InFlightLemmas::comes_after, crate::proofs::InFlightLemmas::comes_within))]
+    fn poll_next(&mut self, cx: &mut Context<'_>) -> Poll<Option<F::Output>> {
+        match self.held.poll_next_keyed(cx) {
+            Poll::Pending => Poll::Pending,
+            Poll::Ready(None) => Poll::Ready(None),
+            Poll::Ready(Some(came)) => Poll::Ready(Some(came.output)),
+        }
+    }
+}
+
+impl<F: Future<Output = A>, A: Drop> Kept<InFlightOrdered<F, A>> {
+    /// As `InFlightOrdered::try_push_back`.
+    pub fn try_push_back(&mut self, future: F) -> Result<(), F>
+        requires { F.can_poll future }
+        ensures { PushesOrComesBack F.Future (PushesBack F.Future) self.old future result self.new }
+    {
+        self.held.try_push_back(future)
+    }
+
+    /// As `InFlightOrdered::try_push_front`.
+    pub fn try_push_front(&mut self, future: F) -> Result<(), F>
+        requires { F.can_poll future }
+        ensures { PushesOrComesBack F.Future (PushesFront F.Future) self.old future result self.new }
+    {
+        self.held.try_push_front(future)
+    }
+
+    /// As `InFlightOrdered::clear`.
+    pub fn clear(&mut self)
+        ensures none { IsNewInOrder (queued_room self.old.set) self.new }
+        ensures same_room { queued_room self.new.set ≡ queued_room self.old.set }
+    {
+        self.held.clear();
+    }
+}
+
+impl<F: Future<Output = A>, A: Drop> Stream for Kept<InFlightOrdered<F, A>> {
+    type Item = A;
+
+    ghost needs = { OrderedWaitsAt };
+
+    ghost yields = { ComesOfEach F.Future };
+
+    /// One poll, as `InFlightOrdered::poll_output`.
+    fn poll_next(&mut self, cx: &mut Context<'_>) -> Poll<Option<A>>
+        ensures { PollsInTurn F.Future self.old result self.new cx.old cx.new }
+    {
+        self.held.poll_output(cx)
+    }
+}
