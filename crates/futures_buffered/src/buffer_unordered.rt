@@ -11,6 +11,7 @@ use crate::future_queue::{FutureQueue, NewQueue};
 use futures::Stream;
 use futures::task::{Context, Poll};
 use futures_buffered_core::ready_core::NewFault;
+use futures_buffered_core::ready_shared::SharedReady;
 use futures_buffered_core::ready_source::{NewSource, ReadySource};
 use futures_buffered_unordered::SlotFuture;
 use futures_buffered_unordered::futures_unordered_bounded::FuturesUnorderedBounded;
@@ -92,7 +93,7 @@ impl<F: SlotFuture<S::Waker>, S: ReadySource> FutureQueue<F> for CompletionQueue
 }
 
 /// Futures of a stream, at most as many at a time as its set has slots, whose outputs come as they finish.
-pub type BufferUnordered<St, S> = Buffer<St, CompletionQueue<<St as Stream>::Item, S>>;
+pub type BufferUnordered<St, S = SharedReady> = Buffer<St, CompletionQueue<<St as Stream>::Item, S>>;
 
 /// After any calls of one buffer that held nothing at first, each item drawn either gave one of the outputs given, or
 /// is held still: no output is of two items or of none, and no item is lost.

@@ -14,6 +14,7 @@ use crate::future_queue::{FutureQueue, NewQueue};
 use futures::Stream;
 use futures::task::{Context, Poll};
 use futures_buffered_core::ready_core::NewFault;
+use futures_buffered_core::ready_shared::SharedReady;
 use futures_buffered_core::ready_source::{NewSource, ReadySource};
 use futures_buffered_ordered::BoundedQueue;
 use futures_buffered_unordered::SlotFuture;
@@ -103,7 +104,7 @@ where
 
 /// Futures of a stream, whose outputs come in the order in which the stream gave the futures. At most as many as there
 /// are slots are held at a time, where an output that waits for its turn counts as held.
-pub type BufferedOrdered<St, S> = Buffer<
+pub type BufferedOrdered<St, S = SharedReady> = Buffer<
     St,
     OrderedQueue<
         <St as Stream>::Item,

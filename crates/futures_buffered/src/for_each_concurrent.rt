@@ -25,7 +25,7 @@ use std::marker::Model;
 /// memory but what the stream, the closure, the futures and the source's calls take. A stream that ended is dropped at
 /// once. Calls that poll nothing take the same time at any number held.
 #[derive(Drop)]
-pub struct ForEachConcurrent<St: Drop, F: Drop, Fut: Drop, S: ReadySource> {
+pub struct ForEachConcurrent<St: Drop, F: Drop, Fut: Drop, S: ReadySource = SharedReady> {
     stream: Option<St>,
     closure: F,
     queue: FuturesUnorderedBounded<Fut, S>,

@@ -5,13 +5,14 @@ ghost use Rattle.futures_buffered.specs.BufferedOrdered.{TryGivesInOrder};
 use crate::buffered_ordered::OrderedQueue;
 use crate::try_buffer::TryBuffer;
 use futures::Stream;
+use futures_buffered_core::ready_shared::SharedReady;
 use futures_buffered_core::ready_source::ReadySource;
 use futures_buffered_unordered::SlotFuture;
 
 /// Futures of a stream that gives errors as well, whose outputs come in the order in which the stream gave the futures.
 /// At most as many as there are slots are held at a time, where an output that waits for its turn counts as held. An
 /// error of the stream comes as soon as it is met, before what is held, and ends nothing.
-pub type TryBufferedOrdered<St, F, S> = TryBuffer<
+pub type TryBufferedOrdered<St, F, S = SharedReady> = TryBuffer<
     St,
     OrderedQueue<F, <F as SlotFuture<<S as ReadySource>::Waker>>::Output, S>,
 >;

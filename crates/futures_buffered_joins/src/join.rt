@@ -23,7 +23,11 @@ pub enum AllOutputs {}
 pub type Join<F, A, S> = JoinBy<AllOutputs, F, A, S>;
 
 /// The join with the outputs of its futures. It is the name that a caller writes.
-pub type JoinAll<F, S> = Join<F, <F as SlotFuture<<S as ReadySource>::Waker>>::Output, S>;
+pub type JoinAll<F, S = SharedReady> = Join<
+    F,
+    <F as SlotFuture<<S as ReadySource>::Waker>>::Output,
+    S,
+>;
 
 impl<O: Drop> JoinRule<O> for AllOutputs {
     ghost use Rattle.futures_buffered_joins.specs.JoinRule.{kept_as_it_is, shown_as_all, shown_by_result};

@@ -23,7 +23,7 @@ pub enum UntilError {}
 pub type TryJoin<F, T, S> = JoinBy<UntilError, F, T, S>;
 
 /// The join with the values that its futures give where they succeed. It is the name that a caller writes.
-pub type TryJoinAll<F, S> = TryJoin<
+pub type TryJoinAll<F, S = SharedReady> = TryJoin<
     F,
     <<F as SlotFuture<<S as ReadySource>::Waker>>::Output as TryOutput>::Ok,
     S,

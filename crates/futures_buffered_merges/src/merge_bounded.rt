@@ -30,10 +30,10 @@ use std::alloc::Global;
 ///
 /// A contract sees what each slot holds and which slots are free, the content of the source, and the limit of names of
 /// one count. Once the merge is made its calls do not allocate, and wait for no other thread.
-pub type MergeBounded<St, S> = MergeOf<FuturesUnorderedBounded<St, S>>;
+pub type MergeBounded<St, S = SharedReady> = MergeOf<FuturesUnorderedBounded<St, S>>;
 
 /// The same merge, by its short name.
-pub type Merge<St, S> = MergeBounded<St, S>;
+pub type Merge<St, S = SharedReady> = MergeBounded<St, S>;
 
 impl<St: Drop, S: ReadySource> StreamSet for FuturesUnorderedBounded<St, S> {
     ghost count = { held_in };

@@ -38,7 +38,7 @@ use std::alloc::Global;
 /// the next poll begins; and the limit of names of one count. Only a push that makes a group and a constructor
 /// that pushes allocate. No call waits for another thread, and those that ask how much is held or fits take the same
 /// time at any number of groups.
-pub type MergeUnbounded<St, S> = MergeOf<FuturesUnordered<St, S>>;
+pub type MergeUnbounded<St, S = SharedReady> = MergeOf<FuturesUnordered<St, S>>;
 
 impl<St: Drop, S: NewSource> StreamSet for FuturesUnordered<St, S> {
     ghost count = { λ set. held_in_all set.groups.listed };

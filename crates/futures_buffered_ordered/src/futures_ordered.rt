@@ -107,10 +107,10 @@ impl<T: Drop, S: NewSource, R: PollOne<T, S::Waker>> PollNumberedSet<R>
 /// Any number of futures, whose outputs come in the order of a list, with additions at both ends.
 ///
 /// A contract sees the set that holds the futures in progress, each with a number, the entries from the front to the
-/// back, where one in progress has the number of its future, and how many entries there is a place for. Of a number it
-/// says no more than which entry and which future have it. A push, the keeping of an output, its yielding, and calls
-/// that ask how much is held take the same time at any length and any number of groups; where a push finds as many
-/// entries as there is room for, the list grows, and where the last group is full, the set does, which over many pushes
+/// back, where one in progress has the number of its future, and how many entries had a place when the queue was made.
+/// Of a number it says no more than which entry and which future have it. A push, the keeping of an output, its
+/// yielding, and calls that ask how much is held take the same time at any length and any number of groups. If a push
+/// finds as many entries as places, the list grows, and if the last group is full, the set does, which over many pushes
 /// is the same time for each. No call waits for another thread.
 #[derive(Drop)]
 pub struct GrowingQueue<T: Drop, A: Drop, S: NewSource> {
@@ -118,7 +118,7 @@ pub struct GrowingQueue<T: Drop, A: Drop, S: NewSource> {
 }
 
 /// The queue with the outputs of its futures. It is the name that a caller writes.
-pub type FuturesOrdered<T, S> = GrowingQueue<
+pub type FuturesOrdered<T, S = SharedReady> = GrowingQueue<
     T,
     <T as SlotFuture<<S as ReadySource>::Waker>>::Output,
     S,
@@ -161,10 +161,10 @@ impl<T: Drop, A: Drop, S: NewSource> GrowingQueue<T, A, S> {
     /// Adds the future behind all others, in progress. It goes into the set as its `push` does, so that a later poll
     /// polls it.
     ///
-    /// The future comes back where the queue has `MAX_LEN` entries, where the set refuses it, and where a request for
-    /// memory was refused; no entry and no future has changed then. Asks for memory only where there are as many
-    /// entries as places for them, and where the last group is full. Polls nothing. A caller should count on no wake
-    /// from it, though one that makes a group may wake the task that waits.
+    /// The future comes back if the queue has `MAX_LEN` entries, if the set refuses it, and if an allocation fails; the
+    /// queue has not changed then. Allocates only if there are as many entries as places for them, and if the last group
+    /// is full. Polls nothing. A caller should count on no wake from it, though one that makes a group may wake the task
+    /// that waits.
     pub fn push_back(&mut self, future: T) -> Result<(), T>
         ensures { PushesOrHandsBack AddsBack (growing_numbers S.ReadySource S.made)
             self.old future result self.new }
@@ -180,8 +180,8 @@ impl<T: Drop, A: Drop, S: NewSource> GrowingQueue<T, A, S> {
         self.queue.add_front(future)
     }
 
-    /// As `push_back`, for a caller that has no use for a future that is refused: it is dropped, no entry and no other
-    /// future has changed, and the error says why. So `?` takes it.
+    /// As `push_back`, for a caller that has no use for a future that is refused: it is dropped, the queue has not
+    /// changed, and the error says why. So `?` takes it.
     pub fn add_back(&mut self, future: T) -> Result<(), NewFault>
         ensures { AddsOrStays AddsBack (growing_numbers S.ReadySource S.made)
             self.old future result self.new }

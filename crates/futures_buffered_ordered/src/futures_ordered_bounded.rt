@@ -105,17 +105,17 @@ impl<T: Drop, S: ReadySource, R: PollOne<T, S::Waker>> PollNumberedSet<R>
 /// Futures whose outputs come in the order of a list, with additions at both ends.
 ///
 /// A contract sees the set that holds the futures in progress, each with a number, the entries from the front to the
-/// back, where one in progress has the number of its future, and how many entries there is a place for. Outputs that
-/// are kept take no slot, so `len` may pass `capacity`. A push, the keeping of an output, its yielding, and calls that
-/// ask how much is held take the same time at any length; where a push finds as many entries as there is room for, the
-/// list grows, which over many pushes is the same time for each. No call waits for another thread.
+/// back, where one in progress has the number of its future, and how many entries had a place when the queue was made.
+/// Outputs that are kept take no slot, so `len` may pass `capacity`. A push, the keeping of an output, its yielding, and
+/// calls that ask how much is held take the same time at any length. If a push finds as many entries as places, the list
+/// grows, which over many pushes is the same time for each. No call waits for another thread.
 #[derive(Drop)]
 pub struct BoundedQueue<T: Drop, A: Drop, S: ReadySource> {
     queue: OrderedEntries<FuturesUnorderedBounded<Numbered<T>, S>, A>,
 }
 
 /// The queue with the outputs of its futures. It is the name that a caller writes.
-pub type FuturesOrderedBounded<T, S> = BoundedQueue<
+pub type FuturesOrderedBounded<T, S = SharedReady> = BoundedQueue<
     T,
     <T as SlotFuture<<S as ReadySource>::Waker>>::Output,
     S,
@@ -183,10 +183,9 @@ impl<T: Drop, A: Drop, S: ReadySource> BoundedQueue<T, A, S> {
     /// Adds the future behind all others, in progress. It goes into a slot, which is marked, so that a later poll polls
     /// it.
     ///
-    /// The future comes back, and no entry has changed, where the queue is full, where it has `MAX_LEN` entries, and
-    /// where a request for memory was refused. Asks for memory only where there are as many entries as places for them,
-    /// which are never fewer than the slots: so it succeeds wherever `len` is below `capacity`. Polls nothing, and
-    /// wakes nobody.
+    /// The future comes back, and the queue has not changed, if the queue is full, if it has `MAX_LEN` entries, and if
+    /// an allocation fails. Allocates only if there are as many entries as places for them, which are never fewer than
+    /// the slots: so it succeeds if `len` is below `capacity`. Polls nothing, and wakes no task.
     pub fn try_push_back(&mut self, future: T) -> Result<(), T>
         ensures push { PushesOrHandsBack AddsBack (bounded_numbers S.ReadySource)
             self.old future result self.new }

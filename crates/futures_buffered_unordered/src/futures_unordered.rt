@@ -53,7 +53,7 @@ const _: () = prove!(FIRST_GROUP == 32);
 /// waits for another thread. Calls that ask how much is held or fits take the same time at any number of groups. A
 /// merge that grows is made of one too.
 #[derive(Drop)]
-pub struct FuturesUnordered<F: Drop, S: NewSource> {
+pub struct FuturesUnordered<F: Drop, S: NewSource = SharedReady> {
     groups: Vec<FuturesUnorderedBounded<F, S>>,
     place: usize,
     held: usize,

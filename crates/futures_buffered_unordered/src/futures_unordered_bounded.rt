@@ -37,7 +37,7 @@ const _: () = prove!(POLL_LIMIT == 61);
 /// one poll. Once the set is made, no call but `make_sibling` allocates, and none waits for another thread. A push, and
 /// calls that ask how much is held, take the same time at any capacity.
 #[derive(Drop)]
-pub struct FuturesUnorderedBounded<F: Drop, S: ReadySource> {
+pub struct FuturesUnorderedBounded<F: Drop, S: ReadySource = SharedReady> {
     slots: PinSlotMap<F>,
     source: S,
     limit: usize,
