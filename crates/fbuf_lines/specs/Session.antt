@@ -3,7 +3,6 @@ use Rattle.std.specs.Prelude.{◌≡◌, ℕ, ◌<◌, ◌≤◌, List, Option, 
 use Rattle.futures_buffered_table.specs.declared.answer.TheConstants.{MAX_CAPACITY}
 use Rattle.futures_buffered_table.specs.StepMachine.{Machine, IsNew}
 use Rattle.futures_buffered_unordered.specs.declared.futures_unordered_bounded.TheConstants.{POLL_LIMIT}
-use Rattle.futures_buffered_ordered.specs.OrderedEntries.{Stays}
 use Rattle.futures_buffered_ordered.specs.FuturesOrderedBounded.{IsNewBoundedQueue}
 use Rattle.futures_buffered_unordered.specs.FuturesUnordered.{IsNewGrowing}
 use Rattle.fbuf_lines.specs.Command.{LineAsksFor}
@@ -99,15 +98,6 @@ MayLackMemory old (Steps capacity) = capacity ≤ MAX_CAPACITY
 MayLackMemory (target.Growing old) command = GrowingMayLack old command
 MayLackMemory (target.Ordered old) command = QueueMayLack old command
 MayLackMemory old command = ⊥
-
--- a target is as it was, but that a queue may have a place for more entries
-abbrev pub StaysTarget : Target → Target → Type 0
-StaysTarget (target.Ordered old) new = (queue : ScriptOrdered) × Stays old queue × (new ≡ target.Ordered queue)
-StaysTarget old new = new ≡ old
-
--- the same of a script, whose limit stays
-abbrev pub StaysSession : ScriptSession → ScriptSession → Type 0
-StaysSession old new = StaysTarget old.target new.target × (new.limit ≡ old.limit)
 
 -- a line that asks for such a command
 abbrev pub LineMayLackMemory : ScriptSession → List ℕ → Type 0

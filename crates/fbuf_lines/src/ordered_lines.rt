@@ -1,7 +1,6 @@
 //! Commands to an ordered queue.
 ghost use Rattle.std.specs.Prelude.{IfOk, OnErr};
 ghost use Rattle.futures.specs.Task.{Keeps};
-ghost use Rattle.futures_buffered_ordered.specs.OrderedEntries.{Stays};
 ghost use Rattle.fbuf_lines.specs.OrderedLines.{BackGives, FrontGives, PushMayLack};
 ghost use Rattle.fbuf_lines.specs.OrderedLines.{QueueGives, QueueMayLack};
 
@@ -19,7 +18,7 @@ pub type ScriptQueue = FuturesOrderedBounded<ReadyAfter, CoreSource>;
 // A future to the back of an ordered queue. One that is refused changes nothing.
 fn back_reply(queue: &mut ScriptQueue, future: ReadyAfter) -> Result<Reply, AllocError>
     ensures reply { IfOk result (λ reply. BackGives queue.old future reply queue.new) }
-    ensures memory { OnErr result (Stays queue.old queue.new) }
+    ensures memory { OnErr result (queue.new ≡ queue.old) }
     ensures refused { OnErr result (PushMayLack queue.old) }
 {
     if queue.is_full() {
@@ -34,7 +33,7 @@ fn back_reply(queue: &mut ScriptQueue, future: ReadyAfter) -> Result<Reply, Allo
 // The same, to its front.
 fn front_reply(queue: &mut ScriptQueue, future: ReadyAfter) -> Result<Reply, AllocError>
     ensures reply { IfOk result (λ reply. FrontGives queue.old future reply queue.new) }
-    ensures memory { OnErr result (Stays queue.old queue.new) }
+    ensures memory { OnErr result (queue.new ≡ queue.old) }
     ensures refused { OnErr result (PushMayLack queue.old) }
 {
     if queue.is_full() {
@@ -53,7 +52,7 @@ pub(crate) fn queue_reply(
     cx: &mut Context<'_>,
 ) -> Result<Reply, AllocError>
     ensures reply { IfOk result (λ reply. QueueGives queue.old command reply queue.new) }
-    ensures memory { OnErr result (Stays queue.old queue.new) }
+    ensures memory { OnErr result (queue.new ≡ queue.old) }
     ensures refused { OnErr result (QueueMayLack queue.old command) }
     ensures kept { Keeps cx.old cx.new }
 {

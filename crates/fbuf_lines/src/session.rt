@@ -3,7 +3,7 @@ ghost use Rattle.std.specs.Prelude.{◌≡◌, ◌≤◌, IfOk, OnErr};
 ghost use Rattle.futures.specs.Task.{Keeps};
 ghost use Rattle.fbuf_lines.specs.Session.{LineGives, TargetGives, Begins, IsNewSet, IsNewQueue};
 ghost use Rattle.fbuf_lines.specs.Session.{IsNewGrowingSet, IsNewMachine, SetsLimit, first_session};
-ghost use Rattle.fbuf_lines.specs.Session.{MayLackMemory, LineMayLackMemory, StaysSession};
+ghost use Rattle.fbuf_lines.specs.Session.{MayLackMemory, LineMayLackMemory};
 
 use crate::bounded_lines::{ScriptSet, new_set, set_reply};
 use crate::command::{Command, parse};
@@ -81,7 +81,7 @@ impl Session {
         cx: &mut Context<'_>,
     ) -> Result<Reply, AllocError>
         ensures reply { IfOk result (λ reply. LineGives self.old line.now reply self.new) }
-        ensures memory { OnErr result (StaysSession self.old self.new) }
+        ensures memory { OnErr result (self.new ≡ self.old) }
         ensures refused { OnErr result (LineMayLackMemory self.old line.now) }
         ensures kept { Keeps cx.old cx.new }
     {
@@ -174,7 +174,7 @@ impl Session {
     fn carry_out(&mut self, command: Command, cx: &mut Context<'_>) -> Result<Reply, AllocError>
         ensures reply { IfOk result (λ reply.
             TargetGives self.old.target command reply self.new.target) }
-        ensures memory { OnErr result (StaysSession self.old self.new) }
+        ensures memory { OnErr result (self.new ≡ self.old) }
         ensures refused { OnErr result (MayLackMemory self.old.target command) }
         ensures limit { self.new.limit ≡ self.old.limit }
         ensures kept { Keeps cx.old cx.new }

@@ -40,7 +40,7 @@ has_room q keeps fewer (inr (inr long)) = absurd (omega (arith, long, keeps.smal
 
 module _ {F A S : Type 0} where
   -- marks change neither what is held nor the entries
-  pub marked_keeps : (old : Numbering (Bounded (Numbered F) S) A) (new : Bounded (Numbered F) S) → new.slots ≡ old.queue.set.slots → KeepsBoundedQueue old → KeepsBoundedQueue (record { queue = record { set = new; entries = old.queue.entries; room = old.queue.room }; outgoing = old.outgoing })
+  pub marked_keeps : (old : Numbering (Bounded (Numbered F) S) A) (new : Bounded (Numbered F) S) → new.slots ≡ old.queue.set.slots → KeepsBoundedQueue old → KeepsBoundedQueue (record { queue = record { set = new; entries = old.queue.entries; room = old.queue.room }; places = old.places; outgoing = old.outgoing })
   marked_keeps old new same keeps =
       record {
         numbered = KeepsNumbers-polled held_with held_in old.queue.set new old.queue.entries old.outgoing keeps.numbered (λ n. ap (in_slots n) same) (ap held_count same);

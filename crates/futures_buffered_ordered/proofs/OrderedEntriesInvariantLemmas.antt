@@ -1,5 +1,5 @@
 -- What the calls of an ordered queue make of its entries and their numbers.
-use Rattle.std.proofs.Common.{◌≡◌, ◌≢◌, ◌⊎◌, ℕ, zero, suc, ◌+◌, ◌-◌, ◌^◌, ◌%◌, ◌<◌, ◌≤◌, Bool, true, true≢false, cond, List, [], ◌∷◌, ◌++◌, length, set, count_by, Option, Some, refl, sym, subst, ap, inl, inr, arith, length-set, ◌∙◌}
+use Rattle.std.proofs.Common.{◌≡◌, ◌≢◌, ◌⊎◌, ℕ, zero, suc, ◌+◌, ◌-◌, ◌^◌, ◌%◌, ◌<◌, ◌≤◌, Bool, true, true≢false, cond, List, [], ◌∷◌, ◌++◌, length, set, count_by, Option, Some, Ok, refl, sym, subst, ap, inl, inr, arith, length-set, ◌∙◌}
 use Rattle.std.specs.List.{slice_get, sum_by}
 use Rattle.std.proofs.lemmas.List.{length_push}
 use Rattle.std.proofs.lemmas.List.Sums.{sum_by-cons, sum_by-set, sum_by_push, count_by-le-length}
@@ -7,7 +7,7 @@ use Rattle.std.proofs.lemmas.Bool.{cases_lt, eq-eqb}
 use Rattle.std.proofs.lemmas.Bool.Decides.{eqb_tells}
 use Rattle.std.proofs.lemmas.Option.{slice_get_within, get_or_from_slice_get}
 use Rattle.futures_buffered_ordered.specs.Numbered.{one_at}
-use Rattle.futures_buffered_ordered.specs.OrderedEntries.{EachHasOne, IsLength, NumberedSetOf, is_running, runs_with, starts_running}
+use Rattle.futures_buffered_ordered.specs.OrderedEntries.{AddsBack, AddsFront, EachHasOne, IsLength, IsUnused, NumberedSetOf, PushesOrHandsBack, QueueIsAtBound, is_running, runs_with, starts_running}
 use Rattle.futures_buffered_ordered.specs.OrderedEntriesInvariant.{Admits, IsNumbered, KeepsNumbers, Numbering, place_of}
 use Rattle.futures_buffered_ordered.specs.declared.ordered_entries.Entry.{Entry}
 use Rattle.futures_buffered_ordered.specs.declared.ordered_entries.Entry.TheVariants.{Running, Kept}
@@ -174,6 +174,20 @@ module _ {Q A : Type 0} (with_number : ℕ → Q → ℕ) (count : Q → ℕ) wh
         word = keeps.word;
       }
 
+  -- the front kept its output, and leaves
+  pub KeepsNumbers-popped : (set : Q) (es after : List (Entry A)) (o : ℕ) (x : A) → KeepsNumbers with_number count set es o → es ≡ Kept x ∷ after
+      → KeepsNumbers with_number count set after ((o + 1) % 2 ^ 64)
+  KeepsNumbers-popped set es after o x keeps is =
+      record {
+        placed = λ k i h. let was : i ≡ (o + suc k) % 2 ^ 64 = keeps.placed (suc k) i (rw is h) in omega (arith, was, keeps.word);
+        as_many = λ n. let was : with_number n set ≡ count_by (runs_with n) (Kept x ∷ after) = subst (λ (l : List (Entry A)). with_number n set ≡ count_by (runs_with n) l) is (keeps.as_many n) in
+            omega (arith, was, sum_by-cons (runs n) (Kept x) after);
+        counted = let was : count set ≡ count_by is_running (Kept x ∷ after) = subst (λ (l : List (Entry A)). count set ≡ count_by is_running l) is keeps.counted in
+            omega (arith, was, sum_by-cons runs_any (Kept x) after);
+        short = let was : length (Kept x ∷ after) < 2 ^ 63 = subst (λ (l : List (Entry A)). length l < 2 ^ 63) is keeps.short in omega (arith, was);
+        word = omega arith;
+      }
+
   -- a new queue: nothing is held, and there is no entry
   pub KeepsNumbers-new : (set : Q) (es : List (Entry A)) → es ≡ [] → ((n : ℕ) → with_number n set ≡ 0) → count set ≡ 0 → KeepsNumbers with_number count set es 0
   KeepsNumbers-new set es none no_numbers empty =
@@ -229,3 +243,46 @@ pub back_admitted : {F Q A : Type 0} (numbers : NumberedSetOf Q F) (old mid : Nu
 back_admitted {A = A} numbers old mid future i n after numbered admitted same long is now =
     let fits : length old.queue.entries + 1 < 2 ^ 63 = let short = admitted.short in omega (arith, short) in
     rw same (back_keeps numbers.with_number numbers.count old.queue.set mid.queue.set old.queue.entries old.outgoing i numbered admitted.went_in.numbers admitted.went_in.one_more fits n after long is (now ∙ ap (λ (l : List (Entry A)). l ++ Running i ∷ []) admitted.entries))
+
+-- the entry of a future that went into the set came before all others
+pub front_admitted : {F Q A : Type 0} (numbers : NumberedSetOf Q F) (old mid : Numbering Q A) (future : F) (i : ℕ) (after : List (Entry A))
+    → IsNumbered numbers.with_number numbers.count old → Admits numbers old.queue future i mid.queue → i ≡ (old.outgoing + (2 ^ 64 - 1)) % 2 ^ 64 → after ≡ Running i ∷ mid.queue.entries
+    → KeepsNumbers numbers.with_number numbers.count mid.queue.set after i
+front_admitted {A = A} numbers old mid future i after numbered admitted is now =
+    let fits : length old.queue.entries + 1 < 2 ^ 63 = let short = admitted.short in omega (arith, short) in
+    subst (λ (l : List (Entry A)). KeepsNumbers numbers.with_number numbers.count mid.queue.set l i) (sym (now ∙ ap (λ (l : List (Entry A)). Running i ∷ l) admitted.entries))
+    (KeepsNumbers-front numbers.with_number numbers.count old.queue.set mid.queue.set old.queue.entries old.outgoing i numbered admitted.went_in.numbers admitted.went_in.one_more fits is)
+
+-- what a push leaves whose future went into the set, once its entry is there
+module _ {F Q A : Type 0} (numbers : NumberedSetOf Q F) (old mid : Numbering Q A) (future : F) (i : ℕ) (after : List (Entry A))
+    (numbered : IsNumbered numbers.with_number numbers.count old) (admitted : Admits numbers old.queue future i mid.queue)
+    (some_room : QueueIsAtBound numbers.refuses old.queue → ⊥) where
+  pub pushes_back : (n : ℕ) → n ≡ length old.queue.entries → i ≡ (old.outgoing + n) % 2 ^ 64 → after ≡ mid.queue.entries ++ Running i ∷ []
+      → PushesOrHandsBack AddsBack numbers old.queue future (Ok tt) (record { set = mid.queue.set; entries = after; room = mid.queue.room })
+  pushes_back n long is now = record {
+    pushed = (i, record { unused = unused; pushed = admitted.went_in.went_in; room = admitted.room }, now ∙ ap (λ (l : List (Entry A)). l ++ Running i ∷ []) admitted.entries);
+    back = tt;
+    large = λ bound. absurd (some_room bound);
+    set = admitted.went_in.set;
+  }
+    where
+      unused : IsUnused i old.queue.entries
+      unused k there =
+          let within = slice_get_within old.queue.entries k (Running i) there in
+          let same = same_place old.outgoing k n i numbered.word (omega (arith, within, numbered.short)) (omega (arith, long, numbered.short)) (numbered.placed k i there) is in
+          absurd (omega (arith, within, same, long))
+
+  pub pushes_front : i ≡ (old.outgoing + (2 ^ 64 - 1)) % 2 ^ 64 → after ≡ Running i ∷ mid.queue.entries
+      → PushesOrHandsBack AddsFront numbers old.queue future (Ok tt) (record { set = mid.queue.set; entries = after; room = mid.queue.room })
+  pushes_front is now = record {
+    pushed = (i, record { unused = unused; pushed = admitted.went_in.went_in; room = admitted.room }, now ∙ ap (λ (l : List (Entry A)). Running i ∷ l) admitted.entries);
+    back = tt;
+    large = λ bound. absurd (some_room bound);
+    set = admitted.went_in.set;
+  }
+    where
+      unused : IsUnused i old.queue.entries
+      unused k there =
+          let within = slice_get_within old.queue.entries k (Running i) there in
+          let placed = numbered.placed k i there in
+          absurd (omega (arith, within, placed, is, numbered.short, numbered.word))

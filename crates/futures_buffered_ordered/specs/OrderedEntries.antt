@@ -18,7 +18,7 @@ use Rattle.futures_buffered_ordered.specs.declared.ordered_entries.Entry.TheVari
 use Rattle.futures_buffered_ordered.specs.declared.ordered_entries.TheConstants.{MAX_LEN}
 
 -- the set that holds the futures in progress, each with a number; the entries from the front to the back, where one in
--- progress has the number of its future; and how many entries there is a place for
+-- progress has the number of its future; and how many entries had a place when the queue was made
 pub record Ordered (Q A : Type 0) : Type 0 where
   pub set : Q
   pub entries : List (Entry A)
@@ -72,19 +72,13 @@ module _ {Q A : Type 0} where
   abbrev pub without_entries : Q → Ordered Q A → Ordered Q A
   without_entries set q = record { set = set; entries = []; room = q.room }
 
-  -- all is as it was, but that there may be a place for more entries
-  pub record Stays (old new : Ordered Q A) : Type 0 where
-    pub set : new.set ≡ old.set
-    pub entries : new.entries ≡ old.entries
-    pub room : old.room ≤ new.room
-
-  -- a push asks for memory for its entry, or the set may refuse it, or the queue is as long as it may be
+  -- the entry of a push may need an allocation, or the set may refuse it, or the queue is as long as it may be
   abbrev pub MayRefuse : (Q → Type 0) → Ordered Q A → Type 0
   MayRefuse set_may_refuse q = (q.room ≤ length q.entries) ⊎ set_may_refuse q.set ⊎ (length q.entries ≡ MAX_LEN)
 
-  -- such a push may be refused, and no entry and no future has changed
+  -- such a push may be refused, and nothing has changed
   abbrev pub RefusesOne : (Q → Type 0) → Ordered Q A → Ordered Q A → Type 0
-  RefusesOne set_may_refuse old new = MayRefuse set_may_refuse old × Stays old new
+  RefusesOne set_may_refuse old new = MayRefuse set_may_refuse old × (new ≡ old)
 
   -- nothing more goes in: the queue is as long as it may be, or its set refuses
   abbrev pub QueueIsAtBound : (Q → Type 0) → Ordered Q A → Type 0
@@ -100,8 +94,8 @@ pub record HandsBack
     : Type 0 where
   -- the future that was to go in
   pub same : back ≡ future
-  -- no entry and no future has changed
-  pub stays : Stays old new
+  -- nothing has changed
+  pub stays : new ≡ old
   -- such a push may be refused
   pub may_refuse : MayRefuse set_may_refuse old
 
@@ -118,7 +112,7 @@ module _
     pub record PushesOrHandsBack (result : Result (Unit {0}) F) (new : Ordered Q A) : Type 0 where
       -- the future went in at this end
       pub pushed : OnOk result (adds numbers.pushes old future new)
-      -- or it comes back, and no entry and no future has changed
+      -- or it comes back, and nothing has changed
       pub back : IfErr result (λ back. HandsBack numbers.may_refuse old future back new)
       -- it comes back where nothing more goes in
       pub large : QueueIsAtBound numbers.refuses old → IsErr result
@@ -129,8 +123,8 @@ module _
     pub record AddsOrStays (result : Result (Unit {0}) NewFault) (new : Ordered Q A) : Type 0 where
       -- the future went in at this end
       pub pushed : OnOk result (adds numbers.pushes old future new)
-      -- or no entry and no other future has changed
-      pub stays : OnErr result (Stays old new)
+      -- or nothing has changed
+      pub stays : OnErr result (new ≡ old)
       -- such a push may be refused
       pub may_refuse : OnErr result (MayRefuse numbers.may_refuse old)
       -- it is `TooLarge` exactly where nothing more goes in
@@ -144,7 +138,7 @@ module _ {F Q A : Type 0} (pushes : Q → F → ℕ → Q → Type 0) where
       (new : Ordered Q A) : Type 0 where
     pub unused : IsUnused i old.entries
     pub pushed : pushes old.set future i new.set
-    pub room : old.room ≤ new.room
+    pub room : new.room ≡ old.room
 
   -- the future went into the set, and its entry behind all others
   abbrev pub AddsBack : Ordered Q A → F → Ordered Q A → Type 0

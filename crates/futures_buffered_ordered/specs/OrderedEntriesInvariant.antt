@@ -1,6 +1,6 @@
 -- How an ordered queue finds the entry of a future: what its numbers are, and what its calls ask and keep of them. The
 -- contracts of `OrderedEntries` cite it, and those of the queues do not.
-use Rattle.std.specs.Prelude.{◌≡◌, ℕ, ◌+◌, ◌-◌, ◌^◌, ◌%◌, ◌<◌, ◌≤◌, List, length, Option, Some, count_by}
+use Rattle.std.specs.Prelude.{◌≡◌, ℕ, ◌+◌, ◌-◌, ◌^◌, ◌%◌, ◌<◌, List, length, Option, Some, count_by}
 use Rattle.std.specs.List.{slice_get}
 use Rattle.futures.specs.declared.task.Poll.{Poll}
 use Rattle.futures.specs.declared.task.context.Context.{Context}
@@ -14,9 +14,10 @@ use Rattle.futures_buffered_ordered.specs.OrderedEntries.{NumberedSetOf, Ordered
 abbrev pub place_of : ℕ → ℕ → ℕ
 place_of outgoing number = (number + (2 ^ 64 - outgoing)) % 2 ^ 64
 
--- a queue, and the number of its front
+-- a queue, how many entries it has a place for, and the number of its front
 pub record Numbering (Q A : Type 0) : Type 0 where
   pub queue : Ordered Q A
+  pub places : ℕ
   pub outgoing : ℕ
 
 -- Numbers rise by one from entry to entry, and wrap. The set holds as many futures of each number as entries in
@@ -39,7 +40,7 @@ pub record KeepsNumbers
 abbrev pub IsNumbered : {Q A : Type 0} → (ℕ → Q → ℕ) → (Q → ℕ) → Numbering Q A → Type 0
 IsNumbered with_number count n = KeepsNumbers with_number count n.queue.set n.queue.entries n.outgoing
 
--- The future went into the set with number i, and its entry is still to come: there is a place for it.
+-- The future went into the set with number i, and its entry is still to come.
 pub record Admits
     {F Q A : Type 0}
     (numbers : NumberedSetOf Q F)
@@ -51,8 +52,7 @@ pub record Admits
   pub went_in : PushesInto numbers.pushes numbers.count numbers.with_number numbers.keeps
       old.set (record { future = future; number = i }) new.set
   pub entries : new.entries ≡ old.entries
-  pub room : old.room ≤ new.room
-  pub has_room : length new.entries < new.room
+  pub room : new.room ≡ old.room
   pub short : length old.entries < MAX_LEN
 
 -- What additions, from old to new, leave of a queue, whether they go in or not.
@@ -65,8 +65,8 @@ pub record AddingKeeps
     : Type 0 where
   -- this stays of the set
   pub set : keeps old.queue.set new.queue.set
-  -- there is a place for as many entries at least
-  pub room : old.queue.room ≤ new.queue.room
+  -- so does the number of places that were made with the queue
+  pub room : new.queue.room ≡ old.queue.room
   -- the numbers are in order
   pub numbered : IsNumbered with_number count new
 

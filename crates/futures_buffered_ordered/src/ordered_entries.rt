@@ -11,7 +11,7 @@ ghost use Rattle.futures_buffered_ordered.specs.declared.ordered_entries.Entry.T
 ghost use Rattle.futures_buffered_ordered.specs.OrderedEntries.{AddsBack, AddsFront, BesideTask, HandsBack, LastStep};
 ghost use Rattle.futures_buffered_ordered.specs.OrderedEntries.{LeavesQueue, MayRefuse};
 ghost use Rattle.futures_buffered_ordered.specs.OrderedEntries.{PushesOrHandsBack, QueueIsAtBound, RefusesOne};
-ghost use Rattle.futures_buffered_ordered.specs.OrderedEntries.{SetYields, Stays, starts_running, with_task};
+ghost use Rattle.futures_buffered_ordered.specs.OrderedEntries.{SetYields, starts_running, with_task};
 ghost use Rattle.futures_buffered_ordered.specs.OrderedEntries.{without_entries};
 ghost use Rattle.futures_buffered_ordered.specs.OrderedEntriesInvariant.{AddingKeeps, Admits, CanPollEntries};
 ghost use Rattle.futures_buffered_ordered.specs.OrderedEntriesInvariant.{IsNumbered, PollsEntries};
@@ -37,20 +37,23 @@ pub enum Entry<A> {
 
 /// A set of numbered futures and the list of entries over it.
 ///
-/// A contract sees the set, the entries from the front to the back, how many there is a place for, and the number of
-/// the front. It is what the queues are made of. Pushes and polls ask that the numbers are in order, and leave them so;
+/// A contract sees the set, the entries from the front to the back, how many had a place when the queue was made, how
+/// many have one now, and the number of the front. It is what the queues are made of. Pushes and polls ask that the numbers are in order, and leave them so;
 /// they are where a new one stands over a set that holds nothing.
 #[derive(Drop)]
 pub struct OrderedEntries<Q: Drop, A: Drop> {
     /// The set that holds the futures in progress.
     pub set: Q,
     entries: VecDeque<Entry<A>>,
+    // How many entries had a place when the queue was made. There may be places for more by now.
+    room: usize,
     // The number of the front. Numbers rise by one from entry to entry, and wrap: only their differences count, and
     // there are fewer entries than half the numbers, so none ever changes.
     outgoing: usize,
 }
 
 impl<Q: Drop, A: Drop> Model for OrderedEntries<Q, A> {
+    ghost use Rattle.std.specs.Prelude.{◌≤◌};
     ghost use Rattle.std.specs.VecDeque.{deque_capacity};
     ghost use Rattle.futures_buffered_ordered.specs.OrderedEntriesInvariant.{Numbering};
 
@@ -60,10 +63,13 @@ impl<Q: Drop, A: Drop> Model for OrderedEntries<Q, A> {
       queue = record {
         set = q.set;
         entries = q.entries.items;
-        room = deque_capacity q.entries;
+        room = q.room;
       };
+      places = deque_capacity q.entries;
       outgoing = q.outgoing;
     } };
+
+    ghost invariant = { λ q. q.room ≤ deque_capacity q.entries };
 }
 
 impl<Q: Drop, A: Drop> OrderedEntries<Q, A> {
@@ -76,6 +82,7 @@ impl<Q: Drop, A: Drop> OrderedEntries<Q, A> {
         OrderedEntries {
             set,
             entries: VecDeque::new(alloc),
+            room: 0,
             outgoing: 0,
         }
     }
@@ -92,6 +99,7 @@ impl<Q: Drop, A: Drop> OrderedEntries<Q, A> {
         Ok(OrderedEntries {
             set,
             entries,
+            room,
             outgoing: 0,
         })
     }
@@ -134,9 +142,9 @@ impl<Q: NumberedSet, A: Drop> OrderedEntries<Q, A> {
     // Makes a place for one entry more, and says whether there is one. Asks for no memory where the set would refuse
     // all the same.
     fn reserve_entry(&mut self) -> bool
-        ensures stays { Stays self.old.queue self.new.queue }
+        ensures queue { self.new.queue ≡ self.old.queue }
         ensures same { self.new.outgoing ≡ self.old.outgoing }
-        ensures room { result ≡ true → length self.old.queue.entries < self.new.queue.room }
+        ensures place { result ≡ true → length self.old.queue.entries < self.new.places }
         ensures short { result ≡ true → length self.old.queue.entries < MAX_LEN }
         ensures none { result ≡ false → MayRefuse Q.may_refuse self.old.queue }
     {
@@ -154,6 +162,7 @@ impl<Q: NumberedSet, A: Drop> OrderedEntries<Q, A> {
         requires fit { Q.is_fit future }
         ensures admitted { OnOk result (Admits Q.NumberedSet
             self.old.queue future number self.new.queue) }
+        ensures place { OnOk result (length self.new.queue.entries < self.new.places) }
         ensures back { IfErr result (λ back. HandsBack Q.may_refuse
             self.old.queue future back self.new.queue) }
         ensures large { QueueIsAtBound Q.refuses self.old.queue → IsErr result }
@@ -172,8 +181,8 @@ impl<Q: NumberedSet, A: Drop> OrderedEntries<Q, A> {
     /// Adds the future behind all others, in progress, with the next number.
     ///
     /// The future comes back where the queue has `MAX_LEN` entries, where the set refuses it, and where a request for
-    /// memory was refused; no entry and no future has changed then. Asks for memory only where there are as many
-    /// entries as places for them, and where the set does.
+    /// memory was refused; the queue has not changed then. Asks for memory only where there are as many entries as places
+    /// for them, and where the set does.
     pub fn add_back(&mut self, future: Q::Future) -> Result<(), Q::Future>
         requires numbered { IsNumbered Q.with_number Q.count self.old }
         requires held { Q.takes self.old.queue.set }

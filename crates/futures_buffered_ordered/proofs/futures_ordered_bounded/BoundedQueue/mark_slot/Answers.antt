@@ -12,5 +12,5 @@ invariant_of-self g c =
     let is = ap (λ q. q.queue) c.self-inside.view_is in
     let same = c.mark_slot.ensures.slots ∙ ap (λ (q : Numbering (Bounded (Numbered g.row.T.Denot) g.row.S.Denot) g.row.A.Denot). q.queue.set.slots) is in
     subst
-    (λ (q : Numbering (Bounded (Numbered g.row.T.Denot) g.row.S.Denot) g.row.A.Denot). KeepsBoundedQueue (record { queue = record { set = marked; entries = q.queue.entries; room = q.queue.room }; outgoing = q.outgoing }))
+    (λ (q : Numbering (Bounded (Numbered g.row.T.Denot) g.row.S.Denot) g.row.A.Denot). KeepsBoundedQueue (record { queue = record { set = marked; entries = q.queue.entries; room = q.queue.room }; places = q.places; outgoing = q.outgoing }))
     (sym is) (marked_keeps c.self.inside.queue marked same c.self.invariant)
