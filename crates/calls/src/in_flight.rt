@@ -13,10 +13,9 @@ use crate::values::{Output, new_value, new_values};
 use futures::task::{Context, Poll};
 use futures::{Future, Stream};
 use futures_buffered::in_flight::{
-    BufferedOrdered, BufferedStreamExt, FuturesOrderedBounded, FuturesUnorderedBounded, Kept,
-    MergeUnbounded, join_all, merge_unbounded, try_join_all,
+    BufferedOrdered, BufferedStreamExt, FuturesOrderedBounded, FuturesUnorderedBounded, JoinBy,
+    Kept, MergeUnbounded, join_all, merge_unbounded, try_join_all,
 };
-use futures_buffered::in_flight_join::InFlightJoin;
 use futures_buffered::join::AllOutputs;
 use futures_buffered::try_join::UntilError;
 use futures_buffered_core::ready_core::NewFault;
@@ -117,7 +116,7 @@ pub fn run_queue(
 /// A join of futures of the kit that may be polled.
 #[derive(Drop)]
 struct Joined<R, F: Future, A> {
-    join: InFlightJoin<R, F, A>,
+    join: JoinBy<R, F, A>,
 }
 
 impl<R, F: Future, A> Model for Joined<R, F, A> {

@@ -17,14 +17,14 @@ use crate::outputs::Outputs;
 use futures::Future;
 use futures::task::{Context, Poll};
 use futures_buffered_core::ready_core::{MAX_CAPACITY, NewFault};
-use futures_buffered_in_flight::InFlight;
+use futures_buffered_in_flight::FuturesUnorderedBounded;
 use std::alloc::{AllocError, Global};
 use std::marker::Model;
 
 /// The futures that a join waits for, each in the slot of its place, and the outputs that have come.
 #[derive(Drop)]
 pub struct Flying<F, A> {
-    set: InFlight<F>,
+    set: FuturesUnorderedBounded<F>,
     outputs: Outputs<A>,
 }
 
@@ -58,7 +58,7 @@ fn draw<F: Drop, I: IntoIterator<Item = F>>(alloc: Global, iter: I) -> Result<Ve
 
 // Has a new set take these futures, each in the slot of its place.
 #[tactic(auto, using(crate::proofs::InFlightJoinLemmas::pushed_none, crate::proofs::InFlightJoinLemmas::pushed_all))]
-fn push_all<F>(set: &mut InFlight<F>, futures: Vec<F>) -> Result<(), AllocError>
+fn push_all<F>(set: &mut FuturesUnorderedBounded<F>, futures: Vec<F>) -> Result<(), AllocError>
 where
     F: Future<Output: Drop>,
     requires new { IsNewInFlight (vec_len futures) set.old }
@@ -88,7 +88,7 @@ impl<F: Future<Output: Drop>, A: Drop> Flying<F, A> {
     {
         let futures = draw(alloc, iter)?;
         let outputs = Outputs::new(alloc, futures.len())?;
-        let mut set = InFlight::new(alloc, futures.len())?;
+        let mut set = FuturesUnorderedBounded::new(alloc, futures.len())?;
         push_all(&mut set, futures)?;
         Ok(Flying { set, outputs })
     }

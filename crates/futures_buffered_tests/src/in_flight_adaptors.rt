@@ -1,5 +1,4 @@
-//! What holds futures of the kit in plain sight: the buffers, of futures that a thread completes, the for-eaches, and a
-//! join.
+//! What holds futures of the kit: the buffers, of futures that a thread completes, the for-eaches, and a join.
 use crate::same::assert_same;
 use futures::channel::oneshot::{Canceled, Receiver, Sender, channel};
 use futures::executor::block_on;
