@@ -2,13 +2,14 @@
 ghost use Rattle.futures_buffered.specs.InFlight.{CanPollAll};
 ghost use Rattle.futures_buffered.specs.InFlightOrdered.{CanPollOrdered};
 
-use crate::foreign::sent;
+use crate::kit::sent;
 use crate::show::print_all;
 use anyhow::bail;
 use futures::channel::oneshot::{Canceled, channel};
 use futures::{Future, FutureExt, StreamExt, future, stream};
-use futures_buffered::in_flight::BufferedStreamExt;
-use futures_buffered::{InFlight, InFlightOrdered};
+use futures_buffered::in_flight::{
+    BufferedStreamExt, FuturesOrderedBounded, FuturesUnorderedBounded,
+};
 use std::alloc::AllocGlobal;
 use std::io::{self, Print};
 use std::random::RandomSource;
@@ -29,7 +30,7 @@ where
     R: Wait + RandomSource + AllocGlobal + Print,
 {
     let (sender, late) = channel::<u64>(rt.alloc())?;
-    let mut set = InFlight::new(rt.alloc(), 2)?;
+    let mut set = FuturesUnorderedBounded::new(rt.alloc(), 2)?;
     let late = set.try_push_abortable(late).ok();
     let soon = set.try_push(sent(rt.alloc(), 7)?).ok();
     let (came, mut set) = set.wait(rt)?;
@@ -46,7 +47,7 @@ where
 }
 
 /// The sum of what the futures give, each added as it comes.
-fn sum_of<R, F>(rt: &R, set: InFlight<F>) -> io::Result<u64>
+fn sum_of<R, F>(rt: &R, set: FuturesUnorderedBounded<F>) -> io::Result<u64>
 where
     R: Wait + RandomSource + AllocGlobal,
     F: Future<Output = u64>,
@@ -70,7 +71,7 @@ where
     R: Wait + RandomSource + AllocGlobal + Print,
 {
     let receiver = sent(rt.alloc(), 40)?;
-    let mut set = InFlight::new(rt.alloc(), 8)?;
+    let mut set = FuturesUnorderedBounded::new(rt.alloc(), 8)?;
     let key = set.try_push(receiver.map(|sent| sent.unwrap_or(0))).ok();
     let sum = sum_of(rt, set)?;
     if key.is_none() {
@@ -86,7 +87,7 @@ where
 {
     let alloc = rt.alloc();
     let number = |sent: Result<u64, Canceled>| future::ready(sent.unwrap_or(0));
-    let mut queue = InFlightOrdered::new(alloc, 2)?;
+    let mut queue = FuturesOrderedBounded::new(alloc, 2)?;
     let behind = queue.try_push_back(sent(alloc, 2)?.then(number)).is_ok();
     let before = queue.try_push_front(sent(alloc, 1)?.then(number)).is_ok();
     let is_back = queue.try_push_back(sent(alloc, 3)?.then(number)).is_err();
@@ -95,10 +96,7 @@ where
 }
 
 /// The number whose digits the futures give, from the front to the back.
-fn number_of<R, F>(
-    rt: &R,
-    queue: InFlightOrdered<F, Result<u64, Canceled>>,
-) -> Result<u64, anyhow::Error>
+fn number_of<R, F>(rt: &R, queue: FuturesOrderedBounded<F>) -> Result<u64, anyhow::Error>
 where
     R: Wait + RandomSource + AllocGlobal,
     F: Future<Output = Result<u64, Canceled>>,
@@ -122,7 +120,7 @@ where
     R: Wait + RandomSource + AllocGlobal + Print,
 {
     let alloc = rt.alloc();
-    let mut queue = InFlightOrdered::new(alloc, 8)?;
+    let mut queue = FuturesOrderedBounded::new(alloc, 8)?;
     if queue
         .extend(vec![in alloc; sent(alloc, 4)?, sent(alloc, 2)?]?)
         .is_err()
