@@ -98,12 +98,13 @@ fn a_script_source_keeps_the_tasks_waker(rt: HostRuntime) -> Result<(), Fail> {
     Ok(())
 }
 
-// A registration of the task that is kept, and a mark, wake nobody.
+// A registration of the task that is kept, a mark and `let_all_go` wake nobody.
 fn lets_the_task_wait<S: ReadySource>(rt: &impl Abort, task: &MockTask, source: &mut S) {
     register(task, source);
     register(task, source);
     assert_same(rt, task.is_woken(), false);
     assert_same(rt, mark(source, 1), Some(Woke::Fresh));
+    source.let_all_go();
     assert_same(rt, task.is_woken(), false);
 }
 

@@ -1,4 +1,6 @@
 // Slots that are filled, emptied and filled again.
+ghost use Rattle.std.specs.Iterator.{at_most};
+
 use crate::same::assert_same;
 use futures_buffered_core::ready_core::{MAX_CAPACITY, NewFault};
 use futures_buffered_core::slot_map::PinSlotMap;
@@ -71,5 +73,38 @@ fn holds_each_item(rt: HostRuntime) -> Result<(), Fail> {
     assert_same(&rt, map.insert_with(3, |value| value), Err(3));
     map.remove(1);
     assert_same(&rt, map.insert_with(4, |value| value), Ok(1));
+    Ok(())
+}
+
+// Promises as many items as slots can be, and gives three.
+#[derive(Drop)]
+struct Promises {
+    left: usize,
+}
+
+impl Iterator for Promises {
+    type Item = usize;
+
+    ghost remaining = { λ s. at_most s.left };
+
+    fn next(&mut self) -> Option<usize> {
+        if self.left <= MAX_CAPACITY - 3 {
+            return None;
+        }
+        self.left -= 1;
+        Some(self.left)
+    }
+
+    fn size_hint(&self) -> (usize, Option<usize>) {
+        (self.left, None)
+    }
+}
+
+// No memory is there for what is promised, and enough for what comes.
+#[test]
+fn holds_fewer_items_than_are_promised(rt: HostRuntime) -> Result<(), Fail> {
+    let promises = Promises { left: MAX_CAPACITY };
+    let map = PinSlotMap::from_iter(rt.alloc(), promises)?;
+    assert_same(&rt, (map.len(), map.capacity()), (3, 3));
     Ok(())
 }

@@ -3,7 +3,7 @@ use crate::same::assert_same;
 use crate::slots::{mark, wake};
 use futures::task::{Poll, Source, Waker};
 use futures::test::MockTask;
-use futures_buffered_core::ready_core::{Taken, Woke};
+use futures_buffered_core::ready_core::{MAX_CAPACITY, NewFault, Taken, Woke};
 use futures_buffered_core::ready_shared::SharedReady;
 use futures_buffered_core::ready_source::{NewSource, ReadySource};
 use std::alloc::Global;
@@ -235,6 +235,46 @@ fn a_wake_of_the_last_slot_wakes_the_task(rt: HostRuntime) -> Result<(), Fail> {
     for slots in FULL {
         try_slots(&rt, rt.alloc(), &task, slots)?;
     }
+    Ok(())
+}
+
+// Each slot of so many, of a source and of one made beside it.
+fn try_each_slot(
+    rt: &impl Abort,
+    alloc: Global,
+    task: &MockTask,
+    slots: usize,
+) -> Result<(), Fail> {
+    let mut source: SharedReady = SharedReady::new(alloc, slots)?;
+    let mut beside = source.make_sibling(alloc, slots)?;
+    for slot in 0..slots {
+        try_slot(rt, task, &mut source, slot);
+        try_slot(rt, task, &mut beside, slot);
+    }
+    Ok(())
+}
+
+#[test]
+fn a_wake_of_each_slot_of_nine_sizes_wakes_the_task(rt: HostRuntime) -> Result<(), Fail> {
+    let task = MockTask::new(&rt)?;
+    for slots in [1, 8, 9, 63, 64, 65, 100, 128, 256] {
+        try_each_slot(&rt, rt.alloc(), &task, slots)?;
+    }
+    Ok(())
+}
+
+// The task's waker is with the poller when a sibling is refused, as too large and for want of memory.
+#[test]
+fn a_refused_sibling_does_not_wake_the_task(rt: HostRuntime) -> Result<(), Fail> {
+    let task = MockTask::new(&rt)?;
+    let mut source: SharedReady = SharedReady::new(rt.alloc(), 1)?;
+    assert_same(&rt, mark(&mut source, 0), Some(Woke::Fresh));
+    assert_same(&rt, poll(&task, &mut source), (Taken::Slot(0), false));
+    let large = source.make_sibling(rt.alloc(), MAX_CAPACITY + 1);
+    assert_same(&rt, large.err(), Some(NewFault::TooLarge));
+    let largest = source.make_sibling(rt.alloc(), MAX_CAPACITY);
+    assert_same(&rt, largest.err(), Some(NewFault::Memory));
+    assert_same(&rt, task.is_woken(), false);
     Ok(())
 }
 

@@ -30,6 +30,22 @@ fn the_waker_of_the_last_poll_is_woken(rt: HostRuntime) -> Result<(), Fail> {
     assert_same(&rt, name_of(&mut source), None);
     let after = Poll::Ready(Err(Canceled));
     assert_same(&rt, receiver.poll(&last), after);
+    assert_same(&rt, name_of(&mut source), None);
+    Ok(())
+}
+
+// The poll that says so leaves its slot as it is.
+#[test]
+fn a_sender_that_goes_wakes_a_late_slot_once(rt: HostRuntime) -> Result<(), Fail> {
+    let mut source: SharedReady = SharedReady::new(rt.alloc(), 130)?;
+    let waker = source.try_waker(100)?;
+    let (sender, mut receiver) = channel::<u64>(rt.alloc())?;
+    assert_same(&rt, receiver.poll(&waker), Poll::Pending);
+    drop(sender);
+    assert_same(&rt, name_of(&mut source), Some(100));
+    let canceled = Poll::Ready(Err(Canceled));
+    assert_same(&rt, receiver.poll(&waker), canceled);
+    assert_same(&rt, name_of(&mut source), None);
     Ok(())
 }
 
@@ -91,6 +107,16 @@ fn a_receipt_shows_what_came(rt: HostRuntime) -> Result<(), Fail> {
     let source: SharedReady = SharedReady::new(rt.alloc(), 1)?;
     let waker = source.try_waker(0)?;
     assert_same(&rt, passes(rt.alloc(), &waker, 7)?, Some(7));
+    Ok(())
+}
+
+#[test]
+fn a_receipt_that_is_compared_before_the_answer(rt: HostRuntime) -> Result<(), Fail> {
+    let (sender, mut receiver) = channel::<u64>(rt.alloc())?;
+    let Ok(receipt) = sender.send_with_receipt(7) else {
+        return Err("the value was refused".into());
+    };
+    receipt.compare(&mut receiver);
     Ok(())
 }
 

@@ -74,7 +74,8 @@ fn a_full_channel_gives_the_value_back(rt: HostRuntime) -> Result<(), Fail> {
     Ok(())
 }
 
-// The slot of a receiver that waits is not woken by a sending that finds no room.
+// The slot of a receiver that waits is not woken by a sending that finds no room. Once the receiver is gone, the channel
+// is closed, and not full.
 #[test]
 fn a_channel_without_places(rt: HostRuntime) -> Result<(), Fail> {
     let mut source: SharedReady = SharedReady::new(rt.alloc(), 1)?;
@@ -84,6 +85,8 @@ fn a_channel_without_places(rt: HostRuntime) -> Result<(), Fail> {
     assert_same(&rt, sender.try_send(1), Err(TrySendError::Full(1)));
     assert_same(&rt, name_of(&mut source), None);
     assert_same(&rt, receiver.try_recv(), Err(TryRecvError::Empty));
+    drop(receiver);
+    assert_same(&rt, sender.try_send(2), Err(TrySendError::Closed(2)));
     Ok(())
 }
 
