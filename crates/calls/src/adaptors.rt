@@ -10,31 +10,23 @@ use crate::session::{Options, Session};
 use crate::shared_world::SharedWorld;
 use crate::source::{FutureSource, TryFutureSource};
 use crate::subject::{Call, Subject};
-use crate::values::{NumberFuture, Output, TryFuture, TryUnitFuture, UnitFuture};
+use crate::values::{NumberFuture, TryFuture, TryUnitFuture, UnitFuture};
 use futures::stream::TryStreamExt;
 use futures::task::Context;
 use futures::{Future, Stream};
-use futures_buffered::BufferedTryStreamExt;
+use futures_buffered::{BufferedStreamExt, BufferedTryStreamExt};
 use futures_buffered::buffer::Buffer;
-use futures_buffered::buffer_unordered::CompletionQueue;
-use futures_buffered::buffered_ordered::OrderedQueue;
 use futures_buffered::for_each_concurrent::ForEachConcurrent;
 use futures_buffered::future_queue::{FutureQueue, NewQueue};
-use futures_buffered::try_buffer::TryQueue;
 use futures_buffered::try_for_each_concurrent::TryForEachConcurrent;
 use futures_buffered_core::ready_core::NewFault;
 use futures_buffered_core::ready_shared::SharedReady;
 use futures_buffered_core::ready_source::ReadySource;
-use futures_buffered_sets::futures_unordered_bounded::POLL_LIMIT;
 use futures_buffered_sets::{FusedFuture, FusedStream, SizeHint, SlotFuture};
 
-fn limit_of(options: &Options) -> usize
-    ensures { 1 ≤ result }
-{
-    match options.limit {
-        Some(limit) if limit > 0 => limit,
-        _ => POLL_LIMIT,
-    }
+// No line chose how the object is made: it is made by the method of its source.
+fn is_usual(options: &Options) -> bool {
+    options.limit.is_none() && !options.takes_source
 }
 
 // How many futures the buffer holds at most.
@@ -56,8 +48,8 @@ fn new_buffer<St: Drop, Q: NewQueue<Env = (), Source = SharedReady>>(
         Some(limit) if limit > 0 && options.takes_source => {
             Buffer::over_limit(&(), options.alloc, source, n, limit)
         }
-        _ if options.takes_source => Buffer::over(&(), options.alloc, source, n),
-        _ => Buffer::with_limit(options.alloc, source, n, limit_of(options)),
+        Some(limit) if limit > 0 => Buffer::with_limit(options.alloc, source, n, limit),
+        _ => Buffer::over(&(), options.alloc, source, n),
     }
 }
 
@@ -85,63 +77,23 @@ where
     }
 }
 
-// Begins a buffer over this source.
-fn run_over<St, Q>(
-    session: &mut Session,
-    source: St,
-    n: usize,
-    lines: &[&str],
-) -> Result<usize, NewFault>
-where
-    St: Stream + SizeHint,
-    Q: FutureQueue<St::Item> + NewQueue<Env = (), Source = SharedReady>,
-    Q::Output: Given,
-    requires some { 0 < n }
-    requires polls { ⟦<Buffer<St, Q> as Subject>⟧.can_poll }
-{
-    let made: Result<Buffer<St, Q>, NewFault> = new_buffer(&session.options, source, n);
-    run_made(session, made, lines)
-}
-
-// Begins a buffer of futures.
-fn run_futures<Q>(
-    session: &mut Session,
-    numbers: &[usize],
-    lines: &[&str],
-) -> Result<usize, NewFault>
-where
-    Q: FutureQueue<NumberFuture, Output = Output> + NewQueue<Env = (), Source = SharedReady>,
-    requires { ⟦<Buffer<FutureSource<NumberFuture>, Q> as Subject>⟧.can_poll }
-{
-    let n = size_of(numbers);
-    if n == 0 {
-        return Ok(0);
-    }
-    let source = FutureSource::new(&session.world, session.options.hint)?;
-    run_over::<FutureSource<NumberFuture>, Q>(session, source, n, lines)
-}
-
-// Begins a buffer of futures that may fail.
-fn run_tries<Q>(session: &mut Session, numbers: &[usize], lines: &[&str]) -> Result<usize, NewFault>
-where
-    Q: FutureQueue<TryFuture, Output = Result<Output, u64>>
-        + NewQueue<Env = (), Source = SharedReady>,
-    requires { ⟦<Buffer<TryFutureSource<TryFuture>, TryQueue<Q>> as Subject>⟧.can_poll }
-{
-    let n = size_of(numbers);
-    if n == 0 {
-        return Ok(0);
-    }
-    let source = TryFutureSource::new(&session.world, session.options.hint)?;
-    run_over::<TryFutureSource<TryFuture>, TryQueue<Q>>(session, source, n, lines)
-}
-
 pub fn run_buffer(
     session: &mut Session,
     numbers: &[usize],
     lines: &[&str],
 ) -> Result<usize, NewFault> {
-    run_futures::<CompletionQueue<NumberFuture, SharedReady>>(session, numbers, lines)
+    let n = size_of(numbers);
+    if n == 0 {
+        return Ok(0);
+    }
+    let options = session.options;
+    let source: FutureSource<NumberFuture> = FutureSource::new(&session.world, options.hint)?;
+    let made = if is_usual(&options) {
+        source.buffered_unordered(options.alloc, n)
+    } else {
+        new_buffer(&options, source, n)
+    };
+    run_made(session, made, lines)
 }
 
 pub fn run_ordered_buffer(
@@ -149,7 +101,18 @@ pub fn run_ordered_buffer(
     numbers: &[usize],
     lines: &[&str],
 ) -> Result<usize, NewFault> {
-    run_futures::<OrderedQueue<NumberFuture, Output, SharedReady>>(session, numbers, lines)
+    let n = size_of(numbers);
+    if n == 0 {
+        return Ok(0);
+    }
+    let options = session.options;
+    let source: FutureSource<NumberFuture> = FutureSource::new(&session.world, options.hint)?;
+    let made = if is_usual(&options) {
+        source.buffered_ordered(options.alloc, n)
+    } else {
+        new_buffer(&options, source, n)
+    };
+    run_made(session, made, lines)
 }
 
 pub fn run_try_buffer(
@@ -157,7 +120,18 @@ pub fn run_try_buffer(
     numbers: &[usize],
     lines: &[&str],
 ) -> Result<usize, NewFault> {
-    run_tries::<CompletionQueue<TryFuture, SharedReady>>(session, numbers, lines)
+    let n = size_of(numbers);
+    if n == 0 {
+        return Ok(0);
+    }
+    let options = session.options;
+    let source: TryFutureSource<TryFuture> = TryFutureSource::new(&session.world, options.hint)?;
+    let made = if is_usual(&options) {
+        source.try_buffered_unordered(options.alloc, n)
+    } else {
+        new_buffer(&options, source, n)
+    };
+    run_made(session, made, lines)
 }
 
 pub fn run_try_ordered_buffer(
@@ -165,7 +139,18 @@ pub fn run_try_ordered_buffer(
     numbers: &[usize],
     lines: &[&str],
 ) -> Result<usize, NewFault> {
-    run_tries::<OrderedQueue<TryFuture, Result<Output, u64>, SharedReady>>(session, numbers, lines)
+    let n = size_of(numbers);
+    if n == 0 {
+        return Ok(0);
+    }
+    let options = session.options;
+    let source: TryFutureSource<TryFuture> = TryFutureSource::new(&session.world, options.hint)?;
+    let made = if is_usual(&options) {
+        source.try_buffered_ordered(options.alloc, n)
+    } else {
+        new_buffer(&options, source, n)
+    };
+    run_made(session, made, lines)
 }
 
 impl<St: Stream, F, Fut, S: ReadySource> Subject for ForEachConcurrent<St, F, Fut, S>
@@ -204,8 +189,11 @@ fn new_for_each<F: FnMut(UnitFuture) -> UnitFuture + Drop>(
         Some(limit) if limit > 0 && options.takes_source => {
             ForEachConcurrent::over_limit(&(), options.alloc, source, n, limit, call)
         }
+        Some(limit) if limit > 0 => {
+            ForEachConcurrent::with_limit(options.alloc, source, n, limit, call)
+        }
         _ if options.takes_source => ForEachConcurrent::over(&(), options.alloc, source, n, call),
-        _ => ForEachConcurrent::with_limit(options.alloc, source, n, limit_of(options), call),
+        _ => BufferedStreamExt::for_each_concurrent(source, options.alloc, n, call),
     }
 }
 

@@ -13,8 +13,8 @@ use crate::values::{Output, new_value, new_values};
 use futures::task::{Context, Poll};
 use futures::{Future, Stream};
 use futures_buffered::in_flight::{
-    BufferedOrdered, BufferedStreamExt, FuturesOrderedBounded, FuturesUnorderedBounded, JoinBy,
-    Kept, MergeUnbounded, join_all, merge_unbounded, try_join_all,
+    BufferedOrdered, BufferedStreamExt, FuturesOrderedBounded, FuturesUnorderedBounded, IterExt,
+    JoinBy, Kept, MergeUnbounded,
 };
 use futures_buffered::join::AllOutputs;
 use futures_buffered::try_join::UntilError;
@@ -145,7 +145,7 @@ impl Subject for Joined<AllOutputs, KitFuture, Output> {
 
 pub fn run_join(session: &mut Session, ids: &[usize], lines: &[&str]) -> Result<usize, NewFault> {
     let futures: Vec<KitFuture> = new_values(&session.world, ids);
-    let join = join_all(session.options.alloc, futures)?;
+    let join = futures.join_all(session.options.alloc)?;
     run_made(session, Ok(Joined { join }), lines)
 }
 
@@ -168,7 +168,7 @@ pub fn run_try_join(
     lines: &[&str],
 ) -> Result<usize, NewFault> {
     let futures: Vec<KitTryFuture> = new_values(&session.world, ids);
-    let join = try_join_all(session.options.alloc, futures)?;
+    let join = futures.try_join_all(session.options.alloc)?;
     run_made(session, Ok(Joined { join }), lines)
 }
 
@@ -208,7 +208,7 @@ impl Subject for KitMerge {
 /// Begins a merge without a limit of the streams of the line.
 pub fn run_merge(session: &mut Session, ids: &[usize], lines: &[&str]) -> Result<usize, NewFault> {
     let streams: Vec<KitStream> = new_values(&session.world, ids);
-    let merge = merge_unbounded(session.options.alloc, streams)?;
+    let merge = streams.merge_unbounded(session.options.alloc)?;
     run_made(session, Ok(KitMerge { merge }), lines)
 }
 

@@ -8,10 +8,11 @@ use crate::subject::{Call, Subject};
 use crate::values::{NumberFuture, Output, TryFuture, new_values};
 use futures::Future;
 use futures::task::Context;
+use futures_buffered::IterExt;
 use futures_buffered_core::ready_core::NewFault;
 use futures_buffered_core::ready_shared::SharedReady;
 use futures_buffered_core::ready_source::ReadySource;
-use futures_buffered_sets::{FusedFuture, JoinAll, SlotFuture, TryJoinAll, join_all, try_join_all};
+use futures_buffered_sets::{FusedFuture, JoinAll, SlotFuture, TryJoinAll};
 
 impl<F: SlotFuture<S::Waker, Output = Output>, S: ReadySource> Subject for JoinAll<F, S> {
     ghost can_poll = { (future : F) → F.can_poll future };
@@ -55,7 +56,7 @@ fn new_join(
     if options.takes_source {
         JoinAll::over(&(), options.alloc, futures)
     } else {
-        join_all(options.alloc, futures)
+        futures.join_all(options.alloc)
     }
 }
 
@@ -66,7 +67,7 @@ fn new_try_join(
     if options.takes_source {
         TryJoinAll::over(&(), options.alloc, futures)
     } else {
-        try_join_all(options.alloc, futures)
+        futures.try_join_all(options.alloc)
     }
 }
 

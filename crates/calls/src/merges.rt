@@ -8,6 +8,7 @@ use crate::subject::{Call, Subject};
 use crate::values::{NumberStream, Scripted, new_value, new_values};
 use futures::Stream;
 use futures::task::Context;
+use futures_buffered::IterExt;
 use futures_buffered_core::ready_core::NewFault;
 use futures_buffered_core::ready_shared::SharedReady;
 use futures_buffered_core::ready_source::{NewSource, ReadySource};
@@ -88,7 +89,7 @@ fn bounded_merge(
         }
         Some(limit) if limit > 0 => MergeBounded::with_limit(options.alloc, streams, limit),
         _ if options.takes_source => MergeBounded::over(&(), options.alloc, streams),
-        _ => MergeBounded::from_iter(options.alloc, streams),
+        _ => streams.merge(options.alloc),
     }
 }
 
@@ -99,7 +100,7 @@ fn usual_merge(
     if options.is_filtered {
         return MergeUnbounded::from_iter(options.alloc, streams.into_iter().filter(|_| true));
     }
-    MergeUnbounded::from_iter(options.alloc, streams)
+    streams.merge_unbounded(options.alloc)
 }
 
 fn growing_merge(

@@ -8,6 +8,7 @@ use crate::subject::{Call, Subject};
 use crate::values::{NumberFuture, Scripted, new_value, new_values};
 use futures::Stream;
 use futures::task::Context;
+use futures_buffered::IterExt;
 use futures_buffered_core::ready_core::NewFault;
 use futures_buffered_core::ready_shared::SharedReady;
 use futures_buffered_core::ready_source::{NewSource, ReadySource};
@@ -148,7 +149,7 @@ fn growing_queue_of(
     if options.is_filtered {
         return FuturesOrdered::from_iter(options.alloc, futures.into_iter().filter(|_| true));
     }
-    FuturesOrdered::from_iter(options.alloc, futures)
+    futures.into_ordered_stream_unbounded(options.alloc)
 }
 
 pub fn run_queue(
@@ -181,7 +182,7 @@ pub fn run_queue_of(
     lines: &[&str],
 ) -> Result<usize, NewFault> {
     let futures: Vec<NumberFuture> = new_values(&session.world, ids);
-    let made = FuturesOrderedBounded::from_iter(session.options.alloc, futures);
+    let made = futures.into_ordered_stream(session.options.alloc);
     run_made(session, made, lines)
 }
 

@@ -8,6 +8,7 @@ use crate::subject::{Call, Subject};
 use crate::values::{NumberFuture, Scripted, new_value, new_values};
 use futures::Stream;
 use futures::task::Context;
+use futures_buffered::IterExt;
 use futures_buffered_core::ready_core::NewFault;
 use futures_buffered_core::ready_shared::SharedReady;
 use futures_buffered_core::ready_source::{NewSource, ReadySource};
@@ -92,7 +93,7 @@ fn set_of(options: &Options, futures: Vec<NumberFuture>) -> Result<Set, NewFault
             FuturesUnorderedBounded::over_limit(&(), options.alloc, futures, limit)
         }
         _ if options.takes_source => FuturesUnorderedBounded::over(&(), options.alloc, futures),
-        _ => FuturesUnorderedBounded::from_iter(options.alloc, futures),
+        _ => futures.into_unordered_stream(options.alloc),
     }
 }
 
@@ -160,7 +161,7 @@ fn growing_set_of(options: &Options, futures: Vec<NumberFuture>) -> Result<Growi
     if options.is_filtered {
         return FuturesUnordered::from_iter(options.alloc, futures.into_iter().filter(|_| true));
     }
-    FuturesUnordered::from_iter(options.alloc, futures)
+    futures.into_unordered_stream_unbounded(options.alloc)
 }
 
 pub fn run_growing_set(
