@@ -1,35 +1,24 @@
-//! Futures of the kit in flight, each told by its key, or in a queue.
+//! Futures of the crate `futures`, pushed by hand into a set or a queue.
 ghost use Rattle.futures_buffered.specs.InFlight.{CanPollAll};
 ghost use Rattle.futures_buffered.specs.InFlightOrdered.{CanPollOrdered};
 
-use crate::foreign::sent;
+use crate::at_once::sent;
 use crate::show::print_all;
 use anyhow::bail;
 use futures::channel::oneshot::{Canceled, channel};
-use futures::{Future, FutureExt, StreamExt, future, stream};
-use futures_buffered::in_flight::BufferedStreamExt;
-use futures_buffered::{InFlight, InFlightOrdered};
+use futures::{Future, FutureExt, future};
+use futures_buffered::in_flight::{FuturesOrderedBounded, FuturesUnorderedBounded};
 use std::alloc::AllocGlobal;
 use std::io::{self, Print};
 use std::random::RandomSource;
 use std::sync::Wait;
-
-pub fn with_closures_inside<R>(rt: &R) -> Result<(), anyhow::Error>
-where
-    R: Wait + RandomSource + AllocGlobal + Print,
-{
-    let alloc = rt.alloc();
-    let receivers = vec![in alloc; sent(alloc, 1)?]?;
-    let requests = stream::iter(receivers).map(|receiver| receiver.map(|sent| sent.unwrap_or(0)));
-    print_all(rt, requests.buffered_unordered(alloc, 8)?)
-}
 
 pub fn told_by_keys<R>(rt: &R) -> Result<(), anyhow::Error>
 where
     R: Wait + RandomSource + AllocGlobal + Print,
 {
     let (sender, late) = channel::<u64>(rt.alloc())?;
-    let mut set = InFlight::new(rt.alloc(), 2)?;
+    let mut set = FuturesUnorderedBounded::new(rt.alloc(), 2)?;
     let late = set.try_push_abortable(late).ok();
     let soon = set.try_push(sent(rt.alloc(), 7)?).ok();
     let (came, mut set) = set.wait(rt)?;
@@ -46,7 +35,7 @@ where
 }
 
 /// The sum of what the futures give, each added as it comes.
-fn sum_of<R, F>(rt: &R, set: InFlight<F>) -> io::Result<u64>
+fn sum_of<R, F>(rt: &R, set: FuturesUnorderedBounded<F>) -> io::Result<u64>
 where
     R: Wait + RandomSource + AllocGlobal,
     F: Future<Output = u64>,
@@ -70,7 +59,7 @@ where
     R: Wait + RandomSource + AllocGlobal + Print,
 {
     let receiver = sent(rt.alloc(), 40)?;
-    let mut set = InFlight::new(rt.alloc(), 8)?;
+    let mut set = FuturesUnorderedBounded::new(rt.alloc(), 8)?;
     let key = set.try_push(receiver.map(|sent| sent.unwrap_or(0))).ok();
     let sum = sum_of(rt, set)?;
     if key.is_none() {
@@ -86,19 +75,19 @@ where
 {
     let alloc = rt.alloc();
     let number = |sent: Result<u64, Canceled>| future::ready(sent.unwrap_or(0));
-    let mut queue = InFlightOrdered::new(alloc, 2)?;
+    let mut queue = FuturesOrderedBounded::new(alloc, 2)?;
     let behind = queue.try_push_back(sent(alloc, 2)?.then(number)).is_ok();
     let before = queue.try_push_front(sent(alloc, 1)?.then(number)).is_ok();
     let is_back = queue.try_push_back(sent(alloc, 3)?.then(number)).is_err();
-    println!(rt; "{behind}, {before}, 3 is back: {is_back}, {queue:?}")?;
+    println!(rt;
+        "{behind}, {before}, 3 is back: {is_back}, {} held",
+        queue.len()
+    )?;
     print_all(rt, queue)
 }
 
 /// The number whose digits the futures give, from the front to the back.
-fn number_of<R, F>(
-    rt: &R,
-    queue: InFlightOrdered<F, Result<u64, Canceled>>,
-) -> Result<u64, anyhow::Error>
+fn number_of<R, F>(rt: &R, queue: FuturesOrderedBounded<F>) -> Result<u64, anyhow::Error>
 where
     R: Wait + RandomSource + AllocGlobal,
     F: Future<Output = Result<u64, Canceled>>,
@@ -122,7 +111,7 @@ where
     R: Wait + RandomSource + AllocGlobal + Print,
 {
     let alloc = rt.alloc();
-    let mut queue = InFlightOrdered::new(alloc, 8)?;
+    let mut queue = FuturesOrderedBounded::new(alloc, 8)?;
     if queue
         .extend(vec![in alloc; sent(alloc, 4)?, sent(alloc, 2)?]?)
         .is_err()

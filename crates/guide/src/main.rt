@@ -2,9 +2,9 @@
 #![tactic(auto)]
 
 mod adaptors;
+mod at_once;
 mod channels;
 mod checked;
-mod foreign;
 mod in_flight;
 mod joins;
 mod loops;
@@ -41,16 +41,13 @@ fn main(rt: HostRuntime) -> Result<(), anyhow::Error> {
     channels::three_senders(&rt)?;
     senders::refusals(&rt)?;
     senders::senders_on_threads(&rt)?;
-    foreign::one_receiver(&rt)?;
-    foreign::one_after_another(&rt)?;
-    foreign::joined(&rt)?;
-    foreign::two_at_a_time(&rt)?;
-    in_flight::with_closures_inside(&rt)?;
+    at_once::joined(&rt)?;
+    at_once::two_at_a_time(&rt)?;
     in_flight::told_by_keys(&rt)?;
     in_flight::summed(&rt)?;
     in_flight::at_both_ends(&rt)?;
     in_flight::digits(&rt)?;
-    foreign::three_channels(&rt)?;
+    at_once::three_channels(&rt)?;
     sources::one_caller(&rt)?;
     sources::listed_names(&rt)?;
     sources::marks_and_takings(&rt)?;
