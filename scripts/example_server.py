@@ -1,13 +1,18 @@
-"""A server of numbered documents and of linked pages on this machine, for the programs of `examples/`. It tells how many requests it had in hand at once.
+"""A server of numbered documents and of linked pages on this machine, for the programs of `examples/`. It tells how many connections were open at once.
 
     GET /N          document N
     GET /SITE/N     page N of a site, with links to further pages
+    GET /flaky/N    an error for the first few requests, and then page N
     GET /late       no answer
     GET /in-hand    how many other requests it has in hand, once those that were closed a moment before are gone
+
+A connection counts as open from the accept on, before its request is read, until either end closes it.
 """
 import asyncio
+import collections
 import contextlib
 import random
+import select
 import threading
 
 # How long a request takes at least and at most, in seconds. By its number, so that each run is alike.
@@ -21,6 +26,9 @@ PAGES = 100
 # By site: pages that are refused, and pages that never come.
 REFUSED = {"rotten": {17}}
 LATE = {"rotten": {16, 18}, "stuck": {16, 17, 18}}
+# A page N of this site is refused N % MOST_REFUSALS times before it comes.
+FLAKY = "flaky"
+MOST_REFUSALS = 5
 
 
 def document(number):
@@ -32,12 +40,12 @@ def page(site, number):
     return "".join(f'<a href="/{site}/{link}">page {link}</a>\n' for link in links).encode()
 
 
-def answer_to(path):
-    """Status and body of the answer, or nothing where none comes."""
+def answer_to(path, times):
+    """Status and body of the answer to a request that came so many times before, or nothing if none comes."""
     site, _, number = path.strip("/").rpartition("/")
     if number == "late" or int(number) in LATE.get(site, ()):
         return None
-    if int(number) in REFUSED.get(site, ()):
+    if int(number) in REFUSED.get(site, ()) or (site == FLAKY and times < int(number) % MOST_REFUSALS):
         return "500 Internal Server Error", b""
     return "200 OK", page(site, int(number)) if site else document(int(number))
 
@@ -47,10 +55,12 @@ def send(writer, status, body):
 
 
 class Server:
-    """Answers each request behind a delay, and closes the connection. Stands on a free port while its `with` block runs."""
+    """Answers each request after a delay, and closes the connection. It listens on a free port while its `with` block runs."""
 
     def __init__(self):
-        self.in_hand = self.most_in_hand = self.answered = self.given_up = 0
+        self.in_hand = self.most_open = self.answered = self.given_up = 0
+        self.connections = set()
+        self.asked = collections.Counter()
         self.loop = asyncio.new_event_loop()
         self.thread = threading.Thread(target=self.loop.run_forever, daemon=True)
 
@@ -77,29 +87,44 @@ class Server:
         await asyncio.gather(*left, return_exceptions=True)
 
     async def serve(self, reader, writer):
+        self.connections.add(writer)
+        self.most_open = max(self.most_open, self.count_open())
         with contextlib.suppress(ConnectionError, asyncio.IncompleteReadError, asyncio.TimeoutError):
-            head = await asyncio.wait_for(reader.readuntil(b"\r\n\r\n"), PATIENCE)
-            path = head.split()[1].decode()
-            if path == "/in-hand":
-                await asyncio.sleep(SETTLING)
-                send(writer, "200 OK", b"%d" % self.in_hand)
-            else:
-                self.answer(path, writer, await self.hold(path, reader))
-            await writer.drain()
+            await self.reply(reader, writer)
+        self.connections.remove(writer)
         writer.close()
 
-    async def hold(self, path, reader):
+    def count_open(self):
+        """How many connections are open. If the other end has closed one, it counts no more, though its task may not know that yet."""
+        files = [writer.get_extra_info("socket").fileno() for writer in self.connections]
+        closed = select.poll()
+        for file in files:
+            if file >= 0:
+                closed.register(file, select.POLLRDHUP)
+        return sum(file >= 0 for file in files) - len(closed.poll(0))
+
+    async def reply(self, reader, writer):
+        head = await asyncio.wait_for(reader.readuntil(b"\r\n\r\n"), PATIENCE)
+        path = head.split()[1].decode()
+        if path == "/in-hand":
+            await asyncio.sleep(SETTLING)
+            send(writer, "200 OK", b"%d" % self.in_hand)
+        else:
+            found = answer_to(path, self.asked[path])
+            self.asked[path] += 1
+            self.answer(found, writer, await self.hold(path, found, reader))
+        await writer.drain()
+
+    async def hold(self, path, found, reader):
         """Has a request in hand as long as it takes, and says whether the other end is still there."""
         self.in_hand += 1
-        self.most_in_hand = max(self.most_in_hand, self.in_hand)
         try:
-            seconds = random.Random(path).uniform(LEAST, MOST) if answer_to(path) else PATIENCE
+            seconds = random.Random(path).uniform(LEAST, MOST) if found else PATIENCE
             return not await self.is_gone(reader, seconds)
         finally:
             self.in_hand -= 1
 
-    def answer(self, path, writer, is_there):
-        found = answer_to(path)
+    def answer(self, found, writer, is_there):
         if found and is_there:
             send(writer, *found)
             self.answered += 1

@@ -1,18 +1,18 @@
 //! `download PORT DOCUMENTS LIMIT`: gets numbered documents from a server on this machine, each over a connection of
-//! its own, with at most LIMIT of them in flight, and prints a line for each, in the order of their numbers.
+//! its own, with at most LIMIT connections open. It prints a line for each document, in the order of their numbers.
 #![tactic(auto)]
 
-mod download;
+mod request;
 
-use crate::download::Download;
+use crate::request::{document_in, request_for};
 use anyhow::bail;
-use bytes::Bytes;
-use futures::{StreamExt, stream};
+use bytes::BytesMut;
+use futures::{StreamExt, TryFutureExt, future, stream};
 use futures_buffered::in_flight::BufferedStreamExt;
-use std::alloc::Global;
+use std::env;
 use std::env::Env;
 use std::net::{Ipv4Addr, SocketAddr};
-use std::{env, io};
+use tokio::io::{read_to_end, write_all};
 use tokio::net::TcpStream;
 use tokio::runtime::LocalRuntime;
 
@@ -42,21 +42,6 @@ fn read_settings<R: Env + AllocGlobal>(rt: &R) -> Result<Settings, anyhow::Error
     Ok(settings)
 }
 
-fn request_for(alloc: Global, document: u32) -> io::Result<Bytes> {
-    let text = format!(in alloc;
-        "GET /{document} HTTP/1.1\r\nhost: localhost\r\nconnection: close\r\n\r\n"
-    )?;
-    Ok(Bytes::copy_from_slice(alloc, text.as_bytes())?)
-}
-
-// The part of an answer behind the empty line that ends its head.
-fn document_in(answer: &[u8]) -> Option<&[u8]> {
-    let end = answer
-        .windows(4)
-        .position(|bytes| bytes == b"\r\n\r\n".as_slice())?;
-    answer.get(end.checked_add(4)?..)
-}
-
 fn main(rt: HostRuntime) -> Result<(), anyhow::Error> {
     let alloc = rt.alloc();
     let Settings {
@@ -67,17 +52,21 @@ fn main(rt: HostRuntime) -> Result<(), anyhow::Error> {
     let mut runtime = LocalRuntime::new(&rt)?;
     let reactor = runtime.handle().reactor().clone()?;
     let server = SocketAddr::from((Ipv4Addr::LOCALHOST, port));
-    let mut downloads = Vec::new(alloc);
-    for document in 0..documents {
-        let connect = TcpStream::connect(&rt, server, &reactor);
-        downloads.push(Download::new(alloc, connect, request_for(alloc, document)?))?;
-    }
-    let answers = stream::iter(downloads).buffered_ordered(alloc, limit)?;
+    let get = |document: u32| {
+        future::ready(request_for(alloc, document)).and_then(|request| {
+            TcpStream::connect(&rt, server, &reactor)
+                .and_then(move |socket| write_all(socket, request))
+                .and_then(move |(socket, _sent)| read_to_end(socket, BytesMut::new(alloc)))
+                .map_ok(|(_socket, answer)| answer)
+        })
+    };
+    let requests = stream::iter(0..documents).map(get);
+    let answers = requests.buffered_ordered(alloc, limit)?;
     let answers = runtime.block_on(&rt, answers.collect(alloc))??;
     for (number, answer) in answers.into_iter().enumerate() {
         let answer = answer?;
         let Some(document) = document_in(answer.as_slice()) else {
-            bail!("an answer has no head");
+            bail!("the server has no document {number}");
         };
         println!(&rt; "document {number}: {} bytes", document.len())?;
     }

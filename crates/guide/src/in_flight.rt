@@ -1,29 +1,17 @@
-//! Futures of the kit in flight, each told by its key, or in a queue.
+//! Futures of the crate `futures`, pushed by hand into a set or a queue.
 ghost use Rattle.futures_buffered.specs.InFlight.{CanPollAll};
 ghost use Rattle.futures_buffered.specs.InFlightOrdered.{CanPollOrdered};
 
-use crate::kit::sent;
+use crate::at_once::sent;
 use crate::show::print_all;
 use anyhow::bail;
 use futures::channel::oneshot::{Canceled, channel};
-use futures::{Future, FutureExt, StreamExt, future, stream};
-use futures_buffered::in_flight::{
-    BufferedStreamExt, FuturesOrderedBounded, FuturesUnorderedBounded,
-};
+use futures::{Future, FutureExt, future};
+use futures_buffered::in_flight::{FuturesOrderedBounded, FuturesUnorderedBounded};
 use std::alloc::AllocGlobal;
 use std::io::{self, Print};
 use std::random::RandomSource;
 use std::sync::Wait;
-
-pub fn with_closures_inside<R>(rt: &R) -> Result<(), anyhow::Error>
-where
-    R: Wait + RandomSource + AllocGlobal + Print,
-{
-    let alloc = rt.alloc();
-    let receivers = vec![in alloc; sent(alloc, 1)?]?;
-    let requests = stream::iter(receivers).map(|receiver| receiver.map(|sent| sent.unwrap_or(0)));
-    print_all(rt, requests.buffered_unordered(alloc, 8)?)
-}
 
 pub fn told_by_keys<R>(rt: &R) -> Result<(), anyhow::Error>
 where
@@ -91,7 +79,10 @@ where
     let behind = queue.try_push_back(sent(alloc, 2)?.then(number)).is_ok();
     let before = queue.try_push_front(sent(alloc, 1)?.then(number)).is_ok();
     let is_back = queue.try_push_back(sent(alloc, 3)?.then(number)).is_err();
-    println!(rt; "{behind}, {before}, 3 is back: {is_back}, {queue:?}")?;
+    println!(rt;
+        "{behind}, {before}, 3 is back: {is_back}, {} held",
+        queue.len()
+    )?;
     print_all(rt, queue)
 }
 

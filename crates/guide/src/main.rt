@@ -2,11 +2,11 @@
 #![tactic(auto)]
 
 mod adaptors;
+mod at_once;
 mod channels;
 mod checked;
 mod in_flight;
 mod joins;
-mod kit;
 mod loops;
 mod merges;
 mod numbers;
@@ -41,16 +41,13 @@ fn main(rt: HostRuntime) -> Result<(), anyhow::Error> {
     channels::three_senders(&rt)?;
     senders::refusals(&rt)?;
     senders::senders_on_threads(&rt)?;
-    kit::one_receiver(&rt)?;
-    kit::one_after_another(&rt)?;
-    kit::joined(&rt)?;
-    kit::two_at_a_time(&rt)?;
-    in_flight::with_closures_inside(&rt)?;
+    at_once::joined(&rt)?;
+    at_once::two_at_a_time(&rt)?;
     in_flight::told_by_keys(&rt)?;
     in_flight::summed(&rt)?;
     in_flight::at_both_ends(&rt)?;
     in_flight::digits(&rt)?;
-    kit::three_channels(&rt)?;
+    at_once::three_channels(&rt)?;
     sources::one_caller(&rt)?;
     sources::listed_names(&rt)?;
     sources::marks_and_takings(&rt)?;

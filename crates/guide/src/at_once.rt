@@ -1,56 +1,20 @@
-//! Futures and streams of the kit.
-use crate::show::{print_all, print_next};
+//! Joins, adaptors and merges of futures and streams of the crate `futures`.
+use crate::show::print_all;
 use futures::channel::mpsc::{TrySendError, UnboundedReceiver, UnboundedSender, unbounded};
-use futures::channel::oneshot::{Canceled, Receiver, channel};
+use futures::channel::oneshot::{Receiver, channel};
 use futures::executor::block_on;
 use futures::{FutureExt, StreamExt, stream};
-use futures_buffered::in_flight::{BufferedStreamExt, FuturesUnorderedBounded, IterExt, join_all};
+use futures_buffered::in_flight::{BufferedStreamExt, IterExt, join_all};
 use std::alloc::{AllocError, AllocGlobal, Global};
 use std::io::Print;
 use std::random::RandomSource;
 use std::sync::Wait;
-
-pub fn one_receiver<R>(rt: &R) -> Result<(), anyhow::Error>
-where
-    R: Wait + RandomSource + AllocGlobal + Print,
-{
-    let (sender, receiver) = channel::<u64>(rt.alloc())?;
-    let mut set = FuturesUnorderedBounded::new(rt.alloc(), 8)?;
-    let _key = set.try_push(receiver.map(|sent| sent.unwrap_or(0))).ok();
-    let _ = sender.send(7);
-    print_next(rt, &mut set)
-}
-
-pub fn one_after_another<R>(rt: &R) -> Result<(), anyhow::Error>
-where
-    R: Wait + RandomSource + AllocGlobal + Print,
-{
-    let mut set = FuturesUnorderedBounded::new(rt.alloc(), 8)?;
-    let (first, second) = (sent(rt.alloc(), 40)?, sent(rt.alloc(), 2)?);
-    let both = first.then(move |one: Result<u64, Canceled>| {
-        second.map(move |other: Result<u64, Canceled>| {
-            other.unwrap_or(0).wrapping_add(one.unwrap_or(0))
-        })
-    });
-    let _key = set.try_push(both).ok();
-    print_next(rt, &mut set)
-}
 
 /// A receiver whose value has been sent.
 pub fn sent(alloc: Global, value: u64) -> Result<Receiver<u64>, AllocError> {
     let (sender, receiver) = channel(alloc)?;
     let _ = sender.send(value);
     Ok(receiver)
-}
-
-pub fn two_at_a_time<R>(rt: &R) -> Result<(), anyhow::Error>
-where
-    R: Wait + RandomSource + AllocGlobal + Print,
-{
-    let alloc = rt.alloc();
-    let receivers = vec![in alloc; sent(alloc, 1)?, sent(alloc, 2)?, sent(alloc, 3)?]?;
-    let requests = stream::iter(receivers).map(|receiver| receiver.map(|sent| sent.unwrap_or(0)));
-    print_all(rt, requests.buffered_ordered(alloc, 2)?)
 }
 
 pub fn joined<R>(rt: &R) -> Result<(), anyhow::Error>
@@ -64,6 +28,16 @@ where
         .map(|receiver| receiver.map(|sent| sent.unwrap_or(0)));
     println!(rt; "{:?}", block_on(rt, join_all(alloc, jobs)?)?)?;
     Ok(())
+}
+
+pub fn two_at_a_time<R>(rt: &R) -> Result<(), anyhow::Error>
+where
+    R: Wait + RandomSource + AllocGlobal + Print,
+{
+    let alloc = rt.alloc();
+    let receivers = vec![in alloc; sent(alloc, 1)?, sent(alloc, 2)?, sent(alloc, 3)?]?;
+    let requests = stream::iter(receivers).map(|receiver| receiver.map(|sent| sent.unwrap_or(0)));
+    print_all(rt, requests.buffered_ordered(alloc, 2)?)
 }
 
 fn send_each(sender: &UnboundedSender<u64>, items: &[u64]) -> Result<(), TrySendError<u64>> {

@@ -1,0 +1,122 @@
+//! `retry PORT SITE PAGES LIMIT MILLISECONDS`: gets the pages of a site from a server on this machine, with at most
+//! LIMIT requests in flight. A page that fails, or that does not come within a second, is asked for again after a pause,
+//! four times in all. After so many milliseconds it stops, and prints which pages were in flight then.
+#![tactic(auto)]
+
+mod request;
+
+use crate::request::{document_in, request_for};
+use anyhow::bail;
+use bytes::BytesMut;
+use futures::{FutureExt, StreamExt, TryFutureExt};
+use futures_buffered::in_flight::FuturesUnorderedBounded;
+use std::collections::{BTreeMap, BTreeSet};
+use std::env::Env;
+use std::net::{Ipv4Addr, SocketAddr};
+use std::time::{Duration, Instant};
+use std::{env, io};
+use tokio::io::{read_to_end, write_all};
+use tokio::net::TcpStream;
+use tokio::runtime::LocalRuntime;
+use tokio::time::error::Elapsed;
+
+const TRIES: u32 = 4;
+// How long a try may take, without its pause.
+const MILLISECONDS: u64 = 1_000;
+
+type Answer = Result<io::Result<(TcpStream, BytesMut)>, Elapsed>;
+
+// What the program's words ask for.
+#[derive(Drop)]
+struct Settings {
+    server: SocketAddr,
+    site: String,
+    pages: u32,
+    limit: usize,
+    time: Duration,
+}
+
+fn read_settings<R: Env + AllocGlobal>(rt: &R) -> Result<Settings, anyhow::Error> {
+    let mut words = env::args(rt)?;
+    let _program = words.next();
+    let (Some(port), Some(site), Some(pages)) = (words.next(), words.next(), words.next()) else {
+        bail!("usage: retry PORT SITE PAGES LIMIT MILLISECONDS");
+    };
+    let (Some(limit), Some(milliseconds)) = (words.next(), words.next()) else {
+        bail!("usage: retry PORT SITE PAGES LIMIT MILLISECONDS");
+    };
+    Ok(Settings {
+        server: SocketAddr::from((Ipv4Addr::LOCALHOST, port.parse()?)),
+        site,
+        pages: pages.parse()?,
+        limit: limit.parse()?,
+        time: Duration::from_millis(milliseconds.parse()?),
+    })
+}
+
+fn is_good(answer: &Answer) -> bool {
+    match answer {
+        Ok(Ok((_socket, text))) => document_in(text.as_slice()).is_some(),
+        _ => false,
+    }
+}
+
+fn main(rt: HostRuntime) -> Result<(), anyhow::Error> {
+    let alloc = rt.alloc();
+    let Settings {
+        server,
+        site,
+        pages,
+        limit,
+        time,
+    } = read_settings(&rt)?;
+    let mut runtime = LocalRuntime::new(&rt)?;
+    let reactor = runtime.handle().reactor().clone()?;
+    let timers = runtime.handle().time().clone()?;
+    // One try of a page, after a pause of 0, 10, 30 or 70 milliseconds.
+    let attempt = |page: u32, tries: u32| {
+        let request = request_for(alloc, format!(in alloc; "{site}/{page}")?)?;
+        let pause = Duration::from_millis((10 << tries) - 10);
+        let exchange = timers
+            .sleep(&rt, pause)?
+            .then(|_| TcpStream::connect(&rt, server, &reactor))
+            .and_then(move |socket| write_all(socket, request))
+            .and_then(move |(socket, _sent)| read_to_end(socket, BytesMut::new(alloc)));
+        let limit = pause.saturating_add(Duration::from_millis(MILLISECONDS));
+        let timed = timers.timeout(&rt, limit, exchange)?;
+        Ok::<_, anyhow::Error>(timed.map(move |came| (page, tries, came)))
+    };
+    let Some(end) = Instant::now(&rt)?.checked_add(time) else {
+        bail!("too many milliseconds");
+    };
+    let mut set = FuturesUnorderedBounded::new(alloc, limit)?;
+    let mut waiting = (0..pages).map(|page| (page, 0)).collect::<Vec<_>>(alloc)?;
+    let mut in_flight = BTreeSet::new(alloc);
+    let mut came_at = BTreeMap::new(alloc);
+    for _ in rt.forever() {
+        while !set.is_full() {
+            let Some((page, tries)) = waiting.pop() else {
+                break;
+            };
+            if set.try_push(attempt(page, tries)?).is_err() {
+                bail!("out of memory");
+            }
+            in_flight.insert(page)?;
+        }
+        let next = timers.timeout_at(end, set.next())?;
+        let Ok(Some((page, tries, answer))) = runtime.block_on(&rt, next)? else {
+            break;
+        };
+        in_flight.remove(&page);
+        if is_good(&answer) {
+            came_at.insert(page, tries + 1)?;
+        } else if tries + 1 < TRIES {
+            waiting.push((page, tries + 1))?;
+        }
+    }
+    for (page, tries) in &came_at {
+        println!(&rt; "page {page} came at try {tries}")?;
+    }
+    println!(&rt; "in flight at the end: {in_flight:?}")?;
+    Ok(())
+}
