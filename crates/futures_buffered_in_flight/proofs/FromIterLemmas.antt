@@ -125,7 +125,7 @@ module _ {F O : Type 0} (future : FutureOf F O) where
 
 module _ {F A : Type 0} where
   -- as many as a new queue is made for can be held
-  new_room : (n : ℕ) (q : OrderedInFlight F A) → IsNewInOrder n q → ordered_room q ≡ n
+  pub new_room : (n : ℕ) (q : OrderedInFlight F A) → IsNewInOrder n q → ordered_room q ≡ n
   new_room n q new = ap (λ (s : Slots Place). slot_count s) new.new_set.1.0 ∙ length-replicate n None
 
   pub turns_none : (n : ℕ) (q : OrderedInFlight F A) → IsNewInOrder n q → length q.entries ≡ 0

@@ -110,7 +110,7 @@ impl<F: Future<Output: Drop>> Stream for Kept<FuturesUnorderedBounded<F>> {
     /// One poll, as `poll_next_keyed`, without key and tag.
     #[tactic(auto, using(crate::proofs::InFlightLemmas::comes_first, crate::proofs::InFlightLemmas::comes_after, crate::proofs::InFlightLemmas::comes_within))]
     fn poll_next(&mut self, cx: &mut Context<'_>) -> Poll<Option<F::Output>> {
-        match self.held.poll_next_keyed(cx) {
+        match self.poll_next_keyed(cx) {
             Poll::Pending => Poll::Pending,
             Poll::Ready(None) => Poll::Ready(None),
             Poll::Ready(Some(came)) => Poll::Ready(Some(came.output)),
