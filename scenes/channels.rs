@@ -134,6 +134,24 @@ pub fn sender_stays<R: Threads + Wait + AllocGlobal>(
     wanted(came, items)
 }
 
+/// A poll waits for one item or finds it: the slot is marked once at most, by the sending or by the next one.
+pub fn marks_once<R: Threads + Wait + AllocGlobal>(rt: &R) -> Result<(), anyhow::Error> {
+    let alloc = rt.alloc();
+    let mut slots = Slots::new(alloc)?;
+    let (sender, mut receiver) = channel::<Item>(alloc, 2)?;
+    let thread = thread::spawn(rt, move || send_all(alloc, sender, 1))?;
+    let came = receive(rt, &mut slots, &mut receiver, 1, false)?;
+    let Some(mut sender) = thread.join(rt) else {
+        bail!("the receiver is taken for gone");
+    };
+    let is_marked = slots.source.take() == Taken::Slot(0);
+    let _sent = sender.try_send(Box::new(alloc, 1u64)?).is_ok();
+    if is_marked && slots.source.take() == Taken::Slot(0) {
+        bail!("the slot is marked twice");
+    }
+    wanted(came, 1)
+}
+
 /// The receiver goes after so many items, while others are sent: nothing is left of those that did not come.
 pub fn receiver_goes<R: Threads + Wait + AllocGlobal>(
     rt: &R,

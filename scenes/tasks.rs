@@ -5,7 +5,7 @@ use futures::Stream;
 use futures::task::Poll;
 use futures::test::MockTask;
 use futures_buffered_core::ready_shared::SharedReady;
-use futures_buffered_core::ready_source::{NewSource, ReadySource};
+use futures_buffered_core::ready_source::{NewSource, ReadySource, SlotWaker};
 use std::alloc::AllocGlobal;
 use std::random::RandomSource;
 use std::sync::Wait;
@@ -129,6 +129,39 @@ where
     if !task.is_woken() {
         bail!("the task sleeps");
     }
+    Ok(())
+}
+
+/// Two tasks on two threads poll two sources beside one another. The task here polls the first, or the second if `here`
+/// is not 0. The other task polls once, and wakes its own slot and then that of the task here, which learns of it.
+pub fn pollers<R>(rt: &R, here: usize) -> Result<(), anyhow::Error>
+where
+    R: Threads + Wait + RandomSource + AllocGlobal,
+{
+    let alloc = rt.alloc();
+    let mut first: SharedReady = SharedReady::new(alloc, 1)?;
+    let second = first.make_sibling(alloc, 1)?;
+    let (mut source, mut beside) = if here == 0 {
+        (first, second)
+    } else {
+        (second, first)
+    };
+    let (task, other) = (MockTask::new(rt)?, MockTask::new(rt)?);
+    let mut tally = Tally::new(alloc, 1)?;
+    let (waker, own) = (source.try_waker(0)?, beside.try_waker(0)?);
+    let woken = tally.expect(0, 1)?;
+    let poll_and_wake = move || {
+        other.enter(|cx| {
+            beside.register(cx);
+            let _ = beside.take();
+        });
+        own.wake();
+        wake_often(&woken, &waker, 1);
+        (beside, other)
+    };
+    let thread = thread::spawn(rt, poll_and_wake)?;
+    poll_until_known(rt, &task, &mut source, &mut tally);
+    let _beside = thread.join(rt);
     Ok(())
 }
 
