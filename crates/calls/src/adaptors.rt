@@ -16,9 +16,7 @@ use futures::task::Context;
 use futures::{Future, Stream};
 use futures_buffered::for_each_concurrent::ForEachConcurrent;
 use futures_buffered::try_for_each_concurrent::TryForEachConcurrent;
-use futures_buffered::{
-    Buffer, BufferedStreamExt, BufferedTryStreamExt, FutureQueue, NewQueue,
-};
+use futures_buffered::{Buffer, BufferedStreamExt, BufferedTryStreamExt, FutureQueue, NewQueue};
 use futures_buffered_core::ready_core::NewFault;
 use futures_buffered_core::ready_shared::SharedReady;
 use futures_buffered_core::ready_source::ReadySource;

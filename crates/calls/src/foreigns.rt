@@ -13,8 +13,8 @@ use crate::values::{Output, new_value, new_values};
 use futures::task::{Context, Poll};
 use futures::{Future, Stream};
 use futures_buffered::in_flight::{
-    BufferedOrdered, BufferedStreamExt, FuturesOrderedBounded, FuturesUnorderedBounded, IterExt, Kept,
-    MergeUnbounded,
+    BufferedOrdered, BufferedStreamExt, FuturesOrderedBounded, FuturesUnorderedBounded, IterExt,
+    Kept, MergeUnbounded,
 };
 use futures_buffered::in_flight_join::InFlightJoin;
 use futures_buffered::join::AllOutputs;
