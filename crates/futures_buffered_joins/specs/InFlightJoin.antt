@@ -42,7 +42,7 @@ module _ {F O : Type 0} (future : FutureOf F O) where
 
   -- item k waits at place k, and no output has come
   pub record IsNewFlying {A : Type 0} (items : List F) (places : Flying F A) : Type 0 where
-    pub waits_for : FliesInOrder items places.set
+    pub waits_for : FliesInOrder future items places.set
     pub none_done : places.outputs ≡ replicate (length items) None
 
   -- What a constructor of a join makes of what an iterator gives, or why it makes nothing. It makes a join that has a
