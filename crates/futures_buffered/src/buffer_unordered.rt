@@ -93,7 +93,10 @@ impl<F: SlotFuture<S::Waker>, S: ReadySource> FutureQueue<F> for CompletionQueue
 }
 
 /// Futures of a stream, at most as many at a time as its set has slots, whose outputs come as they finish.
-pub type BufferUnordered<St, S = SharedReady> = Buffer<St, CompletionQueue<<St as Stream>::Item, S>>;
+pub type BufferUnordered<St, S = SharedReady> = Buffer<
+    St,
+    CompletionQueue<<St as Stream>::Item, S>,
+>;
 
 /// After any calls of one buffer that held nothing at first, each item drawn either gave one of the outputs given, or
 /// is held still: no output is of two items or of none, and no item is lost.

@@ -5,9 +5,7 @@ use futures::channel::oneshot::{Canceled, Receiver, Sender, channel};
 use futures::executor::block_on;
 use futures::future::ready;
 use futures::{FutureExt, Stream, StreamExt, TryFutureExt, stream};
-use futures_buffered::in_flight::{
-    BufferedStreamExt, BufferedTryStreamExt, IterExt, try_join_all,
-};
+use futures_buffered::in_flight::{BufferedStreamExt, BufferedTryStreamExt, IterExt, try_join_all};
 use std::alloc::{AllocError, AllocGlobal, Global};
 use std::random::RandomSource;
 use std::sync::atomic::Ordering::SeqCst;
@@ -172,7 +170,11 @@ fn a_queue_of_no_items_takes_one(rt: HostRuntime) -> Result<(), Fail> {
     let none: Vec<Receiver<u64>> = Vec::new(rt.alloc());
     let mut queue = none.into_ordered_stream(rt.alloc())?;
     let is_pushed = queue.try_push_back(sent(&rt, 4)?).is_ok();
-    assert_same(&rt, (is_pushed, queue.len(), queue.is_full()), (true, 1, true));
+    assert_same(
+        &rt,
+        (is_pushed, queue.len(), queue.is_full()),
+        (true, 1, true),
+    );
     Ok(())
 }
 
