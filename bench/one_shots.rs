@@ -6,7 +6,7 @@ use futures::stream::FuturesUnordered as KitSet;
 use futures::task::Context;
 use futures::{Future, Stream};
 use futures_buffered_held::oneshot;
-use futures_buffered_in_flight::InFlight;
+use futures_buffered_in_flight::FuturesUnorderedBounded;
 use std::alloc::Global;
 use std::marker::Model;
 
@@ -55,7 +55,7 @@ impl Holder<kit::Receiver<u64>> for KitSet<kit::Receiver<u64>> {
 
 /// The kit's one-shots in flight, each of which may be polled at any time.
 #[derive(Drop)]
-pub struct Flights(InFlight<kit::Receiver<u64>>);
+pub struct Flights(FuturesUnorderedBounded<kit::Receiver<u64>>);
 
 impl Model for Flights {
     ghost use Rattle.futures_buffered_in_flight.specs.InFlight.{CanPollAll};
@@ -69,7 +69,7 @@ impl Model for Flights {
 
 impl Flights {
     pub fn new(alloc: Global, n: usize) -> Option<Flights> {
-        Some(Flights(InFlight::new(alloc, n).ok()?))
+        Some(Flights(FuturesUnorderedBounded::new(alloc, n).ok()?))
     }
 }
 

@@ -1,10 +1,10 @@
-//! Futures of the kit in flight, in plain sight, that threads complete.
-use crate::foreigns::{Number, join_all, number_to_come, send_from_thread, wanted};
+//! Futures of the kit in flight that threads complete.
+use crate::numbers::{Number, join_all, number_to_come, send_from_thread, wanted};
 use crate::tasks::drain;
 use futures::Stream;
 use futures::task::Poll;
 use futures::test::MockTask;
-use futures_buffered::InFlight;
+use futures_buffered::in_flight::FuturesUnorderedBounded;
 use std::alloc::AllocGlobal;
 use std::random::RandomSource;
 use std::sync::Wait;
@@ -14,11 +14,11 @@ use std::thread::{JoinHandle, Threads};
 fn begin<R>(
     rt: &R,
     count: usize,
-) -> Result<(InFlight<Number>, Vec<JoinHandle<()>>), anyhow::Error>
+) -> Result<(FuturesUnorderedBounded<Number>, Vec<JoinHandle<()>>), anyhow::Error>
 where
     R: Threads + AllocGlobal,
 {
-    let mut set = InFlight::new(rt.alloc(), count)?;
+    let mut set = FuturesUnorderedBounded::new(rt.alloc(), count)?;
     let mut threads: Vec<JoinHandle<()>> = Vec::new(rt.alloc());
     for place in 0..count {
         let (sender, number) = number_to_come(rt.alloc())?;
@@ -72,7 +72,7 @@ where
     R: Threads + Wait + RandomSource + AllocGlobal,
 {
     let task = MockTask::new(rt)?;
-    let mut set = InFlight::new(rt.alloc(), 2)?;
+    let mut set = FuturesUnorderedBounded::new(rt.alloc(), 2)?;
     let (first, number) = number_to_come(rt.alloc())?;
     let key = set.try_push_abortable(number).ok();
     let (second, number) = number_to_come(rt.alloc())?;

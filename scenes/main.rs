@@ -7,11 +7,11 @@
 
 mod awaited;
 mod channels;
-mod foreigns;
 mod held;
 mod holders;
 mod in_flight;
 mod joins;
+mod numbers;
 mod one_shots;
 mod outer;
 mod ready_list;

@@ -14,12 +14,14 @@ use crate::values::{NumberFuture, Output, TryFuture, TryUnitFuture, UnitFuture};
 use futures::stream::TryStreamExt;
 use futures::task::Context;
 use futures::{Future, Stream};
+use futures_buffered::BufferedTryStreamExt;
+use futures_buffered::buffer::Buffer;
+use futures_buffered::buffer_unordered::CompletionQueue;
+use futures_buffered::buffered_ordered::OrderedQueue;
 use futures_buffered::for_each_concurrent::ForEachConcurrent;
+use futures_buffered::future_queue::{FutureQueue, NewQueue};
 use futures_buffered::try_buffer::TryQueue;
 use futures_buffered::try_for_each_concurrent::TryForEachConcurrent;
-use futures_buffered::{
-    Buffer, BufferedTryStreamExt, CompletionQueue, FutureQueue, NewQueue, OrderedQueue,
-};
 use futures_buffered_core::ready_core::NewFault;
 use futures_buffered_core::ready_shared::SharedReady;
 use futures_buffered_core::ready_source::ReadySource;

@@ -53,10 +53,10 @@ pub enum Kind {
     TryForEach,
     InFlight,
     InFlightOrdered,
-    ForeignJoin,
-    ForeignTryJoin,
-    ForeignMerge,
-    ForeignBufferedOrdered,
+    InFlightJoin,
+    InFlightTryJoin,
+    InFlightMerge,
+    InFlightBufferedOrdered,
 }
 
 /// Where a future is added: sets and merges have no ends.
@@ -99,24 +99,24 @@ fn kind_of(word: &str) -> Option<Kind> {
         "try_for_each" => Kind::TryForEach,
         "in_flight" => Kind::InFlight,
         "in_flight_ordered" => Kind::InFlightOrdered,
-        "foreign_join" => Kind::ForeignJoin,
-        "foreign_try_join" => Kind::ForeignTryJoin,
-        "foreign_merge" => Kind::ForeignMerge,
-        "foreign_buffered_ordered" => Kind::ForeignBufferedOrdered,
+        "in_flight_join" => Kind::InFlightJoin,
+        "in_flight_try_join" => Kind::InFlightTryJoin,
+        "in_flight_merge" => Kind::InFlightMerge,
+        "in_flight_buffered_ordered" => Kind::InFlightBufferedOrdered,
         _ => return None,
     })
 }
 
 /// Whether it holds what is of the kit.
-pub fn is_foreign(kind: Kind) -> bool {
+pub fn is_in_flight(kind: Kind) -> bool {
     matches!(
         kind,
         Kind::InFlight
             | Kind::InFlightOrdered
-            | Kind::ForeignJoin
-            | Kind::ForeignTryJoin
-            | Kind::ForeignMerge
-            | Kind::ForeignBufferedOrdered,
+            | Kind::InFlightJoin
+            | Kind::InFlightTryJoin
+            | Kind::InFlightMerge
+            | Kind::InFlightBufferedOrdered,
     )
 }
 

@@ -4,7 +4,7 @@ use crate::adaptors::{
     run_try_ordered_buffer,
 };
 use crate::command::Kind;
-use crate::foreigns;
+use crate::in_flight;
 use crate::joins::{run_join, run_try_join};
 use crate::merges::{run_bounded_merge, run_growing_merge};
 use crate::queues::{run_growing_queue, run_growing_queue_of, run_queue, run_queue_of};
@@ -39,11 +39,11 @@ pub fn run_kind(
         Kind::TryBufferedOrdered => run_try_ordered_buffer(session, numbers, lines),
         Kind::ForEach => run_for_each(session, numbers, lines),
         Kind::TryForEach => run_try_for_each(session, numbers, lines),
-        Kind::InFlight => foreigns::run_set(session, numbers, lines),
-        Kind::InFlightOrdered => foreigns::run_queue(session, numbers, lines),
-        Kind::ForeignJoin => foreigns::run_join(session, numbers, lines),
-        Kind::ForeignTryJoin => foreigns::run_try_join(session, numbers, lines),
-        Kind::ForeignMerge => foreigns::run_merge(session, numbers, lines),
-        Kind::ForeignBufferedOrdered => foreigns::run_buffer(session, numbers, lines),
+        Kind::InFlight => in_flight::run_set(session, numbers, lines),
+        Kind::InFlightOrdered => in_flight::run_queue(session, numbers, lines),
+        Kind::InFlightJoin => in_flight::run_join(session, numbers, lines),
+        Kind::InFlightTryJoin => in_flight::run_try_join(session, numbers, lines),
+        Kind::InFlightMerge => in_flight::run_merge(session, numbers, lines),
+        Kind::InFlightBufferedOrdered => in_flight::run_buffer(session, numbers, lines),
     }
 }

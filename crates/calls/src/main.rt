@@ -13,7 +13,7 @@ mod command;
 mod cores;
 mod counter;
 mod effects;
-mod foreigns;
+mod in_flight;
 mod joins;
 mod kinds;
 mod line;

@@ -1,5 +1,5 @@
 //! A session: what holds while the lines of a file are gone through.
-use crate::command::{Kind, is_foreign};
+use crate::command::{Kind, is_in_flight};
 use crate::counter::Counter;
 use crate::line::{Line, Wanted, most_of, parse};
 use crate::memory;
@@ -178,7 +178,7 @@ impl Session {
     /// An object of this kind is begun. A future of the kit waits for memory, and asks for it in a poll.
     pub fn count_of(&mut self, kind: Kind, line: &str) {
         self.counter.begin_line(most_of(line));
-        self.counter.of_polls = if is_foreign(kind) { None } else { Some(0) };
+        self.counter.of_polls = if is_in_flight(kind) { None } else { Some(0) };
     }
 
     /// The line has begun an object.

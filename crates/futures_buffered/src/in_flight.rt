@@ -13,7 +13,6 @@ use crate::drain::Drain;
 use crate::try_buffer::{TryBuffer, TryQueue};
 use futures::stream::{Map, MapOk};
 use futures::{Future, Stream};
-use futures_buffered_in_flight::{InFlightOrdered, InFlightQueue};
 
 pub mod buffered;
 pub mod iter_ext;
@@ -22,9 +21,11 @@ pub mod try_buffered;
 
 pub use buffered::BufferedStreamExt;
 pub use futures_buffered_in_flight::{
-    Came, InFlight as FuturesUnorderedBounded, Kept, Key, Waiting,
+    Came, FuturesUnorderedBounded, InFlightQueue, Kept, Key, Waiting,
 };
-pub use futures_buffered_joins::in_flight_join::{JoinAll, TryJoinAll, join_all, try_join_all};
+pub use futures_buffered_joins::in_flight_join::{
+    JoinAll, JoinBy, TryJoinAll, join_all, outputs_come_by_place, try_join_all,
+};
 pub use futures_buffered_merges::WaitingMerge;
 pub use futures_buffered_merges::in_flight_merge::{
     MergeBounded, MergeUnbounded, merge, merge_unbounded,
@@ -33,7 +34,10 @@ pub use iter_ext::IterExt;
 pub use try_buffered::BufferedTryStreamExt;
 
 /// Futures of the kit, at most as many at a time as there is room for, whose outputs come in the order of the pushes.
-pub type FuturesOrderedBounded<F> = InFlightOrdered<F, <F as Future>::Output>;
+pub type FuturesOrderedBounded<F> = futures_buffered_in_flight::FuturesOrderedBounded<
+    F,
+    <F as Future>::Output,
+>;
 
 /// Futures of the kit of a stream, at most as many at a time as its queue has room for, whose outputs come as they
 /// finish.

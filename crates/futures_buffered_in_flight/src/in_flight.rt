@@ -45,7 +45,7 @@ pub struct Came<A> {
 /// at once. Where it has not ended yet it takes up room until it has. Calls that ask how much is held take the same
 /// time at any capacity.
 #[derive(Drop)]
-pub struct InFlight<F> {
+pub struct FuturesUnorderedBounded<F> {
     slots: PinSlotMap<Place>,
     // None before the first push and after `clear`, which so needs no memory.
     running: Option<FuturesUnordered<Run<F>>>,
@@ -56,7 +56,7 @@ pub struct InFlight<F> {
     alloc: Global,
 }
 
-impl<F> Model for InFlight<F> {
+impl<F> Model for FuturesUnorderedBounded<F> {
     ghost use Rattle.futures_buffered_in_flight.specs.InFlight.{Flights};
 
     ghost Value = { Flights F };
@@ -69,7 +69,7 @@ impl<F> Model for InFlight<F> {
     } };
 }
 
-impl<F: Drop> InFlight<F> {
+impl<F: Drop> FuturesUnorderedBounded<F> {
     /// The number of futures held, without those that were cancelled.
     pub fn len(&self) -> usize
         ensures { result ≡ held_count self.now.slots }
@@ -158,7 +158,7 @@ impl<F: Drop> InFlight<F> {
     }
 }
 
-impl<F: Future<Output: Drop>> InFlight<F> {
+impl<F: Future<Output: Drop>> FuturesUnorderedBounded<F> {
     /// A set of `n` free slots.
     ///
     /// Takes time and memory in proportion to `n`.
@@ -168,7 +168,7 @@ impl<F: Future<Output: Drop>> InFlight<F> {
         ensures can_poll { IfOk result (CanPollAll F.Future) }
     {
         let slots = PinSlotMap::new(alloc, n)?;
-        Ok(InFlight {
+        Ok(FuturesUnorderedBounded {
             slots,
             running: None,
             cancelled: 0,

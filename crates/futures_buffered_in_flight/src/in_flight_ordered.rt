@@ -101,11 +101,11 @@ impl<F: Future<Output: Drop>> PollNumberedSet<PollFuture> for InFlightQueue<F> {
 /// contract sees the futures in flight, each with a number, and the entries from the front to the back, where one in
 /// progress has the number of its future. Calls that ask how much is held take the same time at any number.
 #[derive(Drop)]
-pub struct InFlightOrdered<F: Drop, A: Drop> {
+pub struct FuturesOrderedBounded<F: Drop, A: Drop> {
     queue: OrderedEntries<InFlightQueue<F>, A>,
 }
 
-impl<F: Drop, A: Drop> Model for InFlightOrdered<F, A> {
+impl<F: Drop, A: Drop> Model for FuturesOrderedBounded<F, A> {
     ghost use Rattle.futures_buffered_in_flight.specs.InFlightOrdered.{KeepsInOrder, OrderedInFlight};
 
     ghost Value = { OrderedInFlight F A };
@@ -115,7 +115,7 @@ impl<F: Drop, A: Drop> Model for InFlightOrdered<F, A> {
     ghost invariant = { λ q. KeepsInOrder q.queue };
 }
 
-impl<F: Drop, A: Drop> InFlightOrdered<F, A> {
+impl<F: Drop, A: Drop> FuturesOrderedBounded<F, A> {
     /// How many are held: futures in progress, and outputs that wait for their turn.
     pub fn len(&self) -> usize
         ensures value { result ≡ length self.now.entries }
@@ -146,7 +146,7 @@ impl<F: Drop, A: Drop> InFlightOrdered<F, A> {
     }
 }
 
-impl<F: Future<Output = A>, A: Drop> InFlightOrdered<F, A> {
+impl<F: Future<Output = A>, A: Drop> FuturesOrderedBounded<F, A> {
     /// A queue with room for `n`, and nothing held.
     ///
     /// Takes time and memory in proportion to `n`.
@@ -157,7 +157,7 @@ impl<F: Future<Output = A>, A: Drop> InFlightOrdered<F, A> {
     {
         let set = InFlightQueue::new(alloc, n)?;
         let queue = OrderedEntries::with_room(alloc, set, n)?;
-        Ok(InFlightOrdered { queue })
+        Ok(FuturesOrderedBounded { queue })
     }
 
     /// Adds the future behind all others, so that a later poll polls it. It comes back, and nothing has changed,

@@ -2,13 +2,13 @@
 ghost use Rattle.futures_buffered_in_flight.specs.InFlightOrdered.{CanPollOrdered, ComesOfEach};
 ghost use Rattle.futures_buffered_in_flight.specs.InFlightOrdered.{OrderedWaitsAt, PollsInTurn};
 
-use crate::in_flight_ordered::InFlightOrdered;
+use crate::in_flight_ordered::FuturesOrderedBounded;
 use futures::task::{Context, Poll};
 use futures::{Future, Stream};
 use futures_buffered_unordered::fused::{FusedStream, SizeHint};
 use std::fmt;
 
-impl<F: Future<Output = A>, A: Drop> Stream for InFlightOrdered<F, A> {
+impl<F: Future<Output = A>, A: Drop> Stream for FuturesOrderedBounded<F, A> {
     type Item = A;
 
     ghost can_poll = { CanPollOrdered F.Future };
@@ -27,7 +27,7 @@ impl<F: Future<Output = A>, A: Drop> Stream for InFlightOrdered<F, A> {
 }
 
 /// Whether nothing is held, so that the next poll gives the end. A push after that starts it again.
-impl<F: Future<Output = A>, A: Drop> FusedStream for InFlightOrdered<F, A> {
+impl<F: Future<Output = A>, A: Drop> FusedStream for FuturesOrderedBounded<F, A> {
     ghost use Rattle.std.specs.Prelude.{◌≡◌, length};
 
     ghost is_over = { λ queue. length queue.entries ≡ 0 };
@@ -37,7 +37,7 @@ impl<F: Future<Output = A>, A: Drop> FusedStream for InFlightOrdered<F, A> {
     }
 }
 
-impl<F: Drop, A: Drop> SizeHint for InFlightOrdered<F, A> {
+impl<F: Drop, A: Drop> SizeHint for FuturesOrderedBounded<F, A> {
     ghost use Rattle.std.specs.Prelude.{Some, length};
 
     ghost items_left = { λ queue. (length queue.entries, Some (length queue.entries)) };
@@ -48,9 +48,9 @@ impl<F: Drop, A: Drop> SizeHint for InFlightOrdered<F, A> {
 }
 
 /// Prints the number of futures and outputs held.
-impl<F: Drop, A: Drop> fmt::Debug for InFlightOrdered<F, A> {
+impl<F: Drop, A: Drop> fmt::Debug for FuturesOrderedBounded<F, A> {
     fn fmt<W: fmt::Write>(&self, f: &mut fmt::Formatter<W>) -> fmt::Result {
-        f.debug_struct("InFlightOrdered")
+        f.debug_struct("FuturesOrderedBounded")
             .field("len", &self.len())
             .finish_non_exhaustive()
     }

@@ -8,7 +8,7 @@ ghost use Rattle.futures_buffered_in_flight.specs.InFlightQueue.{PollsByNumber, 
 ghost use Rattle.futures_buffered_in_flight.specs.InFlightQueue.{QueuesNumber, PushesQueued, Starts, queued_count};
 ghost use Rattle.futures_buffered_in_flight.specs.InFlightQueue.{queued_room};
 
-use crate::in_flight::InFlight;
+use crate::in_flight::FuturesUnorderedBounded;
 use futures::Future;
 use futures::task::{Context, Poll};
 use futures_buffered_core::ready_core::NewFault;
@@ -25,7 +25,7 @@ use std::marker::Model;
 #[derive(Drop)]
 pub struct InFlightQueue<F> {
     // Each future has its number as its tag.
-    set: InFlight<F>,
+    set: FuturesUnorderedBounded<F>,
     waiting: VecDeque<Numbered<F>>,
 }
 
@@ -78,7 +78,7 @@ impl<F: Future<Output: Drop>> InFlightQueue<F> {
         ensures made { MakesSlots n (IsNewQueued n) result }
         ensures can_poll { IfOk result (CanPollQueue F.Future) }
     {
-        let set = InFlight::new(alloc, n)?;
+        let set = FuturesUnorderedBounded::new(alloc, n)?;
         let waiting = VecDeque::with_capacity(alloc, n)?;
         Ok(InFlightQueue { set, waiting })
     }

@@ -2,13 +2,13 @@
 ghost use Rattle.futures_buffered_core.specs.SlotMap.{held_count};
 ghost use Rattle.futures_buffered_in_flight.specs.InFlight.{CanPollAll, ComesFromSlots, FlightsWaitAt};
 
-use crate::in_flight::InFlight;
+use crate::in_flight::FuturesUnorderedBounded;
 use futures::task::{Context, Poll};
 use futures::{Future, Stream};
 use futures_buffered_unordered::fused::{FusedStream, SizeHint};
 use std::fmt;
 
-impl<F: Future<Output: Drop>> Stream for InFlight<F> {
+impl<F: Future<Output: Drop>> Stream for FuturesUnorderedBounded<F> {
     type Item = F::Output;
 
     ghost can_poll = { CanPollAll F.Future };
@@ -29,7 +29,7 @@ impl<F: Future<Output: Drop>> Stream for InFlight<F> {
 }
 
 /// Whether nothing is held, so that the next poll gives the end. A push after that starts it again.
-impl<F: Future<Output: Drop>> FusedStream for InFlight<F> {
+impl<F: Future<Output: Drop>> FusedStream for FuturesUnorderedBounded<F> {
     ghost use Rattle.std.specs.Prelude.{◌≡◌};
 
     ghost is_over = { λ set. held_count set.slots ≡ 0 };
@@ -39,7 +39,7 @@ impl<F: Future<Output: Drop>> FusedStream for InFlight<F> {
     }
 }
 
-impl<F: Drop> SizeHint for InFlight<F> {
+impl<F: Drop> SizeHint for FuturesUnorderedBounded<F> {
     ghost use Rattle.std.specs.Prelude.{Some};
 
     ghost items_left = { λ set. (held_count set.slots, Some (held_count set.slots)) };
@@ -50,9 +50,9 @@ impl<F: Drop> SizeHint for InFlight<F> {
 }
 
 /// Prints the number of futures held.
-impl<F: Drop> fmt::Debug for InFlight<F> {
+impl<F: Drop> fmt::Debug for FuturesUnorderedBounded<F> {
     fn fmt<W: fmt::Write>(&self, f: &mut fmt::Formatter<W>) -> fmt::Result {
-        f.debug_struct("InFlight")
+        f.debug_struct("FuturesUnorderedBounded")
             .field("len", &self.len())
             .finish_non_exhaustive()
     }

@@ -8,8 +8,8 @@ ghost use Rattle.futures_buffered_in_flight.specs.InFlightOrdered.{IsNewInOrder,
 ghost use Rattle.futures_buffered_in_flight.specs.InFlightOrdered.{PushesOrComesBack};
 ghost use Rattle.futures_buffered_in_flight.specs.InFlightQueue.{queued_room};
 
-use crate::in_flight::{Came, InFlight};
-use crate::in_flight_ordered::InFlightOrdered;
+use crate::in_flight::{Came, FuturesUnorderedBounded};
+use crate::in_flight_ordered::FuturesOrderedBounded;
 use crate::run::Key;
 use futures::task::{Context, Poll};
 use futures::{Future, Stream};
@@ -58,8 +58,8 @@ impl<S: Stream> Kept<S> {
     }
 }
 
-impl<F: Future<Output: Drop>> Kept<InFlight<F>> {
-    /// As `InFlight::try_push`.
+impl<F: Future<Output: Drop>> Kept<FuturesUnorderedBounded<F>> {
+    /// As `FuturesUnorderedBounded::try_push`.
     pub fn try_push(&mut self, future: F) -> Result<Key, F>
         requires { F.can_poll future }
         ensures { PushesInFlight F.Future self.old future 0 result self.new }
@@ -67,7 +67,7 @@ impl<F: Future<Output: Drop>> Kept<InFlight<F>> {
         self.held.try_push(future)
     }
 
-    /// As `InFlight::try_push_abortable`.
+    /// As `FuturesUnorderedBounded::try_push_abortable`.
     pub fn try_push_abortable(&mut self, future: F) -> Result<Key, F>
         requires { F.can_poll future }
         ensures { PushesInFlight F.Future self.old future 0 result self.new }
@@ -75,14 +75,14 @@ impl<F: Future<Output: Drop>> Kept<InFlight<F>> {
         self.held.try_push_abortable(future)
     }
 
-    /// As `InFlight::poll_next_keyed`.
+    /// As `FuturesUnorderedBounded::poll_next_keyed`.
     pub fn poll_next_keyed(&mut self, cx: &mut Context<'_>) -> Poll<Option<Came<F::Output>>>
         ensures { PollsInFlight F.Future self.old result self.new cx.old cx.new }
     {
         self.held.poll_next_keyed(cx)
     }
 
-    /// As `InFlight::cancel`.
+    /// As `FuturesUnorderedBounded::cancel`.
     pub fn cancel(&mut self, key: Key) -> Option<usize>
         ensures none { IfNone result (self.new ≡ self.old) }
         ensures some { IfSome result (λ tag. Cancels F.Future self.old key tag self.new) }
@@ -90,7 +90,7 @@ impl<F: Future<Output: Drop>> Kept<InFlight<F>> {
         self.held.cancel(key)
     }
 
-    /// As `InFlight::clear`.
+    /// As `FuturesUnorderedBounded::clear`.
     pub fn clear(&mut self)
         ensures slots { self.new.slots ≡ no_slots (slot_count self.old.slots) }
         ensures none { (self.new.running ≡ None) × (self.new.cancelled ≡ 0) }
@@ -100,7 +100,7 @@ impl<F: Future<Output: Drop>> Kept<InFlight<F>> {
     }
 }
 
-impl<F: Future<Output: Drop>> Stream for Kept<InFlight<F>> {
+impl<F: Future<Output: Drop>> Stream for Kept<FuturesUnorderedBounded<F>> {
     type Item = F::Output;
 
     ghost needs = { FlightsWaitAt };
@@ -110,7 +110,7 @@ impl<F: Future<Output: Drop>> Stream for Kept<InFlight<F>> {
     /// One poll, as `poll_next_keyed`, without key and tag.
     #[tactic(auto, using(crate::proofs::InFlightLemmas::comes_first, crate::proofs::InFlightLemmas::comes_after, crate::proofs::InFlightLemmas::comes_within))]
     fn poll_next(&mut self, cx: &mut Context<'_>) -> Poll<Option<F::Output>> {
-        match self.held.poll_next_keyed(cx) {
+        match self.poll_next_keyed(cx) {
             Poll::Pending => Poll::Pending,
             Poll::Ready(None) => Poll::Ready(None),
             Poll::Ready(Some(came)) => Poll::Ready(Some(came.output)),
@@ -118,8 +118,8 @@ impl<F: Future<Output: Drop>> Stream for Kept<InFlight<F>> {
     }
 }
 
-impl<F: Future<Output = A>, A: Drop> Kept<InFlightOrdered<F, A>> {
-    /// As `InFlightOrdered::try_push_back`.
+impl<F: Future<Output = A>, A: Drop> Kept<FuturesOrderedBounded<F, A>> {
+    /// As `FuturesOrderedBounded::try_push_back`.
     pub fn try_push_back(&mut self, future: F) -> Result<(), F>
         requires { F.can_poll future }
         ensures { PushesOrComesBack F.Future (PushesBack F.Future) self.old future result self.new }
@@ -127,7 +127,7 @@ impl<F: Future<Output = A>, A: Drop> Kept<InFlightOrdered<F, A>> {
         self.held.try_push_back(future)
     }
 
-    /// As `InFlightOrdered::try_push_front`.
+    /// As `FuturesOrderedBounded::try_push_front`.
     pub fn try_push_front(&mut self, future: F) -> Result<(), F>
         requires { F.can_poll future }
         ensures { PushesOrComesBack F.Future (PushesFront F.Future) self.old future result self.new }
@@ -135,7 +135,7 @@ impl<F: Future<Output = A>, A: Drop> Kept<InFlightOrdered<F, A>> {
         self.held.try_push_front(future)
     }
 
-    /// As `InFlightOrdered::clear`.
+    /// As `FuturesOrderedBounded::clear`.
     pub fn clear(&mut self)
         ensures none { IsNewInOrder (queued_room self.old.set) self.new }
         ensures same_room { queued_room self.new.set ≡ queued_room self.old.set }
@@ -144,14 +144,14 @@ impl<F: Future<Output = A>, A: Drop> Kept<InFlightOrdered<F, A>> {
     }
 }
 
-impl<F: Future<Output = A>, A: Drop> Stream for Kept<InFlightOrdered<F, A>> {
+impl<F: Future<Output = A>, A: Drop> Stream for Kept<FuturesOrderedBounded<F, A>> {
     type Item = A;
 
     ghost needs = { OrderedWaitsAt };
 
     ghost yields = { ComesOfEach F.Future };
 
-    /// One poll, as `InFlightOrdered::poll_output`.
+    /// One poll, as `FuturesOrderedBounded::poll_output`.
     fn poll_next(&mut self, cx: &mut Context<'_>) -> Poll<Option<A>>
         ensures { PollsInTurn F.Future self.old result self.new cx.old cx.new }
     {

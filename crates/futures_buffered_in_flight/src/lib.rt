@@ -1,19 +1,21 @@
-//! Sets that hold futures of the kit's `futures` as they are, in plain sight.
+//! Sets that hold futures of the kit's `futures` as they are.
 //!
 //! No lock and no cell stands between a set and its futures, and no type has a bound, so that a future may contain
 //! closures. What a poll asks of the futures stands in `requires`, as in the kit's own sets.
 //!
 //! - `run`: `Key`, which names one push, and `Run`, a future whose output comes with its key.
-//! - `in_flight`: `InFlight`, at most n futures, told apart by their keys, each of which can be cancelled;
+//! - `in_flight`: `FuturesUnorderedBounded`, at most n futures, told apart by their keys, each of which can be cancelled;
 //!   `in_flight_stream` is the same set as a stream.
 //! - `in_flight_queue`: `InFlightQueue`, the set as what an adaptor holds: a push never hands a future back.
-//! - `in_flight_ordered`: `InFlightOrdered`, a queue with pushes at both ends, whose outputs come from the front;
+//! - `in_flight_ordered`: `FuturesOrderedBounded`, a queue with pushes at both ends, whose outputs come from the front;
 //!   `in_flight_ordered_stream` is the same queue as a stream.
+//! - `from_iter`: sets and queues that are made of what an iterator gives.
 //! - `kept`: `Kept`, which keeps that a set or a queue may be polled, for loops by hand.
 //! - `waiting`: `Waiting`, which holds a set or an ordered queue while a task waits for its next output, and gives it
 //!   back.
 #![tactic(auto)]
 
+mod from_iter;
 pub mod in_flight;
 pub mod in_flight_ordered;
 mod in_flight_ordered_stream;
@@ -23,8 +25,8 @@ pub mod kept;
 pub mod run;
 pub mod waiting;
 
-pub use in_flight::{Came, InFlight};
-pub use in_flight_ordered::InFlightOrdered;
+pub use in_flight::{Came, FuturesUnorderedBounded};
+pub use in_flight_ordered::FuturesOrderedBounded;
 pub use in_flight_queue::InFlightQueue;
 pub use kept::Kept;
 pub use run::Key;

@@ -3,8 +3,8 @@ ghost use Rattle.std.specs.Prelude.{◌≡◌, Some, IfOk, IsSomeAnd};
 ghost use Rattle.futures_buffered_in_flight.specs.InFlight.{CameInFlight, CanPollAll, FlightsWaitAt};
 ghost use Rattle.futures_buffered_in_flight.specs.InFlightOrdered.{CameInTurn, CanPollOrdered, OrderedWaitsAt};
 
-use crate::in_flight::{Came, InFlight};
-use crate::in_flight_ordered::InFlightOrdered;
+use crate::in_flight::{Came, FuturesUnorderedBounded};
+use crate::in_flight_ordered::FuturesOrderedBounded;
 use futures::Future;
 use futures::executor::block_on;
 use futures::task::{Context, Poll};
@@ -21,8 +21,8 @@ pub struct Waiting<S> {
     held: Option<S>,
 }
 
-impl<F: Future<Output: Drop>> Future for Waiting<InFlight<F>> {
-    type Output = (Option<Came<F::Output>>, InFlight<F>);
+impl<F: Future<Output: Drop>> Future for Waiting<FuturesUnorderedBounded<F>> {
+    type Output = (Option<Came<F::Output>>, FuturesUnorderedBounded<F>);
 
     // A set that was given back is not there to be polled.
     ghost can_poll = { λ waiting. IsSomeAnd waiting.held (CanPollAll F.Future) };
@@ -44,7 +44,7 @@ impl<F: Future<Output: Drop>> Future for Waiting<InFlight<F>> {
     }
 }
 
-impl<F: Future<Output: Drop>> InFlight<F> {
+impl<F: Future<Output: Drop>> FuturesUnorderedBounded<F> {
     /// The set, as a future that is ready with its next output, or with `None` where nothing is held, and with the set.
     pub fn into_next(self) -> Waiting<Self>
         ensures { result.held ≡ Some self }
@@ -54,7 +54,10 @@ impl<F: Future<Output: Drop>> InFlight<F> {
 
     /// Blocks the thread until the next output comes, or the end, and gives the set back. The set is dropped where the
     /// thread cannot wait.
-    pub fn wait<R>(self, rt: &R) -> io::Result<(Option<Came<F::Output>>, InFlight<F>)>
+    pub fn wait<R>(
+        self,
+        rt: &R,
+    ) -> io::Result<(Option<Came<F::Output>>, FuturesUnorderedBounded<F>)>
     where
         R: Wait + RandomSource + AllocGlobal,
         requires { CanPollAll F.Future self }
@@ -64,8 +67,8 @@ impl<F: Future<Output: Drop>> InFlight<F> {
     }
 }
 
-impl<F: Future<Output = A>, A: Drop> Future for Waiting<InFlightOrdered<F, A>> {
-    type Output = (Option<A>, InFlightOrdered<F, A>);
+impl<F: Future<Output = A>, A: Drop> Future for Waiting<FuturesOrderedBounded<F, A>> {
+    type Output = (Option<A>, FuturesOrderedBounded<F, A>);
 
     // A queue that was given back is not there to be polled.
     ghost can_poll = { λ waiting. IsSomeAnd waiting.held (CanPollOrdered F.Future) };
@@ -87,7 +90,7 @@ impl<F: Future<Output = A>, A: Drop> Future for Waiting<InFlightOrdered<F, A>> {
     }
 }
 
-impl<F: Future<Output = A>, A: Drop> InFlightOrdered<F, A> {
+impl<F: Future<Output = A>, A: Drop> FuturesOrderedBounded<F, A> {
     /// The queue, as a future that is ready with the output of the front, or with `None` where nothing is held, and
     /// with the queue.
     pub fn into_next(self) -> Waiting<Self>
@@ -98,7 +101,7 @@ impl<F: Future<Output = A>, A: Drop> InFlightOrdered<F, A> {
 
     /// Blocks the thread until the output of the front comes, or the end, and gives the queue back. The queue is
     /// dropped where the thread cannot wait.
-    pub fn wait<R>(self, rt: &R) -> io::Result<(Option<A>, InFlightOrdered<F, A>)>
+    pub fn wait<R>(self, rt: &R) -> io::Result<(Option<A>, FuturesOrderedBounded<F, A>)>
     where
         R: Wait + RandomSource + AllocGlobal,
         requires { CanPollOrdered F.Future self }

@@ -1,4 +1,4 @@
-//! Joins of the kit's futures, which a join holds as they are, in plain sight.
+//! Joins of the kit's futures, which a join holds as they are.
 ghost use Rattle.std.specs.Prelude.{◌≡◌, None, IfOk};
 ghost use Rattle.futures_buffered_core.specs.Drawn.{IsFiniteSource, items_of};
 ghost use Rattle.futures_buffered_unordered.specs.Extended.{EachDrawn};
@@ -26,13 +26,13 @@ use std::marker::{Model, PhantomData};
 /// waited for, each in the slot of its place, and the outputs that have come. Once the join has ended, early too, it
 /// holds nothing, and further polls give what shows an empty vector.
 #[derive(Drop)]
-pub struct InFlightJoin<R, F, A> {
+pub struct JoinBy<R, F, A> {
     flying: Option<Flying<F, A>>,
     alloc: Global,
     rule: PhantomData<R>,
 }
 
-impl<R, F, A> Model for InFlightJoin<R, F, A> {
+impl<R, F, A> Model for JoinBy<R, F, A> {
     ghost use Rattle.std.specs.Prelude.{Option, IfSome};
     ghost use Rattle.futures_buffered_joins.specs.InFlightJoin.{Flying as FlyingValue};
     ghost use Rattle.futures_buffered_joins.specs.Outputs.{WaitsOrCame};
@@ -46,12 +46,12 @@ impl<R, F, A> Model for InFlightJoin<R, F, A> {
 }
 
 /// A join of the kit's futures.
-pub type JoinAll<F> = InFlightJoin<AllOutputs, F, <F as Future>::Output>;
+pub type JoinAll<F> = JoinBy<AllOutputs, F, <F as Future>::Output>;
 
 /// A join of the kit's futures that may fail.
-pub type TryJoinAll<F> = InFlightJoin<UntilError, F, <<F as Future>::Output as TryOutput>::Ok>;
+pub type TryJoinAll<F> = JoinBy<UntilError, F, <<F as Future>::Output as TryOutput>::Ok>;
 
-impl<R, F, A> InFlightJoin<R, F, A>
+impl<R, F, A> JoinBy<R, F, A>
 where
     F: Future<Output: Drop>,
     R: JoinRule<F::Output, Kept = A>,
@@ -68,7 +68,7 @@ where
         ensures can_poll { IfOk result (CanPollFlying F.Future) }
     {
         let flying = Flying::over(alloc, iter)?;
-        Ok(InFlightJoin {
+        Ok(JoinBy {
             flying: Some(flying),
             alloc,
             rule: PhantomData,
@@ -76,7 +76,7 @@ where
     }
 }
 
-impl<R, F, A> Future for InFlightJoin<R, F, A>
+impl<R, F, A> Future for JoinBy<R, F, A>
 where
     F: Future<Output: Drop>,
     R: JoinRule<F::Output, Kept = A>,
@@ -116,7 +116,7 @@ where
 }
 
 /// Whether the join has ended.
-impl<R, F, A> FusedFuture for InFlightJoin<R, F, A>
+impl<R, F, A> FusedFuture for JoinBy<R, F, A>
 where
     F: Future<Output: Drop>,
     R: JoinRule<F::Output, Kept = A>,
@@ -130,7 +130,7 @@ where
 }
 
 /// Prints how many futures are waited for.
-impl<R: JoinName, F: Future<Output: Drop>, A: Drop> fmt::Debug for InFlightJoin<R, F, A> {
+impl<R: JoinName, F: Future<Output: Drop>, A: Drop> fmt::Debug for JoinBy<R, F, A> {
     fn fmt<W: fmt::Write>(&self, f: &mut fmt::Formatter<W>) -> fmt::Result {
         let len = match &self.flying {
             Some(flying) => flying.len(),
@@ -153,7 +153,7 @@ where
     ensures { FliesByPlace F.Future R.JoinRule }
 {}
 
-/// A join of these futures of the kit, in their order, which is ready with all outputs. It is `InFlightJoin::over`, and
+/// A join of these futures of the kit, in their order, which is ready with all outputs. It is `JoinAll::over`, and
 /// refuses as that does.
 pub fn join_all<I: IntoIterator<Item: Future<Output: Drop>>>(
     alloc: Global,

@@ -8,7 +8,7 @@
 //! - `join_by`: the type of both, by a rule.
 //! - `joining`: what a join keeps until it ends, a set of the futures and the outputs that have come.
 //! - `outputs`: the outputs that have come, each at its place.
-//! - `in_flight_join`: `join_all` and `try_join_all` of futures of the kit in plain sight, by the same rules.
+//! - `in_flight_join`: `join_all` and `try_join_all` of futures of the kit, by the same rules.
 //! - `flying`: what such a join keeps until it ends.
 #![tactic(auto)]
 
@@ -21,7 +21,6 @@ mod joining;
 mod outputs;
 pub mod try_join;
 
-pub use in_flight_join::InFlightJoin;
 pub use join::{Join, JoinAll, join_all};
 pub use join_by::{JoinBy, JoinName, JoinRule};
 pub use try_join::{TryJoin, TryJoinAll, try_join_all};

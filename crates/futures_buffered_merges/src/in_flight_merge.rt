@@ -1,4 +1,4 @@
-//! Streams of the kit as one, in plain sight.
+//! Streams of the kit as one.
 //!
 //! The merge owns the kit's `SelectAll`, which polls those that were woken, and counts the streams that are held.
 ghost use Rattle.std.specs.Prelude.{◌≡◌, ◌+◌, ◌^◌, ◌-◌, ◌≤◌, ◌↔◌, ◌⊎◌, IfErr, IfOk, OnOk, IfSome, IsTrue};
@@ -22,12 +22,13 @@ use std::alloc::Global;
 use std::fmt;
 use std::marker::Model;
 
-/// Streams of the kit that are polled as one, `capacity` of them at most.
+/// Streams of the kit that are polled as one, `capacity` of them at most. `MergeUnbounded` is its name where there is no
+/// limit.
 ///
 /// A contract sees how many streams are held, and the kit's set of them. A stream is held from its push until the poll
 /// in which it gives its end. Calls that ask how much is held take the same time at any number.
 #[derive(Drop)]
-pub struct InFlightMerge<St> {
+pub struct MergeBounded<St> {
     // None before the first push and after `clear`.
     running: Option<SelectAll<WithEnd<St>>>,
     held: usize,
@@ -35,7 +36,7 @@ pub struct InFlightMerge<St> {
     alloc: Global,
 }
 
-impl<St> Model for InFlightMerge<St> {
+impl<St> Model for MergeBounded<St> {
     ghost use Rattle.futures_buffered_merges.specs.InFlightMerge.{Merged};
 
     ghost Value = { Merged St };
@@ -43,7 +44,7 @@ impl<St> Model for InFlightMerge<St> {
     ghost view = { λ m. record { held = m.held; limit = m.limit; running = m.running } };
 }
 
-impl<St: Drop> InFlightMerge<St> {
+impl<St: Drop> MergeBounded<St> {
     /// The number of streams held.
     pub fn len(&self) -> usize
         ensures { result ≡ self.now.held }
@@ -71,15 +72,24 @@ impl<St: Drop> InFlightMerge<St> {
     {
         self.limit <= self.held
     }
+
+    // What it is called where it is printed: the name that a caller writes.
+    fn merge_name(&self) -> &'static str {
+        if self.limit == usize::MAX {
+            "MergeUnbounded"
+        } else {
+            "MergeBounded"
+        }
+    }
 }
 
-impl<St: Stream<Item: Drop>> InFlightMerge<St> {
+impl<St: Stream<Item: Drop>> MergeBounded<St> {
     /// A merge that holds nothing, and `n` streams at most. Takes no memory.
     pub fn new(alloc: Global, n: usize) -> Self
         ensures new { IsNewMerge n result }
         ensures can_poll { CanPollStreams St.Stream result }
     {
-        InFlightMerge {
+        MergeBounded {
             running: None,
             held: 0,
             limit: n,
@@ -233,7 +243,7 @@ impl<St: Stream<Item: Drop>> InFlightMerge<St> {
     }
 }
 
-impl<St: Stream<Item: Drop>> Stream for InFlightMerge<St> {
+impl<St: Stream<Item: Drop>> Stream for MergeBounded<St> {
     type Item = St::Item;
 
     ghost can_poll = { CanPollStreams St.Stream };
@@ -257,7 +267,7 @@ impl<St: Stream<Item: Drop>> Stream for InFlightMerge<St> {
 }
 
 /// Whether no stream is held, so that the next poll gives the end. A push after that starts it again.
-impl<St: Stream<Item: Drop>> FusedStream for InFlightMerge<St> {
+impl<St: Stream<Item: Drop>> FusedStream for MergeBounded<St> {
     ghost use Rattle.std.specs.Prelude.{◌≡◌};
 
     ghost is_over = { λ merge. merge.held ≡ 0 };
@@ -268,26 +278,23 @@ impl<St: Stream<Item: Drop>> FusedStream for InFlightMerge<St> {
 }
 
 /// Nothing is known of how many items are left.
-impl<St: Drop> SizeHint for InFlightMerge<St> {
+impl<St: Drop> SizeHint for MergeBounded<St> {
     fn size_hint(&self) -> (usize, Option<usize>) {
         (0, None)
     }
 }
 
-/// Prints the number of streams held.
-impl<St: Drop> fmt::Debug for InFlightMerge<St> {
+/// Prints the number of streams held, and by its name whether there is a limit.
+impl<St: Drop> fmt::Debug for MergeBounded<St> {
     fn fmt<W: fmt::Write>(&self, f: &mut fmt::Formatter<W>) -> fmt::Result {
-        f.debug_struct("InFlightMerge")
+        f.debug_struct(self.merge_name())
             .field("len", &self.len())
             .finish_non_exhaustive()
     }
 }
 
-/// A merge of streams of the kit, of which `merge` makes a full one.
-pub type MergeBounded<St> = InFlightMerge<St>;
-
 /// A merge of streams of the kit without a limit.
-pub type MergeUnbounded<St> = InFlightMerge<St>;
+pub type MergeUnbounded<St> = MergeBounded<St>;
 
 /// A merge without a limit, of the streams that this iterator gives, in its order.
 ///
@@ -303,7 +310,7 @@ pub fn merge_unbounded<St: Stream<Item: Drop>, I: IntoIterator<Item = St>>(
         (HoldsAllOf (items_of I.IntoIterator I.IntoIter.Iterator iter) (HoldsStreams St.Stream)) }
     ensures limit { IfOk result (λ merge. merge.limit ≡ 2 ^ 64 - 1) }
 {
-    let mut merge = InFlightMerge::growing(alloc);
+    let mut merge = MergeBounded::growing(alloc);
     match merge.extend(iter) {
         Ok(()) => Ok(merge),
         Err(_) => Err(NewFault::Memory),

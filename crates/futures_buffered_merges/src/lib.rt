@@ -12,8 +12,8 @@
 //! Of streams of the kit, which no slot holds:
 //!
 //! - `with_end`: `WithEnd`, a stream whose end can be counted.
-//! - `in_flight_merge`: `InFlightMerge`, such streams in the kit's own set, in plain sight; `merge` and
-//!   `merge_unbounded` make it of an iterator.
+//! - `in_flight_merge`: `MergeBounded` and `MergeUnbounded` of such streams, one type, over the kit's own set; `merge`
+//!   and `merge_unbounded` make it of an iterator.
 //! - `waiting_merge`: `WaitingMerge`, which holds a merge while a task waits for its next item, and gives it back.
 #![tactic(auto)]
 
@@ -26,7 +26,6 @@ pub mod slot_stream;
 pub mod waiting_merge;
 pub mod with_end;
 
-pub use in_flight_merge::InFlightMerge;
 pub use merge_bounded::{Merge, MergeBounded};
 pub use merge_of::{MergeOf, StreamSet};
 pub use merge_unbounded::MergeUnbounded;

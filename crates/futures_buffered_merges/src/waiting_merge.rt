@@ -2,7 +2,7 @@
 ghost use Rattle.std.specs.Prelude.{◌≡◌, Some, IfOk, IsSomeAnd};
 ghost use Rattle.futures_buffered_merges.specs.InFlightMerge.{CameOfMerge, CanPollStreams, MergedWaitsAt};
 
-use crate::in_flight_merge::InFlightMerge;
+use crate::in_flight_merge::MergeBounded;
 use futures::executor::block_on;
 use futures::task::{Context, Poll};
 use futures::{Future, Stream};
@@ -15,11 +15,11 @@ use std::sync::Wait;
 /// merge is known still.
 #[derive(Drop)]
 pub struct WaitingMerge<St> {
-    merge: Option<InFlightMerge<St>>,
+    merge: Option<MergeBounded<St>>,
 }
 
 impl<St: Stream<Item: Drop>> Future for WaitingMerge<St> {
-    type Output = (Option<St::Item>, InFlightMerge<St>);
+    type Output = (Option<St::Item>, MergeBounded<St>);
 
     // A merge that was given back is not there to be polled.
     ghost can_poll = { λ waiting. IsSomeAnd waiting.merge (CanPollStreams St.Stream) };
@@ -41,7 +41,7 @@ impl<St: Stream<Item: Drop>> Future for WaitingMerge<St> {
     }
 }
 
-impl<St: Stream<Item: Drop>> InFlightMerge<St> {
+impl<St: Stream<Item: Drop>> MergeBounded<St> {
     /// The merge, as a future that is ready with its next item, or with `None` where nothing is held any more, and with
     /// the merge.
     pub fn into_next(self) -> WaitingMerge<St>
@@ -52,7 +52,7 @@ impl<St: Stream<Item: Drop>> InFlightMerge<St> {
 
     /// Blocks the thread until the next item comes, or the end, and gives the merge back. The merge is dropped where
     /// the thread cannot wait.
-    pub fn wait<R>(self, rt: &R) -> io::Result<(Option<St::Item>, InFlightMerge<St>)>
+    pub fn wait<R>(self, rt: &R) -> io::Result<(Option<St::Item>, MergeBounded<St>)>
     where
         R: Wait + RandomSource + AllocGlobal,
         requires { CanPollStreams St.Stream self }

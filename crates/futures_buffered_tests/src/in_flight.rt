@@ -6,12 +6,12 @@ use futures::Future;
 use futures::channel::oneshot::{Receiver, Sender, channel};
 use futures::task::{Context, Poll};
 use futures::test::MockTask;
-use futures_buffered_in_flight::{InFlight, Key};
+use futures_buffered_in_flight::{FuturesUnorderedBounded, Key};
 use std::alloc::AllocGlobal;
 use std::process::Abort;
 use std::test::Fail;
 
-type Set = InFlight<Receiver<u64>>;
+type Set = FuturesUnorderedBounded<Receiver<u64>>;
 
 // A sender, and the key of its receiver, if that went into the set.
 type Sent = (Sender<u64>, Option<Key>);
@@ -61,7 +61,7 @@ fn came(key: Option<Key>, output: u64) -> Option<Option<(Key, u64)>> {
 }
 
 fn outputs_by_key<R: AllocGlobal + Abort>(rt: &R, cx: &mut Context<'_>) -> Result<(), Fail> {
-    let mut set = InFlight::new(rt.alloc(), 2)?;
+    let mut set = FuturesUnorderedBounded::new(rt.alloc(), 2)?;
     let (first, first_key) = push(rt, &mut set)?;
     let (second, second_key) = push(rt, &mut set)?;
     assert_same(rt, polled(&mut set, cx).is_none(), true);
@@ -81,7 +81,7 @@ fn an_output_by_its_key(rt: HostRuntime) -> Result<(), Fail> {
 }
 
 fn cleared<R: AllocGlobal + Abort>(rt: &R, cx: &mut Context<'_>) -> Result<(), Fail> {
-    let mut set = InFlight::new(rt.alloc(), 2)?;
+    let mut set = FuturesUnorderedBounded::new(rt.alloc(), 2)?;
     let (first, _) = push(rt, &mut set)?;
     let (second, _) = push_abortable(rt, &mut set)?;
     assert_same(rt, polled(&mut set, cx).is_none(), true);
@@ -103,7 +103,7 @@ fn a_clear(rt: HostRuntime) -> Result<(), Fail> {
 }
 
 fn cancelled_by_handle<R: AllocGlobal + Abort>(rt: &R, cx: &mut Context<'_>) -> Result<(), Fail> {
-    let mut set = InFlight::new(rt.alloc(), 2)?;
+    let mut set = FuturesUnorderedBounded::new(rt.alloc(), 2)?;
     let (first, first_key) = push_abortable(rt, &mut set)?;
     let (second, second_key) = push(rt, &mut set)?;
     assert_same(rt, polled(&mut set, cx).is_none(), true);
@@ -128,7 +128,7 @@ fn a_cancel_that_ends(rt: HostRuntime) -> Result<(), Fail> {
 }
 
 fn cancelled_until_done<R: AllocGlobal + Abort>(rt: &R, cx: &mut Context<'_>) -> Result<(), Fail> {
-    let mut set = InFlight::new(rt.alloc(), 2)?;
+    let mut set = FuturesUnorderedBounded::new(rt.alloc(), 2)?;
     let (first, first_key) = push(rt, &mut set)?;
     let (_second, _) = push(rt, &mut set)?;
     assert_same(rt, polled(&mut set, cx).is_none(), true);
@@ -159,7 +159,7 @@ fn a_cancel_of_one_that_goes_on(rt: HostRuntime) -> Result<(), Fail> {
 // The last one held ends in the call.
 #[test]
 fn a_cancel_of_the_last_one(rt: HostRuntime) -> Result<(), Fail> {
-    let mut set = InFlight::new(rt.alloc(), 2)?;
+    let mut set = FuturesUnorderedBounded::new(rt.alloc(), 2)?;
     let (only, key) = push(&rt, &mut set)?;
     assert_same(
         &rt,

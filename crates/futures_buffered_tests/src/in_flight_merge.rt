@@ -7,13 +7,12 @@ use futures::Stream;
 use futures::channel::mpsc::{UnboundedReceiver, UnboundedSender, unbounded};
 use futures::task::{Context, Poll};
 use futures::test::MockTask;
-use futures_buffered::InFlightMerge;
-use futures_buffered::in_flight::merge;
+use futures_buffered::in_flight::{MergeBounded, merge};
 use std::alloc::AllocGlobal;
 use std::process::Abort;
 use std::test::Fail;
 
-type Merge = InFlightMerge<UnboundedReceiver<u64>>;
+type Merge = MergeBounded<UnboundedReceiver<u64>>;
 
 // A sender, and whether its receiver went into the merge.
 fn push<R: AllocGlobal + Abort>(
@@ -37,7 +36,7 @@ fn polled(merge: &mut Merge, cx: &mut Context<'_>) -> (Poll<Option<u64>>, usize)
 }
 
 fn items_and_ends<R: AllocGlobal + Abort>(rt: &R, cx: &mut Context<'_>) -> Result<(), Fail> {
-    let mut merge = InFlightMerge::new(rt.alloc(), 2);
+    let mut merge = MergeBounded::new(rt.alloc(), 2);
     assert_same(rt, polled(&mut merge, cx), (Poll::Ready(None), 0));
     let (first, _) = push(rt, &mut merge)?;
     let (second, _) = push(rt, &mut merge)?;
@@ -69,7 +68,7 @@ fn each_item_and_then_the_end(rt: HostRuntime) -> Result<(), Fail> {
 #[test]
 fn an_item_wakes_the_task(rt: HostRuntime) -> Result<(), Fail> {
     let task = MockTask::new(&rt)?;
-    let mut merge = InFlightMerge::new(rt.alloc(), 2);
+    let mut merge = MergeBounded::new(rt.alloc(), 2);
     let (first, _) = push(&rt, &mut merge)?;
     let (_second, _) = push(&rt, &mut merge)?;
     let waits = task.enter(|cx| polled(&mut merge, cx));
@@ -80,7 +79,7 @@ fn an_item_wakes_the_task(rt: HostRuntime) -> Result<(), Fail> {
 }
 
 fn dropped<R: AllocGlobal + Abort>(rt: &R, cx: &mut Context<'_>) -> Result<(), Fail> {
-    let mut merge = InFlightMerge::new(rt.alloc(), 2);
+    let mut merge = MergeBounded::new(rt.alloc(), 2);
     let (first, _) = push(rt, &mut merge)?;
     let (second, _) = push(rt, &mut merge)?;
     let (third, went_in) = push(rt, &mut merge)?;
@@ -98,6 +97,18 @@ fn dropped<R: AllocGlobal + Abort>(rt: &R, cx: &mut Context<'_>) -> Result<(), F
 fn a_full_merge_and_a_clear(rt: HostRuntime) -> Result<(), Fail> {
     let task = MockTask::new(&rt)?;
     task.enter(|cx| dropped(&rt, cx))
+}
+
+// Debug prints the name that the caller wrote.
+#[test]
+fn debug_tells_whether_there_is_a_limit(rt: HostRuntime) -> Result<(), Fail> {
+    let bounded: Merge = MergeBounded::new(rt.alloc(), 2);
+    let unbounded: Merge = MergeBounded::growing(rt.alloc());
+    let bounded = format!(in rt.alloc(); "{bounded:?}")?;
+    let unbounded = format!(in rt.alloc(); "{unbounded:?}")?;
+    assert_same(&rt, bounded.as_str(), "MergeBounded { len: 0, .. }");
+    assert_same(&rt, unbounded.as_str(), "MergeUnbounded { len: 0, .. }");
+    Ok(())
 }
 
 // A merge that is made of streams has room for no other.

@@ -1,6 +1,6 @@
 //! Adaptors of a stream of the kit's futures, as methods of the stream.
 //!
-//! Each holds the futures in plain sight, in an `InFlightQueue` or an `InFlightOrdered`. A future may contain closures.
+//! Each holds the futures in an `InFlightQueue` or a `FuturesOrderedBounded`. A future may contain closures.
 ghost use Rattle.std.specs.Prelude.{◌<◌, IfOk};
 ghost use Rattle.futures_buffered_core.specs.Made.{MakesSlots};
 ghost use Rattle.futures_buffered_in_flight.specs.InFlightOrdered.{CanPollOrdered, IsNewInOrder};
@@ -14,7 +14,7 @@ use crate::in_flight::{BufferUnordered, BufferedOrdered, ForEachConcurrent};
 use futures::stream::StreamExt;
 use futures::{Future, Stream};
 use futures_buffered_core::ready_core::NewFault;
-use futures_buffered_in_flight::{InFlightOrdered, InFlightQueue};
+use futures_buffered_in_flight::{FuturesOrderedBounded, InFlightQueue};
 use futures_buffered_unordered::futures_unordered_bounded::POLL_LIMIT;
 use std::alloc::Global;
 
@@ -37,7 +37,7 @@ pub trait BufferedStreamExt: Stream + Sized {
         ensures made { MakesSlots n (IsNewBuffer (IsNewInOrder n) self) result }
         ensures held { IfOk result (λ b. CanPollOrdered Self.Item.Future b.queue) }
     {
-        let queue = InFlightOrdered::new(alloc, n)?;
+        let queue = FuturesOrderedBounded::new(alloc, n)?;
         Ok(Buffer::with_queue(self, queue))
     }
 

@@ -1,4 +1,4 @@
-//! Futures of the kit in plain sight, as what a buffer holds.
+//! Futures of the kit, as what a buffer holds.
 ghost use Rattle.futures_buffered_in_flight.specs.InFlightOrdered.{CanPollOrdered, ComesOfEach, OrderedWaitsAt};
 ghost use Rattle.futures_buffered_in_flight.specs.InFlightOrdered.{PollsInTurn, PushesBack};
 ghost use Rattle.futures_buffered_in_flight.specs.InFlight.{FlightsWaitAt};
@@ -9,7 +9,7 @@ ghost use Rattle.futures_buffered.specs.FutureQueue.{OnlyPushes};
 use crate::future_queue::FutureQueue;
 use futures::Future;
 use futures::task::{Context, Poll};
-use futures_buffered_in_flight::{InFlightOrdered, InFlightQueue};
+use futures_buffered_in_flight::{FuturesOrderedBounded, InFlightQueue};
 
 impl<F: Future<Output: Drop>> FutureQueue<F> for InFlightQueue<F> {
     ghost use Rattle.std.specs.Prelude.{false};
@@ -55,7 +55,7 @@ impl<F: Future<Output: Drop>> FutureQueue<F> for InFlightQueue<F> {
     }
 }
 
-impl<F: Future<Output = A>, A: Drop> FutureQueue<F> for InFlightOrdered<F, A> {
+impl<F: Future<Output = A>, A: Drop> FutureQueue<F> for FuturesOrderedBounded<F, A> {
     ghost use Rattle.std.specs.Prelude.{true, length};
 
     type Output = A;
@@ -81,20 +81,20 @@ impl<F: Future<Output = A>, A: Drop> FutureQueue<F> for InFlightOrdered<F, A> {
     ghost needs = { OrderedWaitsAt };
 
     fn len(&self) -> usize {
-        InFlightOrdered::len(self)
+        FuturesOrderedBounded::len(self)
     }
 
     fn capacity(&self) -> usize {
-        InFlightOrdered::capacity(self)
+        FuturesOrderedBounded::capacity(self)
     }
 
     #[tactic(auto, using(crate::proofs::InFlightLemmas::push_leaves_ordered, crate::proofs::InFlightLemmas::push_adds_ordered))]
     fn push(&mut self, future: F) -> Option<A> {
-        InFlightOrdered::push_back(self, future);
+        FuturesOrderedBounded::push_back(self, future);
         None
     }
 
     fn poll_output(&mut self, cx: &mut Context<'_>) -> Poll<Option<A>> {
-        InFlightOrdered::poll_output(self, cx)
+        FuturesOrderedBounded::poll_output(self, cx)
     }
 }

@@ -1,6 +1,6 @@
 //! Adaptors of a stream of the kit's futures and errors, as methods of the stream.
 //!
-//! Each holds the futures in plain sight, in an `InFlightQueue` or an `InFlightOrdered`. A future may contain closures.
+//! Each holds the futures in an `InFlightQueue` or a `FuturesOrderedBounded`. A future may contain closures.
 ghost use Rattle.std.specs.Prelude.{◌<◌, IfOk};
 ghost use Rattle.futures_buffered_core.specs.Made.{MakesSlots};
 ghost use Rattle.futures_buffered_in_flight.specs.InFlightOrdered.{CanPollOrdered, IsNewInOrder};
@@ -15,7 +15,7 @@ use crate::try_buffer::TryQueue;
 use futures::stream::TryStreamExt;
 use futures::{Future, Stream};
 use futures_buffered_core::ready_core::NewFault;
-use futures_buffered_in_flight::{InFlightOrdered, InFlightQueue};
+use futures_buffered_in_flight::{FuturesOrderedBounded, InFlightQueue};
 use futures_buffered_unordered::futures_unordered_bounded::POLL_LIMIT;
 use std::alloc::Global;
 
@@ -41,7 +41,7 @@ pub trait BufferedTryStreamExt: Stream + Sized {
         ensures made { MakesSlots n (IsNewBuffer (IsNewInOrder n) self) result }
         ensures held { IfOk result (λ b. CanPollOrdered F.Future b.queue) }
     {
-        let queue = InFlightOrdered::new(alloc, n)?;
+        let queue = FuturesOrderedBounded::new(alloc, n)?;
         Ok(Buffer::with_queue(self, TryQueue::over(queue)))
     }
 

@@ -1,0 +1,23 @@
+use Rattle.std.proofs.Common.{rules, sym, subst}
+use Rattle.futures_buffered_in_flight.specs.InFlightQueue.{Queued, IsNewQueued}
+use Rattle.futures_buffered_in_flight.proofs.InFlightOrderedLemmas.{new_keeps}
+use Rattle.futures_buffered_in_flight.proofs.in_flight_ordered.FuturesOrderedBounded.new.Goals as goal
+
+pub invariant_of-result : goal.invariant_of-result
+invariant_of-result g c =
+    let made = c.in_ok-queue.ensures in
+    let set = c.in_ok-set.ensures.made in
+    new_keeps c.in_ok-queue.queue c.in_ok-set.set c.args.n c.requires set.made made.set made.entries made.first made.room set.refuses.fits
+
+pub returns-clause-made : goal.returns-clause-made
+returns-clause-made g c =
+    let made = c.in_ok-queue.ensures in
+    let set = c.in_ok-set.ensures.made in
+    record {
+      made = record {
+        new_set = subst (λ (set : Queued g.row.F.Denot). IsNewQueued c.args.n set) (sym made.set) set.made;
+        no_entries = made.entries;
+        has_room = made.room;
+      };
+      refuses = search (rules, set.refuses.fits);
+    }

@@ -1,8 +1,0 @@
-use Rattle.std.proofs.Common.{◌≡◌, ◌++◌, length}
-use Rattle.std.specs.Vec.Iter.{into_iter_items}
-use Rattle.futures_buffered_joins.proofs.InFlightJoinLemmas.{PushedSoFar}
-use Rattle.futures_buffered_joins.proofs.flying.push_all.Given as goal
-
-abbrev pub invariant-futures : goal.invariant-futures
-invariant-futures g l = PushedSoFar g.F.Future (length l.fn.futures.items) l.yielded l.set
-    × (l.fn.futures.items ≡ l.yielded ++ into_iter_items l.future-iterator)
