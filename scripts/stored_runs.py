@@ -3,6 +3,7 @@ import dataclasses
 import itertools
 import os
 import pathlib
+import re
 import resource
 import shlex
 import subprocess
@@ -27,13 +28,13 @@ class Ended:
 
 @dataclasses.dataclass(frozen=True)
 class StoredRun:
-    """What a program is run on, and how it has to end. Output and errors go where `to` says, in this order, and else are kept. A limit is
-    what is limited, as `resource` numbers it, and how much of it there is."""
+    """What a program is run on, and how it has to end. Its input is a text or a file. Output and errors go where `to` says, in this order,
+    and else are kept. A limit is what is limited, as `resource` numbers it, and how much of it there is."""
 
     name: str
     program: str
     words: tuple[str, ...]
-    given: pathlib.Path
+    given: pathlib.Path | bytes
     folder: pathlib.Path
     to: tuple[str, ...]
     wanted: Ended
@@ -56,14 +57,41 @@ def limits_in(path):
     return tuple((getattr(resource, f"RLIMIT_{what.upper()}"), int(most)) for what, most in lines)
 
 
+def numbers_in(words):
+    """The numbers of a line `for N in`: each word is one, or a span as `0..599`, whose ends both count."""
+    for word in words:
+        first, _, last = word.partition("..")
+        yield from range(int(first), int(last or first) + 1)
+
+
+def made_by(path):
+    """The script and the replies that a file spells in short: its lines are `LINE => REPLY`, and those between `for N in NUMBERS` and an
+    empty line come once for each number, where a sum in braces, as `{N - 1}`, is worked out. A LINE alone has no reply."""
+    script, replies, numbers, block = [], [], [0], []
+    for line in [*path.read_text(encoding="utf-8").splitlines(), ""]:
+        if line.startswith("for N in "):
+            numbers = list(numbers_in(line.split()[3:]))
+        elif line:
+            block.append(line.partition(" => "))
+        else:
+            for number in numbers:
+                worked_out = lambda text: re.sub(r"\{(.*?)\}", lambda sum_: str(eval(sum_[1], {"N": number})), text)
+                script += [worked_out(line) for line, _, _ in block]
+                replies += [worked_out(reply) for _, arrow, reply in block if arrow]
+            numbers, block = [0], []
+    return ["".join(f"{line}\n" for line in lines).encode() for lines in (script, replies)]
+
+
 def runs_of_fbuf():
     """Each case of crates/fbuf/scripts, once for each line of its `.args`."""
     for name in sorted({path.name.partition(".")[0] for path in SCRIPTS.iterdir()}):
         part = lambda kind: SCRIPTS / f"{name}.{kind}"
-        given = part("in") if part("in").is_file() else pathlib.Path(os.devnull)
+        given, replies = bytes_of(part("in")), bytes_of(part("out"))
         if part("from").is_file():
             given = pathlib.Path(part("from").read_text().strip())
-        wanted = Ended(status_in(part("status")), bytes_of(part("out")), bytes_of(part("err")))
+        if part("each").is_file():
+            given, replies = made_by(part("each"))
+        wanted = Ended(status_in(part("status")), replies, bytes_of(part("err")))
         to = tuple(bytes_of(part("to")).decode().split())
         limits = limits_in(part("limit"))
         calls = bytes_of(part("args")).decode(errors="surrogateescape").splitlines() or [""]
@@ -123,6 +151,14 @@ def opened(place):
     return writer
 
 
+def holding(text):
+    """A descriptor from which this is read."""
+    given = os.memfd_create("given")
+    os.write(given, text)
+    os.lseek(given, 0, os.SEEK_SET)
+    return given
+
+
 def set_limits(limits):
     for what, most in limits:
         resource.setrlimit(what, (most, most))
@@ -130,7 +166,7 @@ def set_limits(limits):
 
 def end_of(run, program, environment=None):
     """Runs the program, in an environment of its own, and says how it ended."""
-    given = os.open(run.given, os.O_RDONLY)
+    given = os.open(run.given, os.O_RDONLY) if isinstance(run.given, pathlib.Path) else holding(run.given)
     places = [opened(place) for place in run.to]
     output, errors = [*places, subprocess.PIPE, subprocess.PIPE][:2]
     words = [os.path.abspath(program), *run.words]
