@@ -1,4 +1,5 @@
 pub mod InFlightLemmas
+pub mod FromIterLemmas
 pub mod InFlightQueueLemmas
 pub mod InFlightOrderedLemmas
 pub mod WaitingLemmas

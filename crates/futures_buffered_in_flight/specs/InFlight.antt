@@ -1,7 +1,7 @@
 -- What a contract sees of a set of futures in flight. A clause names the futures by the ghost members of their type:
 -- `F.Future`.
-use Rattle.std.specs.Prelude.{◌≡◌, ◌+◌, ◌-◌, ◌^◌, ◌<◌, ◌≤◌, ◌⊎◌, min, ℕ, List, [], Option, Some, None, IfSome}
-use Rattle.std.specs.Prelude.{IsSomeAnd, Result, Ok, Err, IfOk, IfErr, OnErr, IsErr}
+use Rattle.std.specs.Prelude.{◌≡◌, ◌+◌, ◌-◌, ◌^◌, ◌<◌, ◌≤◌, ◌⊎◌, min, ℕ, List, [], length, slice_get, Option, Some, None}
+use Rattle.std.specs.Prelude.{IfSome, IsSomeAnd, Result, Ok, Err, IfOk, IfErr, OnErr, IsErr}
 use Rattle.futures.specs.declared.task.Poll.{Poll}
 use Rattle.futures.specs.declared.task.Poll.TheVariants.{Ready, Pending}
 use Rattle.futures.specs.declared.task.context.Context.{Context}
@@ -30,6 +30,10 @@ pub record Flights (F : Type 0) : Type 0 where
 abbrev pub runs_in : {F : Type 0} → Option (FuturesUnordered (Run F)) → List (Option (Run F))
 runs_in None = []
 runs_in (Some set) = set_places set
+
+-- how many slots there are
+abbrev pub flight_slots : {F : Type 0} → Flights F → ℕ
+flight_slots s = slot_count s.slots
 
 -- how many futures are in the kit's set
 abbrev pub run_count : {F : Type 0} → Option (FuturesUnordered (Run F)) → ℕ
@@ -75,6 +79,14 @@ module _ {F A : Type 0} (future : FutureOf F A) where
   -- the future of some slot may give x
   abbrev pub AnySlotGives : Flights F → A → Type 0
   AnySlotGives s x = (slot : ℕ) × SlotGives s slot x
+
+  -- item k is in slot k, and there is no other slot
+  pub record FliesInOrder (items : List F) (set : Flights F) : Type 0 where
+    pub as_many : slot_count set.slots ≡ length items
+    pub all_wait : held_count set.slots ≡ length items
+    -- what may come of slot k, item k may give
+    pub own : (k : ℕ) (item : F) (x : A) → slice_get items k ≡ Some item
+        → SlotGives set k x → future.gives item x
 
   -- what may come: an output for each slot that is held, of its future, and then the end
   abbrev pub ComesFromSlots : Flights F → Runs A

@@ -1,7 +1,8 @@
 -- What a contract sees of an ordered queue of futures in flight: the words on ordered queues at a queue in flight. A
 -- clause names the futures by the ghost members of their type: `F.Future`.
 use Rattle.std.specs.Prelude.{◌≡◌, ◌≢◌, ◌↔◌, ◌+◌, ◌<◌, ◌≤◌, ◌^◌, ℕ, [], Option, length, IfNone, IfSome, OnSome, Result}
-use Rattle.std.specs.Prelude.{IfErr, IsErr, OnOk}
+use Rattle.std.specs.Prelude.{IfErr, IsErr, List, OnOk, max}
+use Rattle.std.specs.List.{FoldsTo}
 use Rattle.futures.specs.Poll.{IfReady, OnPending}
 use Rattle.futures.specs.Runs.{Runs, After, Within, Leads, Chains, Ends}
 use Rattle.futures.specs.declared.task.Poll.{Poll}
@@ -25,6 +26,10 @@ OrderedInFlight F A = Ordered (Queued F) A
 -- as many are held as can be
 abbrev pub OrderedIsFull : {F A : Type 0} → OrderedInFlight F A → Type 0
 OrderedIsFull q = queued_room q.set ≤ length q.entries
+
+-- how many can be held
+abbrev pub ordered_room : {F A : Type 0} → OrderedInFlight F A → ℕ
+ordered_room q = queued_room q.set
 
 -- there is room for n, no future, and no entry
 abbrev pub IsNewInOrder : {F A : Type 0} → ℕ → OrderedInFlight F A → Type 0
@@ -86,6 +91,13 @@ module _ {F A : Type 0} (future : FutureOf F A) where
   -- the future went in before all others: its output comes first
   abbrev pub PushesFront : OrderedInFlight F A → F → OrderedInFlight F A → Type 0
   PushesFront = PushesInTurn (AddsFront (QueuesNumber future)) Leads
+
+  -- these went in behind one another, into a new queue with room for as many, and for one at least
+  pub record FliesInTurn (items : List F) (q : OrderedInFlight F A) : Type 0 where
+    pub start : OrderedInFlight F A
+    pub is_new : IsNewInOrder (max 1 (length items)) start
+    pub pushed : FoldsTo PushesBack start items q
+    pub one_each : length q.entries ≡ length items
 
   -- A push that hands the future back where there is no room: `pushes` says what it is to go in.
   pub record PushesOrComesBack

@@ -9,11 +9,13 @@
 //! - `in_flight_queue`: `InFlightQueue`, the set as what an adaptor holds: a push never hands a future back.
 //! - `in_flight_ordered`: `FuturesOrderedBounded`, a queue with pushes at both ends, whose outputs come from the front;
 //!   `in_flight_ordered_stream` is the same queue as a stream.
+//! - `from_iter`: sets and queues that are made of what an iterator gives.
 //! - `kept`: `Kept`, which keeps that a set or a queue may be polled, for loops by hand.
 //! - `waiting`: `Waiting`, which holds a set or an ordered queue while a task waits for its next output, and gives it
 //!   back.
 #![tactic(auto)]
 
+mod from_iter;
 pub mod in_flight;
 pub mod in_flight_ordered;
 mod in_flight_ordered_stream;

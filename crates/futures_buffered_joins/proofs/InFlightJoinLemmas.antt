@@ -1,67 +1,22 @@
 -- How a join of futures in flight is made, and what an output, a pending poll and the end make of it.
-use Rattle.std.proofs.Common.{◌≡◌, ◌≢◌, ◌<◌, ℕ, zero, suc, ◌+◌, ◌-◌, List, [], ◌∷◌, ◌++◌, length, map, get_or, set, Option, Some, None, Ok, Err, is_some, cond, not, true, All, refl, sym, ap, ap₂, subst, ◌∙◌, inl, inr, arith, length-set, slice_get}
-use Rattle.std.specs.List.{range_with_len, count_by}
+use Rattle.std.proofs.Common.{◌≡◌, ◌≢◌, ◌<◌, ℕ, zero, suc, ◌+◌, List, [], ◌∷◌, length, map, get_or, set, Option, Some, None, Ok, Err, is_some, cond, not, true, refl, sym, ap, subst, ◌∙◌, inl, inr, arith, length-set, slice_get}
+use Rattle.std.specs.List.{count_by}
 use Rattle.std.specs.Prelude.{replicate}
-use Rattle.std.specs.Iterator.{Drains, YieldsThen}
-use Rattle.std.proofs.lemmas.List.{get_or-set_same, get_or-set_other, get_or-replicate, length-replicate, length_push}
+use Rattle.std.proofs.lemmas.List.{get_or-set_same, get_or-set_other, get_or-replicate, length-replicate}
 use Rattle.std.proofs.lemmas.List.Sums.{sum_by-cons, count_by-le-length}
 use Rattle.std.proofs.lemmas.Option.{slice_get_within}
 use Rattle.std.proofs.lemmas.Bool.{cases_eq}
-use Rattle.futures_buffered_core.specs.Drawn.{Items, Draws}
 use Rattle.futures_buffered_core.specs.SlotMap.{Slots, value_in, held_count, slot_count, with_slot_freed}
-use Rattle.futures_buffered_unordered.specs.Extended.{EachDrawn}
-use Rattle.futures_buffered_unordered.proofs.HeldGivesLemmas.{value_in-with_slot_freed, value_in-with_slot_freed_other, None-Some}
-use Rattle.futures_buffered_in_flight.specs.InFlight.{FutureOf, Flights, CanPollAll, IsNewInFlight, KeyGives, SlotGives, EntersAt, ComesByKey, RunsGiveNoMore}
+use Rattle.futures_buffered_unordered.proofs.HeldGivesLemmas.{value_in-with_slot_freed, value_in-with_slot_freed_other}
+use Rattle.futures_buffered_in_flight.specs.InFlight.{FutureOf, Flights, CanPollAll, FliesInOrder, SlotGives, ComesByKey, RunsGiveNoMore}
 use Rattle.futures_buffered_in_flight.specs.declared.in_flight.Came.{Came}
 use Rattle.futures_buffered_in_flight.specs.declared.in_flight.Place.{Place}
-use Rattle.futures_buffered_in_flight.specs.declared.run.Key.{Key}
 use Rattle.futures_buffered_in_flight.proofs.InFlightLemmas.{slots_within, slots_after}
 use Rattle.futures_buffered_joins.specs.JoinRule.{Outcome}
 use Rattle.futures_buffered_joins.specs.Join.{JoinRuleOf}
 use Rattle.futures_buffered_joins.specs.Outputs.{WaitsOrCame, MayComeAt, output_in}
-use Rattle.futures_buffered_joins.specs.InFlightJoin.{Flying, FliesByPlace, FliesInOrder, FliesOn, FlyingMayGive}
+use Rattle.futures_buffered_joins.specs.InFlightJoin.{Flying, FliesByPlace, FliesOn, FlyingMayGive}
 use Rattle.futures_buffered_joins.proofs.OutputsLemmas.{below_from_some, none_from, all_now}
-
-Some-same : {F : Type 0} {f g : F} → Some f ≡ Some g → f ≡ g
-Some-same e = cc
-
-same_head : {x y : ℕ} {xs ys : List ℕ} → x ∷ xs ≡ y ∷ ys → x ≡ y
-same_head e = cc
-
-same_tail : {x y : ℕ} {xs ys : List ℕ} → x ∷ xs ≡ y ∷ ys → xs ≡ ys
-same_tail e = cc
-
-no_head : {x : ℕ} {xs : List ℕ} → x ∷ xs ≡ [] → ⊥
-no_head e = cc
-
--- each of the items that came from an iterator is one that may come
-all_drawn : {S A : Type 0} (steps : S → Option A → S → Type 0) (P : A → Type 0) (it : S) (items : List A) → Drains steps it items
-    → ((xs : List A) (x : A) (rest : S) → YieldsThen steps it xs (Some x) rest → P x) → All P items
-all_drawn steps P it [] drains each k d below = absurd (omega arith)
-all_drawn steps P it (x ∷ items) drains each zero d below =
-    let first = drains.1.1 in
-    each [] x first.0 (it, refl, first.1)
-all_drawn steps P it (x ∷ items) drains each (suc k) d below =
-    let first = drains.1.1 in
-    all_drawn steps P first.0 items (drains.0, (drains.1.0, first.2, drains.1.2)) (λ xs y rest more. each (x ∷ xs) y rest (more.0, (first.0, first.1, more.1), more.2)) k d (omega arith)
-
--- so each of them is as each item is that may come
-pub fit_drawn : {U F I : Type 0} (from : Items U F I) (P : F → Type 0) (items : List F) → EachDrawn from P → Draws from items → All P items
-fit_drawn from P items each draws = all_drawn from.gives.next_gives P draws.0 items draws.2 (λ xs x rest more. each draws.0 draws.1 xs x rest more)
-
-get_push_last : {F : Type 0} (xs : List F) (f : F) → slice_get (xs ++ f ∷ []) (length xs) ≡ Some f
-get_push_last [] f = refl
-get_push_last (x ∷ xs) f = get_push_last xs f
-
-get_push_other : {F : Type 0} (xs : List F) (f g : F) (k : ℕ) → slice_get (xs ++ f ∷ []) k ≡ Some g → k ≢ length xs → slice_get xs k ≡ Some g
-get_push_other [] f g zero got other = absurd (other refl)
-get_push_other [] f g (suc k) got other = got
-get_push_other (x ∷ xs) f g zero got other = got
-get_push_other (x ∷ xs) f g (suc k) got other = get_push_other xs f g k got (λ same. other (ap suc same))
-
-none_held : (n : ℕ) → count_by is_some (replicate {A = Option Place} n None) ≡ 0
-none_held zero = refl
-none_held (suc n) = none_held n
 
 -- where as many are counted as there are, each is there
 all_counted : {P : Type 0} (places : List (Option P)) (k : ℕ) → count_by is_some places ≡ length places → k < length places → is_some (get_or places k None) ≡ true
@@ -71,73 +26,6 @@ all_counted (Some x ∷ places) zero same below = refl
 all_counted (Some x ∷ places) (suc k) same below = all_counted places k (omega (arith, same, sum_by-cons (λ (o : Option _). cond (is_some o) 1 0) (Some x) places)) (omega arith)
 
 module _ {F O : Type 0} (future : FutureOf F O) where
-  -- these went in so far, of n, each in the slot of its place
-  pub record PushedSoFar (n : ℕ) (xs : List F) (held : Flights F) : Type 0 where
-    pub as_many : slot_count held.slots ≡ n
-    pub free : held.slots.free ≡ range_with_len (length xs) (n - length xs)
-    pub all_wait : held_count held.slots ≡ length xs
-    pub own : (k : ℕ) (item : F) (x : O) → slice_get xs k ≡ Some item → SlotGives future held k x → future.gives item x
-    pub again : CanPollAll future held
-
-  pub pushed_none : (n : ℕ) (set : Flights F) → IsNewInFlight n set → CanPollAll future set → PushedSoFar n [] set
-  pushed_none n set new can =
-      record {
-        as_many = ap (λ (s : Slots Place). slot_count s) new.0 ∙ length-replicate n None;
-        free = ap (λ (s : Slots Place). s.free) new.0 ∙ ap (range_with_len 0) (omega arith);
-        all_wait = ap (λ (s : Slots Place). held_count s) new.0 ∙ none_held n;
-        own = λ k item x got h. absurd (None-Some got);
-        again = can;
-      }
-
-  -- one more went in
-  pub pushed_one : (n : ℕ) (xs : List F) (f : F) (key : Key) (old new : Flights F) → PushedSoFar n xs old → EntersAt future old f 0 key new → CanPollAll future new → PushedSoFar n (xs ++ f ∷ []) new
-  pushed_one n xs f key old new so p can = by_left (n - length xs) refl
-    where
-      holds : value_in new.slots key.slot ≡ Some (record { tag = 0; push = key.push })
-      holds = ap (λ ps. get_or ps key.slot None) p.went_in.now_held ∙ get_or-set_same old.slots.places key.slot (Some (record { tag = 0; push = key.push })) None p.went_in.within
-
-      its_own : (k : ℕ) (x : O) → k ≡ key.slot → SlotGives future new k x → future.gives f x
-      its_own k x same h =
-          let place : h.0 ≡ record { tag = 0; push = key.push } = Some-same (sym h.1 ∙ (ap (λ i. value_in new.slots i) same ∙ holds)) in
-          let at : record { slot = k; push = h.0.push } ≡ key = ap₂ (λ (slot push : ℕ). record { slot = slot; push = push }) same (ap (λ (p : Place). p.push) place) in
-          p.own x (subst (λ (key : Key). KeyGives future new key x) at h.2)
-
-      others : (k : ℕ) (item : F) (x : O) → k ≢ key.slot → slice_get xs k ≡ Some item → SlotGives future new k x → future.gives item x
-      others k item x other got h =
-          elim (p.others _ h.2) [
-            | inl was ↦ so.own k item x got (h.0, sym (get_or-set_other old.slots.places key.slot k _ None other) ∙ (sym (ap (λ ps. get_or ps k None) p.went_in.now_held) ∙ h.1), was)
-            | inr own ↦ absurd (other (ap (λ (key : Key). key.slot) own.0))
-          ]
-
-      by_left : (m : ℕ) → n - length xs ≡ m → PushedSoFar n (xs ++ f ∷ []) new
-      by_left zero left = absurd (no_head (sym p.went_in.first_free ∙ (so.free ∙ ap (range_with_len (length xs)) left)))
-      by_left (suc m) left =
-          let free : key.slot ∷ new.slots.free ≡ length xs ∷ range_with_len (length xs + 1) m = sym p.went_in.first_free ∙ (so.free ∙ ap (range_with_len (length xs)) left) in
-          let at : key.slot ≡ length xs = same_head free in
-          let more : length (xs ++ f ∷ []) ≡ length xs + 1 = length_push xs f in
-          let fewer : m ≡ n - length (xs ++ f ∷ []) = omega (arith, more, left) in
-          record {
-            as_many = ap length p.went_in.now_held ∙ (length-set old.slots.places key.slot _ ∙ so.as_many);
-            free = same_tail free ∙ ap₂ range_with_len (sym more) fewer;
-            all_wait = omega (arith, p.one_more, so.all_wait, more);
-            own = λ k item x got h. elim (cases_eq k key.slot) [
-              | inl same ↦
-                  let is : f ≡ item = Some-same (sym (get_push_last xs f) ∙ (ap (slice_get (xs ++ f ∷ [])) (sym (same ∙ at)) ∙ got)) in
-                  subst (λ (g : F). future.gives g x) is (its_own k x same h)
-              | inr other ↦ others k item x other (get_push_other xs f item k got (λ same. other (same ∙ sym at))) h
-            ];
-            again = can;
-          }
-
-  -- all of them went in
-  pub pushed_all : (items xs : List F) (set : Flights F) → items ≡ xs → PushedSoFar (length items) xs set → FliesInOrder future items set
-  pushed_all items xs set same so =
-      record {
-        as_many = so.as_many;
-        all_wait = so.all_wait ∙ sym (ap length same);
-        own = λ k item x got h. so.own k item x (sym (ap (λ ys. slice_get ys k) same) ∙ got) h;
-      }
-
   -- at each place of a new join its future waits
   pub all_wait : {A : Type 0} (items : List F) (set : Flights F) (outputs : List (Option A)) → FliesInOrder future items set → outputs ≡ replicate (length items) None → WaitsOrCame set.slots outputs
   all_wait {A} items set outputs holds none =

@@ -1,17 +1,17 @@
 -- What a contract sees of a join of futures in flight. A clause names the futures and the rule by the ghost members of
 -- their types: `F.Future R.JoinRule`.
-use Rattle.std.specs.Prelude.{◌≡◌, ℕ, ◌+◌, ◌<◌, List, length, replicate, slice_get, Option, Some, None, IfSome}
+use Rattle.std.specs.Prelude.{◌≡◌, ℕ, ◌+◌, ◌<◌, List, length, replicate, Option, Some, None, IfSome}
 use Rattle.std.specs.Prelude.{IsSomeAnd, Result, Ok, Err}
 use Rattle.futures.specs.Poll.{IfReady, OnPending}
 use Rattle.futures.specs.Task.{Covers, Keeps}
 use Rattle.futures.specs.declared.task.Poll.{Poll}
 use Rattle.futures.specs.declared.task.context.Context.{Context}
 use Rattle.futures_buffered_core.specs.Drawn.{Items}
-use Rattle.futures_buffered_core.specs.SlotMap.{held_count, slot_count}
+use Rattle.futures_buffered_core.specs.SlotMap.{held_count}
 use Rattle.futures_buffered_table.specs.declared.answer.NewFault.{NewFault}
 use Rattle.futures_buffered_unordered.specs.Extended.{MakesFull}
 use Rattle.futures_buffered_in_flight.specs.InFlight.{FutureOf, Flights, CanPollAll, SlotGives, AnySlotGives}
-use Rattle.futures_buffered_in_flight.specs.InFlight.{FlightsWaitAt}
+use Rattle.futures_buffered_in_flight.specs.InFlight.{FlightsWaitAt, FliesInOrder}
 use Rattle.futures_buffered_joins.specs.JoinRule.{Outcome}
 use Rattle.futures_buffered_joins.specs.Join.{JoinRuleOf}
 use Rattle.futures_buffered_joins.specs.Outputs.{CameInOrder, MayComeAll, MayEndWith, WaitsOrCame}
@@ -40,17 +40,9 @@ module _ {F O : Type 0} (future : FutureOf F O) where
   abbrev pub CanPollFlying : {A : Type 0} → Option (Flying F A) → Type 0
   CanPollFlying join = IfSome join (λ places. CanPollAll future places.set)
 
-  -- item k waits in slot k, and there is no other slot
-  pub record FliesInOrder (items : List F) (set : Flights F) : Type 0 where
-    pub as_many : slot_count set.slots ≡ length items
-    pub all_wait : held_count set.slots ≡ length items
-    -- what may come of slot k, item k may give
-    pub own : (k : ℕ) (item : F) (x : O) → slice_get items k ≡ Some item
-        → SlotGives future set k x → future.gives item x
-
   -- item k waits at place k, and no output has come
   pub record IsNewFlying {A : Type 0} (items : List F) (places : Flying F A) : Type 0 where
-    pub waits_for : FliesInOrder items places.set
+    pub waits_for : FliesInOrder future items places.set
     pub none_done : places.outputs ≡ replicate (length items) None
 
   -- What a constructor of a join makes of what an iterator gives, or why it makes nothing. It makes a join that has a

@@ -1,14 +1,13 @@
 //! What a join of futures in flight keeps until it ends: the set of the futures, and the outputs that have come.
-ghost use Rattle.std.specs.Prelude.{◌≡◌, ◌<◌, ◌≤◌, ◌+◌, All, IfOk, OnOk, map, Some, vec_len};
+ghost use Rattle.std.specs.Prelude.{◌≡◌, ◌<◌, IfOk, map, Some};
 ghost use Rattle.futures.specs.Poll.{OnPending};
 ghost use Rattle.futures.specs.Task.{Covers, Keeps};
-ghost use Rattle.futures_buffered_core.specs.Drawn.{Draws, IsFiniteSource, RefusesTooMany, items_of};
+ghost use Rattle.futures_buffered_core.specs.Drawn.{IsFiniteSource, items_of};
 ghost use Rattle.futures_buffered_core.specs.SlotMap.{held_count};
-ghost use Rattle.futures_buffered_table.specs.declared.answer.TheConstants.{MAX_CAPACITY};
 ghost use Rattle.futures_buffered_unordered.specs.Extended.{EachDrawn, MakesFull};
-ghost use Rattle.futures_buffered_in_flight.specs.InFlight.{CanPollAll, IsNewInFlight, FlightsWaitAt};
+ghost use Rattle.futures_buffered_in_flight.specs.InFlight.{CanPollAll, FlightsWaitAt};
 ghost use Rattle.futures_buffered_joins.specs.JoiningFills.{FillsOrFails};
-ghost use Rattle.futures_buffered_joins.specs.InFlightJoin.{FillsPlace, FillsRest, FliesInOrder, IsNewFlying};
+ghost use Rattle.futures_buffered_joins.specs.InFlightJoin.{FillsPlace, FillsRest, IsNewFlying};
 ghost use Rattle.futures_buffered_joins.specs.InFlightJoin.{SomeMayFail, WaitsOn, flying_size};
 ghost use Rattle.futures_buffered_joins.specs.Outputs.{WaitsOrCame};
 
@@ -16,9 +15,9 @@ use crate::join_rule::JoinRule;
 use crate::outputs::Outputs;
 use futures::Future;
 use futures::task::{Context, Poll};
-use futures_buffered_core::ready_core::{MAX_CAPACITY, NewFault};
+use futures_buffered_core::ready_core::NewFault;
 use futures_buffered_in_flight::FuturesUnorderedBounded;
-use std::alloc::{AllocError, Global};
+use std::alloc::Global;
 use std::marker::Model;
 
 /// The futures that a join waits for, each in the slot of its place, and the outputs that have come.
@@ -36,48 +35,8 @@ impl<F, A> Model for Flying<F, A> {
     ghost view = { λ s. record { set = s.set; outputs = s.outputs } };
 }
 
-// What an iterator gives, at most as many as there may be slots.
-fn draw<F: Drop, I: IntoIterator<Item = F>>(alloc: Global, iter: I) -> Result<Vec<F>, NewFault>
-    requires { IsFiniteSource (items_of I.IntoIterator I.IntoIter.Iterator iter) }
-    ensures drawn { IfOk result (λ drawn.
-        Draws (items_of I.IntoIterator I.IntoIter.Iterator iter) drawn.items) }
-    ensures fits { IfOk result (λ drawn. vec_len drawn ≤ MAX_CAPACITY) }
-    ensures large { RefusesTooMany (items_of I.IntoIterator I.IntoIter.Iterator iter) result }
-{
-    let mut drawn = Vec::new(alloc);
-    for item in iter {
-        if drawn.len() == MAX_CAPACITY {
-            return Err(NewFault::TooLarge);
-        }
-        let Ok(()) = drawn.push(item) else {
-            return Err(NewFault::Memory);
-        };
-    }
-    Ok(drawn)
-}
-
-// Has a new set take these futures, each in the slot of its place.
-#[tactic(auto, using(crate::proofs::InFlightJoinLemmas::pushed_none, crate::proofs::InFlightJoinLemmas::pushed_all))]
-fn push_all<F>(set: &mut FuturesUnorderedBounded<F>, futures: Vec<F>) -> Result<(), AllocError>
-where
-    F: Future<Output: Drop>,
-    requires new { IsNewInFlight (vec_len futures) set.old }
-    requires held { CanPollAll F.Future set.old }
-    requires fit { All F.can_poll futures.items }
-    ensures holds { OnOk result (FliesInOrder F.Future futures.items set.new) }
-    ensures again { OnOk result (CanPollAll F.Future set.new) }
-{
-    'futures: for future in futures {
-        let Ok(_key) = set.try_push(future) else {
-            return Err(AllocError);
-        };
-    }
-    Ok(())
-}
-
 impl<F: Future<Output: Drop>, A: Drop> Flying<F, A> {
     // Item k is in flight at place k.
-
     pub(crate) fn over<I: IntoIterator<Item = F>>(alloc: Global, iter: I) -> Result<Self, NewFault>
         requires finite { IsFiniteSource (items_of I.IntoIterator I.IntoIter.Iterator iter) }
         requires fit { EachDrawn (items_of I.IntoIterator I.IntoIter.Iterator iter) F.can_poll }
@@ -86,10 +45,8 @@ impl<F: Future<Output: Drop>, A: Drop> Flying<F, A> {
         ensures places { IfOk result (λ new. WaitsOrCame new.set.slots new.outputs) }
         ensures can_poll { IfOk result (λ new. CanPollAll F.Future new.set) }
     {
-        let futures = draw(alloc, iter)?;
-        let outputs = Outputs::new(alloc, futures.len())?;
-        let mut set = FuturesUnorderedBounded::new(alloc, futures.len())?;
-        push_all(&mut set, futures)?;
+        let set = FuturesUnorderedBounded::from_iter(alloc, iter)?;
+        let outputs = Outputs::new(alloc, set.capacity())?;
         Ok(Flying { set, outputs })
     }
 

@@ -1,10 +1,11 @@
-//! What holds futures of the kit: the buffers, of futures that a thread completes, the for-eaches, and a join.
+//! What holds futures of the kit: the buffers, of futures that a thread completes, the for-eaches, what is made of an
+//! iterator, and a join.
 use crate::same::assert_same;
 use futures::channel::oneshot::{Canceled, Receiver, Sender, channel};
 use futures::executor::block_on;
 use futures::future::ready;
 use futures::{FutureExt, Stream, StreamExt, TryFutureExt, stream};
-use futures_buffered::in_flight::{BufferedStreamExt, BufferedTryStreamExt, try_join_all};
+use futures_buffered::in_flight::{BufferedStreamExt, BufferedTryStreamExt, IterExt, try_join_all};
 use std::alloc::{AllocError, AllocGlobal, Global};
 use std::random::RandomSource;
 use std::sync::atomic::Ordering::SeqCst;
@@ -139,6 +140,40 @@ fn for_each_item_up_to_an_error(rt: HostRuntime) -> Result<(), Fail> {
         &rt,
         (ended, 14 <= calls, calls <= 18),
         (Err(13), true, true),
+    );
+    Ok(())
+}
+
+#[test]
+fn in_the_order_of_an_iterator(rt: HostRuntime) -> Result<(), Fail> {
+    let (senders, receivers) = twenty(rt.alloc())?;
+    let queue = receivers.into_ordered_stream(rt.alloc())?;
+    assert_same(&rt, (queue.len(), queue.capacity()), (20, 20));
+    let all = all_of(&rt, senders, queue)?;
+    assert_same(&rt, (all.len(), are_in_order(&all)), (20, true));
+    Ok(())
+}
+
+#[test]
+fn as_those_of_an_iterator_finish(rt: HostRuntime) -> Result<(), Fail> {
+    let (senders, receivers) = twenty(rt.alloc())?;
+    let set = receivers.into_unordered_stream(rt.alloc())?;
+    assert_same(&rt, (set.len(), set.capacity()), (20, 20));
+    let all = all_of(&rt, senders, set)?;
+    assert_same(&rt, (all.len(), sum_of(&all)), (20, 190));
+    Ok(())
+}
+
+// A queue of no items has room for one.
+#[test]
+fn a_queue_of_no_items_takes_one(rt: HostRuntime) -> Result<(), Fail> {
+    let none: Vec<Receiver<u64>> = Vec::new(rt.alloc());
+    let mut queue = none.into_ordered_stream(rt.alloc())?;
+    let is_pushed = queue.try_push_back(sent(&rt, 4)?).is_ok();
+    assert_same(
+        &rt,
+        (is_pushed, queue.len(), queue.is_full()),
+        (true, 1, true),
     );
     Ok(())
 }

@@ -1,17 +1,60 @@
-//! Joins and merges of the kit's futures and streams as methods of what gives the items.
+//! Sets, queues, joins and merges of the kit's futures and streams as methods of what gives the items.
 ghost use Rattle.std.specs.Prelude.{◌≡◌, ◌^◌, ◌-◌, IfOk};
 ghost use Rattle.futures_buffered_core.specs.Drawn.{IsFiniteSource, items_of};
-ghost use Rattle.futures_buffered_unordered.specs.Extended.{EachDrawn, HoldsAllOf};
+ghost use Rattle.futures_buffered_unordered.specs.Extended.{EachDrawn, HoldsAllOf, MakesFull};
+ghost use Rattle.futures_buffered_in_flight.specs.InFlight.{CanPollAll, FliesInOrder, flight_slots};
+ghost use Rattle.futures_buffered_in_flight.specs.InFlightOrdered.{CanPollOrdered, FliesInTurn, ordered_room};
 ghost use Rattle.futures_buffered_joins.specs.InFlightJoin.{CanPollFlying, MakesFlying};
 ghost use Rattle.futures_buffered_merges.specs.InFlightMerge.{HoldsStreams};
 
-use crate::in_flight::{JoinAll, MergeBounded, MergeUnbounded, TryJoinAll};
+use crate::in_flight::{
+    FuturesOrderedBounded, FuturesUnorderedBounded, JoinAll, MergeBounded, MergeUnbounded,
+    TryJoinAll,
+};
 use futures::{Future, Stream};
 use futures_buffered_core::ready_core::NewFault;
 use std::alloc::Global;
 
-/// Joins and merges of what an iterator gives, where it ends.
+/// Sets, queues, joins and merges of what an iterator gives, if it ends.
 pub trait IterExt: IntoIterator + Sized {
+    /// A set of these futures, whose outputs come as they finish. It is `FuturesUnorderedBounded::from_iter`, and
+    /// refuses as that does. A freed slot can be pushed into.
+    ///
+    /// Takes time and memory in proportion to the number of futures.
+    final fn into_unordered_stream(
+        self,
+        alloc: Global,
+    ) -> Result<FuturesUnorderedBounded<Self::Item>, NewFault>
+    where
+        Self::Item: Future<Output: Drop>,
+        requires finite { IsFiniteSource (items_of Self.IntoIterator Self.IntoIter.Iterator self) }
+        requires fit { EachDrawn (items_of Self.IntoIterator Self.IntoIter.Iterator self) Self.Item.can_poll }
+        ensures made { MakesFull (items_of Self.IntoIterator Self.IntoIter.Iterator self) flight_slots
+            (FliesInOrder Self.Item.Future) result }
+        ensures can_poll { IfOk result (CanPollAll Self.Item.Future) }
+    {
+        FuturesUnorderedBounded::from_iter(alloc, self)
+    }
+
+    /// A queue of these futures, whose outputs come in their order. It is `FuturesOrderedBounded::from_iter`, and
+    /// refuses as that does.
+    ///
+    /// Takes time and memory in proportion to the number of futures.
+    final fn into_ordered_stream(
+        self,
+        alloc: Global,
+    ) -> Result<FuturesOrderedBounded<Self::Item>, NewFault>
+    where
+        Self::Item: Future<Output: Drop>,
+        requires finite { IsFiniteSource (items_of Self.IntoIterator Self.IntoIter.Iterator self) }
+        requires fit { EachDrawn (items_of Self.IntoIterator Self.IntoIter.Iterator self) Self.Item.can_poll }
+        ensures made { MakesFull (items_of Self.IntoIterator Self.IntoIter.Iterator self) ordered_room
+            (FliesInTurn Self.Item.Future) result }
+        ensures can_poll { IfOk result (CanPollOrdered Self.Item.Future) }
+    {
+        FuturesOrderedBounded::from_iter(alloc, self)
+    }
+
     /// A join of these futures, ready with all outputs, each at its future's place. It is the function `join_all`, and
     /// refuses as that does.
     ///

@@ -1,7 +1,7 @@
 use Rattle.std.proofs.Common.{rules, arith}
 use Rattle.std.proofs.lemmas.Grind.{common_steps}
-use Rattle.futures_buffered_joins.proofs.InFlightJoinLemmas.{pushed_one}
-use Rattle.futures_buffered_joins.proofs.flying.push_all.Goals as goal
+use Rattle.futures_buffered_in_flight.proofs.FromIterLemmas.{pushed_one}
+use Rattle.futures_buffered_in_flight.proofs.from_iter.push_all.Goals as goal
 
 pub futures-preserved : goal.futures-preserved
 futures-preserved g c =

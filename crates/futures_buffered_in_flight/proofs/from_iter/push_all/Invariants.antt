@@ -1,7 +1,7 @@
 use Rattle.std.proofs.Common.{◌≡◌, ◌++◌, length}
 use Rattle.std.specs.Vec.Iter.{into_iter_items}
-use Rattle.futures_buffered_joins.proofs.InFlightJoinLemmas.{PushedSoFar}
-use Rattle.futures_buffered_joins.proofs.flying.push_all.Given as goal
+use Rattle.futures_buffered_in_flight.proofs.FromIterLemmas.{PushedSoFar}
+use Rattle.futures_buffered_in_flight.proofs.from_iter.push_all.Given as goal
 
 abbrev pub invariant-futures : goal.invariant-futures
 invariant-futures g l = PushedSoFar g.F.Future (length l.fn.futures.items) l.yielded l.set

@@ -1,0 +1,111 @@
+//! Sets and queues in flight that are made of what an iterator gives.
+ghost use Rattle.std.specs.Prelude.{◌≡◌, ◌≤◌, All, IfOk, OnOk, length, max, vec_len};
+ghost use Rattle.std.specs.List.{FoldsTo};
+ghost use Rattle.futures_buffered_core.specs.Drawn.{Draws, IsFiniteSource, RefusesTooMany, items_of};
+ghost use Rattle.futures_buffered_table.specs.declared.answer.TheConstants.{MAX_CAPACITY};
+ghost use Rattle.futures_buffered_unordered.specs.Extended.{EachDrawn, MakesFull};
+ghost use Rattle.futures_buffered_in_flight.specs.InFlight.{CanPollAll, FliesInOrder, IsNewInFlight, flight_slots};
+ghost use Rattle.futures_buffered_in_flight.specs.InFlightOrdered.{CanPollOrdered, FliesInTurn, IsNewInOrder};
+ghost use Rattle.futures_buffered_in_flight.specs.InFlightOrdered.{PushesBack, ordered_room};
+
+use crate::in_flight::FuturesUnorderedBounded;
+use crate::in_flight_ordered::FuturesOrderedBounded;
+use futures::Future;
+use futures_buffered_core::ready_core::{MAX_CAPACITY, NewFault};
+use std::alloc::{AllocError, Global};
+
+// What an iterator gives, at most as many as there may be slots.
+fn draw<F: Drop, I: IntoIterator<Item = F>>(alloc: Global, iter: I) -> Result<Vec<F>, NewFault>
+    requires { IsFiniteSource (items_of I.IntoIterator I.IntoIter.Iterator iter) }
+    ensures drawn { IfOk result (λ drawn.
+        Draws (items_of I.IntoIterator I.IntoIter.Iterator iter) drawn.items) }
+    ensures fits { IfOk result (λ drawn. vec_len drawn ≤ MAX_CAPACITY) }
+    ensures large { RefusesTooMany (items_of I.IntoIterator I.IntoIter.Iterator iter) result }
+{
+    let mut drawn = Vec::new(alloc);
+    for item in iter {
+        if drawn.len() == MAX_CAPACITY {
+            return Err(NewFault::TooLarge);
+        }
+        let Ok(()) = drawn.push(item) else {
+            return Err(NewFault::Memory);
+        };
+    }
+    Ok(drawn)
+}
+
+// Has a new set take these futures, each in the slot of its place.
+#[tactic(auto, using(crate::proofs::FromIterLemmas::pushed_none, crate::proofs::FromIterLemmas::pushed_all))]
+fn push_all<F>(set: &mut FuturesUnorderedBounded<F>, futures: Vec<F>) -> Result<(), AllocError>
+where
+    F: Future<Output: Drop>,
+    requires new { IsNewInFlight (vec_len futures) set.old }
+    requires held { CanPollAll F.Future set.old }
+    requires fit { All F.can_poll futures.items }
+    ensures holds { OnOk result (FliesInOrder F.Future futures.items set.new) }
+    ensures again { OnOk result (CanPollAll F.Future set.new) }
+{
+    'futures: for future in futures {
+        let Ok(_key) = set.try_push(future) else {
+            return Err(AllocError);
+        };
+    }
+    Ok(())
+}
+
+// Has a new queue take these futures, each behind those before it.
+#[tactic(auto, using(crate::proofs::FromIterLemmas::turns_none, crate::proofs::FromIterLemmas::turns_room))]
+fn push_in_turn<F, A>(queue: &mut FuturesOrderedBounded<F, A>, futures: Vec<F>)
+where
+    F: Future<Output = A>,
+    A: Drop,
+    requires new { IsNewInOrder (max 1 (vec_len futures)) queue.old }
+    requires held { CanPollOrdered F.Future queue.old }
+    requires fit { All F.can_poll futures.items }
+    ensures pushed { FoldsTo (PushesBack F.Future) queue.old futures.items queue.new }
+    ensures one_each { length queue.new.entries ≡ vec_len futures }
+    ensures same_room { ordered_room queue.new ≡ ordered_room queue.old }
+    ensures again { CanPollOrdered F.Future queue.new }
+{
+    'futures: for future in futures {
+        queue.push_back(future);
+    }
+}
+
+impl<F: Future<Output: Drop>> FuturesUnorderedBounded<F> {
+    /// A set of these futures without a free slot, item k in slot k. Nothing is polled.
+    ///
+    /// Takes time and memory in proportion to their number. `TooLarge` if more came than slots can be, `Memory` if an
+    /// allocation fails; then the futures that came are dropped.
+    pub fn from_iter<I: IntoIterator<Item = F>>(alloc: Global, iter: I) -> Result<Self, NewFault>
+        requires finite { IsFiniteSource (items_of I.IntoIterator I.IntoIter.Iterator iter) }
+        requires fit { EachDrawn (items_of I.IntoIterator I.IntoIter.Iterator iter) F.can_poll }
+        ensures made { MakesFull (items_of I.IntoIterator I.IntoIter.Iterator iter) flight_slots
+            (FliesInOrder F.Future) result }
+        ensures can_poll { IfOk result (CanPollAll F.Future) }
+    {
+        let futures = draw(alloc, iter)?;
+        let mut set = FuturesUnorderedBounded::new(alloc, futures.len())?;
+        push_all(&mut set, futures)?;
+        Ok(set)
+    }
+}
+
+impl<F: Future<Output = A>, A: Drop> FuturesOrderedBounded<F, A> {
+    /// A queue of these futures, in their order, with room for as many as came, and for one at least. Nothing is
+    /// polled.
+    ///
+    /// Takes time and memory, and refuses, as `from_iter` of a set does.
+    pub fn from_iter<I: IntoIterator<Item = F>>(alloc: Global, iter: I) -> Result<Self, NewFault>
+        requires finite { IsFiniteSource (items_of I.IntoIterator I.IntoIter.Iterator iter) }
+        requires fit { EachDrawn (items_of I.IntoIterator I.IntoIter.Iterator iter) F.can_poll }
+        ensures made { MakesFull (items_of I.IntoIterator I.IntoIter.Iterator iter) ordered_room
+            (FliesInTurn F.Future) result }
+        ensures can_poll { IfOk result (CanPollOrdered F.Future) }
+    {
+        let futures = draw(alloc, iter)?;
+        let mut queue = FuturesOrderedBounded::new(alloc, futures.len().max(1))?;
+        push_in_turn(&mut queue, futures);
+        Ok(queue)
+    }
+}
