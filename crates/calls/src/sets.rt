@@ -93,6 +93,9 @@ fn set_of(options: &Options, futures: Vec<NumberFuture>) -> Result<Set, NewFault
             FuturesUnorderedBounded::over_limit(&(), options.alloc, futures, limit)
         }
         _ if options.takes_source => FuturesUnorderedBounded::over(&(), options.alloc, futures),
+        _ if options.is_filtered => {
+            FuturesUnorderedBounded::from_iter(options.alloc, futures.into_iter().filter(|_| true))
+        }
         _ => futures.into_unordered_stream(options.alloc),
     }
 }
