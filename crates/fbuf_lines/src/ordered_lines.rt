@@ -1,5 +1,5 @@
 //! Commands to an ordered queue.
-ghost use Rattle.std.specs.Prelude.{IfOk, OnErr};
+ghost use Rattle.std.specs.Prelude.{◌≡◌, IfOk, OnErr};
 ghost use Rattle.futures.specs.Task.{Keeps};
 ghost use Rattle.fbuf_lines.specs.OrderedLines.{BackGives, FrontGives, PushMayLack};
 ghost use Rattle.fbuf_lines.specs.OrderedLines.{QueueGives, QueueMayLack};
