@@ -12,9 +12,13 @@ use futures_buffered::IterExt;
 use futures_buffered_core::ready_core::NewFault;
 use futures_buffered_core::ready_shared::SharedReady;
 use futures_buffered_core::ready_source::{NewSource, ReadySource};
+use futures_buffered_sets::futures_unordered::FIRST_GROUP;
 use futures_buffered_sets::{
     FusedStream, FuturesUnordered, FuturesUnorderedBounded, SizeHint, SlotFuture,
 };
+use std::alloc::Global;
+use std::sync::atomic::AtomicU64;
+use std::sync::atomic::Ordering::SeqCst;
 
 type Set = FuturesUnorderedBounded<NumberFuture, SharedReady>;
 
@@ -160,11 +164,33 @@ fn new_growing_set(options: &Options, n: Option<usize>) -> Result<GrowingSet, Ne
     }
 }
 
-fn growing_set_of(options: &Options, futures: Vec<NumberFuture>) -> Result<GrowingSet, NewFault> {
-    if options.is_filtered {
-        return FuturesUnordered::from_iter(options.alloc, futures.into_iter().filter(|_| true));
+// Counts an item that the filter lets through.
+fn is_drawn(draws: &AtomicU64) -> bool {
+    draws.fetch_add(1, SeqCst);
+    true
+}
+
+// Whether a set that drew so many items asks for memory: for its first group at none, and for each further one behind
+// groups that are full.
+fn asks_for_memory(draws: u64) -> bool {
+    let first = FIRST_GROUP as u64;
+    let slots = draws.saturating_sub(1).saturating_add(first);
+    draws == 0 || (draws > first && slots.is_power_of_two())
+}
+
+// Where memory is refused, no item is drawn behind the one that it was for.
+fn growing_set_of_filtered(
+    alloc: Global,
+    world: &SharedWorld,
+    futures: Vec<NumberFuture>,
+) -> Result<GrowingSet, NewFault> {
+    let draws = AtomicU64::new(0);
+    let items = futures.into_iter().filter(|_| is_drawn(&draws));
+    let made = FuturesUnordered::from_iter(alloc, items);
+    if matches!(made, Err(NewFault::Memory)) && !asks_for_memory(draws.load(SeqCst)) {
+        world.misuse();
     }
-    futures.into_unordered_stream_unbounded(options.alloc)
+    made
 }
 
 pub fn run_growing_set(
@@ -185,6 +211,11 @@ pub fn run_growing_set_of(
     lines: &[&str],
 ) -> Result<usize, NewFault> {
     let futures: Vec<NumberFuture> = new_values(&session.world, ids);
-    let made = growing_set_of(&session.options, futures);
+    let alloc = session.options.alloc;
+    let made = if session.options.is_filtered {
+        growing_set_of_filtered(alloc, &session.world, futures)
+    } else {
+        futures.into_unordered_stream_unbounded(alloc)
+    };
     run_made(session, made, lines)
 }
