@@ -1,8 +1,8 @@
 //! Fixed slots that hold values.
 //!
 //! A value goes into the first free slot and stays there until it is removed. For a new map the free slots are 0, 1, 2
-//! and so on; a slot that a removal frees is the first to be used again. No call but the constructors takes memory.
-ghost use Rattle.std.specs.Prelude.{◌≡◌, ◌≢◌, ◌+◌, ◌<◌, ◌≤◌, [], IfOk, IfErr, OnOk, MatchOption, IfSome, IfNone, ℕ};
+//! and so on; a slot that a removal frees is the first to be used again. Only the constructors allocate.
+ghost use Rattle.std.specs.Prelude.{◌≡◌, ◌≢◌, ◌+◌, ◌<◌, ◌≤◌, [], IfOk, IfErr, OnOk, MatchOption, IfSome, IfNone, Some, None, ℕ};
 ghost use Rattle.std.specs.Prelude.{◌^◌, List, IsTrue, ◌↔◌, ◌==◌, is_some, IsSome};
 ghost use Rattle.std.specs.Option.{option_copied_mut};
 ghost use Rattle.std.specs.Borrow.{Lends, sem};
@@ -57,6 +57,25 @@ impl<F> Place<F> {
         ensures { result ≡ is_some (value_of self.now) }
     {
         matches!(self, Place::Held(_))
+    }
+
+    fn value(&self) -> Option<&F>
+        ensures some { IfSome result (λ value. value_of self.now ≡ Some value.now) }
+        ensures none { IfNone result (value_of self.now ≡ None) }
+    {
+        match self {
+            Place::Held(value) => Some(value),
+            Place::Free(_) => None,
+        }
+    }
+
+    fn into_value(self) -> Option<F>
+        ensures { result ≡ value_of self }
+    {
+        match self {
+            Place::Held(value) => Some(value),
+            Place::Free(_) => None,
+        }
     }
 
     // The place that a free one names.
@@ -202,6 +221,35 @@ impl<F: Drop> PinSlotMap<F> {
             self.places[key] = Place::Free(self.first_free);
             self.first_free = key;
             self.len -= 1;
+        }
+    }
+
+    /// Takes the value of a slot out: the slot is the next to be used. `None` if the slot is free or out of range.
+    pub fn take(&mut self, key: usize) -> Option<F>
+        ensures value { result ≡ value_in self.old key }
+        ensures slots { MatchOption (value_in self.old key) (self.new ≡ self.old)
+            (λ _. self.new ≡ with_slot_freed self.old key) }
+        ensures count { IsSome (value_in self.old key)
+            → held_count self.new + 1 ≡ held_count self.old }
+    {
+        if !self.holds(key) {
+            return None;
+        }
+        let place = std::mem::replace(&mut self.places[key], Place::Free(self.first_free));
+        self.first_free = key;
+        self.len -= 1;
+        place.into_value()
+    }
+
+    /// The value of a slot. `None` if the slot is free or out of range.
+    pub fn value(&self, key: usize) -> Option<&F>
+        ensures some { IfSome result (λ value. value_in self.now key ≡ Some value.now) }
+        ensures none { IfNone result (value_in self.now key ≡ None) }
+    {
+        if key < self.places.len() {
+            self.places[key].value()
+        } else {
+            None
         }
     }
 
