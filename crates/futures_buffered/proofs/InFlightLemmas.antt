@@ -1,5 +1,5 @@
--- What a push and a poll of a queue of futures in flight are to a buffer.
-use Rattle.std.proofs.Common.{◌≡◌, ◌<◌, ℕ, List, [], ◌∷◌, inl, inr, length, Option, Some, None, is_some, cond, false, true, sym, subst, arith}
+-- What a push and a poll of futures in flight are to a buffer.
+use Rattle.std.proofs.Common.{◌≡◌, ◌<◌, ℕ, List, [], inl, inr, length, Option, Some, None, is_some, cond, false, true, sym, subst, arith}
 use Rattle.std.proofs.lemmas.List.{get_or_past}
 use Rattle.std.proofs.lemmas.List.Sums.{get_or-le-sum_by}
 use Rattle.std.proofs.lemmas.Bool.{cases_lt}
@@ -10,12 +10,12 @@ use Rattle.futures.specs.Poll.{OnPending}
 use Rattle.futures_buffered_core.specs.SlotMap.{Slots, value_in, held_count}
 use Rattle.futures_buffered_unordered.specs.StreamAnswers.{StreamAnswers, stream_of}
 use Rattle.futures_buffered_unordered.proofs.HeldGivesLemmas.{Gathers-Within, Gathers-After}
-use Rattle.futures_buffered_in_flight.specs.InFlight.{FlightsWaitAt, FutureOf}
-use Rattle.futures_buffered_ordered.specs.declared.numbered.Numbered.{Numbered}
+use Rattle.futures_buffered_in_flight.specs.InFlight.{AnySlotGives, ComesFromSlots, Flights, FlightsWaitAt, FutureOf, flight_slots}
 use Rattle.futures_buffered_ordered.specs.declared.ordered_entries.Entry.{Entry}
-use Rattle.futures_buffered_in_flight.specs.InFlightOrdered.{CanPollOrdered, ComesOfEach, OrderedInFlight, OrderedWaitsAt, PollsInTurn, PushesBack}
+use Rattle.futures_buffered_in_flight.specs.InFlightOrdered.{CanPollOrdered, ComesOfEach, OrderedInFlight, OrderedWaitsAt, PollsInTurn, PushesBack, ordered_room}
 use Rattle.futures_buffered_in_flight.proofs.InFlightOrderedLemmas.{answers_in_turn}
-use Rattle.futures_buffered_in_flight.specs.InFlightQueue.{Queued, SomeOf, AnyQueuedGives, NumberGives, CanPollQueue, ComesFromQueue, PollsQueued, PushesQueued, queued_count, queued_room}
+pub use Rattle.futures_buffered_in_flight.proofs.InFlightQueueLemmas.{new_can_poll}
+use Rattle.futures_buffered_in_flight.specs.InFlightQueue.{CanPollQueue, PollsQueued, PushesQueued, flight_count}
 use Rattle.futures_buffered.specs.FutureQueue.{AddsOutput, PollsFutureQueue, PushAddsOutput, PushLeavesQueue}
 use Rattle.futures_buffered.proofs.BufferedOrderedLemmas.{starts_some}
 
@@ -27,49 +27,38 @@ some_held {P} m i p found =
     ] in
     omega (arith, rw found at (get_or-le-sum_by (λ (o : Option P). cond (is_some o) 1 0) m.places i None within))
 
--- how many an ordered queue holds, and how many it can hold
+-- how many an ordered queue holds
 abbrev entry_count : {F A : Type 0} → OrderedInFlight F A → ℕ
 entry_count q = length q.entries
 
-abbrev entry_room : {F A : Type 0} → OrderedInFlight F A → ℕ
-entry_room q = queued_room q.set
-
-module _ {F A : Type 0} (future : FutureOf F A) where
-  waiting_counts : (fs : List (Numbered F)) (out : ℕ × A) → SomeOf future fs out → 0 < length fs
-  waiting_counts [] out h = absurd h
-  waiting_counts (f ∷ fs) out h = omega arith
-
-  number_held : (q : Queued F) (out : ℕ × A) → NumberGives future q out → 0 < queued_count q
-  number_held q out (inl h) = omega (arith, waiting_counts q.waiting out h)
-  number_held q out (inr h) = omega (arith, some_held q.set.slots h.0 _ h.2)
-
+module _ {F A T : Type 0} (future : FutureOf F A) where
   -- where a future may give an output, one is held
-  counts : (q : Queued F) (x : A) → AnyQueuedGives future q x → 0 < queued_count q
-  counts q x h = number_held q (h.0, x) h.1
+  counts : (s : Flights F T) (x : A) → AnySlotGives future s x → 0 < flight_count s
+  counts s x h = some_held s.slots h.0 h.1.0 h.1.1
 
-  comes_first : (q : Queued F) (x : A) → AnyQueuedGives future q x → ComesFromQueue future q [] (Some x)
-  comes_first q x h = record { each = tt; ends = (h, counts q x h) }
+  comes_first : (s : Flights F T) (x : A) → AnySlotGives future s x → ComesFromSlots future s [] (Some x)
+  comes_first s x h = record { each = tt; ends = (h, counts s x h) }
 
-  adds : (old new : Queued F) (f : F) → PushesQueued future old f new → AddsOutput false (ComesFromQueue future old) (future.gives f) (ComesFromQueue future new)
+  adds : (old new : Flights F T) (f : F) → PushesQueued future old f new → AddsOutput false (ComesFromSlots future old) (future.gives f) (ComesFromSlots future new)
   adds old new f p x came =
       elim (p.gives x came.1.ends.0) [
         | inl was ↦ inl ([], comes_first old x was)
         | inr own ↦ inr own
       ]
 
-  pub push_leaves : (old new : Queued F) (f : F) → PushesQueued future old f new → PushLeavesQueue {A = A} queued_count queued_room old None new
+  pub push_leaves : (old new : Flights F T) (f : F) → PushesQueued future old f new → PushLeavesQueue {A = A} flight_count flight_slots old None new
   push_leaves old new f p = record { one_more = p.one_more; stays = tt; same_room = p.same_room }
 
-  pub push_adds : (old new : Queued F) (f : F) → PushesQueued future old f new → PushAddsOutput false (ComesFromQueue future) (future.gives f) old None new
+  pub push_adds : (old new : Flights F T) (f : F) → PushesQueued future old f new → PushAddsOutput false (ComesFromSlots future) (future.gives f) old None new
   push_adds old new f p = record { adds = adds old new f p; value = tt; overtakes = tt }
 
-  answers : (old new : Queued F) (answer : Poll (Option A)) (cx left : Context) → PollsQueued future old answer new cx left → StreamAnswers (stream_of (CanPollQueue future) (λ (q : Queued F). FlightsWaitAt q.set) (ComesFromQueue future)) old answer new cx left
+  answers : (old new : Flights F T) (answer : Poll (Option A)) (cx left : Context) → PollsQueued future old answer new cx left → StreamAnswers (stream_of (CanPollQueue future) FlightsWaitAt (ComesFromSlots future)) old answer new cx left
   answers old new (Ready None) cx left p =
       record { value = record { each = tt; ends = let k = p.gave.0 in omega (arith, k) }; rest = tt; same = tt; goes = tt; again = tt; registered = tt; kept = p.kept }
   answers old new (Ready (Some x)) cx left p =
       record {
         value = comes_first old x p.gave.0;
-        rest = Gathers-After p.narrows (queued_count old) (queued_count new) x p.gave.1 p.gave.0;
+        rest = Gathers-After p.narrows (flight_count old) (flight_count new) x p.gave.1 p.gave.0;
         same = tt;
         goes = p.again;
         again = tt;
@@ -80,7 +69,7 @@ module _ {F A : Type 0} (future : FutureOf F A) where
       record {
         value = tt;
         rest = tt;
-        same = Gathers-Within p.narrows (queued_count old) (queued_count new) p.gave.1;
+        same = Gathers-Within p.narrows (flight_count old) (flight_count new) p.gave.1;
         goes = tt;
         again = p.again;
         registered = p.registered;
@@ -88,8 +77,8 @@ module _ {F A : Type 0} (future : FutureOf F A) where
       }
 
   -- a poll is one of what a buffer holds
-  pub polls_queue : (old new : Queued F) (answer : Poll (Option A)) (cx left : Context) → PollsQueued future old answer new cx left
-      → PollsFutureQueue (PollsQueued future) queued_count queued_room (stream_of (CanPollQueue future) (λ (q : Queued F). FlightsWaitAt q.set) (ComesFromQueue future)) old answer new cx left
+  pub polls_queue : (old new : Flights F T) (answer : Poll (Option A)) (cx left : Context) → PollsQueued future old answer new cx left
+      → PollsFutureQueue (PollsQueued future) flight_count flight_slots (stream_of (CanPollQueue future) FlightsWaitAt (ComesFromSlots future)) old answer new cx left
   polls_queue old new (Ready None) cx left p =
       record { polled = p; empty = p.gave; holds = tt; fewer = tt; same_count = tt; same_room = p.same_room; some = p.some; bound = p.bound; as_stream = answers old new (Ready None) cx left p }
   polls_queue old new (Ready (Some x)) cx left p =
@@ -97,7 +86,8 @@ module _ {F A : Type 0} (future : FutureOf F A) where
   polls_queue old new Pending cx left p =
       record { polled = p; empty = tt; holds = omega (arith, p.gave.0, p.gave.1); fewer = tt; same_count = p.gave.1; same_room = p.same_room; some = p.some; bound = p.bound; as_stream = answers old new Pending cx left p }
 
-  pub push_leaves_ordered : (old new : OrderedInFlight F A) (f : F) → PushesBack future old f new → PushLeavesQueue {A = A} entry_count entry_room old None new
+module _ {F A : Type 0} (future : FutureOf F A) where
+  pub push_leaves_ordered : (old new : OrderedInFlight F A) (f : F) → PushesBack future old f new → PushLeavesQueue {A = A} entry_count ordered_room old None new
   push_leaves_ordered old new f p = record { one_more = p.one_more; stays = tt; same_room = p.same_room }
 
   pub push_adds_ordered : (old new : OrderedInFlight F A) (f : F) → PushesBack future old f new → PushAddsOutput true (ComesOfEach future) (future.gives f) old None new
@@ -111,7 +101,7 @@ in_turn_holds {A = A} future old new Pending cx left p =
     subst (λ (es : List (Entry A)). 0 < length es) (sym last.2) (starts_some p.polls.gave.before.entries last.0)
 
 pub polls_queue_ordered : {F A : Type 0} (future : FutureOf F A) (old new : OrderedInFlight F A) (answer : Poll (Option A)) (cx left : Context) → PollsInTurn future old answer new cx left
-    → PollsFutureQueue (PollsInTurn future) entry_count entry_room (stream_of (CanPollOrdered future) OrderedWaitsAt (ComesOfEach future)) old answer new cx left
+    → PollsFutureQueue (PollsInTurn future) entry_count ordered_room (stream_of (CanPollOrdered future) OrderedWaitsAt (ComesOfEach future)) old answer new cx left
 polls_queue_ordered future old new answer cx left poll =
     record {
       polled = poll;

@@ -9,3 +9,4 @@ pub mod BufferedOrderedAccountLemmas
 pub mod ForEachConcurrentLemmas
 pub mod DrainLemmas
 pub mod InFlightLemmas
+pub mod StreamLemmas

@@ -12,8 +12,8 @@ use Rattle.futures.specs.Poll.{IfReady, OnPending}
 use Rattle.futures_buffered_unordered.specs.FuturesUnorderedBounded.{IsWoken}
 use Rattle.futures_buffered.specs.Buffer.{Ahead, Buffering, FutureQueueOf, IsNewBuffer, PollsBuffer, StreamOf}
 use Rattle.futures_buffered.specs.Buffer.{buffer_of}
-use Rattle.futures_buffered_in_flight.specs.InFlight.{FutureOf}
-use Rattle.futures_buffered_in_flight.specs.InFlightQueue.{Queued, CanPollQueue}
+use Rattle.futures_buffered_in_flight.specs.InFlight.{Flights, FutureOf}
+use Rattle.futures_buffered_in_flight.specs.InFlightQueue.{CanPollQueue}
 pub use Rattle.futures_buffered.specs.declared.drain_output.DrainOutput.{Ghosts as DrainOutputOf}
 
 -- the buffer, or nothing once the drain was ready; and how many turns one call takes at most
@@ -80,7 +80,7 @@ module _ {O : Type 0} (output : DrainOutputOf O) where
             ⊎ ((length turns ≡ limit) × (answer ≡ Pending) × (new ≡ before.0) × IsWoken left)
 
 -- each future that it holds may be polled
-abbrev pub HoldsPollable : {F A St : Type 0} → FutureOf F A → Draining (Buffering St (Queued F)) → Type 0
+abbrev pub HoldsPollable : {F A St : Type 0} → FutureOf F A → Draining (Buffering St (Flights F (Unit {0}))) → Type 0
 HoldsPollable future d = IfSome d.buffer (λ buffer. CanPollQueue future buffer.queue)
 
 -- nothing more is polled: there is no buffer, or its stream has ended and it holds nothing

@@ -1,8 +1,8 @@
 //! What a buffer holds: futures, of each of which one output comes.
 //!
-//! A buffer is written once, for any such queue. `CompletionQueue` and `InFlightQueue` are such, whose outputs come as
-//! the futures finish, `OrderedQueue` is one that keeps the order of the pushes, and `TryQueue` makes of either one to
-//! which errors can be given as well.
+//! A buffer is written once, for any such queue. The outputs of a `CompletionQueue`, and of a
+//! `FuturesUnorderedBounded` of `in_flight`, come as the futures finish. An `OrderedQueue` keeps the order of the pushes.
+//! A `TryQueue` is made of any of them, and takes errors also.
 ghost use Rattle.std.specs.Prelude.{◌≡◌, ◌<◌, ◌≤◌, ℕ, Bool, List, Option};
 ghost use Rattle.futures_buffered_core.specs.Made.{MakesSlots};
 ghost use Rattle.futures_buffered_unordered.specs.StreamAnswers.{stream_of};

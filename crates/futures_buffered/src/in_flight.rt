@@ -7,7 +7,7 @@
 //!
 //! - `buffered`, `try_buffered`: `BufferedStreamExt` and `BufferedTryStreamExt`, the adaptors as methods of a stream.
 //! - `iter_ext`: `IterExt`, sets, queues, joins and merges as methods of what gives the items.
-//! - `queues`: the queues of the crate below, as what a buffer holds.
+//! - `queues`: the set and the queue of the crate below, as what a buffer holds.
 use crate::buffer::Buffer;
 use crate::drain::Drain;
 use crate::try_buffer::{TryBuffer, TryQueue};
@@ -20,9 +20,7 @@ mod queues;
 pub mod try_buffered;
 
 pub use buffered::BufferedStreamExt;
-pub use futures_buffered_in_flight::{
-    Came, FuturesUnorderedBounded, InFlightQueue, Kept, Key, Waiting,
-};
+pub use futures_buffered_in_flight::{Came, FuturesUnorderedBounded, Kept, Key, Waiting};
 pub use futures_buffered_joins::in_flight_join::{
     JoinAll, JoinBy, TryJoinAll, join_all, outputs_come_by_place, try_join_all,
 };
@@ -39,12 +37,11 @@ pub type FuturesOrderedBounded<F> = futures_buffered_in_flight::FuturesOrderedBo
     <F as Future>::Output,
 >;
 
-/// Futures of the kit of a stream, at most as many at a time as its queue has room for, whose outputs come as they
-/// finish.
-pub type BufferUnordered<St> = Buffer<St, InFlightQueue<<St as Stream>::Item>>;
+/// Futures of the kit of a stream, at most as many at a time as its set has slots, whose outputs come as they finish.
+pub type BufferUnordered<St> = Buffer<St, FuturesUnorderedBounded<<St as Stream>::Item>>;
 
 /// The same of a stream that gives errors as well.
-pub type TryBufferUnordered<St, F> = TryBuffer<St, InFlightQueue<F>>;
+pub type TryBufferUnordered<St, F> = TryBuffer<St, FuturesUnorderedBounded<F>>;
 
 /// Futures of the kit of a stream, whose outputs come in the order in which the stream gave the futures. At most as
 /// many as its queue has room for are held at a time, where an output that waits for its turn counts as held.
@@ -53,11 +50,14 @@ pub type BufferedOrdered<St> = Buffer<St, FuturesOrderedBounded<<St as Stream>::
 /// The same of a stream that gives errors as well. An error comes as soon as it is met, before what is held.
 pub type TryBufferedOrdered<St, F> = TryBuffer<St, FuturesOrderedBounded<F>>;
 
-/// Gives each item of a stream to a closure, once and in order, and runs the futures of the kit that it makes, in plain
-/// sight, at most as many at a time as its queue has room for.
+/// Gives each item of a stream to a closure, once and in order, and runs the futures of the kit that it makes, at most
+/// as many at a time as its queue has room for.
 ///
 /// The stream with the closure is the kit's `Map`. A `Buffer` draws from it, and a `Drain` polls that to its end.
-pub type ForEachConcurrent<St, F, Fut> = Drain<Map<St, F>, InFlightQueue<Fut>>;
+pub type ForEachConcurrent<St, F, Fut> = Drain<Map<St, F>, FuturesUnorderedBounded<Fut>>;
 
 /// The same of a stream that gives errors as well, up to the first error.
-pub type TryForEachConcurrent<St, F, Fut> = Drain<MapOk<St, F>, TryQueue<InFlightQueue<Fut>>>;
+pub type TryForEachConcurrent<St, F, Fut> = Drain<
+    MapOk<St, F>,
+    TryQueue<FuturesUnorderedBounded<Fut>>,
+>;

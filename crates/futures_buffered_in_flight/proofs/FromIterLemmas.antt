@@ -9,7 +9,7 @@ use Rattle.futures_buffered_core.specs.Drawn.{Items, Draws}
 use Rattle.futures_buffered_core.specs.SlotMap.{Slots, value_in, held_count, slot_count}
 use Rattle.futures_buffered_unordered.specs.Extended.{EachDrawn}
 use Rattle.futures_buffered_unordered.proofs.HeldGivesLemmas.{None-Some}
-use Rattle.futures_buffered_in_flight.specs.InFlight.{FutureOf, Flights, CanPollAll, IsNewInFlight, KeyGives, SlotGives, EntersAt, FliesInOrder}
+use Rattle.futures_buffered_in_flight.specs.InFlight.{FutureOf, Flights, CanPollAll, IsNewInFlight, KeyGives, SlotGives, EntersAt, FliesInOrder, flight_slots, room_taken}
 use Rattle.futures_buffered_in_flight.specs.InFlightOrdered.{OrderedInFlight, IsNewInOrder, ordered_room}
 use Rattle.futures_buffered_in_flight.specs.declared.in_flight.Place.{Place}
 use Rattle.futures_buffered_in_flight.specs.declared.run.Key.{Key}
@@ -51,40 +51,42 @@ get_push_other [] f g (suc k) got other = got
 get_push_other (x ∷ xs) f g zero got other = got
 get_push_other (x ∷ xs) f g (suc k) got other = get_push_other xs f g k got (λ same. other (ap suc same))
 
-none_held : (n : ℕ) → count_by is_some (replicate {A = Option Place} n None) ≡ 0
+none_held : (n : ℕ) → count_by is_some (replicate {A = Option (Place (Unit {0}))} n None) ≡ 0
 none_held zero = refl
 none_held (suc n) = none_held n
 
 module _ {F O : Type 0} (future : FutureOf F O) where
   -- these went in so far, of n, each in the slot of its place
-  pub record PushedSoFar (n : ℕ) (xs : List F) (held : Flights F) : Type 0 where
+  pub record PushedSoFar (n : ℕ) (xs : List F) (held : Flights F (Unit {0})) : Type 0 where
     pub as_many : slot_count held.slots ≡ n
     pub free : held.slots.free ≡ range_with_len (length xs) (n - length xs)
     pub all_wait : held_count held.slots ≡ length xs
     pub own : (k : ℕ) (item : F) (x : O) → slice_get xs k ≡ Some item → SlotGives future held k x → future.gives item x
+    pub none_cancelled : held.cancelled ≡ 0
     pub again : CanPollAll future held
 
-  pub pushed_none : (n : ℕ) (set : Flights F) → IsNewInFlight n set → CanPollAll future set → PushedSoFar n [] set
+  pub pushed_none : (n : ℕ) (set : Flights F (Unit {0})) → IsNewInFlight n set → CanPollAll future set → PushedSoFar n [] set
   pushed_none n set new can =
       record {
-        as_many = ap (λ (s : Slots Place). slot_count s) new.0 ∙ length-replicate n None;
-        free = ap (λ (s : Slots Place). s.free) new.0 ∙ ap (range_with_len 0) (omega arith);
-        all_wait = ap (λ (s : Slots Place). held_count s) new.0 ∙ none_held n;
+        as_many = ap (λ (s : Slots (Place (Unit {0}))). slot_count s) new.0 ∙ length-replicate n None;
+        free = ap (λ (s : Slots (Place (Unit {0}))). s.free) new.0 ∙ ap (range_with_len 0) (omega arith);
+        all_wait = ap (λ (s : Slots (Place (Unit {0}))). held_count s) new.0 ∙ none_held n;
         own = λ k item x got h. absurd (None-Some got);
+        none_cancelled = new.3;
         again = can;
       }
 
   -- one more went in
-  pub pushed_one : (n : ℕ) (xs : List F) (f : F) (key : Key) (old new : Flights F) → PushedSoFar n xs old → EntersAt future old f 0 key new → CanPollAll future new → PushedSoFar n (xs ++ f ∷ []) new
-  pushed_one n xs f key old new so p can = by_left (n - length xs) refl
+  pub pushed_one : (n : ℕ) (xs : List F) (f : F) (key : Key) (old new : Flights F (Unit {0})) → PushedSoFar n xs old → EntersAt future old f tt key new → PushedSoFar n (xs ++ f ∷ []) new
+  pushed_one n xs f key old new so p = by_left (n - length xs) refl
     where
-      holds : value_in new.slots key.slot ≡ Some (record { tag = 0; push = key.push })
-      holds = ap (λ ps. get_or ps key.slot None) p.went_in.now_held ∙ get_or-set_same old.slots.places key.slot (Some (record { tag = 0; push = key.push })) None p.went_in.within
+      holds : value_in new.slots key.slot ≡ Some (record { tag = tt; push = key.push })
+      holds = ap (λ ps. get_or ps key.slot None) p.went_in.now_held ∙ get_or-set_same old.slots.places key.slot (Some (record { tag = tt; push = key.push })) None p.went_in.within
 
       its_own : (k : ℕ) (x : O) → k ≡ key.slot → SlotGives future new k x → future.gives f x
       its_own k x same h =
-          let place : h.0 ≡ record { tag = 0; push = key.push } = Some-same (sym h.1 ∙ (ap (λ i. value_in new.slots i) same ∙ holds)) in
-          let at : record { slot = k; push = h.0.push } ≡ key = ap₂ (λ (slot push : ℕ). record { slot = slot; push = push }) same (ap (λ (p : Place). p.push) place) in
+          let place : h.0 ≡ record { tag = tt; push = key.push } = Some-same (sym h.1 ∙ (ap (λ i. value_in new.slots i) same ∙ holds)) in
+          let at : record { slot = k; push = h.0.push } ≡ key = ap₂ (λ (slot push : ℕ). record { slot = slot; push = push }) same (ap (λ (p : Place (Unit {0})). p.push) place) in
           p.own x (subst (λ (key : Key). KeyGives future new key x) at h.2)
 
       others : (k : ℕ) (item : F) (x : O) → k ≢ key.slot → slice_get xs k ≡ Some item → SlotGives future new k x → future.gives item x
@@ -111,11 +113,18 @@ module _ {F O : Type 0} (future : FutureOf F O) where
                   subst (λ (g : F). future.gives g x) is (its_own k x same h)
               | inr other ↦ others k item x other (get_push_other xs f item k got (λ same. other (same ∙ sym at))) h
             ];
-            again = can;
+            none_cancelled = p.room ∙ so.none_cancelled;
+            again = p.again;
           }
 
+  -- while an item is left, there is room for it
+  pub pushed_room : (items xs rest : List F) (f : F) (set : Flights F (Unit {0})) → items ≡ xs ++ f ∷ rest → PushedSoFar (length items) xs set → room_taken set < flight_slots set
+  pushed_room items xs rest f set is so =
+      let all : length items ≡ length xs + length (f ∷ rest) = ap length is ∙ length-append xs (f ∷ rest) in
+      omega (arith, all, so.as_many, so.all_wait, so.none_cancelled)
+
   -- all of them went in
-  pub pushed_all : (items xs : List F) (set : Flights F) → items ≡ xs → PushedSoFar (length items) xs set → FliesInOrder future items set
+  pub pushed_all : (items xs : List F) (set : Flights F (Unit {0})) → items ≡ xs → PushedSoFar (length items) xs set → FliesInOrder future items set
   pushed_all items xs set same so =
       record {
         as_many = so.as_many;
@@ -126,7 +135,7 @@ module _ {F O : Type 0} (future : FutureOf F O) where
 module _ {F A : Type 0} where
   -- as many as a new queue is made for can be held
   pub new_room : (n : ℕ) (q : OrderedInFlight F A) → IsNewInOrder n q → ordered_room q ≡ n
-  new_room n q new = ap (λ (s : Slots Place). slot_count s) new.new_set.1.0 ∙ length-replicate n None
+  new_room n q new = ap (λ (s : Slots (Place ℕ)). slot_count s) new.new_set.0 ∙ length-replicate n None
 
   pub turns_none : (n : ℕ) (q : OrderedInFlight F A) → IsNewInOrder n q → length q.entries ≡ 0
   turns_none n q new = ap length new.no_entries

@@ -1,21 +1,29 @@
--- What may come from the kit's set of the futures, and from the slots over it.
-use Rattle.std.proofs.Common.{◌≡◌, ◌<◌, ℕ, ◌+◌, List, [], ◌∷◌, Option, Some, None, MatchOption, is_some, count_by, cond, get_or, length, length-set, set, zero, suc, ap, ap₂, refl, sym, subst, ◌∙◌, ◌⊎◌, inl, inr, arith, Ok, Err}
+-- What may come from the kit's set, from the futures that wait and from the slots, and what each call leaves of the set.
+use Rattle.std.proofs.Common.{◌≡◌, ◌<◌, ◌≤◌, ℕ, ◌+◌, ◌-◌, ◌^◌, List, [], ◌∷◌, ◌++◌, Option, Some, None, IfSome, is_some, count_by, cond, length, length-set, zero, suc, ap, refl, sym, subst, ◌∙◌, ◌⊎◌, inl, inr, arith}
+use Rattle.std.specs.Prelude.{min}
+use Rattle.std.specs.List.{AllByRecursion}
 use Rattle.std.proofs.lemmas.Bool.{cases_eq}
 use Rattle.std.proofs.lemmas.List.Sums.{sum_by-cons}
-use Rattle.std.proofs.lemmas.List.{set-get_or, get_or-set_same}
+use Rattle.std.proofs.lemmas.List.{length_push}
 use Rattle.futures.specs.Runs.{After, Within}
 use Rattle.futures.specs.Queued.{AnyGives, Gathers, GivesNoMore, AllPollable, set_places, set_len}
 use Rattle.futures.specs.declared.stream.futures_unordered.FuturesUnordered.{FuturesUnordered}
+use Rattle.futures.specs.declared.task.Poll.{Poll}
+use Rattle.futures.specs.declared.task.Poll.TheVariants.{Ready, Pending}
+use Rattle.futures.specs.Task.{Covers, Keeps, IsArmed, Lasting}
+use Rattle.futures.specs.declared.task.context.Context.{Context}
 use Rattle.futures_buffered_core.specs.SlotMap.{Slots, value_in, held_count, slot_count, with_slot_freed, Inserts}
+use Rattle.futures_buffered_unordered.specs.FuturesUnorderedBounded.{IsWoken}
 use Rattle.futures_buffered_unordered.proofs.HeldGivesLemmas.{Gathers-Within, Gathers-After, value_in-with_slot_freed, value_in-with_slot_freed_other, None-Some}
-use Rattle.futures_buffered_in_flight.specs.InFlight.{FutureOf, Flights, CanPollAll, run_count, runs_in, ComesFromSlots, AnySlotGives, RunsGiveNoMore, ComesByKey, GivesWithKey, HasNoRoom, EntersAt, PushesInFlight}
+use Rattle.futures_buffered_in_flight.specs.InFlight.{FutureOf, Flights, AnyRunGives, AnySlotGives, AnyWaitGives, CanPollAll, CanPollRuns, CanPollWaiting, ComesByKey, ComesFromSlots, EntersAt, FlightsGiveNoMore, FlightsWaitAt, GivesByKey, HasEach, IsHeld, MayCome, PollsInFlight, WaitGives, flight_slots, run_count}
+use Rattle.futures_buffered_in_flight.specs.InFlightTurns.{Flies, Starts, TurnsOn}
 use Rattle.futures_buffered_in_flight.specs.declared.in_flight.Came.{Came}
 use Rattle.futures_buffered_in_flight.specs.declared.in_flight.Place.{Place}
 use Rattle.futures_buffered_in_flight.specs.declared.run.Key.{Key}
-use Rattle.futures_buffered_in_flight.specs.declared.run.Run.{Run}
+use Rattle.futures_buffered_in_flight.specs.declared.run.Waits.{Waits}
 
 module _ {F A : Type 0} (gives : F → A → Type 0) where
-  -- where one of the places may give something, a place is held
+  -- if one of the places may give something, a place is held
   pub some_is_held : (os : List (Option F)) (x : A) → AnyGives gives os x → 0 < count_by is_some os
   some_is_held [] x h = absurd h
   some_is_held (o ∷ os) x h =
@@ -37,15 +45,45 @@ module _ {F A : Type 0} (gives : F → A → Type 0) where
   narrows_within old new within y h =
       (within [] (Some y) (record { each = tt; ends = (h, let k = some_is_held (set_places new) y h in omega (arith, k, new.futures.counted)) })).ends.0
 
-module _ {F A : Type 0} (future : FutureOf F A) where
-  -- what a slot may give after a poll, it might give before
-  pub slots_within : (old new : Flights F) → new.slots ≡ old.slots → RunsGiveNoMore future old new → (x : A) → AnySlotGives future new x → AnySlotGives future old x
-  slots_within old new same narrows x h = grind arith
+module _ {A : Type 0} where
+  -- a pending poll of a set that holds some leaves some
+  pub some_left : (P Q : A → Type 0) (old new : ℕ) → Within (Gathers P old) (Gathers Q new) → 0 < old → 0 < new
+  some_left P Q old zero within some = omega (arith, some, (within [] None (record { each = tt; ends = refl })).ends)
+  some_left P Q old (suc n) within some = omega arith
 
-  any : (old new : Flights F) (came : Came A) → ComesByKey future old came new → AnySlotGives future old came.output
+pub none_pollable : {F : Type 0} (can_poll : F → Type 0) → AllPollable can_poll []
+none_pollable can_poll = tt
+
+-- a task that was woken stays so
+woken_still : (asked left : Context) → Keeps asked left → IsWoken asked → IsWoken left
+woken_still asked left keeps woken source = keeps (Lasting.hears source) (woken source)
+
+module _ {F : Type 0} where
+  pub started_still : (old new : List (Waits F)) (asked left : Context) → new ≡ old → Keeps asked left → ((old ≡ []) ⊎ IsWoken asked) → (new ≡ []) ⊎ IsWoken left
+  started_still old new asked left same keeps (inl none) = inl (same ∙ none)
+  started_still old new asked left same keeps (inr woken) = inr (woken_still asked left keeps woken)
+
+module _ {F A : Type 0} (future : FutureOf F A) where
+  any_push : (ws : List (Waits F)) (w : Waits F) (came : Key × Option A) → AnyWaitGives future (ws ++ w ∷ []) came → AnyWaitGives future ws came ⊎ WaitGives future w came
+  any_push [] w came (inl own) = inr own
+  any_push [] w came (inr none) = absurd none
+  any_push (v ∷ ws) w came (inl first) = inl (inl first)
+  any_push (v ∷ ws) w came (inr more) = elim (any_push ws w came more) [ inl was ↦ inl (inr was) | inr own ↦ inr own ]
+
+  push_all : (ws : List (Waits F)) (w : Waits F) → CanPollWaiting future ws → future.can_poll w.future → CanPollWaiting future (ws ++ w ∷ [])
+  push_all [] w all fit = (fit, tt)
+  push_all (v ∷ ws) w all fit = (all.0, push_all ws w all.1 fit)
+
+module _ {F A T : Type 0} (future : FutureOf F A) where
+  -- what a slot may give after a poll, it might give before
+  pub slots_within : (old new : Flights F T) → new.slots ≡ old.slots → FlightsGiveNoMore future old new → (x : A) → AnySlotGives future new x → AnySlotGives future old x
+  slots_within old new same narrows x h =
+      (h.0, (h.1.0, subst (λ s. value_in s h.0 ≡ Some h.1.0) same h.1.1, narrows (record { slot = h.0; push = h.1.0.push }, Some x) h.1.2))
+
+  pub any : (old new : Flights F T) (came : Came A T) → ComesByKey future old came new → AnySlotGives future old came.output
   any old new came y = (came.key.slot, (record { tag = came.tag; push = came.key.push }, y.was_held, y.gave))
 
-  pub slots_after : (old new : Flights F) (slot : ℕ) → new.slots ≡ with_slot_freed old.slots slot → RunsGiveNoMore future old new → (x : A) → AnySlotGives future new x → AnySlotGives future old x
+  pub slots_after : (old new : Flights F T) (slot : ℕ) → new.slots ≡ with_slot_freed old.slots slot → FlightsGiveNoMore future old new → (x : A) → AnySlotGives future new x → AnySlotGives future old x
   slots_after old new slot same narrows x h =
       let holds = subst (λ s. value_in s h.0 ≡ Some h.1.0) same h.1.1 in
       elim (cases_eq h.0 slot) [
@@ -53,69 +91,298 @@ module _ {F A : Type 0} (future : FutureOf F A) where
         | inr other ↦ (h.0, (h.1.0, sym (value_in-with_slot_freed_other old.slots slot h.0 other) ∙ holds, narrows (record { slot = h.0; push = h.1.0.push }, Some x) h.1.2))
       ]
 
-  pub comes_within : (old new : Flights F) → new.slots ≡ old.slots → RunsGiveNoMore future old new → Within (ComesFromSlots future old) (ComesFromSlots future new)
+  pub comes_within : (old new : Flights F T) → new.slots ≡ old.slots → FlightsGiveNoMore future old new → Within (ComesFromSlots future old) (ComesFromSlots future new)
   comes_within old new same narrows = Gathers-Within (slots_within old new same narrows) (held_count old.slots) (held_count new.slots) (subst (λ s. held_count s ≡ held_count old.slots) (sym same) refl)
 
-  pub comes_after : (old new : Flights F) (came : Came A) → ComesByKey future old came new → RunsGiveNoMore future old new → After (ComesFromSlots future old) came.output (ComesFromSlots future new)
+  pub comes_after : (old new : Flights F T) (came : Came A T) → ComesByKey future old came new → FlightsGiveNoMore future old new → After (ComesFromSlots future old) came.output (ComesFromSlots future new)
   comes_after old new came y narrows = Gathers-After (slots_after old new came.key.slot y.freed narrows) (held_count old.slots) (held_count new.slots) came.output y.fewer (any old new came y)
 
-  pub comes_first : (old new : Flights F) (came : Came A) → ComesByKey future old came new → ComesFromSlots future old [] (Some came.output)
+  pub comes_first : (old new : Flights F T) (came : Came A T) → ComesByKey future old came new → ComesFromSlots future old [] (Some came.output)
   comes_first old new came y = record { each = tt; ends = (any old new came y, let k = y.fewer in omega (arith, k)) }
 
-  -- a set whose runs are as a poll left them
-  pub polls_on : (old mid new : Flights F) → CanPollAll future old → AllPollable (λ run. future.can_poll run.future) (runs_in mid.running)
-      → RunsGiveNoMore future old mid → mid.next ≡ old.next → new.running ≡ mid.running → new.next ≡ mid.next → CanPollAll future new
-  polls_on old mid new can each narrows next same after = grind arith
-
-pub none_pollable : {F : Type 0} (can_poll : F → Type 0) → AllPollable can_poll []
-none_pollable can_poll = tt
-
-set-set : {A : Type 0} (l : List A) (i : ℕ) (a b : A) → set (set l i a) i b ≡ set l i b
-set-set [] i a b = refl
-set-set (x ∷ xs) zero a b = refl
-set-set (x ∷ xs) (suc i) a b = ap (λ ys. x ∷ ys) (set-set xs i a b)
-
-module _ {F : Type 0} where
-  freed_again : (old mid : Slots F) (i : ℕ) (value : F) → Inserts old i value mid → with_slot_freed mid i ≡ old
-  freed_again old mid i value ins =
-      ap₂ (λ (ps : List (Option F)) (fs : List ℕ). record { places = ps; free = fs })
-      (ap (λ ps. set ps i None) ins.now_held ∙ (set-set old.places i (Some value) None ∙ (ap (λ o. set old.places i o) (sym ins.was_empty) ∙ set-get_or old.places i None)))
-      (sym ins.first_free)
-
-  -- a value that went in and was removed again leaves the slots as they were
-  pub removed_again : (old mid new : Slots F) (i : ℕ) (value : F) → Inserts old i value mid
-      → MatchOption (value_in mid i) (new ≡ mid) (λ _. new ≡ with_slot_freed mid i) → new ≡ old
-  removed_again old mid new i value ins h =
-      let holds : value_in mid i ≡ Some value = ap (λ ps. get_or ps i None) ins.now_held ∙ get_or-set_same old.places i (Some value) None ins.within in
-      rw holds at h ∙ freed_again old mid i value ins
-
-module _ {F A : Type 0} (future : FutureOf F A) where
+module _ {F A T : Type 0} (future : FutureOf F A) where
   -- a set without a future may be polled
-  pub none_can_poll : (s : Flights F) → s.running ≡ None → CanPollAll future s
-  none_can_poll s none = record { each = rw none tt; older = λ came h. absurd (rw none at h) }
+  pub none_can_poll : (s : Flights F T) → s.running ≡ None → s.waiting ≡ [] → CanPollAll future s
+  none_can_poll s none empty = record {
+    running = rw none tt;
+    waiting = rw empty tt;
+    older = λ came h. elim h [ inl run ↦ absurd (rw none at run) | inr wait ↦ absurd (rw empty at wait) ];
+  }
 
-  -- a future that went in under the next number
-  pub pushed : (old new : Flights F) (run : Run F) (tag : ℕ) → CanPollAll future old
-      → run.key.push ≡ old.next → new.next ≡ old.next + 1
-      → Inserts old.slots run.key.slot (record { tag = tag; push = run.key.push }) new.slots
-      → held_count new.slots ≡ held_count old.slots + 1
+  -- the kit's set took the future
+  pub flies : (old new : Flights F T) (value : Waits F) → CanPollWaiting future old.waiting
+      → CanPollRuns future new.running
+      → ((came : Key × Option A) → AnyRunGives future new.running came → AnyRunGives future old.running came ⊎ ((came.0 ≡ value.key) × IfSome came.1 (future.gives value.future)))
       → run_count new.running ≡ run_count old.running + 1
-      → new.cancelled ≡ old.cancelled
-      → AllPollable (λ run. future.can_poll run.future) (runs_in new.running)
-      → ((came : Key × Option A) → AnyGives (GivesWithKey future.gives) (runs_in new.running) came
-      → AnyGives (GivesWithKey future.gives) (runs_in old.running) came ⊎ GivesWithKey future.gives run came)
-      → (HasNoRoom old → ⊥)
-      → PushesInFlight future old run.future tag (Ok run.key) new
-  pushed old new run tag can number next inserts more runs same_room each gives room = grind arith
+      → value.key.push + 1 < 2 ^ 64
+      → new.slots ≡ old.slots → new.next ≡ old.next → new.cancelled ≡ old.cancelled → new.waiting ≡ old.waiting
+      → Flies future old value new
+  flies old new value waits each gives one_more below slots next cancelled same =
+      record {
+        running = each;
+        waiting = subst (λ ws. CanPollWaiting future ws) (sym same) waits;
+        gives = λ came g. elim g [
+          | inl run ↦ elim (gives came run) [ inl was ↦ inl (inl was) | inr own ↦ inr (own.0, below, own.1) ]
+          | inr wait ↦ inl (inr (subst (λ ws. AnyWaitGives future ws came) same wait))
+        ];
+        counts = omega (arith, one_more, ap length same);
+        slots = slots;
+        rest = (cancelled, next);
+      }
+
+  -- it waits behind the others
+  pub left_waiting : (old new : Flights F T) (value : Waits F) → CanPollWaiting future old.waiting
+      → future.can_poll value.future
+      → CanPollRuns future new.running
+      → ((came : Key × Option A) → AnyRunGives future new.running came → AnyRunGives future old.running came)
+      → run_count new.running ≡ run_count old.running
+      → new.slots ≡ old.slots → new.next ≡ old.next → new.cancelled ≡ old.cancelled → new.waiting ≡ old.waiting ++ value ∷ []
+      → Flies future old value new
+  left_waiting old new value waits fit each refused no_more slots next cancelled at_end =
+      record {
+        running = each;
+        waiting = subst (λ ws. CanPollWaiting future ws) (sym at_end) (push_all future old.waiting value waits fit);
+        gives = λ came g. elim g [
+          | inl run ↦ inl (inl (refused came run))
+          | inr wait ↦ elim (any_push future old.waiting value came (subst (λ ws. AnyWaitGives future ws came) at_end wait)) [ inl was ↦ inl (inr was) | inr own ↦ inr own ]
+        ];
+        counts = omega (arith, no_more, ap length at_end, length_push old.waiting value);
+        slots = slots;
+        rest = (cancelled, next);
+      }
+
+  -- it waits for good
+  pub waits_for_good : (old new : Flights F T) (value : Waits F) → CanPollRuns future old.running → CanPollWaiting future old.waiting
+      → future.can_poll value.future
+      → new.running ≡ old.running
+      → new.slots ≡ old.slots → new.next ≡ old.next → new.cancelled ≡ old.cancelled → new.waiting ≡ old.waiting ++ value ∷ []
+      → Flies future old value new
+  waits_for_good old new value each waits fit same slots next cancelled at_end =
+      left_waiting old new value waits fit (subst (λ runs. CanPollRuns future runs) (sym same) each) (λ came run. subst (λ runs. AnyRunGives future runs came) same run) (ap run_count same) slots next cancelled at_end
+
+  -- a future went in under the next number
+  pub entered : (old mid new : Flights F T) (key : Key) (f : F) (tag : T) → CanPollAll future old
+      → key.push ≡ old.next → old.next < 2 ^ 64 → mid.next ≡ min (old.next + 1) (2 ^ 64 - 1)
+      → Inserts old.slots key.slot (record { tag = tag; push = key.push }) mid.slots
+      → held_count mid.slots ≡ held_count old.slots + 1
+      → mid.running ≡ old.running → mid.waiting ≡ old.waiting → mid.cancelled ≡ old.cancelled
+      → Flies future mid (record { key = key; future = f }) new
+      → EntersAt future old f tag key new
+  entered old mid new key f tag can number small next ins more running waiting cancelled h =
+      let was : (came : Key × Option A) → MayCome future mid came → MayCome future old came = λ came g. elim g [
+        | inl run ↦ inl (subst (λ runs. AnyRunGives future runs came) running run)
+        | inr wait ↦ inr (subst (λ ws. AnyWaitGives future ws came) waiting wait)
+      ] in
+      let gives : (came : Key × Option A) → MayCome future new came → MayCome future old came ⊎ WaitGives future (record { key = key; future = f }) came =
+      λ came g. elim (h.gives came g) [ inl mids ↦ inl (was came mids) | inr own ↦ inr own ] in
+      record {
+        numbered = (number, h.rest.1 ∙ next);
+        went_in = subst (λ slots. Inserts old.slots key.slot (record { tag = tag; push = key.push }) slots) (sym h.slots) ins;
+        one_more = ap held_count h.slots ∙ more;
+        runs = omega (arith, h.counts, ap run_count running, ap length waiting);
+        room = h.rest.0 ∙ cancelled;
+        own = λ x g. elim (gives (key, Some x) g) [
+          | inl older ↦ absurd (omega (arith, can.older (key, Some x) older, number))
+          | inr own ↦ own.2
+        ];
+        others = λ came g. elim (gives came g) [ inl older ↦ inl older | inr own ↦ inr (own.0, own.2) ];
+        again = record {
+          running = h.running;
+          waiting = h.waiting;
+          older = λ came g. elim (gives came g) [
+            | inl older ↦ omega (arith, can.older came older, h.rest.1, next, small)
+            | inr own ↦ omega (arith, ap (λ (k : Key). k.push) own.0, own.1, number, h.rest.1, next)
+          ];
+        };
+      }
 
   -- a push keeps the number of slots
-  pub same_slots : (old new : Flights F) (f : F) (tag : ℕ) (key : Key) → EntersAt future old f tag key new → slot_count new.slots ≡ slot_count old.slots
-  same_slots old new f tag key p = ap (λ (places : List (Option Place)). length places) p.went_in.now_held ∙ length-set old.slots.places key.slot _
+  pub same_slots : (old new : Flights F T) (f : F) (tag : T) (key : Key) → EntersAt future old f tag key new → flight_slots new ≡ flight_slots old
+  same_slots old new f tag key p = ap (λ (places : List (Option (Place T))). length places) p.went_in.now_held ∙ length-set old.slots.places key.slot _
 
-  -- a future that came back
-  pub came_back : (old new : Flights F) (f back : F) (tag : ℕ) → CanPollAll future old → back ≡ f
-      → new.slots ≡ old.slots → new.next ≡ old.next → new.cancelled ≡ old.cancelled
-      → AllPollable (λ run. future.can_poll run.future) (runs_in new.running)
-      → RunsGiveNoMore future old new
-      → PushesInFlight future old f tag (Err back) new
-  came_back old new f back tag can same slots next room each narrows = grind arith
+  pub starts_none : (s : Flights F T) → CanPollAll future s → Starts future s s
+  starts_none s can = record { slots = refl; keys = refl; room = omega arith; less = λ came g. g; again = can }
+
+  pub starts_on : (a b c : Flights F T) → Starts future a b → Starts future b c → Starts future a c
+  starts_on a b c p q = record { slots = q.slots ∙ p.slots; keys = q.keys ∙ p.keys; room = omega (arith, p.room, q.room); less = λ came g. p.less came (q.less came g); again = q.again }
+
+  -- one that waited was dropped
+  pub dropped : (old new : Flights F T) (w : Waits F) → CanPollAll future old → old.waiting ≡ w ∷ new.waiting → new.running ≡ old.running
+      → new.slots ≡ old.slots → new.next ≡ old.next → new.cancelled ≤ old.cancelled → Starts future old new
+  dropped old new w can is running slots next room =
+      let less : FlightsGiveNoMore future old new = λ came g. elim g [
+        | inl run ↦ inl (subst (λ runs. AnyRunGives future runs came) running run)
+        | inr wait ↦ inr (subst (λ ws. AnyWaitGives future ws came) (sym is) (inr wait))
+      ] in
+      record {
+        slots = slots;
+        keys = next;
+        room = room;
+        less = less;
+        again = record {
+          running = subst (λ runs. CanPollRuns future runs) (sym running) can.running;
+          waiting = (subst (λ ws. CanPollWaiting future ws) is can.waiting).1;
+          older = λ came g. subst (λ n. came.0.push < n) (sym next) (can.older came (less came g));
+        };
+      }
+
+  -- one that waited went to the kit's set, or waits again
+  pub started : (old mid new : Flights F T) (w : Waits F) → CanPollAll future old → old.waiting ≡ w ∷ mid.waiting → mid.running ≡ old.running
+      → mid.slots ≡ old.slots → mid.next ≡ old.next → mid.cancelled ≡ old.cancelled → Flies future mid w new → Starts future old new
+  started old mid new w can is running slots next room h =
+      let less : FlightsGiveNoMore future old new = λ came g. elim (h.gives came g) [
+        | inl mids ↦ elim mids [
+          | inl run ↦ inl (subst (λ runs. AnyRunGives future runs came) running run)
+          | inr wait ↦ inr (subst (λ ws. AnyWaitGives future ws came) (sym is) (inr wait))
+        ]
+        | inr own ↦ inr (subst (λ ws. AnyWaitGives future ws came) (sym is) (inl own))
+      ] in
+      record {
+        slots = h.slots ∙ slots;
+        keys = h.rest.1 ∙ next;
+        room = omega (arith, h.rest.0, room);
+        less = less;
+        again = record {
+          running = h.running;
+          waiting = h.waiting;
+          older = λ came g. subst (λ n. came.0.push < n) (sym (h.rest.1 ∙ next)) (can.older came (less came g));
+        };
+      }
+
+  -- the kit's set was polled, and what waits is as it was
+  pub less_after : (old new : Flights F T) → ((came : Key × Option A) → AnyRunGives future new.running came → AnyRunGives future old.running came) → new.waiting ≡ old.waiting → FlightsGiveNoMore future old new
+  less_after old new narrows waiting came g = elim g [
+    | inl run ↦ inl (narrows came run)
+    | inr wait ↦ inr (subst (λ ws. AnyWaitGives future ws came) waiting wait)
+  ]
+
+  pub can_after : (old new : Flights F T) → CanPollAll future old → CanPollRuns future new.running
+      → new.waiting ≡ old.waiting → new.next ≡ old.next → FlightsGiveNoMore future old new → CanPollAll future new
+  can_after old new can each waiting next less = record {
+    running = each;
+    waiting = subst (λ ws. CanPollWaiting future ws) (sym waiting) can.waiting;
+    older = λ came g. subst (λ n. came.0.push < n) (sym next) (can.older came (less came g));
+  }
+
+  -- a poll of what the starts and turns before left
+  pub polls_from : (old mid new : Flights F T) (answer : Poll (Option (Came A T))) (cx asked left : Context) → Starts future old mid → Keeps cx asked → 0 < held_count mid.slots → PollsInFlight future mid answer new asked left → PollsInFlight future old answer new cx left
+  polls_from old mid new answer cx asked left s kept some p =
+      record {
+        gave = gave answer p.gave;
+        narrows = λ came g. s.less came (p.narrows came g);
+        keys = p.keys ∙ s.keys;
+        room = omega (arith, p.room, s.room);
+        stays = p.stays;
+        ended = p.ended;
+        started = p.started;
+        registered = p.registered;
+        kept = λ fact h. p.kept fact (kept fact h);
+        again = p.again;
+      }
+    where
+      gave : (answer : Poll (Option (Came A T))) → GivesByKey future mid answer new → GivesByKey future old answer new
+      gave (Ready None) g = absurd (omega (arith, some, g.0))
+      gave (Ready (Some came)) g = record {
+        was_held = subst (λ (slots : Slots (Place T)). value_in slots came.key.slot ≡ Some (record { tag = came.tag; push = came.key.push })) s.slots g.was_held;
+        gave = s.less (came.key, Some came.output) g.gave;
+        freed = subst (λ (slots : Slots (Place T)). new.slots ≡ with_slot_freed slots came.key.slot) s.slots g.freed;
+        fewer = subst (λ (slots : Slots (Place T)). held_count new.slots + 1 ≡ held_count slots) s.slots g.fewer;
+      }
+      gave Pending g = (subst (λ (slots : Slots (Place T)). 0 < held_count slots) s.slots g.0, g.1 ∙ s.slots)
+
+  -- the task polls again
+  pub pended : (old new : Flights F T) (cx asked left : Context) → Starts future old new → Keeps cx asked → 0 < held_count new.slots → Keeps asked left → IsArmed left → IsWoken left → PollsInFlight future old Pending new cx left
+  pended old new cx asked left s kept some keeps armed heard =
+      record {
+        gave = (subst (λ (slots : Slots (Place T)). 0 < held_count slots) s.slots some, s.slots);
+        narrows = s.less;
+        keys = s.keys;
+        room = s.room;
+        stays = inr heard;
+        ended = inr heard;
+        started = inr heard;
+        registered = (armed, λ source _. heard source);
+        kept = λ fact h. keeps fact (kept fact h);
+        again = s.again;
+      }
+
+  -- nothing is held
+  pub ends : (old new : Flights F T) (cx : Context) → held_count old.slots ≡ 0 → new.cancelled ≡ 0 → new.waiting ≡ [] → new.slots ≡ old.slots → new.next ≡ old.next → (old.cancelled ≡ 0 → new ≡ old) → FlightsGiveNoMore future old new → CanPollAll future new → PollsInFlight future old (Ready None) new cx cx
+  ends old new cx none gone no_waiting slots next same less again =
+      record {
+        gave = (none, slots, gone, same);
+        narrows = less;
+        keys = next;
+        room = omega (arith, gone);
+        stays = tt;
+        ended = tt;
+        started = inl no_waiting;
+        registered = tt;
+        kept = λ fact h. h;
+        again = again;
+      }
+
+  -- one turn: the kit's set was polled, and then some room may be free
+  pub turned : (old mid new : Flights F T) → CanPollAll future old → CanPollRuns future mid.running
+      → ((came : Key × Option A) → AnyRunGives future mid.running came → AnyRunGives future old.running came)
+      → mid.slots ≡ old.slots → mid.next ≡ old.next → mid.waiting ≡ old.waiting → mid.cancelled ≡ old.cancelled
+      → new.running ≡ mid.running → new.slots ≡ mid.slots → new.next ≡ mid.next → new.waiting ≡ mid.waiting → new.cancelled ≤ mid.cancelled
+      → Starts future old new
+  turned old mid new can each narrows slots next waiting cancelled running slots2 next2 waiting2 room =
+      let less = less_after old new (λ came h. narrows came (subst (λ runs. AnyRunGives future runs came) running h)) (waiting2 ∙ waiting) in
+      record {
+        slots = slots2 ∙ slots;
+        keys = next2 ∙ next;
+        room = omega (arith, room, cancelled);
+        less = less;
+        again = can_after old new can (subst (λ runs. CanPollRuns future runs) (sym running) each) (waiting2 ∙ waiting) (next2 ∙ next) less;
+      }
+
+  -- the kit's set is pending
+  pub waited : (old new : Flights F T) (cx asked left : Context) → Starts future old new → 0 < held_count old.slots
+      → Covers asked (FlightsWaitAt new) → Keeps cx asked → Keeps asked left → new.waiting ≡ old.waiting → ((old.waiting ≡ []) ⊎ IsWoken cx)
+      → (HasEach new ⊎ IsWoken left) → ((new.cancelled ≡ 0) ⊎ IsWoken left) → PollsInFlight future old Pending new cx left
+  waited old new cx asked left s some registered kept keeps waiting started stays ended =
+      record {
+        gave = (some, s.slots);
+        narrows = s.less;
+        keys = s.keys;
+        room = s.room;
+        stays = stays;
+        ended = ended;
+        started = started_still old.waiting new.waiting cx left waiting (λ fact h. keeps fact (kept fact h)) started;
+        registered = (keeps Lasting.armed registered.0, λ source at. keeps (Lasting.hears source) (registered.1 source at));
+        kept = λ fact h. keeps fact (kept fact h);
+        again = s.again;
+      }
+
+  -- an output of a future that is held
+  pub came_out : (old mid new : Flights F T) (came : Came A T) (cx left : Context) → CanPollAll future old → CanPollRuns future mid.running
+      → ((came : Key × Option A) → AnyRunGives future mid.running came → AnyRunGives future old.running came)
+      → mid.slots ≡ old.slots → mid.next ≡ old.next → mid.waiting ≡ old.waiting → mid.cancelled ≡ old.cancelled
+      → AnyRunGives future old.running (came.key, Some came.output)
+      → IsHeld mid came.key came.tag
+      → new.slots ≡ with_slot_freed mid.slots came.key.slot → held_count new.slots + 1 ≡ held_count mid.slots
+      → new.running ≡ mid.running → new.next ≡ mid.next → new.waiting ≡ mid.waiting → new.cancelled ≡ mid.cancelled
+      → ((old.waiting ≡ []) ⊎ IsWoken cx)
+      → Keeps cx left
+      → PollsInFlight future old (Ready (Some came)) new cx left
+  came_out old mid new came cx left can each narrows slots next waiting cancelled gave held freed fewer running next2 waiting2 room started kept =
+      let less = less_after old new (λ came h. narrows came (subst (λ runs. AnyRunGives future runs came) running h)) (waiting2 ∙ waiting) in
+      record {
+        gave = record {
+          was_held = subst (λ (s : Slots (Place T)). value_in s came.key.slot ≡ Some (record { tag = came.tag; push = came.key.push })) slots held;
+          gave = inl gave;
+          freed = subst (λ (s : Slots (Place T)). new.slots ≡ with_slot_freed s came.key.slot) slots freed;
+          fewer = subst (λ (s : Slots (Place T)). held_count new.slots + 1 ≡ held_count s) slots fewer;
+        };
+        narrows = less;
+        keys = next2 ∙ next;
+        room = omega (arith, room, cancelled);
+        stays = tt;
+        ended = tt;
+        started = started_still old.waiting new.waiting cx left (waiting2 ∙ waiting) kept started;
+        registered = tt;
+        kept = kept;
+        again = can_after old new can (subst (λ runs. CanPollRuns future runs) (sym running) each) (waiting2 ∙ waiting) (next2 ∙ next) less;
+      }

@@ -7,14 +7,15 @@ use Rattle.futures_buffered_in_flight.specs.InFlightOrdered.{CameInTurn, CanPoll
 use Rattle.futures_buffered_in_flight.specs.declared.in_flight.Came.{Came}
 use Rattle.futures_buffered_in_flight.proofs.InFlightOrderedLemmas.{answers_in_turn}
 
-module _ {F A : Type 0} (future : FutureOf F A) where
-  pub came_at_once : (old new : Flights F) (came : Option (Came A)) (cx left : Context) → PollsInFlight future old (Ready came) new cx left → CameInFlight future old came new
+module _ {F A T : Type 0} (future : FutureOf F A) where
+  pub came_at_once : (old new : Flights F T) (came : Option (Came A T)) (cx left : Context) → PollsInFlight future old (Ready came) new cx left → CameInFlight future old came new
   came_at_once old new came cx left p = grind arith
 
   -- what may come after a pending poll might come before
-  pub came_later : (old mid new : Flights F) (came : Option (Came A)) (cx left : Context) → PollsInFlight future old Pending mid cx left → CameInFlight future mid came new → CameInFlight future old came new
+  pub came_later : (old mid new : Flights F T) (came : Option (Came A T)) (cx left : Context) → PollsInFlight future old Pending mid cx left → CameInFlight future mid came new → CameInFlight future old came new
   came_later old mid new came cx left p c = grind arith
 
+module _ {F A : Type 0} (future : FutureOf F A) where
   pub came_in_turn_at_once : (old new : OrderedInFlight F A) (came : Option A) (cx left : Context) → CanPollOrdered future old → PollsInTurn future old (Ready came) new cx left → CameInTurn future old came new
   came_in_turn_at_once old new came cx left can poll =
       let stream = answers_in_turn future old new (Ready came) cx left poll in

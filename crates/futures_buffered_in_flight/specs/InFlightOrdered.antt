@@ -1,6 +1,6 @@
 -- What a contract sees of an ordered queue of futures in flight: the words on ordered queues at a queue in flight. A
 -- clause names the futures by the ghost members of their type: `F.Future`.
-use Rattle.std.specs.Prelude.{◌≡◌, ◌≢◌, ◌↔◌, ◌+◌, ◌<◌, ◌≤◌, ◌^◌, ℕ, [], Option, length, IfNone, IfSome, OnSome, Result}
+use Rattle.std.specs.Prelude.{◌≡◌, ◌⊎◌, ◌↔◌, ◌+◌, ◌<◌, ◌≤◌, ◌^◌, ℕ, [], Option, length, IfNone, IfSome, OnSome, Result}
 use Rattle.std.specs.Prelude.{IfErr, IsErr, List, OnOk, max}
 use Rattle.std.specs.List.{FoldsTo}
 use Rattle.futures.specs.Poll.{IfReady, OnPending}
@@ -13,40 +13,40 @@ use Rattle.futures_buffered_ordered.specs.OrderedEntries.{Ordered, AddsBack, Add
 use Rattle.futures_buffered_ordered.specs.OrderedEntries.{OrderedGives, PollsOrdered}
 use Rattle.futures_buffered_ordered.specs.OrderedEntriesInvariant.{IsNumbered, Numbering}
 use Rattle.futures_buffered_ordered.specs.declared.numbered_polls.NumberedPolls.{Ghosts as NumberedPollsOf}
-use Rattle.futures_buffered_in_flight.specs.InFlight.{FlightsWaitAt, FutureOf}
-use Rattle.futures_buffered_in_flight.specs.InFlightQueue.{Queued, CanPollQueue, IsNewQueued, SameRoom, NumberGives}
+use Rattle.futures_buffered_in_flight.specs.InFlight.{Flights, FlightsWaitAt, FutureOf, IsNewInFlight, flight_slots}
+use Rattle.futures_buffered_in_flight.specs.InFlightQueue.{CanPollQueue, SameRoom, NumberGives}
 use Rattle.futures_buffered_in_flight.specs.InFlightQueue.{OfSomeTask, PollsByNumber, QueuesNumber}
-use Rattle.futures_buffered_in_flight.specs.InFlightQueue.{queued_count, queued_room, queued_with}
+use Rattle.futures_buffered_in_flight.specs.InFlightQueue.{flight_count, flights_with}
 
 -- the futures in flight, each with a number; the entries from the front to the back, where one in progress has the
 -- number of its future; and how many there is a place for
 abbrev pub OrderedInFlight : Type 0 → Type 0 → Type 0
-OrderedInFlight F A = Ordered (Queued F) A
+OrderedInFlight F A = Ordered (Flights F ℕ) A
 
 -- as many are held as can be
 abbrev pub OrderedIsFull : {F A : Type 0} → OrderedInFlight F A → Type 0
-OrderedIsFull q = queued_room q.set ≤ length q.entries
+OrderedIsFull q = flight_slots q.set ≤ length q.entries
 
 -- how many can be held
 abbrev pub ordered_room : {F A : Type 0} → OrderedInFlight F A → ℕ
-ordered_room q = queued_room q.set
+ordered_room q = flight_slots q.set
 
 -- there is room for n, no future, and no entry
 abbrev pub IsNewInOrder : {F A : Type 0} → ℕ → OrderedInFlight F A → Type 0
-IsNewInOrder n = IsNewQueue (IsNewQueued n) n
+IsNewInOrder n = IsNewQueue (IsNewInFlight n) n
 
 -- the place at which a pending poll waits
 abbrev pub OrderedWaitsAt : {F A : Type 0} → OrderedInFlight F A → ℕ → Type 0
-OrderedWaitsAt q = FlightsWaitAt q.set.set
+OrderedWaitsAt q = FlightsWaitAt q.set
 
 -- How the queue keeps itself: the numbers are in order, it can hold one at least and holds no more than it can, and
 -- there is a place for an entry of each.
-pub record KeepsInOrder {F A : Type 0} (q : Numbering (Queued F) A) : Type 0 where
-  pub numbered : IsNumbered queued_with queued_count q
-  pub some : 0 < queued_room q.queue.set
-  pub bound : length q.queue.entries ≤ queued_room q.queue.set
-  pub fits : queued_room q.queue.set ≤ q.queue.room
-  pub small : queued_room q.queue.set < 2 ^ 62
+pub record KeepsInOrder {F A : Type 0} (q : Numbering (Flights F ℕ) A) : Type 0 where
+  pub numbered : IsNumbered flights_with flight_count q
+  pub some : 0 < flight_slots q.queue.set
+  pub bound : length q.queue.entries ≤ flight_slots q.queue.set
+  pub fits : flight_slots q.queue.set ≤ q.queue.room
+  pub small : flight_slots q.queue.set < 2 ^ 62
 
 -- an output of one more comes behind all that comes
 abbrev pub ComesLast : {A : Type 0} → (A → Type 0) → Runs A → Runs A
@@ -80,7 +80,7 @@ module _ {F A : Type 0} (future : FutureOf F A) where
     -- an output of the future may come there, and else what might come before
     pub comes : Within (with_one (future.gives pushed) (ComesOfEach old)) (ComesOfEach new)
     -- it can hold as many as before
-    pub same_room : queued_room new.set ≡ queued_room old.set
+    pub same_room : flight_slots new.set ≡ flight_slots old.set
     -- the queue may be polled
     pub again : CanPollOrdered new
 
@@ -117,11 +117,11 @@ module _ {F A : Type 0} (future : FutureOf F A) where
     pub again : CanPollOrdered new
 
   -- how the futures in flight are polled
-  abbrev pub flying_polls : NumberedPollsOf (Queued F) PollFuture A
+  abbrev pub flying_polls : NumberedPollsOf (Flights F ℕ) PollFuture A
   flying_polls = record {
     can_poll = CanPollQueue future;
     gives = PollsByNumber future;
-    needs = λ q. FlightsWaitAt q.set;
+    needs = FlightsWaitAt;
   }
 
   -- One poll, which took the queue from old to new and the task from cx to left.
@@ -133,9 +133,9 @@ module _ {F A : Type 0} (future : FutureOf F A) where
       : Type 0 where
     -- while the front is in progress the futures are polled, and each output is kept in the entry of its number; then
     -- comes the front's output, the end, or Pending
-    pub polls : PollsOrdered queued_count SameRoom flying_polls old answer new cx left
-    -- where futures of a pending queue wait for memory, the task was asked to poll again
-    pub woken : OnPending answer (new.set.waiting ≢ [] → IsWoken left)
+    pub polls : PollsOrdered flight_count SameRoom flying_polls old answer new cx left
+    -- no future of a pending queue waits for memory, or the task was asked to poll again
+    pub started : OnPending answer ((new.set.waiting ≡ []) ⊎ IsWoken left)
     -- the end comes only where nothing is held, and changes nothing; an output leaves one fewer
     pub empty : IfReady answer (λ o. IfNone o ((length old.entries ≡ 0) × (new ≡ old)))
     pub fewer : IfReady answer (λ o. OnSome o (length new.entries + 1 ≡ length old.entries))
@@ -143,12 +143,12 @@ module _ {F A : Type 0} (future : FutureOf F A) where
     pub same_count : OnPending answer (length new.entries ≡ length old.entries)
     -- it can hold as many as before, one at least, and holds no more than it can
     pub same_room : SameRoom old.set new.set
-    pub some : 0 < queued_room new.set
-    pub bound : length new.entries ≤ queued_room new.set
+    pub some : 0 < flight_slots new.set
+    pub bound : length new.entries ≤ flight_slots new.set
 
   -- the same, told of the queue alone
   abbrev pub GivesInTurn : OrderedInFlight F A → Poll (Option A) → OrderedInFlight F A → Type 0
-  GivesInTurn = OrderedGives (OfSomeTask (PollsByNumber future)) queued_count
+  GivesInTurn = OrderedGives (OfSomeTask (PollsByNumber future)) flight_count
 
   -- Polls until the output of the front came, or the end: the queue was new by then.
   pub record CameInTurn (old : OrderedInFlight F A) (came : Option A) (new : OrderedInFlight F A)
@@ -161,6 +161,6 @@ module _ {F A : Type 0} (future : FutureOf F A) where
     pub empty : IfNone came ((length old.entries ≡ 0) × (new ≡ old))
     pub fewer : OnSome came (length new.entries + 1 ≡ length old.entries)
     -- it can hold as many as before
-    pub same_room : queued_room new.set ≡ queued_room old.set
+    pub same_room : flight_slots new.set ≡ flight_slots old.set
     -- the queue may be polled
     pub again : CanPollOrdered new

@@ -1,3 +1,4 @@
 pub mod InFlight
+pub mod InFlightTurns
 pub mod InFlightQueue
 pub mod InFlightOrdered

@@ -12,7 +12,7 @@ use crate::in_flight::FuturesUnorderedBounded;
 use crate::in_flight_ordered::FuturesOrderedBounded;
 use futures::Future;
 use futures_buffered_core::ready_core::{MAX_CAPACITY, NewFault};
-use std::alloc::{AllocError, Global};
+use std::alloc::Global;
 
 // What an iterator gives, at most as many as there may be slots.
 fn draw<F: Drop, I: IntoIterator<Item = F>>(alloc: Global, iter: I) -> Result<Vec<F>, NewFault>
@@ -35,22 +35,20 @@ fn draw<F: Drop, I: IntoIterator<Item = F>>(alloc: Global, iter: I) -> Result<Ve
 }
 
 // Has a new set take these futures, each in the slot of its place.
-#[tactic(auto, using(crate::proofs::FromIterLemmas::pushed_none, crate::proofs::FromIterLemmas::pushed_all))]
-fn push_all<F>(set: &mut FuturesUnorderedBounded<F>, futures: Vec<F>) -> Result<(), AllocError>
+#[tactic(auto, using(crate::proofs::FromIterLemmas::pushed_none, crate::proofs::FromIterLemmas::pushed_all, crate::proofs::FromIterLemmas::pushed_room))]
+fn push_all<F>(set: &mut FuturesUnorderedBounded<F>, futures: Vec<F>)
 where
     F: Future<Output: Drop>,
     requires new { IsNewInFlight (vec_len futures) set.old }
     requires held { CanPollAll F.Future set.old }
     requires fit { All F.can_poll futures.items }
-    ensures holds { OnOk result (FliesInOrder F.Future futures.items set.new) }
-    ensures again { OnOk result (CanPollAll F.Future set.new) }
+    ensures holds { FliesInOrder F.Future futures.items set.new }
+    ensures none_cancelled { set.new.cancelled ≡ 0 }
+    ensures again { CanPollAll F.Future set.new }
 {
     'futures: for future in futures {
-        let Ok(_key) = set.try_push(future) else {
-            return Err(AllocError);
-        };
+        set.push_any(future, ());
     }
-    Ok(())
 }
 
 // Has a new queue take these futures, each behind those before it.
@@ -86,7 +84,7 @@ impl<F: Future<Output: Drop>> FuturesUnorderedBounded<F> {
     {
         let futures = draw(alloc, iter)?;
         let mut set = FuturesUnorderedBounded::new(alloc, futures.len())?;
-        push_all(&mut set, futures)?;
+        push_all(&mut set, futures);
         Ok(set)
     }
 }

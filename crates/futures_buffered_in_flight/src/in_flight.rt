@@ -1,78 +1,94 @@
-//! At most n futures of the kit, told apart by their keys.
+//! At most n futures of the kit, each with a tag of the caller's, each of which can be cancelled by its key.
 //!
 //! The set owns the kit's `FuturesUnordered`, which polls those that were woken, beside the slots.
-ghost use Rattle.std.specs.Prelude.{◌≡◌, ◌+◌, ◌↔◌, ◌⊎◌, IfOk, IfErr, OnErr, OnOk, IfSome, IfNone, IsTrue, None};
+ghost use Rattle.std.specs.Prelude.{◌≡◌, ◌+◌, ◌≤◌, ◌↔◌, ◌⊎◌, ◌<◌, [], IfOk, IfErr, OnErr, OnOk, IfSome, IfNone, IsSome};
+ghost use Rattle.std.specs.Prelude.{IsTrue, None, length};
 ghost use Rattle.futures.specs.Poll.{IfReady, OnPending};
+ghost use Rattle.futures.specs.Queued.{GivesNoMore};
 ghost use Rattle.futures.specs.Task.{Covers, Keeps};
-ghost use Rattle.futures.specs.Queued.{AllPollable, AnyGives, GivesNoMore};
 ghost use Rattle.futures_buffered_core.specs.Drawn.{IsFiniteSource, items_of};
 ghost use Rattle.futures_buffered_core.specs.Made.{MakesSlots};
-ghost use Rattle.futures_buffered_core.specs.SlotMap.{held_count, slot_count, value_in, no_slots, with_slot_freed};
+ghost use Rattle.futures_buffered_core.specs.SlotMap.{held_count, no_slots, slot_count, with_slot_freed};
 ghost use Rattle.futures_buffered_unordered.specs.Extended.{EachDrawn, Extends};
-ghost use Rattle.futures_buffered_in_flight.specs.InFlight.{CanPollAll, Cancels, EndsOneAtMost, GivesWithKey};
-ghost use Rattle.futures_buffered_in_flight.specs.InFlight.{HasNoRoom, IsNewInFlight, PollsInFlight, WentIn};
-ghost use Rattle.futures_buffered_in_flight.specs.InFlight.{PushesInFlight, CameBack, FlightsWaitAt, run_count};
-ghost use Rattle.futures_buffered_in_flight.specs.InFlight.{runs_in};
+ghost use Rattle.futures_buffered_unordered.specs.FuturesUnorderedBounded.{IsWoken};
+ghost use Rattle.futures_buffered_in_flight.specs.InFlight.{AnyRunGives, CanPollAll, CanPollRuns, CanPollWaiting};
+ghost use Rattle.futures_buffered_in_flight.specs.InFlight.{CancelsOrNone, EntersAt, FlightsGiveNoMore, FlightsWaitAt};
+ghost use Rattle.futures_buffered_in_flight.specs.InFlight.{GivesWithKey, HasEach, HasNoRoom, IsHeld, IsNewInFlight};
+ghost use Rattle.futures_buffered_in_flight.specs.InFlight.{PollsInFlight, PushesInFlight, RefusesInFlight, WentIn};
+ghost use Rattle.futures_buffered_in_flight.specs.InFlight.{room_taken, run_count, runs_in, flight_slots};
+ghost use Rattle.futures_buffered_in_flight.specs.InFlightTurns.{Flies, Starts, TurnsOn};
 
-use crate::run::{Key, Run, Stop};
-use futures::channel::oneshot::{Sender, channel};
+use crate::bells::Bells;
+use crate::run::{Key, Run, Waits};
 use futures::stream::FuturesUnordered;
 use futures::task::{Context, Poll};
 use futures::{Future, Stream};
 use futures_buffered_core::ready_core::NewFault;
 use futures_buffered_core::slot_map::PinSlotMap;
 use std::alloc::Global;
+use std::collections::VecDeque;
 use std::marker::Model;
+use std::sync::Arc;
 
 /// What a slot knows of its future: the tag that the caller gave, and the number of its push.
-#[derive(Clone, Copy)]
-pub struct Place {
-    pub tag: usize,
+#[derive(Drop)]
+pub struct Place<T> {
+    pub tag: T,
     pub push: u64,
 }
 
 /// An output, with the key of its future and the tag that it was pushed under.
 #[derive(Drop)]
-pub struct Came<A> {
+pub struct Came<A, T = ()> {
     pub key: Key,
-    pub tag: usize,
+    pub tag: T,
     pub output: A,
 }
 
-/// Futures of the kit, as many at a time as there are slots.
+/// Futures of the kit, as many at a time as there are slots, each of which can be cancelled by its key.
 ///
-/// A contract sees what each slot holds, and the kit's set of the futures. A future that was cancelled leaves its slot
-/// at once. Where it has not ended yet it takes up room until it has. Calls that ask how much is held take the same
-/// time at any capacity.
+/// A push never fails for want of memory. A future for which an allocation fails waits in a place that was made with the
+/// set, until a poll finds memory for it. Nothing is written to these places otherwise. A future that was cancelled takes
+/// up room until a poll drops it. Calls that only read take the same time at any capacity.
 #[derive(Drop)]
-pub struct FuturesUnorderedBounded<F> {
-    slots: PinSlotMap<Place>,
-    // None before the first push and after `clear`, which so needs no memory.
+pub struct FuturesUnorderedBounded<F, T = ()> {
+    slots: PinSlotMap<Place<T>>,
+    // None before the first push and after `clear`.
     running: Option<FuturesUnordered<Run<F>>>,
+    waiting: VecDeque<Waits<F>>,
     cancelled: usize,
     next: u64,
-    // For each slot what ends its future, if it was pushed so. Empty before the first such push.
-    handles: Vec<Option<Sender<()>>>,
+    bells: Arc<Bells>,
     alloc: Global,
 }
 
-impl<F> Model for FuturesUnorderedBounded<F> {
+impl<F, T> Model for FuturesUnorderedBounded<F, T> {
+    ghost use Rattle.std.specs.Prelude.{◌≤◌, ◌+◌, length};
+    ghost use Rattle.std.specs.VecDeque.{deque_capacity};
+    ghost use Rattle.futures_buffered_core.specs.SlotMap.{held_count, slot_count};
     ghost use Rattle.futures_buffered_in_flight.specs.InFlight.{Flights};
 
-    ghost Value = { Flights F };
+    ghost Value = { Flights F T };
 
     ghost view = { λ s. record {
       slots = s.slots;
       running = s.running;
+      waiting = s.waiting.items;
       cancelled = s.cancelled;
       next = s.next;
     } };
+
+    // No more take up room than there are slots, each one that waits does, and there is a place for each to wait.
+    ghost invariant = { λ s. (slot_count s.slots ≤ deque_capacity s.waiting)
+        × (length s.waiting.items ≤ held_count s.slots + s.cancelled)
+        × (held_count s.slots + s.cancelled ≤ slot_count s.slots) };
 }
 
-impl<F: Drop> FuturesUnorderedBounded<F> {
+impl<F: Drop, T: Drop> FuturesUnorderedBounded<F, T> {
     /// The number of futures held, without those that were cancelled.
     pub fn len(&self) -> usize
-        ensures { result ≡ held_count self.now.slots }
+        ensures value { result ≡ held_count self.now.slots }
+        ensures bound { room_taken self.now ≤ flight_slots self.now }
     {
         self.slots.len()
     }
@@ -86,79 +102,94 @@ impl<F: Drop> FuturesUnorderedBounded<F> {
 
     /// The number of slots, which never changes.
     pub fn capacity(&self) -> usize
-        ensures { result ≡ slot_count self.now.slots }
+        ensures { result ≡ flight_slots self.now }
     {
         self.slots.capacity()
     }
 
-    /// Whether each push is refused: the futures held, with those that were cancelled and have not ended, are as many
-    /// as the slots.
+    /// Whether each push is refused: the futures held, and those that were cancelled and not dropped yet, are as many as
+    /// the slots. After 2^64 - 1 pushes it is so for good.
     pub fn is_full(&self) -> bool
         ensures { IsTrue result ↔ HasNoRoom self.now }
     {
-        self.slots.capacity() - self.slots.len() <= self.cancelled
+        self.slots.capacity() <= self.slots.len() + self.cancelled || self.next == u64::MAX
+    }
+
+    /// Whether the future of this key is held: no output of it came, and it was not cancelled.
+    pub fn contains(&self, key: Key) -> bool
+        ensures held { IsTrue result → (tag : T) × IsHeld self.now key tag }
+        ensures none { (tag : T) → IsHeld self.now key tag → IsTrue result }
+    {
+        match self.slots.value(key.slot) {
+            Some(place) => place.push == key.push,
+            None => false,
+        }
+    }
+
+    // Frees the slot of this key, if its future is held, and returns the tag. The future takes up room as before.
+    fn take_place(&mut self, key: Key) -> Option<T>
+        ensures none { IfNone result ((self.new ≡ self.old) × ((tag : T) → IsHeld self.old key tag → ⊥)) }
+        ensures some { IfSome result (λ tag. IsHeld self.old key tag
+            × (self.new.slots ≡ with_slot_freed self.old.slots key.slot)
+            × (held_count self.new.slots + 1 ≡ held_count self.old.slots)
+            × (self.new.cancelled ≡ self.old.cancelled + 1)) }
+        ensures rest { (self.new.running ≡ self.old.running) × (self.new.waiting ≡ self.old.waiting) }
+        ensures keys { self.new.next ≡ self.old.next }
+    {
+        if !self.contains(key) {
+            return None;
+        }
+        let Some(place) = self.slots.take(key.slot) else {
+            unreachable!()
+        };
+        self.cancelled += 1;
+        Some(place.tag)
+    }
+
+    // A future that took up room is gone.
+    fn end_cancelled(&mut self)
+        requires { length self.old.waiting + 1 ≤ room_taken self.old }
+        ensures rest { (self.new.slots ≡ self.old.slots) × (self.new.next ≡ self.old.next)
+            × (self.new.waiting ≡ self.old.waiting) × (self.new.running ≡ self.old.running) }
+        ensures room { (self.new.cancelled ≡ self.old.cancelled) ⊎ (self.new.cancelled + 1 ≡ self.old.cancelled) }
+        ensures some { 0 < self.old.cancelled → self.new.cancelled + 1 ≡ self.old.cancelled }
+    {
+        if self.cancelled > 0 {
+            self.cancelled -= 1;
+        }
+    }
+
+    // How many of those that take up room do not wait.
+    fn flying(&self) -> usize
+        ensures { result + length self.now.waiting ≡ room_taken self.now }
+    {
+        self.slots.len() + self.cancelled - self.waiting.len()
+    }
+
+    // How many are in the kit's set.
+    fn running_len(&self) -> usize
+        ensures { result ≡ run_count self.now.running }
+    {
+        match &self.running {
+            Some(running) => running.len(),
+            None => 0,
+        }
     }
 
     // Drops each future, and leaves the slots as they are.
-    fn drop_runs(&mut self)
-        ensures none { (self.new.running ≡ None) × (self.new.cancelled ≡ 0) }
-        ensures slots { (self.new.slots ≡ self.old.slots) × (self.new.next ≡ self.old.next) }
+    fn drop_all(&mut self)
+        requires { held_count self.old.slots ≡ 0 }
+        ensures none { (self.new.running ≡ None) × (self.new.waiting ≡ []) × (self.new.cancelled ≡ 0) }
+        ensures rest { (self.new.slots ≡ self.old.slots) × (self.new.next ≡ self.old.next) }
     {
         self.running = None;
+        self.waiting.clear();
         self.cancelled = 0;
-        self.handles.clear();
-    }
-
-    // What ends the future of a slot, if it was pushed so.
-    fn take_handle(&mut self, slot: usize) -> Option<Sender<()>>
-        ensures { self.new ≡ self.old }
-    {
-        self.handles.get_mut(slot)?.take()
-    }
-
-    // Makes a place for the handle of each slot. False where memory was refused.
-    fn make_handles(&mut self) -> bool
-        ensures { self.new ≡ self.old }
-    {
-        if !self.handles.is_empty() {
-            return true;
-        }
-        let Ok(handles) = (0..self.slots.capacity()).map(|_| None).collect(self.alloc) else {
-            return false;
-        };
-        self.handles = handles;
-        true
-    }
-
-    // Keeps what ends the future of a slot.
-    fn keep_handle(&mut self, slot: usize, handle: Sender<()>)
-        ensures { self.new ≡ self.old }
-    {
-        if let Some(place) = self.handles.get_mut(slot) {
-            *place = Some(handle);
-        }
-    }
-
-    // Frees the slot of this key, if it is held by it, and answers its tag.
-    fn take_place(&mut self, key: Key) -> Option<usize>
-        ensures none { IfNone result (self.new ≡ self.old) }
-        ensures some { IfSome result (λ tag.
-            (value_in self.old.slots key.slot ≡ Some (record { tag = tag; push = key.push }))
-            × (self.new.slots ≡ with_slot_freed self.old.slots key.slot)
-            × (held_count self.new.slots + 1 ≡ held_count self.old.slots)) }
-        ensures rest { (self.new.running ≡ self.old.running) × (self.new.next ≡ self.old.next) }
-        ensures room { self.new.cancelled ≡ self.old.cancelled }
-    {
-        let place = *self.slots.get(key.slot)?;
-        if place.push != key.push {
-            return None;
-        }
-        self.slots.remove(key.slot);
-        Some(place.tag)
+        self.bells.let_all_go();
     }
 }
 
-impl<F: Future<Output: Drop>> FuturesUnorderedBounded<F> {
+impl<F: Future<Output: Drop>, T: Drop> FuturesUnorderedBounded<F, T> {
     /// A set of `n` free slots.
     ///
     /// Takes time and memory in proportion to `n`.
@@ -168,132 +199,360 @@ impl<F: Future<Output: Drop>> FuturesUnorderedBounded<F> {
         ensures can_poll { IfOk result (CanPollAll F.Future) }
     {
         let slots = PinSlotMap::new(alloc, n)?;
+        let waiting = VecDeque::with_capacity(alloc, n)?;
+        let bells = Bells::new(alloc, n)?;
         Ok(FuturesUnorderedBounded {
             slots,
             running: None,
+            waiting,
             cancelled: 0,
             next: 0,
-            handles: Vec::new(alloc),
+            bells,
             alloc,
         })
     }
 
-    /// Drops each future, in this call. Takes no memory, and time in proportion to the capacity, besides the drops.
+    /// Drops each future, in this call. Does not allocate, and takes time in proportion to the capacity, besides the
+    /// drops. The task that polled the set is woken.
     #[tactic(auto, using(crate::proofs::InFlightLemmas::none_can_poll))]
     pub fn clear(&mut self)
         ensures slots { self.new.slots ≡ no_slots (slot_count self.old.slots) }
-        ensures none { (self.new.running ≡ None) × (self.new.cancelled ≡ 0) }
+        ensures none { (self.new.running ≡ None) × (self.new.waiting ≡ []) × (self.new.cancelled ≡ 0) }
         ensures keys { self.new.next ≡ self.old.next }
         ensures can_poll { CanPollAll F.Future self.new }
     {
+        self.waiting.clear();
         self.slots.clear();
-        self.drop_runs();
+        self.drop_all();
     }
 
-    // Makes the kit's set where there is none, and has it take the future. It comes back where memory lacks.
+    // Makes the kit's set, if there is none. Whether there is one.
+    fn make_running(&mut self) -> bool
+        ensures runs { (runs_in self.new.running ≡ runs_in self.old.running)
+            × (run_count self.new.running ≡ run_count self.old.running) }
+        ensures some { IsTrue result → IsSome self.new.running }
+        ensures slots { (self.new.slots ≡ self.old.slots) × (self.new.next ≡ self.old.next) }
+        ensures room { (self.new.cancelled ≡ self.old.cancelled) × (self.new.waiting ≡ self.old.waiting) }
+    {
+        if self.running.is_some() {
+            return true;
+        }
+        let Ok(running) = FuturesUnordered::new(self.alloc) else {
+            return false;
+        };
+        self.running = Some(running);
+        true
+    }
+
+    // Hands the future to the kit's set. It comes back if memory is refused.
     #[tactic(auto, using(crate::proofs::InFlightLemmas::none_pollable))]
-    fn start(&mut self, run: Run<F>) -> Result<(), Run<F>>
-        requires held { AllPollable (λ run. F.can_poll run.future) (runs_in self.old.running) }
-        requires new { F.can_poll run.future }
-        ensures pollable { AllPollable (λ run. F.can_poll run.future) (runs_in self.new.running) }
-        ensures gives { (came : _)
-            → AnyGives (GivesWithKey F.gives) (runs_in self.new.running) came
-            → AnyGives (GivesWithKey F.gives) (runs_in self.old.running) came
-            ⊎ GivesWithKey F.gives run came }
-        ensures refused { OnErr result (GivesNoMore (GivesWithKey F.gives)
-            (runs_in self.old.running) (runs_in self.new.running)) }
+    fn hand_over(&mut self, value: Waits<F>) -> Result<(), Waits<F>>
+        requires held { CanPollRuns F.Future self.old.running }
+        requires new { F.can_poll value.future }
+        ensures pollable { CanPollRuns F.Future self.new.running }
+        ensures gives { (came : _) → AnyRunGives F.Future self.new.running came
+            → AnyRunGives F.Future self.old.running came
+            ⊎ ((came.0 ≡ value.key) × IfSome came.1 (F.gives value.future)) }
+        ensures refused { OnErr result ((came : _) → AnyRunGives F.Future self.new.running came
+            → AnyRunGives F.Future self.old.running came) }
         ensures one_more { OnOk result
             (run_count self.new.running ≡ run_count self.old.running + 1) }
-        ensures back { IfErr result (λ back. back ≡ run) }
+        ensures no_more { OnErr result (run_count self.new.running ≡ run_count self.old.running) }
+        ensures back { IfErr result (λ back. back ≡ value) }
         ensures slots { (self.new.slots ≡ self.old.slots) × (self.new.next ≡ self.old.next) }
-        ensures room { self.new.cancelled ≡ self.old.cancelled }
+        ensures room { (self.new.cancelled ≡ self.old.cancelled) × (self.new.waiting ≡ self.old.waiting) }
     {
-        if self.running.is_none() {
-            match FuturesUnordered::new(self.alloc) {
-                Ok(running) => self.running = Some(running),
-                Err(_) => return Err(run),
-            }
+        if !self.make_running() {
+            return Err(value);
         }
+        let Ok(bells) = Arc::try_clone(&self.bells) else {
+            return Err(value);
+        };
         let Some(running) = &mut self.running else {
             unreachable!()
         };
-        match running.push(run) {
-            Ok(()) => Ok(()),
-            Err(failed) => Err(failed.value),
+        let Waits { key, future } = value;
+        let Err(failed) = running.push(Run { key, bells, future }) else {
+            return Ok(());
+        };
+        Err(Waits {
+            key,
+            future: failed.value.future,
+        })
+    }
+
+    // The future goes to the kit's set, or waits. Under the last number it waits for good.
+    #[tactic(auto, using(crate::proofs::InFlightLemmas::flies, crate::proofs::InFlightLemmas::left_waiting, crate::proofs::InFlightLemmas::waits_for_good))]
+    fn start(&mut self, value: Waits<F>)
+        requires held { CanPollRuns F.Future self.old.running }
+        requires waits { CanPollWaiting F.Future self.old.waiting }
+        requires new { F.can_poll value.future }
+        requires room { length self.old.waiting + 1 ≤ room_taken self.old }
+        ensures { Flies F.Future self.old value self.new }
+    {
+        if value.key.push == u64::MAX {
+            self.waiting.push_back_reserved(value);
+            return;
+        }
+        if let Err(value) = self.hand_over(value) {
+            self.waiting.push_back_reserved(value);
         }
     }
 
-    // Adds the future under a tag, with what stops it, if anything does.
-    #[tactic(auto, using(crate::proofs::InFlightLemmas::removed_again))]
-    fn put(&mut self, future: F, tag: usize, stop: Option<Stop>) -> Result<Key, F>
+    // Wakes a task whose poll was pending, if some wait for memory.
+    fn call_back(&self) {
+        if !self.waiting.is_empty() {
+            self.bells.wake_any();
+        }
+    }
+
+    /// As `push_tagged`, while fewer take up room than there are slots. After 2^64 - 1 pushes the future is held,
+    /// and is never polled.
+    #[tactic(auto, using(crate::proofs::InFlightLemmas::entered))]
+    pub fn push_any(&mut self, future: F, tag: T) -> Key
+        requires room { room_taken self.old < flight_slots self.old }
         requires held { CanPollAll F.Future self.old }
-        requires new { F.can_poll future }
-        ensures { PushesInFlight F.Future self.old future tag result self.new }
+        requires fit { F.can_poll future }
+        ensures { EntersAt F.Future self.old future tag result self.new }
     {
         let push = self.next;
-        let Some(next) = push.checked_add(1) else {
-            return Err(future);
+        let Ok(slot) = self.slots.insert_with(Place { tag, push }, |place| place) else {
+            unreachable!()
         };
+        let key = Key { push, slot };
+        self.next = push.saturating_add(1);
+        self.start(Waits { key, future });
+        self.call_back();
+        key
+    }
+
+    /// Adds the future under a tag of the caller's, so that a later poll polls it, and returns its key. Tags need not
+    /// differ.
+    ///
+    /// Allocates what the kit's set does for a future, and does without if that fails. Takes the same time at any
+    /// capacity, unless memory is refused. A task whose poll was pending is woken.
+    pub fn push_tagged(&mut self, future: F, tag: T) -> Key
+        requires room { HasNoRoom self.old → ⊥ }
+        requires held { CanPollAll F.Future self.old }
+        requires fit { F.can_poll future }
+        ensures { EntersAt F.Future self.old future tag result self.new }
+    {
+        self.push_any(future, tag)
+    }
+
+    /// As `push_tagged`, if there is room. Else the future and the tag come back, and the set is as it was.
+    pub fn try_push_tagged(&mut self, future: F, tag: T) -> Result<Key, (F, T)>
+        requires held { CanPollAll F.Future self.old }
+        requires fit { F.can_poll future }
+        ensures { PushesInFlight F.Future self.old future tag (future, tag) result self.new }
+    {
+        if self.is_full() {
+            return Err((future, tag));
+        }
+        Ok(self.push_any(future, tag))
+    }
+
+    /// Cancels the future of this key, so that no output of it comes, and returns its tag. `None` if no future that is
+    /// held has this key: its output came, or it was cancelled.
+    ///
+    /// Its slot is free at once. The next poll that is pending or gives the end drops it; it takes up room until then.
+    /// Takes the same time at any capacity, and wakes the task that polled its future last.
+    pub fn cancel(&mut self, key: Key) -> Option<T>
+        requires { CanPollAll F.Future self.old }
+        ensures cancels { CancelsOrNone F.Future self.old key result self.new }
+        ensures again { CanPollAll F.Future self.new }
+    {
+        let tag = self.take_place(key)?;
+        self.bells.ring(key);
+        Some(tag)
+    }
+
+    // Whether the future of this key was cancelled.
+    fn is_over(&self, key: Key) -> bool
+        ensures { IsTrue result → 0 < self.now.cancelled }
+    {
+        self.cancelled > 0 && !self.contains(key)
+    }
+
+    // The one that waited longest is dropped if it was cancelled. Else it goes to the kit's set, or waits again.
+    #[tactic(auto, using(crate::proofs::InFlightLemmas::dropped, crate::proofs::InFlightLemmas::started))]
+    fn start_one(&mut self)
+        requires { CanPollAll F.Future self.old }
+        ensures { Starts F.Future self.old self.new }
+    {
+        let Some(value) = self.waiting.pop_front() else {
+            return;
+        };
+        if self.is_over(value.key) {
+            self.cancelled -= 1;
+            return;
+        }
+        self.start(value);
+    }
+
+    // Each that waits, in turn.
+    #[tactic(auto, using(crate::proofs::InFlightLemmas::starts_none, crate::proofs::InFlightLemmas::starts_on))]
+    fn start_all(&mut self)
+        requires { CanPollAll F.Future self.old }
+        ensures { Starts F.Future self.old self.new }
+    {
+        'starts: for _start in 0..self.waiting.len() {
+            self.start_one();
+        }
+    }
+
+    // The task polls again if some wait for memory.
+    fn ask_again(&self, cx: &mut Context<'_>)
+        ensures started { (self.now.waiting ≡ []) ⊎ IsWoken cx.new }
+        ensures kept { Keeps cx.old cx.new }
+    {
+        if !self.waiting.is_empty() {
+            let _: Poll<()> = cx.yield_now();
+        }
+    }
+
+    // One poll of the kit's set. If that is pending, some are left there.
+    #[tactic(auto, using(crate::proofs::InFlightLemmas::narrows_after, crate::proofs::InFlightLemmas::narrows_within))]
+    fn poll_running(&mut self, cx: &mut Context<'_>) -> Poll<Option<(Key, Option<F::Output>)>>
+        requires { CanPollRuns F.Future self.old.running }
+        ensures pollable { CanPollRuns F.Future self.new.running }
+        ensures gave { IfReady result (λ o. IfSome o (AnyRunGives F.Future self.old.running)) }
+        ensures gives { GivesNoMore (GivesWithKey F.gives)
+            (runs_in self.old.running) (runs_in self.new.running) }
+        ensures rest { (self.new.slots ≡ self.old.slots) × (self.new.next ≡ self.old.next)
+            × (self.new.waiting ≡ self.old.waiting) × (self.new.cancelled ≡ self.old.cancelled) }
+        ensures left { OnPending result (0 < run_count self.new.running) }
+        ensures registered { OnPending result (Covers cx.new (FlightsWaitAt self.new)) }
+        ensures kept { Keeps cx.old cx.new }
+    {
+        let Some(running) = &mut self.running else {
+            return Poll::Ready(None);
+        };
+        if running.is_empty() {
+            return Poll::Ready(None);
+        }
+        match running.poll_next(cx) {
+            Poll::Pending => Poll::Pending,
+            Poll::Ready(Some(came)) => Poll::Ready(Some(came)),
+            Poll::Ready(None) => {
+                self.running = None;
+                self.bells.let_all_go();
+                Poll::Ready(None)
+            }
+        }
+    }
+
+    // The kit's set is pending. The task polls again if one that was cancelled is left there, or if not each is there: no
+    // clause of the kit says that it is.
+    fn stay(&self, cx: &mut Context<'_>)
+        ensures stays { HasEach self.now ⊎ IsWoken cx.new }
+        ensures ended { (self.now.cancelled ≡ 0) ⊎ IsWoken cx.new }
+        ensures kept { Keeps cx.old cx.new }
+    {
+        if self.cancelled > 0 || self.running_len() != self.flying() {
+            let _: Poll<()> = cx.yield_now();
+        }
+    }
+
+    // Drops what is left, if nothing is held.
+    #[tactic(auto, using(crate::proofs::InFlightLemmas::none_can_poll))]
+    fn end(&mut self)
+        requires held { CanPollAll F.Future self.old }
+        requires none { held_count self.old.slots ≡ 0 }
+        ensures none { (self.new.cancelled ≡ 0) × (self.new.waiting ≡ []) }
+        ensures rest { (self.new.slots ≡ self.old.slots) × (self.new.next ≡ self.old.next) }
+        ensures same { self.old.cancelled ≡ 0 → self.new ≡ self.old }
+        ensures less { FlightsGiveNoMore F.Future self.old self.new }
+        ensures again { CanPollAll F.Future self.new }
+    {
+        if self.cancelled > 0 {
+            self.drop_all();
+        }
+    }
+
+    // One turn of a poll: what the kit's set gives, or nothing if that was of a future that was cancelled.
+    #[tactic(auto, using(crate::proofs::InFlightLemmas::turned, crate::proofs::InFlightLemmas::waited, crate::proofs::InFlightLemmas::came_out, crate::proofs::InFlightLemmas::starts_none, crate::proofs::InFlightLemmas::pended))]
+    fn turn(&mut self, cx: &mut Context<'_>) -> Option<Poll<Option<Came<F::Output, T>>>>
+        requires held { CanPollAll F.Future self.old }
+        requires some { 0 < held_count self.old.slots }
+        requires started { (self.old.waiting ≡ []) ⊎ IsWoken cx.old }
+        ensures came { IfSome result (λ answer. PollsInFlight F.Future self.old answer self.new cx.old cx.new) }
+        ensures none { IfNone result (TurnsOn F.Future self.old self.new cx.old cx.new) }
+    {
+        if self.flying() == 0 {
+            return Some(cx.yield_now());
+        }
+        match self.poll_running(cx) {
+            Poll::Pending => {
+                self.stay(cx);
+                Some(Poll::Pending)
+            }
+            // The kit's set has one, so this arm is not taken. No clause of the kit says so.
+            Poll::Ready(None) => Some(cx.yield_now()),
+            Poll::Ready(Some((key, Some(output)))) => match self.take_place(key) {
+                Some(tag) => {
+                    self.end_cancelled();
+                    Some(Poll::Ready(Some(Came { key, tag, output })))
+                }
+                None => {
+                    self.end_cancelled();
+                    None
+                }
+            },
+            Poll::Ready(Some((_, None))) => {
+                self.end_cancelled();
+                None
+            }
+        }
+    }
+
+    /// One poll: an output with the key and the tag of its future, or the end, exactly if nothing is held.
+    ///
+    /// A future that waits for memory is started first. A pending poll, and the end, drop those that were cancelled. It
+    /// polls the futures that were pushed or woken since they were polled, at most 128 for each that had been cancelled
+    /// and 128 more. Does not allocate but what the futures do, what the kit's set does for one that waits, and at its
+    /// first poll of a task.
+    #[tactic(auto, using(crate::proofs::InFlightLemmas::polls_from, crate::proofs::InFlightLemmas::pended, crate::proofs::InFlightLemmas::ends, crate::proofs::InFlightLemmas::starts_on))]
+    pub fn poll_next_keyed(&mut self, cx: &mut Context<'_>) -> Poll<Option<Came<F::Output, T>>>
+        requires { CanPollAll F.Future self.old }
+        ensures { PollsInFlight F.Future self.old result self.new cx.old cx.new }
+    {
+        if self.slots.is_empty() {
+            self.end();
+            return Poll::Ready(None);
+        }
+        self.start_all();
+        self.ask_again(cx);
+        'turns: for _turn in 0..=self.cancelled {
+            if let Some(answer) = self.turn(cx) {
+                return answer;
+            }
+        }
+        cx.yield_now()
+    }
+}
+
+impl<F: Future<Output: Drop>> FuturesUnorderedBounded<F> {
+    /// As `push_tagged`, without a tag.
+    pub fn push(&mut self, future: F) -> Key
+        requires room { HasNoRoom self.old → ⊥ }
+        requires held { CanPollAll F.Future self.old }
+        requires fit { F.can_poll future }
+        ensures { EntersAt F.Future self.old future tt result self.new }
+    {
+        self.push_any(future, ())
+    }
+
+    /// As `push`, if there is room. Else the future comes back, and the set is as it was.
+    pub fn try_push(&mut self, future: F) -> Result<Key, F>
+        requires held { CanPollAll F.Future self.old }
+        requires fit { F.can_poll future }
+        ensures { PushesInFlight F.Future self.old future tt future result self.new }
+    {
         if self.is_full() {
             return Err(future);
         }
-        let Ok(slot) = self.slots.insert_with(Place { tag, push }, |place| place) else {
-            return Err(future);
-        };
-        let key = Key { slot, push };
-        match self.start(Run { key, stop, future }) {
-            Ok(()) => {
-                self.next = next;
-                Ok(key)
-            }
-            Err(Run { future, .. }) => {
-                self.slots.remove(slot);
-                Err(future)
-            }
-        }
-    }
-
-    /// Adds the future, so that a later poll polls it, and answers its key. It comes back, and the set is as it was,
-    /// where there is no room, where memory is refused, and after 2^64 - 1 pushes.
-    ///
-    /// Takes the memory that the kit's set takes for a future, and the same time at any capacity.
-    pub fn try_push(&mut self, future: F) -> Result<Key, F>
-        requires held { CanPollAll F.Future self.old }
-        requires new { F.can_poll future }
-        ensures { PushesInFlight F.Future self.old future 0 result self.new }
-    {
-        self.put(future, 0, None)
-    }
-
-    /// As `try_push`, under a tag of the caller's, which comes with the output. Tags need not differ.
-    pub fn try_push_tagged(&mut self, future: F, tag: usize) -> Result<Key, F>
-        requires held { CanPollAll F.Future self.old }
-        requires new { F.can_poll future }
-        ensures { PushesInFlight F.Future self.old future tag result self.new }
-    {
-        self.put(future, tag, None)
-    }
-
-    /// As `try_push`, of a future that `cancel` ends: it is dropped at the next poll, which `cancel` has the task make.
-    ///
-    /// Takes two pieces of memory more for each such future, and a place for each slot at the first one.
-    pub fn try_push_abortable(&mut self, future: F) -> Result<Key, F>
-        requires held { CanPollAll F.Future self.old }
-        requires new { F.can_poll future }
-        ensures { PushesInFlight F.Future self.old future 0 result self.new }
-    {
-        let Ok((handle, stop)) = channel(self.alloc) else {
-            return Err(future);
-        };
-        let Ok(stop) = Box::new(self.alloc, stop) else {
-            return Err(future);
-        };
-        if !self.make_handles() {
-            return Err(future);
-        }
-        let key = self.put(future, 0, Some(stop))?;
-        self.keep_handle(key.slot, handle);
-        Ok(key)
+        Ok(self.push_any(future, ()))
     }
 
     /// Pushes each item, in order, as `try_push` does. The first that is refused comes back; those before it stay, and
@@ -303,8 +562,8 @@ impl<F: Future<Output: Drop>> FuturesUnorderedBounded<F> {
         requires held { CanPollAll F.Future self.old }
         requires each { EachDrawn (items_of I.IntoIterator I.IntoIter.Iterator iter) F.can_poll }
         ensures extends { Extends (items_of I.IntoIterator I.IntoIter.Iterator iter)
-            (WentIn F.Future) (CameBack F.Future) self.old result self.new }
-        ensures capacity { slot_count self.new.slots ≡ slot_count self.old.slots }
+            (WentIn F.Future tt) RefusesInFlight self.old result self.new }
+        ensures capacity { flight_slots self.new ≡ flight_slots self.old }
         ensures again { CanPollAll F.Future self.new }
     {
         for future in iter {
@@ -313,97 +572,5 @@ impl<F: Future<Output: Drop>> FuturesUnorderedBounded<F> {
             }
         }
         Ok(())
-    }
-
-    // One poll of the kit's set.
-    #[tactic(auto, using(crate::proofs::InFlightLemmas::narrows_after, crate::proofs::InFlightLemmas::narrows_within))]
-    fn poll_running(&mut self, cx: &mut Context<'_>) -> Poll<Option<(Key, Option<F::Output>)>>
-        requires { AllPollable (λ run. F.can_poll run.future) (runs_in self.old.running) }
-        ensures pollable { AllPollable (λ run. F.can_poll run.future) (runs_in self.new.running) }
-        ensures gave { IfReady result (λ o. IfSome o
-            (AnyGives (GivesWithKey F.gives) (runs_in self.old.running))) }
-        ensures gives { GivesNoMore (GivesWithKey F.gives)
-            (runs_in self.old.running) (runs_in self.new.running) }
-        ensures slots { (self.new.slots ≡ self.old.slots) × (self.new.next ≡ self.old.next) }
-        ensures room { self.new.cancelled ≡ self.old.cancelled }
-        ensures registered { OnPending result (Covers cx.new (FlightsWaitAt self.new)) }
-        ensures kept { Keeps cx.old cx.new }
-    {
-        let Some(running) = &mut self.running else {
-            return Poll::Ready(None);
-        };
-        match running.poll_next(cx) {
-            Poll::Pending => Poll::Pending,
-            Poll::Ready(Some(came)) => Poll::Ready(Some(came)),
-            Poll::Ready(None) => {
-                self.running = None;
-                Poll::Ready(None)
-            }
-        }
-    }
-
-    // A future that was cancelled has ended, and its room is free.
-    fn end_cancelled(&mut self)
-        ensures slots { (self.new.slots ≡ self.old.slots) × (self.new.next ≡ self.old.next) }
-        ensures running { self.new.running ≡ self.old.running }
-        ensures room { EndsOneAtMost self.old self.new }
-    {
-        if self.cancelled > 0 {
-            self.cancelled -= 1;
-        }
-    }
-
-    /// One poll: an output with the key of its future, or the end, exactly where nothing is held.
-    ///
-    /// At the end the futures that were cancelled are dropped. Takes no memory but what the futures take, and what the
-    /// kit's set takes at its first poll of a task. It polls those futures that were pushed or woken since they were
-    /// polled.
-    pub fn poll_next_keyed(&mut self, cx: &mut Context<'_>) -> Poll<Option<Came<F::Output>>>
-        requires { CanPollAll F.Future self.old }
-        ensures { PollsInFlight F.Future self.old result self.new cx.old cx.new }
-    {
-        if self.slots.is_empty() {
-            if self.cancelled > 0 {
-                self.drop_runs();
-            }
-            return Poll::Ready(None);
-        }
-        let (key, output) = match self.poll_running(cx) {
-            Poll::Pending => return Poll::Pending,
-            // Each slot that is held has a future there, so this arm is not taken. No clause of the kit says so.
-            Poll::Ready(None) => return cx.yield_now(),
-            Poll::Ready(Some(came)) => came,
-        };
-        if let Some(output) = output {
-            if let Some(tag) = self.take_place(key) {
-                self.take_handle(key.slot);
-                return Poll::Ready(Some(Came { key, tag, output }));
-            }
-        }
-        // Its future was cancelled.
-        self.end_cancelled();
-        cx.yield_now()
-    }
-
-    /// Cancels the future of this key, so that no output of it comes, and answers its tag. `None` where no future has
-    /// this key: its output came, or it was cancelled.
-    ///
-    /// Its slot is free at once. It takes up room until it has ended: in this call where no other future is held; at
-    /// the next poll where it came by `try_push_abortable`; and else once it is done, or by a poll that gives the end,
-    /// or by `clear`. Takes the same time at any capacity, besides the drops.
-    pub fn cancel(&mut self, key: Key) -> Option<usize>
-        requires { CanPollAll F.Future self.old }
-        ensures none { IfNone result (self.new ≡ self.old) }
-        ensures some { IfSome result (λ tag. Cancels F.Future self.old key tag self.new) }
-        ensures again { CanPollAll F.Future self.new }
-    {
-        let tag = self.take_place(key)?;
-        self.cancelled = self.cancelled.saturating_add(1);
-        // A run whose handle is dropped ends.
-        self.take_handle(key.slot);
-        if self.slots.is_empty() {
-            self.drop_runs();
-        }
-        Some(tag)
     }
 }

@@ -6,103 +6,26 @@ ghost use Rattle.futures_buffered_unordered.specs.Extended.{EachDrawn, Extends};
 ghost use Rattle.futures_buffered_in_flight.specs.InFlightOrdered.{CanPollOrdered, IsNewInOrder};
 ghost use Rattle.futures_buffered_in_flight.specs.InFlightOrdered.{OrderedIsFull, PollsInTurn, PushesBack, PushesFront};
 ghost use Rattle.futures_buffered_in_flight.specs.InFlightOrdered.{PushesOrComesBack, RefusesFull};
-ghost use Rattle.futures_buffered_in_flight.specs.InFlightQueue.{queued_room};
+ghost use Rattle.futures_buffered_in_flight.specs.InFlight.{flight_slots};
 
-use crate::in_flight_queue::InFlightQueue;
+use crate::in_flight::FuturesUnorderedBounded;
 use futures::Future;
 use futures::task::{Context, Poll};
 use futures_buffered_core::ready_core::NewFault;
-use futures_buffered_ordered::numbered::Numbered;
-use futures_buffered_ordered::numbered_polls::NumberedPolls;
-use futures_buffered_ordered::numbered_set::{NumberedSet, PollNumberedSet};
 use futures_buffered_ordered::ordered_entries::OrderedEntries;
 use futures_buffered_unordered::poll_one::PollFuture;
 use std::alloc::Global;
 use std::marker::Model;
 
-impl<F: Future<Output: Drop>> NumberedSet for InFlightQueue<F> {
-    ghost use Rattle.std.proofs.Common.{◌≡◌, OnOk, OnErr, IfErr, IsErr, refl, ◌∙◌};
-    ghost use Rattle.futures_buffered_ordered.specs.Numbered.{PushesInto};
-    ghost use Rattle.futures_buffered_in_flight.specs.InFlightQueue.{CanPollQueue, QueuesNumber, IsAtItsBound};
-    ghost use Rattle.futures_buffered_in_flight.specs.InFlightQueue.{SameRoom, queued_count, queued_with};
-
-    type Future = F;
-
-    ghost count = { queued_count };
-
-    ghost with_number = { queued_with };
-
-    ghost pushes = { QueuesNumber F.Future };
-
-    ghost may_refuse = { IsAtItsBound };
-
-    ghost refuses = { IsAtItsBound };
-
-    ghost keeps = { SameRoom };
-
-    ghost takes = { CanPollQueue F.Future };
-
-    ghost is_fit = { F.can_poll };
-
-    fn refuses_all(&self) -> bool {
-        self.capacity() <= self.len()
-    }
-
-    fn push_numbered(&mut self, value: Numbered<F>) -> Result<(), Numbered<F>>
-        requires held { CanPollQueue F.Future self.old }
-        requires fit { F.can_poll value.future }
-        ensures pushed { OnOk result (PushesInto (QueuesNumber F.Future) queued_count queued_with
-            SameRoom self.old value self.new) }
-        ensures back { IfErr result (λ back. (back ≡ value) × (self.new ≡ self.old)) }
-        ensures room { OnErr result (IsAtItsBound self.old) }
-        ensures full { IsAtItsBound self.old → IsErr result }
-        ensures again { CanPollQueue F.Future self.new }
-    {
-        if self.capacity() <= self.len() {
-            return Err(value);
-        }
-        self.push_with_number(value);
-        Ok(())
-    }
-
-    ghost keeps_self = { λ a. refl };
-
-    ghost keeps_on = { λ a b c first then. then ∙ first };
-}
-
-impl<F: Future<Output: Drop>> NumberedPolls<PollFuture> for InFlightQueue<F> {
-    ghost use Rattle.futures_buffered_in_flight.specs.InFlight.{FlightsWaitAt};
-    ghost use Rattle.futures_buffered_in_flight.specs.InFlightQueue.{CanPollQueue, PollsByNumber};
-
-    type Output = F::Output;
-
-    ghost can_poll = { CanPollQueue F.Future };
-
-    ghost gives = { PollsByNumber F.Future };
-
-    ghost needs = { λ q. FlightsWaitAt q.set };
-}
-
-impl<F: Future<Output: Drop>> PollNumberedSet<PollFuture> for InFlightQueue<F> {
-    #[tactic(auto, using(crate::proofs::InFlightOrderedLemmas::polls_set))]
-    fn poll_numbered(
-        &mut self,
-        _rule: &PollFuture,
-        cx: &mut Context<'_>,
-    ) -> Poll<Option<(usize, F::Output)>> {
-        self.poll_with_number(cx)
-    }
-}
-
 /// Futures in flight, as many as there is room for, one at least, whose outputs come in the order of the pushes.
 ///
-/// Pushes add at both ends. An output that comes before its turn is kept, and counts as held until it is yielded. A
-/// push takes each future where there is room, as that of `InFlightQueue` does: memory is no reason to refuse it. A
-/// contract sees the futures in flight, each with a number, and the entries from the front to the back, where one in
-/// progress has the number of its future. Calls that ask how much is held take the same time at any number.
+/// Pushes add at both ends. An output that comes before its turn is kept, and counts as held until it is yielded. A push
+/// never fails for want of memory. A contract sees the futures in flight, each under a number, and the entries from the
+/// front to the back; an entry in progress has the number of its future. Calls that only read take the same time at any
+/// number held.
 #[derive(Drop)]
 pub struct FuturesOrderedBounded<F: Drop, A: Drop> {
-    queue: OrderedEntries<InFlightQueue<F>, A>,
+    queue: OrderedEntries<FuturesUnorderedBounded<F, usize>, A>,
 }
 
 impl<F: Drop, A: Drop> Model for FuturesOrderedBounded<F, A> {
@@ -119,7 +42,7 @@ impl<F: Drop, A: Drop> FuturesOrderedBounded<F, A> {
     /// How many are held: futures in progress, and outputs that wait for their turn.
     pub fn len(&self) -> usize
         ensures value { result ≡ length self.now.entries }
-        ensures bound { length self.now.entries ≤ queued_room self.now.set }
+        ensures bound { length self.now.entries ≤ flight_slots self.now.set }
     {
         self.queue.len()
     }
@@ -133,12 +56,12 @@ impl<F: Drop, A: Drop> FuturesOrderedBounded<F, A> {
 
     /// How many can be held, which never changes.
     pub fn capacity(&self) -> usize
-        ensures { result ≡ queued_room self.now.set }
+        ensures { result ≡ flight_slots self.now.set }
     {
         self.queue.set.capacity()
     }
 
-    /// Whether each push is refused: as many are held as can be, where outputs that wait for their turn count.
+    /// Whether each push is refused: as many are held as can be. Outputs that wait for their turn count.
     pub fn is_full(&self) -> bool
         ensures { IsTrue result ↔ OrderedIsFull self.now }
     {
@@ -155,15 +78,15 @@ impl<F: Future<Output = A>, A: Drop> FuturesOrderedBounded<F, A> {
         ensures made { MakesSlots n (IsNewInOrder n) result }
         ensures can_poll { IfOk result (CanPollOrdered F.Future) }
     {
-        let set = InFlightQueue::new(alloc, n)?;
+        let set = FuturesUnorderedBounded::new(alloc, n)?;
         let queue = OrderedEntries::with_room(alloc, set, n)?;
         Ok(FuturesOrderedBounded { queue })
     }
 
     /// Adds the future behind all others, so that a later poll polls it. It comes back, and nothing has changed,
-    /// exactly where as many are held as can be (`is_full`).
+    /// exactly if as many are held as can be (`is_full`).
     ///
-    /// Takes the memory that the kit's set takes for a future, and does without where that is refused.
+    /// Allocates what the kit's set does for a future, and does without if that fails.
     pub fn try_push_back(&mut self, future: F) -> Result<(), F>
         requires held { CanPollOrdered F.Future self.old }
         requires fit { F.can_poll future }
@@ -192,7 +115,7 @@ impl<F: Future<Output = A>, A: Drop> FuturesOrderedBounded<F, A> {
     /// As `try_push_back`, for a queue that is not full.
     #[tactic(auto, using(crate::proofs::InFlightOrderedLemmas::pushes_back, crate::proofs::InFlightOrderedLemmas::has_room))]
     pub fn push_back(&mut self, future: F)
-        requires room { length self.old.entries < queued_room self.old.set }
+        requires room { length self.old.entries < flight_slots self.old.set }
         requires held { CanPollOrdered F.Future self.old }
         requires fit { F.can_poll future }
         ensures { PushesBack F.Future self.old future self.new }
@@ -206,7 +129,7 @@ impl<F: Future<Output = A>, A: Drop> FuturesOrderedBounded<F, A> {
     /// As `try_push_front`, for a queue that is not full.
     #[tactic(auto, using(crate::proofs::InFlightOrderedLemmas::pushes_front, crate::proofs::InFlightOrderedLemmas::has_room))]
     pub fn push_front(&mut self, future: F)
-        requires room { length self.old.entries < queued_room self.old.set }
+        requires room { length self.old.entries < flight_slots self.old.set }
         requires held { CanPollOrdered F.Future self.old }
         requires fit { F.can_poll future }
         ensures { PushesFront F.Future self.old future self.new }
@@ -225,7 +148,7 @@ impl<F: Future<Output = A>, A: Drop> FuturesOrderedBounded<F, A> {
         requires each { EachDrawn (items_of I.IntoIterator I.IntoIter.Iterator iter) F.can_poll }
         ensures extends { Extends (items_of I.IntoIterator I.IntoIter.Iterator iter)
             (PushesBack F.Future) RefusesFull self.old result self.new }
-        ensures same_room { queued_room self.new.set ≡ queued_room self.old.set }
+        ensures same_room { flight_slots self.new.set ≡ flight_slots self.old.set }
         ensures again { CanPollOrdered F.Future self.new }
     {
         for future in iter {
@@ -239,19 +162,19 @@ impl<F: Future<Output = A>, A: Drop> FuturesOrderedBounded<F, A> {
     /// Drops each future that is in progress, and each output that waits for its turn, in this call. Takes no memory,
     /// and time in proportion to the capacity, besides the drops.
     pub fn clear(&mut self)
-        ensures none { IsNewInOrder (queued_room self.old.set) self.new }
-        ensures same_room { queued_room self.new.set ≡ queued_room self.old.set }
+        ensures none { IsNewInOrder (flight_slots self.old.set) self.new }
+        ensures same_room { flight_slots self.new.set ≡ flight_slots self.old.set }
         ensures can_poll { CanPollOrdered F.Future self.new }
     {
         self.queue.set.clear();
         self.queue.drop_entries();
     }
 
-    /// One poll: the output of the front, or the end, exactly where nothing is held.
+    /// One poll: the output of the front, or the end, exactly if nothing is held.
     ///
     /// A front whose output is kept leaves with it, and no future is polled. Else the futures are polled, and each
-    /// output that comes is kept, until the front's has come. Futures that wait for memory go into flight first, and
-    /// where memory is still refused the task is woken at once.
+    /// output that comes is kept, until the front's has come. A future that waits for memory is started first; if memory
+    /// is refused again, the task is woken at once.
     pub fn poll_output(&mut self, cx: &mut Context<'_>) -> Poll<Option<A>>
         requires { CanPollOrdered F.Future self.old }
         ensures { PollsInTurn F.Future self.old result self.new cx.old cx.new }

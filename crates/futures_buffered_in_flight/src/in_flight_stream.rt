@@ -8,7 +8,7 @@ use futures::{Future, Stream};
 use futures_buffered_unordered::fused::{FusedStream, SizeHint};
 use std::fmt;
 
-impl<F: Future<Output: Drop>> Stream for FuturesUnorderedBounded<F> {
+impl<F: Future<Output: Drop>, T: Drop> Stream for FuturesUnorderedBounded<F, T> {
     type Item = F::Output;
 
     ghost can_poll = { CanPollAll F.Future };
@@ -18,7 +18,6 @@ impl<F: Future<Output: Drop>> Stream for FuturesUnorderedBounded<F> {
     ghost yields = { ComesFromSlots F.Future };
 
     /// One poll, as `poll_next_keyed`, without key and tag.
-    #[tactic(auto, using(crate::proofs::InFlightLemmas::comes_first, crate::proofs::InFlightLemmas::comes_after, crate::proofs::InFlightLemmas::comes_within))]
     fn poll_next(&mut self, cx: &mut Context<'_>) -> Poll<Option<F::Output>> {
         match self.poll_next_keyed(cx) {
             Poll::Pending => Poll::Pending,
@@ -29,7 +28,7 @@ impl<F: Future<Output: Drop>> Stream for FuturesUnorderedBounded<F> {
 }
 
 /// Whether nothing is held, so that the next poll gives the end. A push after that starts it again.
-impl<F: Future<Output: Drop>> FusedStream for FuturesUnorderedBounded<F> {
+impl<F: Future<Output: Drop>, T: Drop> FusedStream for FuturesUnorderedBounded<F, T> {
     ghost use Rattle.std.specs.Prelude.{◌≡◌};
 
     ghost is_over = { λ set. held_count set.slots ≡ 0 };
@@ -39,7 +38,7 @@ impl<F: Future<Output: Drop>> FusedStream for FuturesUnorderedBounded<F> {
     }
 }
 
-impl<F: Drop> SizeHint for FuturesUnorderedBounded<F> {
+impl<F: Drop, T: Drop> SizeHint for FuturesUnorderedBounded<F, T> {
     ghost use Rattle.std.specs.Prelude.{Some};
 
     ghost items_left = { λ set. (held_count set.slots, Some (held_count set.slots)) };
@@ -50,7 +49,7 @@ impl<F: Drop> SizeHint for FuturesUnorderedBounded<F> {
 }
 
 /// Prints the number of futures held.
-impl<F: Drop> fmt::Debug for FuturesUnorderedBounded<F> {
+impl<F: Drop, T: Drop> fmt::Debug for FuturesUnorderedBounded<F, T> {
     fn fmt<W: fmt::Write>(&self, f: &mut fmt::Formatter<W>) -> fmt::Result {
         f.debug_struct("FuturesUnorderedBounded")
             .field("len", &self.len())

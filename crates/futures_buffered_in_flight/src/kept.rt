@@ -1,12 +1,11 @@
 //! Futures in flight that keep that they may be polled, so that a loop need not say so.
-ghost use Rattle.std.specs.Prelude.{◌≡◌, None, IfNone, IfSome};
+ghost use Rattle.std.specs.Prelude.{◌≡◌, [], None};
 ghost use Rattle.futures_buffered_core.specs.SlotMap.{no_slots, slot_count};
-ghost use Rattle.futures_buffered_in_flight.specs.InFlight.{Cancels, ComesFromSlots, FlightsWaitAt, PollsInFlight};
-ghost use Rattle.futures_buffered_in_flight.specs.InFlight.{PushesInFlight};
+ghost use Rattle.futures_buffered_in_flight.specs.InFlight.{CancelsOrNone, ComesFromSlots, EntersAt, FlightsWaitAt};
+ghost use Rattle.futures_buffered_in_flight.specs.InFlight.{HasNoRoom, PollsInFlight, PushesInFlight, flight_slots};
 ghost use Rattle.futures_buffered_in_flight.specs.InFlightOrdered.{ComesOfEach, OrderedWaitsAt, PollsInTurn};
 ghost use Rattle.futures_buffered_in_flight.specs.InFlightOrdered.{IsNewInOrder, PushesBack, PushesFront};
 ghost use Rattle.futures_buffered_in_flight.specs.InFlightOrdered.{PushesOrComesBack};
-ghost use Rattle.futures_buffered_in_flight.specs.InFlightQueue.{queued_room};
 
 use crate::in_flight::{Came, FuturesUnorderedBounded};
 use crate::in_flight_ordered::FuturesOrderedBounded;
@@ -59,33 +58,43 @@ impl<S: Stream> Kept<S> {
 }
 
 impl<F: Future<Output: Drop>> Kept<FuturesUnorderedBounded<F>> {
+    /// As `FuturesUnorderedBounded::push`.
+    pub fn push(&mut self, future: F) -> Key
+        requires room { HasNoRoom self.old → ⊥ }
+        requires fit { F.can_poll future }
+        ensures { EntersAt F.Future self.old future tt result self.new }
+    {
+        self.held.push(future)
+    }
+
     /// As `FuturesUnorderedBounded::try_push`.
     pub fn try_push(&mut self, future: F) -> Result<Key, F>
         requires { F.can_poll future }
-        ensures { PushesInFlight F.Future self.old future 0 result self.new }
+        ensures { PushesInFlight F.Future self.old future tt future result self.new }
     {
         self.held.try_push(future)
     }
+}
 
-    /// As `FuturesUnorderedBounded::try_push_abortable`.
-    pub fn try_push_abortable(&mut self, future: F) -> Result<Key, F>
+impl<F: Future<Output: Drop>, T: Drop> Kept<FuturesUnorderedBounded<F, T>> {
+    /// As `FuturesUnorderedBounded::try_push_tagged`.
+    pub fn try_push_tagged(&mut self, future: F, tag: T) -> Result<Key, (F, T)>
         requires { F.can_poll future }
-        ensures { PushesInFlight F.Future self.old future 0 result self.new }
+        ensures { PushesInFlight F.Future self.old future tag (future, tag) result self.new }
     {
-        self.held.try_push_abortable(future)
+        self.held.try_push_tagged(future, tag)
     }
 
     /// As `FuturesUnorderedBounded::poll_next_keyed`.
-    pub fn poll_next_keyed(&mut self, cx: &mut Context<'_>) -> Poll<Option<Came<F::Output>>>
+    pub fn poll_next_keyed(&mut self, cx: &mut Context<'_>) -> Poll<Option<Came<F::Output, T>>>
         ensures { PollsInFlight F.Future self.old result self.new cx.old cx.new }
     {
         self.held.poll_next_keyed(cx)
     }
 
     /// As `FuturesUnorderedBounded::cancel`.
-    pub fn cancel(&mut self, key: Key) -> Option<usize>
-        ensures none { IfNone result (self.new ≡ self.old) }
-        ensures some { IfSome result (λ tag. Cancels F.Future self.old key tag self.new) }
+    pub fn cancel(&mut self, key: Key) -> Option<T>
+        ensures { CancelsOrNone F.Future self.old key result self.new }
     {
         self.held.cancel(key)
     }
@@ -93,14 +102,14 @@ impl<F: Future<Output: Drop>> Kept<FuturesUnorderedBounded<F>> {
     /// As `FuturesUnorderedBounded::clear`.
     pub fn clear(&mut self)
         ensures slots { self.new.slots ≡ no_slots (slot_count self.old.slots) }
-        ensures none { (self.new.running ≡ None) × (self.new.cancelled ≡ 0) }
+        ensures none { (self.new.running ≡ None) × (self.new.waiting ≡ []) × (self.new.cancelled ≡ 0) }
         ensures keys { self.new.next ≡ self.old.next }
     {
         self.held.clear();
     }
 }
 
-impl<F: Future<Output: Drop>> Stream for Kept<FuturesUnorderedBounded<F>> {
+impl<F: Future<Output: Drop>, T: Drop> Stream for Kept<FuturesUnorderedBounded<F, T>> {
     type Item = F::Output;
 
     ghost needs = { FlightsWaitAt };
@@ -108,7 +117,6 @@ impl<F: Future<Output: Drop>> Stream for Kept<FuturesUnorderedBounded<F>> {
     ghost yields = { ComesFromSlots F.Future };
 
     /// One poll, as `poll_next_keyed`, without key and tag.
-    #[tactic(auto, using(crate::proofs::InFlightLemmas::comes_first, crate::proofs::InFlightLemmas::comes_after, crate::proofs::InFlightLemmas::comes_within))]
     fn poll_next(&mut self, cx: &mut Context<'_>) -> Poll<Option<F::Output>> {
         match self.poll_next_keyed(cx) {
             Poll::Pending => Poll::Pending,
@@ -137,8 +145,8 @@ impl<F: Future<Output = A>, A: Drop> Kept<FuturesOrderedBounded<F, A>> {
 
     /// As `FuturesOrderedBounded::clear`.
     pub fn clear(&mut self)
-        ensures none { IsNewInOrder (queued_room self.old.set) self.new }
-        ensures same_room { queued_room self.new.set ≡ queued_room self.old.set }
+        ensures none { IsNewInOrder (flight_slots self.old.set) self.new }
+        ensures same_room { flight_slots self.new.set ≡ flight_slots self.old.set }
     {
         self.held.clear();
     }

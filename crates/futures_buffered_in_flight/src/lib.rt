@@ -4,9 +4,9 @@
 //! closures. What a poll asks of the futures stands in `requires`, as in the kit's own sets.
 //!
 //! - `run`: `Key`, which names one push, and `Run`, a future whose output comes with its key.
+//! - `bells`: how a run is told, and woken, if it is cancelled.
 //! - `in_flight`: `FuturesUnorderedBounded`, at most n futures, told apart by their keys, each of which can be cancelled;
-//!   `in_flight_stream` is the same set as a stream.
-//! - `in_flight_queue`: `InFlightQueue`, the set as what an adaptor holds: a push never hands a future back.
+//!   `in_flight_stream` is the same set as a stream, `in_flight_queue` the same as what an adaptor or a queue holds.
 //! - `in_flight_ordered`: `FuturesOrderedBounded`, a queue with pushes at both ends, whose outputs come from the front;
 //!   `in_flight_ordered_stream` is the same queue as a stream.
 //! - `from_iter`: sets and queues that are made of what an iterator gives.
@@ -15,11 +15,12 @@
 //!   back.
 #![tactic(auto)]
 
+mod bells;
 mod from_iter;
 pub mod in_flight;
 pub mod in_flight_ordered;
 mod in_flight_ordered_stream;
-pub mod in_flight_queue;
+mod in_flight_queue;
 mod in_flight_stream;
 pub mod kept;
 pub mod run;
@@ -27,7 +28,6 @@ pub mod waiting;
 
 pub use in_flight::{Came, FuturesUnorderedBounded};
 pub use in_flight_ordered::FuturesOrderedBounded;
-pub use in_flight_queue::InFlightQueue;
 pub use kept::Kept;
 pub use run::Key;
 pub use waiting::Waiting;

@@ -2,41 +2,32 @@
 ghost use Rattle.std.specs.Prelude.{◌≡◌};
 ghost use Rattle.futures.specs.Task.{Keeps};
 
+use crate::bells::Bells;
 use futures::Future;
-use futures::channel::oneshot::Receiver;
 use futures::task::{Context, Poll};
+use std::sync::Arc;
 
-/// Where a future stands, and the number of its push. No two pushes of a set have one number, so a key is never used
-/// twice.
-#[derive(Clone, Copy, PartialEq, Eq)]
+/// The number of a push, and the slot of its future. No two pushes of a set have one number, so a key is never used
+/// twice. Keys are ordered as the pushes were.
+#[derive(Clone, Copy, Debug, PartialEq, Eq, PartialOrd, Ord, Hash)]
 pub struct Key {
-    pub slot: usize,
     pub push: u64,
+    pub slot: usize,
 }
 
-/// What ends a run from outside: it is ready once its sender is dropped, and never before. In a box, so that each run
-/// is small.
-pub type Stop = Box<Receiver<()>>;
-
-/// A future on its way. Its output comes with its key, and `None` in place of an output where it was stopped.
+/// A future that is not in the kit's set yet, since memory was refused.
 #[derive(Drop)]
-pub struct Run<F> {
+pub struct Waits<F> {
     pub key: Key,
-    pub stop: Option<Stop>,
     pub future: F,
 }
 
-impl<F> Run<F> {
-    // Whether it was stopped. If not, the task is woken once it is.
-    fn is_stopped(&mut self, cx: &mut Context<'_>) -> bool
-        ensures future { (self.new.future ≡ self.old.future) × (self.new.key ≡ self.old.key) }
-        ensures kept { Keeps cx.old cx.new }
-    {
-        match &mut self.stop {
-            Some(stop) => stop.poll(cx).is_ready(),
-            None => false,
-        }
-    }
+/// A future in the kit's set. Its output comes with its key, and `None` in place of an output if it was cancelled.
+#[derive(Drop)]
+pub struct Run<F> {
+    pub key: Key,
+    pub bells: Arc<Bells>,
+    pub future: F,
 }
 
 impl<F: Future> Future for Run<F> {
@@ -51,12 +42,15 @@ impl<F: Future> Future for Run<F> {
     ghost gives = { GivesWithKey F.gives };
 
     fn poll(&mut self, cx: &mut Context<'_>) -> Poll<(Key, Option<F::Output>)> {
-        if self.is_stopped(cx) {
+        if self.bells.is_cancelled(self.key) {
             return Poll::Ready((self.key, None));
         }
         match self.future.poll(cx) {
-            Poll::Pending => Poll::Pending,
             Poll::Ready(output) => Poll::Ready((self.key, Some(output))),
+            Poll::Pending => {
+                self.bells.leave_waker(self.key.slot, cx);
+                Poll::Pending
+            }
         }
     }
 }

@@ -21,8 +21,8 @@ pub struct Waiting<S> {
     held: Option<S>,
 }
 
-impl<F: Future<Output: Drop>> Future for Waiting<FuturesUnorderedBounded<F>> {
-    type Output = (Option<Came<F::Output>>, FuturesUnorderedBounded<F>);
+impl<F: Future<Output: Drop>, T: Drop> Future for Waiting<FuturesUnorderedBounded<F, T>> {
+    type Output = (Option<Came<F::Output, T>>, FuturesUnorderedBounded<F, T>);
 
     // A set that was given back is not there to be polled.
     ghost can_poll = { λ waiting. IsSomeAnd waiting.held (CanPollAll F.Future) };
@@ -44,20 +44,22 @@ impl<F: Future<Output: Drop>> Future for Waiting<FuturesUnorderedBounded<F>> {
     }
 }
 
-impl<F: Future<Output: Drop>> FuturesUnorderedBounded<F> {
-    /// The set, as a future that is ready with its next output, or with `None` where nothing is held, and with the set.
+impl<F: Future<Output: Drop>, T: Drop> FuturesUnorderedBounded<F, T> {
+    /// A future of the next output, with its key and tag, or of `None` if nothing is held. It gives the set back too.
+    ///
+    /// Any executor runs it, as `runtime.block_on(&rt, set.into_next())` of `tokio` does.
     pub fn into_next(self) -> Waiting<Self>
         ensures { result.held ≡ Some self }
     {
         Waiting { held: Some(self) }
     }
 
-    /// Blocks the thread until the next output comes, or the end, and gives the set back. The set is dropped where the
-    /// thread cannot wait.
+    /// Blocks the thread until the next output comes, or the end, and gives the set back. Drives no socket and no timer.
+    /// If the thread cannot wait, the set is dropped.
     pub fn wait<R>(
         self,
         rt: &R,
-    ) -> io::Result<(Option<Came<F::Output>>, FuturesUnorderedBounded<F>)>
+    ) -> io::Result<(Option<Came<F::Output, T>>, FuturesUnorderedBounded<F, T>)>
     where
         R: Wait + RandomSource + AllocGlobal,
         requires { CanPollAll F.Future self }
@@ -91,16 +93,17 @@ impl<F: Future<Output = A>, A: Drop> Future for Waiting<FuturesOrderedBounded<F,
 }
 
 impl<F: Future<Output = A>, A: Drop> FuturesOrderedBounded<F, A> {
-    /// The queue, as a future that is ready with the output of the front, or with `None` where nothing is held, and
-    /// with the queue.
+    /// A future of the output of the front, or of `None` if nothing is held. It gives the queue back too.
+    ///
+    /// Any executor runs it, as `runtime.block_on(&rt, queue.into_next())` of `tokio` does.
     pub fn into_next(self) -> Waiting<Self>
         ensures { result.held ≡ Some self }
     {
         Waiting { held: Some(self) }
     }
 
-    /// Blocks the thread until the output of the front comes, or the end, and gives the queue back. The queue is
-    /// dropped where the thread cannot wait.
+    /// Blocks the thread until the output of the front comes, or the end, and gives the queue back. Drives no socket and
+    /// no timer. If the thread cannot wait, the queue is dropped.
     pub fn wait<R>(self, rt: &R) -> io::Result<(Option<A>, FuturesOrderedBounded<F, A>)>
     where
         R: Wait + RandomSource + AllocGlobal,

@@ -8,7 +8,7 @@ use Rattle.std.proofs.lemmas.Option.{slice_get_within}
 use Rattle.std.proofs.lemmas.Bool.{cases_eq}
 use Rattle.futures_buffered_core.specs.SlotMap.{Slots, value_in, held_count, slot_count, with_slot_freed}
 use Rattle.futures_buffered_unordered.proofs.HeldGivesLemmas.{value_in-with_slot_freed, value_in-with_slot_freed_other}
-use Rattle.futures_buffered_in_flight.specs.InFlight.{FutureOf, Flights, CanPollAll, FliesInOrder, SlotGives, ComesByKey, RunsGiveNoMore}
+use Rattle.futures_buffered_in_flight.specs.InFlight.{FutureOf, Flights, CanPollAll, FliesInOrder, SlotGives, ComesByKey, FlightsGiveNoMore}
 use Rattle.futures_buffered_in_flight.specs.declared.in_flight.Came.{Came}
 use Rattle.futures_buffered_in_flight.specs.declared.in_flight.Place.{Place}
 use Rattle.futures_buffered_in_flight.proofs.InFlightLemmas.{slots_within, slots_after}
@@ -27,7 +27,7 @@ all_counted (Some x ∷ places) (suc k) same below = all_counted places k (omega
 
 module _ {F O : Type 0} (future : FutureOf F O) where
   -- at each place of a new join its future waits
-  pub all_wait : {A : Type 0} (items : List F) (set : Flights F) (outputs : List (Option A)) → FliesInOrder future items set → outputs ≡ replicate (length items) None → WaitsOrCame set.slots outputs
+  pub all_wait : {A : Type 0} (items : List F) (set : Flights F (Unit {0})) (outputs : List (Option A)) → FliesInOrder future items set → outputs ≡ replicate (length items) None → WaitsOrCame set.slots outputs
   all_wait {A} items set outputs holds none =
       let size : length outputs ≡ length items = ap length none ∙ length-replicate (length items) None in
       record {
@@ -46,7 +46,7 @@ module _ {F R O A E B : Type 0} (future : FutureOf F O) (rule : JoinRuleOf R O A
   flies_then a b c p q = record { places = q.places; as_many = q.as_many ∙ p.as_many; narrows = λ x h. p.narrows x (q.narrows x h); again = q.again }
 
   -- what may come at a place once an output came, here or elsewhere, might before
-  came_at : (before after : Flights F) (outputs : List (Option A)) (came : Came O) (kept : A) → WaitsOrCame before.slots outputs → ComesByKey future before came after → RunsGiveNoMore future before after
+  came_at : (before after : Flights F (Unit {0})) (outputs : List (Option A)) (came : Came O (Unit {0})) (kept : A) → WaitsOrCame before.slots outputs → ComesByKey future before came after → FlightsGiveNoMore future before after
       → rule.output_of (Ok kept) ≡ came.output → came.key.slot < length outputs → (k : ℕ) (x : A)
       → MayComeAt (λ k x. SlotGives future after k (rule.output_of (Ok x))) (set outputs came.key.slot (Some kept)) k x
       → MayComeAt (λ k x. SlotGives future before k (rule.output_of (Ok x))) outputs k x
@@ -64,7 +64,7 @@ module _ {F R O A E B : Type 0} (future : FutureOf F O) (rule : JoinRuleOf R O A
 
       gave_before : k ≢ came.key.slot → SlotGives future after k (rule.output_of (Ok x)) → SlotGives future before k (rule.output_of (Ok x))
       gave_before other may =
-          let holds : value_in (with_slot_freed before.slots came.key.slot) k ≡ Some may.0 = subst (λ (s : Slots Place). value_in s k ≡ Some may.0) y.freed may.1 in
+          let holds : value_in (with_slot_freed before.slots came.key.slot) k ≡ Some may.0 = subst (λ (s : Slots (Place (Unit {0}))). value_in s k ≡ Some may.0) y.freed may.1 in
           (may.0, sym (value_in-with_slot_freed_other before.slots came.key.slot k other) ∙ holds, narrows _ may.2)
 
       by_output : k ≢ came.key.slot → (o : Option A) → output_in outputs k ≡ o → MayComeAt (λ k x. SlotGives future before k (rule.output_of (Ok x))) outputs k x
@@ -78,7 +78,7 @@ module _ {F R O A E B : Type 0} (future : FutureOf F O) (rule : JoinRuleOf R O A
           rw was is
 
   -- an output came, and is kept at its place
-  pub fills_place : (old : Flying F A) (after : Flights F) (came : Came O) (kept : A) → WaitsOrCame old.set.slots old.outputs → ComesByKey future old.set came after → RunsGiveNoMore future old.set after
+  pub fills_place : (old : Flying F A) (after : Flights F (Unit {0})) (came : Came O (Unit {0})) (kept : A) → WaitsOrCame old.set.slots old.outputs → ComesByKey future old.set came after → FlightsGiveNoMore future old.set after
       → CanPollAll future after → rule.output_of (Ok kept) ≡ came.output
       → FliesOn future rule old (record { set = after; outputs = set old.outputs came.key.slot (Some kept) })
   fills_place old after came kept keeps y narrows can of =
@@ -88,11 +88,11 @@ module _ {F R O A E B : Type 0} (future : FutureOf F O) (rule : JoinRuleOf R O A
           either = λ k within. elim (cases_eq k came.key.slot) [
             | inl same ↦
                 let now : output_in filled k ≡ Some kept = ap (output_in filled) same ∙ get_or-set_same {A = Option A} old.outputs came.key.slot (Some kept) None below in
-                let gone : value_in after.slots k ≡ None = ap (value_in after.slots) same ∙ (ap (λ (s : Slots Place). value_in s came.key.slot) y.freed ∙ value_in-with_slot_freed old.set.slots came.key.slot) in
+                let gone : value_in after.slots k ≡ None = ap (value_in after.slots) same ∙ (ap (λ (s : Slots (Place (Unit {0}))). value_in s came.key.slot) y.freed ∙ value_in-with_slot_freed old.set.slots came.key.slot) in
                 ap is_some now ∙ sym (ap not (ap is_some gone))
             | inr other ↦
                 let stays : output_in filled k ≡ output_in old.outputs k = get_or-set_other {A = Option A} old.outputs came.key.slot k (Some kept) None other in
-                let waits : value_in after.slots k ≡ value_in old.set.slots k = ap (λ (s : Slots Place). value_in s k) y.freed ∙ value_in-with_slot_freed_other old.set.slots came.key.slot k other in
+                let waits : value_in after.slots k ≡ value_in old.set.slots k = ap (λ (s : Slots (Place (Unit {0}))). value_in s k) y.freed ∙ value_in-with_slot_freed_other old.set.slots came.key.slot k other in
                 ap is_some stays ∙ (keeps.either k (omega (arith, size, within)) ∙ sym (ap not (ap is_some waits)))
           ];
         };
@@ -108,7 +108,7 @@ module _ {F R O A E B : Type 0} (future : FutureOf F O) (rule : JoinRuleOf R O A
       size = length-set {A = Option A} old.outputs came.key.slot (Some kept)
 
       slots : slot_count after.slots ≡ slot_count old.set.slots
-      slots = ap (λ (s : Slots Place). slot_count s) y.freed ∙ length-set {A = Option Place} old.set.slots.places came.key.slot None
+      slots = ap (λ (s : Slots (Place (Unit {0}))). slot_count s) y.freed ∙ length-set {A = Option (Place (Unit {0}))} old.set.slots.places came.key.slot None
 
       below : came.key.slot < length old.outputs
       below =
@@ -120,13 +120,13 @@ module _ {F R O A E B : Type 0} (future : FutureOf F O) (rule : JoinRuleOf R O A
       back (Err e) h = slots_after future old.set after came.key.slot y.freed narrows (rule.output_of (Err e)) h
 
   -- nothing came
-  pub flies_still : (old : Flying F A) (after : Flights F) → WaitsOrCame old.set.slots old.outputs → after.slots ≡ old.set.slots → RunsGiveNoMore future old.set after → CanPollAll future after
+  pub flies_still : (old : Flying F A) (after : Flights F (Unit {0})) → WaitsOrCame old.set.slots old.outputs → after.slots ≡ old.set.slots → FlightsGiveNoMore future old.set after → CanPollAll future after
       → FliesOn future rule old (record { set = after; outputs = old.outputs })
   flies_still old after keeps same narrows can =
       record {
         places = record {
-          same_size = keeps.same_size ∙ sym (ap (λ (s : Slots Place). slot_count s) same);
-          either = λ k below. keeps.either k below ∙ sym (ap (λ (s : Slots Place). not (is_some (value_in s k))) same);
+          same_size = keeps.same_size ∙ sym (ap (λ (s : Slots (Place (Unit {0}))). slot_count s) same);
+          either = λ k below. keeps.either k below ∙ sym (ap (λ (s : Slots (Place (Unit {0}))). not (is_some (value_in s k))) same);
         };
         as_many = refl;
         narrows = λ x. back x;
@@ -134,7 +134,7 @@ module _ {F R O A E B : Type 0} (future : FutureOf F O) (rule : JoinRuleOf R O A
       }
     where
       gave_before : (k : ℕ) (o : O) → SlotGives future after k o → SlotGives future old.set k o
-      gave_before k o may = (may.0, subst (λ (s : Slots Place). value_in s k ≡ Some may.0) same may.1, narrows _ may.2)
+      gave_before k o may = (may.0, subst (λ (s : Slots (Place (Unit {0}))). value_in s k ≡ Some may.0) same may.1, narrows _ may.2)
 
       at : (k : ℕ) (x : A) (was : Option A) → output_in old.outputs k ≡ was → MayComeAt (λ k x. SlotGives future after k (rule.output_of (Ok x))) old.outputs k x → MayComeAt (λ k x. SlotGives future old.set k (rule.output_of (Ok x))) old.outputs k x
       at k x None is h = let may : SlotGives future after k (rule.output_of (Ok x)) = rw is at h in rw is (gave_before k (rule.output_of (Ok x)) may)

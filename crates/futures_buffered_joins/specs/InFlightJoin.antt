@@ -1,6 +1,6 @@
 -- What a contract sees of a join of futures in flight. A clause names the futures and the rule by the ghost members of
 -- their types: `F.Future R.JoinRule`.
-use Rattle.std.specs.Prelude.{◌≡◌, ℕ, ◌+◌, ◌<◌, List, length, replicate, Option, Some, None, IfSome}
+use Rattle.std.specs.Prelude.{◌≡◌, ℕ, ◌+◌, ◌<◌, ◌⊎◌, List, [], length, replicate, Option, Some, None, IfSome}
 use Rattle.std.specs.Prelude.{IsSomeAnd, Result, Ok, Err}
 use Rattle.futures.specs.Poll.{IfReady, OnPending}
 use Rattle.futures.specs.Task.{Covers, Keeps}
@@ -10,6 +10,7 @@ use Rattle.futures_buffered_core.specs.Drawn.{Items}
 use Rattle.futures_buffered_core.specs.SlotMap.{held_count}
 use Rattle.futures_buffered_table.specs.declared.answer.NewFault.{NewFault}
 use Rattle.futures_buffered_unordered.specs.Extended.{MakesFull}
+use Rattle.futures_buffered_unordered.specs.FuturesUnorderedBounded.{IsWoken}
 use Rattle.futures_buffered_in_flight.specs.InFlight.{FutureOf, Flights, CanPollAll, SlotGives, AnySlotGives}
 use Rattle.futures_buffered_in_flight.specs.InFlight.{FlightsWaitAt, FliesInOrder}
 use Rattle.futures_buffered_joins.specs.JoinRule.{Outcome}
@@ -19,7 +20,7 @@ use Rattle.futures_buffered_joins.specs.Outputs.{CameInOrder, MayComeAll, MayEnd
 -- the places of a join that has not ended: a set of the futures that it waits for, each in the slot of its place, and
 -- at each place the output that has come, or nothing
 pub record Flying (F A : Type 0) : Type 0 where
-  pub set : Flights F
+  pub set : Flights F (Unit {0})
   pub outputs : List (Option A)
 
 -- how many places there are
@@ -34,6 +35,10 @@ flying_places (Some places) = flying_size places
 -- the place at which a pending join waits: that of its futures
 abbrev pub FlyingWaitsAt : {F A : Type 0} → Option (Flying F A) → ℕ → Type 0
 FlyingWaitsAt join source = IsSomeAnd join (λ places. FlightsWaitAt places.set source)
+
+-- no future of the join waits for memory, or the task was asked to poll again
+abbrev pub StartedOrWoken : {F A : Type 0} → Flying F A → Context → Type 0
+StartedOrWoken places left = (places.set.waiting ≡ []) ⊎ IsWoken left
 
 module _ {F O : Type 0} (future : FutureOf F O) where
   -- each future of the join may be polled; a join that has ended may be polled too
@@ -103,8 +108,10 @@ module _ {F R O A E B : Type 0} (future : FutureOf F O) (rule : JoinRuleOf R O A
     pub ended : IfReady answer (λ _. new ≡ None)
     -- a pending join waits for a future, none is lost, and each may be polled again
     pub waits : OnPending answer (IsSomeAnd old (λ was. IsSomeAnd new (WaitsOn was)))
-    -- the task of a pending join hears of what it waits for
+    -- the task of a pending join is registered where the join waits
     pub registered : OnPending answer (Covers left (FlyingWaitsAt new))
+    -- no future of a pending join waits for memory, or the task was asked to poll again
+    pub started : OnPending answer (IsSomeAnd new (λ places. StartedOrWoken places left))
     -- a join that was ready before leaves the task as it is
     pub untouched : old ≡ None → left ≡ cx
     -- what the task was registered for or asked to do before still stands

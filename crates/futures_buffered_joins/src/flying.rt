@@ -8,7 +8,7 @@ ghost use Rattle.futures_buffered_unordered.specs.Extended.{EachDrawn, MakesFull
 ghost use Rattle.futures_buffered_in_flight.specs.InFlight.{CanPollAll, FlightsWaitAt};
 ghost use Rattle.futures_buffered_joins.specs.JoiningFills.{FillsOrFails};
 ghost use Rattle.futures_buffered_joins.specs.InFlightJoin.{FillsPlace, FillsRest, IsNewFlying};
-ghost use Rattle.futures_buffered_joins.specs.InFlightJoin.{SomeMayFail, WaitsOn, flying_size};
+ghost use Rattle.futures_buffered_joins.specs.InFlightJoin.{SomeMayFail, StartedOrWoken, WaitsOn, flying_size};
 ghost use Rattle.futures_buffered_joins.specs.Outputs.{WaitsOrCame};
 
 use crate::join_rule::JoinRule;
@@ -69,6 +69,7 @@ impl<F: Future<Output: Drop>, A: Drop> Flying<F, A> {
             (SomeMayFail F.Future R.JoinRule self.old) result }
         ensures pending { OnPending result (WaitsOn F.Future R.JoinRule self.old self.new) }
         ensures registered { OnPending result (Covers cx.new (FlightsWaitAt self.new.set)) }
+        ensures started { OnPending result (StartedOrWoken self.new cx.new) }
         ensures kept { Keeps cx.old cx.new }
     {
         match self.set.poll_next_keyed(cx) {
@@ -96,6 +97,7 @@ impl<F: Future<Output: Drop>, A: Drop> Flying<F, A> {
             (SomeMayFail F.Future R.JoinRule self.old) result }
         ensures pending { OnPending result (WaitsOn F.Future R.JoinRule self.old self.new) }
         ensures registered { OnPending result (Covers cx.new (FlightsWaitAt self.new.set)) }
+        ensures started { OnPending result (StartedOrWoken self.new cx.new) }
         ensures kept { Keeps cx.old cx.new }
     {
         'places: while !self.set.is_empty() {

@@ -59,8 +59,8 @@ where
 {
     /// A join of these futures, in their order. Nothing is polled, and the join may be.
     ///
-    /// Takes time and memory in proportion to their number, all that the join ever needs but what the futures take, and
-    /// what the kit's set takes at its first poll of a task. Where it is refused, the futures that came are dropped.
+    /// Takes time and memory in proportion to their number. A future for which the kit's set cannot allocate waits until
+    /// a poll finds memory for it. If another allocation fails, the futures that came are dropped.
     pub fn over<I: IntoIterator<Item = F>>(alloc: Global, iter: I) -> Result<Self, NewFault>
         requires finite { IsFiniteSource (items_of I.IntoIterator I.IntoIter.Iterator iter) }
         requires fit { EachDrawn (items_of I.IntoIterator I.IntoIter.Iterator iter) F.can_poll }
@@ -95,8 +95,9 @@ where
     /// error, and the other futures and all outputs are dropped in this call. In both cases it holds nothing more, and
     /// later polls give no outputs, and poll nothing.
     ///
-    /// Takes no memory but what the futures take, and what the kit's set takes at its first poll of a task. Takes time
-    /// in proportion to the futures that it polls, and at the end to the number of places, besides the polls.
+    /// Allocates only what the futures do, what the kit's set does for a future that waits for memory, and what it does
+    /// at its first poll of a task. If a future waits still, the task is asked to poll again. Takes time in proportion to
+    /// the futures that it polls, and at the end to the number of places, apart from the polls.
     fn poll(&mut self, cx: &mut Context<'_>) -> Poll<R::Answer>
         requires { CanPollFlying F.Future self.old }
         ensures { PollsFlying F.Future R.JoinRule self.old result self.new cx.old cx.new }

@@ -1,10 +1,11 @@
 //! Adaptors of a stream of the kit's futures, as methods of the stream.
 //!
-//! Each holds the futures in an `InFlightQueue` or a `FuturesOrderedBounded`. A future may contain closures.
+//! Each holds the futures in a `FuturesUnorderedBounded` or a `FuturesOrderedBounded`. A future may contain closures.
 ghost use Rattle.std.specs.Prelude.{◌<◌, IfOk};
 ghost use Rattle.futures_buffered_core.specs.Made.{MakesSlots};
+ghost use Rattle.futures_buffered_in_flight.specs.InFlight.{IsNewInFlight};
 ghost use Rattle.futures_buffered_in_flight.specs.InFlightOrdered.{CanPollOrdered, IsNewInOrder};
-ghost use Rattle.futures_buffered_in_flight.specs.InFlightQueue.{CanPollQueue, IsNewQueued};
+ghost use Rattle.futures_buffered_in_flight.specs.InFlightQueue.{CanPollQueue};
 ghost use Rattle.futures_buffered.specs.Buffer.{IsNewBuffer};
 ghost use Rattle.futures_buffered.specs.Drain.{HoldsPollable, IsNewDrain};
 
@@ -14,7 +15,7 @@ use crate::in_flight::{BufferUnordered, BufferedOrdered, ForEachConcurrent};
 use futures::stream::StreamExt;
 use futures::{Future, Stream};
 use futures_buffered_core::ready_core::NewFault;
-use futures_buffered_in_flight::{FuturesOrderedBounded, InFlightQueue};
+use futures_buffered_in_flight::{FuturesOrderedBounded, FuturesUnorderedBounded};
 use futures_buffered_unordered::futures_unordered_bounded::POLL_LIMIT;
 use std::alloc::Global;
 
@@ -44,6 +45,7 @@ pub trait BufferedStreamExt: Stream + Sized {
     /// The outputs of this stream's futures as they finish, with at most `n` in progress at a time. Nothing is polled.
     ///
     /// Takes time and memory as `buffered_ordered` does, and refuses as that does.
+    #[tactic(auto, using(crate::proofs::InFlightLemmas::new_can_poll))]
     final fn buffered_unordered(
         self,
         alloc: Global,
@@ -52,10 +54,10 @@ pub trait BufferedStreamExt: Stream + Sized {
     where
         Self::Item: Future<Output: Drop>,
         requires { 0 < n }
-        ensures made { MakesSlots n (IsNewBuffer (IsNewQueued n) self) result }
+        ensures made { MakesSlots n (IsNewBuffer (IsNewInFlight n) self) result }
         ensures held { IfOk result (λ b. CanPollQueue Self.Item.Future b.queue) }
     {
-        let queue = InFlightQueue::new(alloc, n)?;
+        let queue = FuturesUnorderedBounded::new(alloc, n)?;
         Ok(Buffer::with_queue(self, queue))
     }
 
@@ -66,6 +68,7 @@ pub trait BufferedStreamExt: Stream + Sized {
     /// `BufferedStreamExt::for_each_concurrent(stream, alloc, limit, f)`.
     ///
     /// Takes time and memory as `buffered_ordered` does. Stream and closure are dropped where they are refused.
+    #[tactic(auto, using(crate::proofs::InFlightLemmas::new_can_poll))]
     final fn for_each_concurrent<Fut, F>(
         self,
         alloc: Global,
@@ -76,11 +79,11 @@ pub trait BufferedStreamExt: Stream + Sized {
         F: FnMut(Self::Item) -> Fut + Drop,
         Fut: Future<Output = ()>,
         requires { 0 < limit }
-        ensures made { MakesSlots limit (IsNewDrain (IsNewQueued limit) POLL_LIMIT
+        ensures made { MakesSlots limit (IsNewDrain (IsNewInFlight limit) POLL_LIMIT
             (record { stream = self; f = f })) result }
         ensures held { IfOk result (HoldsPollable Fut.Future) }
     {
-        let queue = InFlightQueue::new(alloc, limit)?;
+        let queue = FuturesUnorderedBounded::new(alloc, limit)?;
         Ok(Drain::over_buffer(Buffer::with_queue(self.map(f), queue), POLL_LIMIT))
     }
 }

@@ -1,24 +1,23 @@
 //! Futures of the kit, as what a buffer holds.
+ghost use Rattle.futures_buffered_in_flight.specs.InFlight.{ComesFromSlots, FlightsWaitAt, flight_slots};
 ghost use Rattle.futures_buffered_in_flight.specs.InFlightOrdered.{CanPollOrdered, ComesOfEach, OrderedWaitsAt};
-ghost use Rattle.futures_buffered_in_flight.specs.InFlightOrdered.{PollsInTurn, PushesBack};
-ghost use Rattle.futures_buffered_in_flight.specs.InFlight.{FlightsWaitAt};
-ghost use Rattle.futures_buffered_in_flight.specs.InFlightQueue.{CanPollQueue, ComesFromQueue};
-ghost use Rattle.futures_buffered_in_flight.specs.InFlightQueue.{PollsQueued, PushesQueued, queued_count, queued_room};
+ghost use Rattle.futures_buffered_in_flight.specs.InFlightOrdered.{PollsInTurn, PushesBack, ordered_room};
+ghost use Rattle.futures_buffered_in_flight.specs.InFlightQueue.{CanPollQueue, PollsQueued, PushesQueued, flight_count};
 ghost use Rattle.futures_buffered.specs.FutureQueue.{OnlyPushes};
 
 use crate::future_queue::FutureQueue;
 use futures::Future;
 use futures::task::{Context, Poll};
-use futures_buffered_in_flight::{FuturesOrderedBounded, InFlightQueue};
+use futures_buffered_in_flight::{FuturesOrderedBounded, FuturesUnorderedBounded};
 
-impl<F: Future<Output: Drop>> FutureQueue<F> for InFlightQueue<F> {
+impl<F: Future<Output: Drop>> FutureQueue<F> for FuturesUnorderedBounded<F> {
     ghost use Rattle.std.specs.Prelude.{false};
 
     type Output = F::Output;
 
-    ghost count = { queued_count };
+    ghost count = { flight_count };
 
-    ghost room = { queued_room };
+    ghost room = { flight_slots };
 
     ghost pushes = { OnlyPushes (PushesQueued F.Future) };
 
@@ -30,28 +29,28 @@ impl<F: Future<Output: Drop>> FutureQueue<F> for InFlightQueue<F> {
 
     ghost gives = { F.gives };
 
-    ghost yields = { ComesFromQueue F.Future };
+    ghost yields = { ComesFromSlots F.Future };
 
     ghost in_order = { false };
 
-    ghost needs = { λ q. FlightsWaitAt q.set };
+    ghost needs = { FlightsWaitAt };
 
     fn len(&self) -> usize {
-        InFlightQueue::len(self)
+        FuturesUnorderedBounded::len(self)
     }
 
     fn capacity(&self) -> usize {
-        InFlightQueue::capacity(self)
+        FuturesUnorderedBounded::capacity(self)
     }
 
     #[tactic(auto, using(crate::proofs::InFlightLemmas::push_leaves, crate::proofs::InFlightLemmas::push_adds))]
     fn push(&mut self, future: F) -> Option<F::Output> {
-        InFlightQueue::push(self, future);
+        self.push_queued(future);
         None
     }
 
     fn poll_output(&mut self, cx: &mut Context<'_>) -> Poll<Option<F::Output>> {
-        InFlightQueue::poll_output(self, cx)
+        self.poll_queued(cx)
     }
 }
 
@@ -62,7 +61,7 @@ impl<F: Future<Output = A>, A: Drop> FutureQueue<F> for FuturesOrderedBounded<F,
 
     ghost count = { λ q. length q.entries };
 
-    ghost room = { λ q. queued_room q.set };
+    ghost room = { ordered_room };
 
     ghost pushes = { OnlyPushes (PushesBack F.Future) };
 

@@ -1,10 +1,11 @@
 //! Adaptors of a stream of the kit's futures and errors, as methods of the stream.
 //!
-//! Each holds the futures in an `InFlightQueue` or a `FuturesOrderedBounded`. A future may contain closures.
+//! Each holds the futures in a `FuturesUnorderedBounded` or a `FuturesOrderedBounded`. A future may contain closures.
 ghost use Rattle.std.specs.Prelude.{◌<◌, IfOk};
 ghost use Rattle.futures_buffered_core.specs.Made.{MakesSlots};
+ghost use Rattle.futures_buffered_in_flight.specs.InFlight.{IsNewInFlight};
 ghost use Rattle.futures_buffered_in_flight.specs.InFlightOrdered.{CanPollOrdered, IsNewInOrder};
-ghost use Rattle.futures_buffered_in_flight.specs.InFlightQueue.{CanPollQueue, IsNewQueued};
+ghost use Rattle.futures_buffered_in_flight.specs.InFlightQueue.{CanPollQueue};
 ghost use Rattle.futures_buffered.specs.Buffer.{IsNewBuffer};
 ghost use Rattle.futures_buffered.specs.Drain.{HoldsPollable, IsNewDrain};
 
@@ -15,7 +16,7 @@ use crate::try_buffer::TryQueue;
 use futures::stream::TryStreamExt;
 use futures::{Future, Stream};
 use futures_buffered_core::ready_core::NewFault;
-use futures_buffered_in_flight::{FuturesOrderedBounded, InFlightQueue};
+use futures_buffered_in_flight::{FuturesOrderedBounded, FuturesUnorderedBounded};
 use futures_buffered_unordered::futures_unordered_bounded::POLL_LIMIT;
 use std::alloc::Global;
 
@@ -49,6 +50,7 @@ pub trait BufferedTryStreamExt: Stream + Sized {
     /// the stream as soon as it is met. Nothing is polled.
     ///
     /// Takes time and memory as `try_buffered_ordered` does, and refuses as that does.
+    #[tactic(auto, using(crate::proofs::InFlightLemmas::new_can_poll))]
     final fn try_buffered_unordered<F, T, E>(
         self,
         alloc: Global,
@@ -60,10 +62,10 @@ pub trait BufferedTryStreamExt: Stream + Sized {
         T: Drop,
         E: Drop,
         requires { 0 < n }
-        ensures made { MakesSlots n (IsNewBuffer (IsNewQueued n) self) result }
+        ensures made { MakesSlots n (IsNewBuffer (IsNewInFlight n) self) result }
         ensures held { IfOk result (λ b. CanPollQueue F.Future b.queue) }
     {
-        let queue = InFlightQueue::new(alloc, n)?;
+        let queue = FuturesUnorderedBounded::new(alloc, n)?;
         Ok(Buffer::with_queue(self, TryQueue::over(queue)))
     }
 
@@ -74,6 +76,7 @@ pub trait BufferedTryStreamExt: Stream + Sized {
     /// `BufferedTryStreamExt::try_for_each_concurrent(stream, alloc, limit, f)`.
     ///
     /// Takes time and memory as `try_buffered_ordered` does. Stream and closure are dropped where they are refused.
+    #[tactic(auto, using(crate::proofs::InFlightLemmas::new_can_poll))]
     final fn try_for_each_concurrent<T, E, Fut, F>(
         self,
         alloc: Global,
@@ -86,11 +89,11 @@ pub trait BufferedTryStreamExt: Stream + Sized {
         F: FnMut(T) -> Fut + Drop,
         Fut: Future<Output = Result<(), E>>,
         requires { 0 < limit }
-        ensures made { MakesSlots limit (IsNewDrain (IsNewQueued limit) POLL_LIMIT
+        ensures made { MakesSlots limit (IsNewDrain (IsNewInFlight limit) POLL_LIMIT
             (record { stream = self; f = f })) result }
         ensures held { IfOk result (HoldsPollable Fut.Future) }
     {
-        let queue = TryQueue::over(InFlightQueue::new(alloc, limit)?);
+        let queue = TryQueue::over(FuturesUnorderedBounded::new(alloc, limit)?);
         Ok(Drain::over_buffer(Buffer::with_queue(self.map_ok(f), queue), POLL_LIMIT))
     }
 }

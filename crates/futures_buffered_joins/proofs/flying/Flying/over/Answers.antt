@@ -20,3 +20,6 @@ pub returns-clause-places : goal.returns-clause-places
 returns-clause-places g c =
     let holds = c.in_ok-set.ensures.made.holds in
     all_wait g.F.Future holds.0 c.in_ok-set.set c.in_ok-outputs.outputs holds.2 (c.in_ok-outputs.ensures ∙ ap (λ n. replicate n None) (c.capacity.ensures ∙ holds.2.as_many))
+
+pub returns-in_err-outputs-clause-made : goal.returns-in_err-outputs-clause-made
+returns-in_err-outputs-clause-made g c = record { holds = search rules; fits = search rules; large = search rules }

@@ -11,6 +11,7 @@ returns-in-Ready-Ok g c =
       ended = c.take.ensures.after;
       waits = tt;
       registered = tt;
+      started = tt;
       untouched = λ none. let both = sym none ∙ is in cc;
       kept = c.in-Ready-Ok.ensures.kept;
     }

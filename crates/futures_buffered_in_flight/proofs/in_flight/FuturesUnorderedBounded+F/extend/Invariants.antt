@@ -2,11 +2,11 @@ use Rattle.std.specs.Prelude.{◌≡◌}
 use Rattle.std.specs.List.{FoldsTo}
 use Rattle.futures_buffered_core.specs.SlotMap.{slot_count}
 use Rattle.futures_buffered_in_flight.specs.InFlight.{CanPollAll, WentIn}
-use Rattle.futures_buffered_in_flight.proofs.in_flight.FuturesUnorderedBounded.extend.Given as goal
+use Rattle.futures_buffered_in_flight.proofs.in_flight.FuturesUnorderedBounded+F.extend.Given as goal
 
 abbrev pub invariant-loop-future : goal.invariant-loop-future
 invariant-loop-future g l = (goal.iterator-loop-future g).can_next l.future-iterator
     × (goal.iterator-loop-future g).is_finite l.future-iterator
-    × FoldsTo (WentIn g.F.Future) l.fn.self l.yielded l.self
+    × FoldsTo (WentIn g.F.Future tt) l.fn.self l.yielded l.self
     × CanPollAll g.F.Future l.self
     × (slot_count l.self.slots ≡ slot_count l.fn.self.slots)

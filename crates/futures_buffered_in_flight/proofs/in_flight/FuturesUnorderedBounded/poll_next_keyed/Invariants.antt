@@ -1,0 +1,12 @@
+use Rattle.std.specs.Prelude.{◌≡◌, ◌<◌, ◌⊎◌, []}
+use Rattle.futures.specs.Task.{Keeps}
+use Rattle.futures_buffered_core.specs.SlotMap.{held_count}
+use Rattle.futures_buffered_unordered.specs.FuturesUnorderedBounded.{IsWoken}
+use Rattle.futures_buffered_in_flight.specs.InFlightTurns.{Starts}
+use Rattle.futures_buffered_in_flight.proofs.in_flight.FuturesUnorderedBounded.poll_next_keyed.Given as goal
+
+abbrev pub invariant-turns : goal.invariant-turns
+invariant-turns g l = Starts g.F.Future l.fn.self l.self
+    × Keeps l.fn.cx l.cx
+    × (0 < held_count l.self.slots)
+    × ((l.self.waiting ≡ []) ⊎ IsWoken l.cx)

@@ -1,5 +1,0 @@
-use Rattle.futures_buffered_in_flight.specs.InFlightQueue.{Starts}
-use Rattle.futures_buffered_in_flight.proofs.in_flight_queue.InFlightQueue.start_all.Given as goal
-
-abbrev pub invariant-starts : goal.invariant-starts
-invariant-starts g l = Starts g.F.Future l.fn.self l.self

@@ -1,0 +1,32 @@
+-- What a turn of a poll, and a start of a future that waits, leave of a set of futures in flight.
+use Rattle.std.specs.Prelude.{◌≡◌, ◌+◌, ◌≤◌, ◌⊎◌, Option, length}
+use Rattle.futures.specs.declared.task.context.Context.{Context}
+use Rattle.futures.specs.Task.{Keeps}
+use Rattle.futures_buffered_in_flight.specs.InFlight.{Flights, FutureOf, CanPollAll, CanPollRuns, CanPollWaiting}
+use Rattle.futures_buffered_in_flight.specs.InFlight.{FlightsGiveNoMore, MayCome, WaitGives, run_count}
+use Rattle.futures_buffered_in_flight.specs.declared.run.Key.{Key}
+use Rattle.futures_buffered_in_flight.specs.declared.run.Waits.{Waits}
+
+module _ {F A T : Type 0} (future : FutureOf F A) where
+  -- the kit's set took the future, or it waits behind the others
+  pub record Flies (old : Flights F T) (value : Waits F) (new : Flights F T) : Type 0 where
+    pub running : CanPollRuns future new.running
+    pub waiting : CanPollWaiting future new.waiting
+    pub gives : (came : Key × Option A) → MayCome future new came → MayCome future old came ⊎ WaitGives future value came
+    pub counts : run_count new.running + length new.waiting ≡ run_count old.running + length old.waiting + 1
+    pub slots : new.slots ≡ old.slots
+    pub rest : (new.cancelled ≡ old.cancelled) × (new.next ≡ old.next)
+
+  -- some that waited went to the kit's set, or were dropped, since they were cancelled
+  pub record Starts (old new : Flights F T) : Type 0 where
+    pub slots : new.slots ≡ old.slots
+    pub keys : new.next ≡ old.next
+    pub room : new.cancelled ≤ old.cancelled
+    pub less : FlightsGiveNoMore future old new
+    pub again : CanPollAll future new
+
+  -- one that was cancelled has ended
+  pub record TurnsOn (old new : Flights F T) (cx left : Context) : Type 0 where
+    pub starts : Starts old new
+    pub same_waiting : new.waiting ≡ old.waiting
+    pub kept : Keeps cx left
