@@ -74,7 +74,7 @@ where
     let task = MockTask::new(rt)?;
     let mut set = FuturesUnorderedBounded::new(rt.alloc(), 2)?;
     let (first, number) = number_to_come(rt.alloc())?;
-    let key = set.try_push_abortable(number).ok();
+    let key = set.try_push(number).ok();
     let (second, number) = number_to_come(rt.alloc())?;
     let _key = set.try_push(number).ok();
     let first = send_from_thread(rt, first, 0)?;

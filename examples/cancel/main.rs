@@ -75,14 +75,11 @@ fn main(rt: HostRuntime) -> Result<(), anyhow::Error> {
         Ok::<_, anyhow::Error>(exchange)
     };
     let mut set = FuturesUnorderedBounded::new(alloc, limit)?;
-    let late = set.try_push_abortable(get("late")?).ok();
+    let late = set.try_push(get("late")?).ok();
     let mut keys = Vec::new(alloc);
     while !set.is_full() {
         let path = format!(in alloc; "{}", keys.len())?;
-        let Ok(key) = set.try_push(get(path.as_str())?) else {
-            bail!("out of memory");
-        };
-        keys.push(key)?;
+        keys.push(set.push(get(path.as_str())?))?;
     }
     let mut sizes = BTreeMap::new(alloc);
     for _ in rt.forever() {
@@ -104,9 +101,7 @@ fn main(rt: HostRuntime) -> Result<(), anyhow::Error> {
     }
     report(&rt, &mut runtime, set.len(), get("in-hand")?)?;
     while !set.is_full() {
-        if set.try_push(get("late")?).is_err() {
-            bail!("out of memory");
-        }
+        let _key = set.push(get("late")?);
     }
     let moment = Duration::from_millis(MILLISECONDS);
     let first = timers.timeout(&rt, moment, set.next())?;

@@ -98,9 +98,7 @@ fn main(rt: HostRuntime) -> Result<(), anyhow::Error> {
             let Some((page, tries)) = waiting.pop() else {
                 break;
             };
-            if set.try_push(attempt(page, tries)?).is_err() {
-                bail!("out of memory");
-            }
+            let _key = set.push(attempt(page, tries)?);
             in_flight.insert(page)?;
         }
         let next = timers.timeout_at(end, set.next())?;

@@ -136,7 +136,7 @@ where
                     .handle()
                     .time()
                     .timeout(rt, settings.deadline, page)?;
-                let _ = visits.try_push(Visit::new(rt.alloc(), name, page));
+                let _key = visits.push(Visit::new(rt.alloc(), name, page));
                 continue;
             }
         }

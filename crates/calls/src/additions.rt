@@ -2,7 +2,7 @@
 //! the values must be back; then the call is made once more.
 use crate::answer::{Reply, append_reply};
 use crate::command::{End, Query};
-use crate::numbers::push_numbers;
+use crate::numbers::{number, push_numbers};
 use crate::session::Session;
 use crate::shared_world::SharedWorld;
 use crate::subject::{Call, Subject};
@@ -188,6 +188,48 @@ impl Session {
             self.extend_all(object)
         } else {
             Reply::Nothing
+        };
+        append_reply(&mut self.reply, reply);
+    }
+
+    // A call for one value, which may ask for no memory.
+    fn call_for<O: Subject>(&mut self, object: &mut O, call: Call<'_>) -> Reply {
+        self.counter.begin(Some(0));
+        let reply = object.call(call, &self.world, &mut self.reply.string);
+        self.counter.end();
+        reply
+    }
+
+    fn cancel_each<O: Subject>(&mut self, object: &mut O) -> Reply {
+        for at in 0..self.ids.len() {
+            let Some(id) = self.ids.get(at).copied() else {
+                return Reply::Nothing;
+            };
+            match self.call_for(object, Call::Cancel(id)) {
+                Reply::Ok => {}
+                reply => return reply,
+            }
+        }
+        Reply::Ok
+    }
+
+    /// Cancels the values that the line names. None of them is dropped in these calls.
+    pub fn cancel<O: Subject>(&mut self, object: &mut O, rest: &str) {
+        let mut reply = Reply::Nothing;
+        if self.take_numbers(rest) {
+            reply = self.cancel_each(object);
+        }
+        if !self.world.has_dropped(&[]) {
+            reply = Reply::Changed;
+        }
+        append_reply(&mut self.reply, reply);
+    }
+
+    /// Whether the object holds the value that the line names.
+    pub fn contains<O: Subject>(&mut self, object: &mut O, rest: &str) {
+        let reply = match number(rest) {
+            Some(id) => self.call_for(object, Call::Contains(id)),
+            None => Reply::Nothing,
         };
         append_reply(&mut self.reply, reply);
     }

@@ -28,6 +28,8 @@ pub enum Reply {
     Nothing,
     Ok,
     Full,
+    /// There is no such value.
+    None,
     /// A request for memory was refused.
     Refused,
     /// It was refused, and what the object says of itself has changed, or a value did not come back.
@@ -151,6 +153,14 @@ pub fn of_listed<T: Drop>(pushed: Result<(), T>, is_full: bool) -> Reply {
     }
 }
 
+/// The reply of an object that refuses exactly if it is full, and never for memory.
+pub fn of_full<T: Drop>(pushed: Result<(), T>, is_full: bool) -> Reply {
+    match of_push(pushed) {
+        Reply::Full if !is_full => Reply::Nothing,
+        reply => reply,
+    }
+}
+
 /// What `Debug` printed stands in the text, unless memory was refused.
 pub fn of_debug(written: Result<(), AllocError>) -> Reply {
     match written {
@@ -211,6 +221,7 @@ pub fn append_reply(text: &mut Text, reply: Reply) {
         Reply::Nothing => text.append("bad"),
         Reply::Ok => text.append("ok"),
         Reply::Full => text.append("full"),
+        Reply::None => text.append("none"),
         Reply::Refused => text.append("memory"),
         Reply::Changed => text.append("refused with a change"),
         Reply::Number(number) => text.append_number(number as u64),

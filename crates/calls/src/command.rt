@@ -1,5 +1,5 @@
 //! The first word of a line, as what it asks for.
-use crate::numbers::number;
+use crate::numbers::span;
 use crate::world::SOURCE;
 
 /// What a line asks for.
@@ -25,6 +25,8 @@ pub enum Command {
     DropSender,
     Push(End),
     Extend,
+    Cancel,
+    Contains,
     Clear,
     Drop,
     Ask(Query),
@@ -52,11 +54,17 @@ pub enum Kind {
     ForEach,
     TryForEach,
     InFlight,
+    InFlightOf,
     InFlightOrdered,
+    InFlightOrderedOf,
     InFlightJoin,
     InFlightTryJoin,
     InFlightMerge,
+    InFlightBoundedMerge,
+    InFlightBufferedUnordered,
     InFlightBufferedOrdered,
+    InFlightTryBufferedUnordered,
+    InFlightTryBufferedOrdered,
 }
 
 /// Where a future is added: sets and merges have no ends.
@@ -102,7 +110,11 @@ fn kind_of(word: &str) -> Option<Kind> {
         "in_flight_join" => Kind::InFlightJoin,
         "in_flight_try_join" => Kind::InFlightTryJoin,
         "in_flight_merge" => Kind::InFlightMerge,
+        "in_flight_bounded_merge" => Kind::InFlightBoundedMerge,
+        "in_flight_buffered_unordered" => Kind::InFlightBufferedUnordered,
         "in_flight_buffered_ordered" => Kind::InFlightBufferedOrdered,
+        "in_flight_try_buffered_unordered" => Kind::InFlightTryBufferedUnordered,
+        "in_flight_try_buffered_ordered" => Kind::InFlightTryBufferedOrdered,
         _ => return None,
     })
 }
@@ -112,11 +124,17 @@ pub fn is_in_flight(kind: Kind) -> bool {
     matches!(
         kind,
         Kind::InFlight
+            | Kind::InFlightOf
             | Kind::InFlightOrdered
+            | Kind::InFlightOrderedOf
             | Kind::InFlightJoin
             | Kind::InFlightTryJoin
             | Kind::InFlightMerge
-            | Kind::InFlightBufferedOrdered,
+            | Kind::InFlightBoundedMerge
+            | Kind::InFlightBufferedUnordered
+            | Kind::InFlightBufferedOrdered
+            | Kind::InFlightTryBufferedUnordered
+            | Kind::InFlightTryBufferedOrdered,
     )
 }
 
@@ -127,6 +145,8 @@ pub fn kind_of_values(kind: Kind) -> Kind {
         Kind::Set => Kind::SetOf,
         Kind::BoundedQueue => Kind::BoundedQueueOf,
         Kind::Queue => Kind::QueueOf,
+        Kind::InFlight => Kind::InFlightOf,
+        Kind::InFlightOrdered => Kind::InFlightOrderedOf,
         other => other,
     }
 }
@@ -170,6 +190,8 @@ pub fn command_of(word: &str) -> Option<Command> {
         "push_back" => Command::Push(End::Back),
         "push_front" => Command::Push(End::Front),
         "extend" => Command::Extend,
+        "cancel" => Command::Cancel,
+        "contains" => Command::Contains,
         "clear" => Command::Clear,
         "drop" => Command::Drop,
         _ => match kind_of(word) {
@@ -179,10 +201,10 @@ pub fn command_of(word: &str) -> Option<Command> {
     })
 }
 
-/// The number of a value, or that of the source.
-pub fn id_of(word: &str) -> Option<usize> {
+/// The numbers of values, or that of the source: the first and the last.
+pub fn ids_of(word: &str) -> Option<(usize, usize)> {
     if word == "source" {
-        return Some(SOURCE);
+        return Some((SOURCE, SOURCE));
     }
-    number(word)
+    span(word)
 }

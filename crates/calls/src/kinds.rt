@@ -40,10 +40,18 @@ pub fn run_kind(
         Kind::ForEach => run_for_each(session, numbers, lines),
         Kind::TryForEach => run_try_for_each(session, numbers, lines),
         Kind::InFlight => in_flight::run_set(session, numbers, lines),
+        Kind::InFlightOf => in_flight::run_set_of(session, numbers, lines),
         Kind::InFlightOrdered => in_flight::run_queue(session, numbers, lines),
+        Kind::InFlightOrderedOf => in_flight::run_queue_of(session, numbers, lines),
         Kind::InFlightJoin => in_flight::run_join(session, numbers, lines),
         Kind::InFlightTryJoin => in_flight::run_try_join(session, numbers, lines),
         Kind::InFlightMerge => in_flight::run_merge(session, numbers, lines),
-        Kind::InFlightBufferedOrdered => in_flight::run_buffer(session, numbers, lines),
+        Kind::InFlightBoundedMerge => in_flight::run_bounded_merge(session, numbers, lines),
+        Kind::InFlightBufferedUnordered => in_flight::run_buffer(session, numbers, lines),
+        Kind::InFlightBufferedOrdered => in_flight::run_ordered_buffer(session, numbers, lines),
+        Kind::InFlightTryBufferedUnordered => in_flight::run_try_buffer(session, numbers, lines),
+        Kind::InFlightTryBufferedOrdered => {
+            in_flight::run_try_ordered_buffer(session, numbers, lines)
+        }
     }
 }

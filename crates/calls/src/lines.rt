@@ -43,6 +43,8 @@ impl Session {
             Command::Drain => self.drain(object, rest),
             Command::Push(end) => self.push(object, end, rest),
             Command::Extend => self.extend(object, rest),
+            Command::Cancel => self.cancel(object, rest),
+            Command::Contains => self.contains(object, rest),
             Command::Clear => self.clear(object),
             Command::Ask(query) => self.query(object, query),
             Command::Drop => self.append_drop(),

@@ -1,5 +1,5 @@
 //! What a line says about values, tasks and the next object, and the wakes and sends that it makes.
-use crate::command::{Command, id_of};
+use crate::command::{Command, ids_of};
 use crate::line::split_call;
 use crate::numbers::{number, span};
 use crate::session::{Session, task_of};
@@ -58,9 +58,18 @@ impl SharedWorld {
 }
 
 impl Session {
+    // Whether each of these values has kept a waker, which is woken.
+    fn wake_each(&self, first: usize, last: usize) -> bool {
+        let mut has_each = true;
+        for id in first..last {
+            has_each = self.world.wake(id) && has_each;
+        }
+        self.world.wake(last) && has_each
+    }
+
     fn wake(&self, rest: &str) -> &'static str {
-        match id_of(rest) {
-            Some(id) if self.world.wake(id) => self.woken_word(self.task),
+        match ids_of(rest) {
+            Some((first, last)) if self.wake_each(first, last) => self.woken_word(self.task),
             Some(_) => "none",
             None => "bad",
         }

@@ -11,6 +11,10 @@ pub enum Call<'a> {
     Push(End, usize),
     /// To take those with these numbers.
     Extend(&'a [usize]),
+    /// To cancel the value with this number.
+    Cancel(usize),
+    /// Whether the value with this number is held.
+    Contains(usize),
     /// To drop what it holds.
     Clear,
     Ask(Query),

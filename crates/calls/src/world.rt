@@ -42,8 +42,8 @@ pub struct World {
     pub is_out_of_memory: bool,
 }
 
-// Has the table grow up to that place. Whether there was memory for it.
-fn make_place<T: Drop>(table: &mut Vec<Option<T>>, place: usize) -> bool {
+/// Has the table grow up to that place. Whether there was memory for it.
+pub fn make_place<T: Drop>(table: &mut Vec<Option<T>>, place: usize) -> bool {
     for _ in table.len()..place.saturating_add(1) {
         if !memory::push(table, None) {
             return false;
@@ -52,8 +52,8 @@ fn make_place<T: Drop>(table: &mut Vec<Option<T>>, place: usize) -> bool {
     true
 }
 
-// Puts the value at that place of the table, which grows. Whether there was memory for it.
-fn put<T: Drop>(table: &mut Vec<Option<T>>, place: usize, value: T) -> bool {
+/// Puts the value at that place of the table, which grows. Whether there was memory for it.
+pub fn put<T: Drop>(table: &mut Vec<Option<T>>, place: usize, value: T) -> bool {
     if !make_place(table, place) {
         return false;
     }

@@ -8,7 +8,7 @@ use std::alloc::Global;
 use std::sync::atomic::Ordering::SeqCst;
 use std::test::Fail;
 use test_support::counter::{Counter, new_counter};
-use test_support::timed::{Timed, drawn, ready};
+use test_support::timed::{Timed, drawn, ready, ready_up_to};
 
 type Queue = FuturesOrderedBounded<Timed, CoreSource>;
 
@@ -22,10 +22,10 @@ fn extended(queue: &mut Queue, items: Vec<Timed>) -> (Result<(), Timed>, usize, 
 // The refused future comes back, and the one behind it is not drawn.
 #[test]
 fn extend_stops_at_the_first_refusal(rt: HostRuntime) -> Result<(), Fail> {
-    let items = vec![in rt.alloc(); ready(1), ready(2), ready(3), ready(4)]?;
-    let mut queue: Queue = FuturesOrderedBounded::over(&(), rt.alloc(), 2)?;
+    let items = ready_up_to(rt.alloc(), 12)?;
+    let mut queue: Queue = FuturesOrderedBounded::over(&(), rt.alloc(), 10)?;
     let answers = extended(&mut queue, items);
-    assert_same(&rt, answers, (Err(ready(3)), 2, Some(ready(4))));
+    assert_same(&rt, answers, (Err(ready(10)), 10, Some(ready(11))));
     Ok(())
 }
 

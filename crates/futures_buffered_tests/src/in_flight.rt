@@ -1,171 +1,210 @@
-//! Which futures a set of the kit's futures ends, and when: each is seen by its sender.
+//! What lines of calls cannot say of a set of the kit's futures: what its users hold of it, what `extend` draws, and
+//! whom a future that waits for the next output wakes.
 ghost use Rattle.futures_buffered_in_flight.specs.InFlight.{CanPollAll};
+ghost use Rattle.futures_buffered_in_flight.specs.InFlightOrdered.{CanPollOrdered};
+ghost use Rattle.futures_buffered.specs.InFlightMerge.{CanPollStreams};
 
 use crate::same::assert_same;
-use futures::Future;
-use futures::channel::oneshot::{Receiver, Sender, channel};
+use futures::channel::mpsc::{UnboundedReceiver, unbounded};
+use futures::channel::oneshot::{Canceled, Receiver, Sender, channel};
 use futures::task::{Context, Poll};
 use futures::test::MockTask;
-use futures_buffered_in_flight::{FuturesUnorderedBounded, Key};
-use std::alloc::AllocGlobal;
+use futures::{Future, Stream, StreamExt};
+use futures_buffered::in_flight::MergeBounded;
+use futures_buffered_in_flight::{FuturesOrderedBounded, FuturesUnorderedBounded, Kept, Key};
+use std::alloc::{AllocError, AllocGlobal, Global};
 use std::process::Abort;
 use std::test::Fail;
+use test_support::keep::keep;
 
 type Set = FuturesUnorderedBounded<Receiver<u64>>;
 
-// A sender, and the key of its receiver, if that went into the set.
-type Sent = (Sender<u64>, Option<Key>);
+type Queue = FuturesOrderedBounded<Receiver<u64>, Result<u64, Canceled>>;
 
-fn push<R: AllocGlobal + Abort>(rt: &R, set: &mut Set) -> Result<Sent, Fail>
-    requires { CanPollAll ⟦<Receiver<u64> as Future>⟧ set.old }
-    ensures { CanPollAll ⟦<Receiver<u64> as Future>⟧ set.new }
-{
+type Merge = MergeBounded<UnboundedReceiver<u64>>;
+
+// Each may be polled at any time. A tag is a text.
+type TextSet = Kept<FuturesUnorderedBounded<Receiver<u64>, String>>;
+
+// A sender, and the key of its receiver, which went into the set under this text.
+fn push<R: AllocGlobal + Abort>(
+    rt: &R,
+    set: &mut TextSet,
+    tag: &str,
+) -> Result<(Sender<u64>, Option<Key>), Fail> {
     let (sender, receiver) = channel::<u64>(rt.alloc())?;
-    Ok((sender, set.try_push(receiver).ok()))
+    let tag = String::from_str(rt.alloc(), tag)?;
+    Ok((sender, set.try_push_tagged(receiver, tag).ok()))
 }
 
-fn push_abortable<R: AllocGlobal + Abort>(rt: &R, set: &mut Set) -> Result<Sent, Fail>
-    requires { CanPollAll ⟦<Receiver<u64> as Future>⟧ set.old }
-    ensures { CanPollAll ⟦<Receiver<u64> as Future>⟧ set.new }
-{
-    let (sender, receiver) = channel::<u64>(rt.alloc())?;
-    Ok((sender, set.try_push_abortable(receiver).ok()))
-}
-
-// What one poll of the set gives: nothing, the end, or a number with the key of its future.
-fn polled(set: &mut Set, cx: &mut Context<'_>) -> Option<Option<(Key, u64)>>
-    requires { CanPollAll ⟦<Receiver<u64> as Future>⟧ set.old }
-    ensures { CanPollAll ⟦<Receiver<u64> as Future>⟧ set.new }
-{
-    match set.poll_next_keyed(cx) {
-        Poll::Pending => None,
-        Poll::Ready(None) => Some(None),
-        Poll::Ready(Some(came)) => Some(Some((came.key, came.output.unwrap_or(0)))),
-    }
-}
-
-// Cancels the future of this key, and says whether there was one.
-fn cancels(set: &mut Set, key: Option<Key>) -> bool
-    requires { CanPollAll ⟦<Receiver<u64> as Future>⟧ set.old }
-    ensures { CanPollAll ⟦<Receiver<u64> as Future>⟧ set.new }
-{
+// Cancels the future of this key, and says whether the set held one under this text.
+fn cancels(set: &mut TextSet, key: Option<Key>, tag: &str) -> bool {
     match key {
-        Some(key) => set.cancel(key).is_some(),
+        Some(key) => match set.cancel(key) {
+            Some(text) => text.as_str() == tag,
+            None => false,
+        },
         None => false,
     }
 }
 
-// The output of the future of this key.
-fn came(key: Option<Key>, output: u64) -> Option<Option<(Key, u64)>> {
-    Some(key.map(|key| (key, output)))
+// The key of the next output, if that is the number and came under this text.
+fn came(set: &mut TextSet, cx: &mut Context<'_>, number: u64, tag: &str) -> Option<Key> {
+    match set.poll_next_keyed(cx) {
+        Poll::Ready(Some(came)) if came.output == Ok(number) && came.tag.as_str() == tag => {
+            Some(came.key)
+        }
+        _ => None,
+    }
 }
 
-fn outputs_by_key<R: AllocGlobal + Abort>(rt: &R, cx: &mut Context<'_>) -> Result<(), Fail> {
-    let mut set = FuturesUnorderedBounded::new(rt.alloc(), 2)?;
-    let (first, first_key) = push(rt, &mut set)?;
-    let (second, second_key) = push(rt, &mut set)?;
-    assert_same(rt, polled(&mut set, cx).is_none(), true);
-    let _ = second.send(5);
-    assert_same(rt, polled(&mut set, cx) == came(second_key, 5), true);
-    let _ = first.send(6);
-    assert_same(rt, polled(&mut set, cx) == came(first_key, 6), true);
-    assert_same(rt, polled(&mut set, cx) == Some(None), true);
+fn tagged<R: AllocGlobal + Abort>(rt: &R, cx: &mut Context<'_>) -> Result<(), Fail> {
+    let mut set = Kept::new(FuturesUnorderedBounded::new(rt.alloc(), 3)?);
+    let (_first, first_key) = push(rt, &mut set, "one")?;
+    let (second, second_key) = push(rt, &mut set, "two")?;
+    let (third, third_key) = push(rt, &mut set, "two")?;
+    let (_, receiver) = channel::<u64>(rt.alloc())?;
+    let refused = set.try_push_tagged(receiver, String::from_str(rt.alloc(), "four")?);
+    let tag = refused.err().map(|back| back.1.as_str() == "four");
+    assert_same(rt, tag, Some(true));
+    assert_same(rt, cancels(&mut set, first_key, "one"), true);
+    assert_same(rt, cancels(&mut set, first_key, "one"), false);
+    let _ = third.send(3);
+    assert_same(rt, came(&mut set, cx, 3, "two") == third_key, true);
+    let _ = second.send(2);
+    assert_same(rt, came(&mut set, cx, 2, "two") == second_key, true);
+    assert_same(rt, first_key < second_key && second_key < third_key, true);
     Ok(())
 }
 
-// An output comes with the key of its own future, and the end where nothing is held.
+// Each output has the tag of its push, and a cancel and a refused push return theirs. Keys have the order of the pushes.
 #[test]
-fn an_output_by_its_key(rt: HostRuntime) -> Result<(), Fail> {
+fn a_tag_of_text(rt: HostRuntime) -> Result<(), Fail> {
     let task = MockTask::new(&rt)?;
-    task.enter(|cx| outputs_by_key(&rt, cx))
+    task.enter(|cx| tagged(&rt, cx))
 }
 
-fn cleared<R: AllocGlobal + Abort>(rt: &R, cx: &mut Context<'_>) -> Result<(), Fail> {
-    let mut set = FuturesUnorderedBounded::new(rt.alloc(), 2)?;
-    let (first, _) = push(rt, &mut set)?;
-    let (second, _) = push_abortable(rt, &mut set)?;
-    assert_same(rt, polled(&mut set, cx).is_none(), true);
-    set.clear();
-    assert_same(
-        rt,
-        (first.is_canceled(), second.is_canceled()),
-        (true, true),
-    );
-    assert_same(rt, polled(&mut set, cx) == Some(None), true);
+// Whether a poll in this task is pending, and the next one leaves the task alone.
+fn waits_in(set: &mut TextSet, task: &MockTask) -> bool {
+    let first = task.enter(|cx| set.poll_next_keyed(cx).is_pending());
+    let second = task.enter(|cx| set.poll_next_keyed(cx).is_pending());
+    first && second && !task.is_woken()
+}
+
+// The next poll drops what was cancelled, whichever task polls. A push and a send wake the task that polled last.
+#[test]
+fn another_task_polls(rt: HostRuntime) -> Result<(), Fail> {
+    let (one, other) = (MockTask::new(&rt)?, MockTask::new(&rt)?);
+    let mut set = Kept::new(FuturesUnorderedBounded::new(rt.alloc(), 3)?);
+    let (first, first_key) = push(&rt, &mut set, "one")?;
+    let (second, second_key) = push(&rt, &mut set, "two")?;
+    assert_same(&rt, waits_in(&mut set, &one), true);
+    assert_same(&rt, waits_in(&mut set, &other), true);
+    assert_same(&rt, cancels(&mut set, first_key, "one"), true);
+    assert_same(&rt, first.is_canceled(), false);
+    assert_same(&rt, waits_in(&mut set, &other), true);
+    assert_same(&rt, first.is_canceled(), true);
+    let (_third, _) = push(&rt, &mut set, "three")?;
+    assert_same(&rt, other.is_woken(), true);
+    assert_same(&rt, waits_in(&mut set, &other), true);
+    let _ = second.send(2);
+    assert_same(&rt, other.is_woken(), true);
+    let came = other.enter(|cx| came(&mut set, cx, 2, "two"));
+    assert_same(&rt, came == second_key, true);
     Ok(())
 }
 
-// A clear drops each future in the call.
-#[test]
-fn a_clear(rt: HostRuntime) -> Result<(), Fail> {
-    let task = MockTask::new(&rt)?;
-    task.enter(|cx| cleared(&rt, cx))
+fn receivers(alloc: Global, count: usize) -> Result<Vec<Receiver<u64>>, AllocError> {
+    let mut receivers = Vec::new(alloc);
+    for _ in 0..count {
+        let (_sender, receiver) = channel::<u64>(alloc)?;
+        keep(&mut receivers, receiver)?;
+    }
+    Ok(receivers)
 }
 
-fn cancelled_by_handle<R: AllocGlobal + Abort>(rt: &R, cx: &mut Context<'_>) -> Result<(), Fail> {
-    let mut set = FuturesUnorderedBounded::new(rt.alloc(), 2)?;
-    let (first, first_key) = push_abortable(rt, &mut set)?;
-    let (second, second_key) = push(rt, &mut set)?;
-    assert_same(rt, polled(&mut set, cx).is_none(), true);
-    assert_same(
-        rt,
-        (cancels(&mut set, first_key), set.len(), set.is_full()),
-        (true, 1, true),
-    );
-    assert_same(rt, first.is_canceled(), false);
-    assert_same(rt, polled(&mut set, cx).is_none(), true);
-    assert_same(rt, (first.is_canceled(), set.is_full()), (true, false));
-    let _ = second.send(7);
-    assert_same(rt, polled(&mut set, cx) == came(second_key, 7), true);
+fn streams(alloc: Global, count: usize) -> Result<Vec<UnboundedReceiver<u64>>, AllocError> {
+    let mut streams = Vec::new(alloc);
+    for _ in 0..count {
+        let (_sender, stream) = unbounded::<u64>(alloc)?;
+        keep(&mut streams, stream)?;
+    }
+    Ok(streams)
+}
+
+// Whether `extend` was refused, how many are held then, and how many items it left.
+type Extended = (bool, usize, usize);
+
+fn set_extended(set: &mut Set, items: Vec<Receiver<u64>>) -> Extended
+    requires { CanPollAll ⟦<Receiver<u64> as Future>⟧ set.old }
+{
+    let mut items = items.into_iter();
+    let is_refused = set.extend(&mut items).is_err();
+    (is_refused, set.len(), items.len())
+}
+
+fn queue_extended(queue: &mut Queue, items: Vec<Receiver<u64>>) -> Extended
+    requires { CanPollOrdered ⟦<Receiver<u64> as Future>⟧ queue.old }
+{
+    let mut items = items.into_iter();
+    let is_refused = queue.extend(&mut items).is_err();
+    (is_refused, queue.len(), items.len())
+}
+
+fn merge_extended(merge: &mut Merge, items: Vec<UnboundedReceiver<u64>>) -> Extended
+    requires { CanPollStreams ⟦<UnboundedReceiver<u64> as Stream>⟧ merge.old }
+{
+    let mut items = items.into_iter();
+    let is_refused = merge.extend(&mut items).is_err();
+    (is_refused, merge.len(), items.len())
+}
+
+// The refused item comes back, and those after it are not drawn.
+#[test]
+fn extend_in_flight_stops_at_the_first_refusal(rt: HostRuntime) -> Result<(), Fail> {
+    let alloc = rt.alloc();
+    let mut set = FuturesUnorderedBounded::new(alloc, 2)?;
+    let extended = set_extended(&mut set, receivers(alloc, 5)?);
+    assert_same(&rt, extended, (true, 2, 2));
+    let mut queue = FuturesOrderedBounded::new(alloc, 2)?;
+    let extended = queue_extended(&mut queue, receivers(alloc, 5)?);
+    assert_same(&rt, extended, (true, 2, 2));
+    let mut merge = MergeBounded::new(alloc, 2);
+    let extended = merge_extended(&mut merge, streams(alloc, 5)?);
+    assert_same(&rt, extended, (true, 2, 2));
     Ok(())
 }
 
-// One that was pushed so ends at the next poll, and its room is free then.
+// Whether it is pending, and whether its task is woken then.
+fn waits<N: Future<Output: Drop>>(task: &MockTask, next: N) -> (bool, bool)
+    requires { N.can_poll next }
+{
+    let mut next = next;
+    let is_pending = task.enter(|cx| next.poll(cx).is_pending());
+    (is_pending, task.is_woken())
+}
+
+// The task is not woken before there is an output, of a set, a queue and a merge.
 #[test]
-fn a_cancel_that_ends(rt: HostRuntime) -> Result<(), Fail> {
+fn the_next_is_waited_for(rt: HostRuntime) -> Result<(), Fail> {
+    let alloc = rt.alloc();
     let task = MockTask::new(&rt)?;
-    task.enter(|cx| cancelled_by_handle(&rt, cx))
-}
-
-fn cancelled_until_done<R: AllocGlobal + Abort>(rt: &R, cx: &mut Context<'_>) -> Result<(), Fail> {
-    let mut set = FuturesUnorderedBounded::new(rt.alloc(), 2)?;
-    let (first, first_key) = push(rt, &mut set)?;
-    let (_second, _) = push(rt, &mut set)?;
-    assert_same(rt, polled(&mut set, cx).is_none(), true);
-    assert_same(
-        rt,
-        (cancels(&mut set, first_key), set.len(), set.is_full()),
-        (true, 1, true),
-    );
-    let (_third, third_key) = push(rt, &mut set)?;
-    assert_same(rt, third_key.is_none(), true);
-    assert_same(rt, first.send(8).is_ok(), true);
-    assert_same(rt, polled(&mut set, cx).is_none(), true);
-    assert_same(
-        rt,
-        (cancels(&mut set, first_key), set.is_full()),
-        (false, false),
-    );
-    Ok(())
-}
-
-// Another takes up room until it is done, and no output of it comes.
-#[test]
-fn a_cancel_of_one_that_goes_on(rt: HostRuntime) -> Result<(), Fail> {
-    let task = MockTask::new(&rt)?;
-    task.enter(|cx| cancelled_until_done(&rt, cx))
-}
-
-// The last one held ends in the call.
-#[test]
-fn a_cancel_of_the_last_one(rt: HostRuntime) -> Result<(), Fail> {
-    let mut set = FuturesUnorderedBounded::new(rt.alloc(), 2)?;
-    let (only, key) = push(&rt, &mut set)?;
-    assert_same(
-        &rt,
-        (cancels(&mut set, key), only.is_canceled()),
-        (true, true),
-    );
-    assert_same(&rt, (set.len(), set.is_full()), (0, false));
+    let (sender, receiver) = channel::<u64>(alloc)?;
+    let (_other, second) = channel::<u64>(alloc)?;
+    let mut set = FuturesUnorderedBounded::new(alloc, 2)?;
+    assert_same(&rt, set.try_push(receiver).is_ok(), true);
+    assert_same(&rt, set.try_push(second).is_ok(), true);
+    assert_same(&rt, waits(&task, set.next()), (true, false));
+    let _ = sender.send(5);
+    assert_same(&rt, waits(&task, set.next()), (false, false));
+    assert_same(&rt, waits(&task, set.into_next()), (true, false));
+    let (_sender, receiver) = channel::<u64>(alloc)?;
+    let mut queue: Queue = FuturesOrderedBounded::new(alloc, 2)?;
+    assert_same(&rt, queue.try_push_back(receiver).is_ok(), true);
+    assert_same(&rt, waits(&task, queue.into_next()), (true, false));
+    let (_sender, stream) = unbounded::<u64>(alloc)?;
+    let mut merge = MergeBounded::new(alloc, 2);
+    assert_same(&rt, merge.try_push(stream).is_ok(), true);
+    assert_same(&rt, waits(&task, merge.into_next()), (true, false));
     Ok(())
 }

@@ -1,2 +1,1 @@
-mod StreamLemmas
 mod DoublingLemmas

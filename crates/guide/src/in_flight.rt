@@ -19,16 +19,17 @@ where
 {
     let (sender, late) = channel::<u64>(rt.alloc())?;
     let mut set = FuturesUnorderedBounded::new(rt.alloc(), 2)?;
-    let late = set.try_push_abortable(late).ok();
+    let Ok(late) = set.try_push(late) else {
+        bail!("there is no room for it");
+    };
     let soon = set.try_push(sent(rt.alloc(), 7)?).ok();
     let (came, mut set) = set.wait(rt)?;
     let is_soon = came.map(|came| came.key) == soon;
-    if let Some(late) = late {
-        let _tag = set.cancel(late);
-    }
+    let _tag = set.cancel(late);
+    let held = set.len();
+    let (_end, _set) = set.wait(rt)?;
     println!(rt;
-        "its own: {is_soon}, {} held, nobody receives: {}",
-        set.len(),
+        "its own: {is_soon}, {held} held, nobody receives: {}",
         sender.is_canceled()
     )?;
     Ok(())
@@ -60,12 +61,10 @@ where
 {
     let receiver = sent(rt.alloc(), 40)?;
     let mut set = FuturesUnorderedBounded::new(rt.alloc(), 8)?;
-    let key = set.try_push(receiver.map(|sent| sent.unwrap_or(0))).ok();
-    let sum = sum_of(rt, set)?;
-    if key.is_none() {
-        bail!("there is no memory for the future");
-    }
-    println!(rt; "{sum}")?;
+    let Ok(_key) = set.try_push(receiver.map(|sent| sent.unwrap_or(0))) else {
+        bail!("there is no room for it");
+    };
+    println!(rt; "{}", sum_of(rt, set)?)?;
     Ok(())
 }
 

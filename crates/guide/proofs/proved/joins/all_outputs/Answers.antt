@@ -1,6 +1,6 @@
 use Rattle.std.proofs.Common.{◌≡◌, length, ap, sym, ◌∙◌, rules}
 use Rattle.guide.specs.Doubling.{Doubles}
-use Rattle.guide.proofs.StreamLemmas.{gave_all, one_of_each_item}
+use Rattle.futures_buffered.proofs.StreamLemmas.{gave_all, one_of_each_item}
 use Rattle.guide.proofs.proved.joins.all_outputs.Goals as goal
 
 pub returns : goal.returns

@@ -1,4 +1,4 @@
-use Rattle.guide.proofs.StreamLemmas.{one_of_each}
+use Rattle.futures_buffered.proofs.StreamLemmas.{one_of_each}
 use Rattle.guide.proofs.proved.queues.all_outputs.Goals as goal
 
 pub returns : goal.returns
