@@ -189,14 +189,20 @@ fn waits<N: Future<Output: Drop>>(task: &MockTask, next: N) -> (bool, bool)
 fn the_next_is_waited_for(rt: HostRuntime) -> Result<(), Fail> {
     let alloc = rt.alloc();
     let task = MockTask::new(&rt)?;
-    let (sender, receiver) = channel::<u64>(alloc)?;
-    let (_other, second) = channel::<u64>(alloc)?;
+    let (_first, first) = channel::<u64>(alloc)?;
     let mut set = FuturesUnorderedBounded::new(alloc, 2)?;
-    assert_same(&rt, set.try_push(receiver).is_ok(), true);
-    assert_same(&rt, set.try_push(second).is_ok(), true);
+    assert_same(&rt, set.try_push(first).is_ok(), true);
     assert_same(&rt, waits(&task, set.next()), (true, false));
+    let (_second, second) = channel::<u64>(alloc)?;
+    let (sender, receiver) = channel::<u64>(alloc)?;
+    let mut set = FuturesUnorderedBounded::new(alloc, 2)?;
+    assert_same(&rt, set.try_push(second).is_ok(), true);
+    assert_same(&rt, set.try_push(receiver).is_ok(), true);
     let _ = sender.send(5);
     assert_same(&rt, waits(&task, set.next()), (false, false));
+    let (_third, third) = channel::<u64>(alloc)?;
+    let mut set = FuturesUnorderedBounded::new(alloc, 2)?;
+    assert_same(&rt, set.try_push(third).is_ok(), true);
     assert_same(&rt, waits(&task, set.into_next()), (true, false));
     let (_sender, receiver) = channel::<u64>(alloc)?;
     let mut queue: Queue = FuturesOrderedBounded::new(alloc, 2)?;
