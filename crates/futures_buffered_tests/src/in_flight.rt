@@ -184,30 +184,59 @@ fn waits<N: Future<Output: Drop>>(task: &MockTask, next: N) -> (bool, bool)
     (is_pending, task.is_woken())
 }
 
-// The task is not woken before there is an output, of a set, a queue and a merge.
+// The task is not woken before there is an output.
 #[test]
 fn the_next_is_waited_for(rt: HostRuntime) -> Result<(), Fail> {
     let alloc = rt.alloc();
     let task = MockTask::new(&rt)?;
-    let (_first, first) = channel::<u64>(alloc)?;
+    let (_sender, receiver) = channel::<u64>(alloc)?;
     let mut set = FuturesUnorderedBounded::new(alloc, 2)?;
-    assert_same(&rt, set.try_push(first).is_ok(), true);
+    assert_same(&rt, set.try_push(receiver).is_ok(), true);
     assert_same(&rt, waits(&task, set.next()), (true, false));
-    let (_second, second) = channel::<u64>(alloc)?;
+    Ok(())
+}
+
+// Nor by an output.
+#[test]
+fn the_next_that_is_there_wakes_nobody(rt: HostRuntime) -> Result<(), Fail> {
+    let alloc = rt.alloc();
+    let task = MockTask::new(&rt)?;
+    let (_other, second) = channel::<u64>(alloc)?;
     let (sender, receiver) = channel::<u64>(alloc)?;
     let mut set = FuturesUnorderedBounded::new(alloc, 2)?;
     assert_same(&rt, set.try_push(second).is_ok(), true);
     assert_same(&rt, set.try_push(receiver).is_ok(), true);
     let _ = sender.send(5);
     assert_same(&rt, waits(&task, set.next()), (false, false));
-    let (_third, third) = channel::<u64>(alloc)?;
+    Ok(())
+}
+
+#[test]
+fn the_next_with_its_key_is_waited_for(rt: HostRuntime) -> Result<(), Fail> {
+    let alloc = rt.alloc();
+    let task = MockTask::new(&rt)?;
+    let (_sender, receiver) = channel::<u64>(alloc)?;
     let mut set = FuturesUnorderedBounded::new(alloc, 2)?;
-    assert_same(&rt, set.try_push(third).is_ok(), true);
+    assert_same(&rt, set.try_push(receiver).is_ok(), true);
     assert_same(&rt, waits(&task, set.into_next()), (true, false));
+    Ok(())
+}
+
+#[test]
+fn the_front_is_waited_for(rt: HostRuntime) -> Result<(), Fail> {
+    let alloc = rt.alloc();
+    let task = MockTask::new(&rt)?;
     let (_sender, receiver) = channel::<u64>(alloc)?;
     let mut queue: Queue = FuturesOrderedBounded::new(alloc, 2)?;
     assert_same(&rt, queue.try_push_back(receiver).is_ok(), true);
     assert_same(&rt, waits(&task, queue.into_next()), (true, false));
+    Ok(())
+}
+
+#[test]
+fn the_next_of_a_merge_is_waited_for(rt: HostRuntime) -> Result<(), Fail> {
+    let alloc = rt.alloc();
+    let task = MockTask::new(&rt)?;
     let (_sender, stream) = unbounded::<u64>(alloc)?;
     let mut merge = MergeBounded::new(alloc, 2);
     assert_same(&rt, merge.try_push(stream).is_ok(), true);
