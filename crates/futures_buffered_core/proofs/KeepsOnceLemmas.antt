@@ -1,8 +1,9 @@
 -- What a mark and a taking leave of marks and queue.
-use Rattle.std.proofs.Common.{◌≡◌, ℕ, ◌<◌, ◌≤◌, Bool, true, false, cond, ◌||◌, eqb, List, [], ◌∷◌, ◌++◌, length, get_or, set, replicate, refl, sym, ap, subst, ◌∙◌, arith, length-set}
+use Rattle.std.proofs.Common.{◌≡◌, ℕ, zero, suc, ◌+◌, ◌<◌, ◌≤◌, Bool, true, false, cond, ◌||◌, eqb, List, [], ◌∷◌, ◌++◌, length, get_or, set, replicate, refl, sym, ap, subst, ◌∙◌, arith, length-set}
 use Rattle.std.specs.List.{list_any, IsDistinct, AllByRecursion}
 use Rattle.std.proofs.lemmas.Bool.{or_parts}
-use Rattle.std.proofs.lemmas.List.{length-replicate, get_or-set_same, get_or-set_other, get_or_past, get_or-replicate}
+use Rattle.std.proofs.Math.Seq.{get_or-append_seam, set-append_seam}
+use Rattle.std.proofs.lemmas.List.{length-append, length-replicate, get_or-set_same, get_or-set_other, get_or_past, get_or-replicate}
 use Rattle.std.proofs.lemmas.List.Folds.{list_any-append}
 use Rattle.std.proofs.lemmas.Bool.Decides.{nat_tests}
 use Rattle.std.proofs.lemmas.Map.Keys.{IsDistinct-push, IsDistinct-cons, IsDistinct-head, IsDistinct-tail}
@@ -76,3 +77,22 @@ KeepsOnce-return marks queue n i kept within clear =
       exact = λ q. let was = kept.exact q in let now = set_at marks i q true within in grind arith;
       fits = omega (arith, kept.fits, length-set marks i true);
     }
+
+-- a clear mark more, behind the others, is read as none
+clear_behind : (marks : List Bool) (q : ℕ) → get_or (marks ++ false ∷ []) q false ≡ get_or marks q false
+clear_behind [] zero = refl
+clear_behind [] (suc q) = refl
+clear_behind (b ∷ marks) zero = refl
+clear_behind (b ∷ marks) (suc q) = clear_behind marks q
+
+-- one place more, marked, which comes first
+pub KeepsOnce-grow : (marks : List Bool) (queue : List ℕ) (n : ℕ) → KeepsOnce marks queue n → length marks ≡ n → KeepsOnce (marks ++ true ∷ []) (n ∷ queue) (n + 1)
+KeepsOnce-grow marks queue n kept all =
+    let wider : KeepsOnce (marks ++ false ∷ []) queue (n + 1) = record {
+      distinct = kept.distinct;
+      exact = λ q. clear_behind marks q ∙ kept.exact q;
+      fits = omega (arith, length-append marks (false ∷ []));
+    } in
+    let clear : get_or (marks ++ false ∷ []) (length marks) false ≡ false = get_or-append_seam marks false [] false in
+    let marked = KeepsOnce-return (marks ++ false ∷ []) queue (n + 1) (length marks) wider (omega (arith, length-append marks (false ∷ []))) clear in
+    subst (λ (k : ℕ). KeepsOnce (marks ++ true ∷ []) (k ∷ queue) (n + 1)) all (rw (set-append_seam marks false [] true) at marked)

@@ -1,21 +1,21 @@
 -- What each call leaves of the places and the free ones.
-use Rattle.std.proofs.Common.{◌≡◌, ◌≢◌, true≢false, MatchOption, ℕ, zero, suc, ◌+◌, ◌-◌, ◌<◌, ◌≤◌, Bool, false, cond, eqb, List, [], ◌∷◌, ◌++◌, map, length, get_or, set, replicate, Option, Some, None, is_some, IsSome, count_by, refl, sym, ap, subst, ◌∙◌, arith, length-set}
+use Rattle.std.proofs.Common.{◌≡◌, ◌≢◌, true≢false, MatchOption, ℕ, zero, suc, ◌+◌, ◌-◌, ◌<◌, ◌≤◌, Bool, true, false, cond, eqb, List, [], ◌∷◌, ◌++◌, map, length, get_or, set, replicate, Option, Some, None, is_some, IsSome, count_by, refl, sym, ap, subst, ◌∙◌, arith, length-set}
 use Rattle.std.specs.Option.{is_none}
 use Rattle.std.specs.List.{list_any, range_with_len, IsDistinct}
 use Rattle.std.proofs.lemmas.Bool.{or_parts}
-use Rattle.std.proofs.lemmas.List.{length-replicate, map-set, length-map, get_or-map, get_or_past, get_or-replicate, get_or-set_same, get_or-set_other, get_or_read}
-use Rattle.std.proofs.Math.Seq.{map-set_same}
+use Rattle.std.proofs.lemmas.List.{length-append, map_push, length-replicate, map-set, length-map, get_or_append_left, get_or-map, get_or_past, get_or-replicate, get_or-set_same, get_or-set_other, get_or_read}
+use Rattle.std.proofs.Math.Seq.{map-set_same, get_or-append_seam}
 use Rattle.std.proofs.lemmas.List.FromFn.{length-map-range_with_len, get_or-map-range_with_len, map-range_with_len_more}
 use Rattle.std.proofs.lemmas.List.Folds.{sum_by-replicate}
-use Rattle.std.proofs.lemmas.List.Sums.{sum_by-set, sum_by-cons, count_by-le-length}
+use Rattle.std.proofs.lemmas.List.Sums.{sum_by-append, sum_by-set, sum_by-cons, count_by-le-length}
 use Rattle.std.proofs.lemmas.Bool.Decides.{nat_tests}
 use Rattle.std.proofs.lemmas.Map.Keys.{IsDistinct-head}
 use Rattle.futures_buffered_core.specs.declared.slot_map.Place.{Place}
 use Rattle.futures_buffered_core.specs.declared.slot_map.Place.TheVariants.{Free, Held}
-use Rattle.futures_buffered_core.specs.SlotMap.{Slots, IsFirstHeld, Inserts, no_slots, all_slots, with_value, with_slot_freed}
+use Rattle.futures_buffered_core.specs.SlotMap.{Slots, IsFirstHeld, Inserts, GrowsByOne, no_slots, all_slots, with_value, with_slot_freed}
 use Rattle.futures_buffered_core.specs.SlotMapInvariant.{value_of, next_free, free_from, free_list, slots_of, KeepsPlaces, new_places}
 use Rattle.futures_buffered_core.proofs.RangeLemmas.{listed_range, range_distinct}
-use Rattle.futures_buffered_core.proofs.KeepsOnceLemmas.{KeepsOnce-first, KeepsOnce-take, KeepsOnce-marked, KeepsOnce-return, KeepsOnce-none, absent_rest}
+use Rattle.futures_buffered_core.proofs.KeepsOnceLemmas.{KeepsOnce-first, KeepsOnce-take, KeepsOnce-marked, KeepsOnce-return, KeepsOnce-none, KeepsOnce-grow, KeepsOnce-below, head_listed, absent_rest}
 
 -- what is asked of a value, where there is one
 pub at_some : {A : Type 0} (o : Option A) (P Q : Type 0) → IsSome o → Q → MatchOption o P (λ _. Q)
@@ -228,3 +228,45 @@ module _ {F : Type 0} where
         once = rw (none_free values, values-held values, map-is_none values) (KeepsOnce-none (length values) (length (map Held values)) (omega (arith, length-map values Held)));
         counted = rw (values-held values) (omega (arith, count-all values, length-map values Held));
       }
+
+module _ {F : Type 0} where
+  -- an empty slot more counts for nothing
+  count-grown : (values : List (Option F)) → count_by is_some (values ++ None ∷ []) ≡ count_by is_some values
+  count-grown values = sum_by-append (λ o. cond (is_some o) 1 0) values (None ∷ []) ∙ omega arith
+
+  grown_values : (places : List (Place F)) (k : ℕ) → map value_of (places ++ Free k ∷ []) ≡ map value_of places ++ None ∷ []
+  grown_values places k = map_push value_of places (Free k)
+
+  -- a place more, behind the others, leaves the next n, which are before it
+  free_from-behind : (places : List (Place F)) (p : Place F) (first n : ℕ) → ((q : ℕ) → list_any (eqb q) (free_from places first n) ≡ true → q < length places) → free_from (places ++ p ∷ []) first n ≡ free_from places first n
+  free_from-behind places p first zero below = refl
+  free_from-behind places p first (suc n) below =
+      let next = next_free (get_or places first (Free 0)) in
+      let rest = free_from places next n in
+      let read : get_or (places ++ p ∷ []) first (Free 0) ≡ get_or places first (Free 0) = get_or_append_left places (p ∷ []) (Free 0) first (below first (head_listed first rest)) in
+      rw read (ap (λ (others : List ℕ). first ∷ others) (free_from-behind places p next n (λ q listed. below q (grind arith))))
+
+  -- the free places once there is one more
+  free-grown : (places : List (Place F)) (first len : ℕ) → KeepsPlaces places first len → free_list (places ++ Free first ∷ []) (length places) len ≡ length places ∷ free_list places first len
+  free-grown places first len kept =
+      let marks = map is_none (map value_of places) in
+      let all : length marks ≡ length places = length-map (map value_of places) is_none ∙ length-map places value_of in
+      let more : length (places ++ Free first ∷ []) - len ≡ suc (length places - len) = omega (arith, length-append places (Free first ∷ []), held_at_most places first len kept) in
+      let below : (q : ℕ) → list_any (eqb q) (free_list places first len) ≡ true → q < length places = λ q listed. subst (λ (n : ℕ). q < n) all (KeepsOnce-below marks (free_list places first len) (length places) q kept.once listed) in
+      rw (more, get_or-append_seam places (Free first) [] (Free 0)) (ap (λ (rest : List ℕ). length places ∷ rest) (free_from-behind places (Free first) first (length places - len) below))
+
+  pub KeepsPlaces_grow : (places : List (Place F)) (first len : ℕ) → KeepsPlaces places first len → KeepsPlaces (places ++ Free first ∷ []) (length places) len
+  KeepsPlaces_grow places first len kept =
+      let values = map value_of places in
+      let grown = KeepsOnce-grow (map is_none values) (free_list places first len) (length places) kept.once (length-map values is_none ∙ length-map places value_of) in
+      record {
+        once = rw (free-grown places first len kept, grown_values places first, map_push is_none values None, length-append places (Free first ∷ [])) grown;
+        counted = rw (grown_values places first) (kept.counted ∙ sym (count-grown values));
+      }
+
+  pub slots_of_grow : (places : List (Place F)) (first len : ℕ) → KeepsPlaces places first len → GrowsByOne (slots_of places first len) (slots_of (places ++ Free first ∷ []) (length places) len)
+  slots_of_grow places first len kept = (
+    grown_values places first,
+    rw (free-grown places first len kept, length-map places value_of) refl,
+    rw (grown_values places first) (count-grown (map value_of places)),
+  )

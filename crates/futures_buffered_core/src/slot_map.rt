@@ -1,15 +1,16 @@
 //! Fixed slots that hold values.
 //!
 //! A value goes into the first free slot and stays there until it is removed. For a new map the free slots are 0, 1, 2
-//! and so on; a slot that a removal frees is the first to be used again. Only the constructors allocate.
-ghost use Rattle.std.specs.Prelude.{◌≡◌, ◌≢◌, ◌+◌, ◌<◌, ◌≤◌, [], IfOk, IfErr, OnOk, MatchOption, IfSome, IfNone, Some, None, ℕ};
+//! and so on; a slot that a removal frees is the first to be used again. Only the constructors and
+//! `grow_by_one` allocate.
+ghost use Rattle.std.specs.Prelude.{◌≡◌, ◌≢◌, ◌+◌, ◌<◌, ◌≤◌, [], IfOk, IfErr, OnOk, OnErr, MatchOption, IfSome, IfNone, Some, None, ℕ};
 ghost use Rattle.std.specs.Prelude.{◌^◌, List, IsTrue, ◌↔◌, ◌==◌, is_some, IsSome};
 ghost use Rattle.std.specs.Option.{option_copied_mut};
 ghost use Rattle.std.specs.Borrow.{Lends, sem};
 ghost use Rattle.futures_buffered_core.specs.Made.{MakesSlots};
 ghost use Rattle.futures_buffered_core.specs.Drawn.{Draws, IsFiniteSource, RefusesTooMany, items_of};
 ghost use Rattle.futures_buffered_core.specs.SlotMap.{value_in, held_count, slot_count, no_slots, all_slots};
-ghost use Rattle.futures_buffered_core.specs.SlotMap.{with_slot_freed, IsFull, Inserts, IsFirstHeld, NoneHeldFrom};
+ghost use Rattle.futures_buffered_core.specs.SlotMap.{with_slot_freed, IsFull, GrowsByOne, Inserts, IsFirstHeld, NoneHeldFrom};
 ghost use Rattle.futures_buffered_core.specs.SlotMapInvariant.{value_of, next_free, new_places};
 
 use crate::ready_core::{MAX_CAPACITY, NewFault};
@@ -208,6 +209,19 @@ impl<F: Drop> PinSlotMap<F> {
         self.places[i] = Place::Held(f(arg));
         self.len += 1;
         Ok(i)
+    }
+
+    /// Makes one slot more, behind the others, which is the next to be used. If an allocation fails, nothing changes.
+    ///
+    /// Many such calls together take time and memory in proportion to their number.
+    pub fn grow_by_one(&mut self) -> Result<(), AllocError>
+        ensures grown { OnOk result (GrowsByOne self.old self.new) }
+        ensures same { OnErr result (self.new ≡ self.old) }
+    {
+        let end = self.places.len();
+        self.places.push(Place::Free(self.first_free))?;
+        self.first_free = end;
+        Ok(())
     }
 
     /// Drops the value of a slot, which is then the first free one. A slot that is free or not there changes nothing.
