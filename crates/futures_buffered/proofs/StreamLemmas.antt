@@ -10,8 +10,11 @@ use Rattle.futures.specs.declared.task.Poll.{Poll}
 use Rattle.futures.specs.Runs.{Runs, Turns, Resolves, Chains, firsts, seconds}
 use Rattle.futures_buffered.specs.Buffer.{Ahead}
 use Rattle.futures_buffered_ordered.specs.OrderedEntries.{InTurn}
-use Rattle.futures_buffered_joins.specs.Joining.{Places, IsNewJoin, JoinMayGive}
+use Rattle.futures_buffered_unordered.specs.FuturesUnorderedBounded.{Bounded, HoldsEach}
+use Rattle.futures_buffered_joins.specs.Join.{IsNewJoin, JoinMayGive}
 use Rattle.futures_buffered_joins.specs.JoinRule.{kept_as_it_is}
+use Rattle.futures_buffered_joins.specs.SlotsJoin.{MayGiveAt}
+use Rattle.futures_buffered_joins.specs.declared.places.Places.{Places}
 
 -- all that the iterator of a vector gives is the vector's elements
 pub gave_all : {A Z : Type 0} (it : IntoIter A Z) (elements given : List A) → into_iter_items it ≡ elements
@@ -42,8 +45,9 @@ behind_nothing first second xs none (inr came) =
 
 -- a join of these items that is ready with outputs has one of each
 pub one_of_each_item : {F A S : Type 0} (polled : ℕ → F → Poll A → F → Type 0) (made marks : _) (limit : ℕ)
-    (join : Option (Places F A S)) (items : List F) (outputs : List A)
-    → IsSomeAnd join (IsNewJoin made marks limit items) → JoinMayGive polled kept_as_it_is join (Ok outputs)
+    (join : Option (Places (Bounded F S) A)) (items : List F) (outputs : List A)
+    → IsSomeAnd join (IsNewJoin (HoldsEach made marks limit) items)
+    → JoinMayGive (λ (set : Bounded F S). MayGiveAt polled set.slots) kept_as_it_is join (Ok outputs)
     → length outputs ≡ length items
 one_of_each_item polled made marks limit None items outputs new may = absurd new
 one_of_each_item polled made marks limit (Some places) items outputs new may =

@@ -5,8 +5,7 @@ ghost use Rattle.futures_buffered_unordered.specs.FuturesUnorderedBounded.{Holds
 ghost use Rattle.futures_buffered_unordered.specs.FuturesUnordered.{GrowingPushes, MakesSharedSet};
 ghost use Rattle.futures_buffered_unordered.specs.FuturesUnordered.{MakesPushed};
 ghost use Rattle.futures_buffered_unordered.specs.Extended.{MakesFull};
-ghost use Rattle.futures_buffered_joins.specs.JoinMade.{MakesJoin};
-ghost use Rattle.futures_buffered_joins.specs.Joining.{IsNewJoin};
+ghost use Rattle.futures_buffered_joins.specs.Join.{MakesJoin};
 ghost use Rattle.futures_buffered_ordered.specs.FuturesOrderedBounded.{HoldsInOrder};
 ghost use Rattle.futures_buffered_ordered.specs.FuturesOrdered.{MakesSharedQueue};
 ghost use Rattle.futures_buffered.specs.BufferedOrdered.{queue_slots};
@@ -98,7 +97,7 @@ pub trait IterExt: IntoIterator + Sized {
         Self::Item: SlotFuture<SharedWaker, Output: Drop>,
         requires { IsFiniteSource (items_of Self.IntoIterator Self.IntoIter.Iterator self) }
         ensures { MakesJoin (items_of Self.IntoIterator Self.IntoIter.Iterator self)
-            (IsNewJoin IsNewShared MarksShared POLL_LIMIT) result }
+            (HoldsEach IsNewShared MarksShared POLL_LIMIT) result }
     {
         futures_buffered_joins::join::join_all(alloc, self)
     }
@@ -116,7 +115,7 @@ pub trait IterExt: IntoIterator + Sized {
         T: Drop,
         requires { IsFiniteSource (items_of Self.IntoIterator Self.IntoIter.Iterator self) }
         ensures { MakesJoin (items_of Self.IntoIterator Self.IntoIter.Iterator self)
-            (IsNewJoin IsNewShared MarksShared POLL_LIMIT) result }
+            (HoldsEach IsNewShared MarksShared POLL_LIMIT) result }
     {
         futures_buffered_joins::try_join::try_join_all(alloc, self)
     }

@@ -1,57 +1,131 @@
 -- What one poll of a join says of what it may be ready with.
-use Rattle.std.proofs.Common.{◌≡◌, ℕ, List, [], ◌∷◌, Option, Some, None, Ok, Err, subst, sym}
+use Rattle.std.proofs.Common.{◌≡◌, ℕ, Bool, List, [], ◌∷◌, length, set, replicate, Option, Some, None, IsSomeAnd, Ok, Err, refl, sym, ap, subst, inl, inr, arith, ◌∙◌, length-set, slice_get}
 use Rattle.std.specs.List.{FoldsTo}
-use Rattle.futures.specs.Poll.{IfReady, OnPending}
+use Rattle.std.proofs.lemmas.List.{get_or-set_same, get_or-set_other, get_or_past, get_or-replicate, length-replicate}
+use Rattle.std.proofs.lemmas.Option.{slice_get_within}
+use Rattle.std.proofs.lemmas.Bool.{cases_eq, cases_lt}
+use Rattle.futures.specs.Poll.{IfReady}
 use Rattle.futures.specs.Task.{Keeps}
 use Rattle.futures.specs.declared.task.context.Context.{Context}
 use Rattle.futures.specs.declared.task.Poll.{Poll}
 use Rattle.futures.specs.declared.task.Poll.TheVariants.{Ready, Pending}
-use Rattle.futures_buffered_unordered.proofs.HeldGivesLemmas.{gives_passed, gives_output}
-use Rattle.futures_buffered_joins.specs.Joining.{Places, JoinMayGive, MayBeAll, MayKeepAt}
+use Rattle.futures_buffered_joins.specs.declared.places.Places.{Places}
+use Rattle.futures_buffered_joins.specs.Join.{Fills, IsNewJoin, JoinGives, JoinMayGive, JoinRuleOf, JoinsByPlace, PollsJoin, PollsPending, StaysPending, join_places}
 use Rattle.futures_buffered_joins.specs.JoinRule.{Outcome}
-use Rattle.futures_buffered_joins.specs.Join.{JoinGives, JoinRuleOf, JoinsByPlace, PollsJoin, ReadySourceOf, SlotFutureOf, StaysPending}
-use Rattle.futures_buffered_joins.proofs.JoiningGivenLemmas.{all_back, any_back, waits_back, waits_pass, by_place}
+use Rattle.futures_buffered_joins.specs.Outputs.{MayComeAt, output_in}
+use Rattle.futures_buffered_joins.specs.Placed.{PlacedPollsOf}
+use Rattle.futures_buffered_joins.specs.Places.{CanFill}
 use Rattle.futures_buffered_joins.proofs.OutputsLemmas.{all_now}
 
-module _ {F W R O A E B S : Type 0} (future : SlotFutureOf F W O) (rule : JoinRuleOf R O A E B) (source : ReadySourceOf S W) where
-  ready_value : (old new : Option (Places F A S)) (answer : Poll (Outcome A E)) (cx left : Context) → JoinGives future rule source old answer new cx left → IfReady answer (JoinMayGive future.polled rule.output_of old)
+-- a join that was made over a set of these items is new, and has a place for each
+pub is_new : {F Q A : Type 0} (holds : List F → Q → Type 0) (items : List F) (set : Q) (n : ℕ) (join : Option (Places Q A))
+    → IsSomeAnd join (λ (places : Places Q A). (places.set ≡ set) × (places.outputs ≡ replicate n None)) → holds items set → n ≡ length items
+    → IsSomeAnd join (IsNewJoin holds items) × (join_places join ≡ n)
+is_new holds items set n None made held size = absurd made
+is_new {Q = Q} {A = A} holds items set n (Some places) made held size = (
+  record {
+    waits_for = subst (λ (q : Q). holds items q) (sym made.0) held;
+    none_done = made.1 ∙ ap (λ (k : ℕ). replicate {A = Option A} k None) size;
+  },
+  ap length made.1 ∙ length-replicate n None,
+)
+
+module _ {Q O R A E B : Type 0} (waiting : Q → List Bool) (placed : PlacedPollsOf Q O) (rule : JoinRuleOf R O A E B) where
+  abbrev MayBe : Places Q A → ℕ → A → Type 0
+  MayBe places = MayComeAt (λ k x. placed.may_give places.set k (rule.output_of (Ok x))) places.outputs
+
+  abbrev MayGive : Option (Places Q A) → Outcome A E → Type 0
+  MayGive = JoinMayGive placed.may_give rule.output_of
+
+  -- of a place to which nothing came, what may be there might be there before
+  same_place : (old new : Places Q A) (k : ℕ) (y : A) (o : Option A) → output_in old.outputs k ≡ o → output_in new.outputs k ≡ o
+      → ((x : O) → placed.may_give new.set k x → placed.may_give old.set k x) → MayBe new k y → MayBe old k y
+  same_place old new k y None was is narrows may =
+      let gives : placed.may_give new.set k (rule.output_of (Ok y)) = rw is at may in
+      rw was (narrows (rule.output_of (Ok y)) gives)
+  same_place old new k y (Some z) was is narrows may = let done : y ≡ z = rw is at may in rw was done
+
+  fills_same : (old new : Places Q A × Context) (i : ℕ) (x y : A) → Fills waiting placed rule old (i, x) new → MayBe new.0 i y → MayBe old.0 i y
+  fills_same old new i x y h may =
+      elim (cases_lt i (length old.0.outputs)) [
+        | inl below ↦
+            let found : output_in new.0.outputs i ≡ Some x = rw h.now_done (get_or-set_same {A = Option A} old.0.outputs i (Some x) None below) in
+            let is : y ≡ x = rw found at may in
+            rw h.was_waiting (subst (λ (z : A). placed.may_give old.0.set i (rule.output_of (Ok z))) (sym is) h.gave.own)
+        | inr past ↦
+            let none : output_in new.0.outputs i ≡ None = rw h.now_done (get_or_past {X = Option A} (set old.0.outputs i (Some x)) i None (omega (arith, past, length-set {A = Option A} old.0.outputs i (Some x)))) in
+            same_place old.0 new.0 i y None h.was_waiting none (h.gave.narrows i) may
+      ]
+
+  -- an output that fills its place is one that might come there
+  fills_at : (old new : Places Q A × Context) (i k : ℕ) (x y : A) → Fills waiting placed rule old (i, x) new → MayBe new.0 k y → MayBe old.0 k y
+  fills_at old new i k x y h may =
+      elim (cases_eq k i) [
+        | inl same ↦ subst (λ (q : ℕ). MayBe old.0 q y) (sym same) (fills_same old new i x y h (subst (λ (q : ℕ). MayBe new.0 q y) same may))
+        | inr other ↦
+            let stays : output_in new.0.outputs k ≡ output_in old.0.outputs k = rw h.now_done (get_or-set_other {A = Option A} old.0.outputs i k (Some x) None other) in
+            same_place old.0 new.0 k y (output_in old.0.outputs k) refl stays (h.gave.narrows k) may
+      ]
+
+  fills_back : (old new : Places Q A × Context) (i : ℕ) (x : A) → Fills waiting placed rule old (i, x) new → (r : Outcome A E) → MayGive (Some new.0) r → MayGive (Some old.0) r
+  fills_back old new i x h (Ok all) may = record {
+    as_many = may.as_many ∙ (ap length h.now_done ∙ length-set {A = Option A} old.0.outputs i (Some x));
+    each = λ k y got. fills_at old new i k x y h (may.each k y got);
+  }
+  fills_back old new i x h (Err e) may = (may.0, h.gave.narrows may.0 (rule.output_of (Err e)) may.1)
+
+  -- a row of outputs adds nothing to what may be given
+  row_back : (row : List (ℕ × A)) (old before : Places Q A × Context) → FoldsTo (Fills waiting placed rule) old row before → (r : Outcome A E) → MayGive (Some before.0) r → MayGive (Some old.0) r
+  row_back [] old before ran r may = subst (λ (w : Places Q A × Context). MayGive (Some w.0) r) (sym ran) may
+  row_back ((i, x) ∷ row) old before ran r may = fills_back old ran.0 i x ran.1 r (row_back row ran.0 before ran.2 r may)
+
+  -- nor does a pending poll
+  waits_back : (before new : Places Q A) (cx left : Context) → PollsPending waiting placed rule before new cx left → (r : Outcome A E) → MayGive (Some new) r → MayGive (Some before) r
+  waits_back before new cx left h (Ok all) may = record {
+    as_many = may.as_many ∙ ap length h.same_outputs;
+    each = λ k y got. same_place before new k y (output_in before.outputs k) refl (ap (λ (outputs : List (Option A)). output_in outputs k) h.same_outputs) (h.is_pending.narrows k) (may.each k y got);
+  }
+  waits_back before new cx left h (Err e) may = (may.0, h.is_pending.narrows may.0 (rule.output_of (Err e)) may.1)
+
+  ready_value : (old new : Option (Places Q A)) (answer : Poll (Outcome A E)) (cx left : Context) → JoinGives waiting placed rule old answer new cx left → IfReady answer (MayGive old)
   ready_value None new (Ready (Ok outputs)) cx left h = h.0
   ready_value None new (Ready (Err e)) cx left h = absurd h
   ready_value None new Pending cx left h = absurd h
-  ready_value (Some old) new (Ready (Ok outputs)) cx left h = all_back future rule source h.row (old, cx) (h.before, h.between) outputs h.filled (all_now (MayKeepAt future.polled rule.output_of h.before.set.slots) h.before.outputs outputs h.ended.1)
-  ready_value (Some old) new (Ready (Err e)) cx left h =
-      let takes = h.ended.0.2.takes in
-      any_back future rule source h.row (old, cx) (h.before, h.between) (rule.output_of (Err e)) h.filled (gives_passed future.polled takes.names h.before.set.slots takes.passed (rule.output_of (Err e)) takes.passes (gives_output future.polled takes.passed _ h.ended.0.0 (rule.output_of (Err e)) takes.ends.2))
+  ready_value (Some old) new (Ready (Ok outputs)) cx left h =
+      row_back h.row (old, cx) (h.before, h.between) h.filled (Ok outputs) (all_now (λ k x. placed.may_give h.before.set k (rule.output_of (Ok x))) h.before.outputs outputs h.ended.1)
+  ready_value (Some old) new (Ready (Err e)) cx left h = row_back h.row (old, cx) (h.before, h.between) h.filled (Err e) (h.ended.0.0, h.ended.0.2.own)
   ready_value (Some old) new Pending cx left h = tt
 
-  pending_same : (old new : Option (Places F A S)) (answer : Poll (Outcome A E)) (cx left : Context) → JoinGives future rule source old answer new cx left → OnPending answer ((r : Outcome A E) → JoinMayGive future.polled rule.output_of new r → JoinMayGive future.polled rule.output_of old r)
-  pending_same old new (Ready r) cx left h = tt
-  pending_same None new Pending cx left h = absurd h
-  pending_same (Some old) None Pending cx left h = absurd h.ended
-  pending_same (Some old) (Some new) Pending cx left h = by_outcome
-    where
-      by_outcome : (r : Outcome A E) → JoinMayGive future.polled rule.output_of (Some new) r → JoinMayGive future.polled rule.output_of (Some old) r
-      by_outcome (Ok outputs) all = all_back future rule source h.row (old, cx) (h.before, h.between) outputs h.filled (waits_back future rule source h.before new h.between left outputs h.ended all)
-      by_outcome (Err e) any = any_back future rule source h.row (old, cx) (h.before, h.between) (rule.output_of (Err e)) h.filled (gives_passed future.polled h.ended.is_pending.takes.names h.before.set.slots new.set.slots (rule.output_of (Err e)) (waits_pass future rule source h.before new h.between left h.ended) any)
+  pending_back : (old new : Places Q A) (cx left : Context) → JoinGives waiting placed rule (Some old) Pending (Some new) cx left → (r : Outcome A E) → MayGive (Some new) r → MayGive (Some old) r
+  pending_back old new cx left h r may = row_back h.row (old, cx) (h.before, h.between) h.filled r (waits_back h.before new h.between left h.ended r may)
 
-  later_back : (later : List (Places F A S)) (first last : Places F A S) (outputs : List A) → FoldsTo (StaysPending future rule source) first later last → MayBeAll future.polled rule.output_of last outputs → MayBeAll future.polled rule.output_of first outputs
-  later_back [] first last outputs ran all = subst (λ (w : Places F A S). MayBeAll future.polled rule.output_of w outputs) (sym ran) all
-  later_back (left ∷ later) first last outputs ran all =
+  later_back : (later : List (Places Q A)) (first last : Places Q A) → FoldsTo (StaysPending waiting placed rule) first later last → (r : Outcome A E) → MayGive (Some last) r → MayGive (Some first) r
+  later_back [] first last ran r may = subst (λ (w : Places Q A). MayGive (Some w) r) (sym ran) may
+  later_back (left ∷ later) first last ran r may =
       let stays = ran.1 in
-      pending_same (Some first) (Some left) Pending stays.0 stays.1 stays.2 (Ok outputs) (subst (λ (w : Places F A S). MayBeAll future.polled rule.output_of w outputs) stays.3 (later_back later ran.0 last outputs ran.2 all))
+      pending_back first left stays.0 stays.1 stays.2 r (subst (λ (w : Places Q A). MayGive (Some w) r) stays.3 (later_back later ran.0 last ran.2 r may))
 
-  pub joins_by_place : (made : ℕ → S → Type 0) (limit : ℕ) → JoinsByPlace future rule source made limit
-  joins_by_place made limit items first last later outputs after cx left new ran gives =
-      by_place future rule made source.marks limit items first outputs new (later_back later first last outputs ran (ready_value (Some last) after (Ready (Ok outputs)) cx left gives))
+  -- if what may come at place k of a new set, item k may give, then it is so of a join
+  pub joins_by_place : {F : Type 0} (holds : List F → Q → Type 0) (item_gives : ℕ → F → O → Type 0)
+      → ((items : List F) (set : Q) → holds items set → (k : ℕ) (item : F) (x : O) → slice_get items k ≡ Some item → placed.may_give set k x → item_gives k item x)
+      → JoinsByPlace waiting placed rule holds item_gives
+  joins_by_place holds item_gives own items first last later outputs new ran may =
+      let all = later_back later first last ran (Ok outputs) may in
+      record {
+        as_many = all.as_many ∙ (ap length new.none_done ∙ length-replicate (length items) None);
+        each = λ k item x of_item got.
+            let none : output_in first.outputs k ≡ None = rw new.none_done (get_or-replicate {A = Option A} (length items) k None None (slice_get_within items k item of_item)) in
+            let gives : placed.may_give first.set k (rule.output_of (Ok x)) = rw none at (all.each k x got) in
+            own items first.set new.waits_for k item (rule.output_of (Ok x)) of_item gives;
+      }
 
   -- all that a poll promises that is ready, by what its answer shows
-  pub polls_ready : (old new : Option (Places F A S)) (answer : B) (outcome : Outcome A E) (cx left : Context) → rule.seen answer ≡ outcome → JoinGives future rule source old (Ready outcome) new cx left → new ≡ None → Keeps cx left → PollsJoin future rule source old (Ready answer) new cx left
+  pub polls_ready : (old new : Option (Places Q A)) (answer : B) (outcome : Outcome A E) (cx left : Context) → rule.seen answer ≡ outcome → JoinGives waiting placed rule old (Ready outcome) new cx left → new ≡ None → Keeps cx left → PollsJoin waiting placed rule old (Ready answer) new cx left
   polls_ready old new answer outcome cx left shows gives ended kept =
-      let gave = subst (λ (r : Outcome A E). JoinGives future rule source old (Ready r) new cx left) (sym shows) gives in
-      record { gave = gave; value = ready_value old new (Ready (rule.seen answer)) cx left gave; ended = ended; same = tt; registered = tt; kept = kept; again = tt }
+      let gave = subst (λ (r : Outcome A E). JoinGives waiting placed rule old (Ready r) new cx left) (sym shows) gives in
+      record { gave = gave; value = ready_value old new (Ready (rule.seen answer)) cx left gave; ended = ended; same = tt; registered = tt; kept = kept; again = tt; places = tt }
 
   -- and of one that is Pending, and can be polled again
-  pub polls_pending : (old new : Places F A S) (cx left : Context) → JoinGives future rule source (Some old) Pending (Some new) cx left → Keeps cx left → PollsJoin future rule source (Some old) Pending (Some new) cx left
-  polls_pending old new cx left gives kept =
-      let takes = gives.ended.is_pending.takes in
-      record { gave = gives; value = tt; ended = tt; same = pending_same (Some old) (Some new) Pending cx left gives; registered = takes.covered; kept = kept; again = takes.pollable }
+  pub polls_pending : (old new : Places Q A) (cx left : Context) → JoinGives waiting placed rule (Some old) Pending (Some new) cx left → CanFill waiting placed.can_poll new → Keeps cx left → PollsJoin waiting placed rule (Some old) Pending (Some new) cx left
+  polls_pending old new cx left gives fit kept =
+      record { gave = gives; value = tt; ended = tt; same = pending_back old new cx left gives; registered = gives.ended.is_pending.registered; kept = kept; again = fit.held; places = fit.in_order }

@@ -1,5 +1,5 @@
-pub mod JoiningLemmas
-pub mod JoiningGivenLemmas
-pub mod JoinLemmas
 pub mod OutputsLemmas
+pub mod PlacesLemmas
+pub mod JoinLemmas
+pub mod SlotsJoinLemmas
 pub mod InFlightJoinLemmas

@@ -1,35 +1,47 @@
--- What the outputs of a join hold once no future is waited for.
-use Rattle.std.proofs.Common.{◌≡◌, ℕ, ◌<◌, zero, suc, List, [], ◌∷◌, length, map, get_or, Option, Some, None, IsSome, is_some, true, false, not, cond, refl, sym, ap, inl, inr, arith, ◌∙◌}
-use Rattle.std.specs.List.{count_by}
-use Rattle.std.proofs.lemmas.List.{get_or_past, get_or-map, length-map}
+-- What the outputs of a join hold at places where a future waits, and once none does.
+use Rattle.std.proofs.Common.{◌≡◌, ℕ, ◌+◌, ◌<◌, zero, suc, Bool, List, [], ◌∷◌, length, map, get_or, set, replicate, Option, Some, None, IsSome, true, false, cond, refl, sym, ap, arith, ◌∙◌}
+use Rattle.std.specs.Option.{is_none}
+use Rattle.std.proofs.lemmas.List.{get_or-map, length-map, map-set}
 use Rattle.std.proofs.lemmas.List.Sums.{sum_by-cons}
-use Rattle.std.proofs.lemmas.Bool.{cases_lt}
 use Rattle.std.proofs.lemmas.Option.{get_or_from_slice_get, slice_get_within}
-use Rattle.futures_buffered_core.specs.SlotMap.{Slots, held_count}
 use Rattle.futures_buffered_joins.specs.Outputs.{WaitsOrCame, MayComeAll, output_in}
+use Rattle.futures_buffered_joins.specs.Placed.{waiting_count}
 
-pub none_from : {A : Type 0} (o : Option A) → is_some o ≡ false → o ≡ None
-none_from None e = refl
-none_from (Some x) e = cc
+-- at a place where a future waits nothing has come
+pub none_came : {A : Type 0} (outputs : List (Option A)) (k : ℕ) → get_or (map is_none outputs) k false ≡ true → (k < length outputs) × (output_in outputs k ≡ None)
+none_came [] k waits = absurd cc
+none_came (None ∷ outputs) zero waits = (omega arith, refl)
+none_came (Some x ∷ outputs) zero waits = absurd cc
+none_came (o ∷ outputs) (suc k) waits = let rest = none_came outputs k waits in (let below = rest.0 in omega (arith, below), rest.1)
 
--- what is there stands below the length
-pub below_from_some : {A : Type 0} (xs : List (Option A)) (i : ℕ) → is_some (get_or xs i None) ≡ true → i < length xs
-below_from_some {A} xs i e =
-    elim (cases_lt i (length xs)) [
-      | inl below ↦ below
-      | inr past ↦ let none : get_or xs i None ≡ None = get_or_past {X = Option A} xs i None past in let k : false ≡ true = rw none at e in cc
-    ]
+-- if a future waits at no place, each output has come
+each_came : {A : Type 0} (outputs : List (Option A)) → waiting_count (map is_none outputs) ≡ 0 → (k : ℕ) → k < length outputs → IsSome (output_in outputs k)
+each_came [] none k below = absurd (omega (arith, below))
+each_came (None ∷ outputs) none k below = absurd (omega (arith, none, sum_by-cons (λ (waits : Bool). cond waits 1 0) true (map is_none outputs)))
+each_came (Some x ∷ outputs) none zero below = refl
+each_came (Some x ∷ outputs) none (suc k) below = each_came outputs none k (omega (arith, below))
 
--- where nothing is counted, nothing is there
-pub none_counted : {F : Type 0} (xs : List (Option F)) (i : ℕ) → count_by is_some xs ≡ 0 → is_some (get_or xs i None) ≡ false
-none_counted [] i e = refl
-none_counted (None ∷ xs) zero e = refl
-none_counted (None ∷ xs) (suc i) e = none_counted xs i e
-none_counted {F} (Some f ∷ xs) i e = absurd (omega (arith, e, sum_by-cons (λ (o : Option F). cond (is_some o) 1 0) (Some f) xs))
+pub all_came : {A : Type 0} (waiting : List Bool) (outputs : List (Option A)) → WaitsOrCame waiting outputs → waiting_count waiting ≡ 0 → (k : ℕ) → k < length outputs → IsSome (output_in outputs k)
+all_came waiting outputs keeps none = each_came outputs (sym (ap waiting_count keeps) ∙ none)
 
--- where no future is waited for, each output has come
-pub all_came : {P A : Type 0} (slots : Slots P) (outputs : List (Option A)) → WaitsOrCame slots outputs → held_count slots ≡ 0 → (k : ℕ) → k < length outputs → IsSome (output_in outputs k)
-all_came slots outputs keeps none k below = keeps.either k below ∙ ap not (none_counted slots.places k none)
+-- a place that is free has one fewer that waits
+pub one_fewer : (waiting : List Bool) (k : ℕ) → get_or waiting k false ≡ true → waiting_count (set waiting k false) + 1 ≡ waiting_count waiting
+one_fewer [] k waits = absurd cc
+one_fewer (true ∷ waiting) zero waits = omega (arith, sum_by-cons (λ (waits : Bool). cond waits 1 0) true waiting, sum_by-cons (λ (waits : Bool). cond waits 1 0) false waiting)
+one_fewer (false ∷ waiting) zero waits = absurd cc
+one_fewer (waits_here ∷ waiting) (suc k) waits = omega (arith, one_fewer waiting k waits, sum_by-cons (λ (waits : Bool). cond waits 1 0) waits_here waiting, sum_by-cons (λ (waits : Bool). cond waits 1 0) waits_here (set waiting k false))
+
+-- an output that fills its place leaves the places in order
+pub filled : {A : Type 0} (waiting after : List Bool) (outputs : List (Option A)) (k : ℕ) (x : A) → WaitsOrCame waiting outputs → after ≡ set waiting k false → WaitsOrCame after (set outputs k (Some x))
+filled waiting after outputs k x keeps frees = frees ∙ ap (λ (places : List Bool). set places k false) keeps ∙ sym (map-set is_none outputs k (Some x))
+
+none_of : (A : Type 0) (n : ℕ) → map is_none (replicate {A = Option A} n None) ≡ replicate n true
+none_of A zero = refl
+none_of A (suc n) = ap (λ (places : List Bool). true ∷ places) (none_of A n)
+
+-- the places of a join that is new are in order
+pub all_wait : {A : Type 0} (waiting : List Bool) (outputs : List (Option A)) (n : ℕ) → waiting ≡ replicate n true → outputs ≡ replicate n None → WaitsOrCame waiting outputs
+all_wait {A} waiting outputs n wait none = wait ∙ sym (ap (map is_none) none ∙ none_of A n)
 
 -- outputs that have come are all outputs
 pub all_now : {A : Type 0} (may_give : ℕ → A → Type 0) (outputs : List (Option A)) (all : List A) → outputs ≡ map Some all → MayComeAll may_give outputs all

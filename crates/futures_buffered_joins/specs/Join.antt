@@ -1,21 +1,53 @@
--- What one poll of a join makes of it and of the task that polls it. A clause names futures, rule and source by the
--- ghost members of their types: `F.SlotFuture R.JoinRule S.ReadySource`.
-use Rattle.std.specs.Prelude.{◌≡◌, ℕ, ◌<◌, List, [], map, slice_set, Option, Some, None, IfSome, IsSomeAnd, Ok, Err}
+-- What a join is made of, what one poll makes of it and of the task that polls it, and what may come of it. A clause
+-- names the set and the rule by the ghost members of their types: `Q.waiting Q.PlacedPolls R.JoinRule`.
+use Rattle.std.specs.Prelude.{◌≡◌, ℕ, ◌<◌, List, [], Bool, length, map, replicate, slice_set}
+use Rattle.std.specs.Prelude.{Option, Some, None, IfSome, IsSomeAnd, Result, Ok, Err}
 use Rattle.std.specs.List.{FoldsTo}
 use Rattle.futures.specs.Poll.{IfReady, OnPending}
 use Rattle.futures.specs.Task.{Covers, Keeps}
 use Rattle.futures.specs.declared.task.context.Context.{Context}
 use Rattle.futures.specs.declared.task.Poll.{Poll}
 use Rattle.futures.specs.declared.task.Poll.TheVariants.{Ready, Pending}
-pub use Rattle.futures_buffered_core.specs.declared.ready_source.ReadySource.{Ghosts as ReadySourceOf}
-use Rattle.futures_buffered_unordered.specs.Held.{AllHeld}
-use Rattle.futures_buffered_unordered.specs.FuturesUnorderedBounded.{Bounded, held_in, with_empty_slot}
-use Rattle.futures_buffered_unordered.specs.PollsBounded.{RegistersAndTakes, itself}
-pub use Rattle.futures_buffered_unordered.specs.declared.slot_future.SlotFuture.{Ghosts as SlotFutureOf}
-use Rattle.futures_buffered_joins.specs.Joining.{Places, IsNewJoin, CameByPlace, JoinMayGive}
+use Rattle.futures_buffered_core.specs.Drawn.{Items}
+use Rattle.futures_buffered_table.specs.declared.answer.NewFault.{NewFault}
+use Rattle.futures_buffered_unordered.specs.Extended.{MakesFull}
 use Rattle.futures_buffered_joins.specs.JoinRule.{Outcome}
 pub use Rattle.futures_buffered_joins.specs.declared.join_rule.JoinRule.{Ghosts as JoinRuleOf}
-use Rattle.futures_buffered_joins.specs.Outputs.{output_in}
+use Rattle.futures_buffered_joins.specs.declared.places.Places.{Places}
+use Rattle.futures_buffered_joins.specs.Outputs.{CameInOrder, MayComeAll, WaitsOrCame, output_in}
+use Rattle.futures_buffered_joins.specs.Placed.{AnyPlaceGives, PlacedPollsOf, PollsPlaced, waiting_count}
+
+-- how many places a join has, and none once it has ended
+abbrev pub join_places : {Q A : Type 0} → Option (Places Q A) → ℕ
+join_places None = 0
+join_places (Some places) = length places.outputs
+
+-- the set holds these items, each at its place, and no output has come
+pub record IsNewJoin {F Q A : Type 0} (holds : List F → Q → Type 0) (items : List F) (places : Places Q A) : Type 0 where
+  pub waits_for : holds items places.set
+  pub none_done : places.outputs ≡ replicate (length items) None
+
+-- What a constructor makes of what an iterator gives, or why it makes nothing. It makes a join that has a place for each
+-- item.
+abbrev pub MakesJoin : {U F I Q A : Type 0} → Items U F I → (List F → Q → Type 0)
+    → Result (Option (Places Q A)) NewFault → Type 0
+MakesJoin from holds = MakesFull from join_places (λ items join. IsSomeAnd join (IsNewJoin holds items))
+
+-- `may_give` says what the future of a place may give; `output_of` says which output is kept as a value, and which one
+-- ends the join with an error
+module _ {Q O A E : Type 0} (may_give : Q → ℕ → O → Type 0) (output_of : Result A E → O) where
+  -- these may be all outputs, one for each place, in the order of the places: each has come, or the future that waits at
+  -- its place may give it
+  abbrev pub MayBeAll : Places Q A → List A → Type 0
+  MayBeAll places = MayComeAll (λ k x. may_give places.set k (output_of (Ok x))) places.outputs
+
+  -- what a join may be ready with: no outputs once it has ended; otherwise one of each place, or an error that one of
+  -- the futures may give
+  abbrev pub JoinMayGive : Option (Places Q A) → Outcome A E → Type 0
+  JoinMayGive None (Ok outputs) = outputs ≡ []
+  JoinMayGive None (Err e) = ⊥
+  JoinMayGive (Some places) (Ok outputs) = MayBeAll places outputs
+  JoinMayGive (Some places) (Err e) = AnyPlaceGives may_give places.set (output_of (Err e))
 
 -- the answer of a poll, as `seen` shows what it is ready with
 abbrev pub as_seen : {B C : Type 0} → (B → C) → Poll B → Poll C
@@ -23,46 +55,34 @@ as_seen seen (Ready answer) = Ready (seen answer)
 as_seen seen Pending = Pending
 
 module _
-    {F W R O A E B S : Type 0}
-    (future : SlotFutureOf F W O)
+    {Q O R A E B : Type 0}
+    (waiting : Q → List Bool)
+    (placed : PlacedPollsOf Q O)
     (rule : JoinRuleOf R O A E B)
-    (source : ReadySourceOf S W)
   where
-    -- One poll of the set, by a task, gave the output of the future at this place. That future is gone, and what is
-    -- kept of the output fills its place, where nothing had come. The other places stay.
-    pub record Fills
-        (old : Places F A S × Context)
-        (filled : ℕ × A)
-        (new : Places F A S × Context)
-        : Type 0 where
-      pub left : Bounded F S
-      pub gave : RegistersAndTakes (itself future) source
-          old.0.set (Ready (filled.0, rule.output_of (Ok filled.1))) left old.1 new.1
-      pub future_gone : new.0.set ≡ with_empty_slot left filled.0
+    -- One poll of the set, by a task, gave the output of the future at this place. What is kept of it fills the place, at
+    -- which nothing had come. The other places stay.
+    pub record Fills (old : Places Q A × Context) (filled : ℕ × A) (new : Places Q A × Context) : Type 0 where
+      pub gave : PollsPlaced waiting placed old.0.set (Ready (filled.0, rule.output_of (Ok filled.1))) new.0.set old.1 new.1
       pub was_waiting : output_in old.0.outputs filled.0 ≡ None
       pub now_done : new.0.outputs ≡ slice_set old.0.outputs filled.0 (Some filled.1)
 
     -- one poll of the set gave an output that ends the join with this error
-    abbrev pub Fails : Places F A S → Context → Context → E → Type 0
-    Fails before cx left e = (i : ℕ) × (after : Bounded F S)
-        × RegistersAndTakes (itself future) source
-        before.set (Ready (i, rule.output_of (Err e))) after cx left
+    abbrev pub Fails : Places Q A → Context → Context → E → Type 0
+    Fails before cx left e = (place : ℕ) × (after : Q)
+        × PollsPlaced waiting placed before.set (Ready (place, rule.output_of (Err e))) after cx left
 
     -- a future is waited for, and one poll of the set was Pending
-    pub record PollsPending (before new : Places F A S) (cx left : Context) : Type 0 where
-      pub some_waiting : 0 < held_in before.set
-      pub is_pending : RegistersAndTakes (itself future) source before.set Pending new.set cx left
+    pub record PollsPending (before new : Places Q A) (cx left : Context) : Type 0 where
+      pub some_waiting : 0 < waiting_count (waiting before.set)
+      pub is_pending : PollsPlaced waiting placed before.set Pending new.set cx left
       pub same_outputs : new.outputs ≡ before.outputs
 
-    -- Some outputs came, one after another, and filled their places; then the poll ended, from what that left of the
-    -- join and of its task, as `ends` says.
-    pub record FillsThen
-        (ends : Places F A S → Context → Type 0)
-        (old : Places F A S)
-        (cx : Context)
-        : Type 0 where
+    -- Some outputs came, one after another, and filled their places; then the poll ended, from what that left of the join
+    -- and of its task, as `ends` says.
+    pub record FillsThen (ends : Places Q A → Context → Type 0) (old : Places Q A) (cx : Context) : Type 0 where
       pub row : List (ℕ × A)
-      pub before : Places F A S
+      pub before : Places Q A
       pub between : Context
       pub filled : FoldsTo Fills (old, cx) row (before, between)
       pub ended : ends before between
@@ -70,54 +90,50 @@ module _
     -- How a poll ends. No future is waited for: all outputs are given, in the order of their places, and the join has
     -- ended. A future gave an error: that is the answer, and the join has ended, whatever it waited for. Or the set was
     -- Pending, which says who is woken. The last two arguments are where it starts.
-    abbrev pub EndsJoin : Poll (Outcome A E) → Option (Places F A S) → Context → Places F A S → Context → Type 0
-    EndsJoin (Ready (Ok outputs)) new left before cx = (held_in before.set ≡ 0)
+    abbrev pub EndsJoin : Poll (Outcome A E) → Option (Places Q A) → Context → Places Q A → Context → Type 0
+    EndsJoin (Ready (Ok outputs)) new left before cx = (waiting_count (waiting before.set) ≡ 0)
         × (before.outputs ≡ map Some outputs) × (new ≡ None) × (left ≡ cx)
     EndsJoin (Ready (Err e)) new left before cx = Fails before cx left e × (new ≡ None)
     EndsJoin Pending new left before cx = IsSomeAnd new (λ now. PollsPending before now cx left)
 
     -- what a poll gives: of a join that has ended no outputs, at once, and the task is as it was
-    abbrev pub JoinGives : Option (Places F A S) → Poll (Outcome A E) → Option (Places F A S)
-        → Context → Context → Type 0
+    abbrev pub JoinGives : Option (Places Q A) → Poll (Outcome A E) → Option (Places Q A) → Context → Context → Type 0
     JoinGives None (Ready (Ok outputs)) new cx left = (outputs ≡ []) × (new ≡ None) × (left ≡ cx)
     JoinGives None (Ready (Err e)) new cx left = ⊥
     JoinGives None Pending new cx left = ⊥
     JoinGives (Some old) answer new cx left = FillsThen (EndsJoin answer new left) old cx
 
     -- One poll of a join, which took it from old to new and the task from cx to left.
-    pub record PollsJoin
-        (old : Option (Places F A S))
-        (answer : Poll B)
-        (new : Option (Places F A S))
-        (cx left : Context)
-        : Type 0 where
+    pub record PollsJoin (old : Option (Places Q A)) (answer : Poll B) (new : Option (Places Q A))
+        (cx left : Context) : Type 0 where
       -- what came, and who is woken
       pub gave : JoinGives old (as_seen rule.seen answer) new cx left
       -- it is ready with nothing but what it might give before, and holds nothing more
-      pub value : IfReady answer (λ x. JoinMayGive future.polled rule.output_of old (rule.seen x))
+      pub value : IfReady answer (λ x. JoinMayGive placed.may_give rule.output_of old (rule.seen x))
       pub ended : IfReady answer (λ _. new ≡ None)
       -- a pending poll adds nothing to what it may give
       pub same : OnPending answer ((x : Outcome A E)
-          → JoinMayGive future.polled rule.output_of new x → JoinMayGive future.polled rule.output_of old x)
-      -- who waits where: the task of a pending join hears of its source
-      pub registered : OnPending answer (Covers left (λ n. IsSomeAnd new (λ places. source.needs places.set.source n)))
+          → JoinMayGive placed.may_give rule.output_of new x → JoinMayGive placed.may_give rule.output_of old x)
+      -- the task of a pending join is registered where its set waits
+      pub registered : OnPending answer (Covers left (λ n. IsSomeAnd new (λ places. placed.needs places.set n)))
       -- what the task was registered for or asked to do before still stands
       pub kept : Keeps cx left
-      -- what may be polled again: each future that a pending join waits for
-      pub again : OnPending answer (IfSome new (λ places. AllHeld future.can_poll places.set.slots))
+      -- each future that a pending join waits for may be polled again
+      pub again : OnPending answer (IfSome new (λ places. placed.can_poll places.set))
+      -- a pending join waits at exactly those places at which no output has come
+      pub places : OnPending answer (IfSome new (λ places. WaitsOrCame (waiting places.set) places.outputs))
 
     -- a poll, by some task, was Pending
-    abbrev pub StaysPending : Places F A S → Places F A S → Places F A S → Type 0
+    abbrev pub StaysPending : Places Q A → Places Q A → Places Q A → Type 0
     StaysPending old left new = (cx : Context) × (after : Context)
         × JoinGives (Some old) Pending (Some left) cx after × (new ≡ left)
 
-    -- Where a join was made of these items, then after any pending polls the outputs that it is ready with are one of
+    -- If a join was made of these items, then after any pending polls the outputs that it may be ready with are one of
     -- each item, each at its item's place.
-    abbrev pub JoinsByPlace : (ℕ → S → Type 0) → ℕ → Type 0
-    JoinsByPlace made limit = (items : List F) (first last : Places F A S)
-        (later : List (Places F A S)) (outputs : List A) (after : Option (Places F A S))
-        (cx left : Context)
-        → IsNewJoin made source.marks limit items first
+    abbrev pub JoinsByPlace : {F : Type 0} → (List F → Q → Type 0) → (ℕ → F → O → Type 0) → Type 0
+    JoinsByPlace {F} holds item_gives = (items : List F) (first last : Places Q A)
+        (later : List (Places Q A)) (outputs : List A)
+        → IsNewJoin holds items first
         → FoldsTo StaysPending first later last
-        → JoinGives (Some last) (Ready (Ok outputs)) after cx left
-        → CameByPlace future.polled rule.output_of items outputs
+        → JoinMayGive placed.may_give rule.output_of (Some last) (Ok outputs)
+        → CameInOrder (λ k item x. item_gives k item (rule.output_of (Ok x))) items outputs

@@ -1,7 +1,7 @@
-pub mod Joining
-pub mod JoinMade
-pub mod JoiningFills
 pub mod JoinRule
-pub mod Join
 pub mod Outputs
+pub mod Placed
+pub mod Join
+pub mod Places
+pub mod SlotsJoin
 pub mod InFlightJoin

@@ -1,17 +1,15 @@
 -- What a contract sees of the outputs of a join: at each place the one that has come, or nothing.
-use Rattle.std.specs.Prelude.{◌≡◌, ℕ, ◌<◌, List, [], length, not, is_some, Option, None, Some, MatchOption, Ok, Err}
-use Rattle.std.specs.Prelude.{slice_get, slice_index_or}
-use Rattle.futures_buffered_core.specs.SlotMap.{Slots, value_in, slot_count}
-use Rattle.futures_buffered_joins.specs.JoinRule.{Outcome}
+use Rattle.std.specs.Prelude.{◌≡◌, ℕ, Bool, List, length, map, Option, None, Some, MatchOption, slice_get}
+use Rattle.std.specs.Prelude.{slice_index_or}
+use Rattle.std.specs.Option.{is_none}
 
 -- the output that has come at a place, if any
 abbrev pub output_in : {A : Type 0} → List (Option A) → ℕ → Option A
 output_in outputs k = slice_index_or outputs k None
 
--- at each place either a future waits, in the slot of the place, or its output has come
-pub record WaitsOrCame {P A : Type 0} (slots : Slots P) (outputs : List (Option A)) : Type 0 where
-  pub same_size : length outputs ≡ slot_count slots
-  pub either : (k : ℕ) → k < length outputs → is_some (output_in outputs k) ≡ not (is_some (value_in slots k))
+-- a future waits at exactly those places at which no output has come
+abbrev pub WaitsOrCame : {A : Type 0} → List Bool → List (Option A) → Type 0
+WaitsOrCame waiting outputs = waiting ≡ map is_none outputs
 
 -- `may_give` says what a future may give that waits at a place
 module _ {A : Type 0} (may_give : ℕ → A → Type 0) (outputs : List (Option A)) where
@@ -30,11 +28,3 @@ pub record CameInOrder {F A : Type 0} (may_give : ℕ → F → A → Type 0) (i
   pub as_many : length outputs ≡ length items
   pub each : (k : ℕ) (item : F) (x : A) → slice_get items k ≡ Some item
       → slice_get outputs k ≡ Some x → may_give k item x
-
--- what a join may be ready with: no outputs once it has ended; else all outputs of what it keeps, or an error that ends
--- it
-abbrev pub MayEndWith : {X A E : Type 0} → (X → List A → Type 0) → (X → E → Type 0) → Option X → Outcome A E → Type 0
-MayEndWith all fails None (Ok outputs) = outputs ≡ []
-MayEndWith all fails None (Err e) = ⊥
-MayEndWith all fails (Some join) (Ok outputs) = all join outputs
-MayEndWith all fails (Some join) (Err e) = fails join e

@@ -2,16 +2,16 @@
 ghost use Rattle.std.specs.Prelude.{◌≡◌};
 ghost use Rattle.futures_buffered_core.specs.Drawn.{IsFiniteSource, items_of};
 ghost use Rattle.futures_buffered_core.specs.ReadyShared.{IsNewShared, MarksShared};
-ghost use Rattle.futures_buffered_joins.specs.JoinMade.{MakesJoin};
-ghost use Rattle.futures_buffered_joins.specs.Joining.{IsNewJoin};
+ghost use Rattle.futures_buffered_unordered.specs.FuturesUnorderedBounded.{HoldsEach};
+ghost use Rattle.futures_buffered_joins.specs.Join.{MakesJoin};
 
-pub use crate::join_by::outputs_come_by_place;
 use crate::join_by::{JoinBy, JoinName, JoinRule};
+pub use crate::slots_join::outputs_come_by_place;
 use futures_buffered_core::ready_core::NewFault;
 use futures_buffered_core::ready_shared::{SharedReady, SharedWaker};
 use futures_buffered_core::ready_source::ReadySource;
 use futures_buffered_unordered::SlotFuture;
-use futures_buffered_unordered::futures_unordered_bounded::POLL_LIMIT;
+use futures_buffered_unordered::futures_unordered_bounded::{FuturesUnorderedBounded, POLL_LIMIT};
 use std::alloc::Global;
 
 /// The rule of `join_all`: every output is kept, and none ends the join early. It has no values, and so it is also the
@@ -20,7 +20,7 @@ pub enum AllOutputs {}
 
 /// All of some futures: ready once each of them is done, with their outputs, each at its future's place. A join that
 /// has ended gives an empty vector.
-pub type Join<F, A, S> = JoinBy<AllOutputs, F, A, S>;
+pub type Join<F, A, S> = JoinBy<AllOutputs, FuturesUnorderedBounded<F, S>, A>;
 
 /// The join with the outputs of its futures. It is the name that a caller writes.
 pub type JoinAll<F, S = SharedReady> = Join<
@@ -73,7 +73,7 @@ where
     <I::Item as SlotFuture<SharedWaker>>::Output: Drop,
     requires { IsFiniteSource (items_of I.IntoIterator I.IntoIter.Iterator iter) }
     ensures { MakesJoin (items_of I.IntoIterator I.IntoIter.Iterator iter)
-        (IsNewJoin IsNewShared MarksShared POLL_LIMIT) result }
+        (HoldsEach IsNewShared MarksShared POLL_LIMIT) result }
 {
     Join::over(&(), alloc, iter)
 }

@@ -2,17 +2,17 @@
 ghost use Rattle.std.specs.Prelude.{◌≡◌};
 ghost use Rattle.futures_buffered_core.specs.Drawn.{IsFiniteSource, items_of};
 ghost use Rattle.futures_buffered_core.specs.ReadyShared.{IsNewShared, MarksShared};
-ghost use Rattle.futures_buffered_joins.specs.JoinMade.{MakesJoin};
-ghost use Rattle.futures_buffered_joins.specs.Joining.{IsNewJoin};
+ghost use Rattle.futures_buffered_unordered.specs.FuturesUnorderedBounded.{HoldsEach};
+ghost use Rattle.futures_buffered_joins.specs.Join.{MakesJoin};
 
-pub use crate::join_by::outputs_come_by_place;
 use crate::join_by::{JoinBy, JoinName, JoinRule};
+pub use crate::slots_join::outputs_come_by_place;
 use futures::future::TryOutput;
 use futures_buffered_core::ready_core::NewFault;
 use futures_buffered_core::ready_shared::{SharedReady, SharedWaker};
 use futures_buffered_core::ready_source::ReadySource;
 use futures_buffered_unordered::SlotFuture;
-use futures_buffered_unordered::futures_unordered_bounded::POLL_LIMIT;
+use futures_buffered_unordered::futures_unordered_bounded::{FuturesUnorderedBounded, POLL_LIMIT};
 use std::alloc::Global;
 
 /// The rule of `try_join_all`: what an output has in `Ok` is kept, and one in `Err` ends the join.
@@ -20,7 +20,7 @@ pub enum UntilError {}
 
 /// All of some futures that may fail: ready once each of them is done, with their outputs, each at its future's place,
 /// or as soon as one gives an error. A join that has ended, by an error too, gives `Ok` of an empty vector.
-pub type TryJoin<F, T, S> = JoinBy<UntilError, F, T, S>;
+pub type TryJoin<F, T, S> = JoinBy<UntilError, FuturesUnorderedBounded<F, S>, T>;
 
 /// The join with the values that its futures give where they succeed. It is the name that a caller writes.
 pub type TryJoinAll<F, S = SharedReady> = TryJoin<
@@ -70,7 +70,7 @@ where
     T: Drop,
     requires { IsFiniteSource (items_of I.IntoIterator I.IntoIter.Iterator iter) }
     ensures { MakesJoin (items_of I.IntoIterator I.IntoIter.Iterator iter)
-        (IsNewJoin IsNewShared MarksShared POLL_LIMIT) result }
+        (HoldsEach IsNewShared MarksShared POLL_LIMIT) result }
 {
     TryJoin::over(&(), alloc, iter)
 }

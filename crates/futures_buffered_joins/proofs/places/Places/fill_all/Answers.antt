@@ -1,7 +1,7 @@
 use Rattle.std.proofs.Common.{[], ◌∷◌, ◌++◌, refl, rules}
 use Rattle.std.proofs.lemmas.Fn.{FoldsTo-push}
 use Rattle.futures_buffered_joins.specs.Join.{Fills}
-use Rattle.futures_buffered_joins.proofs.joining.Joining.fill_all.Goals as goal
+use Rattle.futures_buffered_joins.proofs.places.Places.fill_all.Goals as goal
 
 pub places-preserved : goal.places-preserved
 places-preserved g c =
@@ -9,8 +9,8 @@ places-preserved g c =
     let ready = rw c.in-Ready-Ok.field-0-is at c.in-Ready-Ok.ensures.ready.filled in
     record {
       row = so.row ++ ready.output ∷ [];
-      filled = FoldsTo-push (Fills g.F.SlotFuture g.R.JoinRule g.S.ReadySource) (c.args.self.now, c.args.cx.now) so.row (c.places.self, c.places.cx) ready.output (c.fill_one.new.self, c.fill_one.new.cx) so.filled ready.fills;
-      held = ready.again;
+      filled = FoldsTo-push (Fills g.Q.PlacedSet.waiting g.Q.PlacedPolls g.R.JoinRule) (c.args.self.now, c.args.cx.now) so.row (c.places.self, c.places.cx) ready.output (c.fill_one.new.self, c.fill_one.new.cx) so.filled ready.fills;
+      fit = ready.fit;
       kept = λ fact h. c.fill_one.ensures.kept fact (so.kept fact h);
     }
 
@@ -31,6 +31,6 @@ pub returns-clause-ready : goal.returns-clause-ready
 returns-clause-ready g c =
     let so = c.places.invariant in
     record {
-      filled = record { row = so.row; before = c.places.self; between = c.places.cx; filled = so.filled; ended = (refl, refl, search rules) };
+      filled = record { row = so.row; before = c.places.self; between = c.places.cx; filled = so.filled; ended = (refl, refl, search rules, so.fit.in_order) };
       failed = tt;
     }

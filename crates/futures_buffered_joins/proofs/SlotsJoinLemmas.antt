@@ -1,0 +1,142 @@
+-- What a poll of a set of slots says of the places of a join.
+use Rattle.std.proofs.Common.{◌≡◌, ℕ, zero, suc, Bool, List, [], ◌∷◌, length, map, get_or, set, replicate, Option, Some, None, MatchOption, IfSome, is_some, true, false, cond, refl, sym, ap, subst, inl, inr, arith, ◌∙◌, slice_get}
+use Rattle.std.specs.List.{FoldsTo, count_by}
+use Rattle.std.proofs.lemmas.List.{get_or-map, get_or-set_other, map-set}
+use Rattle.std.proofs.lemmas.List.Sums.{sum_by-cons}
+use Rattle.std.proofs.lemmas.Option.{get_or_from_slice_get, slice_get_within}
+use Rattle.std.proofs.lemmas.Bool.{cases_eq}
+use Rattle.futures.specs.declared.task.context.Context.{Context}
+use Rattle.futures.specs.declared.task.Poll.{Poll}
+use Rattle.futures.specs.declared.task.Poll.TheVariants.{Ready, Pending}
+use Rattle.futures_buffered_core.specs.SlotMap.{Slots, value_in, slot_count, with_value, with_slot_freed}
+use Rattle.futures_buffered_table.specs.declared.answer.Woke.{Woke}
+use Rattle.futures_buffered_unordered.specs.Held.{AllHeld, MayGive, Passes, Yields}
+use Rattle.futures_buffered_unordered.specs.FuturesUnorderedBounded.{Bounded, HoldsEach, with_empty_slot}
+use Rattle.futures_buffered_unordered.specs.PollsBounded.{RegistersAndTakes, itself}
+use Rattle.futures_buffered_unordered.proofs.HeldLemmas.{some_from_end, value_in-with_value}
+use Rattle.futures_buffered_unordered.proofs.HeldGivesLemmas.{None-Some, value_in-with_slot_freed, value_in-with_slot_freed_other}
+use Rattle.futures_buffered_unordered.proofs.PollsBoundedLemmas.{takes_held}
+use Rattle.futures_buffered_joins.specs.Placed.{PlacedPollsOf, PollsPlaced, waiting_count}
+use Rattle.futures_buffered_joins.specs.SlotsJoin.{ItemMayGive, MayGiveAt, ReadySourceOf, SlotFutureOf, SlotsGive, slots_waiting}
+
+-- as many futures wait as are held
+pub held_waiting : {P : Type 0} (places : List (Option P)) → count_by is_some places ≡ waiting_count (map is_some places)
+held_waiting [] = refl
+held_waiting (o ∷ places) = omega (arith, held_waiting places, sum_by-cons (λ (p : Option _). cond (is_some p) 1 0) o places, sum_by-cons (λ (waits : Bool). cond waits 1 0) (is_some o) (map is_some places))
+
+-- a future waits at a place exactly if the slot has something
+pub waits_at : {P : Type 0} (places : List (Option P)) (k : ℕ) → get_or (map is_some places) k false ≡ is_some (get_or places k None)
+waits_at [] k = refl
+waits_at (o ∷ places) zero = refl
+waits_at (o ∷ places) (suc k) = waits_at places k
+
+-- slots that hold something where others do wait at the same places
+same_waiting : {P : Type 0} (old new : List (Option P)) → length new ≡ length old → ((k : ℕ) → is_some (get_or new k None) ≡ is_some (get_or old k None)) → map is_some new ≡ map is_some old
+same_waiting [] [] size same = refl
+same_waiting [] (o ∷ new) size same = absurd (omega (arith, size))
+same_waiting (o ∷ old) [] size same = absurd (omega (arith, size))
+same_waiting (o ∷ old) (p ∷ new) size same =
+    let first = same 0 in
+    let rest = same_waiting old new (omega (arith, size)) (λ k. same (suc k)) in
+    cc
+
+-- of a new set a future waits at each place
+each_some : {F : Type 0} (items : List F) → map is_some (map Some items) ≡ replicate (length (map Some items)) true
+each_some [] = refl
+each_some (x ∷ items) = ap (λ (places : List Bool). true ∷ places) (each_some items)
+
+pub each_waits : {F S : Type 0} (made : ℕ → S → Type 0) (marks : S → ℕ → Woke → S → Type 0) (limit : ℕ) (items : List F) (held : Bounded F S) → HoldsEach made marks limit items held → slots_waiting held ≡ replicate (slot_count held.slots) true
+each_waits made marks limit items held holds = rw holds.slots_hold (each_some items)
+
+Some-same : {F : Type 0} {f g : F} → Some f ≡ Some g → f ≡ g
+Some-same e = cc
+
+module _ {F R : Type 0} (polled : ℕ → F → Poll R → F → Type 0) where
+  pending_same : (m : Slots F) (i : ℕ) (f f2 : F) (y : R) → value_in m i ≡ Some f → polled i f Pending f2 → MayGiveAt polled (with_value m i f2) i y → MayGiveAt polled m i y
+  pending_same m i f f2 y e h may = (f, e, from_next (Some-same (sym may.1 ∙ value_in-with_value m i f f2 (sym e))) may.2)
+    where
+      from_next : {g : F} → g ≡ f2 → MayGive (polled i) g y → MayGive (polled i) f y
+      from_next {g} eq more = (g ∷ more.0, more.1, more.2, (g, (subst (λ k. polled i f Pending k) (sym eq) h, refl), more.3), more.4)
+
+  -- a pending poll adds nothing to what a slot may give
+  pending_at : (m : Slots F) (i k : ℕ) (f f2 : F) (y : R) → value_in m i ≡ Some f → polled i f Pending f2 → MayGiveAt polled (with_value m i f2) k y → MayGiveAt polled m k y
+  pending_at m i k f f2 y e h may =
+      elim (cases_eq k i) [
+        | inl same ↦ subst (λ (q : ℕ). MayGiveAt polled m q y) (sym same) (pending_same m i f f2 y e h (subst (λ (q : ℕ). MayGiveAt polled (with_value m i f2) q y) same may))
+        | inr other ↦ (may.0, sym (get_or-set_other m.places i k (Some f2) None other) ∙ may.1, may.2)
+      ]
+
+  -- nor does a name that is passed
+  passed_at : (m new : Slots F) (i k : ℕ) (y : R) → Passes polled m i new → MayGiveAt polled new k y → MayGiveAt polled m k y
+  passed_at m new i k y = by_value (value_in m i) refl
+    where
+      by_value : (o : Option F) → value_in m i ≡ o → MatchOption o (new ≡ m) (λ f. (left : F) × polled i f Pending left × (new ≡ with_value m i left)) → MayGiveAt polled new k y → MayGiveAt polled m k y
+      by_value None e h may = subst (λ (w : Slots F). MayGiveAt polled w k y) h may
+      by_value (Some f) e h may = pending_at m i k f h.0 y e h.1 (subst (λ (w : Slots F). MayGiveAt polled w k y) h.2 may)
+
+  passed_all_at : (names : List ℕ) (m left : Slots F) (k : ℕ) (y : R) → FoldsTo (Passes polled) m names left → MayGiveAt polled left k y → MayGiveAt polled m k y
+  passed_all_at [] m left k y passes may = subst (λ (w : Slots F). MayGiveAt polled w k y) (sym passes) may
+  passed_all_at (i ∷ names) m left k y passes may = passed_at m passes.0 i k y passes.1 (passed_all_at names passes.0 left k y passes.2 may)
+
+  -- an output frees its slot, and changes nothing at the other slots
+  freed_at : (m new : Slots F) (i k : ℕ) (x y : R) → Yields polled m i x new → MayGiveAt polled (with_slot_freed new i) k y → MayGiveAt polled m k y
+  freed_at m new i k x y h may =
+      elim (cases_eq k i) [
+        | inl same ↦ absurd (None-Some (sym (value_in-with_slot_freed new i) ∙ subst (λ (q : ℕ). value_in (with_slot_freed new i) q ≡ Some may.0) same may.1))
+        | inr other ↦
+            let freed = subst (λ (w : Slots F). MayGiveAt polled (with_slot_freed w i) k y) h.now_holds may in
+            (freed.0, sym (get_or-set_other m.places i k (Some h.left) None other) ∙ (sym (value_in-with_slot_freed_other (with_value m i h.left) i k other) ∙ freed.1), freed.2)
+      ]
+
+module _ {F W O S : Type 0} (future : SlotFutureOf F W O) (source : ReadySourceOf S W) where
+  -- what a join sees of the set
+  abbrev pub placed : PlacedPollsOf (Bounded F S) O
+  placed = record {
+    can_poll = λ (b : Bounded F S). AllHeld future.can_poll b.slots;
+    gives = SlotsGive future source;
+    needs = λ (b : Bounded F S). source.needs b.source;
+    may_give = λ (b : Bounded F S). MayGiveAt future.polled b.slots;
+  }
+
+  pub output_came : (old before new : Bounded F S) (i : ℕ) (x : O) (cx left : Context) → RegistersAndTakes (itself future) source old (Ready (i, x)) before cx left → new ≡ with_empty_slot before i → PollsPlaced slots_waiting placed old (Ready (i, x)) new cx left
+  output_came old before new i x cx left h is =
+      let takes = h.takes in
+      record {
+        gave = (before, h, is);
+        frees = (waits_at old.slots.places i ∙ (sym (takes.same_slots i) ∙ some), ap slots_waiting is ∙ (map-set is_some before.slots.places i None ∙ ap (λ (waiting : List Bool). set waiting i false) (same_waiting old.slots.places before.slots.places takes.capacity takes.same_slots)));
+        own = passed_all_at future.polled takes.names old.slots takes.passed i x takes.passes (takes.ends.2.value, takes.ends.2.held, ([], takes.ends.2.value, takes.ends.2.left, refl, takes.ends.2.gave));
+        narrows = λ k y may. passed_all_at future.polled takes.names old.slots takes.passed k y takes.passes (freed_at future.polled takes.passed before.slots i k x y takes.ends.2 (subst (λ (b : Bounded F S). MayGiveAt future.polled b.slots k y) is may));
+        registered = tt;
+        kept = h.kept;
+        again = subst (λ (b : Bounded F S). AllHeld future.can_poll b.slots) (sym is) others_held;
+      }
+    where
+      some : is_some (value_in before.slots i) ≡ true
+      some = some_from_end (future.polled i) _ _ (takes_held (itself future) source _ _ _ _ _ _ h.takes)
+
+      others_held : AllHeld future.can_poll (with_slot_freed before.slots i)
+      others_held j =
+          elim (cases_eq j i) [
+            | inl same ↦ let none : value_in (with_slot_freed before.slots i) j ≡ None = ap (value_in (with_slot_freed before.slots i)) same ∙ value_in-with_slot_freed before.slots i in rw none tt
+            | inr other ↦ subst (λ (o : Option F). IfSome o future.can_poll) (sym (value_in-with_slot_freed_other before.slots i j other)) (h.takes.others j other)
+          ]
+
+  pub nothing_came : (old new : Bounded F S) (cx left : Context) → RegistersAndTakes (itself future) source old Pending new cx left → PollsPlaced slots_waiting placed old Pending new cx left
+  nothing_came old new cx left h =
+      let takes = h.takes in
+      record {
+        gave = h;
+        frees = same_waiting old.slots.places new.slots.places takes.capacity takes.same_slots;
+        own = tt;
+        narrows = λ k y. passed_all_at future.polled takes.names old.slots new.slots k y (rw takes.ends.0 takes.passes);
+        registered = takes.covered;
+        kept = h.kept;
+        again = takes.pollable;
+      }
+
+-- what may come at place k of a new set, item k may give
+pub own_item : {F O S : Type 0} (polled : ℕ → F → Poll O → F → Type 0) (made : ℕ → S → Type 0) (marks : S → ℕ → Woke → S → Type 0) (limit : ℕ) (items : List F) (held : Bounded F S) → HoldsEach made marks limit items held
+    → (k : ℕ) (item : F) (x : O) → slice_get items k ≡ Some item → MayGiveAt polled held.slots k x → ItemMayGive polled k item x
+own_item polled made marks limit items held holds k item x of_item may =
+    let is : value_in held.slots k ≡ Some item = rw holds.slots_hold (get_or-map Some items k item None (slice_get_within items k item of_item) ∙ ap Some (get_or_from_slice_get items k item item of_item)) in
+    subst (λ (f : _). MayGive (polled k) f x) (Some-same (sym may.1 ∙ is)) may.2
