@@ -16,6 +16,7 @@ use Rattle.futures_buffered_core.specs.SlotMap.{Slots, value_in, held_count, slo
 use Rattle.futures_buffered_unordered.specs.FuturesUnorderedBounded.{IsWoken}
 use Rattle.futures_buffered_unordered.proofs.HeldGivesLemmas.{Gathers-Within, Gathers-After, value_in-with_slot_freed, value_in-with_slot_freed_other, None-Some}
 use Rattle.futures_buffered_in_flight.specs.InFlight.{FutureOf, Flights, AnyRunGives, AnySlotGives, AnyWaitGives, CanPollAll, CanPollRuns, CanPollWaiting, ComesByKey, ComesFromSlots, EntersAt, FlightsGiveNoMore, FlightsWaitAt, GivesByKey, HasEach, IsHeld, MayCome, PollsInFlight, WaitGives, flight_slots, run_count}
+use Rattle.futures_buffered_in_flight.specs.InFlightGrowing.{MakesRoom}
 use Rattle.futures_buffered_in_flight.specs.InFlightTurns.{Flies, Starts, TurnsOn}
 use Rattle.futures_buffered_in_flight.specs.declared.in_flight.Came.{Came}
 use Rattle.futures_buffered_in_flight.specs.declared.in_flight.Place.{Place}
@@ -200,6 +201,29 @@ module _ {F A T : Type 0} (future : FutureOf F A) where
   pub same_slots : (old new : Flights F T) (f : F) (tag : T) (key : Key) → EntersAt future old f tag key new → flight_slots new ≡ flight_slots old
   same_slots old new f tag key p = ap (λ (places : List (Option (Place T))). length places) p.went_in.now_held ∙ length-set old.slots.places key.slot _
 
+  -- the kit's set was polled, and what waits is as it was
+  pub less_after : (old new : Flights F T) → ((came : Key × Option A) → AnyRunGives future new.running came → AnyRunGives future old.running came) → new.waiting ≡ old.waiting → FlightsGiveNoMore future old new
+  less_after old new narrows waiting came g = elim g [
+    | inl run ↦ inl (narrows came run)
+    | inr wait ↦ inr (subst (λ ws. AnyWaitGives future ws came) waiting wait)
+  ]
+
+  pub can_after : (old new : Flights F T) → CanPollAll future old → CanPollRuns future new.running
+      → new.waiting ≡ old.waiting → new.next ≡ old.next → FlightsGiveNoMore future old new → CanPollAll future new
+  can_after old new can each waiting next less = record {
+    running = each;
+    waiting = subst (λ ws. CanPollWaiting future ws) (sym waiting) can.waiting;
+    older = λ came g. subst (λ n. came.0.push < n) (sym next) (can.older came (less came g));
+  }
+
+  -- a set that may be polled still may be after a slot was made, or none was needed
+  pub wide_can_poll : (old wide : Flights F T) → CanPollAll future old → MakesRoom old wide → CanPollAll future wide
+  wide_can_poll old wide can (inl same) = subst (λ s. CanPollAll future s) (sym same.1) can
+  wide_can_poll old wide can (inr made) =
+      let futures = made.1.futures in
+      let less : FlightsGiveNoMore future old wide = less_after old wide (λ came run. subst (λ runs. AnyRunGives future runs came) futures.0 run) futures.1 in
+      can_after old wide can (subst (λ runs. CanPollRuns future runs) (sym futures.0) can.running) futures.1 made.1.rest.1 less
+
   pub starts_none : (s : Flights F T) → CanPollAll future s → Starts future s s
   starts_none s can = record { slots = refl; keys = refl; room = omega arith; less = λ came g. g; again = can }
 
@@ -248,21 +272,6 @@ module _ {F A T : Type 0} (future : FutureOf F A) where
           older = λ came g. subst (λ n. came.0.push < n) (sym (h.rest.1 ∙ next)) (can.older came (less came g));
         };
       }
-
-  -- the kit's set was polled, and what waits is as it was
-  pub less_after : (old new : Flights F T) → ((came : Key × Option A) → AnyRunGives future new.running came → AnyRunGives future old.running came) → new.waiting ≡ old.waiting → FlightsGiveNoMore future old new
-  less_after old new narrows waiting came g = elim g [
-    | inl run ↦ inl (narrows came run)
-    | inr wait ↦ inr (subst (λ ws. AnyWaitGives future ws came) waiting wait)
-  ]
-
-  pub can_after : (old new : Flights F T) → CanPollAll future old → CanPollRuns future new.running
-      → new.waiting ≡ old.waiting → new.next ≡ old.next → FlightsGiveNoMore future old new → CanPollAll future new
-  can_after old new can each waiting next less = record {
-    running = each;
-    waiting = subst (λ ws. CanPollWaiting future ws) (sym waiting) can.waiting;
-    older = λ came g. subst (λ n. came.0.push < n) (sym next) (can.older came (less came g));
-  }
 
   -- a poll of what the starts and turns before left
   pub polls_from : (old mid new : Flights F T) (answer : Poll (Option (Came A T))) (cx asked left : Context) → Starts future old mid → Keeps cx asked → 0 < held_count mid.slots → PollsInFlight future mid answer new asked left → PollsInFlight future old answer new cx left

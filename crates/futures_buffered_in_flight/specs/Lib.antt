@@ -1,4 +1,5 @@
 pub mod InFlight
 pub mod InFlightTurns
+pub mod InFlightGrowing
 pub mod InFlightQueue
 pub mod InFlightOrdered

@@ -1,4 +1,4 @@
-//! One bell a slot, in one allocation made with the set: it tells a run that it was cancelled, and wakes it.
+//! One bell a slot, in tables that a set makes with its slots: it tells a run that it was cancelled, and wakes it.
 ghost use Rattle.std.specs.Prelude.{◌≡◌};
 ghost use Rattle.futures.specs.Task.{Keeps};
 
@@ -25,7 +25,7 @@ struct Bell {
     waker: Mutex<Option<Waker>>,
 }
 
-/// The bells of all slots of a set.
+/// A table of bells, in two allocations.
 #[derive(Drop)]
 pub struct Bells {
     source: Source,
@@ -60,8 +60,8 @@ impl Bells {
     pub fn leave_waker(&self, slot: usize, cx: &mut Context<'_>)
         ensures { Keeps cx.old cx.new }
     {
-        // The set of the crate `futures` holds no more than n, so that the number is below n, unless it lost a number
-        // when an allocation failed.
+        // The set of the crate `futures` holds no more than there are slots, so that the number is below the bells, unless
+        // it lost a number when an allocation failed.
         let number = cx.task();
         let place = if number < self.bells.len() {
             number
@@ -117,14 +117,15 @@ impl Bells {
         drop(woken);
     }
 
-    /// Wakes the task of one run that left a waker, if any did. Takes time in proportion to the slots.
-    pub fn wake_any(&self) {
+    /// Wakes the task of one run that left a waker, and returns whether any did. Takes time in proportion to the bells.
+    pub fn wake_any(&self) -> bool {
         for place in 0..self.bells.len() {
             if self.is_filled(place) {
                 self.wake(place);
-                return;
+                return true;
             }
         }
+        false
     }
 
     fn is_filled(&self, place: usize) -> bool {
@@ -149,5 +150,76 @@ impl Bells {
         if bell.filled.load(SeqCst) != 0 {
             self.wake(slot);
         }
+    }
+}
+
+/// The tables of a set: the newest has a bell for each slot, and the older ones have no more bells together.
+///
+/// A run looks at the table that was the newest when it started, and in each table the place of a waker is the number of
+/// its task. That number is below the slots that there were when the run started, so it is below the bells of its table.
+#[derive(Drop)]
+pub struct Tables {
+    newest: Arc<Bells>,
+    // Those that the set outgrew, until all runs are dropped.
+    older: Vec<Arc<Bells>>,
+}
+
+impl Tables {
+    /// One table of `n` bells.
+    pub fn new(alloc: Global, n: usize) -> Result<Tables, AllocError> {
+        let newest = Bells::new(alloc, n)?;
+        Ok(Tables {
+            newest,
+            older: Vec::new(alloc),
+        })
+    }
+
+    /// The table for a run that starts. `None` if it is shared too often.
+    pub fn newest(&self) -> Option<Arc<Bells>> {
+        Arc::try_clone(&self.newest).ok()
+    }
+
+    /// Has a bell for each of so many slots. If there are fewer, a table is made of at least twice the bells. If an
+    /// allocation fails, the tables stay.
+    pub fn reserve(&mut self, alloc: Global, slots: usize) -> Result<(), AllocError> {
+        let bells = self.newest.bells.len();
+        if slots <= bells {
+            return Ok(());
+        }
+        self.older.reserve(1)?;
+        let newest = Bells::new(alloc, slots.max(bells.saturating_mul(2)))?;
+        self.older
+            .push_reserved(std::mem::replace(&mut self.newest, newest));
+        Ok(())
+    }
+
+    /// Tells the run of this push that it was cancelled, and wakes it. Goes over all tables: a run that waited for memory
+    /// looks at a newer one than there was when it was pushed.
+    pub fn ring(&self, key: Key) {
+        self.newest.ring(key);
+        for bells in &self.older {
+            bells.ring(key);
+        }
+    }
+
+    /// Wakes the task of one run that left a waker, if any did.
+    pub fn wake_any(&self) {
+        if self.newest.wake_any() {
+            return;
+        }
+        for bells in &self.older {
+            if bells.wake_any() {
+                return;
+            }
+        }
+    }
+
+    /// Drops all wakers and the older tables, since all runs were dropped. That wakes the task that polled them.
+    pub fn let_all_go(&mut self) {
+        self.newest.let_all_go();
+        for bells in &self.older {
+            bells.let_all_go();
+        }
+        self.older.clear();
     }
 }

@@ -8,7 +8,8 @@ ghost use Rattle.futures_buffered_in_flight.specs.InFlight.{CanPollAll, FliesInO
 ghost use Rattle.futures_buffered_in_flight.specs.InFlightOrdered.{CanPollOrdered, FliesInTurn, IsNewInOrder};
 ghost use Rattle.futures_buffered_in_flight.specs.InFlightOrdered.{PushesBack, ordered_room};
 
-use crate::in_flight::FuturesUnorderedBounded;
+use crate::in_flight::{FuturesInFlight, FuturesUnorderedBounded};
+use crate::in_flight_growing::FuturesUnordered;
 use crate::in_flight_ordered::FuturesOrderedBounded;
 use futures::Future;
 use futures_buffered_core::ready_core::{MAX_CAPACITY, NewFault};
@@ -36,7 +37,7 @@ fn draw<F: Drop, I: IntoIterator<Item = F>>(alloc: Global, iter: I) -> Result<Ve
 
 // Has a new set take these futures, each in the slot of its place.
 #[tactic(auto, using(crate::proofs::FromIterLemmas::pushed_none, crate::proofs::FromIterLemmas::pushed_all, crate::proofs::FromIterLemmas::pushed_room))]
-fn push_all<F>(set: &mut FuturesUnorderedBounded<F>, futures: Vec<F>)
+fn push_all<F, K>(set: &mut FuturesInFlight<F, (), K>, futures: Vec<F>)
 where
     F: Future<Output: Drop>,
     requires new { IsNewInFlight (vec_len futures) set.old }
@@ -70,6 +71,22 @@ where
     }
 }
 
+impl<F: Future<Output: Drop>, K> FuturesInFlight<F, (), K> {
+    // A set of these futures without a free slot, item k in slot k.
+    fn with_items<I: IntoIterator<Item = F>>(alloc: Global, iter: I) -> Result<Self, NewFault>
+        requires finite { IsFiniteSource (items_of I.IntoIterator I.IntoIter.Iterator iter) }
+        requires fit { EachDrawn (items_of I.IntoIterator I.IntoIter.Iterator iter) F.can_poll }
+        ensures made { MakesFull (items_of I.IntoIterator I.IntoIter.Iterator iter) flight_slots
+            (FliesInOrder F.Future) result }
+        ensures can_poll { IfOk result (CanPollAll F.Future) }
+    {
+        let futures = draw(alloc, iter)?;
+        let mut set = Self::with_slots(alloc, futures.len())?;
+        push_all(&mut set, futures);
+        Ok(set)
+    }
+}
+
 impl<F: Future<Output: Drop>> FuturesUnorderedBounded<F> {
     /// A set of these futures without a free slot, item k in slot k. Nothing is polled.
     ///
@@ -82,10 +99,20 @@ impl<F: Future<Output: Drop>> FuturesUnorderedBounded<F> {
             (FliesInOrder F.Future) result }
         ensures can_poll { IfOk result (CanPollAll F.Future) }
     {
-        let futures = draw(alloc, iter)?;
-        let mut set = FuturesUnorderedBounded::new(alloc, futures.len())?;
-        push_all(&mut set, futures);
-        Ok(set)
+        Self::with_items(alloc, iter)
+    }
+}
+
+impl<F: Future<Output: Drop>> FuturesUnordered<F> {
+    /// As `FuturesUnorderedBounded::from_iter`. A later push makes a slot if none is free.
+    pub fn from_iter<I: IntoIterator<Item = F>>(alloc: Global, iter: I) -> Result<Self, NewFault>
+        requires finite { IsFiniteSource (items_of I.IntoIterator I.IntoIter.Iterator iter) }
+        requires fit { EachDrawn (items_of I.IntoIterator I.IntoIter.Iterator iter) F.can_poll }
+        ensures made { MakesFull (items_of I.IntoIterator I.IntoIter.Iterator iter) flight_slots
+            (FliesInOrder F.Future) result }
+        ensures can_poll { IfOk result (CanPollAll F.Future) }
+    {
+        Self::with_items(alloc, iter)
     }
 }
 

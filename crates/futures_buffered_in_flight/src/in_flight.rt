@@ -1,34 +1,28 @@
-//! At most n futures of the kit, each with a tag of the caller's, each of which can be cancelled by its key.
+//! Sets of futures of the kit, each with a tag of the caller's, each of which can be cancelled by its key.
 //!
-//! The set owns the kit's `FuturesUnordered`, which polls those that were woken, beside the slots.
+//! A set owns the kit's `FuturesUnordered`, which polls the futures that were woken, and the slots. A `FuturesInFlight` is
+//! of one of two kinds: `FuturesUnorderedBounded` has a fixed number of slots, and `FuturesUnordered` makes slots.
 ghost use Rattle.std.specs.Prelude.{◌≡◌, ◌+◌, ◌≤◌, ◌↔◌, ◌⊎◌, ◌<◌, [], IfOk, IfErr, OnErr, OnOk, IfSome, IfNone, IsSome};
 ghost use Rattle.std.specs.Prelude.{IsTrue, None, length};
-ghost use Rattle.futures.specs.Poll.{IfReady, OnPending};
-ghost use Rattle.futures.specs.Queued.{GivesNoMore};
-ghost use Rattle.futures.specs.Task.{Covers, Keeps};
 ghost use Rattle.futures_buffered_core.specs.Drawn.{IsFiniteSource, items_of};
 ghost use Rattle.futures_buffered_core.specs.Made.{MakesSlots};
 ghost use Rattle.futures_buffered_core.specs.SlotMap.{held_count, no_slots, slot_count, with_slot_freed};
 ghost use Rattle.futures_buffered_unordered.specs.Extended.{EachDrawn, Extends};
-ghost use Rattle.futures_buffered_unordered.specs.FuturesUnorderedBounded.{IsWoken};
 ghost use Rattle.futures_buffered_in_flight.specs.InFlight.{AnyRunGives, CanPollAll, CanPollRuns, CanPollWaiting};
-ghost use Rattle.futures_buffered_in_flight.specs.InFlight.{CancelsOrNone, EntersAt, FlightsGiveNoMore, FlightsWaitAt};
-ghost use Rattle.futures_buffered_in_flight.specs.InFlight.{GivesWithKey, HasEach, HasNoRoom, IsHeld, IsNewInFlight};
-ghost use Rattle.futures_buffered_in_flight.specs.InFlight.{PollsInFlight, PushesInFlight, RefusesInFlight, WentIn};
-ghost use Rattle.futures_buffered_in_flight.specs.InFlight.{room_taken, run_count, runs_in, flight_slots};
-ghost use Rattle.futures_buffered_in_flight.specs.InFlightTurns.{Flies, Starts, TurnsOn};
+ghost use Rattle.futures_buffered_in_flight.specs.InFlight.{CancelsOrNone, EntersAt, HasNoRoom, IsHeld, IsNewInFlight};
+ghost use Rattle.futures_buffered_in_flight.specs.InFlight.{PushesInFlight, RefusesInFlight, WentIn};
+ghost use Rattle.futures_buffered_in_flight.specs.InFlight.{flight_slots, room_taken, run_count, runs_in};
+ghost use Rattle.futures_buffered_in_flight.specs.InFlightTurns.{Flies};
 
-use crate::bells::Bells;
+use crate::bells::Tables;
 use crate::run::{Key, Run, Waits};
+use futures::Future;
 use futures::stream::FuturesUnordered;
-use futures::task::{Context, Poll};
-use futures::{Future, Stream};
 use futures_buffered_core::ready_core::NewFault;
 use futures_buffered_core::slot_map::PinSlotMap;
 use std::alloc::Global;
 use std::collections::VecDeque;
-use std::marker::Model;
-use std::sync::Arc;
+use std::marker::{Model, PhantomData};
 
 /// What a slot knows of its future: the tag that the caller gave, and the number of its push.
 #[derive(Drop)]
@@ -45,24 +39,34 @@ pub struct Came<A, T = ()> {
     pub output: A,
 }
 
+/// The kind of a set whose slots are made with it.
+pub struct Bounded;
+
+/// The kind of a set in which a push makes a slot if none is free.
+pub struct Growing;
+
 /// Futures of the kit, as many at a time as there are slots, each of which can be cancelled by its key.
 ///
-/// A push never fails for want of memory. A future for which an allocation fails waits in a place that was made with the
-/// set, until a poll finds memory for it. Nothing is written to these places otherwise. A future that was cancelled takes
-/// up room until a poll drops it. Calls that only read take the same time at any capacity.
+/// A push into a free slot never fails for want of memory. A future for which an allocation fails waits in a place that
+/// was made with its slot, until a poll finds memory for it. Nothing is written to these places otherwise. A future that
+/// was cancelled takes up room until a poll drops it. Calls that only read take the same time at any capacity.
 #[derive(Drop)]
-pub struct FuturesUnorderedBounded<F, T = ()> {
-    slots: PinSlotMap<Place<T>>,
+pub struct FuturesInFlight<F, T, K> {
+    pub(crate) slots: PinSlotMap<Place<T>>,
     // None before the first push and after `clear`.
-    running: Option<FuturesUnordered<Run<F>>>,
-    waiting: VecDeque<Waits<F>>,
-    cancelled: usize,
-    next: u64,
-    bells: Arc<Bells>,
-    alloc: Global,
+    pub(crate) running: Option<FuturesUnordered<Run<F>>>,
+    pub(crate) waiting: VecDeque<Waits<F>>,
+    pub(crate) cancelled: usize,
+    pub(crate) next: u64,
+    pub(crate) bells: Tables,
+    pub(crate) alloc: Global,
+    kind: PhantomData<K>,
 }
 
-impl<F, T> Model for FuturesUnorderedBounded<F, T> {
+/// A set whose slots are made with it: as many futures as those take up room at a time.
+pub type FuturesUnorderedBounded<F, T = ()> = FuturesInFlight<F, T, Bounded>;
+
+impl<F, T, K> Model for FuturesInFlight<F, T, K> {
     ghost use Rattle.std.specs.Prelude.{◌≤◌, ◌+◌, length};
     ghost use Rattle.std.specs.VecDeque.{deque_capacity};
     ghost use Rattle.futures_buffered_core.specs.SlotMap.{held_count, slot_count};
@@ -84,7 +88,7 @@ impl<F, T> Model for FuturesUnorderedBounded<F, T> {
         × (held_count s.slots + s.cancelled ≤ slot_count s.slots) };
 }
 
-impl<F: Drop, T: Drop> FuturesUnorderedBounded<F, T> {
+impl<F: Drop, T: Drop, K> FuturesInFlight<F, T, K> {
     /// The number of futures held, without those that were cancelled.
     pub fn len(&self) -> usize
         ensures value { result ≡ held_count self.now.slots }
@@ -100,15 +104,15 @@ impl<F: Drop, T: Drop> FuturesUnorderedBounded<F, T> {
         self.slots.is_empty()
     }
 
-    /// The number of slots, which never changes.
+    /// The number of slots.
     pub fn capacity(&self) -> usize
         ensures { result ≡ flight_slots self.now }
     {
         self.slots.capacity()
     }
 
-    /// Whether each push is refused: the futures held, and those that were cancelled and not dropped yet, are as many as
-    /// the slots. After 2^64 - 1 pushes it is so for good.
+    /// Whether no slot is left for a push: the futures held, and those that were cancelled and not dropped yet, are as
+    /// many as the slots. After 2^64 - 1 pushes it is so for good. A bounded set refuses each push then.
     pub fn is_full(&self) -> bool
         ensures { IsTrue result ↔ HasNoRoom self.now }
     {
@@ -127,7 +131,7 @@ impl<F: Drop, T: Drop> FuturesUnorderedBounded<F, T> {
     }
 
     // Frees the slot of this key, if its future is held, and returns the tag. The future takes up room as before.
-    fn take_place(&mut self, key: Key) -> Option<T>
+    pub(crate) fn take_place(&mut self, key: Key) -> Option<T>
         ensures none { IfNone result ((self.new ≡ self.old) × ((tag : T) → IsHeld self.old key tag → ⊥)) }
         ensures some { IfSome result (λ tag. IsHeld self.old key tag
             × (self.new.slots ≡ with_slot_freed self.old.slots key.slot)
@@ -147,7 +151,7 @@ impl<F: Drop, T: Drop> FuturesUnorderedBounded<F, T> {
     }
 
     // A future that took up room is gone.
-    fn end_cancelled(&mut self)
+    pub(crate) fn end_cancelled(&mut self)
         requires { length self.old.waiting + 1 ≤ room_taken self.old }
         ensures rest { (self.new.slots ≡ self.old.slots) × (self.new.next ≡ self.old.next)
             × (self.new.waiting ≡ self.old.waiting) × (self.new.running ≡ self.old.running) }
@@ -160,14 +164,14 @@ impl<F: Drop, T: Drop> FuturesUnorderedBounded<F, T> {
     }
 
     // How many of those that take up room do not wait.
-    fn flying(&self) -> usize
+    pub(crate) fn flying(&self) -> usize
         ensures { result + length self.now.waiting ≡ room_taken self.now }
     {
         self.slots.len() + self.cancelled - self.waiting.len()
     }
 
     // How many are in the kit's set.
-    fn running_len(&self) -> usize
+    pub(crate) fn running_len(&self) -> usize
         ensures { result ≡ run_count self.now.running }
     {
         match &self.running {
@@ -177,7 +181,7 @@ impl<F: Drop, T: Drop> FuturesUnorderedBounded<F, T> {
     }
 
     // Drops each future, and leaves the slots as they are.
-    fn drop_all(&mut self)
+    pub(crate) fn drop_all(&mut self)
         requires { held_count self.old.slots ≡ 0 }
         ensures none { (self.new.running ≡ None) × (self.new.waiting ≡ []) × (self.new.cancelled ≡ 0) }
         ensures rest { (self.new.slots ≡ self.old.slots) × (self.new.next ≡ self.old.next) }
@@ -189,19 +193,17 @@ impl<F: Drop, T: Drop> FuturesUnorderedBounded<F, T> {
     }
 }
 
-impl<F: Future<Output: Drop>, T: Drop> FuturesUnorderedBounded<F, T> {
-    /// A set of `n` free slots.
-    ///
-    /// Takes time and memory in proportion to `n`.
+impl<F: Future<Output: Drop>, T: Drop, K> FuturesInFlight<F, T, K> {
+    // A set of n free slots.
     #[tactic(auto, using(crate::proofs::InFlightLemmas::none_can_poll))]
-    pub fn new(alloc: Global, n: usize) -> Result<Self, NewFault>
+    pub(crate) fn with_slots(alloc: Global, n: usize) -> Result<Self, NewFault>
         ensures made { MakesSlots n (IsNewInFlight n) result }
         ensures can_poll { IfOk result (CanPollAll F.Future) }
     {
         let slots = PinSlotMap::new(alloc, n)?;
         let waiting = VecDeque::with_capacity(alloc, n)?;
-        let bells = Bells::new(alloc, n)?;
-        Ok(FuturesUnorderedBounded {
+        let bells = Tables::new(alloc, n)?;
+        Ok(FuturesInFlight {
             slots,
             running: None,
             waiting,
@@ -209,6 +211,7 @@ impl<F: Future<Output: Drop>, T: Drop> FuturesUnorderedBounded<F, T> {
             next: 0,
             bells,
             alloc,
+            kind: PhantomData,
         })
     }
 
@@ -265,7 +268,7 @@ impl<F: Future<Output: Drop>, T: Drop> FuturesUnorderedBounded<F, T> {
         if !self.make_running() {
             return Err(value);
         }
-        let Ok(bells) = Arc::try_clone(&self.bells) else {
+        let Some(bells) = self.bells.newest() else {
             return Err(value);
         };
         let Some(running) = &mut self.running else {
@@ -283,7 +286,7 @@ impl<F: Future<Output: Drop>, T: Drop> FuturesUnorderedBounded<F, T> {
 
     // The future goes to the kit's set, or waits. Under the last number it waits for good.
     #[tactic(auto, using(crate::proofs::InFlightLemmas::flies, crate::proofs::InFlightLemmas::left_waiting, crate::proofs::InFlightLemmas::waits_for_good))]
-    fn start(&mut self, value: Waits<F>)
+    pub(crate) fn start(&mut self, value: Waits<F>)
         requires held { CanPollRuns F.Future self.old.running }
         requires waits { CanPollWaiting F.Future self.old.waiting }
         requires new { F.can_poll value.future }
@@ -326,6 +329,33 @@ impl<F: Future<Output: Drop>, T: Drop> FuturesUnorderedBounded<F, T> {
         key
     }
 
+    /// Cancels the future of this key, so that no output of it comes, and returns its tag. `None` if no future that is
+    /// held has this key: its output came, or it was cancelled.
+    ///
+    /// Its slot is free at once. The next poll that is pending or gives the end drops it; it takes up room until then.
+    /// Takes the same time at any capacity, and wakes the task that polled its future last.
+    pub fn cancel(&mut self, key: Key) -> Option<T>
+        requires { CanPollAll F.Future self.old }
+        ensures cancels { CancelsOrNone F.Future self.old key result self.new }
+        ensures again { CanPollAll F.Future self.new }
+    {
+        let tag = self.take_place(key)?;
+        self.bells.ring(key);
+        Some(tag)
+    }
+}
+
+impl<F: Future<Output: Drop>, T: Drop> FuturesUnorderedBounded<F, T> {
+    /// A set of `n` free slots.
+    ///
+    /// Takes time and memory in proportion to `n`.
+    pub fn new(alloc: Global, n: usize) -> Result<Self, NewFault>
+        ensures made { MakesSlots n (IsNewInFlight n) result }
+        ensures can_poll { IfOk result (CanPollAll F.Future) }
+    {
+        Self::with_slots(alloc, n)
+    }
+
     /// Adds the future under a tag of the caller's, so that a later poll polls it, and returns its key. Tags need not
     /// differ.
     ///
@@ -350,185 +380,6 @@ impl<F: Future<Output: Drop>, T: Drop> FuturesUnorderedBounded<F, T> {
             return Err((future, tag));
         }
         Ok(self.push_any(future, tag))
-    }
-
-    /// Cancels the future of this key, so that no output of it comes, and returns its tag. `None` if no future that is
-    /// held has this key: its output came, or it was cancelled.
-    ///
-    /// Its slot is free at once. The next poll that is pending or gives the end drops it; it takes up room until then.
-    /// Takes the same time at any capacity, and wakes the task that polled its future last.
-    pub fn cancel(&mut self, key: Key) -> Option<T>
-        requires { CanPollAll F.Future self.old }
-        ensures cancels { CancelsOrNone F.Future self.old key result self.new }
-        ensures again { CanPollAll F.Future self.new }
-    {
-        let tag = self.take_place(key)?;
-        self.bells.ring(key);
-        Some(tag)
-    }
-
-    // Whether the future of this key was cancelled.
-    fn is_over(&self, key: Key) -> bool
-        ensures { IsTrue result → 0 < self.now.cancelled }
-    {
-        self.cancelled > 0 && !self.contains(key)
-    }
-
-    // The one that waited longest is dropped if it was cancelled. Else it goes to the kit's set, or waits again.
-    #[tactic(auto, using(crate::proofs::InFlightLemmas::dropped, crate::proofs::InFlightLemmas::started))]
-    fn start_one(&mut self)
-        requires { CanPollAll F.Future self.old }
-        ensures { Starts F.Future self.old self.new }
-    {
-        let Some(value) = self.waiting.pop_front() else {
-            return;
-        };
-        if self.is_over(value.key) {
-            self.cancelled -= 1;
-            return;
-        }
-        self.start(value);
-    }
-
-    // Each that waits, in turn.
-    #[tactic(auto, using(crate::proofs::InFlightLemmas::starts_none, crate::proofs::InFlightLemmas::starts_on))]
-    fn start_all(&mut self)
-        requires { CanPollAll F.Future self.old }
-        ensures { Starts F.Future self.old self.new }
-    {
-        'starts: for _start in 0..self.waiting.len() {
-            self.start_one();
-        }
-    }
-
-    // The task polls again if some wait for memory.
-    fn ask_again(&self, cx: &mut Context<'_>)
-        ensures started { (self.now.waiting ≡ []) ⊎ IsWoken cx.new }
-        ensures kept { Keeps cx.old cx.new }
-    {
-        if !self.waiting.is_empty() {
-            let _: Poll<()> = cx.yield_now();
-        }
-    }
-
-    // One poll of the kit's set. If that is pending, some are left there.
-    #[tactic(auto, using(crate::proofs::InFlightLemmas::narrows_after, crate::proofs::InFlightLemmas::narrows_within))]
-    fn poll_running(&mut self, cx: &mut Context<'_>) -> Poll<Option<(Key, Option<F::Output>)>>
-        requires { CanPollRuns F.Future self.old.running }
-        ensures pollable { CanPollRuns F.Future self.new.running }
-        ensures gave { IfReady result (λ o. IfSome o (AnyRunGives F.Future self.old.running)) }
-        ensures gives { GivesNoMore (GivesWithKey F.gives)
-            (runs_in self.old.running) (runs_in self.new.running) }
-        ensures rest { (self.new.slots ≡ self.old.slots) × (self.new.next ≡ self.old.next)
-            × (self.new.waiting ≡ self.old.waiting) × (self.new.cancelled ≡ self.old.cancelled) }
-        ensures left { OnPending result (0 < run_count self.new.running) }
-        ensures registered { OnPending result (Covers cx.new (FlightsWaitAt self.new)) }
-        ensures kept { Keeps cx.old cx.new }
-    {
-        let Some(running) = &mut self.running else {
-            return Poll::Ready(None);
-        };
-        if running.is_empty() {
-            return Poll::Ready(None);
-        }
-        match running.poll_next(cx) {
-            Poll::Pending => Poll::Pending,
-            Poll::Ready(Some(came)) => Poll::Ready(Some(came)),
-            Poll::Ready(None) => {
-                self.running = None;
-                self.bells.let_all_go();
-                Poll::Ready(None)
-            }
-        }
-    }
-
-    // The kit's set is pending. The task polls again if one that was cancelled is left there, or if not each is there: no
-    // clause of the kit says that it is.
-    fn stay(&self, cx: &mut Context<'_>)
-        ensures stays { HasEach self.now ⊎ IsWoken cx.new }
-        ensures ended { (self.now.cancelled ≡ 0) ⊎ IsWoken cx.new }
-        ensures kept { Keeps cx.old cx.new }
-    {
-        if self.cancelled > 0 || self.running_len() != self.flying() {
-            let _: Poll<()> = cx.yield_now();
-        }
-    }
-
-    // Drops what is left, if nothing is held.
-    #[tactic(auto, using(crate::proofs::InFlightLemmas::none_can_poll))]
-    fn end(&mut self)
-        requires held { CanPollAll F.Future self.old }
-        requires none { held_count self.old.slots ≡ 0 }
-        ensures none { (self.new.cancelled ≡ 0) × (self.new.waiting ≡ []) }
-        ensures rest { (self.new.slots ≡ self.old.slots) × (self.new.next ≡ self.old.next) }
-        ensures same { self.old.cancelled ≡ 0 → self.new ≡ self.old }
-        ensures less { FlightsGiveNoMore F.Future self.old self.new }
-        ensures again { CanPollAll F.Future self.new }
-    {
-        if self.cancelled > 0 {
-            self.drop_all();
-        }
-    }
-
-    // One turn of a poll: what the kit's set gives, or nothing if that was of a future that was cancelled.
-    #[tactic(auto, using(crate::proofs::InFlightLemmas::turned, crate::proofs::InFlightLemmas::waited, crate::proofs::InFlightLemmas::came_out, crate::proofs::InFlightLemmas::starts_none, crate::proofs::InFlightLemmas::pended))]
-    fn turn(&mut self, cx: &mut Context<'_>) -> Option<Poll<Option<Came<F::Output, T>>>>
-        requires held { CanPollAll F.Future self.old }
-        requires some { 0 < held_count self.old.slots }
-        requires started { (self.old.waiting ≡ []) ⊎ IsWoken cx.old }
-        ensures came { IfSome result (λ answer. PollsInFlight F.Future self.old answer self.new cx.old cx.new) }
-        ensures none { IfNone result (TurnsOn F.Future self.old self.new cx.old cx.new) }
-    {
-        if self.flying() == 0 {
-            return Some(cx.yield_now());
-        }
-        match self.poll_running(cx) {
-            Poll::Pending => {
-                self.stay(cx);
-                Some(Poll::Pending)
-            }
-            // The kit's set has one, so this arm is not taken. No clause of the kit says so.
-            Poll::Ready(None) => Some(cx.yield_now()),
-            Poll::Ready(Some((key, Some(output)))) => match self.take_place(key) {
-                Some(tag) => {
-                    self.end_cancelled();
-                    Some(Poll::Ready(Some(Came { key, tag, output })))
-                }
-                None => {
-                    self.end_cancelled();
-                    None
-                }
-            },
-            Poll::Ready(Some((_, None))) => {
-                self.end_cancelled();
-                None
-            }
-        }
-    }
-
-    /// One poll: an output with the key and the tag of its future, or the end, exactly if nothing is held.
-    ///
-    /// A future that waits for memory is started first. A pending poll, and the end, drop those that were cancelled. It
-    /// polls the futures that were pushed or woken since they were polled, at most 128 for each that had been cancelled
-    /// and 128 more. Does not allocate but what the futures do, what the kit's set does for one that waits, and at its
-    /// first poll of a task.
-    #[tactic(auto, using(crate::proofs::InFlightLemmas::polls_from, crate::proofs::InFlightLemmas::pended, crate::proofs::InFlightLemmas::ends, crate::proofs::InFlightLemmas::starts_on))]
-    pub fn poll_next_keyed(&mut self, cx: &mut Context<'_>) -> Poll<Option<Came<F::Output, T>>>
-        requires { CanPollAll F.Future self.old }
-        ensures { PollsInFlight F.Future self.old result self.new cx.old cx.new }
-    {
-        if self.slots.is_empty() {
-            self.end();
-            return Poll::Ready(None);
-        }
-        self.start_all();
-        self.ask_again(cx);
-        'turns: for _turn in 0..=self.cancelled {
-            if let Some(answer) = self.turn(cx) {
-                return answer;
-            }
-        }
-        cx.yield_now()
     }
 }
 

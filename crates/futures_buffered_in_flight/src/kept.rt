@@ -3,11 +3,13 @@ ghost use Rattle.std.specs.Prelude.{◌≡◌, [], None};
 ghost use Rattle.futures_buffered_core.specs.SlotMap.{no_slots, slot_count};
 ghost use Rattle.futures_buffered_in_flight.specs.InFlight.{CancelsOrNone, ComesFromSlots, EntersAt, FlightsWaitAt};
 ghost use Rattle.futures_buffered_in_flight.specs.InFlight.{HasNoRoom, PollsInFlight, PushesInFlight, flight_slots};
+ghost use Rattle.futures_buffered_in_flight.specs.InFlightGrowing.{PushesGrowing};
 ghost use Rattle.futures_buffered_in_flight.specs.InFlightOrdered.{ComesOfEach, OrderedWaitsAt, PollsInTurn};
 ghost use Rattle.futures_buffered_in_flight.specs.InFlightOrdered.{IsNewInOrder, PushesBack, PushesFront};
 ghost use Rattle.futures_buffered_in_flight.specs.InFlightOrdered.{PushesOrComesBack};
 
-use crate::in_flight::{Came, FuturesUnorderedBounded};
+use crate::in_flight::{Came, FuturesInFlight, FuturesUnorderedBounded};
+use crate::in_flight_growing::FuturesUnordered;
 use crate::in_flight_ordered::FuturesOrderedBounded;
 use crate::run::Key;
 use futures::task::{Context, Poll};
@@ -84,7 +86,29 @@ impl<F: Future<Output: Drop>, T: Drop> Kept<FuturesUnorderedBounded<F, T>> {
     {
         self.held.try_push_tagged(future, tag)
     }
+}
 
+impl<F: Future<Output: Drop>> Kept<FuturesUnordered<F>> {
+    /// As `FuturesUnordered::push`.
+    pub fn push(&mut self, future: F) -> Result<Key, F>
+        requires { F.can_poll future }
+        ensures { PushesGrowing F.Future self.old future tt future result self.new }
+    {
+        self.held.push(future)
+    }
+}
+
+impl<F: Future<Output: Drop>, T: Drop> Kept<FuturesUnordered<F, T>> {
+    /// As `FuturesUnordered::push_tagged`.
+    pub fn push_tagged(&mut self, future: F, tag: T) -> Result<Key, (F, T)>
+        requires { F.can_poll future }
+        ensures { PushesGrowing F.Future self.old future tag (future, tag) result self.new }
+    {
+        self.held.push_tagged(future, tag)
+    }
+}
+
+impl<F: Future<Output: Drop>, T: Drop, K> Kept<FuturesInFlight<F, T, K>> {
     /// As `FuturesUnorderedBounded::poll_next_keyed`.
     pub fn poll_next_keyed(&mut self, cx: &mut Context<'_>) -> Poll<Option<Came<F::Output, T>>>
         ensures { PollsInFlight F.Future self.old result self.new cx.old cx.new }
@@ -109,7 +133,7 @@ impl<F: Future<Output: Drop>, T: Drop> Kept<FuturesUnorderedBounded<F, T>> {
     }
 }
 
-impl<F: Future<Output: Drop>, T: Drop> Stream for Kept<FuturesUnorderedBounded<F, T>> {
+impl<F: Future<Output: Drop>, T: Drop, K> Stream for Kept<FuturesInFlight<F, T, K>> {
     type Item = F::Output;
 
     ghost needs = { FlightsWaitAt };

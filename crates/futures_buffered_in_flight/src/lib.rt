@@ -6,7 +6,8 @@
 //! - `run`: `Key`, which names one push, and `Run`, a future whose output comes with its key.
 //! - `bells`: how a run is told, and woken, if it is cancelled.
 //! - `in_flight`: `FuturesUnorderedBounded`, at most n futures, told apart by their keys, each of which can be cancelled;
-//!   `in_flight_stream` is the same set as a stream, `in_flight_queue` the same as what an adaptor or a queue holds.
+//!   `in_flight_growing` is `FuturesUnordered`, the set of any number, `in_flight_polls` the polls of both,
+//!   `in_flight_stream` both as a stream, `in_flight_queue` the same as what an adaptor or a queue holds.
 //! - `in_flight_ordered`: `FuturesOrderedBounded`, a queue with pushes at both ends, whose outputs come from the front;
 //!   `in_flight_ordered_stream` is the same queue as a stream.
 //! - `from_iter`: sets and queues that are made of what an iterator gives.
@@ -18,8 +19,10 @@
 mod bells;
 mod from_iter;
 pub mod in_flight;
+pub mod in_flight_growing;
 pub mod in_flight_ordered;
 mod in_flight_ordered_stream;
+mod in_flight_polls;
 mod in_flight_queue;
 mod in_flight_stream;
 pub mod kept;
@@ -27,6 +30,7 @@ pub mod run;
 pub mod waiting;
 
 pub use in_flight::{Came, FuturesUnorderedBounded};
+pub use in_flight_growing::FuturesUnordered;
 pub use in_flight_ordered::FuturesOrderedBounded;
 pub use kept::Kept;
 pub use run::Key;

@@ -3,7 +3,7 @@ ghost use Rattle.std.specs.Prelude.{◌≡◌, Some, IfOk, IsSomeAnd};
 ghost use Rattle.futures_buffered_in_flight.specs.InFlight.{CameInFlight, CanPollAll, FlightsWaitAt};
 ghost use Rattle.futures_buffered_in_flight.specs.InFlightOrdered.{CameInTurn, CanPollOrdered, OrderedWaitsAt};
 
-use crate::in_flight::{Came, FuturesUnorderedBounded};
+use crate::in_flight::{Came, FuturesInFlight};
 use crate::in_flight_ordered::FuturesOrderedBounded;
 use futures::Future;
 use futures::executor::block_on;
@@ -21,8 +21,8 @@ pub struct Waiting<S> {
     held: Option<S>,
 }
 
-impl<F: Future<Output: Drop>, T: Drop> Future for Waiting<FuturesUnorderedBounded<F, T>> {
-    type Output = (Option<Came<F::Output, T>>, FuturesUnorderedBounded<F, T>);
+impl<F: Future<Output: Drop>, T: Drop, K> Future for Waiting<FuturesInFlight<F, T, K>> {
+    type Output = (Option<Came<F::Output, T>>, FuturesInFlight<F, T, K>);
 
     // A set that was given back is not there to be polled.
     ghost can_poll = { λ waiting. IsSomeAnd waiting.held (CanPollAll F.Future) };
@@ -44,7 +44,7 @@ impl<F: Future<Output: Drop>, T: Drop> Future for Waiting<FuturesUnorderedBounde
     }
 }
 
-impl<F: Future<Output: Drop>, T: Drop> FuturesUnorderedBounded<F, T> {
+impl<F: Future<Output: Drop>, T: Drop, K> FuturesInFlight<F, T, K> {
     /// A future of the next output, with its key and tag, or of `None` if nothing is held. It gives the set back too.
     ///
     /// Any executor runs it, as `runtime.block_on(&rt, set.into_next())` of `tokio` does.
@@ -56,10 +56,7 @@ impl<F: Future<Output: Drop>, T: Drop> FuturesUnorderedBounded<F, T> {
 
     /// Blocks the thread until the next output comes, or the end, and gives the set back. Drives no socket and no timer.
     /// If the thread cannot wait, the set is dropped.
-    pub fn wait<R>(
-        self,
-        rt: &R,
-    ) -> io::Result<(Option<Came<F::Output, T>>, FuturesUnorderedBounded<F, T>)>
+    pub fn wait<R>(self, rt: &R) -> io::Result<(Option<Came<F::Output, T>>, Self)>
     where
         R: Wait + RandomSource + AllocGlobal,
         requires { CanPollAll F.Future self }

@@ -1,0 +1,118 @@
+//! The set that grows: a push makes a slot if none is free.
+ghost use Rattle.std.specs.Prelude.{◌≡◌, IfOk, IsTrue, OnErr, OnOk, false};
+ghost use Rattle.futures_buffered_core.specs.Drawn.{IsFiniteSource, items_of};
+ghost use Rattle.futures_buffered_core.specs.Made.{MakesSlots};
+ghost use Rattle.futures_buffered_unordered.specs.Extended.{EachDrawn, Extends};
+ghost use Rattle.futures_buffered_in_flight.specs.InFlight.{CanPollAll, HasNoRoom, IsNewInFlight};
+ghost use Rattle.futures_buffered_in_flight.specs.InFlight.{RefusesInFlight};
+ghost use Rattle.futures_buffered_in_flight.specs.InFlightGrowing.{MakesRoom, MakesSlot, PushesGrowing, WentInGrowing};
+
+use crate::in_flight::{FuturesInFlight, Growing};
+use crate::run::Key;
+use futures::Future;
+use futures_buffered_core::ready_core::NewFault;
+use std::alloc::{AllocError, Global};
+
+/// A set of any number of futures.
+pub type FuturesUnordered<F, T = ()> = FuturesInFlight<F, T, Growing>;
+
+impl<F: Drop, T: Drop> FuturesUnordered<F, T> {
+    // One slot more, with a place to wait and a bell. What cannot be seen grows first.
+    fn make_slot(&mut self) -> Result<(), AllocError>
+        ensures made { OnOk result (MakesSlot self.old self.new) }
+        ensures same { OnErr result (self.new ≡ self.old) }
+    {
+        let Some(slots) = self.slots.capacity().checked_add(1) else {
+            return Err(AllocError);
+        };
+        self.waiting.reserve(slots - self.waiting.len())?;
+        self.bells.reserve(self.alloc, slots)?;
+        self.slots.grow_by_one()
+    }
+
+    // Makes a slot if none is free. Whether there is room then.
+    fn make_room(&mut self) -> bool
+        ensures room { IsTrue result → MakesRoom self.old self.new }
+        ensures has { IsTrue result → HasNoRoom self.new → ⊥ }
+        ensures none { result ≡ false → HasNoRoom self.old × (self.new ≡ self.old) }
+    {
+        if !self.is_full() {
+            return true;
+        }
+        self.next != u64::MAX && self.make_slot().is_ok()
+    }
+}
+
+impl<F: Future<Output: Drop>, T: Drop> FuturesUnordered<F, T> {
+    /// A set without a slot.
+    pub fn new(alloc: Global) -> Result<Self, NewFault>
+        ensures made { MakesSlots 0 (IsNewInFlight 0) result }
+        ensures can_poll { IfOk result (CanPollAll F.Future) }
+    {
+        Self::with_slots(alloc, 0)
+    }
+
+    /// A set of `n` free slots.
+    ///
+    /// Takes time and memory in proportion to `n`.
+    pub fn with_capacity(alloc: Global, n: usize) -> Result<Self, NewFault>
+        ensures made { MakesSlots n (IsNewInFlight n) result }
+        ensures can_poll { IfOk result (CanPollAll F.Future) }
+    {
+        Self::with_slots(alloc, n)
+    }
+
+    /// Adds the future under a tag of the caller's, so that a later poll polls it, and returns its key. Tags need not
+    /// differ.
+    ///
+    /// If no slot is free, a slot is made. The future and the tag come back, and nothing has changed, if an allocation for
+    /// that fails, and after 2^64 - 1 pushes. Into a free slot a push never fails: it allocates what the kit's set does
+    /// for a future, and does without if that fails. Many pushes together take time and memory in proportion to their
+    /// number. A task whose poll was pending is woken.
+    #[tactic(auto, using(crate::proofs::InFlightLemmas::wide_can_poll))]
+    pub fn push_tagged(&mut self, future: F, tag: T) -> Result<Key, (F, T)>
+        requires held { CanPollAll F.Future self.old }
+        requires fit { F.can_poll future }
+        ensures pushes { PushesGrowing F.Future self.old future tag (future, tag) result self.new }
+        ensures again { CanPollAll F.Future self.new }
+    {
+        if !self.make_room() {
+            return Err((future, tag));
+        }
+        Ok(self.push_any(future, tag))
+    }
+}
+
+impl<F: Future<Output: Drop>> FuturesUnordered<F> {
+    /// As `push_tagged`, without a tag.
+    #[tactic(auto, using(crate::proofs::InFlightLemmas::wide_can_poll))]
+    pub fn push(&mut self, future: F) -> Result<Key, F>
+        requires held { CanPollAll F.Future self.old }
+        requires fit { F.can_poll future }
+        ensures pushes { PushesGrowing F.Future self.old future tt future result self.new }
+        ensures again { CanPollAll F.Future self.new }
+    {
+        if !self.make_room() {
+            return Err(future);
+        }
+        Ok(self.push_any(future, ()))
+    }
+
+    /// Pushes each item, in order, as `push` does. The first that is refused comes back; those before it stay, and the
+    /// iterator is asked for no further one.
+    pub fn extend<I: IntoIterator<Item = F>>(&mut self, iter: I) -> Result<(), F>
+        requires finite { IsFiniteSource (items_of I.IntoIterator I.IntoIter.Iterator iter) }
+        requires held { CanPollAll F.Future self.old }
+        requires each { EachDrawn (items_of I.IntoIterator I.IntoIter.Iterator iter) F.can_poll }
+        ensures extends { Extends (items_of I.IntoIterator I.IntoIter.Iterator iter)
+            (WentInGrowing F.Future tt) RefusesInFlight self.old result self.new }
+        ensures again { CanPollAll F.Future self.new }
+    {
+        for future in iter {
+            if let Err(back) = self.push(future) {
+                return Err(back);
+            }
+        }
+        Ok(())
+    }
+}

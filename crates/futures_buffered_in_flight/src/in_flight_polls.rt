@@ -1,0 +1,182 @@
+//! The polls of a set: each future that waits for memory is started, and then the kit's set is polled.
+ghost use Rattle.std.specs.Prelude.{◌≡◌, ◌⊎◌, ◌<◌, [], IfSome, IfNone, IsTrue};
+ghost use Rattle.futures.specs.Poll.{IfReady, OnPending};
+ghost use Rattle.futures.specs.Queued.{GivesNoMore};
+ghost use Rattle.futures.specs.Task.{Covers, Keeps};
+ghost use Rattle.futures_buffered_core.specs.SlotMap.{held_count};
+ghost use Rattle.futures_buffered_unordered.specs.FuturesUnorderedBounded.{IsWoken};
+ghost use Rattle.futures_buffered_in_flight.specs.InFlight.{AnyRunGives, CanPollAll, CanPollRuns, FlightsGiveNoMore};
+ghost use Rattle.futures_buffered_in_flight.specs.InFlight.{FlightsWaitAt, GivesWithKey, HasEach, PollsInFlight};
+ghost use Rattle.futures_buffered_in_flight.specs.InFlight.{run_count, runs_in};
+ghost use Rattle.futures_buffered_in_flight.specs.InFlightTurns.{Starts, TurnsOn};
+
+use crate::in_flight::{Came, FuturesInFlight};
+use crate::run::Key;
+use futures::task::{Context, Poll};
+use futures::{Future, Stream};
+
+impl<F: Future<Output: Drop>, T: Drop, K> FuturesInFlight<F, T, K> {
+    // Whether the future of this key was cancelled.
+    fn is_over(&self, key: Key) -> bool
+        ensures { IsTrue result → 0 < self.now.cancelled }
+    {
+        self.cancelled > 0 && !self.contains(key)
+    }
+
+    // The one that waited longest is dropped if it was cancelled. Else it goes to the kit's set, or waits again.
+    #[tactic(auto, using(crate::proofs::InFlightLemmas::dropped, crate::proofs::InFlightLemmas::started))]
+    fn start_one(&mut self)
+        requires { CanPollAll F.Future self.old }
+        ensures { Starts F.Future self.old self.new }
+    {
+        let Some(value) = self.waiting.pop_front() else {
+            return;
+        };
+        if self.is_over(value.key) {
+            self.cancelled -= 1;
+            return;
+        }
+        self.start(value);
+    }
+
+    // Each that waits, in turn.
+    #[tactic(auto, using(crate::proofs::InFlightLemmas::starts_none, crate::proofs::InFlightLemmas::starts_on))]
+    fn start_all(&mut self)
+        requires { CanPollAll F.Future self.old }
+        ensures { Starts F.Future self.old self.new }
+    {
+        'starts: for _start in 0..self.waiting.len() {
+            self.start_one();
+        }
+    }
+
+    // The task polls again if some wait for memory.
+    fn ask_again(&self, cx: &mut Context<'_>)
+        ensures started { (self.now.waiting ≡ []) ⊎ IsWoken cx.new }
+        ensures kept { Keeps cx.old cx.new }
+    {
+        if !self.waiting.is_empty() {
+            let _: Poll<()> = cx.yield_now();
+        }
+    }
+
+    // One poll of the kit's set. If that is pending, some are left there.
+    #[tactic(auto, using(crate::proofs::InFlightLemmas::narrows_after, crate::proofs::InFlightLemmas::narrows_within))]
+    fn poll_running(&mut self, cx: &mut Context<'_>) -> Poll<Option<(Key, Option<F::Output>)>>
+        requires { CanPollRuns F.Future self.old.running }
+        ensures pollable { CanPollRuns F.Future self.new.running }
+        ensures gave { IfReady result (λ o. IfSome o (AnyRunGives F.Future self.old.running)) }
+        ensures gives { GivesNoMore (GivesWithKey F.gives)
+            (runs_in self.old.running) (runs_in self.new.running) }
+        ensures rest { (self.new.slots ≡ self.old.slots) × (self.new.next ≡ self.old.next)
+            × (self.new.waiting ≡ self.old.waiting) × (self.new.cancelled ≡ self.old.cancelled) }
+        ensures left { OnPending result (0 < run_count self.new.running) }
+        ensures registered { OnPending result (Covers cx.new (FlightsWaitAt self.new)) }
+        ensures kept { Keeps cx.old cx.new }
+    {
+        let Some(running) = &mut self.running else {
+            return Poll::Ready(None);
+        };
+        if running.is_empty() {
+            return Poll::Ready(None);
+        }
+        match running.poll_next(cx) {
+            Poll::Pending => Poll::Pending,
+            Poll::Ready(Some(came)) => Poll::Ready(Some(came)),
+            Poll::Ready(None) => {
+                self.running = None;
+                self.bells.let_all_go();
+                Poll::Ready(None)
+            }
+        }
+    }
+
+    // The kit's set is pending. The task polls again if one that was cancelled is left there, or if not each is there: no
+    // clause of the kit says that it is.
+    fn stay(&self, cx: &mut Context<'_>)
+        ensures stays { HasEach self.now ⊎ IsWoken cx.new }
+        ensures ended { (self.now.cancelled ≡ 0) ⊎ IsWoken cx.new }
+        ensures kept { Keeps cx.old cx.new }
+    {
+        if self.cancelled > 0 || self.running_len() != self.flying() {
+            let _: Poll<()> = cx.yield_now();
+        }
+    }
+
+    // Drops what is left, if nothing is held.
+    #[tactic(auto, using(crate::proofs::InFlightLemmas::none_can_poll))]
+    fn end(&mut self)
+        requires held { CanPollAll F.Future self.old }
+        requires none { held_count self.old.slots ≡ 0 }
+        ensures none { (self.new.cancelled ≡ 0) × (self.new.waiting ≡ []) }
+        ensures rest { (self.new.slots ≡ self.old.slots) × (self.new.next ≡ self.old.next) }
+        ensures same { self.old.cancelled ≡ 0 → self.new ≡ self.old }
+        ensures less { FlightsGiveNoMore F.Future self.old self.new }
+        ensures again { CanPollAll F.Future self.new }
+    {
+        if self.cancelled > 0 {
+            self.drop_all();
+        }
+    }
+
+    // One turn of a poll: what the kit's set gives, or nothing if that was of a future that was cancelled.
+    #[tactic(auto, using(crate::proofs::InFlightLemmas::turned, crate::proofs::InFlightLemmas::waited, crate::proofs::InFlightLemmas::came_out, crate::proofs::InFlightLemmas::starts_none, crate::proofs::InFlightLemmas::pended))]
+    fn turn(&mut self, cx: &mut Context<'_>) -> Option<Poll<Option<Came<F::Output, T>>>>
+        requires held { CanPollAll F.Future self.old }
+        requires some { 0 < held_count self.old.slots }
+        requires started { (self.old.waiting ≡ []) ⊎ IsWoken cx.old }
+        ensures came { IfSome result (λ answer. PollsInFlight F.Future self.old answer self.new cx.old cx.new) }
+        ensures none { IfNone result (TurnsOn F.Future self.old self.new cx.old cx.new) }
+    {
+        if self.flying() == 0 {
+            return Some(cx.yield_now());
+        }
+        match self.poll_running(cx) {
+            Poll::Pending => {
+                self.stay(cx);
+                Some(Poll::Pending)
+            }
+            // The kit's set has one, so this arm is not taken. No clause of the kit says so.
+            Poll::Ready(None) => Some(cx.yield_now()),
+            Poll::Ready(Some((key, Some(output)))) => match self.take_place(key) {
+                Some(tag) => {
+                    self.end_cancelled();
+                    Some(Poll::Ready(Some(Came { key, tag, output })))
+                }
+                None => {
+                    self.end_cancelled();
+                    None
+                }
+            },
+            Poll::Ready(Some((_, None))) => {
+                self.end_cancelled();
+                None
+            }
+        }
+    }
+
+    /// One poll: an output with the key and the tag of its future, or the end, exactly if nothing is held.
+    ///
+    /// A future that waits for memory is started first. A pending poll, and the end, drop those that were cancelled. It
+    /// polls the futures that were pushed or woken since they were polled, at most 128 for each that had been cancelled
+    /// and 128 more. Does not allocate but what the futures do, what the kit's set does for one that waits, and at its
+    /// first poll of a task.
+    #[tactic(auto, using(crate::proofs::InFlightLemmas::polls_from, crate::proofs::InFlightLemmas::pended, crate::proofs::InFlightLemmas::ends, crate::proofs::InFlightLemmas::starts_on))]
+    pub fn poll_next_keyed(&mut self, cx: &mut Context<'_>) -> Poll<Option<Came<F::Output, T>>>
+        requires { CanPollAll F.Future self.old }
+        ensures { PollsInFlight F.Future self.old result self.new cx.old cx.new }
+    {
+        if self.slots.is_empty() {
+            self.end();
+            return Poll::Ready(None);
+        }
+        self.start_all();
+        self.ask_again(cx);
+        'turns: for _turn in 0..=self.cancelled {
+            if let Some(answer) = self.turn(cx) {
+                return answer;
+            }
+        }
+        cx.yield_now()
+    }
+}
