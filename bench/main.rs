@@ -5,6 +5,7 @@
 mod adaptors;
 mod blocking;
 mod channels;
+mod flights;
 mod holders;
 mod items;
 mod one_shots;

@@ -4,11 +4,9 @@ use crate::report::Workload;
 use futures::channel::oneshot as kit;
 use futures::stream::FuturesUnordered as KitSet;
 use futures::task::Context;
-use futures::{Future, Stream};
+use futures::Stream;
 use futures_buffered_held::oneshot;
-use futures_buffered_in_flight::FuturesUnorderedBounded;
 use std::alloc::Global;
-use std::marker::Model;
 
 /// The receiver of a one-shot.
 pub trait Channel: Drop {
@@ -50,36 +48,6 @@ impl Holder<kit::Receiver<u64>> for KitSet<kit::Receiver<u64>> {
 
     fn gives(&mut self, cx: &mut Context<'_>) -> bool {
         self.poll_next(cx).is_ready()
-    }
-}
-
-/// The kit's one-shots in flight, each of which may be polled at any time.
-#[derive(Drop)]
-pub struct Flights(FuturesUnorderedBounded<kit::Receiver<u64>>);
-
-impl Model for Flights {
-    ghost use Rattle.futures_buffered_in_flight.specs.InFlight.{CanPollAll};
-
-    ghost Value = { Unit {0} };
-
-    ghost view = { λ _. tt };
-
-    ghost invariant = { λ m. CanPollAll ⟦<kit::Receiver<u64> as Future>⟧ m.0 };
-}
-
-impl Flights {
-    pub fn new(alloc: Global, n: usize) -> Option<Flights> {
-        Some(Flights(FuturesUnorderedBounded::new(alloc, n).ok()?))
-    }
-}
-
-impl Holder<kit::Receiver<u64>> for Flights {
-    fn add(&mut self, receiver: kit::Receiver<u64>) {
-        let _ = self.0.try_push(receiver);
-    }
-
-    fn gives(&mut self, cx: &mut Context<'_>) -> bool {
-        self.0.poll_next(cx).is_ready()
     }
 }
 

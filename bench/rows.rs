@@ -8,13 +8,14 @@ use crate::holders::{
     Drained, DrainedSet, GrowingQueue, GrowingSet, Joined, Queue, Refilled, Set, Yields,
 };
 use crate::items::{Items, Sent};
-use crate::one_shots::{Flights, OneShots};
+use crate::flights::{FlightJoin, FlightQueue, Flights, KitJoin, flight_queue, flights};
+use crate::one_shots::OneShots;
 use crate::report::{RUNS, Report};
 use crate::sources::{FourWakers, Listed, TaskAlone};
 use crate::waiting::{Kept, Woken};
 use futures::StreamExt;
 use futures::channel::{mpsc, oneshot as kit};
-use futures::stream::FuturesUnordered as KitSet;
+use futures::stream::{FuturesOrdered as KitQueue, FuturesUnordered as KitSet};
 use futures::task::Waker;
 use futures_buffered::in_flight::BufferedStreamExt;
 use futures_buffered::buffer::Buffer;
@@ -58,6 +59,8 @@ impl<R: Clock + RandomSource + AllocGlobal, O: io::Write> Report<'_, R, O> {
         let alloc = self.rt.alloc();
         let made = Refilled::new(Set::<Yields>::new(alloc, 256).ok(), 256, yields);
         self.timed("set", name, 256, made)?;
+        let made = Refilled::new(flights::<Yields>(alloc, 256), 256, yields);
+        self.timed("in flight", name, 256, made)?;
         let made = Refilled::new(KitSet::<Yields>::new(alloc).ok(), 256, yields);
         self.timed("kit set", name, 256, made)
     }
@@ -77,6 +80,9 @@ impl<R: Clock + RandomSource + AllocGlobal, O: io::Write> Report<'_, R, O> {
         let alloc = self.rt.alloc();
         let made = Set::<Kept<SharedWaker>>::new(alloc, 256).ok();
         self.timed("set", name, 256, Woken::new(alloc, made, 256, 256, ends))?;
+        let made = flights::<Kept<Waker>>(alloc, 256);
+        let made = Woken::new(alloc, made, 256, 256, ends);
+        self.timed("in flight", name, 256, made)?;
         let made = KitSet::<Kept<Waker>>::new(alloc).ok();
         let made = Woken::new(alloc, made, 256, 256, ends);
         self.timed("kit set", name, 256, made)
@@ -116,7 +122,7 @@ impl<R: Clock + RandomSource + AllocGlobal, O: io::Write> Report<'_, R, O> {
         for slots in [16, 256, 4_096] {
             let made = KitSet::<kit::Receiver<u64>>::new(alloc).ok();
             self.timed("kit set", of_kit, slots, OneShots::new(alloc, made, slots))?;
-            let made = OneShots::new(alloc, Flights::new(alloc, slots), slots);
+            let made = OneShots::new(alloc, flights::<kit::Receiver<u64>>(alloc, slots), slots);
             self.timed("in flight", of_kit, slots, made)?;
             let made = Set::<oneshot::Receiver<u64>>::new(alloc, slots).ok();
             let made = OneShots::new(alloc, made, slots);
@@ -152,6 +158,21 @@ impl<R: Clock + RandomSource + AllocGlobal, O: io::Write> Report<'_, R, O> {
             self.timed(growing, REPLACED, held, Refilled::new(made, held, 0))?;
             let made = GrowingQueue::<Yields>::with_capacity(alloc, held).ok();
             self.timed(growing, AT_BACK, held, made.map(|made| Drained(made, held)))?;
+        }
+        self.flight_queues()
+    }
+
+    fn flight_queues(&mut self) -> io::Result<()> {
+        let alloc = self.rt.alloc();
+        for held in [16, 4_096] {
+            let made: Option<FlightQueue> = flight_queue(alloc, held);
+            self.timed("in flight ordered", REPLACED, held, Refilled::new(made, held, 0))?;
+            let made = KitQueue::<Yields, ()>::new(alloc).ok();
+            self.timed("kit ordered", REPLACED, held, Refilled::new(made, held, 0))?;
+            let made: Option<FlightQueue> = flight_queue(alloc, held);
+            self.timed("in flight ordered", AT_BACK, held, made.map(|made| Drained(made, held)))?;
+            let made = KitQueue::<Yields, ()>::new(alloc).ok();
+            self.timed("kit ordered", AT_BACK, held, made.map(|made| Drained(made, held)))?;
         }
         Ok(())
     }
@@ -199,6 +220,8 @@ impl<R: Clock + RandomSource + AllocGlobal, O: io::Write> Report<'_, R, O> {
         let name = "made, polled and ready, a future of";
         for count in [1_000, 100_000, 1_000_000] {
             self.timed("join_all", name, count, Some(Joined(alloc, count)))?;
+            self.timed("in flight join_all", name, count, Some(FlightJoin(alloc, count)))?;
+            self.timed("kit join_all", name, count, Some(KitJoin(alloc, count)))?;
         }
         let made: Option<Merge> = MergeBounded::from_iter(alloc, (0..100).map(|_| Feed)).ok();
         self.timed("merge", "an item of one of the streams, of", 100, made)

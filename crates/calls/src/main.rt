@@ -6,40 +6,9 @@
 //! that a call made was refused, else 0; and 4 where a file could not be gone through.
 #![tactic(auto)]
 
-mod adaptors;
-mod additions;
-mod answer;
-mod command;
-mod cores;
-mod counter;
-mod effects;
-mod in_flight;
-mod joins;
-mod kinds;
-mod line;
-mod lines;
-mod memory;
-mod merges;
-mod numbers;
-mod polls;
-mod queues;
-mod report;
-mod script;
-mod session;
-mod sets;
-mod settings;
-mod shared_world;
-mod source;
-mod step;
-mod subject;
-mod task_script;
-mod text;
-mod values;
-mod world;
-
-use lines::run_lines;
-use report::Report;
-use session::{Session, new_session};
+use calls_lines::lines::run_lines;
+use calls_world::report::Report;
+use calls_lines::session::{Session, new_session};
 use std::alloc::{AllocError, AllocGlobal, Global};
 use std::env::{Args, Env};
 use std::fs::Files;

@@ -1,7 +1,7 @@
 //! What a poll of an object answers, what other calls reply, and how that is written.
-use crate::memory;
-use crate::text::Text;
-use crate::values::Output;
+use calls_world::memory;
+use calls_world::text::Text;
+use calls_world::values::Output;
 use futures::task::Poll;
 use futures_buffered_core::ready_core::NewFault;
 use std::alloc::AllocError;
@@ -157,6 +157,14 @@ pub fn of_listed<T: Drop>(pushed: Result<(), T>, is_full: bool) -> Reply {
 pub fn of_full<T: Drop>(pushed: Result<(), T>, is_full: bool) -> Reply {
     match of_push(pushed) {
         Reply::Full if !is_full => Reply::Nothing,
+        reply => reply,
+    }
+}
+
+/// The reply of an object that grows: it is refused memory, and only if it had no room.
+pub fn of_growing<T: Drop>(pushed: Result<(), T>, was_full: bool) -> Reply {
+    match of_growth(pushed) {
+        Reply::Refused if !was_full => Reply::Nothing,
         reply => reply,
     }
 }

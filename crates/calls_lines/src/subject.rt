@@ -1,7 +1,7 @@
 //! The object under test: one implementation for each type of the library.
 use crate::answer::{Answer, Reply};
-use crate::command::{End, Query};
-use crate::shared_world::SharedWorld;
+use calls_world::command::{End, Query};
+use calls_world::shared_world::SharedWorld;
 use futures::task::Context;
 
 /// A call that is no poll.

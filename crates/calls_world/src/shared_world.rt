@@ -1,7 +1,9 @@
 //! Handles on the world, one for each value and one for the session.
 use crate::effects::{Event, append_events};
+use crate::line::split_call;
 use crate::memory;
-use crate::step::Step;
+use crate::numbers::span;
+use crate::step::{Step, push_steps};
 use crate::text::Text;
 use crate::world::World;
 use futures_buffered_core::ready_shared::SharedWaker;
@@ -168,6 +170,34 @@ impl SharedWorld {
         match self.world.try_borrow_mut() {
             Ok(mut world) => world.take_sender(id),
             Err(_) => None,
+        }
+    }
+}
+
+impl SharedWorld {
+    /// Has the value with this number act by these steps. Whether each word is one.
+    pub fn define_one(&self, id: usize, words: &str) -> bool {
+        let mut steps = Vec::new(self.alloc);
+        let is_well = push_steps(&mut steps, words, id);
+        self.define(id, steps);
+        is_well
+    }
+
+    fn define_each(&self, first: usize, last: usize, words: &str) -> bool {
+        for id in first..last {
+            if !self.define_one(id, words) {
+                return false;
+            }
+        }
+        self.define_one(last, words)
+    }
+
+    /// The same of each value of a span, by the words of a line.
+    pub fn define_named(&self, rest: &str) -> bool {
+        let (ids, words) = split_call(rest);
+        match span(ids) {
+            Some((first, last)) => self.define_each(first, last, words),
+            None => false,
         }
     }
 }

@@ -1,12 +1,9 @@
 //! What a line says about values, tasks and the next object, and the wakes and sends that it makes.
-use crate::command::{Command, ids_of};
-use crate::line::split_call;
-use crate::numbers::{number, span};
+use calls_world::command::{Command, ids_of};
+use calls_world::numbers::number;
 use crate::session::{Session, task_of};
-use crate::shared_world::SharedWorld;
-use crate::source::FixedHint;
-use crate::step::push_steps;
-use crate::world::SOURCE;
+use calls_world::source::FixedHint;
+use calls_world::world::SOURCE;
 
 fn ok_if(is_well: bool) -> &'static str {
     if is_well { "ok" } else { "bad" }
@@ -28,33 +25,6 @@ fn hint_of(rest: &str) -> Option<FixedHint> {
 fn sent_by(rest: &str) -> Option<(usize, usize)> {
     let (id, value) = rest.split_once(' ')?;
     Some((number(id)?, number(value)?))
-}
-
-impl SharedWorld {
-    // The value with this number acts by these steps. Whether each word is one.
-    fn define_one(&self, id: usize, words: &str) -> bool {
-        let mut steps = Vec::new(self.alloc);
-        let is_well = push_steps(&mut steps, words, id);
-        self.define(id, steps);
-        is_well
-    }
-
-    fn define_each(&self, first: usize, last: usize, words: &str) -> bool {
-        for id in first..last {
-            if !self.define_one(id, words) {
-                return false;
-            }
-        }
-        self.define_one(last, words)
-    }
-
-    fn define_named(&self, rest: &str) -> bool {
-        let (ids, words) = split_call(rest);
-        match span(ids) {
-            Some((first, last)) => self.define_each(first, last, words),
-            None => false,
-        }
-    }
 }
 
 impl Session {

@@ -5,7 +5,7 @@ use crate::step::{Action, Step, asks_receiver, items_in};
 use futures::task::Poll;
 use futures_buffered_core::ready_shared::SharedWaker;
 use futures_buffered_held::oneshot::{Canceled, Receiver};
-use futures_buffered_sets::{SlotFuture, SlotWaker};
+use futures_buffered_unordered::slot_future::{SlotFuture, SlotWaker};
 use std::alloc::AllocError;
 use std::rc::Rc;
 

@@ -57,10 +57,15 @@ pub enum Kind {
     InFlightOf,
     InFlightOrdered,
     InFlightOrderedOf,
+    InFlightSet,
+    InFlightSetOf,
+    InFlightQueue,
+    InFlightQueueOf,
     InFlightJoin,
     InFlightTryJoin,
     InFlightMerge,
     InFlightBoundedMerge,
+    InFlightBoundedMergeOf,
     InFlightBufferedUnordered,
     InFlightBufferedOrdered,
     InFlightTryBufferedUnordered,
@@ -107,6 +112,8 @@ fn kind_of(word: &str) -> Option<Kind> {
         "try_for_each" => Kind::TryForEach,
         "in_flight" => Kind::InFlight,
         "in_flight_ordered" => Kind::InFlightOrdered,
+        "in_flight_set" => Kind::InFlightSet,
+        "in_flight_queue" => Kind::InFlightQueue,
         "in_flight_join" => Kind::InFlightJoin,
         "in_flight_try_join" => Kind::InFlightTryJoin,
         "in_flight_merge" => Kind::InFlightMerge,
@@ -127,10 +134,15 @@ pub fn is_in_flight(kind: Kind) -> bool {
             | Kind::InFlightOf
             | Kind::InFlightOrdered
             | Kind::InFlightOrderedOf
+            | Kind::InFlightSet
+            | Kind::InFlightSetOf
+            | Kind::InFlightQueue
+            | Kind::InFlightQueueOf
             | Kind::InFlightJoin
             | Kind::InFlightTryJoin
             | Kind::InFlightMerge
             | Kind::InFlightBoundedMerge
+            | Kind::InFlightBoundedMergeOf
             | Kind::InFlightBufferedUnordered
             | Kind::InFlightBufferedOrdered
             | Kind::InFlightTryBufferedUnordered
@@ -147,6 +159,9 @@ pub fn kind_of_values(kind: Kind) -> Kind {
         Kind::Queue => Kind::QueueOf,
         Kind::InFlight => Kind::InFlightOf,
         Kind::InFlightOrdered => Kind::InFlightOrderedOf,
+        Kind::InFlightSet => Kind::InFlightSetOf,
+        Kind::InFlightQueue => Kind::InFlightQueueOf,
+        Kind::InFlightBoundedMerge => Kind::InFlightBoundedMergeOf,
         other => other,
     }
 }

@@ -1,11 +1,11 @@
 //! Joins.
 use crate::answer::{Answer, Reply, of_debug, of_outputs, of_results};
-use crate::command::Query;
+use calls_world::command::Query;
 use crate::lines::run_made;
 use crate::session::{Options, Session};
-use crate::shared_world::SharedWorld;
+use calls_world::shared_world::SharedWorld;
 use crate::subject::{Call, Subject};
-use crate::values::{NumberFuture, Output, TryFuture, new_values};
+use calls_world::values::{NumberFuture, Output, TryFuture, new_values};
 use futures::Future;
 use futures::task::Context;
 use futures_buffered::IterExt;

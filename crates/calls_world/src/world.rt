@@ -7,7 +7,7 @@ use crate::text::Text;
 use futures::task::Waker;
 use futures_buffered_core::ready_shared::SharedWaker;
 use futures_buffered_held::oneshot::{Receiver, Sender, channel};
-use futures_buffered_sets::SlotWaker;
+use futures_buffered_unordered::slot_future::SlotWaker;
 use std::alloc::{AllocError, Global};
 use std::rc::Rc;
 

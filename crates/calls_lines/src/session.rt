@@ -1,13 +1,13 @@
 //! A session: what holds while the lines of a file are gone through.
-use crate::command::{Kind, is_in_flight};
-use crate::counter::Counter;
-use crate::line::{Line, Wanted, most_of, parse};
-use crate::memory;
-use crate::numbers::number;
-use crate::report::Report;
-use crate::shared_world::SharedWorld;
-use crate::source::FixedHint;
-use crate::text::Text;
+use calls_world::command::{Kind, is_in_flight};
+use calls_world::counter::Counter;
+use calls_world::line::{Line, Wanted, most_of, parse};
+use calls_world::memory;
+use calls_world::numbers::number;
+use calls_world::report::Report;
+use calls_world::shared_world::SharedWorld;
+use calls_world::source::FixedHint;
+use calls_world::text::Text;
 use futures::test::MockTask;
 use futures_buffered_core::ready_core::ReadyCore;
 use std::alloc::{AllocError, AllocGlobal, Global};

@@ -3,8 +3,10 @@ use crate::adaptors::{
     run_buffer, run_for_each, run_ordered_buffer, run_try_buffer, run_try_for_each,
     run_try_ordered_buffer,
 };
-use crate::command::Kind;
+use calls_world::command::Kind;
 use crate::in_flight;
+use crate::in_flight_buffers;
+use crate::in_flight_joins;
 use crate::joins::{run_join, run_try_join};
 use crate::merges::{run_bounded_merge, run_growing_merge};
 use crate::queues::{run_growing_queue, run_growing_queue_of, run_queue, run_queue_of};
@@ -43,15 +45,22 @@ pub fn run_kind(
         Kind::InFlightOf => in_flight::run_set_of(session, numbers, lines),
         Kind::InFlightOrdered => in_flight::run_queue(session, numbers, lines),
         Kind::InFlightOrderedOf => in_flight::run_queue_of(session, numbers, lines),
-        Kind::InFlightJoin => in_flight::run_join(session, numbers, lines),
-        Kind::InFlightTryJoin => in_flight::run_try_join(session, numbers, lines),
-        Kind::InFlightMerge => in_flight::run_merge(session, numbers, lines),
-        Kind::InFlightBoundedMerge => in_flight::run_bounded_merge(session, numbers, lines),
-        Kind::InFlightBufferedUnordered => in_flight::run_buffer(session, numbers, lines),
-        Kind::InFlightBufferedOrdered => in_flight::run_ordered_buffer(session, numbers, lines),
-        Kind::InFlightTryBufferedUnordered => in_flight::run_try_buffer(session, numbers, lines),
+        Kind::InFlightSet => in_flight::run_growing_set(session, numbers, lines),
+        Kind::InFlightSetOf => Ok(0),
+        Kind::InFlightQueue => Ok(0),
+        Kind::InFlightQueueOf => Ok(0),
+        Kind::InFlightJoin => in_flight_joins::run_join(session, numbers, lines),
+        Kind::InFlightTryJoin => in_flight_joins::run_try_join(session, numbers, lines),
+        Kind::InFlightMerge => in_flight_joins::run_merge(session, numbers, lines),
+        Kind::InFlightBoundedMerge => in_flight_joins::run_bounded_merge(session, numbers, lines),
+        Kind::InFlightBoundedMergeOf => {
+            in_flight_joins::run_bounded_merge_of(session, numbers, lines)
+        }
+        Kind::InFlightBufferedUnordered => in_flight_buffers::run_buffer(session, numbers, lines),
+        Kind::InFlightBufferedOrdered => in_flight_buffers::run_ordered_buffer(session, numbers, lines),
+        Kind::InFlightTryBufferedUnordered => in_flight_buffers::run_try_buffer(session, numbers, lines),
         Kind::InFlightTryBufferedOrdered => {
-            in_flight::run_try_ordered_buffer(session, numbers, lines)
+            in_flight_buffers::run_try_ordered_buffer(session, numbers, lines)
         }
     }
 }

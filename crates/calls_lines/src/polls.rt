@@ -1,6 +1,6 @@
 //! The polls of a session.
 use crate::answer::{Answer, append_answer};
-use crate::memory;
+use calls_world::memory;
 use crate::session::{Session, task_of};
 use crate::subject::Subject;
 use futures::test::MockTask;

@@ -10,7 +10,7 @@ use crate::values::Scripted;
 use crate::world::SOURCE;
 use futures::Stream;
 use futures::task::{Context, Poll};
-use futures_buffered_sets::SizeHint;
+use futures_buffered_unordered::fused::SizeHint;
 use std::alloc::AllocError;
 use std::marker::PhantomData;
 
