@@ -1,5 +1,5 @@
 -- What the calls of an ordered queue that grows leave of it.
-use Rattle.std.proofs.Common.{◌≡◌, ◌<◌, ◌≤◌, ◌+◌, ℕ, zero, suc, cond, List, [], ◌∷◌, ◌++◌, length, get_or, is_some, count_by, Option, Some, None, ◌⊎◌, inl, inr, refl, sym, ap, subst, ◌∙◌, arith}
+use Rattle.std.proofs.Common.{◌≡◌, ◌+◌, ℕ, zero, suc, cond, List, [], ◌∷◌, ◌++◌, length, get_or, count_by, Option, Some, None, ◌⊎◌, inl, inr, refl, sym, ap, subst, ◌∙◌, arith}
 use Rattle.std.specs.List.{FoldsTo}
 use Rattle.std.specs.Prelude.{Result, Ok, Err, OnOk, IfErr, IsErr}
 use Rattle.std.proofs.lemmas.List.{length_push}
@@ -7,7 +7,6 @@ use Rattle.std.proofs.lemmas.List.Sums.{sum_by-append}
 use Rattle.futures.specs.declared.task.Poll.{Poll}
 use Rattle.futures.specs.declared.task.Poll.TheVariants.{Ready, Pending}
 use Rattle.futures.specs.declared.task.context.Context.{Context}
-use Rattle.futures_buffered_core.specs.SlotMap.{Slots, value_in, held_count, GrowsByOne}
 use Rattle.futures_buffered_ordered.specs.Numbered.{PollsNumberedSet, PushesInto, one_at}
 use Rattle.futures_buffered_ordered.specs.OrderedEntries.{AddsBack, AddsFront, HandsBack, IsUnused, PollsOrdered, QueueIsAtBound, SetYields}
 use Rattle.futures_buffered_ordered.specs.OrderedEntriesInvariant.{IsNumbered, Numbering}

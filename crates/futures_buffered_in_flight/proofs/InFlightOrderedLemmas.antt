@@ -1,5 +1,5 @@
 -- What the calls of an ordered queue of futures in flight leave of it.
-use Rattle.std.proofs.Common.{◌≡◌, ◌<◌, ◌≤◌, ℕ, List, [], length, cond, is_some, Option, Some, None, ◌⊎◌, inl, inr, ap, ◌∙◌, arith}
+use Rattle.std.proofs.Common.{◌≡◌, ◌<◌, ◌≤◌, ℕ, [], length, cond, is_some, Option, Some, None, ◌⊎◌, inl, inr, ap, ◌∙◌, arith}
 use Rattle.std.proofs.lemmas.List.{length-replicate}
 use Rattle.std.proofs.lemmas.List.Folds.{sum_by-replicate}
 use Rattle.futures.specs.declared.task.Poll.{Poll}
@@ -16,8 +16,8 @@ use Rattle.futures_buffered_ordered.specs.OrderedEntries.{AddsBack, AddsFront, I
 use Rattle.futures_buffered_ordered.specs.OrderedEntriesInvariant.{IsNumbered, Numbering}
 use Rattle.futures_buffered_ordered.proofs.OrderedEntriesInvariantLemmas.{held_by_entries, new_is_numbered}
 use Rattle.futures_buffered_ordered.proofs.OrderedEntriesLemmas.{as_many_of, comes_before, comes_behind, empty_of, fewer_of, gives_alone, no_more_of, one_entry_more, one_entry_more_before, rest_of, same_of, unused_none, value_of}
-use Rattle.futures_buffered_in_flight.specs.InFlight.{Flights, FlightsWaitAt, FutureOf, IsNewInFlight, flight_slots}
-use Rattle.futures_buffered_in_flight.specs.InFlightQueue.{CanPollQueue, NumberGives, OfSomeTask, PollsByNumber, QueuesNumber, SameRoom, IsAtItsBound, has_tag, flight_count, flights_with}
+use Rattle.futures_buffered_in_flight.specs.InFlight.{Flights, FutureOf, IsNewInFlight, flight_slots}
+use Rattle.futures_buffered_in_flight.specs.InFlightQueue.{NumberGives, OfSomeTask, PollsByNumber, QueuesNumber, SameRoom, IsAtItsBound, has_tag, flight_count, flights_with}
 use Rattle.futures_buffered_in_flight.specs.InFlightOrdered.{CanPollOrdered, ComesOfEach, GivesInTurn, KeepsInOrder, OrderedInFlight, PollsInTurn, PushesBack, PushesFront, flying_polls, OrderedWaitsAt}
 use Rattle.futures_buffered_in_flight.specs.declared.in_flight.Place.{Place}
 use Rattle.futures_buffered_in_flight.proofs.InFlightQueueLemmas.{number_counts, tagged_with}

@@ -56,7 +56,10 @@ impl<F: Future<Output: Drop>, K> FuturesInFlight<F, usize, K> {
 
     // As `poll_queued`. An output comes with the number of its future.
     #[tactic(auto, using(crate::proofs::InFlightQueueLemmas::number_came, crate::proofs::InFlightQueueLemmas::number_ended, crate::proofs::InFlightQueueLemmas::number_pending))]
-    pub(crate) fn poll_with_number(&mut self, cx: &mut Context<'_>) -> Poll<Option<(usize, F::Output)>>
+    pub(crate) fn poll_with_number(
+        &mut self,
+        cx: &mut Context<'_>,
+    ) -> Poll<Option<(usize, F::Output)>>
         requires { CanPollQueue F.Future self.old }
         ensures { PollsByNumber F.Future self.old result self.new cx.old cx.new }
     {

@@ -1,7 +1,4 @@
-use Rattle.std.proofs.Common.{subst}
-use Rattle.std.specs.Prelude.{max}
 use Rattle.futures_buffered_core.specs.Drawn.{items_of}
-use Rattle.futures_buffered_in_flight.specs.InFlightOrdered.{IsNewInOrder}
 use Rattle.futures_buffered_in_flight.proofs.FromIterLemmas.{fit_drawn}
 use Rattle.futures_buffered_in_flight.proofs.in_flight_ordered_growing.FuturesOrdered.from_iter.Goals as goal
 
