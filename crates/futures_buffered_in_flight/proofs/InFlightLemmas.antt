@@ -1,7 +1,6 @@
 -- What may come from the kit's set, from the futures that wait and from the slots, and what each call leaves of the set.
 use Rattle.std.proofs.Common.{◌≡◌, ◌<◌, ◌≤◌, ℕ, ◌+◌, ◌-◌, ◌^◌, List, [], ◌∷◌, ◌++◌, Option, Some, None, IfSome, is_some, count_by, cond, length, length-set, zero, suc, ap, refl, sym, subst, ◌∙◌, ◌⊎◌, inl, inr, arith}
 use Rattle.std.specs.Prelude.{min}
-use Rattle.std.specs.List.{AllByRecursion}
 use Rattle.std.proofs.lemmas.Bool.{cases_eq}
 use Rattle.std.proofs.lemmas.List.Sums.{sum_by-cons}
 use Rattle.std.proofs.lemmas.List.{length_push}
@@ -12,12 +11,12 @@ use Rattle.futures.specs.declared.task.Poll.{Poll}
 use Rattle.futures.specs.declared.task.Poll.TheVariants.{Ready, Pending}
 use Rattle.futures.specs.Task.{Covers, Keeps, IsArmed, Lasting}
 use Rattle.futures.specs.declared.task.context.Context.{Context}
-use Rattle.futures_buffered_core.specs.SlotMap.{Slots, value_in, held_count, slot_count, with_slot_freed, Inserts}
+use Rattle.futures_buffered_core.specs.SlotMap.{Slots, value_in, held_count, with_slot_freed, Inserts}
 use Rattle.futures_buffered_unordered.specs.FuturesUnorderedBounded.{IsWoken}
 use Rattle.futures_buffered_unordered.proofs.HeldGivesLemmas.{Gathers-Within, Gathers-After, value_in-with_slot_freed, value_in-with_slot_freed_other, None-Some}
 use Rattle.futures_buffered_in_flight.specs.InFlight.{FutureOf, Flights, AnyRunGives, AnySlotGives, AnyWaitGives, CanPollAll, CanPollRuns, CanPollWaiting, ComesByKey, ComesFromSlots, EntersAt, FlightsGiveNoMore, FlightsWaitAt, GivesByKey, HasEach, IsHeld, MayCome, PollsInFlight, WaitGives, flight_slots, run_count}
 use Rattle.futures_buffered_in_flight.specs.InFlightGrowing.{MakesRoom}
-use Rattle.futures_buffered_in_flight.specs.InFlightTurns.{Flies, Starts, TurnsOn}
+use Rattle.futures_buffered_in_flight.specs.InFlightTurns.{Flies, Starts}
 use Rattle.futures_buffered_in_flight.specs.declared.in_flight.Came.{Came}
 use Rattle.futures_buffered_in_flight.specs.declared.in_flight.Place.{Place}
 use Rattle.futures_buffered_in_flight.specs.declared.run.Key.{Key}

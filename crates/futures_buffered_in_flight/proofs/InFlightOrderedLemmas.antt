@@ -1,5 +1,5 @@
 -- What the calls of an ordered queue of futures in flight leave of it.
-use Rattle.std.proofs.Common.{◌≡◌, ◌<◌, ◌≤◌, ℕ, List, [], length, cond, is_some, Option, Some, None, ◌⊎◌, inl, inr, ap, ◌∙◌, arith}
+use Rattle.std.proofs.Common.{◌≡◌, ◌<◌, ◌≤◌, ℕ, [], length, cond, is_some, Option, Some, None, ◌⊎◌, inl, inr, ap, ◌∙◌, arith}
 use Rattle.std.proofs.lemmas.List.{length-replicate}
 use Rattle.std.proofs.lemmas.List.Folds.{sum_by-replicate}
 use Rattle.futures.specs.declared.task.Poll.{Poll}
@@ -16,8 +16,8 @@ use Rattle.futures_buffered_ordered.specs.OrderedEntries.{AddsBack, AddsFront, I
 use Rattle.futures_buffered_ordered.specs.OrderedEntriesInvariant.{IsNumbered, Numbering}
 use Rattle.futures_buffered_ordered.proofs.OrderedEntriesInvariantLemmas.{held_by_entries, new_is_numbered}
 use Rattle.futures_buffered_ordered.proofs.OrderedEntriesLemmas.{as_many_of, comes_before, comes_behind, empty_of, fewer_of, gives_alone, no_more_of, one_entry_more, one_entry_more_before, rest_of, same_of, unused_none, value_of}
-use Rattle.futures_buffered_in_flight.specs.InFlight.{Flights, FlightsWaitAt, FutureOf, IsNewInFlight, flight_slots}
-use Rattle.futures_buffered_in_flight.specs.InFlightQueue.{CanPollQueue, NumberGives, OfSomeTask, PollsByNumber, QueuesNumber, SameRoom, IsAtItsBound, has_tag, flight_count, flights_with}
+use Rattle.futures_buffered_in_flight.specs.InFlight.{Flights, FutureOf, IsNewInFlight, flight_slots}
+use Rattle.futures_buffered_in_flight.specs.InFlightQueue.{NumberGives, OfSomeTask, PollsByNumber, QueuesNumber, SameRoom, IsAtItsBound, has_tag, flight_count, flights_with}
 use Rattle.futures_buffered_in_flight.specs.InFlightOrdered.{CanPollOrdered, ComesOfEach, GivesInTurn, KeepsInOrder, OrderedInFlight, PollsInTurn, PushesBack, PushesFront, flying_polls, OrderedWaitsAt}
 use Rattle.futures_buffered_in_flight.specs.declared.in_flight.Place.{Place}
 use Rattle.futures_buffered_in_flight.proofs.InFlightQueueLemmas.{number_counts, tagged_with}
@@ -97,14 +97,14 @@ module _ {F A : Type 0} (future : FutureOf F A) where
       }
 
   -- one poll, told of the queue alone
-  alone : (old new : OrderedInFlight F A) (answer : Poll (Option A)) (cx after : Context) → PollsOrdered flight_count SameRoom (flying_polls future) old answer new cx after → GivesInTurn future old answer new
+  pub alone : {keeps : Flights F ℕ → Flights F ℕ → Type 0} (old new : OrderedInFlight F A) (answer : Poll (Option A)) (cx after : Context) → PollsOrdered flight_count keeps (flying_polls future) old answer new cx after → GivesInTurn future old answer new
   alone old new answer cx after poll = gives_alone (PollsByNumber future) Gave (λ a b given before later h. (before, later, h)) flight_count old new answer cx after poll.gave
 
   pub gives_in_turn : (old new : OrderedInFlight F A) (answer : Poll (Option A)) (cx after : Context) → PollsInTurn future old answer new cx after → GivesInTurn future old answer new
   gives_in_turn old new answer cx after poll = alone old new answer cx after poll.polls
 
   -- the last poll of the futures says who is woken
-  wakes : (old new : OrderedInFlight F A) (answer : Poll (Option A)) (cx after : Context) → PollsOrdered flight_count SameRoom (flying_polls future) old answer new cx after → OnPending answer ((new.set.waiting ≡ []) ⊎ IsWoken after)
+  pub wakes : {keeps : Flights F ℕ → Flights F ℕ → Type 0} (old new : OrderedInFlight F A) (answer : Poll (Option A)) (cx after : Context) → PollsOrdered flight_count keeps (flying_polls future) old answer new cx after → OnPending answer ((new.set.waiting ≡ []) ⊎ IsWoken after)
   wakes old new (Ready o) cx after poll = tt
   wakes old new Pending cx after poll = poll.gave.last_step.1.started
 
@@ -141,16 +141,20 @@ module _ {F A : Type 0} (future : FutureOf F A) where
         }
 
   -- a poll is one of a stream
-  pub answers_in_turn : (old new : OrderedInFlight F A) (answer : Poll (Option A)) (cx after : Context) → PollsInTurn future old answer new cx after
+  pub answers_of : (old new : OrderedInFlight F A) (answer : Poll (Option A)) (cx after : Context) → PollsOrdered flight_count SameRoom (flying_polls future) old answer new cx after
       → StreamAnswers (stream_of (CanPollOrdered future) OrderedWaitsAt (ComesOfEach future)) old answer new cx after
-  answers_in_turn old new answer cx after poll =
-      let given = gives_in_turn old new answer cx after poll in
+  answers_of old new answer cx after poll =
+      let given = alone old new answer cx after poll in
       record {
         value = value_of Gave (NumberGives future) still gave flight_count old new answer given;
         rest = rest_of Gave (NumberGives future) still gave flight_count old new answer given;
         same = same_of Gave (NumberGives future) still gave flight_count old new answer given;
-        goes = after_item answer poll.polls.queue.pollable;
-        again = while_pending answer poll.polls.queue.pollable;
-        registered = poll.polls.queue.covered;
-        kept = poll.polls.queue.kept;
+        goes = after_item answer poll.queue.pollable;
+        again = while_pending answer poll.queue.pollable;
+        registered = poll.queue.covered;
+        kept = poll.queue.kept;
       }
+
+  pub answers_in_turn : (old new : OrderedInFlight F A) (answer : Poll (Option A)) (cx after : Context) → PollsInTurn future old answer new cx after
+      → StreamAnswers (stream_of (CanPollOrdered future) OrderedWaitsAt (ComesOfEach future)) old answer new cx after
+  answers_in_turn old new answer cx after poll = answers_of old new answer cx after poll.polls

@@ -1,5 +1,5 @@
 -- What a push and a poll leave of a set of futures in flight of which none is cancelled.
-use Rattle.std.proofs.Common.{count_by, get_or, length-set, set, ◌≡◌, ◌≢◌, ◌+◌, ◌<◌, ◌≤◌, ℕ, zero, suc, Bool, cond, List, [], length, IsSome, is_some, Option, Some, None, refl, sym, subst, ap, ap₂, ◌∙◌, ◌⊎◌, inl, inr, arith}
+use Rattle.std.proofs.Common.{count_by, get_or, length-set, set, ◌≡◌, ◌+◌, ◌<◌, ℕ, zero, suc, Bool, cond, List, length, IsSome, is_some, Option, Some, None, refl, sym, subst, ap, ap₂, ◌∙◌, ◌⊎◌, inl, inr, arith}
 use Rattle.std.specs.List.{sum_by}
 use Rattle.std.specs.Prelude.{replicate}
 use Rattle.std.proofs.lemmas.List.{get_or-set_same, get_or-set_other, length-replicate}
@@ -11,7 +11,7 @@ use Rattle.futures_buffered_core.specs.SlotMap.{Slots, value_in, held_count, slo
 use Rattle.futures_buffered_core.proofs.SlotMapLemmas.{value_within}
 use Rattle.futures_buffered_unordered.proofs.HeldGivesLemmas.{value_in-with_slot_freed, value_in-with_slot_freed_other, None-Some}
 use Rattle.futures_buffered_ordered.specs.Numbered.{one_at}
-use Rattle.futures_buffered_in_flight.specs.InFlight.{FutureOf, Flights, AnySlotGives, CanPollAll, IsNewInFlight, KeyGives, EntersAt, FlightsGiveNoMore, PollsInFlight, flight_slots}
+use Rattle.futures_buffered_in_flight.specs.InFlight.{FutureOf, Flights, CanPollAll, IsNewInFlight, KeyGives, EntersAt, FlightsGiveNoMore, PollsInFlight, flight_slots}
 use Rattle.futures_buffered_in_flight.specs.InFlightQueue.{CanPollQueue, NumberGives, PollsByNumber, PollsQueued, PushesQueued, QueuesNumber, SameRoom, flight_count, flights_with, has_tag}
 use Rattle.futures_buffered_in_flight.specs.declared.in_flight.Came.{Came}
 use Rattle.futures_buffered_in_flight.specs.declared.in_flight.Place.{Place}

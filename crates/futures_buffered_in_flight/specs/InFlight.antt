@@ -1,7 +1,7 @@
 -- What a contract sees of a set of futures in flight. A clause names the futures by the ghost members of their type:
 -- `F.Future`.
 use Rattle.std.specs.Prelude.{◌≡◌, ◌+◌, ◌-◌, ◌^◌, ◌<◌, ◌≤◌, ◌⊎◌, min, ℕ, List, [], ◌∷◌, length, slice_get, Option, Some, None}
-use Rattle.std.specs.Prelude.{IfSome, IsSomeAnd, Result, Ok, Err, IfOk, IfErr, IsErr}
+use Rattle.std.specs.Prelude.{IfSome, IsSomeAnd, Result, IfOk, IfErr, IsErr}
 use Rattle.std.specs.List.{AllByRecursion}
 use Rattle.futures.specs.declared.task.Poll.{Poll}
 use Rattle.futures.specs.declared.task.Poll.TheVariants.{Ready, Pending}

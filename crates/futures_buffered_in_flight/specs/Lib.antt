@@ -3,3 +3,4 @@ pub mod InFlightTurns
 pub mod InFlightGrowing
 pub mod InFlightQueue
 pub mod InFlightOrdered
+pub mod InFlightOrderedGrowing

@@ -1,16 +1,19 @@
 //! Sets and queues in flight that are made of what an iterator gives.
-ghost use Rattle.std.specs.Prelude.{◌≡◌, ◌≤◌, All, IfOk, OnOk, length, max, vec_len};
+ghost use Rattle.std.specs.Prelude.{◌≡◌, ◌≤◌, All, IfErr, IfOk, OnOk, length, max, vec_len};
 ghost use Rattle.std.specs.List.{FoldsTo};
 ghost use Rattle.futures_buffered_core.specs.Drawn.{Draws, IsFiniteSource, RefusesTooMany, items_of};
 ghost use Rattle.futures_buffered_table.specs.declared.answer.TheConstants.{MAX_CAPACITY};
-ghost use Rattle.futures_buffered_unordered.specs.Extended.{EachDrawn, MakesFull};
+ghost use Rattle.futures_buffered_unordered.specs.Extended.{EachDrawn, HoldsAllOf, MakesFull};
 ghost use Rattle.futures_buffered_in_flight.specs.InFlight.{CanPollAll, FliesInOrder, IsNewInFlight, flight_slots};
 ghost use Rattle.futures_buffered_in_flight.specs.InFlightOrdered.{CanPollOrdered, FliesInTurn, IsNewInOrder};
 ghost use Rattle.futures_buffered_in_flight.specs.InFlightOrdered.{PushesBack, ordered_room};
+ghost use Rattle.futures_buffered_in_flight.specs.InFlightOrderedGrowing.{EntersBack, EntersInOrder};
+ghost use Rattle.futures_buffered_table.specs.declared.answer.NewFault.TheVariants.{Memory};
 
 use crate::in_flight::{FuturesInFlight, FuturesUnorderedBounded};
 use crate::in_flight_growing::FuturesUnordered;
 use crate::in_flight_ordered::FuturesOrderedBounded;
+use crate::in_flight_ordered_growing::FuturesOrdered;
 use futures::Future;
 use futures_buffered_core::ready_core::{MAX_CAPACITY, NewFault};
 use std::alloc::Global;
@@ -69,6 +72,25 @@ where
     'futures: for future in futures {
         queue.push_back(future);
     }
+}
+
+// As `push_in_turn`, into a queue that grows. `Memory` if a push is refused.
+fn push_each<F, A>(queue: &mut FuturesOrdered<F, A>, futures: Vec<F>) -> Result<(), NewFault>
+where
+    F: Future<Output = A>,
+    A: Drop,
+    requires held { CanPollOrdered F.Future queue.old }
+    requires fit { All F.can_poll futures.items }
+    ensures pushed { OnOk result (FoldsTo (EntersBack F.Future) queue.old futures.items queue.new) }
+    ensures memory { IfErr result (λ fault. fault ≡ Memory) }
+    ensures again { CanPollOrdered F.Future queue.new }
+{
+    'futures: for future in futures {
+        let Ok(()) = queue.push_back(future) else {
+            return Err(NewFault::Memory);
+        };
+    }
+    Ok(())
 }
 
 impl<F: Future<Output: Drop>, K> FuturesInFlight<F, (), K> {
@@ -131,6 +153,25 @@ impl<F: Future<Output = A>, A: Drop> FuturesOrderedBounded<F, A> {
         let futures = draw(alloc, iter)?;
         let mut queue = FuturesOrderedBounded::new(alloc, futures.len().max(1))?;
         push_in_turn(&mut queue, futures);
+        Ok(queue)
+    }
+}
+
+impl<F: Future<Output = A>, A: Drop> FuturesOrdered<F, A> {
+    /// A queue of these futures, in their order, with a slot for each, and with one slot at least. Nothing is polled.
+    ///
+    /// Takes time and memory, and refuses, as `from_iter` of a set does.
+    pub fn from_iter<I: IntoIterator<Item = F>>(alloc: Global, iter: I) -> Result<Self, NewFault>
+        requires finite { IsFiniteSource (items_of I.IntoIterator I.IntoIter.Iterator iter) }
+        requires fit { EachDrawn (items_of I.IntoIterator I.IntoIter.Iterator iter) F.can_poll }
+        ensures holds { IfOk result
+            (HoldsAllOf (items_of I.IntoIterator I.IntoIter.Iterator iter) (EntersInOrder F.Future)) }
+        ensures large { RefusesTooMany (items_of I.IntoIterator I.IntoIter.Iterator iter) result }
+        ensures can_poll { IfOk result (CanPollOrdered F.Future) }
+    {
+        let futures = draw(alloc, iter)?;
+        let mut queue = FuturesOrdered::with_capacity(alloc, futures.len())?;
+        push_each(&mut queue, futures)?;
         Ok(queue)
     }
 }

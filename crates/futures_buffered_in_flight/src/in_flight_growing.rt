@@ -31,7 +31,7 @@ impl<F: Drop, T: Drop> FuturesUnordered<F, T> {
     }
 
     // Makes a slot if none is free. Whether there is room then.
-    fn make_room(&mut self) -> bool
+    pub(crate) fn make_room(&mut self) -> bool
         ensures room { IsTrue result → MakesRoom self.old self.new }
         ensures has { IsTrue result → HasNoRoom self.new → ⊥ }
         ensures none { result ≡ false → HasNoRoom self.old × (self.new ≡ self.old) }

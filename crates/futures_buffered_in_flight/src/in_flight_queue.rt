@@ -5,7 +5,7 @@ ghost use Rattle.futures_buffered_in_flight.specs.InFlightQueue.{PushesQueued, Q
 ghost use Rattle.futures_buffered_in_flight.specs.InFlightQueue.{flights_with};
 ghost use Rattle.futures_buffered_in_flight.specs.InFlight.{flight_slots};
 
-use crate::in_flight::FuturesUnorderedBounded;
+use crate::in_flight::{FuturesInFlight, FuturesUnorderedBounded};
 use futures::Future;
 use futures::task::{Context, Poll};
 use futures_buffered_ordered::numbered::Numbered;
@@ -41,10 +41,10 @@ impl<F: Future<Output: Drop>> FuturesUnorderedBounded<F> {
     }
 }
 
-impl<F: Future<Output: Drop>> FuturesUnorderedBounded<F, usize> {
+impl<F: Future<Output: Drop>, K> FuturesInFlight<F, usize, K> {
     // As `push_queued`, of a future with a number, its tag.
     #[tactic(auto, using(crate::proofs::InFlightQueueLemmas::pushed_number))]
-    fn push_with_number(&mut self, value: Numbered<F>)
+    pub(crate) fn push_with_number(&mut self, value: Numbered<F>)
         requires room { flight_count self.old < flight_slots self.old }
         requires held { CanPollQueue F.Future self.old }
         requires fit { F.can_poll value.future }
@@ -56,7 +56,10 @@ impl<F: Future<Output: Drop>> FuturesUnorderedBounded<F, usize> {
 
     // As `poll_queued`. An output comes with the number of its future.
     #[tactic(auto, using(crate::proofs::InFlightQueueLemmas::number_came, crate::proofs::InFlightQueueLemmas::number_ended, crate::proofs::InFlightQueueLemmas::number_pending))]
-    fn poll_with_number(&mut self, cx: &mut Context<'_>) -> Poll<Option<(usize, F::Output)>>
+    pub(crate) fn poll_with_number(
+        &mut self,
+        cx: &mut Context<'_>,
+    ) -> Poll<Option<(usize, F::Output)>>
         requires { CanPollQueue F.Future self.old }
         ensures { PollsByNumber F.Future self.old result self.new cx.old cx.new }
     {
@@ -118,7 +121,7 @@ impl<F: Future<Output: Drop>> NumberedSet for FuturesUnorderedBounded<F, usize> 
     ghost keeps_on = { λ a b c first then. then ∙ first };
 }
 
-impl<F: Future<Output: Drop>> NumberedPolls<PollFuture> for FuturesUnorderedBounded<F, usize> {
+impl<F: Future<Output: Drop>, K> NumberedPolls<PollFuture> for FuturesInFlight<F, usize, K> {
     ghost use Rattle.futures_buffered_in_flight.specs.InFlight.{FlightsWaitAt};
     ghost use Rattle.futures_buffered_in_flight.specs.InFlightQueue.{CanPollQueue, PollsByNumber};
 

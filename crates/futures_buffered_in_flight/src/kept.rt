@@ -7,10 +7,13 @@ ghost use Rattle.futures_buffered_in_flight.specs.InFlightGrowing.{PushesGrowing
 ghost use Rattle.futures_buffered_in_flight.specs.InFlightOrdered.{ComesOfEach, OrderedWaitsAt, PollsInTurn};
 ghost use Rattle.futures_buffered_in_flight.specs.InFlightOrdered.{IsNewInOrder, PushesBack, PushesFront};
 ghost use Rattle.futures_buffered_in_flight.specs.InFlightOrdered.{PushesOrComesBack};
+ghost use Rattle.futures_buffered_in_flight.specs.InFlightOrderedGrowing.{EntersBack, EntersFront};
+ghost use Rattle.futures_buffered_in_flight.specs.InFlightOrderedGrowing.{EntersOrComesBack, PollsGrowingInTurn};
 
 use crate::in_flight::{Came, FuturesInFlight, FuturesUnorderedBounded};
 use crate::in_flight_growing::FuturesUnordered;
 use crate::in_flight_ordered::FuturesOrderedBounded;
+use crate::in_flight_ordered_growing::FuturesOrdered;
 use crate::run::Key;
 use futures::task::{Context, Poll};
 use futures::{Future, Stream};
@@ -186,6 +189,39 @@ impl<F: Future<Output = A>, A: Drop> Stream for Kept<FuturesOrderedBounded<F, A>
     /// One poll, as `FuturesOrderedBounded::poll_output`.
     fn poll_next(&mut self, cx: &mut Context<'_>) -> Poll<Option<A>>
         ensures { PollsInTurn F.Future self.old result self.new cx.old cx.new }
+    {
+        self.held.poll_output(cx)
+    }
+}
+
+impl<F: Future<Output = A>, A: Drop> Kept<FuturesOrdered<F, A>> {
+    /// As `FuturesOrdered::push_back`.
+    pub fn push_back(&mut self, future: F) -> Result<(), F>
+        requires { F.can_poll future }
+        ensures { EntersOrComesBack F.Future (EntersBack F.Future) self.old future result self.new }
+    {
+        self.held.push_back(future)
+    }
+
+    /// As `FuturesOrdered::push_front`.
+    pub fn push_front(&mut self, future: F) -> Result<(), F>
+        requires { F.can_poll future }
+        ensures { EntersOrComesBack F.Future (EntersFront F.Future) self.old future result self.new }
+    {
+        self.held.push_front(future)
+    }
+}
+
+impl<F: Future<Output = A>, A: Drop> Stream for Kept<FuturesOrdered<F, A>> {
+    type Item = A;
+
+    ghost needs = { OrderedWaitsAt };
+
+    ghost yields = { ComesOfEach F.Future };
+
+    /// One poll, as `FuturesOrdered::poll_output`.
+    fn poll_next(&mut self, cx: &mut Context<'_>) -> Poll<Option<A>>
+        ensures { PollsGrowingInTurn F.Future self.old result self.new cx.old cx.new }
     {
         self.held.poll_output(cx)
     }

@@ -9,7 +9,7 @@
 //!   `in_flight_growing` is `FuturesUnordered`, the set of any number, `in_flight_polls` the polls of both,
 //!   `in_flight_stream` both as a stream, `in_flight_queue` the same as what an adaptor or a queue holds.
 //! - `in_flight_ordered`: `FuturesOrderedBounded`, a queue with pushes at both ends, whose outputs come from the front;
-//!   `in_flight_ordered_stream` is the same queue as a stream.
+//!   `in_flight_ordered_growing` is `FuturesOrdered`, the queue of any number; `in_flight_ordered_stream` both as a stream.
 //! - `from_iter`: sets and queues that are made of what an iterator gives.
 //! - `kept`: `Kept`, which keeps that a set or a queue may be polled, for loops by hand.
 //! - `waiting`: `Waiting`, which holds a set or an ordered queue while a task waits for its next output, and gives it
@@ -21,6 +21,7 @@ mod from_iter;
 pub mod in_flight;
 pub mod in_flight_growing;
 pub mod in_flight_ordered;
+pub mod in_flight_ordered_growing;
 mod in_flight_ordered_stream;
 mod in_flight_polls;
 mod in_flight_queue;
@@ -32,6 +33,7 @@ pub mod waiting;
 pub use in_flight::{Came, FuturesUnorderedBounded};
 pub use in_flight_growing::FuturesUnordered;
 pub use in_flight_ordered::FuturesOrderedBounded;
+pub use in_flight_ordered_growing::FuturesOrdered;
 pub use kept::Kept;
 pub use run::Key;
 pub use waiting::Waiting;

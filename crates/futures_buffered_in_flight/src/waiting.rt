@@ -5,6 +5,7 @@ ghost use Rattle.futures_buffered_in_flight.specs.InFlightOrdered.{CameInTurn, C
 
 use crate::in_flight::{Came, FuturesInFlight};
 use crate::in_flight_ordered::FuturesOrderedBounded;
+use crate::in_flight_ordered_growing::FuturesOrdered;
 use futures::Future;
 use futures::executor::block_on;
 use futures::task::{Context, Poll};
@@ -102,6 +103,51 @@ impl<F: Future<Output = A>, A: Drop> FuturesOrderedBounded<F, A> {
     /// Blocks the thread until the output of the front comes, or the end, and gives the queue back. Drives no socket and
     /// no timer. If the thread cannot wait, the queue is dropped.
     pub fn wait<R>(self, rt: &R) -> io::Result<(Option<A>, FuturesOrderedBounded<F, A>)>
+    where
+        R: Wait + RandomSource + AllocGlobal,
+        requires { CanPollOrdered F.Future self }
+        ensures { IfOk result (λ given. CameInTurn F.Future self given.0 given.1) }
+    {
+        block_on(rt, self.into_next())
+    }
+}
+
+impl<F: Future<Output = A>, A: Drop> Future for Waiting<FuturesOrdered<F, A>> {
+    type Output = (Option<A>, FuturesOrdered<F, A>);
+
+    // A queue that was given back is not there to be polled.
+    ghost can_poll = { λ waiting. IsSomeAnd waiting.held (CanPollOrdered F.Future) };
+
+    ghost needs = { λ waiting place. IsSomeAnd waiting.held (λ queue. OrderedWaitsAt queue place) };
+
+    ghost gives = { λ waiting given. IsSomeAnd waiting.held
+        (λ queue. CameInTurn F.Future queue given.0 given.1) };
+
+    #[tactic(auto, using(crate::proofs::InFlightOrderedGrowingLemmas::came_growing_at_once, crate::proofs::InFlightOrderedGrowingLemmas::came_growing_later))]
+    fn poll(&mut self, cx: &mut Context<'_>) -> Poll<Self::Output> {
+        let Some(queue) = &mut self.held else {
+            unreachable!()
+        };
+        let Poll::Ready(came) = queue.poll_output(cx) else {
+            return Poll::Pending;
+        };
+        Poll::Ready((came, self.held.take().unwrap()))
+    }
+}
+
+impl<F: Future<Output = A>, A: Drop> FuturesOrdered<F, A> {
+    /// A future of the output of the front, or of `None` if nothing is held. It gives the queue back too.
+    ///
+    /// Any executor runs it, as `runtime.block_on(&rt, queue.into_next())` of `tokio` does.
+    pub fn into_next(self) -> Waiting<Self>
+        ensures { result.held ≡ Some self }
+    {
+        Waiting { held: Some(self) }
+    }
+
+    /// Blocks the thread until the output of the front comes, or the end, and gives the queue back. Drives no socket and
+    /// no timer. If the thread cannot wait, the queue is dropped.
+    pub fn wait<R>(self, rt: &R) -> io::Result<(Option<A>, FuturesOrdered<F, A>)>
     where
         R: Wait + RandomSource + AllocGlobal,
         requires { CanPollOrdered F.Future self }
