@@ -1,21 +1,21 @@
 -- What one poll of a join says of what it may be ready with.
-use Rattle.std.proofs.Common.{◌≡◌, ℕ, Bool, List, [], ◌∷◌, length, set, replicate, Option, Some, None, IsSomeAnd, Ok, Err, refl, sym, ap, subst, inl, inr, arith, ◌∙◌, length-set, slice_get}
+use Rattle.std.proofs.Common.{◌≡◌, ℕ, ◌<◌, Bool, false, List, [], ◌∷◌, ◌++◌, length, map, get_or, set, replicate, Option, Some, None, IsSomeAnd, Ok, Err, refl, sym, ap, subst, inl, inr, arith, ◌∙◌, length-set, slice_get}
 use Rattle.std.specs.List.{FoldsTo}
 use Rattle.std.proofs.lemmas.List.{get_or-set_same, get_or-set_other, get_or_past, get_or-replicate, length-replicate}
 use Rattle.std.proofs.lemmas.Option.{slice_get_within}
+use Rattle.std.proofs.lemmas.Fn.{FoldsTo-push}
 use Rattle.std.proofs.lemmas.Bool.{cases_eq, cases_lt}
 use Rattle.futures.specs.Poll.{IfReady}
 use Rattle.futures.specs.Task.{Keeps}
 use Rattle.futures.specs.declared.task.context.Context.{Context}
 use Rattle.futures.specs.declared.task.Poll.{Poll}
 use Rattle.futures.specs.declared.task.Poll.TheVariants.{Ready, Pending}
-use Rattle.futures_buffered_joins.specs.declared.places.Places.{Places}
+use Rattle.futures_buffered_joins.specs.declared.outputs.Places.{Places}
 use Rattle.futures_buffered_joins.specs.Join.{Fills, IsNewJoin, JoinGives, JoinMayGive, JoinRuleOf, JoinsByPlace, PollsJoin, PollsPending, StaysPending, join_places}
 use Rattle.futures_buffered_joins.specs.JoinRule.{Outcome}
-use Rattle.futures_buffered_joins.specs.Outputs.{MayComeAt, output_in}
-use Rattle.futures_buffered_joins.specs.Placed.{PlacedPollsOf}
-use Rattle.futures_buffered_joins.specs.Places.{CanFill}
-use Rattle.futures_buffered_joins.proofs.OutputsLemmas.{all_now}
+use Rattle.futures_buffered_joins.specs.Outputs.{MayComeAt, WaitsOrCame, output_in, waiting_count}
+use Rattle.futures_buffered_joins.specs.Placed.{PlacedPollsOf, PollsPlaced}
+use Rattle.futures_buffered_joins.proofs.OutputsLemmas.{all_now, none_came, filled_in_order}
 
 -- a join that was made over a set of these items is new, and has a place for each
 pub is_new : {F Q A : Type 0} (holds : List F → Q → Type 0) (items : List F) (set : Q) (n : ℕ) (join : Option (Places Q A))
@@ -119,13 +119,67 @@ module _ {Q O R A E B : Type 0} (waiting : Q → List Bool) (placed : PlacedPoll
             own items first.set new.waits_for k item (rule.output_of (Ok x)) of_item gives;
       }
 
-  -- all that a poll promises that is ready, by what its answer shows
-  pub polls_ready : (old new : Option (Places Q A)) (answer : B) (outcome : Outcome A E) (cx left : Context) → rule.seen answer ≡ outcome → JoinGives waiting placed rule old (Ready outcome) new cx left → new ≡ None → Keeps cx left → PollsJoin waiting placed rule old (Ready answer) new cx left
-  polls_ready old new answer outcome cx left shows gives ended kept =
-      let gave = subst (λ (r : Outcome A E). JoinGives waiting placed rule old (Ready r) new cx left) (sym shows) gives in
-      record { gave = gave; value = ready_value old new (Ready (rule.seen answer)) cx left gave; ended = ended; same = tt; registered = tt; kept = kept; again = tt; places = tt }
+  -- some outputs came and filled their places, which took the join from old to now and the task from start to cx
+  pub record Filling (old : Places Q A) (start : Context) (now : Places Q A) (cx : Context) : Type 0 where
+    pub row : List (ℕ × A)
+    pub filled : FoldsTo (Fills waiting placed rule) (old, start) row (now, cx)
+    pub in_order : WaitsOrCame (waiting now.set) now.outputs
+    pub held : placed.can_poll now.set
+    pub kept : Keeps start cx
 
-  -- and of one that is Pending, and can be polled again
-  pub polls_pending : (old new : Places Q A) (cx left : Context) → JoinGives waiting placed rule (Some old) Pending (Some new) cx left → CanFill waiting placed.can_poll new → Keeps cx left → PollsJoin waiting placed rule (Some old) Pending (Some new) cx left
-  polls_pending old new cx left gives fit kept =
-      record { gave = gives; value = tt; ended = tt; same = pending_back old new cx left gives; registered = gives.ended.is_pending.registered; kept = kept; again = fit.held; places = fit.in_order }
+  pub begins : (old : Places Q A) (cx : Context) → WaitsOrCame (waiting old.set) old.outputs → placed.can_poll old.set → Filling old cx old cx
+  begins old cx in_order held = record { row = []; filled = refl; in_order = in_order; held = held; kept = λ fact h. h }
+
+  -- one more output fills its place
+  pub fills : (old now : Places Q A) (after : Q) (start cx left : Context) (place : ℕ) (output : O) (kept : A) → Filling old start now cx
+      → PollsPlaced waiting placed now.set (Ready (place, output)) after cx left → rule.output_of (Ok kept) ≡ output
+      → Filling old start (record { set = after; outputs = set now.outputs place (Some kept) }) left
+  fills old now after start cx left place output kept so gave of =
+      record {
+        row = so.row ++ (place, kept) ∷ [];
+        filled = FoldsTo-push (Fills waiting placed rule) (old, start) so.row (now, cx) (place, kept) (record { set = after; outputs = set now.outputs place (Some kept) }, left) so.filled (record {
+          gave = subst (λ (o : O). PollsPlaced waiting placed now.set (Ready (place, o)) after cx left) (sym of) gave;
+          was_waiting = (none_came now.outputs place (sym (ap (λ (places : List Bool). get_or places place false) so.in_order) ∙ gave.frees.0)).1;
+          now_done = refl;
+        });
+        in_order = filled_in_order (waiting now.set) (waiting after) now.outputs place kept so.in_order gave.frees.1;
+        held = gave.again;
+        kept = λ fact h. gave.kept fact (so.kept fact h);
+      }
+
+  ready : (old : Option (Places Q A)) (answer : B) (outcome : Outcome A E) (cx left : Context) → rule.seen answer ≡ outcome → JoinGives waiting placed rule old (Ready outcome) None cx left → Keeps cx left → PollsJoin waiting placed rule old (Ready answer) None cx left
+  ready old answer outcome cx left shows gives kept =
+      let gave = subst (λ (r : Outcome A E). JoinGives waiting placed rule old (Ready r) None cx left) (sym shows) gives in
+      record { gave = gave; value = ready_value old None (Ready (rule.seen answer)) cx left gave; ended = refl; same = tt; registered = tt; kept = kept; again = tt; places = tt }
+
+  -- no future is left
+  pub all_filled : (old now : Places Q A) (answer : B) (outputs : List A) (start cx : Context) → Filling old start now cx → waiting_count (waiting now.set) ≡ 0 → now.outputs ≡ map Some outputs → rule.seen answer ≡ Ok outputs
+      → PollsJoin waiting placed rule (Some old) (Ready answer) None start cx
+  all_filled old now answer outputs start cx so none all shows =
+      ready (Some old) answer (Ok outputs) start cx shows (record { row = so.row; before = now; between = cx; filled = so.filled; ended = (none, all, refl, refl) }) so.kept
+
+  -- an output ends the join
+  pub one_failed : (old now : Places Q A) (after : Q) (answer : B) (place : ℕ) (output : O) (e : E) (start cx left : Context) → Filling old start now cx
+      → PollsPlaced waiting placed now.set (Ready (place, output)) after cx left → rule.output_of (Err e) ≡ output → rule.seen answer ≡ Err e
+      → PollsJoin waiting placed rule (Some old) (Ready answer) None start left
+  one_failed old now after answer place output e start cx left so gave of shows =
+      ready (Some old) answer (Err e) start left shows
+      (record { row = so.row; before = now; between = cx; filled = so.filled; ended = ((place, after, subst (λ (o : O). PollsPlaced waiting placed now.set (Ready (place, o)) after cx left) (sym of) gave), refl) })
+      (λ fact h. gave.kept fact (so.kept fact h))
+
+  -- the set is pending
+  pub one_pending : (old now : Places Q A) (after : Q) (start cx left : Context) → Filling old start now cx → 0 < waiting_count (waiting now.set) → PollsPlaced waiting placed now.set Pending after cx left
+      → PollsJoin waiting placed rule (Some old) Pending (Some (record { set = after; outputs = now.outputs })) start left
+  one_pending old now after start cx left so some gave =
+      let new : Places Q A = record { set = after; outputs = now.outputs } in
+      let gives : JoinGives waiting placed rule (Some old) Pending (Some new) start left = record { row = so.row; before = now; between = cx; filled = so.filled; ended = record { some_waiting = some; is_pending = gave; same_outputs = refl } } in
+      record {
+        gave = gives;
+        value = tt;
+        ended = tt;
+        same = pending_back old new start left gives;
+        registered = gave.registered;
+        kept = λ fact h. gave.kept fact (so.kept fact h);
+        again = gave.again;
+        places = gave.frees ∙ so.in_order;
+      }

@@ -1,5 +1,4 @@
 pub mod OutputsLemmas
-pub mod PlacesLemmas
 pub mod JoinLemmas
 pub mod SlotsJoinLemmas
 pub mod InFlightJoinLemmas

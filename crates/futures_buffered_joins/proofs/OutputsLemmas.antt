@@ -4,8 +4,7 @@ use Rattle.std.specs.Option.{is_none}
 use Rattle.std.proofs.lemmas.List.{get_or-map, length-map, map-set}
 use Rattle.std.proofs.lemmas.List.Sums.{sum_by-cons}
 use Rattle.std.proofs.lemmas.Option.{get_or_from_slice_get, slice_get_within}
-use Rattle.futures_buffered_joins.specs.Outputs.{WaitsOrCame, MayComeAll, output_in}
-use Rattle.futures_buffered_joins.specs.Placed.{waiting_count}
+use Rattle.futures_buffered_joins.specs.Outputs.{WaitsOrCame, MayComeAll, output_in, waiting_count}
 
 -- at a place where a future waits nothing has come
 pub none_came : {A : Type 0} (outputs : List (Option A)) (k : ℕ) → get_or (map is_none outputs) k false ≡ true → (k < length outputs) × (output_in outputs k ≡ None)
@@ -32,8 +31,8 @@ one_fewer (false ∷ waiting) zero waits = absurd cc
 one_fewer (waits_here ∷ waiting) (suc k) waits = omega (arith, one_fewer waiting k waits, sum_by-cons (λ (waits : Bool). cond waits 1 0) waits_here waiting, sum_by-cons (λ (waits : Bool). cond waits 1 0) waits_here (set waiting k false))
 
 -- an output that fills its place leaves the places in order
-pub filled : {A : Type 0} (waiting after : List Bool) (outputs : List (Option A)) (k : ℕ) (x : A) → WaitsOrCame waiting outputs → after ≡ set waiting k false → WaitsOrCame after (set outputs k (Some x))
-filled waiting after outputs k x keeps frees = frees ∙ ap (λ (places : List Bool). set places k false) keeps ∙ sym (map-set is_none outputs k (Some x))
+pub filled_in_order : {A : Type 0} (waiting after : List Bool) (outputs : List (Option A)) (k : ℕ) (x : A) → WaitsOrCame waiting outputs → after ≡ set waiting k false → WaitsOrCame after (set outputs k (Some x))
+filled_in_order waiting after outputs k x keeps frees = frees ∙ ap (λ (places : List Bool). set places k false) keeps ∙ sym (map-set is_none outputs k (Some x))
 
 none_of : (A : Type 0) (n : ℕ) → map is_none (replicate {A = Option A} n None) ≡ replicate n true
 none_of A zero = refl

@@ -16,7 +16,8 @@ use Rattle.futures_buffered_unordered.specs.PollsBounded.{RegistersAndTakes, its
 use Rattle.futures_buffered_unordered.proofs.HeldLemmas.{some_from_end, value_in-with_value}
 use Rattle.futures_buffered_unordered.proofs.HeldGivesLemmas.{None-Some, value_in-with_slot_freed, value_in-with_slot_freed_other}
 use Rattle.futures_buffered_unordered.proofs.PollsBoundedLemmas.{takes_held}
-use Rattle.futures_buffered_joins.specs.Placed.{PlacedPollsOf, PollsPlaced, waiting_count}
+use Rattle.futures_buffered_joins.specs.Outputs.{waiting_count}
+use Rattle.futures_buffered_joins.specs.Placed.{PlacedPollsOf, PollsPlaced}
 use Rattle.futures_buffered_joins.specs.SlotsJoin.{ItemMayGive, MayGiveAt, ReadySourceOf, SlotFutureOf, SlotsGive, slots_waiting}
 
 -- as many futures wait as are held

@@ -7,7 +7,7 @@ use Rattle.futures.specs.declared.task.context.Context.{Context}
 use Rattle.futures_buffered_core.specs.Drawn.{Items}
 use Rattle.futures_buffered_table.specs.declared.answer.NewFault.{NewFault}
 use Rattle.futures_buffered_in_flight.specs.InFlight.{FutureOf, Flights, CanPollAll, FliesInOrder, PollsInFlight}
-use Rattle.futures_buffered_joins.specs.declared.places.Places.{Places}
+use Rattle.futures_buffered_joins.specs.declared.outputs.Places.{Places}
 use Rattle.futures_buffered_joins.specs.Join.{MakesJoin}
 
 -- the places of a join of futures in flight

@@ -13,9 +13,9 @@ use Rattle.futures_buffered_table.specs.declared.answer.NewFault.{NewFault}
 use Rattle.futures_buffered_unordered.specs.Extended.{MakesFull}
 use Rattle.futures_buffered_joins.specs.JoinRule.{Outcome}
 pub use Rattle.futures_buffered_joins.specs.declared.join_rule.JoinRule.{Ghosts as JoinRuleOf}
-use Rattle.futures_buffered_joins.specs.declared.places.Places.{Places}
-use Rattle.futures_buffered_joins.specs.Outputs.{CameInOrder, MayComeAll, WaitsOrCame, output_in}
-use Rattle.futures_buffered_joins.specs.Placed.{AnyPlaceGives, PlacedPollsOf, PollsPlaced, waiting_count}
+use Rattle.futures_buffered_joins.specs.declared.outputs.Places.{Places}
+use Rattle.futures_buffered_joins.specs.Outputs.{CameInOrder, MayComeAll, WaitsOrCame, output_in, waiting_count}
+use Rattle.futures_buffered_joins.specs.Placed.{AnyPlaceGives, PlacedPollsOf, PollsPlaced}
 
 -- how many places a join has, and none once it has ended
 abbrev pub join_places : {Q A : Type 0} → Option (Places Q A) → ℕ

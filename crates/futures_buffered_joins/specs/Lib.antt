@@ -2,6 +2,5 @@ pub mod JoinRule
 pub mod Outputs
 pub mod Placed
 pub mod Join
-pub mod Places
 pub mod SlotsJoin
 pub mod InFlightJoin

@@ -1,11 +1,15 @@
 -- What a contract sees of the outputs of a join: at each place the one that has come, or nothing.
-use Rattle.std.specs.Prelude.{◌≡◌, ℕ, Bool, List, length, map, Option, None, Some, MatchOption, slice_get}
+use Rattle.std.specs.Prelude.{◌≡◌, ℕ, Bool, List, count_by, length, map, Option, None, Some, MatchOption, slice_get}
 use Rattle.std.specs.Prelude.{slice_index_or}
 use Rattle.std.specs.Option.{is_none}
 
 -- the output that has come at a place, if any
 abbrev pub output_in : {A : Type 0} → List (Option A) → ℕ → Option A
 output_in outputs k = slice_index_or outputs k None
+
+-- at how many of these places a future waits
+abbrev pub waiting_count : List Bool → ℕ
+waiting_count = count_by (λ waits. waits)
 
 -- a future waits at exactly those places at which no output has come
 abbrev pub WaitsOrCame : {A : Type 0} → List Bool → List (Option A) → Type 0

@@ -1,15 +1,11 @@
 -- What one poll of a set of futures, each at a place of its own, gives and leaves.
-use Rattle.std.specs.Prelude.{◌≡◌, ℕ, Bool, true, false, List, count_by, slice_index_or, slice_set}
+use Rattle.std.specs.Prelude.{◌≡◌, ℕ, Bool, true, false, List, slice_index_or, slice_set}
 use Rattle.futures.specs.Poll.{IfReady, OnPending}
 use Rattle.futures.specs.Task.{Covers, Keeps}
 use Rattle.futures.specs.declared.task.context.Context.{Context}
 use Rattle.futures.specs.declared.task.Poll.{Poll}
 use Rattle.futures.specs.declared.task.Poll.TheVariants.{Ready, Pending}
-pub use Rattle.futures_buffered_joins.specs.declared.placed_polls.PlacedPolls.{Ghosts as PlacedPollsOf}
-
--- at how many of these places a future waits
-abbrev pub waiting_count : List Bool → ℕ
-waiting_count = count_by (λ waits. waits)
+pub use Rattle.futures_buffered_joins.specs.declared.placed_set.PlacedPolls.{Ghosts as PlacedPollsOf}
 
 -- An output frees the place at which its future waited, and no other. A pending poll frees none.
 abbrev pub FreesPlace : {O : Type 0} → List Bool → Poll (ℕ × O) → List Bool → Type 0

@@ -3,9 +3,8 @@ ghost use Rattle.std.specs.Prelude.{◌≡◌, None, IfOk, IfSome, IsSomeAnd, re
 ghost use Rattle.futures_buffered_joins.specs.Join.{JoinMayGive, PollsJoin};
 
 pub use crate::join_rule::{JoinName, JoinRule};
-use crate::outputs::Outputs;
+use crate::outputs::{Outputs, Places};
 use crate::placed_set::{PlacedSet, PollPlacedSet};
-use crate::places::Places;
 use futures::Future;
 use futures::task::{Context, Poll};
 use futures_buffered_unordered::FusedFuture;
@@ -28,7 +27,7 @@ pub struct JoinBy<R, Q: PlacedSet, A: Drop> {
 
 impl<R, Q: PlacedSet, A: Drop> Model for JoinBy<R, Q, A> {
     ghost use Rattle.std.specs.Prelude.{Option, IfSome};
-    ghost use Rattle.futures_buffered_joins.specs.declared.places.Places.{Places};
+    ghost use Rattle.futures_buffered_joins.specs.declared.outputs.Places.{Places};
     ghost use Rattle.futures_buffered_joins.specs.Outputs.{WaitsOrCame};
 
     ghost Value = { Option (Places Q A) };
@@ -85,14 +84,19 @@ where
         let Some(mut places) = self.places.take() else {
             return Poll::Ready(R::answer(Ok(Vec::new(self.alloc))));
         };
-        match places.fill_all::<R>(cx) {
-            Poll::Ready(Ok(())) => Poll::Ready(R::answer(Ok(places.gather()))),
-            Poll::Ready(Err(error)) => Poll::Ready(R::answer(Err(error))),
-            Poll::Pending => {
-                self.places = Some(places);
-                Poll::Pending
+        'places: while places.set.waiting_len() > 0 {
+            match places.set.poll_placed(cx) {
+                Poll::Ready((place, output)) => match R::keep(output) {
+                    Ok(kept) => places.outputs.put(place, kept),
+                    Err(error) => return Poll::Ready(R::answer(Err(error))),
+                },
+                Poll::Pending => {
+                    self.places = Some(places);
+                    return Poll::Pending;
+                }
             }
         }
+        Poll::Ready(R::answer(Ok(places.outputs.gather())))
     }
 }
 

@@ -5,10 +5,9 @@
 //! - `join`: `join_all` and `JoinAll`, ready with all outputs once the last future is done.
 //! - `try_join`: `try_join_all` and `TryJoinAll`, whose futures may fail, ready at the first error as well.
 //! - `join_rule`: by what rule a join goes: what is kept of an output, and which output ends the join.
-//! - `placed_polls`, `placed_set`: what a join asks of the set that holds its futures.
+//! - `placed_set`: what a join asks of the set that holds its futures.
 //! - `join_by`: the type of every join, by a rule and over any such set.
-//! - `places`: what a join keeps until it ends, the set and the outputs that have come.
-//! - `outputs`: the outputs that have come, each at its place.
+//! - `outputs`: what a join keeps until it ends, the set and the outputs that have come, each at its place.
 //! - `slots_join`: joins over a set of slots.
 //! - `in_flight_join`: joins of futures of the kit, over their set in flight: `join_all` and `try_join_all` of these.
 #![tactic(auto)]
@@ -17,15 +16,12 @@ pub mod in_flight_join;
 pub mod join;
 pub mod join_by;
 pub mod join_rule;
-mod outputs;
-pub mod placed_polls;
+pub mod outputs;
 pub mod placed_set;
-pub mod places;
 mod slots_join;
 pub mod try_join;
 
 pub use join::{Join, JoinAll, join_all};
 pub use join_by::{JoinBy, JoinName, JoinRule};
-pub use placed_polls::PlacedPolls;
-pub use placed_set::{PlacedSet, PollPlacedSet};
+pub use placed_set::{PlacedPolls, PlacedSet, PollPlacedSet};
 pub use try_join::{TryJoin, TryJoinAll, try_join_all};

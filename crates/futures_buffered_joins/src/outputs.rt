@@ -1,4 +1,4 @@
-//! The outputs of a join that have come, each at its place.
+//! What a join keeps until it ends: the set of its futures, and the outputs that have come, each at its place.
 ghost use Rattle.std.specs.Prelude.{◌≡◌, ◌<◌, Some, None, IsSome, IfOk, length, map, replicate, slice_index_or};
 ghost use Rattle.std.specs.Prelude.{slice_set};
 
@@ -25,6 +25,13 @@ impl<A> Model for Outputs<A> {
 
     ghost invariant = { λ s. (s.gathered.items ≡ [])
         × (length s.places.items ≤ vec_capacity s.gathered) };
+}
+
+/// The futures that a join waits for, each at its place, and the outputs that have come.
+#[derive(Drop)]
+pub struct Places<Q, A> {
+    pub(crate) set: Q,
+    pub(crate) outputs: Outputs<A>,
 }
 
 // `n` places at which nothing has come. Takes time and memory in proportion to `n`.

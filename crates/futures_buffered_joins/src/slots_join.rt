@@ -6,8 +6,7 @@ ghost use Rattle.futures_buffered_joins.specs.Join.{JoinsByPlace, MakesJoin};
 ghost use Rattle.futures_buffered_joins.specs.SlotsJoin.{ItemMayGive, MayGiveAt, SlotsGive, slots_waiting};
 
 use crate::join_by::{JoinBy, JoinRule};
-use crate::placed_polls::PlacedPolls;
-use crate::placed_set::{PlacedSet, PollPlacedSet};
+use crate::placed_set::{PlacedPolls, PlacedSet, PollPlacedSet};
 use futures::task::{Context, Poll};
 use futures_buffered_core::ready_core::NewFault;
 use futures_buffered_core::ready_source::{NewSource, ReadySource};

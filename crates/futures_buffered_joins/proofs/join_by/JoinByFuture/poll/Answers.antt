@@ -1,28 +1,34 @@
-use Rattle.std.proofs.Common.{◌≡◌, Some, refl, sym, ◌∙◌}
-use Rattle.futures_buffered_joins.proofs.JoinLemmas.{polls_ready, polls_pending}
+use Rattle.std.proofs.Common.{◌≡◌, Some, sym, arith, ◌∙◌}
+use Rattle.futures_buffered_joins.proofs.JoinLemmas.{all_filled, fills, one_failed, one_pending}
+use Rattle.futures_buffered_joins.proofs.OutputsLemmas.{all_came}
 use Rattle.futures_buffered_joins.proofs.join_by.JoinByFuture.poll.Goals as goal
 
-pub returns-in-Ready-Ok : goal.returns-in-Ready-Ok
-returns-in-Ready-Ok g c =
-    let is : c.args.self.now ≡ Some c.in-Some.places = sym c.self.view_is ∙ (sym c.take.ensures.value ∙ c.in-Some.is) in
-    let all = rw c.in-Ready-Ok.field-0-is at c.in-Ready-Ok.ensures.ready.filled in
-    let same = all.ended.0 in
-    rw (is, c.take.ensures.after) (polls_ready g.Q.PlacedSet.waiting g.Q.PlacedPolls g.R.JoinRule _ _ _ _ _ _ c.answer-in-Ready-Ok.ensures
-    (record { row = all.row; before = all.before; between = all.between; filled = all.filled; ended = (rw same all.ended.2, rw same c.gather.ensures, refl, sym all.ended.1) })
-    refl c.fill_all.ensures.kept)
+pub invariant_of-self-in-places : goal.invariant_of-self-in-places
+invariant_of-self-in-places g c = rw c.places.invariant.1 tt
 
-pub returns-in-Ready-Err : goal.returns-in-Ready-Err
-returns-in-Ready-Err g c =
+pub places-preserved : goal.places-preserved
+places-preserved g c = (
+  rw c.put.ensures (fills g.Q.PlacedSet.waiting g.Q.PlacedPolls g.R.JoinRule c.in-Some.places c.places.places _ _ _ _ c.in-Ready.place c.in-Ready.output c.in-Ok.kept c.places.invariant.0 c.in-Ready.ensures c.in-Ok.ensures),
+  c.places.invariant.1,
+)
+
+pub invariant_of-self-in-Err : goal.invariant_of-self-in-Err
+invariant_of-self-in-Err g c = rw c.places.invariant.1 tt
+
+pub returns-in-Err : goal.returns-in-Err
+returns-in-Err g c =
     let is : c.args.self.now ≡ Some c.in-Some.places = sym c.self.view_is ∙ (sym c.take.ensures.value ∙ c.in-Some.is) in
-    let after = rw c.in-Ready-Err.field-0-is at c.in-Ready-Err.ensures.ready.failed in
-    rw (is, c.take.ensures.after) (polls_ready g.Q.PlacedSet.waiting g.Q.PlacedPolls g.R.JoinRule _ _ _ _ _ _ c.answer-in-Ready-Err.ensures
-    (record { row = after.row; before = after.before; between = after.between; filled = after.filled; ended = (after.ended, refl) })
-    refl c.fill_all.ensures.kept)
+    rw (is, c.places.invariant.1) (one_failed g.Q.PlacedSet.waiting g.Q.PlacedPolls g.R.JoinRule c.in-Some.places c.places.places _ _ c.in-Ready.place c.in-Ready.output c.in-Err.error _ _ _ c.places.invariant.0 c.in-Ready.ensures c.in-Err.ensures c.answer-in-Err.ensures)
 
 pub returns-in-Pending : goal.returns-in-Pending
 returns-in-Pending g c =
     let is : c.args.self.now ≡ Some c.in-Some.places = sym c.self.view_is ∙ (sym c.take.ensures.value ∙ c.in-Some.is) in
-    let pending = c.in-Pending.ensures.pending in
-    rw is (polls_pending g.Q.PlacedSet.waiting g.Q.PlacedPolls g.R.JoinRule _ _ _ _
-    (record { row = pending.row; before = pending.before; between = pending.between; filled = pending.filled; ended = pending.ended.0 })
-    pending.ended.1 c.fill_all.ensures.kept)
+    rw is (one_pending g.Q.PlacedSet.waiting g.Q.PlacedPolls g.R.JoinRule c.in-Some.places c.places.places _ _ _ _ c.places.invariant.0 (omega (arith, c.places-test.true, c.waiting_len.ensures)) c.in-Pending.ensures)
+
+pub gather-requires : goal.gather-requires
+gather-requires g c = all_came (g.Q.PlacedSet.waiting c.places.places.set) c.places.places.outputs c.places.invariant.0.in_order (omega (arith, c.places-test.false, c.waiting_len.ensures))
+
+pub returns : goal.returns
+returns g c =
+    let is : c.args.self.now ≡ Some c.in-Some.places = sym c.self.view_is ∙ (sym c.take.ensures.value ∙ c.in-Some.is) in
+    rw (is, c.places.invariant.1) (all_filled g.Q.PlacedSet.waiting g.Q.PlacedPolls g.R.JoinRule c.in-Some.places c.places.places _ c.gather.result.items _ _ c.places.invariant.0 (omega (arith, c.places-test.false, c.waiting_len.ensures)) c.gather.ensures c.answer-2.ensures)
