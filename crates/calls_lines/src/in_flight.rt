@@ -1,5 +1,5 @@
 //! Sets and queues of the kit's futures.
-use crate::answer::{Answer, Given, Reply, of_debug, of_full, of_growing, of_hint, of_next};
+use crate::answer::{Answer, Given, Reply, of_debug, of_full, of_growing, of_growth, of_hint, of_next};
 use crate::lines::run_made;
 use crate::session::Session;
 use crate::subject::{Call, Subject};
@@ -11,7 +11,7 @@ use calls_world::world::make_place;
 use futures::Stream;
 use futures::task::{Context, Poll};
 use futures_buffered::in_flight::{
-    Came, FuturesInFlight, FuturesOrderedBounded, FuturesUnordered, FuturesUnorderedBounded,
+    Came, FuturesInFlight, FuturesOrdered, FuturesOrderedBounded, FuturesUnordered, FuturesUnorderedBounded,
     IterExt, Kept, Key,
 };
 use futures_buffered_core::ready_core::NewFault;
@@ -283,6 +283,17 @@ impl Subject for UntaggedGrowingSet {
     }
 }
 
+/// Begins a set that grows of the futures of the line.
+pub fn run_growing_set_of(
+    session: &mut Session,
+    ids: &[usize],
+    lines: &[&str],
+) -> Result<usize, NewFault> {
+    let futures: Vec<KitFuture> = new_values(&session.world, ids);
+    let set = futures.into_unordered_stream_unbounded(session.options.alloc)?;
+    run_made(session, Ok(Kept::new(set)), lines)
+}
+
 /// A queue that keeps that its futures may be polled.
 type KitQueue = Kept<FuturesOrderedBounded<KitFuture>>;
 
@@ -320,6 +331,37 @@ impl Subject for KitQueue {
     }
 }
 
+/// A queue that grows.
+type KitGrowingQueue = Kept<FuturesOrdered<KitFuture>>;
+
+impl Subject for KitGrowingQueue {
+    fn poll(&mut self, cx: &mut Context<'_>, _outputs: &mut Vec<u64>) -> Answer {
+        of_next(self.poll_next(cx))
+    }
+
+    fn call(&mut self, call: Call<'_>, world: &SharedWorld, text: &mut String) -> Reply {
+        match call {
+            Call::Push(End::Back, id) => match new_value(world, id) {
+                Some(value) => of_growth(self.push_back(value)),
+                None => Reply::Nothing,
+            },
+            Call::Push(End::Front, id) => match new_value(world, id) {
+                Some(value) => of_growth(self.push_front(value)),
+                None => Reply::Nothing,
+            },
+            Call::Clear => {
+                self.clear();
+                Reply::Ok
+            }
+            Call::Ask(Query::Len) => Reply::Number(self.get().len()),
+            Call::Ask(Query::Capacity) => Reply::Number(self.get().capacity()),
+            Call::Ask(Query::IsTerminated) => Reply::Is(self.get().is_terminated()),
+            Call::Ask(Query::Debug) => of_debug(write!(text, "{:?}", self.get())),
+            _ => Reply::Nothing,
+        }
+    }
+}
+
 /// Begins a queue with room for as many as the line says.
 pub fn run_queue(
     session: &mut Session,
@@ -345,5 +387,33 @@ pub fn run_queue_of(
 ) -> Result<usize, NewFault> {
     let futures: Vec<KitFuture> = new_values(&session.world, ids);
     let queue = futures.into_ordered_stream(session.options.alloc)?;
+    run_made(session, Ok(Kept::new(queue)), lines)
+}
+
+fn new_growing_queue(alloc: Global, numbers: &[usize]) -> Result<KitGrowingQueue, NewFault> {
+    match numbers.first() {
+        Some(n) => Ok(Kept::new(FuturesOrdered::with_capacity(alloc, *n)?)),
+        None => Ok(Kept::new(FuturesOrdered::new(alloc)?)),
+    }
+}
+
+/// Begins a queue that grows, of as many slots as the line says, or of one.
+pub fn run_growing_queue(
+    session: &mut Session,
+    numbers: &[usize],
+    lines: &[&str],
+) -> Result<usize, NewFault> {
+    let queue = new_growing_queue(session.options.alloc, numbers);
+    run_made(session, queue, lines)
+}
+
+/// Begins a queue that grows of the futures of the line.
+pub fn run_growing_queue_of(
+    session: &mut Session,
+    ids: &[usize],
+    lines: &[&str],
+) -> Result<usize, NewFault> {
+    let futures: Vec<KitFuture> = new_values(&session.world, ids);
+    let queue = futures.into_ordered_stream_unbounded(session.options.alloc)?;
     run_made(session, Ok(Kept::new(queue)), lines)
 }

@@ -17,11 +17,11 @@ use std::marker::Model;
 
 /// A join of futures of the kit that may be polled.
 #[derive(Drop)]
-struct Joined<R, F: Future, A> {
+struct Joined<R, F: Future, A: Drop> {
     join: JoinBy<R, F, A>,
 }
 
-impl<R, F: Future, A> Model for Joined<R, F, A> {
+impl<R, F: Future, A: Drop> Model for Joined<R, F, A> {
     ghost use Rattle.std.specs.Prelude.{Option};
     ghost use Rattle.futures_buffered.specs.InFlightJoin.{CanPollFlying, Flying};
 

@@ -2,7 +2,7 @@
 ghost use Rattle.std.specs.Prelude.{◌≡◌, [], None};
 ghost use Rattle.futures_buffered_core.specs.SlotMap.{no_slots, slot_count};
 ghost use Rattle.futures_buffered_in_flight.specs.InFlight.{CancelsOrNone, ComesFromSlots, EntersAt, FlightsWaitAt};
-ghost use Rattle.futures_buffered_in_flight.specs.InFlight.{HasNoRoom, PollsInFlight, PushesInFlight, flight_slots};
+ghost use Rattle.futures_buffered_in_flight.specs.InFlight.{HasNoRoom, IsNewInFlight, PollsInFlight, PushesInFlight, flight_slots};
 ghost use Rattle.futures_buffered_in_flight.specs.InFlightGrowing.{PushesGrowing};
 ghost use Rattle.futures_buffered_in_flight.specs.InFlightOrdered.{ComesOfEach, OrderedWaitsAt, PollsInTurn};
 ghost use Rattle.futures_buffered_in_flight.specs.InFlightOrdered.{IsNewInOrder, PushesBack, PushesFront};
@@ -209,6 +209,14 @@ impl<F: Future<Output = A>, A: Drop> Kept<FuturesOrdered<F, A>> {
         ensures { EntersOrComesBack F.Future (EntersFront F.Future) self.old future result self.new }
     {
         self.held.push_front(future)
+    }
+
+    /// As `FuturesOrdered::clear`.
+    pub fn clear(&mut self)
+        ensures none { (self.new.entries ≡ []) × IsNewInFlight (flight_slots self.old.set) self.new.set }
+        ensures same_room { flight_slots self.new.set ≡ flight_slots self.old.set }
+    {
+        self.held.clear();
     }
 }
 
