@@ -1,7 +1,7 @@
 //! Tests of the ready list, the ready core, the sources and the slot map, by public calls alone.
 //!
 //! - `table`: the list and the machine of its steps.
-//! - `ready_core`, `slot_map`: lists of events with their replies, and slots that are filled and emptied.
+//! - `slot_map`: slots that are filled and emptied. Lists of events on a ready core are lines of `calls`.
 //! - `ready_source`: the two sources for one caller, and the waker that they keep.
 //! - `ready_shared`: the source whose slots are woken from any thread, with the outer wakers of `outer`.
 //! - `who_is_woken`, `each_wake`: which task a wake finds, and two threads whose wakes are each answered.
@@ -16,8 +16,6 @@ mod each_wake;
 mod names;
 #[cfg(test)]
 mod outer;
-#[cfg(test)]
-mod ready_core;
 #[cfg(test)]
 mod ready_shared;
 #[cfg(test)]

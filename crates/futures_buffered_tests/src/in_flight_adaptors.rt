@@ -1,11 +1,10 @@
-//! What holds futures of the kit: the buffers, of futures that a thread completes, the for-eaches, what is made of an
-//! iterator, and a join.
+//! What holds futures of the kit: a buffer, of futures that a thread completes, and the for-eaches.
 use crate::same::assert_same;
 use futures::channel::oneshot::{Canceled, Receiver, Sender, channel};
 use futures::executor::block_on;
 use futures::future::ready;
 use futures::{FutureExt, Stream, StreamExt, TryFutureExt, stream};
-use futures_buffered::in_flight::{BufferedStreamExt, BufferedTryStreamExt, IterExt, try_join_all};
+use futures_buffered::in_flight::{BufferedStreamExt, BufferedTryStreamExt};
 use std::alloc::{AllocError, AllocGlobal, Global};
 use std::random::RandomSource;
 use std::sync::atomic::Ordering::SeqCst;
@@ -50,11 +49,6 @@ fn are_in_order(all: &Vec<Answer>) -> bool {
     all.iter().enumerate().all(|(n, one)| *one == Ok(n as u64))
 }
 
-fn sum_of(all: &Vec<Answer>) -> u64 {
-    all.iter()
-        .fold(0u64, |sum, one| sum.saturating_add(one.unwrap_or(1_000)))
-}
-
 // All that the stream gives, while a thread completes what it waits for.
 fn all_of<R, St>(rt: &R, senders: Vec<Sender<u64>>, outputs: St) -> Result<Vec<Answer>, Fail>
 where
@@ -74,35 +68,6 @@ fn in_the_order_of_the_stream(rt: HostRuntime) -> Result<(), Fail> {
     let outputs = stream::iter(receivers).buffered_ordered(rt.alloc(), 4)?;
     let all = all_of(&rt, senders, outputs)?;
     assert_same(&rt, (all.len(), are_in_order(&all)), (20, true));
-    Ok(())
-}
-
-#[test]
-fn as_they_finish(rt: HostRuntime) -> Result<(), Fail> {
-    let (senders, receivers) = twenty(rt.alloc())?;
-    let outputs = stream::iter(receivers).buffered_unordered(rt.alloc(), 4)?;
-    let all = all_of(&rt, senders, outputs)?;
-    assert_same(&rt, (all.len(), sum_of(&all)), (20, 190));
-    Ok(())
-}
-
-#[test]
-fn in_the_order_of_a_stream_that_may_fail(rt: HostRuntime) -> Result<(), Fail> {
-    let (senders, receivers) = twenty(rt.alloc())?;
-    let jobs = stream::iter(receivers).map(Ok::<_, Canceled>);
-    let outputs = jobs.try_buffered_ordered(rt.alloc(), 4)?;
-    let all = all_of(&rt, senders, outputs)?;
-    assert_same(&rt, (all.len(), are_in_order(&all)), (20, true));
-    Ok(())
-}
-
-#[test]
-fn as_those_of_a_stream_that_may_fail_finish(rt: HostRuntime) -> Result<(), Fail> {
-    let (senders, receivers) = twenty(rt.alloc())?;
-    let jobs = stream::iter(receivers).map(Ok::<_, Canceled>);
-    let outputs = jobs.try_buffered_unordered(rt.alloc(), 4)?;
-    let all = all_of(&rt, senders, outputs)?;
-    assert_same(&rt, (all.len(), sum_of(&all)), (20, 190));
     Ok(())
 }
 
@@ -141,55 +106,5 @@ fn for_each_item_up_to_an_error(rt: HostRuntime) -> Result<(), Fail> {
         (ended, 14 <= calls, calls <= 18),
         (Err(13), true, true),
     );
-    Ok(())
-}
-
-#[test]
-fn in_the_order_of_an_iterator(rt: HostRuntime) -> Result<(), Fail> {
-    let (senders, receivers) = twenty(rt.alloc())?;
-    let queue = receivers.into_ordered_stream(rt.alloc())?;
-    assert_same(&rt, (queue.len(), queue.capacity()), (20, 20));
-    let all = all_of(&rt, senders, queue)?;
-    assert_same(&rt, (all.len(), are_in_order(&all)), (20, true));
-    Ok(())
-}
-
-#[test]
-fn as_those_of_an_iterator_finish(rt: HostRuntime) -> Result<(), Fail> {
-    let (senders, receivers) = twenty(rt.alloc())?;
-    let set = receivers.into_unordered_stream(rt.alloc())?;
-    assert_same(&rt, (set.len(), set.capacity()), (20, 20));
-    let all = all_of(&rt, senders, set)?;
-    assert_same(&rt, (all.len(), sum_of(&all)), (20, 190));
-    Ok(())
-}
-
-// A queue of no items has room for one.
-#[test]
-fn a_queue_of_no_items_takes_one(rt: HostRuntime) -> Result<(), Fail> {
-    let none: Vec<Receiver<u64>> = Vec::new(rt.alloc());
-    let mut queue = none.into_ordered_stream(rt.alloc())?;
-    let is_pushed = queue.try_push_back(sent(&rt, 4)?).is_ok();
-    assert_same(
-        &rt,
-        (is_pushed, queue.len(), queue.is_full()),
-        (true, 1, true),
-    );
-    Ok(())
-}
-
-// A receiver whose value has been sent.
-fn sent<R: AllocGlobal>(rt: &R, value: u64) -> Result<Receiver<u64>, AllocError> {
-    let (sender, receiver) = channel(rt.alloc())?;
-    let _ = sender.send(value);
-    Ok(receiver)
-}
-
-#[test]
-fn a_join_that_may_fail(rt: HostRuntime) -> Result<(), Fail> {
-    let receivers = vec![in rt.alloc(); sent(&rt, 4)?, sent(&rt, 5)?]?;
-    let all = block_on(&rt, try_join_all(rt.alloc(), receivers)?)?;
-    let sum = all.map(|all| all.iter().fold(0u64, |sum, one| sum.wrapping_add(*one)));
-    assert_same(&rt, sum, Ok(9));
     Ok(())
 }
