@@ -1,20 +1,20 @@
 -- What a poll of a set of slots says of the places of a join.
-use Rattle.std.proofs.Common.{◌≡◌, ℕ, zero, suc, Bool, List, [], ◌∷◌, length, map, get_or, set, replicate, Option, Some, None, MatchOption, IfSome, is_some, true, false, cond, refl, sym, ap, subst, inl, inr, arith, ◌∙◌, slice_get}
+use Rattle.std.proofs.Common.{◌≡◌, ℕ, zero, suc, Bool, List, [], ◌∷◌, length, map, get_or, set, replicate, Option, Some, None, IfSome, is_some, true, false, cond, refl, sym, ap, subst, inl, inr, arith, ◌∙◌, slice_get}
 use Rattle.std.specs.List.{FoldsTo, count_by}
-use Rattle.std.proofs.lemmas.List.{get_or-map, get_or-set_other, map-set}
+use Rattle.std.proofs.lemmas.List.{get_or-map, map-set}
 use Rattle.std.proofs.lemmas.List.Sums.{sum_by-cons}
 use Rattle.std.proofs.lemmas.Option.{get_or_from_slice_get, slice_get_within}
 use Rattle.std.proofs.lemmas.Bool.{cases_eq}
 use Rattle.futures.specs.declared.task.context.Context.{Context}
 use Rattle.futures.specs.declared.task.Poll.{Poll}
 use Rattle.futures.specs.declared.task.Poll.TheVariants.{Ready, Pending}
-use Rattle.futures_buffered_core.specs.SlotMap.{Slots, value_in, slot_count, with_value, with_slot_freed}
+use Rattle.futures_buffered_core.specs.SlotMap.{Slots, value_in, slot_count, with_slot_freed}
 use Rattle.futures_buffered_table.specs.declared.answer.Woke.{Woke}
-use Rattle.futures_buffered_unordered.specs.Held.{AllHeld, MayGive, Passes, Yields}
+use Rattle.futures_buffered_unordered.specs.Held.{AllHeld, AnyMayGive, MayGive, Passes, Yields}
 use Rattle.futures_buffered_unordered.specs.FuturesUnorderedBounded.{Bounded, HoldsEach, with_empty_slot}
 use Rattle.futures_buffered_unordered.specs.PollsBounded.{RegistersAndTakes, itself}
-use Rattle.futures_buffered_unordered.proofs.HeldLemmas.{some_from_end, value_in-with_value}
-use Rattle.futures_buffered_unordered.proofs.HeldGivesLemmas.{None-Some, value_in-with_slot_freed, value_in-with_slot_freed_other}
+use Rattle.futures_buffered_unordered.proofs.HeldLemmas.{some_from_end}
+use Rattle.futures_buffered_unordered.proofs.HeldGivesLemmas.{gives_others, gives_passed, value_in-with_slot_freed, value_in-with_slot_freed_other}
 use Rattle.futures_buffered_unordered.proofs.PollsBoundedLemmas.{takes_held}
 use Rattle.futures_buffered_joins.specs.Outputs.{waiting_count}
 use Rattle.futures_buffered_joins.specs.Placed.{PlacedPollsOf, PollsPlaced}
@@ -53,41 +53,24 @@ Some-same : {F : Type 0} {f g : F} → Some f ≡ Some g → f ≡ g
 Some-same e = cc
 
 module _ {F R : Type 0} (polled : ℕ → F → Poll R → F → Type 0) where
-  pending_same : (m : Slots F) (i : ℕ) (f f2 : F) (y : R) → value_in m i ≡ Some f → polled i f Pending f2 → MayGiveAt polled (with_value m i f2) i y → MayGiveAt polled m i y
-  pending_same m i f f2 y e h may = (f, e, from_next (Some-same (sym may.1 ∙ value_in-with_value m i f f2 (sym e))) may.2)
-    where
-      from_next : {g : F} → g ≡ f2 → MayGive (polled i) g y → MayGive (polled i) f y
-      from_next {g} eq more = (g ∷ more.0, more.1, more.2, (g, (subst (λ k. polled i f Pending k) (sym eq) h, refl), more.3), more.4)
+  -- the same polls, whose outputs come with their slots
+  abbrev with_slot : ℕ → F → Poll (ℕ × R) → F → Type 0
+  with_slot i f (Ready came) left = (came.0 ≡ i) × polled i f (Ready came.1) left
+  with_slot i f Pending left = polled i f Pending left
 
-  -- a pending poll adds nothing to what a slot may give
-  pending_at : (m : Slots F) (i k : ℕ) (f f2 : F) (y : R) → value_in m i ≡ Some f → polled i f Pending f2 → MayGiveAt polled (with_value m i f2) k y → MayGiveAt polled m k y
-  pending_at m i k f f2 y e h may =
-      elim (cases_eq k i) [
-        | inl same ↦ subst (λ (q : ℕ). MayGiveAt polled m q y) (sym same) (pending_same m i f f2 y e h (subst (λ (q : ℕ). MayGiveAt polled (with_value m i f2) q y) same may))
-        | inr other ↦ (may.0, sym (get_or-set_other m.places i k (Some f2) None other) ∙ may.1, may.2)
-      ]
+  to_any : (m : Slots F) (k : ℕ) (y : R) → MayGiveAt polled m k y → AnyMayGive with_slot m (k, y)
+  to_any m k y may = (k, may.0, may.1, (may.2.0, may.2.1, may.2.2, may.2.3, (refl, may.2.4)))
 
-  -- nor does a name that is passed
-  passed_at : (m new : Slots F) (i k : ℕ) (y : R) → Passes polled m i new → MayGiveAt polled new k y → MayGiveAt polled m k y
-  passed_at m new i k y = by_value (value_in m i) refl
-    where
-      by_value : (o : Option F) → value_in m i ≡ o → MatchOption o (new ≡ m) (λ f. (left : F) × polled i f Pending left × (new ≡ with_value m i left)) → MayGiveAt polled new k y → MayGiveAt polled m k y
-      by_value None e h may = subst (λ (w : Slots F). MayGiveAt polled w k y) h may
-      by_value (Some f) e h may = pending_at m i k f h.0 y e h.1 (subst (λ (w : Slots F). MayGiveAt polled w k y) h.2 may)
+  from_any : (m : Slots F) (k : ℕ) (y : R) → AnyMayGive with_slot m (k, y) → MayGiveAt polled m k y
+  from_any m k y any = subst (λ (i : ℕ). MayGiveAt polled m i y) (sym any.3.4.0) (any.1, any.2, (any.3.0, any.3.1, any.3.2, any.3.3, any.3.4.1))
 
-  passed_all_at : (names : List ℕ) (m left : Slots F) (k : ℕ) (y : R) → FoldsTo (Passes polled) m names left → MayGiveAt polled left k y → MayGiveAt polled m k y
-  passed_all_at [] m left k y passes may = subst (λ (w : Slots F). MayGiveAt polled w k y) (sym passes) may
-  passed_all_at (i ∷ names) m left k y passes may = passed_at m passes.0 i k y passes.1 (passed_all_at names passes.0 left k y passes.2 may)
+  -- pending polls add nothing to what a slot may give
+  passed_at : (names : List ℕ) (m left : Slots F) (k : ℕ) (y : R) → FoldsTo (Passes polled) m names left → MayGiveAt polled left k y → MayGiveAt polled m k y
+  passed_at names m left k y passes may = from_any m k y (gives_passed with_slot names m left (k, y) passes (to_any left k y may))
 
-  -- an output frees its slot, and changes nothing at the other slots
+  -- nor does an output, whose slot is emptied
   freed_at : (m new : Slots F) (i k : ℕ) (x y : R) → Yields polled m i x new → MayGiveAt polled (with_slot_freed new i) k y → MayGiveAt polled m k y
-  freed_at m new i k x y h may =
-      elim (cases_eq k i) [
-        | inl same ↦ absurd (None-Some (sym (value_in-with_slot_freed new i) ∙ subst (λ (q : ℕ). value_in (with_slot_freed new i) q ≡ Some may.0) same may.1))
-        | inr other ↦
-            let freed = subst (λ (w : Slots F). MayGiveAt polled (with_slot_freed w i) k y) h.now_holds may in
-            (freed.0, sym (get_or-set_other m.places i k (Some h.left) None other) ∙ (sym (value_in-with_slot_freed_other (with_value m i h.left) i k other) ∙ freed.1), freed.2)
-      ]
+  freed_at m new i k x y h may = from_any m k y (gives_others with_slot m new i (i, x) (k, y) (record { value = h.value; held = h.held; left = h.left; gave = (refl, h.gave); now_holds = h.now_holds }) (to_any (with_slot_freed new i) k y may))
 
 module _ {F W O S : Type 0} (future : SlotFutureOf F W O) (source : ReadySourceOf S W) where
   -- what a join sees of the set
@@ -105,8 +88,8 @@ module _ {F W O S : Type 0} (future : SlotFutureOf F W O) (source : ReadySourceO
       record {
         gave = (before, h, is);
         frees = (waits_at old.slots.places i ∙ (sym (takes.same_slots i) ∙ some), ap slots_waiting is ∙ (map-set is_some before.slots.places i None ∙ ap (λ (waiting : List Bool). set waiting i false) (same_waiting old.slots.places before.slots.places takes.capacity takes.same_slots)));
-        own = passed_all_at future.polled takes.names old.slots takes.passed i x takes.passes (takes.ends.2.value, takes.ends.2.held, ([], takes.ends.2.value, takes.ends.2.left, refl, takes.ends.2.gave));
-        narrows = λ k y may. passed_all_at future.polled takes.names old.slots takes.passed k y takes.passes (freed_at future.polled takes.passed before.slots i k x y takes.ends.2 (subst (λ (b : Bounded F S). MayGiveAt future.polled b.slots k y) is may));
+        own = passed_at future.polled takes.names old.slots takes.passed i x takes.passes (takes.ends.2.value, takes.ends.2.held, ([], takes.ends.2.value, takes.ends.2.left, refl, takes.ends.2.gave));
+        narrows = λ k y may. passed_at future.polled takes.names old.slots takes.passed k y takes.passes (freed_at future.polled takes.passed before.slots i k x y takes.ends.2 (subst (λ (b : Bounded F S). MayGiveAt future.polled b.slots k y) is may));
         registered = tt;
         kept = h.kept;
         again = subst (λ (b : Bounded F S). AllHeld future.can_poll b.slots) (sym is) others_held;
@@ -129,7 +112,7 @@ module _ {F W O S : Type 0} (future : SlotFutureOf F W O) (source : ReadySourceO
         gave = h;
         frees = same_waiting old.slots.places new.slots.places takes.capacity takes.same_slots;
         own = tt;
-        narrows = λ k y. passed_all_at future.polled takes.names old.slots new.slots k y (rw takes.ends.0 takes.passes);
+        narrows = λ k y. passed_at future.polled takes.names old.slots new.slots k y (rw takes.ends.0 takes.passes);
         registered = takes.covered;
         kept = h.kept;
         again = takes.pollable;
