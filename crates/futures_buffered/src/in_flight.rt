@@ -20,7 +20,9 @@ mod queues;
 pub mod try_buffered;
 
 pub use buffered::BufferedStreamExt;
-pub use futures_buffered_in_flight::{Came, FuturesUnorderedBounded, Kept, Key, Waiting};
+pub use futures_buffered_in_flight::{
+    Came, FuturesUnordered, FuturesUnorderedBounded, Kept, Key, Waiting,
+};
 pub use futures_buffered_joins::in_flight_join::{
     JoinAll, JoinBy, TryJoinAll, join_all, outputs_come_by_place, try_join_all,
 };
@@ -36,6 +38,9 @@ pub type FuturesOrderedBounded<F> = futures_buffered_in_flight::FuturesOrderedBo
     F,
     <F as Future>::Output,
 >;
+
+/// Futures of the kit, any number of them, whose outputs come in the order of the pushes.
+pub type FuturesOrdered<F> = futures_buffered_in_flight::FuturesOrdered<F, <F as Future>::Output>;
 
 /// Futures of the kit of a stream, at most as many at a time as its set has slots, whose outputs come as they finish.
 pub type BufferUnordered<St> = Buffer<St, FuturesUnorderedBounded<<St as Stream>::Item>>;

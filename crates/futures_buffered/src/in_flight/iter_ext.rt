@@ -4,12 +4,13 @@ ghost use Rattle.futures_buffered_core.specs.Drawn.{IsFiniteSource, items_of};
 ghost use Rattle.futures_buffered_unordered.specs.Extended.{EachDrawn, HoldsAllOf, MakesFull};
 ghost use Rattle.futures_buffered_in_flight.specs.InFlight.{CanPollAll, FliesInOrder, flight_slots};
 ghost use Rattle.futures_buffered_in_flight.specs.InFlightOrdered.{CanPollOrdered, FliesInTurn, ordered_room};
+ghost use Rattle.futures_buffered_in_flight.specs.InFlightOrderedGrowing.{EntersInOrder};
 ghost use Rattle.futures_buffered_joins.specs.InFlightJoin.{CanPollFlying, MakesFlying};
 ghost use Rattle.futures_buffered_merges.specs.InFlightMerge.{HoldsStreams};
 
 use crate::in_flight::{
-    FuturesOrderedBounded, FuturesUnorderedBounded, JoinAll, MergeBounded, MergeUnbounded,
-    TryJoinAll,
+    FuturesOrdered, FuturesOrderedBounded, FuturesUnordered, FuturesUnorderedBounded, JoinAll,
+    MergeBounded, MergeUnbounded, TryJoinAll,
 };
 use futures::{Future, Stream};
 use futures_buffered_core::ready_core::NewFault;
@@ -36,6 +37,25 @@ pub trait IterExt: IntoIterator + Sized {
         FuturesUnorderedBounded::from_iter(alloc, self)
     }
 
+    /// A set of these futures, and of any number that are pushed later, whose outputs come as they finish. It is
+    /// `FuturesUnordered::from_iter`, and refuses as that does.
+    ///
+    /// Takes time and memory in proportion to the number of futures.
+    final fn into_unordered_stream_unbounded(
+        self,
+        alloc: Global,
+    ) -> Result<FuturesUnordered<Self::Item>, NewFault>
+    where
+        Self::Item: Future<Output: Drop>,
+        requires finite { IsFiniteSource (items_of Self.IntoIterator Self.IntoIter.Iterator self) }
+        requires fit { EachDrawn (items_of Self.IntoIterator Self.IntoIter.Iterator self) Self.Item.can_poll }
+        ensures made { MakesFull (items_of Self.IntoIterator Self.IntoIter.Iterator self) flight_slots
+            (FliesInOrder Self.Item.Future) result }
+        ensures can_poll { IfOk result (CanPollAll Self.Item.Future) }
+    {
+        FuturesUnordered::from_iter(alloc, self)
+    }
+
     /// A queue of these futures, whose outputs come in their order. It is `FuturesOrderedBounded::from_iter`, and
     /// refuses as that does.
     ///
@@ -53,6 +73,25 @@ pub trait IterExt: IntoIterator + Sized {
         ensures can_poll { IfOk result (CanPollOrdered Self.Item.Future) }
     {
         FuturesOrderedBounded::from_iter(alloc, self)
+    }
+
+    /// A queue of these futures, and of any number that are pushed later, whose outputs come in their order. It is
+    /// `FuturesOrdered::from_iter`, and refuses as that does.
+    ///
+    /// Takes time and memory in proportion to the number of futures.
+    final fn into_ordered_stream_unbounded(
+        self,
+        alloc: Global,
+    ) -> Result<FuturesOrdered<Self::Item>, NewFault>
+    where
+        Self::Item: Future<Output: Drop>,
+        requires finite { IsFiniteSource (items_of Self.IntoIterator Self.IntoIter.Iterator self) }
+        requires fit { EachDrawn (items_of Self.IntoIterator Self.IntoIter.Iterator self) Self.Item.can_poll }
+        ensures holds { IfOk result
+            (HoldsAllOf (items_of Self.IntoIterator Self.IntoIter.Iterator self) (EntersInOrder Self.Item.Future)) }
+        ensures can_poll { IfOk result (CanPollOrdered Self.Item.Future) }
+    {
+        FuturesOrdered::from_iter(alloc, self)
     }
 
     /// A join of these futures, ready with all outputs, each at its future's place. It is the function `join_all`, and
