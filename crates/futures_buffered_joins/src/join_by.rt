@@ -19,13 +19,13 @@ use std::marker::{Model, PhantomData};
 /// each place the output that has come. Once the join has ended, early too, it holds nothing, and further polls give
 /// what shows an empty vector.
 #[derive(Drop)]
-pub struct JoinBy<R, Q: PlacedSet, A: Drop> {
+pub struct JoinBy<R, Q: PlacedSet, A> {
     places: Option<Places<Q, A>>,
     alloc: Global,
     rule: PhantomData<R>,
 }
 
-impl<R, Q: PlacedSet, A: Drop> Model for JoinBy<R, Q, A> {
+impl<R, Q: PlacedSet, A> Model for JoinBy<R, Q, A> {
     ghost use Rattle.std.specs.Prelude.{Option, IfSome};
     ghost use Rattle.futures_buffered_joins.specs.declared.outputs.Places.{Places};
     ghost use Rattle.futures_buffered_joins.specs.Outputs.{WaitsOrCame};
