@@ -20,14 +20,22 @@ const ROW: [(Event, Reply); 8] = [
 // Replies that no event of the row makes room for: they are there before.
 const BEFORE: [Reply; 2] = [Reply::Taken(Taken::Slot(77)), Reply::Taken(Taken::Pause)];
 
+fn reply_of(core: &mut ReadyCore, event: Event) -> Reply {
+    match event {
+        Event::Mark(i) if i < core.capacity() => Reply::Woke(core.mark(i)),
+        _ => Reply::Taken(core.take()),
+    }
+}
+
+fn try_event(rt: &impl Abort, core: &mut ReadyCore, event: Event, want: Reply) {
+    let got = reply_of(core, event);
+    assert_eq!(rt; got, want, "at {event:?}");
+}
+
 // Does each event, and wants its reply.
 fn replies(rt: &impl Abort, core: &mut ReadyCore) {
     for (event, want) in ROW {
-        let got = match event {
-            Event::Mark(i) if i < core.capacity() => Reply::Woke(core.mark(i)),
-            _ => Reply::Taken(core.take()),
-        };
-        assert_eq!(rt; got, want, "at {event:?}");
+        try_event(rt, core, event, want);
     }
 }
 
