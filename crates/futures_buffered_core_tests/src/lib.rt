@@ -7,7 +7,7 @@
 //! - `who_is_woken`, `each_wake`: which task a wake finds, and two threads whose wakes are each answered.
 //! - `sizes`: many slots, and many calls against a plain list, by the calls of `names`.
 //! - `texts`: the texts of faults.
-//! - `same`, `slots`: an assertion as a call, and calls on one slot.
+//! - `run_on`, `same`, `slots`: a test on what it needs, an assertion as a call, and calls on one slot.
 #![tactic(auto)]
 
 #[cfg(test)]
@@ -20,6 +20,8 @@ mod outer;
 mod ready_shared;
 #[cfg(test)]
 mod ready_source;
+#[cfg(test)]
+mod run_on;
 #[cfg(test)]
 mod same;
 #[cfg(test)]

@@ -1,11 +1,12 @@
 // Outer wakers that are no task's.
 use crate::outer::{Asks, Counts, Watched, is_set, put_in, wakes_when_asked};
+use crate::run_on::run_on;
 use crate::same::assert_same;
 use crate::slots::{wake, waker_of};
 use futures_buffered_core::ready_core::{MAX_CAPACITY, NewFault, Taken, Woke};
 use futures_buffered_core::ready_shared::SharedReady;
 use futures_buffered_core::ready_source::SlotWaker;
-use std::alloc::AllocError;
+use std::alloc::{AllocError, Global};
 use std::process::Abort;
 use std::sync::Arc;
 use std::sync::atomic::Ordering::SeqCst;
@@ -13,6 +14,20 @@ use std::test::Fail;
 use std::thread::{self, JoinHandle, Threads};
 
 type Source = SharedReady<Watched>;
+
+// What one outer waker counts, and a source of so many slots.
+fn one_count(alloc: Global, slots: usize) -> Result<(Arc<Counts>, Source), Fail> {
+    let counts = Counts::new(alloc)?;
+    let source = SharedReady::new(alloc, slots)?;
+    Ok((counts, source))
+}
+
+// What two of them count, and a source of so many slots.
+fn two_counts(alloc: Global, slots: usize) -> Result<(Arc<Counts>, Arc<Counts>, Source), Fail> {
+    let other = Counts::new(alloc)?;
+    let (counts, source) = one_count(alloc, slots)?;
+    Ok((counts, other, source))
+}
 
 // The answers of the next four takings.
 fn take_four(source: &mut Source) -> [Taken; 4] {
@@ -73,19 +88,28 @@ fn a_fresh_wake_takes_the_outer_waker(rt: HostRuntime) -> Result<(), Fail> {
     Ok(())
 }
 
+fn woken_from_inside<R: Abort + Threads>(
+    rt: &R,
+    counts: &Arc<Counts>,
+    source: &mut Source,
+) -> Result<(), Fail> {
+    put_in(source, counts, Asks::AtItsWake)?;
+    let helper = wakes_when_asked(rt, source, [2, 1], counts)?;
+    wake(source, 0);
+    helper.join(rt);
+    assert_same(rt, counts.asked.load(SeqCst), 2);
+    assert_same(rt, take_four(source), ZERO_TWO_ONE);
+    Ok(())
+}
+
 // Two slots are woken while the outer waker is at its wake, by a thread that it waits for. No wake waits for another,
 // and none is lost.
 #[test]
 fn two_slots_are_woken_from_inside_the_outer_wake(rt: HostRuntime) -> Result<(), Fail> {
-    let counts = Counts::new(rt.alloc())?;
-    let mut source: Source = SharedReady::new(rt.alloc(), 3)?;
-    put_in(&mut source, &counts, Asks::AtItsWake)?;
-    let helper = wakes_when_asked(&rt, &source, [2, 1], &counts)?;
-    wake(&source, 0);
-    helper.join(&rt);
-    assert_same(&rt, counts.asked.load(SeqCst), 2);
-    assert_same(&rt, take_four(&mut source), ZERO_TWO_ONE);
-    Ok(())
+    run_on(
+        one_count(rt.alloc(), 3),
+        |(counts, source)| woken_from_inside(&rt, counts, source),
+    )
 }
 
 // A thread that wakes slot 0, and with it the outer waker, which stops there until it is answered.
@@ -115,44 +139,68 @@ fn puts_in_the_next<R: Threads>(
     Ok(stopped)
 }
 
+fn the_place_is_free<R: Abort + Threads>(
+    rt: &R,
+    first: &Arc<Counts>,
+    second: &Arc<Counts>,
+    source: &mut Source,
+) -> Result<(), Fail> {
+    let stopped = puts_in_the_next(rt, source, first, second)?;
+    assert_same(rt, (stopped, first.asked.load(SeqCst)), (true, 2));
+    assert_same(rt, (first.seen(), second.seen()), ((1, 1), (0, 0)));
+    assert_same(rt, wakes_after(source, 1, second), 1);
+    Ok(())
+}
+
 // The outer waker that is put in while another is at its wake would be woken at once if that wake still had the place.
 #[test]
 fn the_place_is_free_while_the_outer_waker_is_woken(rt: HostRuntime) -> Result<(), Fail> {
-    let first = Counts::new(rt.alloc())?;
-    let second = Counts::new(rt.alloc())?;
-    let mut source: Source = SharedReady::new(rt.alloc(), 2)?;
-    let stopped = puts_in_the_next(&rt, &mut source, &first, &second)?;
-    assert_same(&rt, (stopped, first.asked.load(SeqCst)), (true, 2));
-    assert_same(&rt, (first.seen(), second.seen()), ((1, 1), (0, 0)));
-    assert_same(&rt, wakes_after(&source, 1, &second), 1);
-    Ok(())
+    run_on(
+        two_counts(rt.alloc(), 2),
+        |(first, second, source)| the_place_is_free(&rt, first, second, source),
+    )
+}
+
+// Why no source of so many slots is made, if none is.
+fn fault_of(alloc: Global, slots: usize) -> Option<NewFault> {
+    let made: Result<Source, _> = SharedReady::new(alloc, slots);
+    made.err()
 }
 
 #[test]
 fn a_source_that_is_too_large(rt: HostRuntime) {
-    let made: Result<Source, _> = SharedReady::new(rt.alloc(), MAX_CAPACITY + 1);
-    assert!(rt; matches!(made, Err(NewFault::TooLarge)));
-    let made: Result<Source, _> = SharedReady::new(rt.alloc(), MAX_CAPACITY);
-    assert!(rt; matches!(made, Err(NewFault::Memory)));
+    let above = fault_of(rt.alloc(), MAX_CAPACITY + 1);
+    assert_same(&rt, above, Some(NewFault::TooLarge));
+    let largest = fault_of(rt.alloc(), MAX_CAPACITY);
+    assert_same(&rt, largest, Some(NewFault::Memory));
+}
+
+fn each_replaces_the_other(
+    rt: &impl Abort,
+    first: &Arc<Counts>,
+    second: &Arc<Counts>,
+    source: &mut Source,
+) -> Result<(), Fail> {
+    put_in(source, first, Asks::Never)?;
+    assert_same(rt, first.seen(), (0, 0));
+    put_in(source, second, Asks::Never)?;
+    assert_same(rt, (first.seen(), second.seen()), ((0, 1), (0, 0)));
+    wake(source, 0);
+    assert_same(rt, (first.seen(), second.seen()), ((0, 1), (1, 1)));
+    wake(source, 1);
+    assert_same(rt, (first.seen(), second.seen()), ((0, 1), (1, 1)));
+    put_in(source, first, Asks::Never)?;
+    assert_same(rt, first.seen(), (0, 1));
+    Ok(())
 }
 
 // The first is let go, and is not woken; a wake then finds the second.
 #[test]
 fn the_outer_waker_is_replaced(rt: HostRuntime) -> Result<(), Fail> {
-    let first = Counts::new(rt.alloc())?;
-    let second = Counts::new(rt.alloc())?;
-    let mut source: Source = SharedReady::new(rt.alloc(), 2)?;
-    put_in(&mut source, &first, Asks::Never)?;
-    assert_same(&rt, first.seen(), (0, 0));
-    put_in(&mut source, &second, Asks::Never)?;
-    assert_same(&rt, (first.seen(), second.seen()), ((0, 1), (0, 0)));
-    wake(&source, 0);
-    assert_same(&rt, (first.seen(), second.seen()), ((0, 1), (1, 1)));
-    wake(&source, 1);
-    assert_same(&rt, (first.seen(), second.seen()), ((0, 1), (1, 1)));
-    put_in(&mut source, &first, Asks::Never)?;
-    assert_same(&rt, first.seen(), (0, 1));
-    Ok(())
+    run_on(
+        two_counts(rt.alloc(), 2),
+        |(first, second, source)| each_replaces_the_other(&rt, first, second, source),
+    )
 }
 
 // Puts the second in while the first is kept, whose drop has two slots woken.
@@ -169,18 +217,27 @@ fn replaces<R: Threads>(
     Ok(put?)
 }
 
+fn the_drop_wakes_a_slot<R: Abort + Threads>(
+    rt: &R,
+    first: &Arc<Counts>,
+    second: &Arc<Counts>,
+    source: &mut Source,
+) -> Result<(), Fail> {
+    replaces(rt, source, first, second)?;
+    assert_same(rt, first.asked.load(SeqCst), 2);
+    assert_same(rt, (first.seen(), second.seen()), ((0, 1), (1, 1)));
+    wake(source, 0);
+    let two_one_zero = [Taken::Slot(2), Taken::Slot(1), Taken::Slot(0), Taken::Empty];
+    assert_same(rt, take_four(source), two_one_zero);
+    Ok(())
+}
+
 // The first is dropped once the place is free again and the second lies there: a slot that its drop has woken finds the
 // second.
 #[test]
 fn the_drop_of_an_outer_waker_wakes_a_slot(rt: HostRuntime) -> Result<(), Fail> {
-    let first = Counts::new(rt.alloc())?;
-    let second = Counts::new(rt.alloc())?;
-    let mut source: Source = SharedReady::new(rt.alloc(), 3)?;
-    replaces(&rt, &mut source, &first, &second)?;
-    assert_same(&rt, first.asked.load(SeqCst), 2);
-    assert_same(&rt, (first.seen(), second.seen()), ((0, 1), (1, 1)));
-    wake(&source, 0);
-    let two_one_zero = [Taken::Slot(2), Taken::Slot(1), Taken::Slot(0), Taken::Empty];
-    assert_same(&rt, take_four(&mut source), two_one_zero);
-    Ok(())
+    run_on(
+        two_counts(rt.alloc(), 3),
+        |(first, second, source)| the_drop_wakes_a_slot(&rt, first, second, source),
+    )
 }

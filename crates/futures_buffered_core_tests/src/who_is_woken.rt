@@ -1,4 +1,5 @@
 // Which task a wake finds, and where its waker lies, on one thread.
+use crate::run_on::run_on;
 use crate::same::assert_same;
 use crate::slots::{mark, wake};
 use futures::task::{Poll, Source, Waker};
@@ -6,9 +7,40 @@ use futures::test::MockTask;
 use futures_buffered_core::ready_core::{MAX_CAPACITY, NewFault, Taken, Woke};
 use futures_buffered_core::ready_shared::SharedReady;
 use futures_buffered_core::ready_source::{NewSource, ReadySource};
-use std::alloc::Global;
+use std::alloc::{AllocGlobal, Global};
 use std::process::Abort;
+use std::random::RandomSource;
 use std::test::Fail;
+
+// A task and a source of so many slots.
+fn one_source<R>(rt: &R, slots: usize) -> Result<(MockTask, SharedReady), Fail>
+where
+    R: RandomSource + AllocGlobal,
+{
+    let task = MockTask::new(rt)?;
+    let source = SharedReady::new(rt.alloc(), slots)?;
+    Ok((task, source))
+}
+
+// Two tasks and a source of so many slots.
+fn two_tasks<R>(rt: &R, slots: usize) -> Result<(MockTask, MockTask, SharedReady), Fail>
+where
+    R: RandomSource + AllocGlobal,
+{
+    let other = MockTask::new(rt)?;
+    let (task, source) = one_source(rt, slots)?;
+    Ok((task, other, source))
+}
+
+// A task, a source of one slot and one made beside it.
+fn two_sources<R>(rt: &R) -> Result<(MockTask, SharedReady, SharedReady), Fail>
+where
+    R: RandomSource + AllocGlobal,
+{
+    let (task, mut source) = one_source(rt, 1)?;
+    let beside = source.make_sibling(rt.alloc(), 1)?;
+    Ok((task, source, beside))
+}
 
 // Registers the task, and nothing else.
 fn register(task: &MockTask, source: &mut SharedReady) {
@@ -28,27 +60,36 @@ fn is_woken_by(task: &MockTask, source: &SharedReady, slot: usize) -> bool {
     task.is_woken()
 }
 
+fn wakes_after_a_name(
+    rt: &impl Abort,
+    task: &MockTask,
+    source: &mut SharedReady,
+) -> Result<(), Fail> {
+    assert_same(rt, mark(source, 0), Some(Woke::Fresh));
+    assert_same(rt, poll(task, source), (Taken::Slot(0), false));
+    assert_same(rt, is_woken_by(task, source, 1), false);
+    assert_same(rt, poll(task, source), (Taken::Slot(1), false));
+    assert_same(rt, is_woken_by(task, source, 0), false);
+    assert_same(rt, poll(task, source), (Taken::Slot(0), false));
+    assert_same(rt, poll(task, source), (Taken::Empty, false));
+    assert_same(rt, is_woken_by(task, source, 1), true);
+    // That wake took the waker out, so it is with the poller again.
+    assert_same(rt, poll(task, source), (Taken::Slot(1), false));
+    assert_same(rt, is_woken_by(task, source, 0), false);
+    assert_same(rt, poll(task, source), (Taken::Slot(0), false));
+    assert_same(rt, poll(task, source), (Taken::Empty, false));
+    assert_same(rt, is_woken_by(task, source, 0), true);
+    Ok(())
+}
+
 // A poll that ends with a name leaves the task's waker with the poller, where no wake finds it: that task polls again
 // by itself.
 #[test]
 fn a_wake_after_a_name_wakes_nobody(rt: HostRuntime) -> Result<(), Fail> {
-    let task = MockTask::new(&rt)?;
-    let mut source: SharedReady = SharedReady::new(rt.alloc(), 2)?;
-    assert_same(&rt, mark(&mut source, 0), Some(Woke::Fresh));
-    assert_same(&rt, poll(&task, &mut source), (Taken::Slot(0), false));
-    assert_same(&rt, is_woken_by(&task, &source, 1), false);
-    assert_same(&rt, poll(&task, &mut source), (Taken::Slot(1), false));
-    assert_same(&rt, is_woken_by(&task, &source, 0), false);
-    assert_same(&rt, poll(&task, &mut source), (Taken::Slot(0), false));
-    assert_same(&rt, poll(&task, &mut source), (Taken::Empty, false));
-    assert_same(&rt, is_woken_by(&task, &source, 1), true);
-    // That wake took the waker out, so it is with the poller again.
-    assert_same(&rt, poll(&task, &mut source), (Taken::Slot(1), false));
-    assert_same(&rt, is_woken_by(&task, &source, 0), false);
-    assert_same(&rt, poll(&task, &mut source), (Taken::Slot(0), false));
-    assert_same(&rt, poll(&task, &mut source), (Taken::Empty, false));
-    assert_same(&rt, is_woken_by(&task, &source, 0), true);
-    Ok(())
+    run_on(
+        one_source(&rt, 2),
+        |(task, source)| wakes_after_a_name(&rt, task, source),
+    )
 }
 
 // Whether each of the two is woken.
@@ -60,56 +101,111 @@ fn poll_nothing(task: &MockTask) {
     task.enter(|_cx| ());
 }
 
+fn second_is_given_a_name(
+    rt: &impl Abort,
+    one: &MockTask,
+    two: &MockTask,
+    source: &mut SharedReady,
+) -> Result<(), Fail> {
+    poll_nothing(two);
+    assert_same(rt, poll(one, source), (Taken::Empty, false));
+    assert_same(rt, mark(source, 0), Some(Woke::Fresh));
+    assert_same(rt, are_woken(one, two), (false, false));
+    assert_same(rt, poll(two, source), (Taken::Slot(0), false));
+    assert_same(rt, are_woken(one, two), (true, false));
+    poll_nothing(one);
+    wake(source, 1);
+    assert_same(rt, are_woken(one, two), (false, false));
+    assert_same(rt, poll(two, source), (Taken::Slot(1), false));
+    assert_same(rt, poll(two, source), (Taken::Empty, false));
+    wake(source, 0);
+    assert_same(rt, are_woken(one, two), (false, true));
+    Ok(())
+}
+
 // A second task that is given a name takes the place of the first, which is woken by that. Wakes find the second once
 // its poll finds nothing.
 #[test]
 fn a_second_task_that_is_given_a_name_takes_the_place(rt: HostRuntime) -> Result<(), Fail> {
-    let one = MockTask::new(&rt)?;
-    let two = MockTask::new(&rt)?;
-    let mut source: SharedReady = SharedReady::new(rt.alloc(), 2)?;
-    poll_nothing(&two);
-    assert_same(&rt, poll(&one, &mut source), (Taken::Empty, false));
-    assert_same(&rt, mark(&mut source, 0), Some(Woke::Fresh));
-    assert_same(&rt, are_woken(&one, &two), (false, false));
-    assert_same(&rt, poll(&two, &mut source), (Taken::Slot(0), false));
-    assert_same(&rt, are_woken(&one, &two), (true, false));
-    poll_nothing(&one);
-    wake(&source, 1);
-    assert_same(&rt, are_woken(&one, &two), (false, false));
-    assert_same(&rt, poll(&two, &mut source), (Taken::Slot(1), false));
-    assert_same(&rt, poll(&two, &mut source), (Taken::Empty, false));
-    wake(&source, 0);
-    assert_same(&rt, are_woken(&one, &two), (false, true));
+    run_on(
+        two_tasks(&rt, 2),
+        |(one, two, source)| second_is_given_a_name(&rt, one, two, source),
+    )
+}
+
+fn second_finds_nothing(
+    rt: &impl Abort,
+    one: &MockTask,
+    two: &MockTask,
+    source: &mut SharedReady,
+) -> Result<(), Fail> {
+    assert_same(rt, poll(one, source), (Taken::Empty, false));
+    assert_same(rt, poll(two, source), (Taken::Empty, false));
+    assert_same(rt, are_woken(one, two), (true, false));
+    poll_nothing(one);
+    wake(source, 0);
+    assert_same(rt, are_woken(one, two), (false, true));
     Ok(())
 }
 
 #[test]
 fn a_second_task_that_finds_nothing_takes_the_place(rt: HostRuntime) -> Result<(), Fail> {
-    let one = MockTask::new(&rt)?;
-    let two = MockTask::new(&rt)?;
-    let mut source: SharedReady = SharedReady::new(rt.alloc(), 2)?;
-    assert_same(&rt, poll(&one, &mut source), (Taken::Empty, false));
-    assert_same(&rt, poll(&two, &mut source), (Taken::Empty, false));
-    assert_same(&rt, are_woken(&one, &two), (true, false));
-    poll_nothing(&one);
-    wake(&source, 0);
-    assert_same(&rt, are_woken(&one, &two), (false, true));
+    run_on(
+        two_tasks(&rt, 2),
+        |(one, two, source)| second_finds_nothing(&rt, one, two, source),
+    )
+}
+
+fn second_finds_the_poller(
+    rt: &impl Abort,
+    one: &MockTask,
+    two: &MockTask,
+    source: &mut SharedReady,
+) -> Result<(), Fail> {
+    assert_same(rt, mark(source, 0), Some(Woke::Fresh));
+    assert_same(rt, poll(one, source), (Taken::Slot(0), false));
+    assert_same(rt, poll(two, source), (Taken::Empty, false));
+    assert_same(rt, are_woken(one, two), (true, false));
+    poll_nothing(one);
+    wake(source, 0);
+    assert_same(rt, are_woken(one, two), (false, true));
     Ok(())
 }
 
 // A second task finds the first's waker with the poller, lets it go there, and is found in its stead.
 #[test]
 fn a_second_task_takes_the_place_with_the_poller(rt: HostRuntime) -> Result<(), Fail> {
-    let one = MockTask::new(&rt)?;
-    let two = MockTask::new(&rt)?;
-    let mut source: SharedReady = SharedReady::new(rt.alloc(), 2)?;
-    assert_same(&rt, mark(&mut source, 0), Some(Woke::Fresh));
-    assert_same(&rt, poll(&one, &mut source), (Taken::Slot(0), false));
-    assert_same(&rt, poll(&two, &mut source), (Taken::Empty, false));
-    assert_same(&rt, are_woken(&one, &two), (true, false));
-    poll_nothing(&one);
-    wake(&source, 0);
-    assert_same(&rt, are_woken(&one, &two), (false, true));
+    run_on(
+        two_tasks(&rt, 2),
+        |(one, two, source)| second_finds_the_poller(&rt, one, two, source),
+    )
+}
+
+fn beside_finds(
+    rt: &impl Abort,
+    task: &MockTask,
+    first: &mut SharedReady,
+    second: &mut SharedReady,
+) {
+    assert_same(rt, task.is_woken(), false);
+    assert_same(rt, is_woken_by(task, second, 1), true);
+    assert_same(
+        rt,
+        (second.take(), second.take()),
+        (Taken::Slot(1), Taken::Empty),
+    );
+    assert_same(rt, first.take(), Taken::Empty);
+}
+
+fn makes_beside<R: Abort + AllocGlobal>(
+    rt: &R,
+    task: &MockTask,
+    first: &mut SharedReady,
+) -> Result<(), Fail> {
+    assert_same(rt, mark(first, 0), Some(Woke::Fresh));
+    assert_same(rt, poll(task, first), (Taken::Slot(0), false));
+    let mut second = first.make_sibling(rt.alloc(), 2)?;
+    beside_finds(rt, task, first, &mut second);
     Ok(())
 }
 
@@ -117,20 +213,10 @@ fn a_second_task_takes_the_place_with_the_poller(rt: HostRuntime) -> Result<(), 
 // making wakes nobody.
 #[test]
 fn a_source_made_beside_finds_the_task_that_waits(rt: HostRuntime) -> Result<(), Fail> {
-    let task = MockTask::new(&rt)?;
-    let mut first: SharedReady = SharedReady::new(rt.alloc(), 1)?;
-    assert_same(&rt, mark(&mut first, 0), Some(Woke::Fresh));
-    assert_same(&rt, poll(&task, &mut first), (Taken::Slot(0), false));
-    let mut second = first.make_sibling(rt.alloc(), 2)?;
-    assert_same(&rt, task.is_woken(), false);
-    assert_same(&rt, is_woken_by(&task, &second, 1), true);
-    assert_same(
-        &rt,
-        (second.take(), second.take()),
-        (Taken::Slot(1), Taken::Empty),
-    );
-    assert_same(&rt, first.take(), Taken::Empty);
-    Ok(())
+    run_on(
+        one_source(&rt, 1),
+        |(task, first)| makes_beside(&rt, task, first),
+    )
 }
 
 // Registers at one source and asks it, and then the other, which have nothing. A wake of either then finds the task,
@@ -161,34 +247,68 @@ fn try_pair(
     );
 }
 
+// The same of each two of three sources.
+fn try_three<R: Abort + AllocGlobal>(
+    rt: &R,
+    task: &MockTask,
+    first: &mut SharedReady,
+    second: &mut SharedReady,
+) -> Result<(), Fail> {
+    let mut third = second.make_sibling(rt.alloc(), 1)?;
+    try_pair(rt, task, first, second);
+    try_pair(rt, task, second, first);
+    try_pair(rt, task, first, &mut third);
+    try_pair(rt, task, &mut third, second);
+    Ok(())
+}
+
 // One registration covers all sources that stand beside one another.
 #[test]
 fn sources_beside_one_another_wake_one_task(rt: HostRuntime) -> Result<(), Fail> {
-    let task = MockTask::new(&rt)?;
-    let mut first: SharedReady = SharedReady::new(rt.alloc(), 1)?;
-    let mut second = first.make_sibling(rt.alloc(), 1)?;
-    let mut third = second.make_sibling(rt.alloc(), 1)?;
-    try_pair(&rt, &task, &mut first, &mut second);
-    try_pair(&rt, &task, &mut second, &mut first);
-    try_pair(&rt, &task, &mut first, &mut third);
-    try_pair(&rt, &task, &mut third, &mut second);
+    run_on(
+        two_sources(&rt),
+        |(task, first, second)| try_three(&rt, task, first, second),
+    )
+}
+
+fn wakes_beside(
+    rt: &impl Abort,
+    task: &MockTask,
+    first: &mut SharedReady,
+    second: &mut SharedReady,
+) -> Result<(), Fail> {
+    assert_same(rt, mark(first, 0), Some(Woke::Fresh));
+    assert_same(rt, poll(task, first), (Taken::Slot(0), false));
+    assert_same(rt, is_woken_by(task, second, 0), false);
+    assert_same(rt, poll(task, first), (Taken::Empty, false));
+    assert_same(rt, second.take(), Taken::Slot(0));
+    assert_same(rt, is_woken_by(task, second, 0), true);
+    assert_same(rt, poll(task, second), (Taken::Slot(0), false));
+    assert_same(rt, is_woken_by(task, first, 0), false);
     Ok(())
 }
 
 // Of sources beside one another too, wakes find the task only once its poll found nothing.
 #[test]
 fn a_wake_beside_finds_the_task_once_its_poll_found_nothing(rt: HostRuntime) -> Result<(), Fail> {
-    let task = MockTask::new(&rt)?;
-    let mut first: SharedReady = SharedReady::new(rt.alloc(), 1)?;
-    let mut second = first.make_sibling(rt.alloc(), 1)?;
-    assert_same(&rt, mark(&mut first, 0), Some(Woke::Fresh));
-    assert_same(&rt, poll(&task, &mut first), (Taken::Slot(0), false));
-    assert_same(&rt, is_woken_by(&task, &second, 0), false);
-    assert_same(&rt, poll(&task, &mut first), (Taken::Empty, false));
-    assert_same(&rt, second.take(), Taken::Slot(0));
-    assert_same(&rt, is_woken_by(&task, &second, 0), true);
-    assert_same(&rt, poll(&task, &mut second), (Taken::Slot(0), false));
-    assert_same(&rt, is_woken_by(&task, &first, 0), false);
+    run_on(
+        two_sources(&rt),
+        |(task, first, second)| wakes_beside(&rt, task, first, second),
+    )
+}
+
+fn earlier_comes_later(
+    rt: &impl Abort,
+    task: &MockTask,
+    first: &mut SharedReady,
+    second: &mut SharedReady,
+) -> Result<(), Fail> {
+    assert_same(rt, mark(second, 0), Some(Woke::Fresh));
+    assert_same(rt, poll(task, second), (Taken::Slot(0), false));
+    assert_same(rt, poll(task, first), (Taken::Empty, false));
+    assert_same(rt, (second.take(), task.is_woken()), (Taken::Empty, true));
+    assert_same(rt, poll(task, first), (Taken::Empty, false));
+    assert_same(rt, (second.take(), task.is_woken()), (Taken::Empty, false));
     Ok(())
 }
 
@@ -196,16 +316,10 @@ fn a_wake_beside_finds_the_task_once_its_poll_found_nothing(rt: HostRuntime) -> 
 // replaces wakes the task, once.
 #[test]
 fn an_earlier_waker_that_comes_later_wakes_the_task(rt: HostRuntime) -> Result<(), Fail> {
-    let task = MockTask::new(&rt)?;
-    let mut first: SharedReady = SharedReady::new(rt.alloc(), 1)?;
-    let mut second = first.make_sibling(rt.alloc(), 1)?;
-    assert_same(&rt, mark(&mut second, 0), Some(Woke::Fresh));
-    assert_same(&rt, poll(&task, &mut second), (Taken::Slot(0), false));
-    assert_same(&rt, poll(&task, &mut first), (Taken::Empty, false));
-    assert_same(&rt, (second.take(), task.is_woken()), (Taken::Empty, true));
-    assert_same(&rt, poll(&task, &mut first), (Taken::Empty, false));
-    assert_same(&rt, (second.take(), task.is_woken()), (Taken::Empty, false));
-    Ok(())
+    run_on(
+        two_sources(&rt),
+        |(task, first, second)| earlier_comes_later(&rt, task, first, second),
+    )
 }
 
 // A wake of this slot wakes the task that waits, and marks the slot.
@@ -263,19 +377,28 @@ fn a_wake_of_each_slot_of_nine_sizes_wakes_the_task(rt: HostRuntime) -> Result<(
     Ok(())
 }
 
+fn sibling_is_refused<R: Abort + AllocGlobal>(
+    rt: &R,
+    task: &MockTask,
+    source: &mut SharedReady,
+) -> Result<(), Fail> {
+    assert_same(rt, mark(source, 0), Some(Woke::Fresh));
+    assert_same(rt, poll(task, source), (Taken::Slot(0), false));
+    let large = source.make_sibling(rt.alloc(), MAX_CAPACITY + 1);
+    assert_same(rt, large.err(), Some(NewFault::TooLarge));
+    let largest = source.make_sibling(rt.alloc(), MAX_CAPACITY);
+    assert_same(rt, largest.err(), Some(NewFault::Memory));
+    assert_same(rt, task.is_woken(), false);
+    Ok(())
+}
+
 // The task's waker is with the poller when a sibling is refused, as too large and for want of memory.
 #[test]
 fn a_refused_sibling_does_not_wake_the_task(rt: HostRuntime) -> Result<(), Fail> {
-    let task = MockTask::new(&rt)?;
-    let mut source: SharedReady = SharedReady::new(rt.alloc(), 1)?;
-    assert_same(&rt, mark(&mut source, 0), Some(Woke::Fresh));
-    assert_same(&rt, poll(&task, &mut source), (Taken::Slot(0), false));
-    let large = source.make_sibling(rt.alloc(), MAX_CAPACITY + 1);
-    assert_same(&rt, large.err(), Some(NewFault::TooLarge));
-    let largest = source.make_sibling(rt.alloc(), MAX_CAPACITY);
-    assert_same(&rt, largest.err(), Some(NewFault::Memory));
-    assert_same(&rt, task.is_woken(), false);
-    Ok(())
+    run_on(
+        one_source(&rt, 1),
+        |(task, source)| sibling_is_refused(&rt, task, source),
+    )
 }
 
 // A waker of this task.
@@ -286,20 +409,29 @@ fn waker_of(task: &MockTask) -> Option<Waker> {
     kept
 }
 
+fn waits_after_a_hand_in(
+    rt: &impl Abort,
+    one: &MockTask,
+    two: &MockTask,
+    source: &mut SharedReady,
+) -> Result<(), Fail> {
+    register(one, source);
+    source.set_outer(waker_of(two).ok_or("no waker")?);
+    assert_same(rt, are_woken(one, two), (false, false));
+    assert_same(rt, source.take(), Taken::Empty);
+    assert_same(rt, are_woken(one, two), (false, true));
+    poll_nothing(two);
+    wake(source, 0);
+    assert_same(rt, are_woken(one, two), (true, false));
+    Ok(())
+}
+
 // The waker of a task that is registered lies where wakes find it before its poll finds nothing, in place of one that
 // was handed in.
 #[test]
 fn a_task_that_waits_takes_the_place_of_what_was_handed_in(rt: HostRuntime) -> Result<(), Fail> {
-    let one = MockTask::new(&rt)?;
-    let two = MockTask::new(&rt)?;
-    let mut source: SharedReady = SharedReady::new(rt.alloc(), 1)?;
-    register(&one, &mut source);
-    source.set_outer(waker_of(&two).ok_or("no waker")?);
-    assert_same(&rt, are_woken(&one, &two), (false, false));
-    assert_same(&rt, source.take(), Taken::Empty);
-    assert_same(&rt, are_woken(&one, &two), (false, true));
-    poll_nothing(&two);
-    wake(&source, 0);
-    assert_same(&rt, are_woken(&one, &two), (true, false));
-    Ok(())
+    run_on(
+        two_tasks(&rt, 1),
+        |(one, two, source)| waits_after_a_hand_in(&rt, one, two, source),
+    )
 }

@@ -3,6 +3,7 @@
 #![tactic(auto)]
 
 pub mod attempt;
+pub mod begin;
 pub mod called;
 pub mod cells;
 pub mod counted_source;
@@ -14,6 +15,7 @@ pub mod keep;
 pub mod merge_answers;
 pub mod polling;
 pub mod receiver;
+pub mod run_on;
 pub mod stepped;
 pub mod sums;
 pub mod timed;
