@@ -18,11 +18,8 @@ use futures::Future;
 use futures_buffered_core::ready_core::{MAX_CAPACITY, NewFault};
 use std::alloc::Global;
 
-/// What an iterator gives, at most as many as there may be slots.
-///
-/// Takes time and memory in proportion to their number. `TooLarge` if more came than slots can be, `Memory` if an
-/// allocation fails; then what came is dropped.
-pub fn draw<F: Drop, I: IntoIterator<Item = F>>(alloc: Global, iter: I) -> Result<Vec<F>, NewFault>
+// What an iterator gives, at most as many as there may be slots.
+fn draw<F: Drop, I: IntoIterator<Item = F>>(alloc: Global, iter: I) -> Result<Vec<F>, NewFault>
     requires { IsFiniteSource (items_of I.IntoIterator I.IntoIter.Iterator iter) }
     ensures drawn { IfOk result (λ drawn.
         Draws (items_of I.IntoIterator I.IntoIter.Iterator iter) drawn.items) }

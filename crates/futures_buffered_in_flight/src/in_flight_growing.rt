@@ -30,10 +30,8 @@ impl<F: Drop, T: Drop> FuturesUnordered<F, T> {
         self.slots.grow_by_one()
     }
 
-    /// Makes a slot if none is free, and returns whether there is room for a push then.
-    ///
-    /// A slot is made as `push_tagged` makes one.
-    pub fn make_room(&mut self) -> bool
+    // Makes a slot if none is free. Whether there is room then.
+    pub(crate) fn make_room(&mut self) -> bool
         ensures room { IsTrue result → MakesRoom self.old self.new }
         ensures has { IsTrue result → HasNoRoom self.new → ⊥ }
         ensures none { result ≡ false → HasNoRoom self.old × (self.new ≡ self.old) }

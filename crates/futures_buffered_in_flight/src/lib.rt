@@ -17,7 +17,7 @@
 #![tactic(auto)]
 
 mod bells;
-pub mod from_iter;
+mod from_iter;
 pub mod in_flight;
 pub mod in_flight_growing;
 pub mod in_flight_ordered;
