@@ -7,8 +7,8 @@
 #![tactic(auto)]
 
 use calls_lines::lines::run_lines;
-use calls_world::report::Report;
 use calls_lines::session::{Session, new_session};
+use calls_world::report::Report;
 use std::alloc::{AllocError, AllocGlobal, Global};
 use std::env::{Args, Env};
 use std::fs::Files;

@@ -4,12 +4,12 @@ ghost use Rattle.calls.specs.declared.values.TryUnitFuture.{TryUnitFuture};
 ghost use Rattle.calls.specs.declared.values.UnitFuture.{UnitFuture};
 
 use crate::answer::{Answer, Given, Reply, of_debug, of_end, of_hint, of_next, of_try_end};
-use calls_world::command::Query;
 use crate::lines::run_made;
 use crate::session::{Options, Session};
+use crate::subject::{Call, Subject};
+use calls_world::command::Query;
 use calls_world::shared_world::SharedWorld;
 use calls_world::source::{FutureSource, TryFutureSource};
-use crate::subject::{Call, Subject};
 use calls_world::values::{NumberFuture, TryFuture, TryUnitFuture, UnitFuture};
 use futures::stream::TryStreamExt;
 use futures::task::Context;

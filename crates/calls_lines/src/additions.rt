@@ -1,11 +1,11 @@
 //! What an object is given and asked besides polls. Where memory is refused to a call, the object must be as before and
 //! the values must be back; then the call is made once more.
 use crate::answer::{Reply, append_reply};
+use crate::session::Session;
+use crate::subject::{Call, Subject};
 use calls_world::command::{End, Query};
 use calls_world::numbers::{number, push_numbers};
-use crate::session::Session;
 use calls_world::shared_world::SharedWorld;
-use crate::subject::{Call, Subject};
 use calls_world::text::Text;
 
 /// What an object is asked before and behind a call that may be refused.

@@ -1,10 +1,10 @@
 //! A list of events on a ready core, and one of steps on a machine, which is made for them.
 use crate::answer::{Reply, append_reply, fault_word};
+use crate::session::Session;
 use calls_world::line::split_call;
 use calls_world::memory;
 use calls_world::numbers::number;
 use calls_world::report::Report;
-use crate::session::Session;
 use calls_world::text::Text;
 use futures_buffered_core::ready_core::{self, Event, NewFault, ReadyCore, RunFault, Taken, Woke};
 use futures_buffered_table::ready_table::{self, Step, StepFault, StepReply};

@@ -1,5 +1,7 @@
 //! Sets and queues of the kit's futures.
-use crate::answer::{Answer, Given, Reply, of_debug, of_full, of_growing, of_growth, of_hint, of_next};
+use crate::answer::{
+    Answer, Given, Reply, of_debug, of_full, of_growing, of_growth, of_hint, of_next,
+};
 use crate::lines::run_made;
 use crate::session::Session;
 use crate::subject::{Call, Subject};
@@ -11,8 +13,8 @@ use calls_world::world::make_place;
 use futures::Stream;
 use futures::task::{Context, Poll};
 use futures_buffered::in_flight::{
-    Came, FuturesInFlight, FuturesOrdered, FuturesOrderedBounded, FuturesUnordered, FuturesUnorderedBounded,
-    IterExt, Kept, Key,
+    Came, FuturesInFlight, FuturesOrdered, FuturesOrderedBounded, FuturesUnordered,
+    FuturesUnorderedBounded, IterExt, Kept, Key,
 };
 use futures_buffered_core::ready_core::NewFault;
 use futures_buffered_sets::{FusedStream, SizeHint};

@@ -109,7 +109,10 @@ pub fn run_try_buffer(
     let Some(n) = width(numbers) else {
         return Ok(0);
     };
-    let source: TryFutureSource<KitTryFuture> = TryFutureSource::new(&session.world, session.options.hint)?;
+    let source: TryFutureSource<KitTryFuture> = TryFutureSource::new(
+        &session.world,
+        session.options.hint,
+    )?;
     let made = source.try_buffered_unordered(session.options.alloc, n);
     run_made_buffer(session, made, lines)
 }
@@ -122,7 +125,10 @@ pub fn run_try_ordered_buffer(
     let Some(n) = width(numbers) else {
         return Ok(0);
     };
-    let source: TryFutureSource<KitTryFuture> = TryFutureSource::new(&session.world, session.options.hint)?;
+    let source: TryFutureSource<KitTryFuture> = TryFutureSource::new(
+        &session.world,
+        session.options.hint,
+    )?;
     let made = source.try_buffered_ordered(session.options.alloc, n);
     run_made_buffer(session, made, lines)
 }

@@ -1,10 +1,10 @@
 //! Joins.
 use crate::answer::{Answer, Reply, of_debug, of_outputs, of_results};
-use calls_world::command::Query;
 use crate::lines::run_made;
 use crate::session::{Options, Session};
-use calls_world::shared_world::SharedWorld;
 use crate::subject::{Call, Subject};
+use calls_world::command::Query;
+use calls_world::shared_world::SharedWorld;
 use calls_world::values::{NumberFuture, Output, TryFuture, new_values};
 use futures::Future;
 use futures::task::Context;

@@ -3,15 +3,13 @@ use crate::adaptors::{
     run_buffer, run_for_each, run_ordered_buffer, run_try_buffer, run_try_for_each,
     run_try_ordered_buffer,
 };
-use calls_world::command::Kind;
-use crate::in_flight;
-use crate::in_flight_buffers;
-use crate::in_flight_joins;
 use crate::joins::{run_join, run_try_join};
 use crate::merges::{run_bounded_merge, run_growing_merge};
 use crate::queues::{run_growing_queue, run_growing_queue_of, run_queue, run_queue_of};
 use crate::session::Session;
 use crate::sets::{run_growing_set, run_growing_set_of, run_set, run_set_of};
+use crate::{in_flight, in_flight_buffers, in_flight_joins};
+use calls_world::command::Kind;
 use futures_buffered_core::ready_core::NewFault;
 
 /// Begins an object with the numbers of the first line, and makes the calls of its lines. How many lines that took, 0
@@ -57,8 +55,12 @@ pub fn run_kind(
             in_flight_joins::run_bounded_merge_of(session, numbers, lines)
         }
         Kind::InFlightBufferedUnordered => in_flight_buffers::run_buffer(session, numbers, lines),
-        Kind::InFlightBufferedOrdered => in_flight_buffers::run_ordered_buffer(session, numbers, lines),
-        Kind::InFlightTryBufferedUnordered => in_flight_buffers::run_try_buffer(session, numbers, lines),
+        Kind::InFlightBufferedOrdered => in_flight_buffers::run_ordered_buffer(
+            session, numbers, lines,
+        ),
+        Kind::InFlightTryBufferedUnordered => in_flight_buffers::run_try_buffer(
+            session, numbers, lines,
+        ),
         Kind::InFlightTryBufferedOrdered => {
             in_flight_buffers::run_try_ordered_buffer(session, numbers, lines)
         }

@@ -1,11 +1,11 @@
 //! Goes through the lines of a file: those of an object, from its begin to its end, and those between.
 use crate::answer::fault_word;
-use calls_world::command::{Command, Kind, command_of};
 use crate::kinds::run_kind;
-use calls_world::line::{Line, begun_by, ends_object, parse, split_call};
-use calls_world::numbers::push_numbers;
 use crate::session::Session;
 use crate::subject::{Nothing, Subject};
+use calls_world::command::{Command, Kind, command_of};
+use calls_world::line::{Line, begun_by, ends_object, parse, split_call};
+use calls_world::numbers::push_numbers;
 use futures_buffered_core::ready_core::NewFault;
 
 // How many bytes it may ask for that a line says, besides those of the next object.

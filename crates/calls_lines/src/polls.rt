@@ -1,8 +1,8 @@
 //! The polls of a session.
 use crate::answer::{Answer, append_answer};
-use calls_world::memory;
 use crate::session::{Session, task_of};
 use crate::subject::Subject;
+use calls_world::memory;
 use futures::test::MockTask;
 
 /// More polls than any line needs.

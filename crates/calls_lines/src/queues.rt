@@ -1,10 +1,10 @@
 //! Ordered queues of futures.
 use crate::answer::{Answer, Given, Reply, of_debug, of_growth, of_hint, of_listed, of_next};
-use calls_world::command::{End, Query};
 use crate::lines::run_made;
 use crate::session::{Options, Session};
-use calls_world::shared_world::SharedWorld;
 use crate::subject::{Call, Subject};
+use calls_world::command::{End, Query};
+use calls_world::shared_world::SharedWorld;
 use calls_world::values::{NumberFuture, Scripted, new_value, new_values};
 use futures::Stream;
 use futures::task::Context;

@@ -1,7 +1,7 @@
 //! What a line says about values, tasks and the next object, and the wakes and sends that it makes.
+use crate::session::{Session, task_of};
 use calls_world::command::{Command, ids_of};
 use calls_world::numbers::number;
-use crate::session::{Session, task_of};
 use calls_world::source::FixedHint;
 use calls_world::world::SOURCE;
 
