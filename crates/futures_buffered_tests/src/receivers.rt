@@ -6,11 +6,15 @@ use futures::test::MockTask;
 use futures_buffered::{
     BufferedOrdered, BufferedStreamExt, BufferedTryStreamExt, SharedReady, SizeHint,
 };
+use std::alloc::AllocGlobal;
+use std::process::Abort;
+use std::random::RandomSource;
 use std::sync::Wait;
 use std::test::Fail;
 use test_support::cells::{Cells, new_cells, sent};
 use test_support::polling::poll_next;
-use test_support::receiver::{Receiver, one_shot};
+use test_support::receiver::{Receiver, Sender, one_shot};
+use test_support::run_on::run_on;
 
 type Buffered<R> = BufferedOrdered<ListStream<Receiver<u64, R>>, SharedReady>;
 
@@ -21,25 +25,40 @@ fn left<R: Wait + Drop>(buffer: &Buffered<R>) -> Option<usize> {
     buffer.stream().map(|stream| stream.size_hint().0)
 }
 
+type Held<R> = (MockTask, Vec<Sender<u64, R>>, Buffered<R>);
+
+// A task, and a buffer of two slots over three receivers, with their senders. Those behind the first have been sent to.
+fn two_of_three<R>(rt: &R) -> Result<Held<R>, Fail>
+where
+    R: Abort + Wait + RandomSource + AllocGlobal + Clone + Drop,
+{
+    let Cells { senders, receivers } = new_cells(rt, rt.alloc(), 3)?;
+    let mut receivers = receivers;
+    receivers.reverse();
+    assert_same(rt, sent(&senders, 1, 2) && sent(&senders, 2, 3), true);
+    let buffer = ListStream::new(receivers).buffered_ordered(rt.alloc(), 2)?;
+    Ok((MockTask::new(rt)?, senders, buffer))
+}
+
+fn draws_two<R: Abort + Wait + Drop>(rt: &R, (task, senders, buffer): &mut Held<R>) {
+    assert_same(rt, poll_next(task, buffer), Poll::Pending);
+    assert_same(rt, left(buffer), Some(1));
+    assert_same(rt, poll_next(task, buffer), Poll::Pending);
+    assert_same(rt, left(buffer), Some(1));
+    assert_same(rt, sent(senders, 0, 1), true);
+    assert_same(rt, poll_next(task, buffer), Poll::Ready(Some(1)));
+    assert_same(rt, poll_next(task, buffer), Poll::Ready(Some(2)));
+    assert_same(rt, poll_next(task, buffer), Poll::Ready(Some(3)));
+    assert_same(rt, poll_next(task, buffer), Poll::Ready(None));
+}
+
 // Those behind the first were sent to before.
 #[test]
 fn the_third_is_not_drawn_while_two_are_held(rt: HostRuntime) -> Result<(), Fail> {
-    let task = MockTask::new(&rt)?;
-    let Cells { senders, receivers } = new_cells(&rt, rt.alloc(), 3)?;
-    let mut receivers = receivers;
-    receivers.reverse();
-    assert_same(&rt, sent(&senders, 1, 2) && sent(&senders, 2, 3), true);
-    let mut buffer = ListStream::new(receivers).buffered_ordered(rt.alloc(), 2)?;
-    assert_same(&rt, poll_next(&task, &mut buffer), Poll::Pending);
-    assert_same(&rt, left(&buffer), Some(1));
-    assert_same(&rt, poll_next(&task, &mut buffer), Poll::Pending);
-    assert_same(&rt, left(&buffer), Some(1));
-    assert_same(&rt, sent(&senders, 0, 1), true);
-    assert_same(&rt, poll_next(&task, &mut buffer), Poll::Ready(Some(1)));
-    assert_same(&rt, poll_next(&task, &mut buffer), Poll::Ready(Some(2)));
-    assert_same(&rt, poll_next(&task, &mut buffer), Poll::Ready(Some(3)));
-    assert_same(&rt, poll_next(&task, &mut buffer), Poll::Ready(None));
-    Ok(())
+    run_on(two_of_three(&rt), |held| {
+        draws_two(&rt, held);
+        Ok(())
+    })
 }
 
 // The error of the stream comes at once. Two is sent to first, and the error that one is sent comes before its value.
