@@ -33,22 +33,27 @@ fn fresh_marks<S: ReadySource>(set: &mut FuturesUnorderedBounded<Timed, S>) -> u
 }
 
 // No slot is marked before it is filled. Each takes a future, and gives its output.
-fn fills<R, S>(rt: &R, mut set: FuturesUnorderedBounded<Timed, S>) -> Result<(), Fail>
+fn fill<R: Abort, S: ReadySource>(
+    rt: &R,
+    task: &MockTask,
+    set: &mut FuturesUnorderedBounded<Timed, S>,
+) {
+    assert_same(rt, set.capacity(), SLOTS);
+    assert_same(rt, (fresh_marks(set), fresh_marks(set)), (SLOTS, 0));
+    assert_same(rt, add_each(set, 70_000), 70_000);
+    assert_same(rt, set.try_push(ready(0)), Err(ready(0)));
+    assert_same(rt, set.len(), SLOTS);
+    assert_same(rt, is_emptied(task, set, 70_000), true);
+}
+
+fn fills<R, S>(rt: &R, set: FuturesUnorderedBounded<Timed, S>) -> Result<(), Fail>
 where
     R: Abort + RandomSource + AllocGlobal,
     S: ReadySource,
 {
+    let mut set = set;
     let task = MockTask::new(rt)?;
-    assert_same(rt, set.capacity(), SLOTS);
-    assert_same(
-        rt,
-        (fresh_marks(&mut set), fresh_marks(&mut set)),
-        (SLOTS, 0),
-    );
-    assert_same(rt, add_each(&mut set, 70_000), 70_000);
-    assert_same(rt, set.try_push(ready(0)), Err(ready(0)));
-    assert_same(rt, set.len(), SLOTS);
-    assert_same(rt, is_emptied(&task, &mut set, 70_000), true);
+    fill(rt, &task, &mut set);
     Ok(())
 }
 
@@ -113,21 +118,23 @@ fn a_new_set_has_no_mark(rt: HostRuntime) -> Result<(), Fail> {
 }
 
 // The first group is filled, and one more is pushed.
-fn grows<R>(rt: &R, mut set: Growing) -> Result<(), Fail>
-where
-    R: Abort + RandomSource + AllocGlobal,
-{
-    let task = MockTask::new(rt)?;
-    assert_same(
-        rt,
-        (set.capacity(), add_each(&mut set, 70_000)),
-        (SLOTS, 70_000),
-    );
+fn grow<R: Abort>(rt: &R, task: &MockTask, set: &mut Growing) {
+    let added = (set.capacity(), add_each(set, 70_000));
+    assert_same(rt, added, (SLOTS, 70_000));
     assert_same(rt, set.capacity(), SLOTS);
     assert_same(rt, set.push(ready(70_000)), Ok(()));
     assert_same(rt, set.capacity(), 3 * SLOTS);
-    assert_same(rt, is_emptied(&task, &mut set, 70_001), true);
+    assert_same(rt, is_emptied(task, set, 70_001), true);
     assert_same(rt, set.capacity(), 2 * SLOTS);
+}
+
+fn grows<R>(rt: &R, set: Growing) -> Result<(), Fail>
+where
+    R: Abort + RandomSource + AllocGlobal,
+{
+    let mut set = set;
+    let task = MockTask::new(rt)?;
+    grow(rt, &task, &mut set);
     Ok(())
 }
 

@@ -7,12 +7,13 @@ use futures::test::MockTask;
 use futures_buffered_core::ready_shared::{SharedReady, SharedWaker};
 use futures_buffered_core::ready_source::SlotWaker;
 use futures_buffered_sets::futures_unordered_bounded::FuturesUnorderedBounded;
-use std::alloc::{AllocError, AllocGlobal};
+use std::alloc::{AllocError, AllocGlobal, Global};
 use std::process::Abort;
 use std::random::RandomSource;
 use std::sync::atomic::Ordering::SeqCst;
 use std::sync::{Arc, Wait};
 use std::test::Fail;
+use test_support::begin::task_and_set;
 use test_support::counter::{Counter, new_counter};
 use test_support::keep::keep;
 use test_support::polling::poll_next;
@@ -38,18 +39,26 @@ struct Held<R: Wait + Clone + Drop> {
 // slot of the waker that was kept last.
 type Seen = (bool, bool, u64, Option<usize>);
 
+// Where polls are counted, and where a waker is kept.
+fn places(alloc: Global) -> Result<(Counter, WakerPlace), AllocError> {
+    let polls = new_counter(alloc)?;
+    Ok((polls, empty_place(alloc)?))
+}
+
 fn new_held<R>(rt: &R) -> Result<Held<R>, Fail>
 where
     R: Wait + RandomSource + AllocGlobal + Clone + Drop,
 {
-    let alloc = rt.alloc();
+    let own = rt.clone()?;
+    let (polls, place) = places(rt.alloc())?;
+    let (task, set) = task_and_set(rt, SLOTS)?;
     Ok(Held {
-        rt: rt.clone()?,
-        task: MockTask::new(rt)?,
-        set: FuturesUnorderedBounded::new(alloc, SLOTS)?,
-        polls: new_counter(alloc)?,
-        place: empty_place(alloc)?,
-        wakers: Vec::new(alloc),
+        rt: own,
+        task,
+        set,
+        polls,
+        place,
+        wakers: Vec::new(rt.alloc()),
     })
 }
 

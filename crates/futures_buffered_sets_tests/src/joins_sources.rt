@@ -92,27 +92,51 @@ fn a_join_over_a_core_source(rt: HostRuntime) -> Result<(), Fail> {
     Ok(())
 }
 
+fn task_and_log<R>(rt: &R) -> Result<(MockTask, SourceLog), Fail>
+where
+    R: RandomSource + AllocGlobal,
+{
+    let task = MockTask::new(rt)?;
+    Ok((task, SourceLog::new(rt.alloc())?))
+}
+
+fn join_twice(
+    alloc: Global,
+    task: &MockTask,
+    log: &SourceLog,
+    futures: Vec<Timed>,
+) -> Result<(Seen, Seen), Fail> {
+    let mut join = JoinAll::over(log, alloc, futures)?;
+    let first = polled(task, log, &mut join);
+    Ok((first, polled(task, log, &mut join)))
+}
+
 // Two polls of a join of these futures, over a source of its own.
 fn polled_twice<R>(rt: &R, futures: Vec<Timed>) -> Result<(Seen, Seen), Fail>
 where
     R: RandomSource + AllocGlobal,
 {
-    let task = MockTask::new(rt)?;
-    let log = SourceLog::new(rt.alloc())?;
-    let mut join = JoinAll::over(&log, rt.alloc(), futures)?;
-    let first = polled(&task, &log, &mut join);
-    Ok((first, polled(&task, &log, &mut join)))
+    let (task, log) = task_and_log(rt)?;
+    join_twice(rt.alloc(), &task, &log, futures)
+}
+
+fn try_join_twice(
+    alloc: Global,
+    task: &MockTask,
+    log: &SourceLog,
+    futures: Vec<Attempt>,
+) -> Result<(Seen, Seen), Fail> {
+    let mut join = TryJoinAll::over(log, alloc, futures)?;
+    let first = try_polled(task, log, &mut join);
+    Ok((first, try_polled(task, log, &mut join)))
 }
 
 fn try_polled_twice<R>(rt: &R, futures: Vec<Attempt>) -> Result<(Seen, Seen), Fail>
 where
     R: RandomSource + AllocGlobal,
 {
-    let task = MockTask::new(rt)?;
-    let log = SourceLog::new(rt.alloc())?;
-    let mut join = TryJoinAll::over(&log, rt.alloc(), futures)?;
-    let first = try_polled(&task, &log, &mut join);
-    Ok((first, try_polled(&task, &log, &mut join)))
+    let (task, log) = task_and_log(rt)?;
+    try_join_twice(rt.alloc(), &task, &log, futures)
 }
 
 // What two polls see of a join that the first of them ends.

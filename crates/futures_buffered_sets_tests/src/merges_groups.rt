@@ -5,8 +5,9 @@ use futures::test::MockTask;
 use futures_buffered_core::ready_core::NewFault;
 use futures_buffered_core::ready_source::SlotHandle;
 use futures_buffered_sets::{MergeUnbounded, SlotStream};
-use std::alloc::{AllocError, Global};
+use std::alloc::{AllocError, AllocGlobal, Global};
 use std::process::Abort;
+use std::random::RandomSource;
 use std::sync::atomic::Ordering::SeqCst;
 use std::test::Fail;
 use test_support::counted_source::{CountedSource, SourceLog};
@@ -14,6 +15,7 @@ use test_support::counter::{Counter, new_counter};
 use test_support::dropped_streams::{DroppedStream, add_dropped};
 use test_support::merge_answers::sum_of;
 use test_support::polling::poll_next;
+use test_support::run_on::run_on;
 
 type Merge = MergeUnbounded<DroppedStream, CountedSource>;
 
@@ -84,16 +86,24 @@ fn try_to_the_end<R: Abort>(rt: &R, task: &MockTask, log: &Log, merge: &mut Merg
     assert_same(rt, polled(task, log, merge), end);
 }
 
+fn task_and_log<R>(rt: &R) -> Result<(MockTask, Log), Fail>
+where
+    R: RandomSource + AllocGlobal,
+{
+    let task = MockTask::new(rt)?;
+    Ok((task, Log::new(rt.alloc())?))
+}
+
 #[test]
 fn a_group_that_leaves_drops_its_streams_and_its_source(rt: HostRuntime) -> Result<(), Fail> {
-    let task = MockTask::new(&rt)?;
-    let log = Log::new(rt.alloc())?;
-    let mut merge = new_merge(rt.alloc(), &log)?;
-    assert_same(&rt, log.drops(), (0, 0));
-    try_to_the_end(&rt, &task, &log, &mut merge);
-    drop(merge);
-    assert_same(&rt, log.drops(), (97, 3));
-    Ok(())
+    run_on(task_and_log(&rt), |(task, log)| {
+        let mut merge = new_merge(rt.alloc(), log)?;
+        assert_same(&rt, log.drops(), (0, 0));
+        try_to_the_end(&rt, task, log, &mut merge);
+        drop(merge);
+        assert_same(&rt, log.drops(), (97, 3));
+        Ok(())
+    })
 }
 
 #[test]
@@ -163,41 +173,54 @@ fn registrations_with<R: Abort>(
     sources.registrations.load(SeqCst)
 }
 
+type BarrenHeld = (MockTask, SourceLog, BarrenMerge);
+
+// A task, what it sees of the sources, and a first group that is full of streams that wait.
+fn barren_held<R>(rt: &R) -> Result<BarrenHeld, Fail>
+where
+    R: RandomSource + AllocGlobal,
+{
+    let sources = SourceLog::new(rt.alloc())?;
+    let merge = barren_merge(rt.alloc(), &sources)?;
+    Ok((MockTask::new(rt)?, sources, merge))
+}
+
+fn register_once<R: Abort>(rt: &R, (task, sources, merge): &mut BarrenHeld) {
+    let registrations = registrations_with(rt, task, sources, merge, 0);
+    assert_same(rt, (registrations, task.is_woken()), (1, false));
+    assert_same(rt, push_all(merge, Barren::Waits, 2_000), true);
+    let registrations = sources.registrations.load(SeqCst);
+    assert_same(rt, (registrations, task.is_woken()), (1, false));
+    let answer = poll_next(task, merge);
+    let registrations = sources.registrations.load(SeqCst);
+    assert_same(rt, (answer, registrations), (Poll::Pending, 2));
+}
+
 // A second registration would hold the place of the task's waker, and a wake of a slot of the first group would leave
 // that slot to nobody. A push that makes a group registers nothing, and wakes nobody.
 #[test]
 fn a_poll_of_two_groups_registers_once(rt: HostRuntime) -> Result<(), Fail> {
-    let task = MockTask::new(&rt)?;
-    let sources = SourceLog::new(rt.alloc())?;
-    let mut merge = barren_merge(rt.alloc(), &sources)?;
-    let registrations = registrations_with(&rt, &task, &sources, &mut merge, 0);
-    assert_same(&rt, (registrations, task.is_woken()), (1, false));
-    assert_same(&rt, push_all(&mut merge, Barren::Waits, 2_000), true);
-    let registrations = sources.registrations.load(SeqCst);
-    assert_same(&rt, (registrations, task.is_woken()), (1, false));
-    let answer = poll_next(&task, &mut merge);
-    let registrations = sources.registrations.load(SeqCst);
-    assert_same(&rt, (answer, registrations), (Poll::Pending, 2));
-    Ok(())
+    run_on(barren_held(&rt), |held| {
+        register_once(&rt, held);
+        Ok(())
+    })
 }
 
 // The second group takes a further count of names behind the end of a stream.
 #[test]
 fn a_group_of_two_counts_beside_one_that_registered(rt: HostRuntime) -> Result<(), Fail> {
-    let task = MockTask::new(&rt)?;
-    let sources = SourceLog::new(rt.alloc())?;
-    let mut merge = barren_merge(rt.alloc(), &sources)?;
-    let registrations = registrations_with(&rt, &task, &sources, &mut merge, 1);
-    assert_same(&rt, (registrations, sources.drops.load(SeqCst)), (1, 0));
-    Ok(())
+    run_on(barren_held(&rt), |(task, sources, merge)| {
+        let registrations = registrations_with(&rt, task, sources, merge, 1);
+        assert_same(&rt, (registrations, sources.drops.load(SeqCst)), (1, 0));
+        Ok(())
+    })
 }
 
 #[test]
 fn a_group_in_the_middle_that_leaves_drops_its_source(rt: HostRuntime) -> Result<(), Fail> {
-    let task = MockTask::new(&rt)?;
-    let sources = SourceLog::new(rt.alloc())?;
-    let mut merge = barren_merge(rt.alloc(), &sources)?;
-    let registrations = registrations_with(&rt, &task, &sources, &mut merge, 64);
-    assert_same(&rt, (registrations, sources.drops.load(SeqCst)), (1, 1));
-    Ok(())
+    run_on(barren_held(&rt), |(task, sources, merge)| {
+        let registrations = registrations_with(&rt, task, sources, merge, 64);
+        assert_same(&rt, (registrations, sources.drops.load(SeqCst)), (1, 1));
+        Ok(())
+    })
 }

@@ -11,6 +11,7 @@ use std::random::RandomSource;
 use std::test::Fail;
 use test_support::holds::{Holds, add_each, is_emptied};
 use test_support::polling::poll_next;
+use test_support::run_on::run_on;
 use test_support::timed::{Timed, late, ready};
 
 const ENTRIES: u64 = 70_000;
@@ -38,19 +39,24 @@ fn fronts(queue: &mut Bounded) -> bool {
 }
 
 // Each slot takes a future, at the back and at the front, and gives its output.
-fn fills<R>(rt: &R, mut queue: Bounded) -> Result<(), Fail>
+fn fill<R: Abort>(rt: &R, task: &MockTask, queue: &mut Bounded) {
+    assert_same(rt, queue.capacity(), ENTRIES as usize);
+    assert_same(rt, add_each(queue, ENTRIES), ENTRIES);
+    assert_same(rt, queue.is_full(), true);
+    assert_same(rt, queue.try_push_back(ready(0)), Err(ready(0)));
+    assert_same(rt, is_emptied(task, queue, ENTRIES), true);
+    assert_same(rt, fronts(queue), true);
+    assert_same(rt, queue.try_push_front(ready(0)), Err(ready(0)));
+    assert_same(rt, is_emptied(task, queue, ENTRIES), true);
+}
+
+fn fills<R>(rt: &R, queue: Bounded) -> Result<(), Fail>
 where
     R: Abort + RandomSource + AllocGlobal,
 {
+    let mut queue = queue;
     let task = MockTask::new(rt)?;
-    assert_same(rt, queue.capacity(), ENTRIES as usize);
-    assert_same(rt, add_each(&mut queue, ENTRIES), ENTRIES);
-    assert_same(rt, queue.is_full(), true);
-    assert_same(rt, queue.try_push_back(ready(0)), Err(ready(0)));
-    assert_same(rt, is_emptied(&task, &mut queue, ENTRIES), true);
-    assert_same(rt, fronts(&mut queue), true);
-    assert_same(rt, queue.try_push_front(ready(0)), Err(ready(0)));
-    assert_same(rt, is_emptied(&task, &mut queue, ENTRIES), true);
+    fill(rt, &task, &mut queue);
     Ok(())
 }
 
@@ -70,19 +76,31 @@ fn keeps_each(task: &MockTask, queue: &mut Bounded, last: u64) -> bool {
     true
 }
 
+fn task_and_queue<R>(rt: &R) -> Result<(MockTask, Bounded), Fail>
+where
+    R: RandomSource + AllocGlobal,
+{
+    let task = MockTask::new(rt)?;
+    Ok((task, over(rt.alloc(), 2)?))
+}
+
+fn keep_outputs<R: Abort>(rt: &R, task: &MockTask, queue: &mut Bounded) {
+    assert_same(rt, queue.try_push_back(late(0)), Ok(()));
+    assert_same(rt, keeps_each(task, queue, 2_000), true);
+    assert_same(rt, (queue.len(), queue.is_full()), (2_001, false));
+    if queue.capacity() > 0 {
+        assert_same(rt, queue.mark_slot(0), Woke::Fresh);
+    }
+    assert_same(rt, is_emptied(task, queue, 2_001), true);
+}
+
 // Behind a front that stays pending, 2,000 outputs are kept over two slots.
 #[test]
 fn keeps_2_000_outputs(rt: HostRuntime) -> Result<(), Fail> {
-    let task = MockTask::new(&rt)?;
-    let mut queue = over(rt.alloc(), 2)?;
-    assert_same(&rt, queue.try_push_back(late(0)), Ok(()));
-    assert_same(&rt, keeps_each(&task, &mut queue, 2_000), true);
-    assert_same(&rt, (queue.len(), queue.is_full()), (2_001, false));
-    if queue.capacity() > 0 {
-        assert_same(&rt, queue.mark_slot(0), Woke::Fresh);
-    }
-    assert_same(&rt, is_emptied(&task, &mut queue, 2_001), true);
-    Ok(())
+    run_on(task_and_queue(&rt), |(task, queue)| {
+        keep_outputs(&rt, task, queue);
+        Ok(())
+    })
 }
 
 fn growing_over(alloc: Global, slots: usize) -> Result<Growing, NewFault> {
@@ -103,17 +121,22 @@ fn growing_fronts(queue: &mut Growing) -> bool {
 }
 
 // So many go in, at the back and at the front, and give their outputs.
-fn grows<R>(rt: &R, mut queue: Growing) -> Result<(), Fail>
+fn grow<R: Abort>(rt: &R, task: &MockTask, queue: &mut Growing) {
+    assert_same(rt, add_each(queue, ENTRIES), ENTRIES);
+    assert_same(rt, queue.len(), ENTRIES as usize);
+    assert_same(rt, is_emptied(task, queue, ENTRIES), true);
+    assert_same(rt, growing_fronts(queue), true);
+    assert_same(rt, queue.len(), ENTRIES as usize);
+    assert_same(rt, is_emptied(task, queue, ENTRIES), true);
+}
+
+fn grows<R>(rt: &R, queue: Growing) -> Result<(), Fail>
 where
     R: Abort + RandomSource + AllocGlobal,
 {
+    let mut queue = queue;
     let task = MockTask::new(rt)?;
-    assert_same(rt, add_each(&mut queue, ENTRIES), ENTRIES);
-    assert_same(rt, queue.len(), ENTRIES as usize);
-    assert_same(rt, is_emptied(&task, &mut queue, ENTRIES), true);
-    assert_same(rt, growing_fronts(&mut queue), true);
-    assert_same(rt, queue.len(), ENTRIES as usize);
-    assert_same(rt, is_emptied(&task, &mut queue, ENTRIES), true);
+    grow(rt, &task, &mut queue);
     Ok(())
 }
 

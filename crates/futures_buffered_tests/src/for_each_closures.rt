@@ -6,34 +6,47 @@ use futures::task::Poll;
 use futures::test::MockTask;
 use futures::{Future, StreamExt, stream};
 use futures_buffered::{BufferedStreamExt, NewFault};
-use std::sync::Arc;
+use std::alloc::{AllocGlobal, Global};
+use std::process::Abort;
+use std::random::RandomSource;
 use std::sync::atomic::Ordering::SeqCst;
+use std::sync::{Arc, Wait};
 use std::test::Fail;
-use test_support::counter::new_counter;
+use test_support::begin::task_and_counter;
+use test_support::counter::{Counter, new_counter};
 use test_support::dropped::Dropped;
+use test_support::run_on::run_on;
+
+// Adds the double of each of three numbers.
+fn add_doubles<R>(rt: &R, sum: Counter) -> Result<(), Fail>
+where
+    R: Wait + RandomSource + AllocGlobal,
+{
+    let numbers = vec![in rt.alloc(); 1, 2, 3]?;
+    let doubles = stream::iter(numbers).map(|number: u64| number.wrapping_mul(2));
+    let call = move |double: u64| {
+        sum.fetch_add(double, SeqCst);
+        ReadyAtOnce
+    };
+    let each = BufferedStreamExt::for_each_concurrent(doubles, rt.alloc(), 2, call)?;
+    Ok(block_on(rt, each)?)
+}
 
 #[test]
 fn a_map_under_for_each_concurrent(rt: HostRuntime) -> Result<(), Fail> {
     let sum = new_counter(rt.alloc())?;
-    let summed = Arc::try_clone(&sum)?;
-    let numbers = vec![in rt.alloc(); 1, 2, 3]?;
-    let doubles = stream::iter(numbers).map(|number: u64| number.wrapping_mul(2));
-    let call = move |double: u64| {
-        summed.fetch_add(double, SeqCst);
-        ReadyAtOnce
-    };
-    let each = BufferedStreamExt::for_each_concurrent(doubles, rt.alloc(), 2, call)?;
-    block_on(&rt, each)?;
+    add_doubles(&rt, Arc::try_clone(&sum)?)?;
     assert_same(&rt, sum.load(SeqCst), 12);
     Ok(())
 }
 
-// What the closure holds goes with the for-each, also with one that ended before.
-#[test]
-fn a_for_each_drops_its_closure(rt: HostRuntime) -> Result<(), Fail> {
-    let task = MockTask::new(&rt)?;
-    let drops = new_counter(rt.alloc())?;
-    let mark = Dropped::new(Arc::try_clone(&drops)?);
+// A closure holds the mark.
+fn drops_its_closure<R: Abort + AllocGlobal>(
+    rt: &R,
+    task: &MockTask,
+    drops: &Counter,
+    mark: Dropped,
+) -> Result<(), Fail> {
     let call = move |_number: u64| {
         let _ = &mark;
         ReadyAtOnce
@@ -41,10 +54,30 @@ fn a_for_each_drops_its_closure(rt: HostRuntime) -> Result<(), Fail> {
     let numbers = stream::iter(vec![in rt.alloc(); 1, 2, 3]?);
     let mut each = BufferedStreamExt::for_each_concurrent(numbers, rt.alloc(), 2, call)?;
     let ended = task.enter(|cx| each.poll(cx));
-    assert_same(&rt, (ended, drops.load(SeqCst)), (Poll::Ready(()), 0));
+    assert_same(rt, (ended, drops.load(SeqCst)), (Poll::Ready(()), 0));
     drop(each);
-    assert_same(&rt, drops.load(SeqCst), 1);
+    assert_same(rt, drops.load(SeqCst), 1);
     Ok(())
+}
+
+// What the closure holds goes with the for-each, also with one that ended before.
+#[test]
+fn a_for_each_drops_its_closure(rt: HostRuntime) -> Result<(), Fail> {
+    run_on(task_and_counter(&rt), |(task, drops)| {
+        let mark = Dropped::new(Arc::try_clone(drops)?);
+        drops_its_closure(&rt, task, drops, mark)
+    })
+}
+
+// Why a for-each without a bound is refused, if it is. A closure holds the mark.
+fn fault_of(alloc: Global, mark: Dropped) -> Result<Option<NewFault>, Fail> {
+    let call = move |_number: u64| {
+        let _ = &mark;
+        ReadyAtOnce
+    };
+    let numbers = stream::iter(vec![in alloc; 1, 2, 3]?);
+    let refused = BufferedStreamExt::for_each_concurrent(numbers, alloc, usize::MAX, call);
+    Ok(refused.err())
 }
 
 // What the closure holds goes with it.
@@ -52,13 +85,8 @@ fn a_for_each_drops_its_closure(rt: HostRuntime) -> Result<(), Fail> {
 fn a_refused_closure_is_dropped(rt: HostRuntime) -> Result<(), Fail> {
     let drops = new_counter(rt.alloc())?;
     let mark = Dropped::new(Arc::try_clone(&drops)?);
-    let call = move |_number: u64| {
-        let _ = &mark;
-        ReadyAtOnce
-    };
-    let numbers = stream::iter(vec![in rt.alloc(); 1, 2, 3]?);
-    let refused = BufferedStreamExt::for_each_concurrent(numbers, rt.alloc(), usize::MAX, call);
-    assert_same(&rt, refused.err(), Some(NewFault::TooLarge));
+    let fault = fault_of(rt.alloc(), mark)?;
+    assert_same(&rt, fault, Some(NewFault::TooLarge));
     assert_same(&rt, drops.load(SeqCst), 1);
     Ok(())
 }

@@ -14,8 +14,10 @@ use futures_buffered::in_flight::MergeBounded;
 use futures_buffered_in_flight::{FuturesOrderedBounded, FuturesUnorderedBounded, Kept, Key};
 use std::alloc::{AllocError, AllocGlobal, Global};
 use std::process::Abort;
+use std::random::RandomSource;
 use std::test::Fail;
 use test_support::keep::keep;
+use test_support::run_on::run_on;
 
 type Set = FuturesUnorderedBounded<Receiver<u64>>;
 
@@ -58,23 +60,68 @@ fn came(set: &mut TextSet, cx: &mut Context<'_>, number: u64, tag: &str) -> Opti
     }
 }
 
-fn tagged<R: AllocGlobal + Abort>(rt: &R, cx: &mut Context<'_>) -> Result<(), Fail> {
-    let mut set = Kept::new(FuturesUnorderedBounded::new(rt.alloc(), 3)?);
-    let (_first, first_key) = push(rt, &mut set, "one")?;
-    let (second, second_key) = push(rt, &mut set, "two")?;
-    let (third, third_key) = push(rt, &mut set, "two")?;
+fn new_set(alloc: Global) -> Result<TextSet, Fail> {
+    Ok(Kept::new(FuturesUnorderedBounded::new(alloc, 3)?))
+}
+
+type Pushed = (Sender<u64>, Option<Key>);
+
+fn push_two<R: AllocGlobal + Abort>(
+    rt: &R,
+    set: &mut TextSet,
+    tags: (&str, &str),
+) -> Result<(Pushed, Pushed), Fail> {
+    let one = push(rt, set, tags.0)?;
+    let other = push(rt, set, tags.1)?;
+    Ok((one, other))
+}
+
+// Whether a push that is refused returns its tag.
+fn returns_the_tag<R: AllocGlobal>(rt: &R, set: &mut TextSet) -> Result<Option<bool>, Fail> {
     let (_, receiver) = channel::<u64>(rt.alloc())?;
     let refused = set.try_push_tagged(receiver, String::from_str(rt.alloc(), "four")?);
-    let tag = refused.err().map(|back| back.1.as_str() == "four");
-    assert_same(rt, tag, Some(true));
-    assert_same(rt, cancels(&mut set, first_key, "one"), true);
-    assert_same(rt, cancels(&mut set, first_key, "one"), false);
-    let _ = third.send(3);
-    assert_same(rt, came(&mut set, cx, 3, "two") == third_key, true);
-    let _ = second.send(2);
-    assert_same(rt, came(&mut set, cx, 2, "two") == second_key, true);
+    Ok(refused.err().map(|back| back.1.as_str() == "four"))
+}
+
+// Sends the number of a push under the tag `two`, which comes.
+fn comes<R: Abort>(rt: &R, cx: &mut Context<'_>, set: &mut TextSet, pushed: Pushed, number: u64) {
+    let (sender, key) = pushed;
+    let _ = sender.send(number);
+    assert_same(rt, came(set, cx, number, "two") == key, true);
+}
+
+// The first push is cancelled. The outputs of the other two come, that of the last one first.
+fn come_back<R: Abort>(
+    rt: &R,
+    cx: &mut Context<'_>,
+    set: &mut TextSet,
+    first_key: Option<Key>,
+    others: (Pushed, Pushed),
+) {
+    let (second, third) = others;
+    let (second_key, third_key) = (second.1, third.1);
+    assert_same(rt, cancels(set, first_key, "one"), true);
+    assert_same(rt, cancels(set, first_key, "one"), false);
+    comes(rt, cx, set, third, 3);
+    comes(rt, cx, set, second, 2);
     assert_same(rt, first_key < second_key && second_key < third_key, true);
+}
+
+fn try_tags<R: AllocGlobal + Abort>(
+    rt: &R,
+    cx: &mut Context<'_>,
+    set: &mut TextSet,
+) -> Result<(), Fail> {
+    let (_first, first_key) = push(rt, set, "one")?;
+    let others = push_two(rt, set, ("two", "two"))?;
+    assert_same(rt, returns_the_tag(rt, set)?, Some(true));
+    come_back(rt, cx, set, first_key, others);
     Ok(())
+}
+
+fn tagged<R: AllocGlobal + Abort>(rt: &R, cx: &mut Context<'_>) -> Result<(), Fail> {
+    let mut set = new_set(rt.alloc())?;
+    try_tags(rt, cx, &mut set)
 }
 
 // Each output has the tag of its push, and a cancel and a refused push return theirs. Keys have the order of the pushes.
@@ -91,27 +138,56 @@ fn waits_in(set: &mut TextSet, task: &MockTask) -> bool {
     first && second && !task.is_woken()
 }
 
+fn two_tasks<R: RandomSource + AllocGlobal>(rt: &R) -> Result<(MockTask, MockTask), Fail> {
+    let one = MockTask::new(rt)?;
+    Ok((one, MockTask::new(rt)?))
+}
+
+// Both tasks poll, and the other one is the last. A cancelled future is dropped by its next poll.
+fn drops_what_was_cancelled<R: Abort>(
+    rt: &R,
+    (one, other): &(MockTask, MockTask),
+    set: &mut TextSet,
+    (first, first_key): &Pushed,
+) {
+    assert_same(rt, waits_in(set, one), true);
+    assert_same(rt, waits_in(set, other), true);
+    assert_same(rt, cancels(set, *first_key, "one"), true);
+    assert_same(rt, first.is_canceled(), false);
+    assert_same(rt, waits_in(set, other), true);
+    assert_same(rt, first.is_canceled(), true);
+}
+
+// A push and a send wake the task that polled last.
+fn wakes_the_last<R: Abort>(rt: &R, other: &MockTask, set: &mut TextSet, second: Pushed) {
+    let (sender, key) = second;
+    assert_same(rt, other.is_woken(), true);
+    assert_same(rt, waits_in(set, other), true);
+    let _ = sender.send(2);
+    assert_same(rt, other.is_woken(), true);
+    let came = other.enter(|cx| came(set, cx, 2, "two"));
+    assert_same(rt, came == key, true);
+}
+
+fn poll_in_both<R: AllocGlobal + Abort>(
+    rt: &R,
+    tasks: &(MockTask, MockTask),
+    set: &mut TextSet,
+) -> Result<(), Fail> {
+    let (first, second) = push_two(rt, set, ("one", "two"))?;
+    drops_what_was_cancelled(rt, tasks, set, &first);
+    let (_third, _) = push(rt, set, "three")?;
+    wakes_the_last(rt, &tasks.1, set, second);
+    Ok(())
+}
+
 // The next poll drops what was cancelled, whichever task polls. A push and a send wake the task that polled last.
 #[test]
 fn another_task_polls(rt: HostRuntime) -> Result<(), Fail> {
-    let (one, other) = (MockTask::new(&rt)?, MockTask::new(&rt)?);
-    let mut set = Kept::new(FuturesUnorderedBounded::new(rt.alloc(), 3)?);
-    let (first, first_key) = push(&rt, &mut set, "one")?;
-    let (second, second_key) = push(&rt, &mut set, "two")?;
-    assert_same(&rt, waits_in(&mut set, &one), true);
-    assert_same(&rt, waits_in(&mut set, &other), true);
-    assert_same(&rt, cancels(&mut set, first_key, "one"), true);
-    assert_same(&rt, first.is_canceled(), false);
-    assert_same(&rt, waits_in(&mut set, &other), true);
-    assert_same(&rt, first.is_canceled(), true);
-    let (_third, _) = push(&rt, &mut set, "three")?;
-    assert_same(&rt, other.is_woken(), true);
-    assert_same(&rt, waits_in(&mut set, &other), true);
-    let _ = second.send(2);
-    assert_same(&rt, other.is_woken(), true);
-    let came = other.enter(|cx| came(&mut set, cx, 2, "two"));
-    assert_same(&rt, came == second_key, true);
-    Ok(())
+    run_on(two_tasks(&rt), |tasks| {
+        let mut set = new_set(rt.alloc())?;
+        poll_in_both(&rt, tasks, &mut set)
+    })
 }
 
 fn receivers(alloc: Global, count: usize) -> Result<Vec<Receiver<u64>>, AllocError> {

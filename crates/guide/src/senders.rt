@@ -1,23 +1,38 @@
 //! What a channel refuses, and senders on threads.
-use futures::StreamExt;
 use futures::executor::block_on;
+use futures::{Stream, StreamExt};
 use futures_buffered::MergeBounded;
-use futures_buffered::spsc::{Sender, TrySendError, channel};
-use std::alloc::AllocGlobal;
+use futures_buffered::spsc::{Receiver, Sender, TrySendError, channel};
+use std::alloc::{AllocError, AllocGlobal};
 use std::fmt::Display;
 use std::io::Print;
 use std::random::RandomSource;
 use std::sync::Wait;
-use std::thread;
-use std::thread::Threads;
+use std::thread::{self, JoinHandle, Threads};
 
 pub fn refusals<R: AllocGlobal + Print>(rt: &R) -> Result<(), anyhow::Error> {
+    of_a_full_channel(rt)?;
+    of_an_empty_channel(rt)
+}
+
+fn of_a_full_channel<R: AllocGlobal + Print>(rt: &R) -> Result<(), anyhow::Error> {
     let (mut sender, mut receiver) = channel::<u64>(rt.alloc(), 1)?;
+    try_both(rt, &mut sender, &mut receiver)?;
+    drop(receiver);
+    print_refusal(rt, sender.try_send(3))
+}
+
+fn try_both<R: Print>(
+    rt: &R,
+    sender: &mut Sender<u64>,
+    receiver: &mut Receiver<u64>,
+) -> Result<(), anyhow::Error> {
     print_refusal(rt, receiver.try_recv())?;
     print_refusal(rt, sender.try_send(1))?;
-    print_refusal(rt, sender.try_send(2))?;
-    drop(receiver);
-    print_refusal(rt, sender.try_send(3))?;
+    print_refusal(rt, sender.try_send(2))
+}
+
+fn of_an_empty_channel<R: AllocGlobal + Print>(rt: &R) -> Result<(), anyhow::Error> {
     let (sender, mut receiver) = channel::<u64>(rt.alloc(), 1)?;
     drop(sender);
     print_refusal(rt, receiver.try_recv())
@@ -63,22 +78,66 @@ fn turn_of(next: Option<[u64; 3]>, came: u64) -> Option<[u64; 3]> {
     Some(next)
 }
 
-pub fn senders_on_threads<R>(rt: &R) -> Result<(), anyhow::Error>
-where
-    R: Wait + RandomSource + AllocGlobal + Print + Threads,
-{
-    let mut receivers = Vec::new(rt.alloc());
-    let mut threads = Vec::new(rt.alloc());
+// The receivers of senders, each of which is on a thread of its own.
+#[derive(Drop)]
+struct Started {
+    receivers: Vec<Receiver<u64>>,
+    threads: Vec<JoinHandle<()>>,
+}
+
+// An item that finds no room is dropped here, so that no caller has it to drop.
+fn keep<T: Drop>(row: &mut Vec<T>, item: T) -> Result<(), AllocError> {
+    row.push(item)?;
+    Ok(())
+}
+
+fn start_one<R: AllocGlobal + Threads>(
+    rt: &R,
+    started: &mut Started,
+    from: u64,
+) -> Result<(), anyhow::Error> {
+    let (sender, receiver) = channel(rt.alloc(), 7)?;
+    keep(&mut started.receivers, receiver)?;
+    let thread = thread::spawn(rt, move || send_all(sender, from))?;
+    Ok(keep(&mut started.threads, thread)?)
+}
+
+fn start_three<R: AllocGlobal + Threads>(rt: &R) -> Result<Started, anyhow::Error> {
+    let mut started = Started {
+        receivers: Vec::new(rt.alloc()),
+        threads: Vec::new(rt.alloc()),
+    };
     for part in 0..3u64 {
-        let (sender, receiver) = channel(rt.alloc(), 7)?;
-        receivers.push(receiver)?;
-        threads.push(thread::spawn(rt, move || send_all(sender, part * EACH))?)?;
+        start_one(rt, &mut started, part * EACH)?;
     }
-    let merge = MergeBounded::from_iter(rt.alloc(), receivers)?;
-    let all = block_on(rt, merge.collect(rt.alloc()))??;
+    Ok(started)
+}
+
+// All that the stream gives.
+fn collected<R, St>(rt: &R, stream: St) -> Result<Vec<u64>, anyhow::Error>
+where
+    R: Wait + RandomSource + AllocGlobal,
+    St: Stream<Item = u64>,
+    requires { St.can_poll stream }
+{
+    Ok(block_on(rt, stream.collect(rt.alloc()))??)
+}
+
+// All that the receivers give.
+fn all_of<R>(rt: &R, receivers: Vec<Receiver<u64>>) -> Result<Vec<u64>, anyhow::Error>
+where
+    R: Wait + RandomSource + AllocGlobal,
+{
+    collected(rt, MergeBounded::from_iter(rt.alloc(), receivers)?)
+}
+
+fn join_each<R: Threads>(rt: &R, threads: Vec<JoinHandle<()>>) {
     for thread in threads {
         thread.join(rt);
     }
+}
+
+fn print_turns<R: Print>(rt: &R, all: &[u64]) -> Result<(), anyhow::Error> {
     let next = all.iter().fold(Some([0, EACH, EACH * 2]), |next, came| turn_of(next, *came));
     println!(rt;
         "{} in order: {}",
@@ -86,4 +145,14 @@ where
         next == Some([EACH, EACH * 2, EACH * 3])
     )?;
     Ok(())
+}
+
+pub fn senders_on_threads<R>(rt: &R) -> Result<(), anyhow::Error>
+where
+    R: Wait + RandomSource + AllocGlobal + Print + Threads,
+{
+    let Started { receivers, threads } = start_three(rt)?;
+    let all = all_of(rt, receivers);
+    join_each(rt, threads);
+    print_turns(rt, all?.as_slice())
 }
