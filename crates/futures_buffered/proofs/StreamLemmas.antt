@@ -14,7 +14,7 @@ use Rattle.futures_buffered_unordered.specs.FuturesUnorderedBounded.{Bounded, Ho
 use Rattle.futures_buffered_joins.specs.Join.{IsNewJoin, JoinMayGive}
 use Rattle.futures_buffered_joins.specs.JoinRule.{kept_as_it_is}
 use Rattle.futures_buffered_joins.specs.SlotsJoin.{MayGiveAt}
-use Rattle.futures_buffered_joins.specs.declared.places.Places.{Places}
+use Rattle.futures_buffered_joins.specs.declared.outputs.Places.{Places}
 
 -- all that the iterator of a vector gives is the vector's elements
 pub gave_all : {A Z : Type 0} (it : IntoIter A Z) (elements given : List A) → into_iter_items it ≡ elements
