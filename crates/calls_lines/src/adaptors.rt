@@ -1,7 +1,7 @@
 //! Adaptors: buffers over a stream of futures, and the for-each.
 ghost use Rattle.std.specs.Prelude.{◌<◌, ◌≤◌};
-ghost use Rattle.calls.specs.declared.values.TryUnitFuture.{TryUnitFuture};
-ghost use Rattle.calls.specs.declared.values.UnitFuture.{UnitFuture};
+ghost use Rattle.calls_world.specs.declared.values.TryUnitFuture.{TryUnitFuture};
+ghost use Rattle.calls_world.specs.declared.values.UnitFuture.{UnitFuture};
 
 use crate::answer::{Answer, Given, Reply, of_debug, of_end, of_hint, of_next, of_try_end};
 use crate::lines::run_made;
