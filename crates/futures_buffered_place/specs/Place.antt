@@ -1,5 +1,5 @@
 -- The rule of a place, and what each step tells.
-use Rattle.std.specs.Prelude.{◌≡◌, ◌≢◌, ◌⊎◌, ℕ, zero, suc, ◌+◌, ◌<◌, ◌≤◌, List, [], ◌∷◌, ◌++◌, Option, Some, None}
+use Rattle.std.specs.Prelude.{◌≡◌, ◌≢◌, ◌⊎◌, ℕ, zero, suc, ◌+◌, ◌<◌, ◌≤◌, Bool, List, [], ◌∷◌, Option, Some, None}
 use mathlib.Core.Option as maybe
 use mathlib.Core.Option.{some, none}
 use lib.ListN.{get_elem?}
@@ -11,9 +11,11 @@ use Rattle.futures_buffered_place.specs.declared.view.Right.TheVariants.{Alone, 
 use Rattle.futures_buffered_place.specs.declared.view.Hand.{Hand}
 use Rattle.futures_buffered_place.specs.declared.view.Hand.TheVariants.{Nothing, Filling, Taken}
 use Rattle.futures_buffered_place.specs.declared.view.View.{View}
-use Rattle.futures_buffered_place.specs.declared.place.Put.{Put}
-use Rattle.futures_buffered_place.specs.declared.place.Put.TheVariants.{Kept, Busy}
-use Rattle.futures_buffered_place.specs.History.{and_taken}
+use Rattle.futures_buffered_place.specs.declared.view.PlaceStep.{PlaceStep}
+use Rattle.futures_buffered_place.specs.declared.view.Deed.{Deed}
+use Rattle.futures_buffered_place.specs.declared.view.Deed.TheVariants.{Look, Win, WinFree, Lose, Put, Leave}
+use Rattle.futures_buffered_place.specs.declared.place.Put.{Put as Answer}
+use Rattle.futures_buffered_place.specs.History.{then_did, after_deeds, IsPutIn, IsTakeOut}
 
 -- the sum of f over xs
 abbrev pub total : {X : Type 0} → (X → ℕ) → List X → ℕ
@@ -73,6 +75,22 @@ module _ {O : Type 0} where
   kept_weight weight (kept x) = weight x
   kept_weight weight _ = 0
 
+  -- the weight of what a step put in, and of what it took out
+  abbrev pub put_by : (O → ℕ) → Deed O → ℕ
+  put_by weight (Put x) = weight x
+  put_by weight _ = 0
+
+  abbrev pub won_by : (O → ℕ) → Deed O → ℕ
+  won_by weight (Win x) = weight x
+  won_by weight _ = 0
+
+  -- so of all steps of a seat
+  abbrev pub put_weight : (O → ℕ) → View O → ℕ
+  put_weight weight v = total (λ (s : PlaceStep O). put_by weight s.deed) v.steps
+
+  abbrev pub taken_weight : (O → ℕ) → View O → ℕ
+  taken_weight weight v = total (λ (s : PlaceStep O). won_by weight s.deed) v.steps
+
   -- how the place and what all seats know keep themselves
   pub record KeepsPlace (stage : Stage O) (views : List (View O)) : Type 0 where
     -- at most one seat is the only poller, and then no poller is beside it
@@ -85,8 +103,8 @@ module _ {O : Type 0} where
     pub filled : total (λ (v : View O). filling_by v.hand) views ≡ filling_count stage
     pub lends : total (λ (v : View O). taken_by v.hand) views ≡ lent_count stage
     -- what was put in is what was taken out and what is kept, however the values are weighed
-    pub balanced : (weight : O → ℕ) → total (λ (v : View O). total weight v.put) views
-        ≡ total (λ (v : View O). total weight v.taken) views + kept_weight weight stage
+    pub balanced : (weight : O → ℕ) →
+        total (put_weight weight) views ≡ total (taken_weight weight) views + kept_weight weight stage
 
   abbrev pub laid : Stage O → List (View O) → State (Option O) (View O)
   laid stage views = record { words = word_of stage ∷ []; homes = home_of stage ∷ []; views = views }
@@ -97,67 +115,47 @@ module _ {O : Type 0} where
 
   -- a poller that stands alone, and did nothing yet
   abbrev pub first_poller : View O
-  first_poller = record { right = Alone; hand = Nothing; put = []; taken = []; busy = 0; empty = 0 }
+  first_poller = record { right = Alone; hand = Nothing; steps = [] }
 
-  -- the seat's next view: with the slot in its hand or not; behind a value that it takes out, or puts in; where another
-  -- seat is at the place; where none is kept
-  abbrev pub in_hand : View O → Hand → View O
-  in_hand v hand = record v { hand = hand }
+  -- the seat's next view, behind this step: what it has in hand then
+  abbrev pub does : ℕ → View O → Hand → Deed O → View O
+  does made v hand deed = record { right = v.right; hand = hand; steps = then_did made v.steps deed }
 
-  abbrev pub takes_next : View O → O → View O
-  takes_next v x = record v { hand = Taken; taken = v.taken ++ x ∷ [] }
+  -- so behind these steps, with nothing in hand
+  abbrev pub done : ℕ → View O → List (Deed O) → View O
+  done made v deeds = record { right = v.right; hand = Nothing; steps = after_deeds made v.steps deeds }
 
-  abbrev pub puts_next : View O → O → View O
-  puts_next v x = record v { hand = Nothing; put = v.put ++ x ∷ [] }
-
-  abbrev pub leaves_next : View O → View O
-  leaves_next v = in_hand v Nothing
-
-  abbrev pub busy_next : View O → View O
-  busy_next v = record v { busy = v.busy + 1 }
-
-  abbrev pub empty_next : View O → View O
-  empty_next v = record v { empty = v.empty + 1 }
+  -- it has read the word
+  abbrev pub looks : ℕ → View O → ℕ → View O
+  looks made v found = does made v v.hand (Look found)
 
   -- the only poller after it has read the word
-  abbrev pub alone_looks : View O → ℕ → Me (Option O) (View O)
-  alone_looks v zero = (in_hand v Filling, (0, None) ∷ [])
-  alone_looks v (suc zero) = (v, [])
-  alone_looks v (suc (suc n)) = (busy_next v, [])
-
-  abbrev pub TellsAlone : Me (Option O) (View O) → ℕ → Me (Option O) (View O) → Type 0
-  TellsAlone me found after = after ≡ alone_looks me.0 found
-
-  -- a seat that is to take out, after it has read the word
-  abbrev pub taker_looks : View O → ℕ → Me (Option O) (View O)
-  taker_looks v zero = (empty_next v, [])
-  taker_looks v (suc zero) = (v, [])
-  taker_looks v (suc (suc n)) = (busy_next v, [])
-
-  abbrev pub TellsTaker : Me (Option O) (View O) → ℕ → Me (Option O) (View O) → Type 0
-  TellsTaker me found after = after ≡ taker_looks me.0 found
+  abbrev pub alone_looks : ℕ → View O → ℕ → Me (Option O) (View O)
+  alone_looks made v zero = (does made v Filling (Look 0), (0, None) ∷ [])
+  alone_looks made v (suc n) = (looks made v (suc n), [])
 
   -- a seat that went for what is kept has it, or has lost it to another
-  abbrev pub TellsTaking : View O → ℕ → Me (Option O) (View O) → Type 0
-  TellsTaking v zero after = after ≡ (busy_next v, [])
-  TellsTaking v (suc zero) after = (x : O) × (after ≡ (takes_next v x, (0, Some x) ∷ []))
-  TellsTaking v (suc (suc n)) after = after ≡ (busy_next v, [])
+  abbrev pub TellsTaking : ℕ → View O → ℕ → Me (Option O) (View O) → Type 0
+  TellsTaking made v zero after = after ≡ (does made v v.hand (Lose 0), [])
+  TellsTaking made v (suc zero) after = (x : O) × (after ≡ (does made v Taken (Win x), (0, Some x) ∷ []))
+  TellsTaking made v (suc (suc n)) after = after ≡ (does made v v.hand (Lose (suc (suc n))), [])
 
-  abbrev pub after_put : Me (Option O) (View O) → Me (Option O) (View O)
-  after_put (v, []) = (v, [])
-  after_put (v, (k, None) ∷ rest) = (v, [])
-  after_put (v, (k, Some x) ∷ rest) = (puts_next v x, [])
+  -- it leaves this value, or nothing
+  abbrev pub puts_next : ℕ → View O → O → View O
+  puts_next made v x = does made v Nothing (Put x)
 
-  -- a poller beside others after it has read the word
-  abbrev pub beside_looks : View O → ℕ → View O
-  beside_looks v zero = v
-  beside_looks v (suc zero) = v
-  beside_looks v (suc (suc n)) = busy_next v
+  abbrev pub leaves_next : ℕ → View O → View O
+  leaves_next made v = does made v Nothing Leave
 
-  -- and after it went for the slot while none is kept
-  abbrev pub free_taken : View O → ℕ → Me (Option O) (View O)
-  free_taken v zero = (in_hand v Taken, (0, None) ∷ [])
-  free_taken v (suc n) = (busy_next v, [])
+  abbrev pub after_put : ℕ → Me (Option O) (View O) → Me (Option O) (View O)
+  after_put made (v, []) = (v, [])
+  after_put made (v, (k, None) ∷ rest) = (v, [])
+  after_put made (v, (k, Some x) ∷ rest) = (puts_next made v x, [])
+
+  -- a poller beside others after it went for the slot while none is kept
+  abbrev pub free_taken : ℕ → View O → ℕ → Me (Option O) (View O)
+  free_taken made v zero = (does made v Taken WinFree, (0, None) ∷ [])
+  free_taken made v (suc n) = (does made v v.hand (Lose (suc n)), [])
 
   -- a seat that is made to take out
   abbrev pub new_taker : View O
@@ -186,21 +184,13 @@ module _ {O : Type 0} where
   abbrev pub Goes : Seat (Option O) (View O) → Me (Option O) (View O) → Seat (Option O) (View O) → Type 0
   Goes old me new = (new.table_id ≡ old.table_id) × (new.me ≡ me)
 
-  -- a seat has put the value in, and taken out the one before; or found another at the place
-  abbrev pub puts_or_meets : View O → O → Put O → View O
-  puts_or_meets v x (Kept before) =
-      record v { hand = Nothing; put = v.put ++ x ∷ []; taken = and_taken v.taken before }
-  puts_or_meets v x (Busy same) = busy_next v
-
   -- where it was not put in, the value comes back
-  abbrev pub ComesBack : O → Put O → Type 0
-  ComesBack x (Kept before) = Unit {0}
-  ComesBack x (Busy same) = same ≡ x
+  abbrev pub PutsBy : Bool → ℕ → O → View O → Answer O → View O → Type 0
+  PutsBy alone made x v answer w = (shape : List (Deed O)) × IsPutIn alone x shape answer × (w ≡ done made v shape)
 
-  -- a seat has taken the value out; or found none kept, or another at the place
-  abbrev pub TakesOrMeets : View O → Option O → View O → Type 0
-  TakesOrMeets v (Some x) w = w ≡ record v { hand = Nothing; taken = v.taken ++ x ∷ [] }
-  TakesOrMeets v None w = (w ≡ empty_next v) ⊎ (w ≡ busy_next v)
+  -- a seat has taken the value out; or missed it
+  abbrev pub TakesBy : ℕ → View O → Option O → View O → Type 0
+  TakesBy made v outer w = (shape : List (Deed O)) × IsTakeOut shape outer × (w ≡ done made v shape)
 
   -- the weight of what is kept
   abbrev pub kept_at_home : (O → ℕ) → List (maybe.Option (Option O)) → ℕ
@@ -213,5 +203,4 @@ module _ {O : Type 0} where
 -- however the values are weighed
 abbrev pub RuleLosesNone : Type 0 → Type 0
 RuleLosesNone O = (s : State (Option O) (View O)) → HoldsPlace s → (weight : O → ℕ) →
-    total (λ (v : View O). total weight v.put) s.views
-    ≡ total (λ (v : View O). total weight v.taken) s.views + kept_at_home weight s.homes
+    total (put_weight weight) s.views ≡ total (taken_weight weight) s.views + kept_at_home weight s.homes

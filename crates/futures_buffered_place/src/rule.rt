@@ -1,6 +1,7 @@
 //! The rule of a place, and what each step tells.
-use crate::view::View;
+use crate::view::{Shown, View};
 use atomic_table::{Play, Split, TableRule};
+use std::marker::PhantomData;
 
 /// What was put in is what was taken out and what is kept; and one seat at most has the slot.
 pub struct PlaceRule;
@@ -14,80 +15,72 @@ impl<O> TableRule<Option<O>, View<O>, ()> for PlaceRule {
 }
 
 /// The only poller reads the word, to put in.
-pub struct LooksAlone;
+pub struct LooksAlone<J>(PhantomData<J>);
 
-impl<O> Play<Option<O>, View<O>> for LooksAlone {
-    ghost use Rattle.futures_buffered_place.specs.Place.{TellsAlone};
+impl<J: Shown, O> Play<Option<O>, View<O>> for LooksAlone<J> {
+    ghost use Rattle.std.specs.Prelude.{◌≡◌};
+    ghost use Rattle.futures_buffered_place.specs.Place.{alone_looks};
 
-    ghost then = { λ _ me found after. TellsAlone me found after };
+    ghost then = { λ _ me found after. after ≡ alone_looks J.made me.0 found };
 }
 
-/// A seat reads the word, to take out.
-pub struct LooksToTake;
+/// Another seat reads the word.
+pub struct Looks<J>(PhantomData<J>);
 
-impl<O> Play<Option<O>, View<O>> for LooksToTake {
-    ghost use Rattle.futures_buffered_place.specs.Place.{TellsTaker};
+impl<J: Shown, O> Play<Option<O>, View<O>> for Looks<J> {
+    ghost use Rattle.std.specs.Prelude.{◌≡◌, []};
+    ghost use Rattle.futures_buffered_place.specs.Place.{looks};
 
-    ghost then = { λ _ me found after. TellsTaker me found after };
+    ghost then = { λ _ me found after. after ≡ (looks J.made me.0 found, []) };
 }
 
 /// A seat goes for what is kept.
-pub struct Takes;
+pub struct Takes<J>(PhantomData<J>);
 
-impl<O> Play<Option<O>, View<O>> for Takes {
+impl<J: Shown, O> Play<Option<O>, View<O>> for Takes<J> {
     ghost use Rattle.futures_buffered_place.specs.Place.{TellsTaking};
 
-    ghost then = { λ _ me found after. TellsTaking me.0 found after };
+    ghost then = { λ _ me found after. TellsTaking J.made me.0 found after };
 }
 
 /// A seat leaves a value in the slot.
-pub struct Puts;
+pub struct Puts<J>(PhantomData<J>);
 
-impl<O> Play<Option<O>, View<O>> for Puts {
+impl<J: Shown, O> Play<Option<O>, View<O>> for Puts<J> {
     ghost use Rattle.std.specs.Prelude.{◌≡◌};
     ghost use Rattle.futures_buffered_place.specs.Place.{after_put};
 
-    ghost then = { λ _ me _ after. after ≡ after_put me };
+    ghost then = { λ _ me _ after. after ≡ after_put J.made me };
 }
 
 /// A seat leaves the slot empty.
-pub struct Leaves;
+pub struct Leaves<J>(PhantomData<J>);
 
-impl<O> Play<Option<O>, View<O>> for Leaves {
+impl<J: Shown, O> Play<Option<O>, View<O>> for Leaves<J> {
     ghost use Rattle.std.specs.Prelude.{◌≡◌, []};
     ghost use Rattle.futures_buffered_place.specs.Place.{leaves_next};
 
-    ghost then = { λ _ me _ after. after ≡ (leaves_next me.0, []) };
-}
-
-/// A poller beside others reads the word, to put in.
-pub struct LooksBeside;
-
-impl<O> Play<Option<O>, View<O>> for LooksBeside {
-    ghost use Rattle.std.specs.Prelude.{◌≡◌, []};
-    ghost use Rattle.futures_buffered_place.specs.Place.{beside_looks};
-
-    ghost then = { λ _ me found after. after ≡ (beside_looks me.0 found, []) };
+    ghost then = { λ _ me _ after. after ≡ (leaves_next J.made me.0, []) };
 }
 
 /// A poller beside others goes for the slot while none is kept.
-pub struct TakesFree;
+pub struct TakesFree<J>(PhantomData<J>);
 
-impl<O> Play<Option<O>, View<O>> for TakesFree {
+impl<J: Shown, O> Play<Option<O>, View<O>> for TakesFree<J> {
     ghost use Rattle.std.specs.Prelude.{◌≡◌};
     ghost use Rattle.futures_buffered_place.specs.Place.{free_taken};
 
-    ghost then = { λ _ me found after. after ≡ free_taken me.0 found };
+    ghost then = { λ _ me found after. after ≡ free_taken J.made me.0 found };
 }
 
 /// A seat that is made with this step reads the word, to take out.
-pub struct LooksAnew;
+pub struct LooksAnew<J>(PhantomData<J>);
 
-impl<O> Play<Option<O>, View<O>> for LooksAnew {
-    ghost use Rattle.std.specs.Prelude.{◌≡◌};
-    ghost use Rattle.futures_buffered_place.specs.Place.{new_taker, taker_looks};
+impl<J: Shown, O> Play<Option<O>, View<O>> for LooksAnew<J> {
+    ghost use Rattle.std.specs.Prelude.{◌≡◌, []};
+    ghost use Rattle.futures_buffered_place.specs.Place.{new_taker, looks};
 
-    ghost then = { λ _ _ found after. after ≡ taker_looks new_taker found };
+    ghost then = { λ _ _ found after. after ≡ (looks J.made new_taker found, []) };
 }
 
 /// A poller gets another beside it. From then on neither stands alone.

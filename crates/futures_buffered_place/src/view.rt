@@ -1,5 +1,8 @@
 //! What a seat of a place knows.
+ghost use Rattle.std.specs.Prelude.{ℕ};
+
 use std::collections::LinkedList;
+use std::marker::Brand;
 
 /// What a seat may do where the place keeps nothing.
 #[derive(Clone, Copy, Debug, PartialEq, Eq)]
@@ -22,13 +25,43 @@ pub enum Hand {
     Taken,
 }
 
-/// What a seat may do and has in hand, and what it has done: the values that it put in and took out, how often it
-/// found another seat at the place, and how often it found none kept. No value of it is made.
+/// An atomic step at the word of a place, with what it found. The word is 0 where none is kept, 1 where one is, and
+/// more where a seat has the slot. No value of it is made.
+pub enum Deed<O> {
+    /// Reads the word: what it holds.
+    Look(u64),
+    /// Goes for what is kept, and has it: this value.
+    Win(O),
+    /// Goes for the slot while none is kept, and has it.
+    WinFree,
+    /// Goes for either, and loses it: what the word holds.
+    Lose(u64),
+    /// Leaves this value in the slot.
+    Put(O),
+    /// Leaves the slot empty.
+    Leave,
+}
+
+/// A step at a place, and how many steps its seat's owner had made at the list by then, as it showed. No value of it is
+/// made.
+pub struct PlaceStep<O> {
+    pub after: usize,
+    pub deed: Deed<O>,
+}
+
+/// What a seat may do and has in hand, and the steps that it made. No value of it is made.
 pub struct View<O> {
     pub right: Right,
     pub hand: Hand,
-    pub put: LinkedList<O>,
-    pub taken: LinkedList<O>,
-    pub busy: usize,
-    pub empty: usize,
+    pub steps: LinkedList<PlaceStep<O>>,
+}
+
+/// How many steps the caller has made at another place by now, as it shows: a call at `Brand` picks it from what it is
+/// shown.
+pub trait Shown {
+    ghost made: { ℕ };
+}
+
+impl Shown for Brand {
+    ghost made = { 0 };
 }
