@@ -1,5 +1,5 @@
 -- What a taking names, what stays as it was, and the waker that is lent.
-use Rattle.std.proofs.Common.{◌≡◌, ℕ, ◌<◌, List, Option, Some, arith}
+use Rattle.std.proofs.Common.{◌≡◌, ℕ, ◌<◌, List, length, Option, Some, arith}
 use Rattle.futures_buffered_table.specs.declared.answer.Taken.{Taken}
 use Rattle.futures_buffered_table.specs.declared.answer.Taken.TheVariants.{Slot}
 use Rattle.futures_buffered_table.specs.Taking.{CallsAtStub}
@@ -14,7 +14,7 @@ name_below n m taken below same = grind arith
 
 -- the poller waits after a taking where it waited before
 pub stays : {O : Type 0} (n : ℕ) (made : List AtomicStep) (taken : Taken) (head : ℕ) (before after : Poller O) →
-    CallsAtStub (λ _ (old new : Poller O). GivesUp old new) n made taken head before after → after.awaits ≡ before.awaits
+    CallsAtStub (λ (made : List AtomicStep) (old new : Poller O). GivesUp (length made) old new) n made taken head before after → after.awaits ≡ before.awaits
 stays n made taken head before after calls = grind arith
 
 -- the waker that is lent at first is of slot 0

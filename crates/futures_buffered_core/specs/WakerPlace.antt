@@ -1,7 +1,11 @@
 -- The place of the task's waker, and what the poller did there.
-use Rattle.std.specs.Prelude.{◌≡◌, ◌⊎◌, ℕ, ◌+◌, ◌∷◌, [], ◌++◌, Option, Some, None, refl}
-use Rattle.std.specs.Coded.{Coded, code_by, coded×, coded_ℕ, coded_option}
-use Rattle.futures_buffered_place.specs.History.{PlaceId, place_id_code, History, history_code, and_taken, TakesOut}
+use Rattle.std.specs.Prelude.{◌≡◌, ℕ, Bool, List, Option, Some, None, length, refl}
+use Rattle.std.specs.Coded.{Coded, code_by, coded×, coded_ℕ, coded_bool, coded_option}
+use Rattle.futures_buffered_table.specs.declared.answer.Woke.TheVariants.{Fresh, Already}
+use Rattle.futures_buffered_table.specs.declared.view.AtomicStep.{AtomicStep}
+use Rattle.futures_buffered_table.specs.Waking.{IsWake}
+use Rattle.futures_buffered_place.specs.declared.place.Put.{Put as Answer}
+use Rattle.futures_buffered_place.specs.History.{PlaceId, place_id_code, History, history_code, PutsIn, TakesOut, Seated, no_history}
 
 -- the name of what a task waits for that registers, and the place in which its wakers look
 pub record Awaited : Type 0 where
@@ -12,38 +16,46 @@ abbrev pub awaited_code : Coded Awaited
 awaited_code = code_by (ℕ × PlaceId) (coded× coded_ℕ place_id_code)
     (λ a. (a.source, a.place)) (λ p. record { source = p.0; place = p.1 }) (λ _. refl)
 
--- the poller's side: where it waits, the wakers that it put in and took back there, and the one that it has
+-- the poller's side: where it waits, whether it alone puts in there, the steps that it made there, and the waker that it
+-- has
 pub record Poller (O : Type 0) : Type 0 where
   pub awaits : Awaited
+  pub alone : Bool
   pub did : History O
   pub own : Option O
 
 abbrev pub poller_code : {O : Type 0} → Coded O → Coded (Poller O)
-poller_code {O} code = code_by (Awaited × (History O × Option O))
-    (coded× awaited_code (coded× (history_code code) (coded_option code)))
-    (λ p. (p.awaits, (p.did, p.own))) (λ p. record { awaits = p.0; did = p.1.0; own = p.1.1 }) (λ _. refl)
+poller_code {O} code = code_by (Awaited × (Bool × (History O × Option O)))
+    (coded× awaited_code (coded× coded_bool (coded× (history_code code) (coded_option code))))
+    (λ p. (p.awaits, (p.alone, (p.did, p.own)))) (λ p. record { awaits = p.0; alone = p.1.0; did = p.1.1.0; own = p.1.1.1 }) (λ _. refl)
 
 module _ {O : Type 0} where
   -- it has this waker, and did this
   abbrev pub IsNewPoller : Option O → History O → Poller O → Type 0
   IsNewPoller own did new = (new.own ≡ own) × (new.did ≡ did)
 
-  -- the waker was put in, and the one before was taken out; or another call was at the place, and the waker is woken
-  abbrev pub PutsOrMeets : O → History O → History O → Type 0
-  PutsOrMeets x old new =
-      ((before : Option O) × (new ≡ record old { put = old.put ++ x ∷ []; taken = and_taken old.taken before }))
-      ⊎ (new ≡ record old { busy = old.busy + 1 })
+  -- one putting in of the waker, once so many steps were made at the list: it is put in, and the one before was taken
+  -- out; or it met another call, and the waker is woken
+  abbrev pub PutsOrMeets : ℕ → Bool → O → History O → History O → Type 0
+  PutsOrMeets made alone x old new = (answer : Answer O) × PutsIn made alone x old answer new
 
   -- the waker that it has, if it has one, is put in
-  abbrev pub PutsOwn : Option O → History O → History O → Type 0
-  PutsOwn None old new = new ≡ old
-  PutsOwn (Some x) old new = PutsOrMeets x old new
+  abbrev pub PutsOwn : ℕ → Bool → Option O → History O → History O → Type 0
+  PutsOwn made alone None old new = new ≡ old
+  PutsOwn made alone (Some x) old new = PutsOrMeets made alone x old new
 
-  -- it waits where it waited, and has no waker: the one that it had is put in
-  abbrev pub GivesUp : Poller O → Poller O → Type 0
-  GivesUp old new = (new.awaits ≡ old.awaits) × (new.own ≡ None) × PutsOwn old.own old.did new.did
+  -- it waits where it waited, and has no waker: the one that it had is put in, once so many steps were made at the list
+  abbrev pub GivesUp : ℕ → Poller O → Poller O → Type 0
+  GivesUp made old new = (new.awaits ≡ old.awaits) × (new.alone ≡ old.alone) × (new.own ≡ None)
+      × PutsOwn made old.alone old.own old.did new.did
 
   -- where it has no waker, it takes out the one that is kept, if one is
-  abbrev pub TakesBack : Option O → History O → History O → Type 0
-  TakesBack None old new = (x : Option O) × TakesOut old x new
-  TakesBack (Some own) old new = new ≡ old
+  abbrev pub TakesBack : ℕ → Option O → History O → History O → Type 0
+  TakesBack made None old new = (x : Option O) × TakesOut made old x new
+  TakesBack made (Some own) old new = new ≡ old
+
+  -- One wake of the slot i: its steps at the list; and where it was fresh, by another seat, its steps at the place, each
+  -- made once those at the list were. It took the waker out, or missed it.
+  abbrev pub IsWholeWake : ℕ → List AtomicStep → Option (Seated O) → Type 0
+  IsWholeWake i listed None = IsWake i listed Already
+  IsWholeWake i listed (Some at) = IsWake i listed Fresh × ((outer : Option O) × TakesOut (length listed) no_history outer at.did)

@@ -9,6 +9,7 @@
 //! - `core_source` and `script_source`: two sources for one caller, `CoreSource` over a core and `ScriptSource` over a
 //!   list of answers.
 //! - `waker_place`: where a source keeps the waker of its task, and where a fresh wake of a slot finds it.
+//! - `poller_side`: the poller's seats of the list and of that place.
 //! - `ready_shared`: `SharedReady`, a source whose wakers are woken from any thread, over a list of atomic words.
 //! - `ready_table`: the same list by single atomic steps, under every schedule of wakers and one poller. `StepMachine`
 //!   makes the steps one at a time.
@@ -16,6 +17,7 @@
 #![tactic(auto)]
 
 pub mod core_source;
+pub mod poller_side;
 pub mod ready_core;
 pub mod ready_shared;
 pub mod ready_source;

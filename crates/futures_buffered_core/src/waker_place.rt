@@ -16,19 +16,19 @@
 //! - A poller that is to put its waker in and finds a wake at the place wakes the task itself.
 //!
 //! Every step is sequentially consistent, so all of them stand in one order.
-ghost use Rattle.std.specs.Prelude.{◌≡◌, ◌⊎◌, ℕ, true, Option, None, IfOk, IsSomeAnd};
+ghost use Rattle.std.specs.Prelude.{◌≡◌, ◌⊎◌, ℕ, true, false, Option, None, IfOk, IsSomeAnd, length};
 ghost use Rattle.std.specs.Arc.{arc_value};
 ghost use Rattle.futures.specs.Task.{Hears, IsArmed, Keeps, Wakes};
 ghost use Rattle.futures_buffered_core.specs.WakerPlace.{IsNewPoller, PutsOrMeets, GivesUp, TakesBack};
-ghost use Rattle.futures_buffered_place.specs.History.{TakesOut, no_history, seated};
+ghost use Rattle.futures_buffered_place.specs.History.{TakesOut, no_history, putter};
 ghost use Rattle.futures_buffered_table.specs.Waking.{IsWake};
 ghost use Rattle.futures_buffered_table.specs.declared.answer.Woke.TheVariants.{Fresh};
 
 use futures::task::{Context, Poll, Source, Waker};
-use futures_buffered_place::place::{Place, Put, PutSeat, TakeSeat};
+use futures_buffered_place::place::{Place, Put, PutSeat, Shown, TakeSeat};
 use futures_buffered_table::ready_table::{BeforeEmpty, StepsMade, WakeSeat};
 use std::alloc::{AllocError, Global};
-use std::marker::Model;
+use std::marker::{Brand, Model};
 use std::sync::Arc;
 
 /// What a fresh wake of a slot wakes in its turn.
@@ -64,7 +64,7 @@ impl<O> Model for WakerPlace<O> {
 impl<O: OuterWaker> WakerPlace<O> {
     /// Keeps no waker at first. Gives the seat that puts in.
     pub fn new(alloc: Global) -> Result<(WakerPlace<O>, PutSeat<O>), AllocError>
-        ensures { IfOk result (λ r. r.1 ≡ seated r.0.place no_history) }
+        ensures { IfOk result (λ r. r.1 ≡ putter r.0.place true no_history) }
     {
         let (kept, seat) = Place::new(alloc)?;
         let source = Source::new();
@@ -75,13 +75,14 @@ impl<O: OuterWaker> WakerPlace<O> {
     /// registration one takes it out, and those that come later pay for a load.
     ///
     /// The seat shows that a fresh wake has put its slot into the list: no wake looks here earlier. The seat that it
-    /// gives shows that it took out the waker, or found none or another call at the place.
-    pub fn wake(&self, _made: &WakeSeat) -> TakeSeat<O>
-        requires { (slot : ℕ) × IsWake slot _made.now.steps Fresh }
+    /// gives shows that it took out the waker, or found none or another call at the place, once the steps of the wake
+    /// were made.
+    pub fn wake(&self, made: &WakeSeat) -> TakeSeat<O>
+        requires { (slot : ℕ) × IsWake slot made.now.steps Fresh }
         ensures place { result.place ≡ self.now.place }
-        ensures looked { (outer : Option O) × TakesOut no_history outer result.did }
+        ensures looked { (outer : Option O) × TakesOut (length made.now.steps) no_history outer result.did }
     {
-        let (taken, seat) = self.kept.take_anew();
+        let (taken, seat) = self.kept.take_anew::<Brand, WakeSeat>(made);
         if let Some(outer) = taken {
             outer.wake_outer();
         }
@@ -90,12 +91,13 @@ impl<O: OuterWaker> WakerPlace<O> {
 
     /// Keeps a waker in place of the one before, which is let go once this call has left the place. Where another call
     /// is there, it wakes the waker at once.
-    pub fn put_in(&self, seat: &mut PutSeat<O>, outer: O)
+    pub fn put_in<J: Shown, T>(&self, seat: &mut PutSeat<O>, outer: O, shown: &T)
         requires { seat.old.place ≡ self.now.place }
         ensures place { seat.new.place ≡ seat.old.place }
-        ensures put { PutsOrMeets outer seat.old.did seat.new.did }
+        ensures alone { seat.new.alone ≡ seat.old.alone }
+        ensures put { PutsOrMeets J.made seat.old.alone outer seat.old.did seat.new.did }
     {
-        match self.kept.put_in(seat, outer) {
+        match self.kept.put_in::<J, T>(seat, outer, shown) {
             Put::Kept(_before) => {}
             Put::Busy(outer) => outer.wake_outer(),
         }
@@ -128,7 +130,7 @@ impl<O> Model for PollerWaker<O> {
 
     ghost coded = { poller_code O.code };
 
-    ghost view = { λ p. record { awaits = arc_value p.shared; did = p.seat.did; own = p.own } };
+    ghost view = { λ p. record { awaits = arc_value p.shared; alone = p.seat.alone; did = p.seat.did; own = p.own } };
 
     ghost invariant = { λ p. p.seat.place ≡ (arc_value p.shared).place };
 }
@@ -148,13 +150,14 @@ impl<O: OuterWaker> PollerWaker<O> {
     }
 
     /// Makes the side of a source beside this one. What is kept here goes to the place that both share, as by `put_in`.
-    pub fn beside(&mut self) -> Result<PollerWaker<O>, AllocError>
+    pub fn beside<J: Shown, T>(&mut self, shown: &T) -> Result<PollerWaker<O>, AllocError>
         ensures shared { IfOk result (λ place. place.awaits ≡ self.old.awaits) }
         ensures new { IfOk result (IsNewPoller None no_history) }
+        ensures alone { IfOk result (λ place. (place.alone ≡ false) × (self.new.alone ≡ false)) }
         ensures same { self.new.awaits ≡ self.old.awaits }
     {
         let shared = self.shared()?;
-        self.give_up_own();
+        self.give_up_own::<J, T>(shown);
         let seat = self.seat.beside(&self.shared.kept);
         Ok(PollerWaker {
             shared,
@@ -171,12 +174,13 @@ impl<O: OuterWaker> PollerWaker<O> {
     }
 
     /// Keeps a waker in the shared place, as [`WakerPlace::put_in`] does.
-    pub fn put_in(&mut self, outer: O)
+    pub fn put_in<J: Shown, T>(&mut self, outer: O, shown: &T)
         ensures same { self.new.awaits ≡ self.old.awaits }
+        ensures alone { self.new.alone ≡ self.old.alone }
         ensures own { self.new.own ≡ self.old.own }
-        ensures put { PutsOrMeets outer self.old.did self.new.did }
+        ensures put { PutsOrMeets J.made self.old.alone outer self.old.did self.new.did }
     {
-        self.shared.put_in(&mut self.seat, outer);
+        self.shared.put_in::<J, T>(&mut self.seat, outer, shown);
     }
 }
 
@@ -185,16 +189,17 @@ impl PollerWaker<Waker> {
     /// task is let go, which wakes that task.
     ///
     /// Where no waker can be made, the task is woken.
-    pub fn register(&mut self, cx: &mut Context<'_>)
+    pub fn register<J: Shown, T>(&mut self, cx: &mut Context<'_>, shown: &T)
+        ensures alone { self.new.alone ≡ self.old.alone }
         ensures same { self.new.awaits ≡ self.old.awaits }
         ensures armed { IsArmed cx.new }
         ensures heard { Hears cx.new self.old.awaits.source }
         ensures kept { Keeps cx.old cx.new }
         ensures own { (cx.new.lacks_waker ≡ true) ⊎ IsSomeAnd self.new.own (λ waker. Wakes waker cx.old) }
-        ensures back { TakesBack self.old.own self.old.did self.new.did }
+        ensures back { TakesBack J.made self.old.own self.old.did self.new.did }
     {
         if self.own.is_none() {
-            if let Some(kept) = self.shared.kept.take_out(&mut self.seat) {
+            if let Some(kept) = self.shared.kept.take_out::<J, T>(&mut self.seat, shown) {
                 self.own = Some(kept);
             }
         }
@@ -203,14 +208,15 @@ impl PollerWaker<Waker> {
 }
 
 impl<O: OuterWaker> BeforeEmpty for PollerWaker<O> {
+    ghost use Rattle.std.specs.Prelude.{length};
     ghost use Rattle.futures_buffered_core.specs.WakerPlace.{GivesUp};
 
-    ghost leaves = { λ _ old new. GivesUp old new };
+    ghost leaves = { λ made old new. GivesUp (length made) old new };
 
     #[inline(always)]
-    fn before_empty(&mut self, _made: &StepsMade<'_>) {
+    fn before_empty(&mut self, made: &StepsMade<'_>) {
         if self.own.is_some() {
-            self.give_up_own();
+            self.give_up_own::<Brand, StepsMade<'_>>(made);
         }
     }
 }
@@ -218,11 +224,11 @@ impl<O: OuterWaker> BeforeEmpty for PollerWaker<O> {
 impl<O: OuterWaker> PollerWaker<O> {
     // Puts the waker, if one is kept here, where wakes find it, as by `put_in`.
     #[inline(never)]
-    pub(crate) fn give_up_own(&mut self)
-        ensures { GivesUp self.old self.new }
+    pub(crate) fn give_up_own<J: Shown, T>(&mut self, shown: &T)
+        ensures { GivesUp J.made self.old self.new }
     {
         if let Some(outer) = self.own.take() {
-            self.put_in(outer);
+            self.put_in::<J, T>(outer, shown);
         }
     }
 }
