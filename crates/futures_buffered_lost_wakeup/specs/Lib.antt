@@ -1,2 +1,3 @@
+pub mod Agents
 pub mod Scene
-pub mod LostWake
+pub mod Runs

@@ -1,73 +1,299 @@
--- What takes part where wakes of slots wake a task, between two atomic steps: the ready list, what each wake is about
--- to do at the place of the task's waker, that place, the poller and the task.
-use Rattle.std.specs.Prelude.{ℕ, ◌==◌, Bool, false, true, if◌then◌else◌}
-use Rattle.futures_buffered_table.specs.Schedule.{Moment, at_start}
+-- No wake is lost. This page says who takes part if wakes of slots wake a task, which steps each may make, and what never
+-- happens, whatever the order of the steps.
+use Rattle.std.specs.Prelude.{◌≡◌, ◌≢◌, ℕ, ◌<◌, ◌≤◌, ◌==◌, false, true, if◌then◌else◌, Bool, List, [], ◌∷◌, Option, Some, None, map}
+use Rattle.futures_buffered_table.specs.declared.answer.Taken.TheVariants.{Empty, Pause}
+use Rattle.futures_buffered_table.specs.declared.answer.Woke.TheVariants.{Fresh}
+use Rattle.futures_buffered_table.specs.declared.step.Step.{Step}
+use Rattle.futures_buffered_table.specs.declared.step.Step.TheVariants.{Mark, Go, Poll}
+use Rattle.futures_buffered_table.specs.declared.step.StepReply.{StepReply}
+use Rattle.futures_buffered_table.specs.declared.step.StepReply.TheVariants.{Woke, Taken}
+use Rattle.futures_buffered_table.specs.declared.step.TheConstants.{WAKE_SEATS}
+use Rattle.futures_buffered_table.specs.declared.view.Phase.TheVariants.{Start, AtStub}
+use Rattle.futures_buffered_table.specs.declared.view.Role.{Role}
+use Rattle.futures_buffered_table.specs.declared.view.Role.TheVariants.{Idle, Polls}
+use Rattle.futures_buffered_table.specs.Effect.{reply_of_role}
+use Rattle.futures_buffered_table.specs.Schedule.{Moment, after_step, at_start, found_at, view_at}
+use Rattle.futures_buffered_table.specs.Step.{CanStep, role_at, seat_of}
+use Rattle.futures_buffered_table.specs.View.{role_of}
+use Rattle.futures_buffered_table.specs.Words.{mark}
+use Rattle.futures_buffered_place.specs.declared.view.Deed.TheVariants.{Look, Win, WinFree, Lose, Put, Leave}
+use Rattle.futures_buffered_lost_wakeup.specs.Agents.{Act, Errand, Rests, Looks, Turn, Parked, Registers, Asks, Met, Sibling, Away, LetsGo}
+use Rattle.futures_buffered_lost_wakeup.specs.Agents.{sibling_after, turn_after, wake_after, wanted_by_sibling, wanted_by_turn}
 
--- what a wake does next, once its slot is in the list
-pub data Errand : Type 0 where
-  -- nothing: no wake of this seat is under way, or it is still at the list
-  Rests : Errand
-  -- it reads whether a waker is kept
-  Looks : Errand
-  -- it tries to take the waker, by a compare-exchange
-  Tries : Errand
-  -- it has the place: it takes the waker out and leaves the place bare, by one store
-  Inside : Errand
-  -- it has the task's waker, and wakes the task
-  Wakes : Errand
+-- Who takes part.
 
--- what the word of the place says, and who has the place
-pub data Place : Type 0 where
-  -- no waker is kept
-  Bare : Place
-  -- the task's waker is kept
-  Keeps : Place
-  -- the wake of this seat has the place, with the waker
-  WakeHas : ℕ → Place
-  -- the poller has the place
-  PollerHas : Place
-  -- a source beside this one has the place, for a waker of an earlier poll; and whether the task's waker is kept there,
-  -- which that one replaces
-  BesideHas : Bool → Place
+-- who has the place
+pub data Holder : Type 0 where
+  -- the wake of this seat
+  AWake : ℕ → Holder
+  -- the poller
+  ThePoller : Holder
+  -- a sibling; the flag is set if the task's waker was kept there
+  ASibling : Bool → Holder
 
--- where the poller is
-pub data Turn : Type 0 where
-  -- no poll is under way, or it is done with this list
-  Parked : Turn
-  -- a poll has begun, and registers its task
-  Registers : Turn
-  -- it has the place, from which it takes its waker back
-  TakesBack : Turn
-  -- it asks the list for names
-  Asks : Turn
-  -- it has the place, into which it puts its waker
-  LaysOut : Turn
+-- what the place is between two steps
+pub data Stage : Type 0 where
+  -- it keeps no waker
+  Vacant : Stage
+  -- it keeps none, and the only poller writes its own in a poll
+  Filling : Stage
+  -- it keeps none, and the only poller writes a waker between two polls
+  FillingBetween : Stage
+  -- it keeps the task's waker
+  Kept : Stage
+  -- an agent has it
+  Lent : Holder → Stage
 
+-- the number that the word of the place holds
+abbrev pub word : Stage → ℕ
+word Vacant = 0
+word Filling = 0
+word FillingBetween = 0
+word Kept = 1
+word (Lent holder) = 3
+
+-- all that takes part, between two steps
 pub record Scene : Type 0 where
+  -- the words of the list, and the roles of its seats
   pub list : Moment
-  -- by the numbers of seats: those of the list's wake seats, and, from there on, of wakes of sources beside this one
+  -- what the wake of each seat does: first the wake seats of the list, from `WAKE_SEATS` on the wakes of siblings
   pub errands : ℕ → Errand
-  pub place : Place
+  pub stage : Stage
+  -- whether the poller alone puts wakers in
+  pub alone : Bool
   -- whether the poller keeps the task's waker with itself
   pub own : Bool
   pub turn : Turn
+  pub sibling : Sibling
   -- whether the task was asked to poll again
   pub woken : Bool
 
--- an empty list, nobody at the place, and a task that is about to poll for the first time
-abbrev pub at_first : ℕ → Scene
-at_first n = record {
+-- at first the list is empty, nobody is at the place, and the task is about to poll
+abbrev pub first : ℕ → Scene
+first n = record {
   list = at_start n;
   errands = λ _. Rests;
-  place = Bare;
+  stage = Vacant;
+  alone = true;
   own = false;
   turn = Parked;
+  sibling = Away;
   woken = true;
 }
 
--- the errand of one seat changes
-abbrev pub set_errand : (ℕ → Errand) → ℕ → Errand → ℕ → Errand
-set_errand errands seat errand other = if other == seat then errand else errands other
+-- the seat by which the owner of the source marks slots itself, between polls
+abbrev pub owner : ℕ
+owner = 63
 
+-- Which steps each may make.
+
+pub data Event : Type 0 where
+  -- a wake or the poller makes this step of the list
+  InList : Step → Event
+  -- the wake of this seat makes this step at the place
+  WakeDoes : ℕ → Act → Event
+  -- the poller makes this step at the place
+  PollerDoes : Act → Event
+  -- a sibling makes this step at the place
+  SiblingDoes : Act → Event
+  -- the wake of this seat wakes the task with the waker that it took
+  WakeWakes : ℕ → Event
+  -- the poller wakes the task with its own waker, since it met another call at the place
+  PollerWakes : Event
+  -- a sibling wakes the task with its own waker, or by the drop of the one that it replaced
+  SiblingWakes : Event
+  -- a fresh wake of a sibling comes to the place
+  FromSibling : ℕ → Event
+  -- the task polls
+  Begin : Event
+  -- the registration leaves the task's waker with the poller
+  KeepOwn : Event
+  -- the registration can make no waker, and the task is woken
+  Lacks : Event
+  -- a sibling that registered in this list's stead keeps the task's waker, and the task is woken
+  Misses : Event
+  -- the poll ends, and the task is woken
+  Stop : Event
+  -- a sibling is made: from here on the poller does not put in alone
+  MakesSibling : Event
+
+-- what a step found is what the word of the place holds
+abbrev pub IsTrueOf : Stage → Act → Type 0
+IsTrueOf stage (Look n) = word stage ≡ n
+IsTrueOf stage (Win x) = word stage ≡ 1
+IsTrueOf stage WinFree = word stage ≡ 0
+IsTrueOf stage (Lose n) = word stage ≡ n
+IsTrueOf stage (Put x) = Unit {0}
+IsTrueOf stage Leave = Unit {0}
+
+-- who goes for the place loses it only if the word is not the expected one
+abbrev pub LosesRightly : ℕ → Act → Type 0
+LosesRightly wanted (Lose n) = n ≢ wanted
+LosesRightly wanted _ = Unit {0}
+
+-- what the place is after a step of this agent
+abbrev pub stage_after : Holder → Act → Stage → Stage
+stage_after holder (Look n) stage = stage
+stage_after holder (Win x) stage = Lent holder
+stage_after holder WinFree stage = Lent holder
+stage_after holder (Lose n) stage = stage
+stage_after holder (Put x) stage = Kept
+stage_after holder Leave stage = Vacant
+
+-- what the poller's seat does next at the list
+abbrev pub poller_role : Scene → Role
+poller_role s = (view_at s.list Poll).role
+
+-- the poller is between two takings
+abbrev pub IsAtStart : Role → Type 0
+IsAtStart (Polls head Start) = Unit {0}
+IsAtStart _ = ⊥
+
+-- the poller has read that the stub links to no slot, and reads the tail next
+abbrev pub IsAtStub : Role → Type 0
+IsAtStub (Polls head AtStub) = Unit {0}
+IsAtStub _ = ⊥
+
+-- the seat is between two errands; if it is the owner's, no poll is under way
+abbrev pub IsBetween : Scene → ℕ → Type 0
+IsBetween s seat = (s.errands seat ≡ Rests) × (seat ≡ owner → s.turn ≡ Parked)
+
+-- this list's poller is not at the place and does not register, so a sibling may be polled
+abbrev pub IsAway : Turn → Type 0
+IsAway Parked = Unit {0}
+IsAway Asks = Unit {0}
+IsAway _ = ⊥
+
+-- who may step at the list: a wake that is not at the place; and the poller, which has put its waker in before it reads
+-- the tail at the stub
+abbrev pub MayStep : Scene → Step → Type 0
+MayStep s (Mark seat slot) = IsBetween s seat
+MayStep s (Go seat) = IsBetween s seat
+MayStep s Poll = (s.turn ≡ Asks) × (IsAtStub (poller_role s) → s.own ≡ false)
+
+-- a poller that asks goes to the place only if it has the task's waker
+abbrev pub HasOne : Scene → Type 0
+HasOne s = s.turn ≡ Asks → s.own ≡ true
+
+-- The event can happen now. A step at the place is true of its word, and its agent makes it there. A sibling puts in
+-- beside other sources, or between two polls.
+abbrev pub CanDo : ℕ → Scene → Event → Type 0
+CanDo n s (InList step) = CanStep n (map role_of s.list.views) step × MayStep s step
+CanDo n s (WakeDoes seat act) = IsTrueOf s.stage act × LosesRightly 1 act
+    × ((next : Errand) × (wake_after (s.errands seat) act ≡ Some next))
+CanDo n s (PollerDoes act) = IsTrueOf s.stage act × LosesRightly (wanted_by_turn s.turn) act × HasOne s
+    × ((next : Turn) × (turn_after s.alone s.turn act ≡ Some next))
+CanDo n s (SiblingDoes act) = IsTrueOf s.stage act × LosesRightly (wanted_by_sibling s.sibling) act × (s.alone ≡ true → s.turn ≡ Parked)
+    × IsAway s.turn × ((next : Sibling) × (sibling_after s.alone s.sibling act ≡ Some next))
+CanDo n s (WakeWakes seat) = s.errands seat ≡ Errand.Wakes
+CanDo n s PollerWakes = s.turn ≡ Met
+CanDo n s SiblingWakes = s.sibling ≡ LetsGo
+CanDo n s (FromSibling seat) = (WAKE_SEATS ≤ seat) × (s.errands seat ≡ Rests)
+CanDo n s Begin = (s.turn ≡ Parked) × (s.sibling ≡ Away)
+CanDo n s KeepOwn = s.turn ≡ Registers
+CanDo n s Lacks = s.turn ≡ Registers
+CanDo n s Misses = (s.turn ≡ Asks) × (s.own ≡ true)
+CanDo n s Stop = (s.turn ≡ Asks) × IsAtStart (poller_role s)
+CanDo n s MakesSibling = (s.turn ≡ Parked) × (s.sibling ≡ Away)
+
+-- What each event changes.
+
+-- the errand of one seat changes
 abbrev pub with_errand : Scene → ℕ → Errand → Scene
-with_errand s seat errand = record s { errands = set_errand s.errands seat errand }
+with_errand s seat errand = record s { errands = λ other. if other == seat then errand else s.errands other }
+
+-- a fresh wake goes to the place; the owner's does not, since its task polls again by itself
+abbrev pub after_fresh : ℕ → Scene → Scene
+after_fresh seat s = if seat == owner then record s { woken = true } else with_errand s seat Looks
+
+-- what a reply of the list changes: Empty and Pause end the poll, and at Pause the task is woken
+abbrev pub after_reply : ℕ → StepReply → Scene → Scene
+after_reply seat (Woke Fresh) s = after_fresh seat s
+after_reply seat (Taken Empty) s = record s { turn = Parked }
+after_reply seat (Taken Pause) s = record s { turn = Parked; woken = true }
+after_reply seat _ s = s
+
+-- a wake makes this step at the place
+abbrev pub wake_did : ℕ → Act → Option Errand → Scene → Scene
+wake_did seat act None s = s
+wake_did seat act (Some next) s = record (with_errand s seat next) { stage = stage_after (AWake seat) act s.stage }
+
+-- a poller that alone puts in has the place from its look on
+abbrev pub filled_by : Turn → Stage → Stage
+filled_by Turn.Fills stage = Filling
+filled_by _ stage = stage
+
+-- the poller has no waker once it put it in or is to wake it; it has the one that it took back
+abbrev pub own_after : Turn → Act → Bool → Bool
+own_after Met act own = false
+own_after turn (Put x) own = false
+own_after turn Leave own = true
+own_after turn _ own = own
+
+-- the poller makes this step at the place
+abbrev pub poller_did : Act → Option Turn → Scene → Scene
+poller_did act None s = s
+poller_did act (Some next) s = record s {
+  turn = next;
+  stage = filled_by next (stage_after ThePoller act s.stage);
+  own = own_after next act s.own;
+}
+
+-- whether the task's waker was kept when a sibling won the place
+abbrev pub was_kept : Act → Bool
+was_kept (Win x) = true
+was_kept _ = false
+
+-- who alone puts in has the place from its look on, between two polls too
+abbrev pub written_by : Sibling → Stage → Stage
+written_by Sibling.Writes stage = FillingBetween
+written_by _ stage = stage
+
+-- a sibling makes this step at the place
+abbrev pub sibling_did : Act → Option Sibling → Scene → Scene
+sibling_did act None s = s
+sibling_did act (Some next) s = record s { sibling = next; stage = written_by next (stage_after (ASibling (was_kept act)) act s.stage) }
+
+-- the scene after an event
+abbrev pub after : ℕ → Scene → Event → Scene
+after n s (InList step) =
+    after_reply (seat_of step) (reply_of_role n (view_at s.list step).role (found_at n s.list step))
+    (record s { list = after_step n s.list step })
+after n s (WakeDoes seat act) = wake_did seat act (wake_after (s.errands seat) act) s
+after n s (PollerDoes act) = poller_did act (turn_after s.alone s.turn act) s
+after n s (SiblingDoes act) = sibling_did act (sibling_after s.alone s.sibling act) s
+after n s (WakeWakes seat) = record (with_errand s seat Rests) { woken = true }
+after n s PollerWakes = record s { turn = Asks; woken = true }
+after n s SiblingWakes = record s { sibling = Away; woken = true }
+after n s (FromSibling seat) = with_errand s seat Looks
+after n s Begin = record s { turn = Registers; woken = false }
+after n s KeepOwn = record s { own = true; turn = Asks }
+after n s Lacks = record s { turn = Asks; woken = true }
+after n s Misses = record s { own = false; woken = true }
+after n s Stop = record s { turn = Parked; woken = true }
+after n s MakesSibling = record s { alone = false }
+
+-- What never happens.
+
+-- each event can happen when its turn comes
+abbrev pub Legal : ℕ → Scene → List Event → Type 0
+Legal n s [] = Unit {0}
+Legal n s (event ∷ events) = CanDo n s event × Legal n (after n s event) events
+
+-- the scene after all events, in order
+abbrev pub run : ℕ → Scene → List Event → Scene
+run n s [] = s
+run n s (event ∷ events) = run n (after n s event) events
+
+-- each wake has ended
+abbrev pub AllRest : Scene → Type 0
+AllRest s = ((seat : ℕ) → s.errands seat ≡ Rests)
+    × ((seat : ℕ) → seat < WAKE_SEATS → role_at (map role_of s.list.views) seat ≡ Idle)
+
+-- Whatever the order of events: if each wake has ended, no poll is under way, of this source or of a sibling, and the task
+-- is not woken, then no slot is marked.
+abbrev pub NoWakeIsLost : Type 0
+NoWakeIsLost = (n : ℕ) (events : List Event) → Legal n (first n) events →
+    let s = run n (first n) events in
+    AllRest s → s.sibling ≡ Away → s.turn ≡ Parked → s.woken ≡ false →
+    (slot : ℕ) → slot < n → mark s.list.words slot ≡ 0

@@ -1,34 +1,33 @@
-//! That no wake is lost, as a law over every order of the steps of any wakes and of one poller.
+//! No wake is lost: a law over every order of the steps of any wakes and of one poller; and a law that says that these
+//! are the steps of the calls.
 //!
-//! The ready list is the one of `futures_buffered_table`, step by step. What its wakes and its poller do at the place
-//! of the task's waker is defined here, a step for each atomic step of `waker_place` in `futures_buffered_core`, so
-//! that a reader can lay the two side by side. Of sources that stand beside one another the scene has the list of one,
-//! and the steps at the place of all: a poll may register with another of them, which then lays the waker out in this
-//! one's stead. Two things are left out: what `beside` and `set_outer` put in between polls, and the loads with which
-//! the poller's calls begin. Nothing ties the two but this reading and the tests; the steps of the list are tied to the
-//! code by contracts.
+//! The steps at the list are those of `futures_buffered_table`, by the roles of its seats. The steps at the place of the
+//! task's waker are those that the contracts of `futures_buffered_place` name, with what each found. Only the values of
+//! the wakers are left out. `specs/Agents.antt` says which step a wake, the poller and a sibling may make next.
+//! `specs/Scene.antt` says what the steps change, and what never happens. `specs/Runs.antt` says that each shape of
+//! steps that a contract allows to a call is one way of such an agent. In `futures_buffered_core`, `PollerSide` and
+//! `WakerPlace::wake` say how many steps at the list come before each step at the place.
 //!
-//! | Step here | Step of the code |
-//! |---|---|
-//! | `Looks`, `Tries`, `Inside`, then `Wakes` | `WakerPlace::wake`: in `take_anew` the load of the word, the compare-exchange, and the store of `empty`; then `wake_outer` |
-//! | `GoBack`, and `AtPlace` from `TakesBack` | `PollerWaker::register`, where the poller keeps no waker: in `take_out` the compare-exchange, and the store of `empty`. Where the word says that none is kept, or the exchange is lost, nothing changes |
-//! | `KeepOwn` | `Context::register`, which leaves the task's waker with the poller that registers |
-//! | `Lacks` | `Context::register` that can make no waker, and has the task woken |
-//! | `LayOut`, and `AtPlace` from `LaysOut` | `before_empty` of the source that registered, between the link read and the tail read of a taking: `WakerPlace::put_in`, with its compare-exchange, where it makes one, and the store of `fill`. Where it makes none, no wake's step falls between the two: the word still says that none is kept until the store, and a wake that reads it leaves the place as one that finds the poller there does. A poll of groups asks that source first |
-//! | `LayOut` that finds a wake at the place, `Misses` | `put_in` that finds the place taken, or loses the exchange, and wakes its waker; or a source beside this one that registered and answers `Pause` or stops at its limit: its waker stays with it, and the task is woken |
-//! | `BesideGoes`, `BesidePuts`, `BesideMisses` | `before_empty` of a source beside this one that did not register, where a waker of an earlier poll is with it: `put_in`, which lets go the waker that it replaces, and so wakes the task; or finds the place taken or loses the exchange, and wakes its own |
-//! | `Stop` | a poll that ends with its task woken: by an output, after which the task polls again by itself, or at its limit |
-//! | `Stop`, `Begin` | the same poll registers once more, before it asks the list again |
-//! | `FromBeside` | a wake of a source beside this one, whose own list is not in the scene |
+//! The law takes four things for granted:
+//!
+//! - The steps of the running threads have one order, and each step found what the word held then.
+//! - The scene has one task, one list, and the steps of all siblings at the place.
+//! - Of siblings, the one that registered is polled first, and none registers after a pending one.
+//! - The task polls again by itself after a mark by hand, as a push makes one.
 #![tactic(auto)]
 
-ghost use Rattle.futures_buffered_lost_wakeup.specs.LostWake.{NoWakeIsLost};
+ghost use Rattle.futures_buffered_lost_wakeup.specs.Scene.{NoWakeIsLost};
+ghost use Rattle.futures_buffered_lost_wakeup.specs.Runs.{CallsAreRuns};
 
-/// In every order of steps: where each wake has ended and the task is not woken, and no poll is under way, of this
-/// source or of one beside it, no slot is marked.
+/// In every order of steps: if each wake has ended, the task is not woken, and no poll is under way, of this source or
+/// of a sibling, then no slot is marked.
 ///
-/// So where a slot is marked, a wake or a poll is under way, or the task is to poll again. That it polls again after a
-/// mark by hand, as a push makes one, the law takes for granted: nothing wakes it.
+/// So if a slot is marked, a wake or a poll is under way, or the task is to poll again.
 pub fn no_wake_is_lost()
     ensures { NoWakeIsLost }
+{}
+
+/// The steps that a call adds to its seats, by its contract, are a run of an agent of the law.
+pub fn calls_are_runs<O>()
+    ensures { CallsAreRuns O }
 {}

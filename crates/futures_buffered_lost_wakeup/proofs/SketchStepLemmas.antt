@@ -26,23 +26,23 @@ use Rattle.futures_buffered_table.proofs.ListLemmas.{by_test, elem_at, last_at, 
 use Rattle.futures_buffered_table.proofs.RowLemmas.{answered_by, put_by, row_slots, total_none}
 use Rattle.futures_buffered_table.proofs.ScheduleLemmas.{IsReachable, pending, reachable_start, step_reaches}
 use Rattle.futures_buffered_table.proofs.ScheduleLawLemmas.{IsPolls, role_polls}
-use Rattle.futures_buffered_lost_wakeup.specs.Scene.{Scene, at_first, with_errand, Rests, Looks, Inside, Wakes}
-use Rattle.futures_buffered_lost_wakeup.specs.Scene.{Turn, Parked, Asks}
-use Rattle.futures_buffered_lost_wakeup.specs.LostWake.{Event, InList, OnErrand, AtPlace, FromBeside, Begin, GoBack, KeepOwn, Lacks, LayOut, Misses, BesideGoes, BesidePuts, BesideMisses, Stop}
-use Rattle.futures_buffered_lost_wakeup.specs.LostWake.{AllRest, CanDo, IsAtStart, IsAtStub, IsBetween, Legal, NoWakeIsLost, NoneBeside, after, after_reply, owner_seat, poller_role, run}
-use Rattle.futures_buffered_lost_wakeup.proofs.SceneLemmas.{IsEmpty, IsTaken, IsWoke, empty_at_stub, hand_at_start, none_at_stub, polls_wake_none, stub_polls, taken_starts, times_none}
-use Rattle.futures_buffered_lost_wakeup.proofs.SceneInvariantLemmas.{Armed, ArmedIn, Busy, IsKept, IsSwapped, IsThere, PollerHolds, Seen, SwapsIn, Waits, errand_kept, holds_else, wakes_else, way_here}
-use Rattle.futures_buffered_lost_wakeup.proofs.PlaceLemmas.{armed_by_place, at_place_kept, beside_goes_kept, beside_puts_kept, go_back_kept, lay_out_kept, on_errand_kept, poller_view, stop_kept}
+use Rattle.futures_buffered_lost_wakeup.proofs.Sketch.{Sketch, at_first, with_errand, Rests, Looks, Inside, Wakes}
+use Rattle.futures_buffered_lost_wakeup.proofs.Sketch.{Turn, Parked, Asks}
+use Rattle.futures_buffered_lost_wakeup.proofs.SketchSteps.{Event, InList, OnErrand, AtPlace, FromBeside, Begin, GoBack, KeepOwn, Lacks, LayOut, Misses, BesideGoes, BesidePuts, BesideMisses, Stop}
+use Rattle.futures_buffered_lost_wakeup.proofs.SketchSteps.{AllRest, CanDo, IsAtStart, IsAtStub, IsBetween, NoneBeside, after, after_reply, owner_seat, poller_role}
+use Rattle.futures_buffered_lost_wakeup.proofs.SketchLemmas.{IsEmpty, IsTaken, IsWoke, empty_at_stub, hand_at_start, none_at_stub, polls_wake_none, stub_polls, taken_starts, times_none}
+use Rattle.futures_buffered_lost_wakeup.proofs.SketchInvariantLemmas.{Armed, ArmedIn, Busy, IsKept, IsSwapped, IsThere, PollerHolds, Seen, SwapsIn, Waits, errand_kept, holds_else, wakes_else, way_here}
+use Rattle.futures_buffered_lost_wakeup.proofs.SketchPlaceLemmas.{armed_by_place, at_place_kept, beside_goes_kept, beside_puts_kept, go_back_kept, lay_out_kept, on_errand_kept, poller_view, stop_kept}
 
 -- a step of the list, by a wake: how the row goes on
-module _ (n : ℕ) (s : Scene) (kept : IsKept n s) (step : Step) (low : seat_of step < WAKE_SEATS) (can : CanStep n (map role_of s.list.views) step) (between : IsBetween s (seat_of step)) where
+module _ (n : ℕ) (s : Sketch) (kept : IsKept n s) (step : Step) (low : seat_of step < WAKE_SEATS) (can : CanStep n (map role_of s.list.views) step) (between : IsBetween s (seat_of step)) where
   abbrev new_view : View
   new_view = next_view (slot_of step) (view_at s.list step) (found_at n s.list step)
 
   there : get_elem? s.list.views (seat_of step) ≡ some (view_at s.list step)
   there = elem_at s.list.views (seat_of step) spent_view (let a = kept.reach.1 in omega arith)
 
-  no_poller : IsPolls (view_at s.list step).role → ⊥
+  pub no_poller : IsPolls (view_at s.list step).role → ⊥
   no_poller polls = grind (arith, role_polls, there)
 
   still_waits : Waits s.turn (after_step n s.list step).views
@@ -113,7 +113,7 @@ module _ (n : ℕ) (s : Scene) (kept : IsKept n s) (step : Step) (low : seat_of 
       by_role (view_at s.list step).role (found_at n s.list step) refl stays.0 stays.1
 
 -- and by the poller
-module _ (n : ℕ) (s : Scene) (kept : IsKept n s) (asks : s.turn ≡ Asks) (laid_out : IsAtStub (poller_role s) → s.own ≡ false) where
+module _ (n : ℕ) (s : Sketch) (kept : IsKept n s) (asks : s.turn ≡ Asks) (laid_out : IsAtStub (poller_role s) → s.own ≡ false) where
   poll_there : get_elem? s.list.views WAKE_SEATS ≡ some (view_at s.list Poll)
   poll_there = poller_view n s kept.reach
 
@@ -172,7 +172,7 @@ module _ (n : ℕ) (s : Scene) (kept : IsKept n s) (asks : s.turn ≡ Asks) (lai
       by_reply (reply_of_role n (view_at s.list Poll).role (found_at n s.list Poll)) refl stays.0 stays.1
 
 -- each step keeps a scene
-step_kept : (n : ℕ) (s : Scene) → IsKept n s → (event : Event) → CanDo n s event → IsKept n (after n s event)
+pub step_kept : (n : ℕ) (s : Sketch) → IsKept n s → (event : Event) → CanDo n s event → IsKept n (after n s event)
 step_kept n s kept (InList (Mark seat slot)) can = wake_step_kept n s kept (Mark seat slot) can.0.0 can.0 can.1
 step_kept n s kept (InList (Go seat)) can = wake_step_kept n s kept (Go seat) can.0.0 can.0 can.1
 step_kept n s kept (InList Poll) can = poll_step_kept n s kept can.1.0 can.1.1
@@ -191,11 +191,7 @@ step_kept n s kept BesidePuts can = beside_puts_kept n s kept s.place refl
 step_kept n s kept BesideMisses can = grind arith
 step_kept n s kept Stop can = stop_kept n s kept can.0 can.1
 
-run_kept : (n : ℕ) (s : Scene) → IsKept n s → (events : List Event) → Legal n s events → IsKept n (run n s events)
-run_kept n s kept [] legal = kept
-run_kept n s kept (event ∷ events) legal = run_kept n (after n s event) (step_kept n s kept event legal.0) events legal.1
-
-first_kept : (n : ℕ) → IsKept n (at_first n)
+pub first_kept : (n : ℕ) → IsKept n (at_first n)
 first_kept n = record {
   reach = reachable_start n;
   waits = λ _ v at. subst (λ (u : View). IsAtStart u.role) (some-injective (first_poller n) v (sym (last_at WAKE_SEATS (new_waker_beside (first_poller n)) (first_poller n)) ∙ at)) tt;
@@ -206,7 +202,7 @@ first_kept n = record {
 }
 
 -- where each wake has ended, a slot that is not in the row is not marked
-module _ (n : ℕ) (s : Scene) (kept : IsKept n s) (rest : AllRest s) (alone : NoneBeside s.place) (parked : s.turn ≡ Parked) where
+module _ (n : ℕ) (s : Sketch) (kept : IsKept n s) (rest : AllRest s) (alone : NoneBeside s.place) (parked : s.turn ≡ Parked) where
   idle : (seat : ℕ) (v : View) → seat < WAKE_SEATS → get_elem? s.list.views seat ≡ some v → v.role ≡ Idle
   idle seat v low at =
       let here : get_elem? s.list.views seat ≡ some (get_or s.list.views seat spent_view) = elem_at s.list.views seat spent_view (let a = kept.reach.1 in omega arith) in
@@ -222,8 +218,8 @@ module _ (n : ℕ) (s : Scene) (kept : IsKept n s) (rest : AllRest s) (alone : N
   unmarked : pending n s.list kept.reach ≡ [] → (slot : ℕ) → slot < n → mark s.list.words slot ≡ 0
   unmarked none slot lt = grind (arith, hand_at_start, row_slots, times_none, total_none, none_outside)
 
-pub no_wake_is_lost : NoWakeIsLost
-no_wake_is_lost = λ n events legal rest alone parked asleep slot lt.
-    let kept = run_kept n (at_first n) (first_kept n) events legal in
-    ⊎_elim (λ none. unmarked n (run n (at_first n) events) kept rest alone parked none slot lt)
-    (λ busy. absurd (not_busy n (run n (at_first n) events) kept rest alone parked busy)) (kept.seen parked asleep)
+-- a scene that is kept, where all rest and the task sleeps, has no slot marked
+pub none_marked : (n : ℕ) (s : Sketch) → IsKept n s → AllRest s → NoneBeside s.place → s.turn ≡ Parked → s.woken ≡ false → (slot : ℕ) → slot < n → mark s.list.words slot ≡ 0
+none_marked n s kept rest alone parked asleep slot lt =
+    ⊎_elim (λ none. unmarked n s kept rest alone parked none slot lt)
+    (λ busy. absurd (not_busy n s kept rest alone parked busy)) (kept.seen parked asleep)

@@ -15,9 +15,9 @@ use Rattle.futures_buffered_table.specs.Schedule.{after_step, found_at, view_at}
 use Rattle.futures_buffered_table.specs.Step.{CanStep, role_at, seat_of}
 use Rattle.futures_buffered_table.specs.View.{role_of}
 use Rattle.futures_buffered_table.specs.Words.{mark}
-use Rattle.futures_buffered_lost_wakeup.specs.Scene.{Scene, at_first, with_errand, Errand, Rests, Looks, Tries, Inside}
-use Rattle.futures_buffered_lost_wakeup.specs.Scene.{Wakes, Place, Bare, Keeps, WakeHas, PollerHas, BesideHas, Turn}
-use Rattle.futures_buffered_lost_wakeup.specs.Scene.{Parked, Registers, TakesBack, Asks, LaysOut}
+use Rattle.futures_buffered_lost_wakeup.proofs.Sketch.{Sketch, at_first, with_errand, Errand, Rests, Looks, Tries, Inside}
+use Rattle.futures_buffered_lost_wakeup.proofs.Sketch.{Wakes, Place, Bare, Keeps, WakeHas, PollerHas, BesideHas, Turn}
+use Rattle.futures_buffered_lost_wakeup.proofs.Sketch.{Parked, Registers, TakesBack, Asks, LaysOut}
 
 -- the seat by which whoever holds the source marks slots itself, between polls
 abbrev pub owner_seat : ℕ
@@ -54,7 +54,7 @@ pub data Event : Type 0 where
   Stop : Event
 
 -- what the poller's seat is about to do at the list
-abbrev pub poller_role : Scene → Role
+abbrev pub poller_role : Sketch → Role
 poller_role s = (view_at s.list Poll).role
 
 abbrev pub IsAtStart : Role → Type 0
@@ -66,7 +66,7 @@ IsAtStub (Polls head AtStub) = Unit {0}
 IsAtStub _ = ⊥
 
 -- the seat is between two errands, and who holds the source does not poll meanwhile
-abbrev pub IsBetween : Scene → ℕ → Type 0
+abbrev pub IsBetween : Sketch → ℕ → Type 0
 IsBetween s seat = (s.errands seat ≡ Rests) × (seat ≡ owner_seat → s.turn ≡ Parked)
 
 -- this list's poller is not at the place, and does not register
@@ -79,13 +79,13 @@ IsAway LaysOut = ⊥
 
 -- who may step at the list: a wake that is not at the place, and the poller, which before it reads the tail at the stub
 -- has laid its waker out
-abbrev pub MayStep : Scene → Step → Type 0
+abbrev pub MayStep : Sketch → Step → Type 0
 MayStep s (Mark seat slot) = IsBetween s seat
 MayStep s (Go seat) = IsBetween s seat
 MayStep s Poll = (s.turn ≡ Asks) × (IsAtStub (poller_role s) → s.own ≡ false)
 
 -- the step can be made now
-abbrev pub CanDo : ℕ → Scene → Event → Type 0
+abbrev pub CanDo : ℕ → Sketch → Event → Type 0
 CanDo n s (InList step) = CanStep n (map role_of s.list.views) step × MayStep s step
 CanDo n s (OnErrand seat) = s.errands seat ≢ Rests
 CanDo n s AtPlace = s.place ≡ PollerHas
@@ -102,11 +102,11 @@ CanDo n s BesideMisses = IsAway s.turn
 CanDo n s Stop = (s.turn ≡ Asks) × IsAtStart (poller_role s)
 
 -- a fresh wake goes to the place; one of whoever holds the source does not, since that task polls again by itself
-abbrev pub after_fresh : ℕ → Scene → Scene
+abbrev pub after_fresh : ℕ → Sketch → Sketch
 after_fresh seat s = if seat == owner_seat then record s { woken = true } else with_errand s seat Looks
 
 -- what a reply of the list makes of the rest: Empty ends the asking, and so does Pause, with the task woken
-abbrev pub after_reply : ℕ → StepReply → Scene → Scene
+abbrev pub after_reply : ℕ → StepReply → Sketch → Sketch
 after_reply seat (Woke Fresh) s = after_fresh seat s
 after_reply seat (Taken Empty) s = record s { turn = Parked }
 after_reply seat (Taken Pause) s = record s { turn = Parked; woken = true }
@@ -121,14 +121,14 @@ is_kept PollerHas = false
 is_kept (BesideHas before) = false
 
 -- a wake takes the waker, or leaves the task to whoever has the place
-abbrev pub after_try : ℕ → Place → Scene → Scene
+abbrev pub after_try : ℕ → Place → Sketch → Sketch
 after_try seat Bare s = with_errand s seat Rests
 after_try seat Keeps s = record (with_errand s seat Inside) { place = WakeHas seat }
 after_try seat (WakeHas other) s = with_errand s seat Rests
 after_try seat PollerHas s = with_errand s seat Rests
 after_try seat (BesideHas before) s = with_errand s seat Rests
 
-abbrev pub after_errand : ℕ → Errand → Scene → Scene
+abbrev pub after_errand : ℕ → Errand → Sketch → Sketch
 after_errand seat Rests s = s
 after_errand seat Looks s = with_errand s seat (if is_kept s.place then Tries else Rests)
 after_errand seat Tries s = after_try seat s.place s
@@ -136,15 +136,15 @@ after_errand seat Inside s = record (with_errand s seat Wakes) { place = Bare }
 after_errand seat Wakes s = record (with_errand s seat Rests) { woken = true }
 
 -- the poller at the place
-abbrev pub after_place : Turn → Scene → Scene
+abbrev pub after_place : Turn → Sketch → Sketch
 after_place Parked s = s
 after_place Registers s = s
-after_place TakesBack s = record s { place = Bare; turn = Registers }
+after_place TakesBack s = record s { place = Bare; own = true; turn = Registers }
 after_place Asks s = s
 after_place LaysOut s = record s { place = Keeps; own = false; turn = Asks }
 
 -- the registration takes the waker back, if one is kept
-abbrev pub go_back : Place → Scene → Scene
+abbrev pub go_back : Place → Sketch → Sketch
 go_back Bare s = s
 go_back Keeps s = record s { place = PollerHas; turn = TakesBack }
 go_back (WakeHas seat) s = s
@@ -152,7 +152,7 @@ go_back PollerHas s = s
 go_back (BesideHas before) s = s
 
 -- the poller has the place for its waker, or has the task woken where a wake has it
-abbrev pub lay_out : Place → Scene → Scene
+abbrev pub lay_out : Place → Sketch → Sketch
 lay_out Bare s = record s { place = PollerHas; turn = LaysOut }
 lay_out Keeps s = record s { place = PollerHas; turn = LaysOut }
 lay_out (WakeHas seat) s = record s { own = false; woken = true }
@@ -160,7 +160,7 @@ lay_out PollerHas s = record s { own = false; woken = true }
 lay_out (BesideHas before) s = record s { own = false; woken = true }
 
 -- a source beside this one has the place, or has the task woken where somebody else has it
-abbrev pub beside_goes : Place → Scene → Scene
+abbrev pub beside_goes : Place → Sketch → Sketch
 beside_goes Bare s = record s { place = BesideHas false }
 beside_goes Keeps s = record s { place = BesideHas true }
 beside_goes (WakeHas seat) s = record s { woken = true }
@@ -168,7 +168,7 @@ beside_goes PollerHas s = record s { woken = true }
 beside_goes (BesideHas before) s = record s { woken = true }
 
 -- it leaves its waker there
-abbrev pub beside_puts : Place → Scene → Scene
+abbrev pub beside_puts : Place → Sketch → Sketch
 beside_puts Bare s = s
 beside_puts Keeps s = s
 beside_puts (WakeHas seat) s = s
@@ -176,7 +176,7 @@ beside_puts PollerHas s = s
 beside_puts (BesideHas false) s = record s { place = Keeps }
 beside_puts (BesideHas true) s = record s { place = Keeps; woken = true }
 
-abbrev pub after : ℕ → Scene → Event → Scene
+abbrev pub after : ℕ → Sketch → Event → Sketch
 after n s (InList step) =
     after_reply (seat_of step) (reply_of_role n (view_at s.list step).role (found_at n s.list step))
     (record s { list = after_step n s.list step })
@@ -195,17 +195,17 @@ after n s BesideMisses = record s { woken = true }
 after n s Stop = record s { turn = Parked; woken = true }
 
 -- each step can be made when its turn comes
-abbrev pub Legal : ℕ → Scene → List Event → Type 0
+abbrev pub Legal : ℕ → Sketch → List Event → Type 0
 Legal n s [] = Unit {0}
 Legal n s (event ∷ events) = CanDo n s event × Legal n (after n s event) events
 
 -- all the steps, in order
-abbrev pub run : ℕ → Scene → List Event → Scene
+abbrev pub run : ℕ → Sketch → List Event → Sketch
 run n s [] = s
 run n s (event ∷ events) = run n (after n s event) events
 
 -- each wake has ended
-abbrev pub AllRest : Scene → Type 0
+abbrev pub AllRest : Sketch → Type 0
 AllRest s = ((seat : ℕ) → s.errands seat ≡ Rests)
     × ((seat : ℕ) → seat < WAKE_SEATS → role_at (map role_of s.list.views) seat ≡ Idle)
 
@@ -216,10 +216,3 @@ NoneBeside Keeps = Unit {0}
 NoneBeside (WakeHas seat) = Unit {0}
 NoneBeside PollerHas = Unit {0}
 NoneBeside (BesideHas before) = ⊥
-
--- where each wake has ended, no poll is under way and the task is not woken, no slot is marked
-abbrev pub NoWakeIsLost : Type 0
-NoWakeIsLost = (n : ℕ) (events : List Event) → Legal n (at_first n) events →
-    let s = run n (at_first n) events in
-    AllRest s → NoneBeside s.place → s.turn ≡ Parked → s.woken ≡ false →
-    (slot : ℕ) → slot < n → mark s.list.words slot ≡ 0

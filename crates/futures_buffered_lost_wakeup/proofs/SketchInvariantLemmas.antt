@@ -7,11 +7,11 @@ use Rattle.futures_buffered_table.specs.declared.view.Role.{Role}
 use Rattle.futures_buffered_table.specs.declared.view.Role.TheVariants.{Swapped}
 use Rattle.futures_buffered_table.specs.declared.view.View.{View}
 use Rattle.futures_buffered_table.proofs.ScheduleLemmas.{IsReachable, pending}
-use Rattle.futures_buffered_lost_wakeup.specs.Scene.{Scene, set_errand, with_errand, Errand, Rests, Inside, Wakes}
-use Rattle.futures_buffered_lost_wakeup.specs.Scene.{Place, Bare, Keeps, WakeHas, PollerHas, BesideHas}
-use Rattle.futures_buffered_lost_wakeup.specs.Scene.{Turn, Parked, Registers, TakesBack, Asks, LaysOut}
-use Rattle.futures_buffered_lost_wakeup.specs.LostWake.{IsAtStart}
-use Rattle.futures_buffered_lost_wakeup.proofs.SceneLemmas.{errand_here, errand_stays}
+use Rattle.futures_buffered_lost_wakeup.proofs.Sketch.{Sketch, set_errand, with_errand, Errand, Rests, Inside, Wakes}
+use Rattle.futures_buffered_lost_wakeup.proofs.Sketch.{Place, Bare, Keeps, WakeHas, PollerHas, BesideHas}
+use Rattle.futures_buffered_lost_wakeup.proofs.Sketch.{Turn, Parked, Registers, TakesBack, Asks, LaysOut}
+use Rattle.futures_buffered_lost_wakeup.proofs.SketchSteps.{IsAtStart}
+use Rattle.futures_buffered_lost_wakeup.proofs.SketchLemmas.{errand_here, errand_stays}
 
 -- no taking is under way
 abbrev pub IsWaiting : Turn → Type 0
@@ -52,10 +52,10 @@ abbrev pub SomeWakes : (ℕ → Errand) → Type 0
 SomeWakes errands = (seat : ℕ) × (errands seat ≡ Wakes)
 
 -- the task is woken, or a wake will wake it, or finds its waker
-abbrev pub Armed : Scene → Type 0
+abbrev pub Armed : Sketch → Type 0
 Armed s = (s.woken ≡ true) ⊎ (HasWaker s.place ⊎ SomeWakes s.errands)
 
-abbrev pub ArmedIn : Turn → Scene → Type 0
+abbrev pub ArmedIn : Turn → Sketch → Type 0
 ArmedIn Parked s = Armed s
 ArmedIn Registers s = Unit {0}
 ArmedIn TakesBack s = Unit {0}
@@ -73,11 +73,11 @@ SwapsIn views = (seat : ℕ) × (seat < WAKE_SEATS) × ((v : View) × (get_elem?
 abbrev pub OnItsWay : (ℕ → Errand) → Type 0
 OnItsWay errands = (seat : ℕ) × (errands seat ≢ Rests)
 
-abbrev pub Busy : Scene → Type 0
+abbrev pub Busy : Sketch → Type 0
 Busy s = OnItsWay s.errands ⊎ (SwapsIn s.list.views ⊎ LetsGo s.place)
 
 -- the row holds no slot, or some wake will come to the place
-abbrev pub Seen : (n : ℕ) (s : Scene) → IsReachable n s.list → Type 0
+abbrev pub Seen : (n : ℕ) (s : Sketch) → IsReachable n s.list → Type 0
 Seen n s reach = s.turn ≡ Parked → s.woken ≡ false → (pending n s.list reach ≡ []) ⊎ Busy s
 
 abbrev pub Holds : Place → (ℕ → Errand) → Type 0
@@ -89,7 +89,7 @@ PollerHolds place turn = place ≡ PollerHas → IsThere turn
 abbrev pub Waits : Turn → List View → Type 0
 Waits turn views = IsWaiting turn → (v : View) → get_elem? views WAKE_SEATS ≡ some v → IsAtStart v.role
 
-pub record IsKept (n : ℕ) (s : Scene) : Type 0 where
+pub record IsKept (n : ℕ) (s : Sketch) : Type 0 where
   pub reach : IsReachable n s.list
   pub waits : Waits s.turn s.list.views
   pub holder : Holds s.place s.errands
@@ -110,11 +110,11 @@ way_here errands seat errand ne = (seat, λ z. ne (sym (errand_here errands seat
 pub way_of_wakes : (errands : ℕ → Errand) → SomeWakes errands → OnItsWay errands
 way_of_wakes errands some_wakes = (some_wakes.0, λ z. let c : Wakes ≡ Rests = sym some_wakes.1 ∙ z in cc)
 
-pub armed_else : (n : ℕ) (s : Scene) (seat : ℕ) (errand : Errand) → s.errands seat ≢ Wakes → ArmedIn s.turn s → ArmedIn s.turn (with_errand s seat errand)
+pub armed_else : (n : ℕ) (s : Sketch) (seat : ℕ) (errand : Errand) → s.errands seat ≢ Wakes → ArmedIn s.turn s → ArmedIn s.turn (with_errand s seat errand)
 armed_else n s seat errand ne = grind arith
 
 -- a task that sleeps though it is armed, with no waker at the place: some wake is on its way, and it is not this one; or a source beside lets the waker go
-pub way_by_another : (s : Scene) (seat : ℕ) → Holds s.place s.errands → s.errands seat ≢ Inside → s.errands seat ≢ Wakes → s.place ≢ Keeps → s.woken ≡ false → Armed s → Busy (with_errand s seat Rests)
+pub way_by_another : (s : Sketch) (seat : ℕ) → Holds s.place s.errands → s.errands seat ≢ Inside → s.errands seat ≢ Wakes → s.place ≢ Keeps → s.woken ≡ false → Armed s → Busy (with_errand s seat Rests)
 way_by_another s seat holder not_inside not_wakes bare asleep (inl woken) = let c : true ≡ false = sym woken ∙ asleep in absurd cc
 way_by_another s seat holder not_inside not_wakes bare asleep (inr (inl has)) = by_place s.place refl has
   where
@@ -131,7 +131,7 @@ way_by_another s seat holder not_inside not_wakes bare asleep (inr (inr wakes)) 
     inl (way_of_wakes (set_errand s.errands seat Rests) (wakes_else s.errands seat Rests not_wakes wakes))
 
 -- one seat's errand changes, and nothing else
-pub errand_kept : (n : ℕ) (s : Scene) (kept : IsKept n s) (seat : ℕ) (errand : Errand) → s.errands seat ≢ Inside → s.errands seat ≢ Wakes
+pub errand_kept : (n : ℕ) (s : Sketch) (kept : IsKept n s) (seat : ℕ) (errand : Errand) → s.errands seat ≢ Inside → s.errands seat ≢ Wakes
     → Seen n (with_errand s seat errand) kept.reach → IsKept n (with_errand s seat errand)
 errand_kept n s kept seat errand not_inside not_wakes seen = record {
   reach = kept.reach;
@@ -142,5 +142,5 @@ errand_kept n s kept seat errand not_inside not_wakes seen = record {
   seen = seen;
 }
 
-pub armed_parked : (n : ℕ) (s : Scene) → IsKept n s → s.turn ≡ Parked → Armed s
+pub armed_parked : (n : ℕ) (s : Sketch) → IsKept n s → s.turn ≡ Parked → Armed s
 armed_parked n s kept parked = subst (λ (turn : Turn). ArmedIn turn s) parked kept.armed

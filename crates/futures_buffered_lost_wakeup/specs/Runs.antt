@@ -1,0 +1,81 @@
+-- The steps of the law are those of the calls: each shape of steps that a contract allows to a call is one way of an agent
+-- of the law, from where the call begins to where it ends.
+use Rattle.std.specs.Prelude.{◌≡◌, ℕ, Bool, List, [], ◌∷◌, Option, Some, None, map}
+use Rattle.futures_buffered_table.specs.declared.answer.Taken.{Taken as TakenAnswer}
+use Rattle.futures_buffered_table.specs.declared.answer.Woke.{Woke as WokeAnswer}
+use Rattle.futures_buffered_table.specs.declared.step.StepReply.{StepReply}
+use Rattle.futures_buffered_table.specs.declared.step.StepReply.TheVariants.{More, Woke, Taken}
+use Rattle.futures_buffered_table.specs.declared.view.AtomicStep.{AtomicStep}
+use Rattle.futures_buffered_table.specs.declared.view.Phase.TheVariants.{Start}
+use Rattle.futures_buffered_table.specs.declared.view.Role.{Role}
+use Rattle.futures_buffered_table.specs.declared.view.Role.TheVariants.{Idle, Polls}
+use Rattle.futures_buffered_table.specs.Effect.{next_role, reply_of_role, step_of_role}
+use Rattle.futures_buffered_table.specs.Taking.{IsTaking}
+use Rattle.futures_buffered_table.specs.Waking.{IsWake}
+use Rattle.futures_buffered_place.specs.declared.place.Put.{Put as Answer}
+use Rattle.futures_buffered_place.specs.declared.place.Put.TheVariants.{Kept, Busy}
+use Rattle.futures_buffered_place.specs.declared.view.Deed.{Deed}
+use Rattle.futures_buffered_place.specs.declared.view.Deed.TheVariants.{Look, Win, WinFree, Lose, Put, Leave}
+use Rattle.futures_buffered_place.specs.History.{IsPutIn, IsTakeOut}
+use Rattle.futures_buffered_lost_wakeup.specs.Agents.{Act, Errand, Rests, Looks, Wakes, Turn, Registers, Asks, Met, Sibling, Away, LetsGo}
+use Rattle.futures_buffered_lost_wakeup.specs.Agents.{sibling_after, turn_after, wake_after, wanted_by_sibling, wanted_by_turn}
+use Rattle.futures_buffered_lost_wakeup.specs.Scene.{LosesRightly}
+
+-- a step that a contract names, without its value
+abbrev pub act_of : {O : Type 0} → Deed O → Act
+act_of (Look n) = Look n
+act_of (Win x) = Win tt
+act_of WinFree = WinFree
+act_of (Lose n) = Lose n
+act_of (Put x) = Put tt
+act_of Leave = Leave
+
+-- an agent goes by these steps from here to there
+abbrev pub IsRun : {A : Type 0} → (A → Act → Option A) → (A → ℕ) → A → List Act → A → Type 0
+IsRun after wanted here [] there = here ≡ there
+IsRun after wanted here (act ∷ acts) there = LosesRightly (wanted here) act
+    × ((next : _) × (after here act ≡ Some next) × IsRun after wanted next acts there)
+
+-- a wake that took a waker wakes the task next; one that took none rests
+abbrev pub errand_with : {O : Type 0} → Option O → Errand
+errand_with None = Rests
+errand_with (Some x) = Wakes
+
+-- a poller that put its waker in asks the list; one that met another call wakes its waker next
+abbrev pub turn_with : {O : Type 0} → Answer O → Turn
+turn_with (Kept before) = Asks
+turn_with (Busy same) = Met
+
+-- a sibling that replaced a waker drops it next; one that met another call wakes its own
+abbrev pub sibling_with : {O : Type 0} → Answer O → Sibling
+sibling_with (Kept None) = Away
+sibling_with (Kept (Some x)) = LetsGo
+sibling_with (Busy same) = LetsGo
+
+-- a seat of the list goes by these steps from one role to another; the last of them replies, and no other does
+abbrev pub IsListRun : ℕ → ℕ → StepReply → Role → List AtomicStep → StepReply → Role → Type 0
+IsListRun n slot said role [] reply there = (said ≡ reply) × (role ≡ there)
+IsListRun n slot said role (step ∷ steps) reply there = (said ≡ More)
+    × ((found : ℕ) × (step ≡ step_of_role n slot role found)
+    × IsListRun n slot (reply_of_role n role found) (next_role n slot role found) steps reply there)
+
+-- every call that makes steps at the list or at the place
+pub record CallsAreRuns (O : Type 0) : Type 0 where
+  -- a wake, at the list
+  pub wake : (n i : ℕ) (shape : List AtomicStep) (woke : WokeAnswer) → IsWake i shape woke
+      → IsListRun n i More Idle shape (Woke woke) Idle
+  -- a taking
+  pub taking : (n h : ℕ) (shape : List AtomicStep) (answer : TakenAnswer) (head : ℕ) → IsTaking n h shape answer head
+      → IsListRun n 0 More (Polls h Start) shape (Taken answer) (Polls head Start)
+  -- a fresh wake, at the place
+  pub wake_at_place : (shape : List (Deed O)) (outer : Option O) → IsTakeOut shape outer
+      → IsRun wake_after (λ _. 1) Looks (map act_of shape) (errand_with outer)
+  -- a registration
+  pub takes_back : (alone : Bool) (shape : List (Deed O)) (outer : Option O) → IsTakeOut shape outer
+      → IsRun (turn_after alone) wanted_by_turn Registers (map act_of shape) Registers
+  -- a poller that puts its waker in before Empty
+  pub puts_in : (alone : Bool) (x : O) (shape : List (Deed O)) (answer : Answer O) → IsPutIn alone x shape answer
+      → IsRun (turn_after alone) wanted_by_turn Asks (map act_of shape) (turn_with answer)
+  -- a sibling that puts a waker in, and a poller between two polls
+  pub sibling_puts_in : (alone : Bool) (x : O) (shape : List (Deed O)) (answer : Answer O) → IsPutIn alone x shape answer
+      → IsRun (sibling_after alone) wanted_by_sibling Away (map act_of shape) (sibling_with answer)
