@@ -5,6 +5,7 @@ use Rattle.futures_buffered_table.specs.declared.answer.Woke.TheVariants.{Fresh,
 use Rattle.futures_buffered_table.specs.declared.view.AtomicStep.{AtomicStep}
 use Rattle.futures_buffered_table.specs.Waking.{IsWake}
 use Rattle.futures_buffered_place.specs.declared.place.Put.{Put as Answer}
+use Rattle.futures_buffered_place.specs.declared.place.Put.TheVariants.{Kept, Busy}
 use Rattle.futures_buffered_place.specs.History.{PlaceId, place_id_code, History, history_code, PutsIn, TakesOut, Seated, no_history}
 
 -- the name of what a task waits for that registers, and the place in which its wakers look
@@ -33,6 +34,11 @@ module _ {O : Type 0} where
   -- it has this waker, and did this
   abbrev pub IsNewPoller : Option O → History O → Poller O → Type 0
   IsNewPoller own did new = (new.own ≡ own) × (new.did ≡ did)
+
+  -- the answer of a putting in that replaced this waker; or that returned a waker, since it met another call
+  abbrev pub answer_of : Option O → Option O → Answer O
+  answer_of before None = Kept before
+  answer_of before (Some outer) = Busy outer
 
   -- one putting in of the waker, once so many steps were made at the list: it is put in, and the one before was taken
   -- out; or it met another call, and the waker is woken

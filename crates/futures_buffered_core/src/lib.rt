@@ -8,6 +8,7 @@
 //! - `ready_source`: the traits by which a set asks for names.
 //! - `core_source` and `script_source`: two sources for one caller, `CoreSource` over a core and `ScriptSource` over a
 //!   list of answers.
+//! - `must_wake`: what comes out of the place of the task's waker, and has to be woken.
 //! - `waker_place`: where a source keeps the waker of its task, and where a fresh wake of a slot finds it.
 //! - `poller_side`: the poller's seats of the list and of that place.
 //! - `ready_shared`: `SharedReady`, a source whose wakers are woken from any thread, over a list of atomic words.
@@ -17,6 +18,7 @@
 #![tactic(auto)]
 
 pub mod core_source;
+pub mod must_wake;
 pub mod poller_side;
 pub mod ready_core;
 pub mod ready_shared;

@@ -24,18 +24,14 @@ ghost use Rattle.futures_buffered_place.specs.History.{TakesOut, no_history, put
 ghost use Rattle.futures_buffered_table.specs.Waking.{IsWake};
 ghost use Rattle.futures_buffered_table.specs.declared.answer.Woke.TheVariants.{Fresh};
 
+pub use crate::must_wake::OuterWaker;
+use crate::must_wake::WakingPlace;
 use futures::task::{Context, Poll, Source, Waker};
-use futures_buffered_place::place::{Place, Put, PutSeat, Shown, TakeSeat};
+use futures_buffered_place::place::{PutSeat, Shown, TakeSeat};
 use futures_buffered_table::ready_table::{BeforeEmpty, StepsMade, WakeSeat};
 use std::alloc::{AllocError, Global};
 use std::marker::{Brand, Model};
 use std::sync::Arc;
-
-/// What a fresh wake of a slot wakes in its turn.
-pub trait OuterWaker: Drop {
-    /// Wakes it, once. The caller has left the place of the waker by then.
-    fn wake_outer(self);
-}
 
 impl OuterWaker for Waker {
     fn wake_outer(self) {
@@ -48,7 +44,7 @@ impl OuterWaker for Waker {
 #[derive(Drop)]
 pub struct WakerPlace<O> {
     source: Source,
-    kept: Place<O>,
+    kept: WakingPlace<O>,
 }
 
 impl<O> Model for WakerPlace<O> {
@@ -66,7 +62,7 @@ impl<O: OuterWaker> WakerPlace<O> {
     pub fn new(alloc: Global) -> Result<(WakerPlace<O>, PutSeat<O>), AllocError>
         ensures { IfOk result (λ r. r.1 ≡ putter r.0.place true no_history) }
     {
-        let (kept, seat) = Place::new(alloc)?;
+        let (kept, seat) = WakingPlace::new(alloc)?;
         let source = Source::new();
         Ok((WakerPlace { source, kept }, seat))
     }
@@ -82,9 +78,9 @@ impl<O: OuterWaker> WakerPlace<O> {
         ensures place { result.place ≡ self.now.place }
         ensures looked { (outer : Option O) × TakesOut (length made.now.steps) no_history outer result.did }
     {
-        let (taken, seat) = self.kept.take_anew::<Brand, WakeSeat>(made);
+        let (taken, seat) = self.kept.take::<Brand, WakeSeat>(made);
         if let Some(outer) = taken {
-            outer.wake_outer();
+            outer.wake();
         }
         seat
     }
@@ -97,9 +93,8 @@ impl<O: OuterWaker> WakerPlace<O> {
         ensures alone { seat.new.alone ≡ seat.old.alone }
         ensures put { PutsOrMeets J.made seat.old.alone outer seat.old.did seat.new.did }
     {
-        match self.kept.put_in::<J, T>(seat, outer, shown) {
-            Put::Kept(_before) => {}
-            Put::Busy(outer) => outer.wake_outer(),
+        if let Some(outer) = self.kept.put_in::<J, T>(seat, outer, shown) {
+            outer.wake();
         }
     }
 }
@@ -158,7 +153,7 @@ impl<O: OuterWaker> PollerWaker<O> {
     {
         let shared = self.shared()?;
         self.give_up_own::<J, T>(shown);
-        let seat = self.seat.beside(&self.shared.kept);
+        let seat = self.shared.kept.seat_beside(&mut self.seat);
         Ok(PollerWaker {
             shared,
             seat,
@@ -199,7 +194,7 @@ impl PollerWaker<Waker> {
         ensures back { TakesBack J.made self.old.own self.old.did self.new.did }
     {
         if self.own.is_none() {
-            if let Some(kept) = self.shared.kept.take_out::<J, T>(&mut self.seat, shown) {
+            if let Some(kept) = self.shared.kept.take_back::<J, T>(&mut self.seat, shown) {
                 self.own = Some(kept);
             }
         }

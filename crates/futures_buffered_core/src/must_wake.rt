@@ -1,0 +1,114 @@
+//! What comes out of the place of the task's waker, and has to be woken.
+//!
+//! A waker that a wake took, or that met another call at the place, is a [`MustWake`]. That type is not `Drop`, and its
+//! only call wakes: a body that keeps such a waker from waking does not compile.
+ghost use Rattle.std.specs.Prelude.{◌≡◌, true, false, Option, IfOk};
+ghost use Rattle.futures_buffered_core.specs.WakerPlace.{answer_of};
+ghost use Rattle.futures_buffered_place.specs.History.{PutsIn, TakesOut, no_history, putter};
+
+use futures_buffered_place::place::{Place, Put, PutSeat, Shown, TakeSeat};
+use std::alloc::{AllocError, Global};
+use std::marker::Model;
+
+/// What a fresh wake of a slot wakes in its turn.
+pub trait OuterWaker: Drop {
+    /// Wakes it, once. The caller has left the place of the waker by then.
+    fn wake_outer(self);
+}
+
+/// A waker that has to be woken.
+pub struct MustWake<O> {
+    outer: O,
+}
+
+impl<O> Model for MustWake<O> {
+    ghost Value = { O };
+
+    ghost coded = { O.code };
+
+    ghost view = { λ waker. waker.outer };
+}
+
+impl<O: OuterWaker> MustWake<O> {
+    /// Wakes it.
+    pub fn wake(self) {
+        let MustWake { outer } = self;
+        outer.wake_outer();
+    }
+}
+
+/// A place whose wakers come out to be woken, or go back to the poller.
+#[derive(Drop)]
+pub struct WakingPlace<O> {
+    place: Place<O>,
+}
+
+impl<O> Model for WakingPlace<O> {
+    ghost use Rattle.futures_buffered_place.specs.History.{PlaceId, place_id_code};
+
+    ghost Value = { PlaceId };
+
+    ghost coded = { place_id_code };
+
+    ghost view = { λ p. p.place };
+}
+
+impl<O: Drop> WakingPlace<O> {
+    /// Keeps no waker at first. Returns the seat that puts in.
+    pub fn new(alloc: Global) -> Result<(WakingPlace<O>, PutSeat<O>), AllocError>
+        ensures { IfOk result (λ r. r.1 ≡ putter r.0 true no_history) }
+    {
+        let (place, seat) = Place::new(alloc)?;
+        Ok((WakingPlace { place }, seat))
+    }
+
+    /// Takes the waker that is kept, for a wake.
+    pub fn take<J: Shown, T>(&self, shown: &T) -> (Option<MustWake<O>>, TakeSeat<O>)
+        ensures place { result.1.place ≡ self.now }
+        ensures taken { TakesOut J.made no_history result.0 result.1.did }
+    {
+        let (taken, seat) = self.place.take_anew::<J, T>(shown);
+        match taken {
+            Some(outer) => (Some(MustWake { outer }), seat),
+            None => (None, seat),
+        }
+    }
+
+    /// Takes the waker that is kept, for the poller.
+    pub fn take_back<J: Shown, T>(&self, seat: &mut PutSeat<O>, shown: &T) -> Option<O>
+        requires { seat.old.place ≡ self.now }
+        ensures place { seat.new.place ≡ seat.old.place }
+        ensures alone { seat.new.alone ≡ seat.old.alone }
+        ensures taken { TakesOut J.made seat.old.did result seat.new.did }
+    {
+        self.place.take_out::<J, T>(seat, shown)
+    }
+
+    /// Keeps a waker in place of the one before, which is dropped once this call has left the place. If another call is
+    /// there, the waker is returned.
+    pub fn put_in<J: Shown, T>(
+        &self,
+        seat: &mut PutSeat<O>,
+        outer: O,
+        shown: &T,
+    ) -> Option<MustWake<O>>
+        requires { seat.old.place ≡ self.now }
+        ensures place { seat.new.place ≡ seat.old.place }
+        ensures alone { seat.new.alone ≡ seat.old.alone }
+        ensures put { (before : Option O) × PutsIn J.made seat.old.alone outer seat.old.did (answer_of before result) seat.new.did }
+    {
+        match self.place.put_in::<J, T>(seat, outer, shown) {
+            Put::Kept(_before) => None,
+            Put::Busy(outer) => Some(MustWake { outer }),
+        }
+    }
+
+    /// A second seat that puts in, beside this one.
+    pub fn seat_beside(&self, seat: &mut PutSeat<O>) -> PutSeat<O>
+        requires { seat.old.place ≡ self.now }
+        ensures same { seat.new ≡ record seat.old { alone = false } }
+        ensures new { result ≡ putter self.now false no_history }
+    {
+        seat.beside(&self.place)
+    }
+}
