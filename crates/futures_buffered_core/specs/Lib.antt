@@ -31,3 +31,4 @@ pub mod SlotMapIterMut
 pub mod Drawn
 pub mod Made
 pub mod WakerPlace
+pub mod SeatCodes

@@ -4,6 +4,7 @@ use Rattle.std.specs.Coded.{Coded, code_by, coded×, coded_ℕ, coded_bool, code
 use Rattle.futures_buffered_table.specs.declared.answer.Woke.TheVariants.{Fresh, Already}
 use Rattle.futures_buffered_table.specs.declared.view.AtomicStep.{AtomicStep}
 use Rattle.futures_buffered_table.specs.Waking.{IsWake}
+use Rattle.futures_buffered_table.specs.ReadyList.{Poller as PollSeat, Waker}
 use Rattle.futures_buffered_place.specs.declared.place.Put.{Put as Answer}
 use Rattle.futures_buffered_place.specs.declared.place.Put.TheVariants.{Kept, Busy}
 use Rattle.futures_buffered_place.specs.History.{PlaceId, place_id_code, History, history_code, PutsIn, TakesOut, Seated, no_history}
@@ -29,6 +30,16 @@ abbrev pub poller_code : {O : Type 0} → Coded O → Coded (Poller O)
 poller_code {O} code = code_by (Awaited × (Bool × (History O × Option O)))
     (coded× awaited_code (coded× coded_bool (coded× (history_code code) (coded_option code))))
     (λ p. (p.awaits, (p.alone, (p.did, p.own)))) (λ p. record { awaits = p.0; alone = p.1.0; did = p.1.1.0; own = p.1.1.1 }) (λ _. refl)
+
+-- what one wake made: the seat of its steps at the list, and the seat of its steps at the place if it looked there
+pub record MadeWake (O : Type 0) : Type 0 where
+  pub listed : Waker
+  pub placed : Option (Seated O)
+
+-- both seats of one poller: the one of the list, and its side of the place
+pub record Side (O : Type 0) : Type 0 where
+  pub poll : PollSeat
+  pub task : Poller O
 
 module _ {O : Type 0} where
   -- it has this waker, and did this
@@ -60,8 +71,15 @@ module _ {O : Type 0} where
   TakesBack made None old new = (x : Option O) × TakesOut made old x new
   TakesBack made (Some own) old new = new ≡ old
 
-  -- One wake of the slot i: its steps at the list; and where it was fresh, by another seat, its steps at the place, each
-  -- made once those at the list were. It took the waker out, or missed it.
-  abbrev pub IsWholeWake : ℕ → List AtomicStep → Option (Seated O) → Type 0
-  IsWholeWake i listed None = IsWake i listed Already
-  IsWholeWake i listed (Some at) = IsWake i listed Fresh × ((outer : Option O) × TakesOut (length listed) no_history outer at.did)
+  -- a seat of this place took the waker or missed it, once so many steps were made at the list
+  abbrev pub LooksAfter : ℕ → PlaceId → Seated O → Type 0
+  LooksAfter made place seat = (seat.place ≡ place) × ((outer : Option O) × TakesOut made no_history outer seat.did)
+
+  -- what is after the steps at the list: nothing if the slot was marked, otherwise one look for the task's waker
+  abbrev pub IsWholeAt : ℕ → List AtomicStep → Option (Seated O) → Type 0
+  IsWholeAt i steps None = IsWake i steps Already
+  IsWholeAt i steps (Some seat) = IsWake i steps Fresh × LooksAfter (length steps) seat.place seat
+
+  -- one wake of the slot i
+  abbrev pub IsWholeWake : ℕ → MadeWake O → Type 0
+  IsWholeWake i made = IsWholeAt i made.listed.steps made.placed

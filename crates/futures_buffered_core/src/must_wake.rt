@@ -2,18 +2,37 @@
 //!
 //! A waker that a wake took, or that met another call at the place, is a [`MustWake`]. That type is not `Drop`, and its
 //! only call wakes: a body that keeps such a waker from waking does not compile.
-ghost use Rattle.std.specs.Prelude.{◌≡◌, true, false, Option, IfOk};
+ghost use Rattle.std.specs.Prelude.{◌≡◌, ℕ, true, false, Option, IfOk, length};
 ghost use Rattle.futures_buffered_core.specs.WakerPlace.{answer_of};
 ghost use Rattle.futures_buffered_place.specs.History.{PutsIn, TakesOut, no_history, putter};
 
-use futures_buffered_place::place::{Place, Put, PutSeat, Shown, TakeSeat};
+use futures_buffered_place::place::{Place, Put, PutSeat, TakeSeat};
+use futures_buffered_table::ready_table::{PollSeat, StepsMade, WakeSeat};
 use std::alloc::{AllocError, Global};
-use std::marker::Model;
+use std::marker::{Brand, Model};
 
 /// What a fresh wake of a slot wakes in its turn.
 pub trait OuterWaker: Drop {
     /// Wakes it, once. The caller has left the place of the waker by then.
     fn wake_outer(self);
+}
+
+/// A seat of the list, which shows how many steps it has made there. A call at the place that is shown one notes that
+/// number with each of its steps.
+pub trait ListSeat {
+    ghost made: { Self → ℕ };
+}
+
+impl ListSeat for PollSeat {
+    ghost made = { λ seat. length seat.steps };
+}
+
+impl ListSeat for WakeSeat {
+    ghost made = { λ seat. length seat.steps };
+}
+
+impl<'s> ListSeat for StepsMade<'s> {
+    ghost made = { λ seat. length seat.steps };
 }
 
 /// A waker that has to be woken.
@@ -63,11 +82,11 @@ impl<O: Drop> WakingPlace<O> {
     }
 
     /// Takes the waker that is kept, for a wake.
-    pub fn take<J: Shown, T>(&self, shown: &T) -> (Option<MustWake<O>>, TakeSeat<O>)
+    pub fn take<T: ListSeat>(&self, shown: &T) -> (Option<MustWake<O>>, TakeSeat<O>)
         ensures place { result.1.place ≡ self.now }
-        ensures taken { TakesOut J.made no_history result.0 result.1.did }
+        ensures taken { TakesOut (T.made shown.now) no_history result.0 result.1.did }
     {
-        let (taken, seat) = self.place.take_anew::<J, T>(shown);
+        let (taken, seat) = self.place.take_anew::<Brand, T>(shown);
         match taken {
             Some(outer) => (Some(MustWake { outer }), seat),
             None => (None, seat),
@@ -75,18 +94,18 @@ impl<O: Drop> WakingPlace<O> {
     }
 
     /// Takes the waker that is kept, for the poller.
-    pub fn take_back<J: Shown, T>(&self, seat: &mut PutSeat<O>, shown: &T) -> Option<O>
+    pub fn take_back<T: ListSeat>(&self, seat: &mut PutSeat<O>, shown: &T) -> Option<O>
         requires { seat.old.place ≡ self.now }
         ensures place { seat.new.place ≡ seat.old.place }
         ensures alone { seat.new.alone ≡ seat.old.alone }
-        ensures taken { TakesOut J.made seat.old.did result seat.new.did }
+        ensures taken { TakesOut (T.made shown.now) seat.old.did result seat.new.did }
     {
-        self.place.take_out::<J, T>(seat, shown)
+        self.place.take_out::<Brand, T>(seat, shown)
     }
 
     /// Keeps a waker in place of the one before, which is dropped once this call has left the place. If another call is
     /// there, the waker is returned.
-    pub fn put_in<J: Shown, T>(
+    pub fn put_in<T: ListSeat>(
         &self,
         seat: &mut PutSeat<O>,
         outer: O,
@@ -95,9 +114,9 @@ impl<O: Drop> WakingPlace<O> {
         requires { seat.old.place ≡ self.now }
         ensures place { seat.new.place ≡ seat.old.place }
         ensures alone { seat.new.alone ≡ seat.old.alone }
-        ensures put { (before : Option O) × PutsIn J.made seat.old.alone outer seat.old.did (answer_of before result) seat.new.did }
+        ensures put { (before : Option O) × PutsIn (T.made shown.now) seat.old.alone outer seat.old.did (answer_of before result) seat.new.did }
     {
-        match self.place.put_in::<J, T>(seat, outer, shown) {
+        match self.place.put_in::<Brand, T>(seat, outer, shown) {
             Put::Kept(_before) => None,
             Put::Busy(outer) => Some(MustWake { outer }),
         }

@@ -15,13 +15,24 @@ use crate::waker_place::{OuterWaker, PollerWaker};
 use futures::task::{Context, Waker};
 use futures_buffered_table::ready_table::{PollSeat, ReadyList};
 use std::alloc::AllocError;
-use std::marker::Brand;
+use std::marker::Model;
 
 /// Both seats of one poller.
 #[derive(Drop)]
 pub struct PollerSide<O> {
     poll: PollSeat,
     task: PollerWaker<O>,
+}
+
+impl<O> Model for PollerSide<O> {
+    ghost use Rattle.futures_buffered_core.specs.SeatCodes.{side_code};
+    ghost use Rattle.futures_buffered_core.specs.WakerPlace.{Side};
+
+    ghost Value = { Side O };
+
+    ghost coded = { side_code O.code };
+
+    ghost view = { λ s. record { poll = s.poll; task = s.task } };
 }
 
 impl<O> PollerSide<O> {
@@ -54,7 +65,7 @@ impl<O: OuterWaker> PollerSide<O> {
         ensures same { self.new.task.awaits ≡ self.old.task.awaits }
         ensures put { PutsOrMeets (length self.old.poll.steps) self.old.task.alone outer self.old.task.did self.new.task.did }
     {
-        self.task.put_in::<Brand, PollSeat>(outer, &self.poll);
+        self.task.put_in(outer, &self.poll);
     }
 
     /// Puts the waker that it keeps, if it keeps one, where wakes find it.
@@ -62,7 +73,7 @@ impl<O: OuterWaker> PollerSide<O> {
         ensures poll { self.new.poll ≡ self.old.poll }
         ensures gives { GivesUp (length self.old.poll.steps) self.old.task self.new.task }
     {
-        self.task.give_up_own::<Brand, PollSeat>(&self.poll);
+        self.task.give_up_own(&self.poll);
     }
 
     /// The task's side of a source beside this one.
@@ -73,7 +84,7 @@ impl<O: OuterWaker> PollerSide<O> {
         ensures alone { IfOk result (λ place. (place.alone ≡ false) × (self.new.task.alone ≡ false)) }
         ensures same { self.new.task.awaits ≡ self.old.task.awaits }
     {
-        self.task.beside::<Brand, PollSeat>(&self.poll)
+        self.task.beside(&self.poll)
     }
 }
 
@@ -90,6 +101,6 @@ impl PollerSide<Waker> {
         ensures own { (cx.new.lacks_waker ≡ true) ⊎ IsSomeAnd self.new.task.own (λ waker. Wakes waker cx.old) }
         ensures back { TakesBack (length self.old.poll.steps) self.old.task.own self.old.task.did self.new.task.did }
     {
-        self.task.register::<Brand, PollSeat>(cx, &self.poll);
+        self.task.register(cx, &self.poll);
     }
 }

@@ -19,23 +19,51 @@
 ghost use Rattle.std.specs.Prelude.{◌≡◌, ◌⊎◌, ℕ, true, false, Option, None, IfOk, IsSomeAnd, length};
 ghost use Rattle.std.specs.Arc.{arc_value};
 ghost use Rattle.futures.specs.Task.{Hears, IsArmed, Keeps, Wakes};
-ghost use Rattle.futures_buffered_core.specs.WakerPlace.{IsNewPoller, PutsOrMeets, GivesUp, TakesBack};
-ghost use Rattle.futures_buffered_place.specs.History.{TakesOut, no_history, putter};
+ghost use Rattle.futures_buffered_core.specs.WakerPlace.{GivesUp, IsNewPoller, LooksAfter, PutsOrMeets, TakesBack};
+ghost use Rattle.futures_buffered_place.specs.History.{no_history, putter};
 ghost use Rattle.futures_buffered_table.specs.Waking.{IsWake};
 ghost use Rattle.futures_buffered_table.specs.declared.answer.Woke.TheVariants.{Fresh};
 
 pub use crate::must_wake::OuterWaker;
-use crate::must_wake::WakingPlace;
+use crate::must_wake::{ListSeat, WakingPlace};
 use futures::task::{Context, Poll, Source, Waker};
-use futures_buffered_place::place::{PutSeat, Shown, TakeSeat};
+use futures_buffered_place::place::{PutSeat, TakeSeat};
 use futures_buffered_table::ready_table::{BeforeEmpty, StepsMade, WakeSeat};
 use std::alloc::{AllocError, Global};
-use std::marker::{Brand, Model};
+use std::marker::Model;
 use std::sync::Arc;
 
 impl OuterWaker for Waker {
     fn wake_outer(self) {
         self.wake();
+    }
+}
+
+/// What one wake made: the seat of its steps at the list, and the seat of its steps at the place if its mark was newly
+/// set. Only [`WakerPlace::wake`] puts two seats together, and the seats have no bytes.
+#[derive(Drop)]
+pub struct WakeMade<O> {
+    listed: WakeSeat,
+    placed: Option<TakeSeat<O>>,
+}
+
+impl<O> Model for WakeMade<O> {
+    ghost use Rattle.futures_buffered_core.specs.SeatCodes.{made_wake_code};
+    ghost use Rattle.futures_buffered_core.specs.WakerPlace.{MadeWake};
+
+    ghost Value = { MadeWake O };
+
+    ghost coded = { made_wake_code O.code };
+
+    ghost view = { λ made. record { listed = made.listed; placed = made.placed } };
+}
+
+impl<O> WakeMade<O> {
+    /// The wake of a slot that was marked, which looks for no waker.
+    pub fn marked(listed: WakeSeat) -> WakeMade<O>
+        ensures { (result.listed ≡ listed) × (result.placed ≡ None) }
+    {
+        WakeMade { listed, placed: None }
     }
 }
 
@@ -70,30 +98,30 @@ impl<O: OuterWaker> WakerPlace<O> {
     /// Takes out the waker that is kept and wakes it, unless another call is at the place. Of many wakes after one
     /// registration one takes it out, and those that come later pay for a load.
     ///
-    /// The seat shows that a fresh wake has put its slot into the list: no wake looks here earlier. The seat that it
-    /// gives shows that it took out the waker, or found none or another call at the place, once the steps of the wake
-    /// were made.
-    pub fn wake(&self, made: &WakeSeat) -> TakeSeat<O>
-        requires { (slot : ℕ) × IsWake slot made.now.steps Fresh }
-        ensures place { result.place ≡ self.now.place }
-        ensures looked { (outer : Option O) × TakesOut (length made.now.steps) no_history outer result.did }
+    /// The seat shows that a fresh wake has put its slot into the list: no wake looks here earlier. It is returned with
+    /// a seat of the place, which shows that this call took the waker, or found none or another call there, once the
+    /// steps of the wake were made.
+    pub fn wake(&self, listed: WakeSeat) -> WakeMade<O>
+        requires { (slot : ℕ) × IsWake slot listed.steps Fresh }
+        ensures listed { result.listed ≡ listed }
+        ensures placed { IsSomeAnd result.placed (LooksAfter (length listed.steps) self.now.place) }
     {
-        let (taken, seat) = self.kept.take::<Brand, WakeSeat>(made);
+        let (taken, seat) = self.kept.take(&listed);
         if let Some(outer) = taken {
             outer.wake();
         }
-        seat
+        WakeMade { listed, placed: Some(seat) }
     }
 
     /// Keeps a waker in place of the one before, which is let go once this call has left the place. Where another call
     /// is there, it wakes the waker at once.
-    pub fn put_in<J: Shown, T>(&self, seat: &mut PutSeat<O>, outer: O, shown: &T)
+    pub fn put_in<T: ListSeat>(&self, seat: &mut PutSeat<O>, outer: O, shown: &T)
         requires { seat.old.place ≡ self.now.place }
         ensures place { seat.new.place ≡ seat.old.place }
         ensures alone { seat.new.alone ≡ seat.old.alone }
-        ensures put { PutsOrMeets J.made seat.old.alone outer seat.old.did seat.new.did }
+        ensures put { PutsOrMeets (T.made shown.now) seat.old.alone outer seat.old.did seat.new.did }
     {
-        if let Some(outer) = self.kept.put_in::<J, T>(seat, outer, shown) {
+        if let Some(outer) = self.kept.put_in(seat, outer, shown) {
             outer.wake();
         }
     }
@@ -145,14 +173,14 @@ impl<O: OuterWaker> PollerWaker<O> {
     }
 
     /// Makes the side of a source beside this one. What is kept here goes to the place that both share, as by `put_in`.
-    pub fn beside<J: Shown, T>(&mut self, shown: &T) -> Result<PollerWaker<O>, AllocError>
+    pub fn beside<T: ListSeat>(&mut self, shown: &T) -> Result<PollerWaker<O>, AllocError>
         ensures shared { IfOk result (λ place. place.awaits ≡ self.old.awaits) }
         ensures new { IfOk result (IsNewPoller None no_history) }
         ensures alone { IfOk result (λ place. (place.alone ≡ false) × (self.new.alone ≡ false)) }
         ensures same { self.new.awaits ≡ self.old.awaits }
     {
         let shared = self.shared()?;
-        self.give_up_own::<J, T>(shown);
+        self.give_up_own(shown);
         let seat = self.shared.kept.seat_beside(&mut self.seat);
         Ok(PollerWaker {
             shared,
@@ -169,13 +197,13 @@ impl<O: OuterWaker> PollerWaker<O> {
     }
 
     /// Keeps a waker in the shared place, as [`WakerPlace::put_in`] does.
-    pub fn put_in<J: Shown, T>(&mut self, outer: O, shown: &T)
+    pub fn put_in<T: ListSeat>(&mut self, outer: O, shown: &T)
         ensures same { self.new.awaits ≡ self.old.awaits }
         ensures alone { self.new.alone ≡ self.old.alone }
         ensures own { self.new.own ≡ self.old.own }
-        ensures put { PutsOrMeets J.made self.old.alone outer self.old.did self.new.did }
+        ensures put { PutsOrMeets (T.made shown.now) self.old.alone outer self.old.did self.new.did }
     {
-        self.shared.put_in::<J, T>(&mut self.seat, outer, shown);
+        self.shared.put_in(&mut self.seat, outer, shown);
     }
 }
 
@@ -184,17 +212,17 @@ impl PollerWaker<Waker> {
     /// task is let go, which wakes that task.
     ///
     /// Where no waker can be made, the task is woken.
-    pub fn register<J: Shown, T>(&mut self, cx: &mut Context<'_>, shown: &T)
+    pub fn register<T: ListSeat>(&mut self, cx: &mut Context<'_>, shown: &T)
         ensures alone { self.new.alone ≡ self.old.alone }
         ensures same { self.new.awaits ≡ self.old.awaits }
         ensures armed { IsArmed cx.new }
         ensures heard { Hears cx.new self.old.awaits.source }
         ensures kept { Keeps cx.old cx.new }
         ensures own { (cx.new.lacks_waker ≡ true) ⊎ IsSomeAnd self.new.own (λ waker. Wakes waker cx.old) }
-        ensures back { TakesBack J.made self.old.own self.old.did self.new.did }
+        ensures back { TakesBack (T.made shown.now) self.old.own self.old.did self.new.did }
     {
         if self.own.is_none() {
-            if let Some(kept) = self.shared.kept.take_back::<J, T>(&mut self.seat, shown) {
+            if let Some(kept) = self.shared.kept.take_back(&mut self.seat, shown) {
                 self.own = Some(kept);
             }
         }
@@ -211,7 +239,7 @@ impl<O: OuterWaker> BeforeEmpty for PollerWaker<O> {
     #[inline(always)]
     fn before_empty(&mut self, made: &StepsMade<'_>) {
         if self.own.is_some() {
-            self.give_up_own::<Brand, StepsMade<'_>>(made);
+            self.give_up_own(made);
         }
     }
 }
@@ -219,11 +247,11 @@ impl<O: OuterWaker> BeforeEmpty for PollerWaker<O> {
 impl<O: OuterWaker> PollerWaker<O> {
     // Puts the waker, if one is kept here, where wakes find it, as by `put_in`.
     #[inline(never)]
-    pub(crate) fn give_up_own<J: Shown, T>(&mut self, shown: &T)
-        ensures { GivesUp J.made self.old self.new }
+    pub(crate) fn give_up_own<T: ListSeat>(&mut self, shown: &T)
+        ensures { GivesUp (T.made shown.now) self.old self.new }
     {
         if let Some(outer) = self.own.take() {
-            self.put_in::<J, T>(outer, shown);
+            self.put_in(outer, shown);
         }
     }
 }
