@@ -66,6 +66,11 @@ module _ {O : Type 0} where
   GivesUp made old new = (new.awaits ≡ old.awaits) × (new.alone ≡ old.alone) × (new.own ≡ None)
       × PutsOwn made old.alone old.own old.did new.did
 
+  -- if it had no waker, it has the one that it took out; otherwise it keeps its own, and makes no step
+  abbrev pub HasBack : ℕ → Option O → History O → Option O → History O → Type 0
+  HasBack made None old own new = TakesOut made old own new
+  HasBack made (Some mine) old own new = (own ≡ Some mine) × (new ≡ old)
+
   -- where it has no waker, it takes out the one that is kept, if one is
   abbrev pub TakesBack : ℕ → Option O → History O → History O → Type 0
   TakesBack made None old new = (x : Option O) × TakesOut made old x new

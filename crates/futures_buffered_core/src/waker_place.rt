@@ -19,7 +19,7 @@
 ghost use Rattle.std.specs.Prelude.{◌≡◌, ◌⊎◌, ℕ, true, false, Option, None, IfOk, IsSomeAnd, length};
 ghost use Rattle.std.specs.Arc.{arc_value};
 ghost use Rattle.futures.specs.Task.{Hears, IsArmed, Keeps, Wakes};
-ghost use Rattle.futures_buffered_core.specs.WakerPlace.{GivesUp, IsNewPoller, LooksAfter, PutsOrMeets, TakesBack};
+ghost use Rattle.futures_buffered_core.specs.WakerPlace.{GivesUp, HasBack, IsNewPoller, LooksAfter, PutsOrMeets, TakesBack};
 ghost use Rattle.futures_buffered_place.specs.History.{no_history, putter};
 ghost use Rattle.futures_buffered_table.specs.Waking.{IsWake};
 ghost use Rattle.futures_buffered_table.specs.declared.answer.Woke.TheVariants.{Fresh};
@@ -207,11 +207,24 @@ impl<O: OuterWaker> PollerWaker<O> {
     }
 }
 
+impl<O: OuterWaker> PollerWaker<O> {
+    // Takes back the waker that the place keeps, if none is here.
+    fn take_back<T: ListSeat>(&mut self, shown: &T)
+        ensures alone { self.new.alone ≡ self.old.alone }
+        ensures same { self.new.awaits ≡ self.old.awaits }
+        ensures back { HasBack (T.made shown.now) self.old.own self.old.did self.new.own self.new.did }
+    {
+        if self.own.is_none() {
+            self.own = self.shared.kept.take_back(&mut self.seat, shown);
+        }
+    }
+}
+
 impl PollerWaker<Waker> {
-    /// Keeps the task's waker here, and takes back the one that the place keeps, where none is here. One of another
-    /// task is let go, which wakes that task.
+    /// Keeps the task's waker here. If none is here, it takes back the one that the place keeps. The waker of another
+    /// task is woken.
     ///
-    /// Where no waker can be made, the task is woken.
+    /// If no waker can be made, the task is woken.
     pub fn register<T: ListSeat>(&mut self, cx: &mut Context<'_>, shown: &T)
         ensures alone { self.new.alone ≡ self.old.alone }
         ensures same { self.new.awaits ≡ self.old.awaits }
@@ -221,11 +234,7 @@ impl PollerWaker<Waker> {
         ensures own { (cx.new.lacks_waker ≡ true) ⊎ IsSomeAnd self.new.own (λ waker. Wakes waker cx.old) }
         ensures back { TakesBack (T.made shown.now) self.old.own self.old.did self.new.did }
     {
-        if self.own.is_none() {
-            if let Some(kept) = self.shared.kept.take_back(&mut self.seat, shown) {
-                self.own = Some(kept);
-            }
-        }
+        self.take_back(shown);
         let _: Poll<()> = cx.register(&self.shared.source, &mut self.own);
     }
 }
