@@ -8,12 +8,7 @@
 //! steps that a contract allows to a call is one way of such an agent. In `futures_buffered_core`, `PollerSide` and
 //! `WakerPlace::wake` say how many steps at the list come before each step at the place.
 //!
-//! The law takes four things for granted:
-//!
-//! - The steps of the running threads have one order, and each step found what the word held then.
-//! - The scene has one task, one list, and the steps of all siblings at the place.
-//! - Of siblings, the one that registered is polled first, and none registers after a pending one.
-//! - The task polls again by itself after a mark by hand, as a push makes one.
+//! What the law takes for granted is in `docs/PROVED.md`, under its premises.
 #![tactic(auto)]
 
 ghost use Rattle.futures_buffered_lost_wakeup.specs.Scene.{NoWakeIsLost};
