@@ -1,8 +1,6 @@
-pub mod Sketch
-pub mod SketchSteps
-pub mod SketchLemmas
-pub mod SketchInvariantLemmas
-pub mod SketchPlaceLemmas
-pub mod SketchStepLemmas
 pub mod SceneLemmas
+pub mod HolderLemmas
+pub mod SceneInvariantLemmas
+pub mod PlaceLemmas
+pub mod LostWakeLemmas
 pub mod RunsLemmas

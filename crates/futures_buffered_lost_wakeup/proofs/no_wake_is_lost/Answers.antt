@@ -1,4 +1,4 @@
-use Rattle.futures_buffered_lost_wakeup.proofs.SceneLemmas.{no_wake_is_lost}
+use Rattle.futures_buffered_lost_wakeup.proofs.LostWakeLemmas.{no_wake_is_lost}
 use Rattle.futures_buffered_lost_wakeup.proofs.no_wake_is_lost.Goals as goal
 
 pub returns : goal.returns

@@ -1,6 +1,6 @@
 -- The steps at the list keep a scene too, and so no wake is lost.
-use Rattle.std.proofs.Common.{◌≡◌, ℕ, zero, suc, ◌<◌, List, [], ◌∷◌, ◌++◌, true, false, map, get_or, refl, sym, ap, ◌∙◌, subst, inl, inr, ⊎_elim, arith, append-nil}
-use Rattle.std.specs.Prelude.{◌==◌}
+use Rattle.std.proofs.Common.{◌≡◌, ◌≢◌, ℕ, zero, suc, ◌<◌, List, [], ◌∷◌, ◌++◌, true, false, map, get_or, refl, sym, ap, ◌∙◌, subst, inl, inr, ⊎_elim, arith, append-nil}
+use Rattle.std.specs.Prelude.{◌==◌, Option, Some, None}
 use Rattle.std.proofs.Math.ListN.{get_or-map}
 use Rattle.std.proofs.lemmas.Bool.{cases_lt}
 use mathlib.Core.Option.{some, some-injective}
@@ -26,16 +26,16 @@ use Rattle.futures_buffered_table.proofs.ListLemmas.{by_test, elem_at, last_at, 
 use Rattle.futures_buffered_table.proofs.RowLemmas.{answered_by, put_by, row_slots, total_none}
 use Rattle.futures_buffered_table.proofs.ScheduleLemmas.{IsReachable, pending, reachable_start, step_reaches}
 use Rattle.futures_buffered_table.proofs.ScheduleLawLemmas.{IsPolls, role_polls}
-use Rattle.futures_buffered_lost_wakeup.proofs.Sketch.{Sketch, at_first, with_errand, Rests, Looks, Inside, Wakes}
-use Rattle.futures_buffered_lost_wakeup.proofs.Sketch.{Turn, Parked, Asks}
-use Rattle.futures_buffered_lost_wakeup.proofs.SketchSteps.{Event, InList, OnErrand, AtPlace, FromBeside, Begin, GoBack, KeepOwn, Lacks, LayOut, Misses, BesideGoes, BesidePuts, BesideMisses, Stop}
-use Rattle.futures_buffered_lost_wakeup.proofs.SketchSteps.{AllRest, CanDo, IsAtStart, IsAtStub, IsBetween, NoneBeside, after, after_reply, owner_seat, poller_role}
-use Rattle.futures_buffered_lost_wakeup.proofs.SketchLemmas.{IsEmpty, IsTaken, IsWoke, empty_at_stub, hand_at_start, none_at_stub, polls_wake_none, stub_polls, taken_starts, times_none}
-use Rattle.futures_buffered_lost_wakeup.proofs.SketchInvariantLemmas.{Armed, ArmedIn, Busy, IsKept, IsSwapped, IsThere, PollerHolds, Seen, SwapsIn, Waits, errand_kept, holds_else, wakes_else, way_here}
-use Rattle.futures_buffered_lost_wakeup.proofs.SketchPlaceLemmas.{armed_by_place, at_place_kept, beside_goes_kept, beside_puts_kept, go_back_kept, lay_out_kept, on_errand_kept, poller_view, stop_kept}
+use Rattle.futures_buffered_lost_wakeup.specs.Agents.{Errand, Rests, Looks, Inside, Wakes, Turn, Parked, Registers, Asks, Met, Sibling, Away, Writes, Has, LetsGo, wake_after, turn_after}
+use Rattle.futures_buffered_lost_wakeup.specs.Scene.{Scene, Stage, Vacant, Kept, Lent, ASibling, Event, InList, WakeDoes, PollerDoes, SiblingDoes, WakeWakes, PollerWakes, SiblingWakes, FromSibling}
+use Rattle.futures_buffered_lost_wakeup.specs.Scene.{Begin, KeepOwn, Lacks, Misses, Stop, MakesSibling, AllRest, CanDo, IsAtStart, IsAtStub, IsBetween, Legal, NoWakeIsLost, after, after_reply, first, owner, poller_role, run, with_errand}
+use Rattle.futures_buffered_lost_wakeup.proofs.SceneLemmas.{IsEmpty, IsTaken, IsWoke, empty_at_stub, hand_at_start, none_at_stub, polls_wake_none, stub_polls, taken_starts, times_none}
+use Rattle.futures_buffered_lost_wakeup.proofs.HolderLemmas.{held_by, held_by_sibling, holder}
+use Rattle.futures_buffered_lost_wakeup.proofs.SceneInvariantLemmas.{Armed, ArmedIn, Busy, Heard, IsKept, IsReplaced, IsSwapped, IsWaiting, Seen, SwapsIn, Waits, armed_by, asks_heard, heard, wakes_else, way_here, woken_heard}
+use Rattle.futures_buffered_lost_wakeup.proofs.PlaceLemmas.{poller_goes, poller_kept, sibling_kept, sibling_moves, turn_moves, wake_kept, wake_on_way, wake_wakes}
 
 -- a step of the list, by a wake: how the row goes on
-module _ (n : ℕ) (s : Sketch) (kept : IsKept n s) (step : Step) (low : seat_of step < WAKE_SEATS) (can : CanStep n (map role_of s.list.views) step) (between : IsBetween s (seat_of step)) where
+module _ (n : ℕ) (s : Scene) (kept : IsKept n s) (step : Step) (low : seat_of step < WAKE_SEATS) (can : CanStep n (map role_of s.list.views) step) (between : IsBetween s (seat_of step)) where
   abbrev new_view : View
   new_view = next_view (slot_of step) (view_at s.list step) (found_at n s.list step)
 
@@ -62,9 +62,10 @@ module _ (n : ℕ) (s : Sketch) (kept : IsKept n s) (step : Step) (low : seat_of
   listed_kept on seen = record {
     reach = on;
     waits = still_waits;
-    holder = kept.holder;
-    poller = kept.poller;
-    armed = armed_by_place s.turn s (record s { list = after_step n s.list step }) (λ a. a) (λ own. own) kept.armed;
+    agrees = kept.agrees;
+    parked = kept.parked;
+    own = kept.own;
+    armed = armed_by s.turn s (record s { list = after_step n s.list step }) (λ a. a) (λ own. own) kept.armed;
     seen = seen;
   }
 
@@ -83,17 +84,26 @@ module _ (n : ℕ) (s : Sketch) (kept : IsKept n s) (step : Step) (low : seat_of
     ),
   ))))
 
-  -- its link is written: it goes to the place
+  -- its link is written: it goes to the place, unless it is the owner's
   arrives : (on : IsReachable n (after_step n s.list step)) → Goes (Woke Fresh)
-  arrives on = by_test (IsKept n) (seat_of step == owner_seat) (record s { list = after_step n s.list step; woken = true })
+  arrives on = by_test (IsKept n) (seat_of step == owner) (record s { list = after_step n s.list step; woken = true })
       (with_errand (record s { list = after_step n s.list step }) (seat_of step) Looks)
-      (λ _. grind (arith, still_waits))
       (λ _. record {
         reach = on;
         waits = still_waits;
-        holder = holds_else s.place s.errands (seat_of step) Looks (λ z. let c : Rests ≡ Inside = sym between.0 ∙ z in cc) kept.holder;
-        poller = kept.poller;
-        armed = armed_by_place s.turn s (with_errand (record s { list = after_step n s.list step }) (seat_of step) Looks) (λ a. grind (arith, wakes_else)) (λ own. own) kept.armed;
+        agrees = kept.agrees;
+        parked = kept.parked;
+        own = kept.own;
+        armed = armed_by s.turn s (record s { list = after_step n s.list step; woken = true }) (λ _. inl (woken_heard s.turn s.sibling)) (λ own. own) kept.armed;
+        seen = λ parked asleep. let c : true ≡ false = sym (woken_heard s.turn s.sibling) ∙ asleep in absurd cc;
+      })
+      (λ _. let way = wake_on_way n s kept (seat_of step) Rests Looks between.0 (λ z. cc) (λ z. cc) refl refl in record {
+        reach = on;
+        waits = still_waits;
+        agrees = way.agrees;
+        parked = kept.parked;
+        own = kept.own;
+        armed = armed_by s.turn (with_errand s (seat_of step) Looks) (with_errand (record s { list = after_step n s.list step }) (seat_of step) Looks) (λ a. a) (λ own. own) way.armed;
         seen = λ parked asleep. inr (inl (way_here s.errands (seat_of step) Looks (λ z. cc)));
       })
 
@@ -113,9 +123,9 @@ module _ (n : ℕ) (s : Sketch) (kept : IsKept n s) (step : Step) (low : seat_of
       by_role (view_at s.list step).role (found_at n s.list step) refl stays.0 stays.1
 
 -- and by the poller
-module _ (n : ℕ) (s : Sketch) (kept : IsKept n s) (asks : s.turn ≡ Asks) (laid_out : IsAtStub (poller_role s) → s.own ≡ false) where
+module _ (n : ℕ) (s : Scene) (kept : IsKept n s) (asks : s.turn ≡ Asks) (laid_out : IsAtStub (poller_role s) → s.own ≡ false) where
   poll_there : get_elem? s.list.views WAKE_SEATS ≡ some (view_at s.list Poll)
-  poll_there = poller_view n s kept.reach
+  poll_there = elem_at s.list.views WAKE_SEATS spent_view (let a = kept.reach.1 in omega arith)
 
   abbrev polled : View
   polled = next_view 0 (view_at s.list Poll) (found_at n s.list Poll)
@@ -123,14 +133,19 @@ module _ (n : ℕ) (s : Sketch) (kept : IsKept n s) (asks : s.turn ≡ Asks) (la
   poll_role : IsPolls (view_at s.list Poll).role
   poll_role = grind (arith, poll_there)
 
-  not_there : PollerHolds s.place Parked
-  not_there same = absurd (subst IsThere asks (kept.poller same))
-
   starts : IsTaken (reply_of_role n (view_at s.list Poll).role (found_at n s.list Poll)) → Waits Parked (after_step n s.list Poll).views
   starts taken w u at = grind (arith, set_here, place_low, poll_there, taken_starts)
 
   goes_on : IsReachable n (after_step n s.list Poll) → IsKept n (record s { list = after_step n s.list Poll })
-  goes_on on = grind arith
+  goes_on on = record {
+    reach = on;
+    waits = λ w. absurd (subst IsWaiting asks w);
+    agrees = kept.agrees;
+    parked = kept.parked;
+    own = kept.own;
+    armed = armed_by s.turn s (record s { list = after_step n s.list Poll }) (λ a. a) (λ own. own) kept.armed;
+    seen = λ parked. let c : Asks ≡ Parked = sym asks ∙ parked in absurd cc;
+  }
 
   none_pending : IsEmpty (reply_of_role n (view_at s.list Poll).role (found_at n s.list Poll)) → pending n s.list kept.reach ≡ []
   none_pending empty = grind (arith, poll_there, empty_at_stub, none_at_stub)
@@ -145,9 +160,11 @@ module _ (n : ℕ) (s : Sketch) (kept : IsKept n s) (asks : s.turn ≡ Asks) (la
       record {
         reach = on;
         waits = starts taken;
-        holder = kept.holder;
-        poller = not_there;
-        armed = ⊎_elim (λ (own : s.own ≡ true). let c : true ≡ false = sym own ∙ laid_out at_stub.0 in absurd cc) (λ (a : Armed s). a)
+        agrees = turn_moves n s kept Asks Parked asks refl refl;
+        parked = λ _. refl;
+        own = λ own. absurd own;
+        armed = ⊎_elim (λ (own : s.own ≡ true). let c : true ≡ false = sym own ∙ laid_out at_stub.0 in absurd cc)
+            (⊎_elim (λ woken. inl (asks_heard s.sibling s.woken ∙ (ap (λ turn. heard turn s.sibling s.woken) (sym asks) ∙ woken))) (λ a. inr a))
             (subst (λ (turn : Turn). ArmedIn turn s) asks kept.armed);
         seen = λ parked asleep. inl (sym (λ k. nothing.1 k ++ pending n (after_step n s.list Poll) on) ∙ (sym flow
             ∙ ((λ k. none_pending empty k ++ nothing.0 k))));
@@ -155,7 +172,15 @@ module _ (n : ℕ) (s : Sketch) (kept : IsKept n s) (asks : s.turn ≡ Asks) (la
 
   ends_paused : IsReachable n (after_step n s.list Poll) → IsTaken (reply_of_role n (view_at s.list Poll).role (found_at n s.list Poll))
       → IsKept n (record s { list = after_step n s.list Poll; turn = Parked; woken = true })
-  ends_paused on taken = grind (arith, starts, not_there)
+  ends_paused on taken = record {
+    reach = on;
+    waits = starts taken;
+    agrees = turn_moves n s kept Asks Parked asks refl refl;
+    parked = λ _. refl;
+    own = λ own. absurd own;
+    armed = inl (woken_heard Parked s.sibling);
+    seen = λ parked asleep. let c : true ≡ false = sym (woken_heard Parked s.sibling) ∙ asleep in absurd cc;
+  }
 
   by_reply : (reply : StepReply) → reply_of_role n (view_at s.list Poll).role (found_at n s.list Poll) ≡ reply → (on : IsReachable n (after_step n s.list Poll))
       → pending n s.list kept.reach ++ put_by (view_at s.list Poll).role ≡ answered_by (view_at s.list Poll).role ++ pending n (after_step n s.list Poll) on
@@ -171,38 +196,103 @@ module _ (n : ℕ) (s : Sketch) (kept : IsKept n s) (asks : s.turn ≡ Asks) (la
       let stays = step_reaches n s.list kept.reach Poll tt in
       by_reply (reply_of_role n (view_at s.list Poll).role (found_at n s.list Poll)) refl stays.0 stays.1
 
--- each step keeps a scene
-pub step_kept : (n : ℕ) (s : Sketch) → IsKept n s → (event : Event) → CanDo n s event → IsKept n (after n s event)
-step_kept n s kept (InList (Mark seat slot)) can = wake_step_kept n s kept (Mark seat slot) can.0.0 can.0 can.1
-step_kept n s kept (InList (Go seat)) can = wake_step_kept n s kept (Go seat) can.0.0 can.0 can.1
-step_kept n s kept (InList Poll) can = poll_step_kept n s kept can.1.0 can.1.1
-step_kept n s kept (OnErrand seat) can = on_errand_kept n s kept seat (s.errands seat) refl
-step_kept n s kept AtPlace can = at_place_kept n s kept s.turn refl can
-step_kept n s kept (FromBeside seat) can = errand_kept n s kept seat Looks (λ z. let c : Rests ≡ Inside = sym can.1 ∙ z in cc)
-    (λ z. let c : Rests ≡ Wakes = sym can.1 ∙ z in cc) (λ parked asleep. inr (inl (way_here s.errands seat Looks (λ z. cc))))
-step_kept n s kept Begin can = grind arith
-step_kept n s kept GoBack can = go_back_kept n s kept can s.place refl
-step_kept n s kept KeepOwn can = grind arith
-step_kept n s kept Lacks can = grind arith
-step_kept n s kept LayOut can = lay_out_kept n s kept can.0 s.place refl
-step_kept n s kept Misses can = grind arith
-step_kept n s kept BesideGoes can = beside_goes_kept n s kept s.place refl
-step_kept n s kept BesidePuts can = beside_puts_kept n s kept s.place refl
-step_kept n s kept BesideMisses can = grind arith
-step_kept n s kept Stop can = stop_kept n s kept can.0 can.1
+-- what the task, its poll and a sibling do besides
+module _ (n : ℕ) (s : Scene) (kept : IsKept n s) where
+  never_asleep : (turn : Turn) (sibling : Sibling) {X : Type 0} → heard turn sibling true ≡ false → X
+  never_asleep turn sibling asleep = let c : true ≡ false = sym (woken_heard turn sibling) ∙ asleep in absurd cc
 
-pub first_kept : (n : ℕ) → IsKept n (at_first n)
+  begins : s.turn ≡ Parked → s.sibling ≡ Away → IsKept n (record s { turn = Registers; woken = false })
+  begins is away = record {
+    reach = kept.reach;
+    waits = λ _. kept.waits (subst IsWaiting (sym is) tt);
+    agrees = turn_moves n s kept Parked Registers is refl refl;
+    parked = λ writes. let c : Away ≡ Writes = sym away ∙ writes in absurd cc;
+    own = λ own. absurd own;
+    armed = tt;
+    seen = λ parked asleep. absurd cc;
+  }
+
+  stops : s.turn ≡ Asks → IsAtStart (poller_role s) → IsKept n (record s { turn = Parked; woken = true })
+  stops is start = record {
+    reach = kept.reach;
+    waits = λ _ v at. subst (λ (u : View). IsAtStart u.role) (some-injective (view_at s.list Poll) v
+        (sym (elem_at s.list.views WAKE_SEATS spent_view (let a = kept.reach.1 in omega arith)) ∙ at)) start;
+    agrees = turn_moves n s kept Asks Parked is refl refl;
+    parked = λ _. refl;
+    own = λ own. absurd own;
+    armed = inl (woken_heard Parked s.sibling);
+    seen = λ parked asleep. never_asleep Parked s.sibling asleep;
+  }
+
+  sibling_wakes : s.sibling ≡ LetsGo → IsKept n (record s { sibling = Away; woken = true })
+  sibling_wakes is = record {
+    reach = kept.reach;
+    waits = kept.waits;
+    agrees = sibling_moves n s kept LetsGo Away is refl refl;
+    parked = λ z. absurd cc;
+    own = kept.own;
+    armed = armed_by s.turn s (record s { sibling = Away; woken = true }) (λ _. inl (woken_heard s.turn Away)) (λ own. own) kept.armed;
+    seen = λ parked asleep. never_asleep s.turn Away asleep;
+  }
+
+  shares : IsKept n (record s { alone = false })
+  shares = record {
+    reach = kept.reach;
+    waits = kept.waits;
+    agrees = kept.agrees;
+    parked = kept.parked;
+    own = kept.own;
+    armed = armed_by s.turn s (record s { alone = false }) (λ a. a) (λ own. own) kept.armed;
+    seen = kept.seen;
+  }
+
+  -- each step keeps a scene
+  step_kept : (event : Event) → CanDo n s event → IsKept n (after n s event)
+  step_kept (InList (Mark seat slot)) can = wake_step_kept n s kept (Mark seat slot) can.0.0 can.0 can.1
+  step_kept (InList (Go seat)) can = wake_step_kept n s kept (Go seat) can.0.0 can.0 can.1
+  step_kept (InList Poll) can = poll_step_kept n s kept can.1.0 can.1.1
+  step_kept (WakeDoes seat act) can = wake_kept n s kept seat (s.errands seat) act refl can.0 can.1
+  step_kept (PollerDoes act) can = poller_kept n s kept s.alone s.turn act refl can.0 can.2
+  step_kept (SiblingDoes act) can = sibling_kept n s kept s.alone s.sibling act refl can.3 can.2 can.0
+  step_kept (WakeWakes seat) can = wake_wakes n s kept seat can
+  step_kept PollerWakes can = poller_goes n s kept Met Asks s.stage s.own true can (λ z. cc) (λ z. cc) (λ w. absurd w) (turn_moves n s kept Met Asks can refl refl) (λ own. absurd own)
+      (inr (inl (woken_heard Asks s.sibling)))
+  step_kept SiblingWakes can = sibling_wakes can
+  step_kept (FromSibling seat) can = wake_on_way n s kept seat Rests Looks can.1 (λ z. cc) (λ z. cc) refl refl
+  step_kept Begin can = begins can.0 can.1
+  step_kept KeepOwn can = poller_goes n s kept Registers Asks s.stage true s.woken can (λ z. cc) (λ z. cc) (λ w. absurd w) (turn_moves n s kept Registers Asks can refl refl) (λ own. absurd own) (inl refl)
+  step_kept Lacks can = poller_goes n s kept Registers Asks s.stage s.own true can (λ z. cc) (λ z. cc) (λ w. absurd w) (turn_moves n s kept Registers Asks can refl refl) (λ own. absurd own)
+      (inr (inl (woken_heard Asks s.sibling)))
+  step_kept Misses can = misses can.0
+    where
+      misses : s.turn ≡ Asks → IsKept n (record s { own = false; woken = true })
+      misses is = subst (λ (turn : Turn). IsKept n (record s { turn = turn; own = false; woken = true })) (sym is)
+          (poller_goes n s kept Asks Asks s.stage false true is (λ z. cc) (λ z. cc) (λ w. absurd w) (turn_moves n s kept Asks Asks is refl refl) (λ own. absurd own) (inr (inl (woken_heard Asks s.sibling))))
+  step_kept Stop can = stops can.0 can.1
+  step_kept MakesSibling can = shares
+
+run_kept : (n : ℕ) (s : Scene) → IsKept n s → (events : List Event) → Legal n s events → IsKept n (run n s events)
+run_kept n s kept [] legal = kept
+run_kept n s kept (event ∷ events) legal = run_kept n (after n s event) (step_kept n s kept event legal.0) events legal.1
+
+first_kept : (n : ℕ) → IsKept n (first n)
 first_kept n = record {
   reach = reachable_start n;
   waits = λ _ v at. subst (λ (u : View). IsAtStart u.role) (some-injective (first_poller n) v (sym (last_at WAKE_SEATS (new_waker_beside (first_poller n)) (first_poller n)) ∙ at)) tt;
-  holder = λ other same. absurd cc;
-  poller = λ same. absurd cc;
+  agrees = record { tells = none_holds; told = λ agent is. absurd cc };
+  parked = λ is. absurd cc;
+  own = λ own. absurd own;
   armed = inl refl;
   seen = λ parked asleep. absurd cc;
 }
+  where
+    none_holds : (agent : ℕ) (x : Stage) → held_by Parked Away (λ _. Rests) agent ≡ Some x → (Vacant ≡ x) × (None ≡ Some agent)
+    none_holds zero x is = absurd cc
+    none_holds (suc zero) x is = absurd cc
+    none_holds (suc (suc seat)) x is = absurd cc
 
 -- where each wake has ended, a slot that is not in the row is not marked
-module _ (n : ℕ) (s : Sketch) (kept : IsKept n s) (rest : AllRest s) (alone : NoneBeside s.place) (parked : s.turn ≡ Parked) where
+module _ (n : ℕ) (s : Scene) (kept : IsKept n s) (rest : AllRest s) (away : s.sibling ≡ Away) (parked : s.turn ≡ Parked) where
   idle : (seat : ℕ) (v : View) → seat < WAKE_SEATS → get_elem? s.list.views seat ≡ some v → v.role ≡ Idle
   idle seat v low at =
       let here : get_elem? s.list.views seat ≡ some (get_or s.list.views seat spent_view) = elem_at s.list.views seat spent_view (let a = kept.reach.1 in omega arith) in
@@ -212,14 +302,21 @@ module _ (n : ℕ) (s : Sketch) (kept : IsKept n s) (rest : AllRest s) (alone : 
   none_outside : (e : ℕ) (seat : ℕ) (v : View) → get_elem? s.list.views seat ≡ some v → outside_by n e v.role ≡ 0
   none_outside e seat v at = grind (arith, cases_lt, idle, place_low)
 
+  not_replaced : (stage : Stage) → s.stage ≡ stage → IsReplaced stage → ⊥
+  not_replaced (Lent (ASibling true)) is replaced =
+      let c : None ≡ Some s.stage = sym (ap held_by_sibling away) ∙ kept.agrees.told 1 (ap holder is) in cc
+  not_replaced stage is replaced = absurd replaced
+
   not_busy : Busy s → ⊥
-  not_busy busy = grind (arith, idle)
+  not_busy (inl way) = way.1 (rest.0 way.0)
+  not_busy (inr (inl swaps)) = grind (arith, idle)
+  not_busy (inr (inr replaced)) = not_replaced s.stage refl replaced
 
   unmarked : pending n s.list kept.reach ≡ [] → (slot : ℕ) → slot < n → mark s.list.words slot ≡ 0
   unmarked none slot lt = grind (arith, hand_at_start, row_slots, times_none, total_none, none_outside)
 
--- a scene that is kept, where all rest and the task sleeps, has no slot marked
-pub none_marked : (n : ℕ) (s : Sketch) → IsKept n s → AllRest s → NoneBeside s.place → s.turn ≡ Parked → s.woken ≡ false → (slot : ℕ) → slot < n → mark s.list.words slot ≡ 0
-none_marked n s kept rest alone parked asleep slot lt =
-    ⊎_elim (λ none. unmarked n s kept rest alone parked none slot lt)
-    (λ busy. absurd (not_busy n s kept rest alone parked busy)) (kept.seen parked asleep)
+pub no_wake_is_lost : NoWakeIsLost
+no_wake_is_lost = λ n events legal rest away parked asleep slot lt.
+    let s = run n (first n) events in let kept = run_kept n (first n) (first_kept n) events legal in
+    ⊎_elim (λ none. unmarked n s kept rest away parked none slot lt) (λ busy. absurd (not_busy n s kept rest away parked busy))
+    (kept.seen parked ((λ k. heard (parked k) (away k) (asleep k))))
