@@ -18,18 +18,17 @@ abbrev pub awaited_code : Coded Awaited
 awaited_code = code_by (ℕ × PlaceId) (coded× coded_ℕ place_id_code)
     (λ a. (a.source, a.place)) (λ p. record { source = p.0; place = p.1 }) (λ _. refl)
 
--- the poller's side: where it waits, whether it alone puts in there, the steps that it made there, and the waker that it
--- has
+-- the poller's side: its place, whether it alone puts in there, the steps that it made there, and the waker that it has
 pub record Poller (O : Type 0) : Type 0 where
-  pub awaits : Awaited
+  pub place : PlaceId
   pub alone : Bool
   pub did : History O
   pub own : Option O
 
 abbrev pub poller_code : {O : Type 0} → Coded O → Coded (Poller O)
-poller_code {O} code = code_by (Awaited × (Bool × (History O × Option O)))
-    (coded× awaited_code (coded× coded_bool (coded× (history_code code) (coded_option code))))
-    (λ p. (p.awaits, (p.alone, (p.did, p.own)))) (λ p. record { awaits = p.0; alone = p.1.0; did = p.1.1.0; own = p.1.1.1 }) (λ _. refl)
+poller_code {O} code = code_by (PlaceId × (Bool × (History O × Option O)))
+    (coded× place_id_code (coded× coded_bool (coded× (history_code code) (coded_option code))))
+    (λ p. (p.place, (p.alone, (p.did, p.own)))) (λ p. record { place = p.0; alone = p.1.0; did = p.1.1.0; own = p.1.1.1 }) (λ _. refl)
 
 -- what one wake made: the seat of its steps at the list, and the seat of its steps at the place if it looked there
 pub record MadeWake (O : Type 0) : Type 0 where
@@ -61,9 +60,9 @@ module _ {O : Type 0} where
   PutsOwn made alone None old new = new ≡ old
   PutsOwn made alone (Some x) old new = PutsOrMeets made alone x old new
 
-  -- it waits where it waited, and has no waker: the one that it had is put in, once so many steps were made at the list
+  -- it is at the same place, and has no waker: the one that it had is put in, once so many steps were made at the list
   abbrev pub GivesUp : ℕ → Poller O → Poller O → Type 0
-  GivesUp made old new = (new.awaits ≡ old.awaits) × (new.alone ≡ old.alone) × (new.own ≡ None)
+  GivesUp made old new = (new.place ≡ old.place) × (new.alone ≡ old.alone) × (new.own ≡ None)
       × PutsOwn made old.alone old.own old.did new.did
 
   -- if it had no waker, it has the one that it took out; otherwise it keeps its own, and makes no step

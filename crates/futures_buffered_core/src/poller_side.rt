@@ -2,7 +2,7 @@
 //! list lays the waker out, and nobody else steps with either.
 //!
 //! A contract sees the steps of both, and of each step at the place how many steps at the list came before it.
-ghost use Rattle.std.specs.Prelude.{◌≡◌, ◌⊎◌, ◌<◌, ℕ, true, false, List, ◌++◌, length, IfOk, None, IsSomeAnd};
+ghost use Rattle.std.specs.Prelude.{◌≡◌, ◌⊎◌, ◌<◌, ℕ, true, false, List, ◌++◌, length, None, IsSomeAnd};
 ghost use Rattle.futures.specs.Task.{Hears, IsArmed, Keeps, Wakes};
 ghost use Rattle.futures_buffered_core.specs.WakerPlace.{GivesUp, IsNewPoller, PutsOrMeets, TakesBack};
 ghost use Rattle.futures_buffered_place.specs.History.{no_history};
@@ -11,10 +11,9 @@ ghost use Rattle.futures_buffered_table.specs.declared.answer.Taken.TheVariants.
 ghost use Rattle.futures_buffered_table.specs.declared.view.AtomicStep.{AtomicStep};
 
 use crate::ready_core::Taken;
-use crate::waker_place::{OuterWaker, PollerWaker};
+use crate::waker_place::{AtPlace, OuterWaker, PollerWaker, WakerPlace};
 use futures::task::{Context, Waker};
 use futures_buffered_table::ready_table::{PollSeat, ReadyList};
-use std::alloc::AllocError;
 use std::marker::Model;
 
 /// Both seats of one poller.
@@ -47,8 +46,9 @@ impl<O: OuterWaker> PollerSide<O> {
     /// Takes from the list. Where it takes no slot and its head is the stub, it has put the waker that it keeps where
     /// wakes find it, once the link of the stub was read and before the tail was; else it made no step at the place.
     #[inline(always)]
-    pub fn take(&mut self, list: &ReadyList) -> Taken
-        requires { self.old.poll.list ≡ list.now.list }
+    pub fn take(&mut self, list: &ReadyList, place: &WakerPlace<O>) -> Taken
+        requires list { self.old.poll.list ≡ list.now.list }
+        requires place { self.old.task.place ≡ place.now.place }
         ensures list { self.new.poll.list ≡ self.old.poll.list }
         ensures named { (slot : ℕ) → result ≡ Slot slot → slot < list.now.capacity }
         ensures shape { (shape : List AtomicStep) × (self.new.poll.steps ≡ self.old.poll.steps ++ shape)
@@ -56,51 +56,54 @@ impl<O: OuterWaker> PollerSide<O> {
         ensures calls { CallsAtStub (λ made old new. GivesUp (length made) old new) list.now.capacity self.old.poll.steps
             result self.new.poll.head self.old.task self.new.task }
     {
-        list.take_with(&mut self.poll, &mut self.task)
+        list.take_with(&mut self.poll, &mut AtPlace::new(place, &mut self.task))
     }
 
     /// Keeps a waker in the place, once so many steps were made at the list as this side has made.
-    pub fn put_in(&mut self, outer: O)
+    pub fn put_in(&mut self, place: &WakerPlace<O>, outer: O)
+        requires { self.old.task.place ≡ place.now.place }
         ensures poll { self.new.poll ≡ self.old.poll }
-        ensures same { self.new.task.awaits ≡ self.old.task.awaits }
+        ensures same { self.new.task.place ≡ self.old.task.place }
         ensures put { PutsOrMeets (length self.old.poll.steps) self.old.task.alone outer self.old.task.did self.new.task.did }
     {
-        self.task.put_in(outer, &self.poll);
+        self.task.put_in(place, outer, &self.poll);
     }
 
     /// Puts the waker that it keeps, if it keeps one, where wakes find it.
-    pub fn give_up_own(&mut self)
+    pub fn give_up_own(&mut self, place: &WakerPlace<O>)
+        requires { self.old.task.place ≡ place.now.place }
         ensures poll { self.new.poll ≡ self.old.poll }
         ensures gives { GivesUp (length self.old.poll.steps) self.old.task self.new.task }
     {
-        self.task.give_up_own(&self.poll);
+        self.task.give_up_own(place, &self.poll);
     }
 
     /// The task's side of a source beside this one.
-    pub fn beside(&mut self) -> Result<PollerWaker<O>, AllocError>
+    pub fn beside(&mut self, place: &WakerPlace<O>) -> PollerWaker<O>
+        requires { self.old.task.place ≡ place.now.place }
         ensures poll { self.new.poll ≡ self.old.poll }
-        ensures shared { IfOk result (λ place. place.awaits ≡ self.old.task.awaits) }
-        ensures new { IfOk result (IsNewPoller None no_history) }
-        ensures alone { IfOk result (λ place. (place.alone ≡ false) × (self.new.task.alone ≡ false)) }
-        ensures same { self.new.task.awaits ≡ self.old.task.awaits }
+        ensures place { (result.place ≡ self.old.task.place) × (self.new.task.place ≡ self.old.task.place) }
+        ensures new { IsNewPoller None no_history result }
+        ensures alone { (result.alone ≡ false) × (self.new.task.alone ≡ false) }
     {
-        self.task.beside(&self.poll)
+        self.task.beside(place, &self.poll)
     }
 }
 
 impl PollerSide<Waker> {
     /// Keeps the task's waker, and takes back the one that the place keeps, where none is here, once so many steps were
     /// made at the list as this side has made.
-    pub fn register(&mut self, cx: &mut Context<'_>)
+    pub fn register(&mut self, place: &WakerPlace<Waker>, cx: &mut Context<'_>)
+        requires { self.old.task.place ≡ place.now.place }
         ensures poll { self.new.poll ≡ self.old.poll }
-        ensures same { self.new.task.awaits ≡ self.old.task.awaits }
+        ensures same { self.new.task.place ≡ self.old.task.place }
         ensures alone { self.new.task.alone ≡ self.old.task.alone }
         ensures armed { IsArmed cx.new }
-        ensures heard { Hears cx.new self.old.task.awaits.source }
+        ensures heard { Hears cx.new place.now.source }
         ensures kept { Keeps cx.old cx.new }
         ensures own { (cx.new.lacks_waker ≡ true) ⊎ IsSomeAnd self.new.task.own (λ waker. Wakes waker cx.old) }
         ensures back { TakesBack (length self.old.poll.steps) self.old.task.own self.old.task.did self.new.task.did }
     {
-        self.task.register(cx, &self.poll);
+        self.task.register(place, cx, &self.poll);
     }
 }

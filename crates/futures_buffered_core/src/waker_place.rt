@@ -17,6 +17,7 @@
 //!
 //! Every step is sequentially consistent, so all of them stand in one order.
 ghost use Rattle.std.specs.Prelude.{◌≡◌, ◌⊎◌, ℕ, true, false, Option, None, IfOk, IsSomeAnd, length};
+ghost use Rattle.futures.specs.Pool.Ids.{TableId-set};
 ghost use Rattle.std.specs.Arc.{arc_value};
 ghost use Rattle.futures.specs.Task.{Hears, IsArmed, Keeps, Wakes};
 ghost use Rattle.futures_buffered_core.specs.WakerPlace.{GivesUp, HasBack, IsNewPoller, LooksAfter, PutsOrMeets, TakesBack};
@@ -136,86 +137,70 @@ impl<O: OuterWaker> WakerPlace<O> {
 /// A poll that asks sources beside one another asks the one that registered first. One of them that still has the waker
 /// of an earlier poll puts it in as well, and the waker that it replaces wakes the task.
 ///
-/// A contract sees at which place it waits, the waker that it has, and those that it put in and took back.
+/// Its calls are handed the place. A contract sees which place that is, the waker that it has, and those that it put in
+/// and took back.
 #[derive(Drop)]
 pub struct PollerWaker<O> {
-    shared: Arc<WakerPlace<O>>,
     seat: PutSeat<O>,
     own: Option<O>,
 }
 
 impl<O> Model for PollerWaker<O> {
-    ghost use Rattle.std.specs.Prelude.{◌≡◌};
-    ghost use Rattle.std.specs.Arc.{arc_value};
     ghost use Rattle.futures_buffered_core.specs.WakerPlace.{Poller, poller_code};
 
     ghost Value = { Poller O };
 
     ghost coded = { poller_code O.code };
 
-    ghost view = { λ p. record { awaits = arc_value p.shared; alone = p.seat.alone; did = p.seat.did; own = p.own } };
-
-    ghost invariant = { λ p. p.seat.place ≡ (arc_value p.shared).place };
+    ghost view = { λ p. record { place = p.seat.place; alone = p.seat.alone; did = p.seat.did; own = p.own } };
 }
 
 impl<O: OuterWaker> PollerWaker<O> {
-    /// Makes the side of a source with a place of its own. It takes memory for the place.
-    pub fn alone(alloc: Global) -> Result<PollerWaker<O>, AllocError>
-        ensures { IfOk result (IsNewPoller None no_history) }
+    /// Makes the place of a source that has its own, and the side of its poller. Allocates both in one block, and what
+    /// the place needs.
+    pub fn alone(alloc: Global) -> Result<(Arc<WakerPlace<O>>, PollerWaker<O>), AllocError>
+        ensures new { IfOk result (λ r. IsNewPoller None no_history r.1) }
+        ensures place { IfOk result (λ r. r.1.place ≡ (arc_value r.0).place) }
     {
         let (place, seat) = WakerPlace::new(alloc)?;
         let shared = Arc::new(alloc, place)?;
-        Ok(PollerWaker {
-            shared,
-            seat,
-            own: None,
-        })
+        Ok((shared, PollerWaker { seat, own: None }))
     }
 
     /// Makes the side of a source beside this one. What is kept here goes to the place that both share, as by `put_in`.
-    pub fn beside<T: ListSeat>(&mut self, shown: &T) -> Result<PollerWaker<O>, AllocError>
-        ensures shared { IfOk result (λ place. place.awaits ≡ self.old.awaits) }
-        ensures new { IfOk result (IsNewPoller None no_history) }
-        ensures alone { IfOk result (λ place. (place.alone ≡ false) × (self.new.alone ≡ false)) }
-        ensures same { self.new.awaits ≡ self.old.awaits }
+    pub fn beside<T: ListSeat>(&mut self, place: &WakerPlace<O>, shown: &T) -> PollerWaker<O>
+        requires { self.old.place ≡ place.now.place }
+        ensures place { (result.place ≡ self.old.place) × (self.new.place ≡ self.old.place) }
+        ensures new { IsNewPoller None no_history result }
+        ensures alone { (result.alone ≡ false) × (self.new.alone ≡ false) }
     {
-        let shared = self.shared()?;
-        self.give_up_own(shown);
-        let seat = self.shared.kept.seat_beside(&mut self.seat);
-        Ok(PollerWaker {
-            shared,
-            seat,
-            own: None,
-        })
-    }
-
-    /// Returns the place in which wakes look.
-    pub fn shared(&self) -> Result<Arc<WakerPlace<O>>, AllocError>
-        ensures { IfOk result (λ shared. arc_value shared ≡ self.now.awaits) }
-    {
-        Arc::try_clone(&self.shared)
+        self.give_up_own(place, shown);
+        let seat = place.kept.seat_beside(&mut self.seat);
+        PollerWaker { seat, own: None }
     }
 
     /// Keeps a waker in the shared place, as [`WakerPlace::put_in`] does.
-    pub fn put_in<T: ListSeat>(&mut self, outer: O, shown: &T)
-        ensures same { self.new.awaits ≡ self.old.awaits }
+    pub fn put_in<T: ListSeat>(&mut self, place: &WakerPlace<O>, outer: O, shown: &T)
+        requires { self.old.place ≡ place.now.place }
+        ensures same { self.new.place ≡ self.old.place }
         ensures alone { self.new.alone ≡ self.old.alone }
         ensures own { self.new.own ≡ self.old.own }
         ensures put { PutsOrMeets (T.made shown.now) self.old.alone outer self.old.did self.new.did }
     {
-        self.shared.put_in(&mut self.seat, outer, shown);
+        place.put_in(&mut self.seat, outer, shown);
     }
 }
 
 impl<O: OuterWaker> PollerWaker<O> {
     // Takes back the waker that the place keeps, if none is here.
-    fn take_back<T: ListSeat>(&mut self, shown: &T)
+    fn take_back<T: ListSeat>(&mut self, place: &WakerPlace<O>, shown: &T)
+        requires { self.old.place ≡ place.now.place }
         ensures alone { self.new.alone ≡ self.old.alone }
-        ensures same { self.new.awaits ≡ self.old.awaits }
+        ensures same { self.new.place ≡ self.old.place }
         ensures back { HasBack (T.made shown.now) self.old.own self.old.did self.new.own self.new.did }
     {
         if self.own.is_none() {
-            self.own = self.shared.kept.take_back(&mut self.seat, shown);
+            self.own = place.kept.take_back(&mut self.seat, shown);
         }
     }
 }
@@ -225,42 +210,69 @@ impl PollerWaker<Waker> {
     /// task is woken.
     ///
     /// If no waker can be made, the task is woken.
-    pub fn register<T: ListSeat>(&mut self, cx: &mut Context<'_>, shown: &T)
+    pub fn register<T: ListSeat>(
+        &mut self,
+        place: &WakerPlace<Waker>,
+        cx: &mut Context<'_>,
+        shown: &T,
+    )
+        requires { self.old.place ≡ place.now.place }
         ensures alone { self.new.alone ≡ self.old.alone }
-        ensures same { self.new.awaits ≡ self.old.awaits }
+        ensures same { self.new.place ≡ self.old.place }
         ensures armed { IsArmed cx.new }
-        ensures heard { Hears cx.new self.old.awaits.source }
+        ensures heard { Hears cx.new place.now.source }
         ensures kept { Keeps cx.old cx.new }
         ensures own { (cx.new.lacks_waker ≡ true) ⊎ IsSomeAnd self.new.own (λ waker. Wakes waker cx.old) }
         ensures back { TakesBack (T.made shown.now) self.old.own self.old.did self.new.did }
     {
-        self.take_back(shown);
-        let _: Poll<()> = cx.register(&self.shared.source, &mut self.own);
-    }
-}
-
-impl<O: OuterWaker> BeforeEmpty for PollerWaker<O> {
-    ghost use Rattle.std.specs.Prelude.{length};
-    ghost use Rattle.futures_buffered_core.specs.WakerPlace.{GivesUp};
-
-    ghost leaves = { λ made old new. GivesUp (length made) old new };
-
-    #[inline(always)]
-    fn before_empty(&mut self, made: &StepsMade<'_>) {
-        if self.own.is_some() {
-            self.give_up_own(made);
-        }
+        self.take_back(place, shown);
+        let _: Poll<()> = cx.register(&place.source, &mut self.own);
     }
 }
 
 impl<O: OuterWaker> PollerWaker<O> {
     // Puts the waker, if one is kept here, where wakes find it, as by `put_in`.
     #[inline(never)]
-    pub(crate) fn give_up_own<T: ListSeat>(&mut self, shown: &T)
+    pub(crate) fn give_up_own<T: ListSeat>(&mut self, place: &WakerPlace<O>, shown: &T)
+        requires { self.old.place ≡ place.now.place }
         ensures { GivesUp (T.made shown.now) self.old self.new }
     {
         if let Some(outer) = self.own.take() {
-            self.put_in(outer, shown);
+            self.put_in(place, outer, shown);
+        }
+    }
+}
+
+/// The poller's side with its place, for one taking.
+#[derive(Drop)]
+pub struct AtPlace<'p, O> {
+    place: &'p WakerPlace<O>,
+    task: &'p mut PollerWaker<O>,
+    ghost is_its_place: { task.now.place ≡ place.now.place } by { TableId-set _ _ },
+}
+
+impl<'p, O> AtPlace<'p, O> {
+    pub fn new(place: &'p WakerPlace<O>, task: &'p mut PollerWaker<O>) -> AtPlace<'p, O>
+        requires { task.old.place ≡ place.now.place }
+        ensures same_reference { result.task.ghost_name ≡ task.entry.ghost_name }
+        ensures same { result.task.now ≡ task.old }
+    {
+        AtPlace { place, task }
+    }
+}
+
+impl<O: OuterWaker> BeforeEmpty for AtPlace<'_, O> {
+    ghost use Rattle.std.specs.Prelude.{◌≡◌, length};
+    ghost use Rattle.futures_buffered_core.specs.WakerPlace.{GivesUp};
+
+    ghost leaves = { λ made old new. (new.task.ghost_name ≡ old.task.ghost_name)
+        × GivesUp (length made) old.task.now new.task.now };
+
+    #[inline(always)]
+    fn before_empty(&mut self, made: &StepsMade<'_>) {
+        let task = &mut *self.task;
+        if task.own.is_some() {
+            task.give_up_own(self.place, made);
         }
     }
 }
