@@ -1,5 +1,5 @@
--- One call of a buffer, which draws from a stream while there is room and then polls its queue once, unless a push
--- handed back an answer; what many calls make together; and what may come. The queue may be any that has a number of
+-- One call of a buffer, what many calls make together, and what may come. A call takes items from a stream while there
+-- is room. Then it polls its queue once, unless a push returned an answer. The queue may be any that has a number of
 -- entries, a push and a poll.
 use Rattle.std.specs.Prelude.{◌≡◌, ℕ, ◌+◌, ◌-◌, ◌<◌, ◌≤◌, ◌^◌, List, [], ◌++◌, Option, Some, None, IfSome, IfNone}
 use Rattle.std.specs.Prelude.{IsSomeAnd, Bool, true, false, ◌⊎◌, cond, min, nat_lt, refl, filter_map, flat_map}
@@ -20,12 +20,12 @@ use Rattle.futures_buffered_unordered.specs.StreamAnswers.{StreamAnswers, stream
 use Rattle.futures_buffered.specs.FutureQueue.{MayCome}
 pub use Rattle.futures_buffered.specs.declared.future_queue.FutureQueue.{Ghosts as FutureQueueOf}
 
--- the stream, or nothing once it has ended, and the queue of what was drawn
+-- the stream, or nothing once it has ended, and the queue of what was taken
 pub record Buffering (St Q : Type 0) : Type 0 where
   pub stream : Option St
   pub queue : Q
 
--- its code, made of those of its parts
+-- the code of a buffer, made of the codes of its parts
 abbrev pub buffer_code : {St Q : Type 0} → Coded St → Coded Q → Coded (Buffering St Q)
 buffer_code {St} {Q} stream_code queue_code =
     code_by
@@ -35,31 +35,31 @@ buffer_code {St} {Q} stream_code queue_code =
     (λ p. record { stream = p.0; queue = p.1 })
     (λ _. refl)
 
--- one poll of a stream, in the words of `futures`: its answer was one that might come, and what may come after it might
--- come before
+-- One poll of a stream, in the words of `futures`: its answer is one that might come, and what may come after the
+-- answer might have come after it before.
 pub record PollsStream {St F : Type 0} (yields : St → Runs F) (old : St) (answer : Poll (Option F))
     (new : St) : Type 0 where
   pub value : IfReady answer (yields old [])
   pub rest : IfReady answer (λ o. IfSome o (λ x. After (yields old) x (yields new)))
   pub same : OnPending answer (Within (yields old) (yields new))
 
--- what may come from a stream, and the end at once where there is none any more
+-- what may come from a stream; if there is no stream any more, `None` at once
 abbrev pub Ahead : {St F : Type 0} → (St → Runs F) → Option St → Runs F
 Ahead yields None = Ends
 Ahead yields (Some stream) = yields stream
 
--- where the queue holds nothing: the end if the stream has ended, and else Pending
+-- what a call returns if the queue holds nothing: `None` if the stream has ended, otherwise `Pending`
 abbrev pub answer_of_none : {St A : Type 0} → Option St → Poll (Option A)
 answer_of_none None = Ready None
 answer_of_none (Some _) = Pending
 
--- the answer of a call, from that of the queue: its outputs and its Pending are passed on
+-- what a call returns, by what the queue returned: an output and `Pending` are returned as they are
 abbrev pub answer_from : {St A : Type 0} → Option St → Poll (Option A) → Poll (Option A)
 answer_from stream (Ready (Some x)) = Ready (Some x)
 answer_from stream (Ready None) = answer_of_none stream
 answer_from stream Pending = Pending
 
--- the output that a call gave, if any
+-- the output that a call returned, if any
 abbrev pub output_given : {A : Type 0} → Poll (Option A) → Option A
 output_given (Ready o) = o
 output_given Pending = None
@@ -73,33 +73,33 @@ module _ {St A Q : Type 0} (polls : Q → Poll (Option A) → Q → Type 0) wher
     pub same_stream : new.stream ≡ old.stream
     pub gives : answer ≡ answer_from old.stream queue_answer
 
-  -- how a call ends once it has drawn: with the answer that was handed back, where the queue is not polled and
-  -- `task_stays` holds; or else with a poll of the queue
+  -- how a call ends after filling: if a push returned an answer, with that answer, without a poll of the queue, and
+  -- `task_stays` holds; otherwise with a poll of the queue
   abbrev pub CallEnds : Type 0 → Option A → Buffering St Q → Poll (Option A) → Buffering St Q → Type 0
   CallEnds task_stays None filled answer new = AsksQueue filled answer new
   CallEnds task_stays (Some x) filled answer new = (answer ≡ Ready (Some x)) × (new ≡ filled) × task_stays
 
 module _ {St X Q : Type 0} (next : St → Poll (Option X) → St → Type 0) (count : Q → ℕ) (n : ℕ) where
-  -- the stream was polled: it had not ended, and fewer than n were held
+  -- the stream was polled: it had not ended, and the queue held fewer than `n`
   pub record AsksStream (old : Buffering St Q) (answer : Poll (Option X)) (left : St) : Type 0 where
     pub stream : St
     pub not_ended : old.stream ≡ Some stream
     pub has_room : count old.queue < n
     pub answers : next stream answer left
 
-  -- the stream was not polled, since it has ended or as many as n are held
+  -- the stream was not polled, since it has ended or the queue holds `n` or more
   abbrev pub HasNoTurn : Buffering St Q → Type 0
   HasNoTurn old = (old.stream ≡ None) ⊎ (n ≤ count old.queue)
 
-  -- no item came: the stream was not polled, since it has ended or nothing more fits; or it was pending; or it ended
-  -- and was dropped
+  -- no item was taken: the stream was not polled, since it has ended or nothing more fits; or it was pending; or it
+  -- ended and was dropped
   abbrev pub DrawsNone : Buffering St Q → Buffering St Q → Type 0
   DrawsNone old new = (HasNoTurn old × (new ≡ old))
       ⊎ (((left : St) × AsksStream old Pending left × (new ≡ record old { stream = Some left }))
       ⊎ ((left : St) × AsksStream old (Ready None) left × (new ≡ record old { stream = None })))
 
   module _ {A : Type 0} (pushes : Q → X → Option A → Q → Type 0) where
-    -- an item came, and its push handed this back
+    -- an item was taken, and its push returned this
     pub record DrawsItem (given : Option A) (old : Buffering St Q) (item : X)
         (new : Buffering St Q) : Type 0 where
       pub left : St
@@ -107,19 +107,19 @@ module _ {St X Q : Type 0} (next : St → Poll (Option X) → St → Type 0) (co
       pub stream_left : new.stream ≡ Some left
       pub pushed : pushes old.queue item given new.queue
 
-    -- how drawing ends: no item came, or one whose push handed back this answer
+    -- how filling ends: no item was taken, or the push of an item returned this answer
     abbrev pub DrawsLast : Buffering St Q → Option A → Buffering St Q → Type 0
     DrawsLast old None new = DrawsNone old new
     DrawsLast old (Some answer) new = (item : X) × DrawsItem (Some answer) old item new
 
-    -- at most one item is drawn, and drawing goes on only where it is held
+    -- at most one item is taken, and the call takes further items only if that one is held
     abbrev pub DrawsUpToOne : Buffering St Q → ControlFlow (Option A) (Unit {0}) → Buffering St Q → Type 0
     DrawsUpToOne old (Continue _) new = (item : X)
         × DrawsItem None old item new
         × (count new.queue ≡ count old.queue + 1)
     DrawsUpToOne old (Break given) new = DrawsLast old given new
 
-    -- these items came one after another and were pushed, each while fewer than n were held, and then drawing ended:
+    -- these items were taken one after another and pushed, each while fewer than `n` were held, and then filling ended;
     -- what was pushed stays held
     pub record DrawsAll (old : Buffering St Q) (drawn : List X) (given : Option A)
         (new : Buffering St Q) : Type 0 where
@@ -128,7 +128,7 @@ module _ {St X Q : Type 0} (next : St → Poll (Option X) → St → Type 0) (co
       pub last : DrawsLast full given new
 
     module _ (polls : Q → Poll (Option A) → Q → Type 0) (task_stays : Type 0) where
-      -- one call: these items were drawn and are held, and then it ended
+      -- one call: these items were taken and are held, and then the call ended
       pub record BufferCall (old : Buffering St Q) (drawn : List X) (answer : Poll (Option A))
           (new : Buffering St Q) : Type 0 where
         pub given : Option A
@@ -136,23 +136,23 @@ module _ {St X Q : Type 0} (next : St → Poll (Option X) → St → Type 0) (co
         pub draws : DrawsAll old drawn given filled
         pub ends : CallEnds polls task_stays given filled answer new
 
-      -- the same, where it does not matter which items were drawn
+      -- one call, whichever items it took
       abbrev pub CallGivesWith : Buffering St Q → Poll (Option A) → Buffering St Q → Type 0
       CallGivesWith old answer new = (drawn : List X) × BufferCall old drawn answer new
 
-    -- many calls in a row, each with the items that it drew and with its answer, of which no more is said where the
-    -- queue is not polled
+    -- many calls in a row, each with the items that it took and with its answer; if the queue is not polled, no more is
+    -- said of the call
     abbrev pub CallsInTurn : (Q → Poll (Option A) → Q → Type 0) → Buffering St Q
         → List (List X × Poll (Option A)) → Buffering St Q → Type 0
     CallsInTurn polls = FoldsTo (λ old call new. BufferCall polls (Unit {0}) old call.0 call.1 new)
 
--- the answer that was handed back where drawing ended, if one was
+-- the answer that a push returned when filling ended, if one did
 abbrev pub handed_back : {A : Type 0} → ControlFlow (Option A) (Unit {0}) → Option A
 handed_back (Continue _) = None
 handed_back (Break given) = given
 
--- What drawing leaves of a buffer. `can_draw` says whether items may be drawn, `yields` what may come from the buffer,
--- and `gave` is the answer that came in place of an item, if one did.
+-- What filling leaves of a buffer. `can_draw` says whether items may be taken, and `yields` what may come from the
+-- buffer. `gave` is the answer that a push returned, if one did.
 pub record DrawsBuffer
     {St A Q : Type 0}
     (count room : Q → ℕ)
@@ -166,17 +166,16 @@ pub record DrawsBuffer
   pub same_room : room new.queue ≡ room old.queue
   -- the queue holds no more than that
   pub bound : count new.queue ≤ room new.queue
-  -- further items may be drawn
+  -- further items may be taken
   pub again : can_draw new
-  -- without an answer, drawing adds nothing to what may come
+  -- without an answer, nothing is added to what may come
   pub within : IfNone gave (Within (yields old) (yields new))
   -- an answer is one that might come first
   pub value : IfSome gave (λ x. yields old [] (Some x))
-  -- what may come after it might have come behind it
+  -- what may come after the answer might have come after it before
   pub after : IfSome gave (λ x. After (yields old) x (yields new))
 
--- What drawing leaves of the task, which it took from cx to left. `none_came` holds where drawing stopped because no
--- item came.
+-- What filling makes of the task, from `cx` to `left`. `none_came` holds if filling stopped because no item came.
 pub record DrawsTask
     {St X Q : Type 0}
     (next : St → Poll (Option X) → St → Type 0)
@@ -186,14 +185,14 @@ pub record DrawsTask
     (old new : Buffering St Q)
     (cx left : Context)
     : Type 0 where
-  -- where there is room left, the task hears of the stream, unless that has ended
+  -- if no item came and there is room left, the task is registered for the stream or woken, unless the stream has ended
   pub covered : none_came → count new.queue < room new.queue → IfSome new.stream (λ stream. Covers left (needs stream))
-  -- where the stream was not polled, the task is as it was
+  -- if the stream was not polled, the task is unchanged
   pub no_turn : HasNoTurn next count (room old.queue) old → left ≡ cx
-  -- what the task was registered for or asked to do before still stands
+  -- the task keeps each earlier registration and wake
   pub kept : Keeps cx left
 
--- The stream may be polled, unless it has ended; each item that may still come is fit to be drawn; and the queue may be
+-- The stream may be polled, unless it has ended; each item that may still come may be pushed; and the queue may be
 -- polled.
 pub record CanDraw {St X Q : Type 0} (can_next : St → Type 0) (yields : St → Runs X)
     (is_fit : X → Type 0) (can_poll : Q → Type 0) (b : Buffering St Q) : Type 0 where
@@ -201,8 +200,8 @@ pub record CanDraw {St X Q : Type 0} (can_next : St → Type 0) (yields : St →
   pub to_come : IfSome b.stream (λ stream. AllItems (yields stream) is_fit)
   pub held : can_poll b.queue
 
--- where a pending call waits: with the queue, if anything is held; with the stream, if it has not ended and there is
--- room
+-- the places at which a pending call waits: the queue's, if anything is held; the stream's, if it has not ended and
+-- there is room
 abbrev pub WaitsAt : {St Q : Type 0} → (St → ℕ → Type 0) → (Q → ℕ → Type 0) → (Q → ℕ) → (Q → ℕ)
     → Buffering St Q → ℕ → Type 0
 WaitsAt stream_needs queue_needs count room b place =
@@ -211,15 +210,15 @@ WaitsAt stream_needs queue_needs count room b place =
 
 module _ {St X A Q : Type 0} (yields : St → Runs X) (item_gives : X → A → Type 0) (count : Q → ℕ)
     (comes : Q → Runs A) where
-  -- an output that comes from the queue, or one that an item gives which may still come
+  -- an output that comes from the queue, or one that an item may give which may still come
   abbrev pub OneComes : Buffering St Q → A → Type 0
   OneComes b x = MayCome (comes b.queue) x ⊎ AnyItemGives item_gives (Ahead yields b.stream) x
 
-  -- as many answers as are held and as items come from the stream, each of one of these, and then the end
+  -- as many outputs as are held and as items come from the stream, each of them by `OneComes`, and then `None`
   abbrev pub Comes : Buffering St Q → Runs A
   Comes b = GathersWith (OneComes b) (count b.queue) (Ahead yields b.stream)
 
-  -- all that comes from the queue; then an answer of each item that comes from the stream, in order; and then the end
+  -- all that comes from the queue; then an output of each item that comes from the stream, in order; and then `None`
   abbrev pub ComesInTurn : Buffering St Q → Runs A
   ComesInTurn b = Chains (comes b.queue) (Resolves item_gives (Ahead yields b.stream))
 
@@ -228,7 +227,7 @@ module _ {St X A Q : Type 0} (yields : St → Runs X) (item_gives : X → A → 
   BufferGives true b = ComesInTurn b
   BufferGives false b = Comes b
 
--- a buffer over such a stream and such a queue can be polled
+-- a buffer over such a stream and such a queue may be polled
 abbrev pub CanPollBuffer : {St X A Q : Type 0} → StreamOf St X → FutureQueueOf Q X A → Buffering St Q → Type 0
 CanPollBuffer stream queue = CanDraw stream.can_poll stream.yields queue.is_fit queue.can_poll
 
@@ -239,13 +238,13 @@ buffer_of stream queue = stream_of
     (WaitsAt stream.needs queue.needs queue.count queue.room)
     (BufferGives stream.yields queue.gives queue.count queue.yields queue.in_order)
 
--- a poll of the queue that takes the task from cx to left
+-- a poll of the queue that takes the task from `cx` to `left`
 abbrev pub PollsWithTask : {Q A : Type 0} → (Q → Poll (Option A) → Q → Context → Context → Type 0)
     → Context → Context → Q → Poll (Option A) → Q → Type 0
 PollsWithTask polls cx left old answer new = polls old answer new cx left
 
--- One call, which took a buffer from old to new and the task from cx to left. A clause names stream and queue by the
--- ghost members of their types: `St.Stream Q.FutureQueue`.
+-- One call, which takes a buffer from `old` to `new` and the task from `cx` to `left`. A clause gives stream and queue
+-- by the ghost members of their types: `St.Stream Q.FutureQueue`.
 pub record PollsBuffer
     {St X A Q : Type 0}
     (stream : StreamOf St X)
@@ -255,34 +254,35 @@ pub record PollsBuffer
     (new : Buffering St Q)
     (cx left : Context)
     : Type 0 where
-  -- to what the draws took the task: nothing of it was lost, and it is as it was where the stream was not polled
+  -- the task after filling, which keeps each earlier registration and wake, and is unchanged if the stream was not
+  -- polled
   pub task_then : Context
   pub draws_keep : Keeps cx task_then
   pub not_polled : HasNoTurn (PollsStream stream.yields) queue.count (queue.room old.queue) old → task_then ≡ cx
-  -- what came, and who is woken: some items were drawn and are held; then a push handed back the answer, and the task
-  -- is as the draws left it; or one poll of the queue gave the answer, and made of the task what the queue's polls do
+  -- The call takes items, which stay held. Then either a further push returns the answer, and the task is `task_then`;
+  -- or one poll of the queue returns it, and takes the task from `task_then` to `left`.
   pub gave : CallGivesWith (PollsStream stream.yields) queue.count (queue.room old.queue)
       queue.pushes (PollsWithTask queue.polls task_then left) (left ≡ task_then) old answer new
-  -- the end comes exactly where the stream has ended and nothing is held
+  -- the call returns `None` only if the stream has ended and nothing is held, and `Pending` only if that is not so
   pub ended : IfReady answer (λ o. IfNone o ((new.stream ≡ None) × (queue.count new.queue ≡ 0)))
   pub waits : OnPending answer (new.stream ≡ None → 0 < queue.count new.queue)
-  -- what stays: the queue can hold as many as before, and holds no more than that
+  -- the queue can hold as many as before, and holds no more than that
   pub same_room : queue.room new.queue ≡ queue.room old.queue
   pub bound : queue.count new.queue ≤ queue.room new.queue
-  -- as a stream: what may come; who waits where, with the queue if anything is held, and with the stream if it has not
-  -- ended and more fits; and that it may be polled again, after an output or Pending
+  -- as a stream: what may come; where the task of a pending call is registered (`WaitsAt`); and that the buffer may be
+  -- polled again after an output or `Pending`
   pub as_stream : StreamAnswers (buffer_of stream queue) old answer new cx left
 
--- the items that these calls drew, in order, and the outputs that they gave
+-- the items that these calls took, in order, and the outputs that they returned
 abbrev pub all_drawn : {F A : Type 0} → List (List F × Poll (Option A)) → List F
 all_drawn = flat_map (λ call. call.0)
 
 abbrev pub all_outputs : {F A : Type 0} → List (List F × Poll (Option A)) → List A
 all_outputs = filter_map (λ call. output_given call.1)
 
--- Each item drawn is accounted for once: either it gave the output at its place among those given, or it became the
--- entry at its place among those held. `matches` compares the items drawn with these: by equality where the order is
--- kept, as a permutation where it is not.
+-- Each item taken is accounted for once: either it gave the output at its place among the outputs, or it became the
+-- entry at its place among those held. `matches` compares the items taken with these: by equality if the order is kept,
+-- as a permutation if it is not.
 pub record Accounts {F A E : Type 0} (matches : List F → List F → Type 0) (gives : F → A → Type 0)
     (becomes : F → E → Type 0) (drawn : List F) (outputs : List A) (held : List E) : Type 0 where
   pub gone : List F
@@ -291,8 +291,8 @@ pub record Accounts {F A E : Type 0} (matches : List F → List F → Type 0) (g
   pub gave : AllZip gives gone outputs
   pub became : AllZip becomes kept held
 
--- what bounds the number of items left where a stream leaves so many, or has ended, and n more are held: a least number
--- past 64 bits stops there, and a greatest past them is not known
+-- Bounds on how many items are left, if a stream has these bounds, or has ended, and `n` more are held. A lower bound
+-- past 64 bits stops at their maximum, and an upper bound past 64 bits is unknown.
 abbrev pub sum_below : ℕ → Option ℕ
 sum_below sum = cond (nat_lt sum (2 ^ 64)) (Some sum) None
 
@@ -303,28 +303,28 @@ abbrev pub hint_ahead : {St : Type 0} → (St → ℕ × Option ℕ) → Option 
 hint_ahead hint None = (0, Some 0)
 hint_ahead hint (Some stream) = hint stream
 
--- nothing was drawn: the stream is as it was given, and the queue is a new one
+-- no item was taken: the stream is the given one, and the queue is a new one
 pub record IsNewBuffer {St Q : Type 0} (is_new : Q → Type 0) (stream : St)
     (b : Buffering St Q) : Type 0 where
   pub same_stream : b.stream ≡ Some stream
   pub new_queue : is_new b.queue
 
--- What drawing makes of a buffer and of its task, by the ghost members of stream and queue.
+-- What filling makes of a buffer and of its task, by the ghost members of stream and queue.
 module _ {St X A Q : Type 0} (stream : StreamOf St X) (queue : FutureQueueOf Q X A) where
-  -- one draw
+  -- one step of filling, which takes at most one item
   abbrev pub DrawsOne : Buffering St Q → ControlFlow (Option A) (Unit {0}) → Buffering St Q → Type 0
   DrawsOne old result new = DrawsUpToOne (PollsStream stream.yields) queue.count
       (queue.room old.queue) queue.pushes old result new
 
-  -- all draws of one call
+  -- filling in one call
   abbrev pub FillsBuffer : Buffering St Q → Option A → Buffering St Q → Type 0
   FillsBuffer old given new = (drawn : List X) × DrawsAll (PollsStream stream.yields) queue.count
       (queue.room old.queue) queue.pushes old drawn given new
 
-  -- what they leave of the buffer
+  -- what filling leaves of the buffer
   abbrev pub LeavesBuffer : Buffering St Q → Option A → Buffering St Q → Type 0
   LeavesBuffer = DrawsBuffer queue.count queue.room (buffer_of stream queue).can_poll (buffer_of stream queue).yields
 
-  -- and of the task, where drawing stopped because no item came, or for another reason
+  -- what filling leaves of the task, by whether it stopped because no item came
   abbrev pub DrawingLeavesTask : Type 0 → Buffering St Q → Buffering St Q → Context → Context → Type 0
   DrawingLeavesTask = DrawsTask (PollsStream stream.yields) queue.count queue.room stream.needs

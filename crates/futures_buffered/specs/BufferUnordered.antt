@@ -13,7 +13,7 @@ use Rattle.futures_buffered.specs.Buffer.{Buffering, StreamOf, PollsStream, Call
 use Rattle.futures_buffered.specs.Buffer.{all_outputs}
 use Rattle.futures_buffered.specs.TryBuffer.{PushesOk, WithErrors, futures_of}
 
--- a pending poll of a set waits with its source
+-- a pending poll of a set waits where its source waits
 abbrev pub SetWaitsAt : {F S : Type 0} → (S → ℕ → Type 0) → Bounded F S → ℕ → Type 0
 SetWaitsAt source_needs set place = source_needs set.source place
 
@@ -21,20 +21,20 @@ SetWaitsAt source_needs set place = source_needs set.source place
 abbrev pub held_values : {F : Type 0} → Slots F → List F
 held_values m = filter_map (λ o. o) m.places
 
--- pending polls took a future from f to g
+-- pending polls took a future from `f` to `g`
 abbrev pub PendsTo : {F A : Type 0} → (F → Poll A → F → Type 0) → F → F → Type 0
 PendsTo {F} polled f g = (later : List F) × FoldsTo (λ a b c. polled a Pending b × (c ≡ b)) f later g
 
--- the same, each with the waker of one slot
+-- pending polls, all of them with the waker of one slot, took a future from `f` to `g`
 abbrev pub WaitsInSlot : {F A : Type 0} → (ℕ → F → Poll A → F → Type 0) → F → F → Type 0
 WaitsInSlot polled f g = (slot : ℕ) × PendsTo (polled slot) f g
 
--- after some pending polls a poll may answer x, each with the waker of one slot
+-- after some pending polls a poll may return `x`, all of them with the waker of one slot
 abbrev pub MayGiveInSlot : {F A : Type 0} → (ℕ → F → Poll A → F → Type 0) → F → A → Type 0
 MayGiveInSlot polled f x = (slot : ℕ) × MayGive (polled slot) f x
 
--- Where nothing was held at first, after any calls each item drawn either gave one of the outputs or is held still, as
--- pending polls left it: no output is of two items or of none, and no item is lost.
+-- After any calls of a buffer that held nothing at first, each item taken is accounted for: it has given one of the
+-- outputs, or is held as pending polls left it. No output is of two items or of none, and no item is lost.
 abbrev pub LosesNothing : {St F A S W : Type 0} → StreamOf St F → SlotFutureOf F W A → ReadySourceOf S W → Type 0
 LosesNothing {St} {F} {A} {S} stream future source =
     (n : ℕ) (old new : Buffering St (Bounded F S))
@@ -44,7 +44,7 @@ LosesNothing {St} {F} {A} {S} stream future source =
     → Accounts IsPermutation (MayGiveInSlot future.polled) (WaitsInSlot future.polled)
     (all_drawn calls) (all_outputs calls) (held_values new.queue.slots)
 
--- The same where the stream gives errors as well: some errors come among the outputs, and of the futures drawn none is
+-- The same for a stream that returns errors also: some errors come among the outputs, and none of the futures taken is
 -- lost.
 abbrev pub TryLosesNothing : {St F T E S W : Type 0} → StreamOf St (Result F E) → SlotFutureOf F W (Result T E)
     → ReadySourceOf S W → Type 0

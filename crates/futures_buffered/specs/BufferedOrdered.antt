@@ -24,20 +24,20 @@ queue_len queue = length queue.entries
 abbrev pub queue_slots : {F A S : Type 0} → OrderedBounded F A S → ℕ
 queue_slots queue = slot_count queue.set.slots
 
--- a pending poll of a queue waits with the source of its set
+-- a pending poll of a queue waits where the source of its set waits
 abbrev pub QueueWaitsAt : {F A S : Type 0} → (S → ℕ → Type 0) → OrderedBounded F A S → ℕ → Type 0
 QueueWaitsAt source_needs queue = SetWaitsAt source_needs queue.set
 
--- a future became an entry: a slot holds it with the number of the entry, as pending polls with the waker of that slot
--- left it; or it gave the output that is kept
+-- a future became an entry: a slot holds the future with the number of the entry, as pending polls with the waker of
+-- that slot left it; or the future gave the output that is kept
 abbrev pub BecomesEntry : {F A : Type 0} → (ℕ → F → Poll A → F → Type 0) → Slots (Numbered F) → F → Entry A → Type 0
 BecomesEntry {F = F} polled slots future (Running number) = (slot : ℕ) × (now : F)
     × (value_in slots slot ≡ Some (record { future = now; number = number }))
     × PendsTo (polled slot) future now
 BecomesEntry polled slots future (Kept output) = MayGiveInSlot polled future output
 
--- Where nothing was held at first, after any calls the outputs given so far are those of the first items drawn, in the
--- order of these; and the other items are the entries held, in the same order.
+-- After any calls of a buffer that held nothing at first, the outputs so far are those of the first items taken, in
+-- order. The other items are the entries held, in the same order.
 abbrev pub GivesInOrder : {St F A S W : Type 0} → StreamOf St F → SlotFutureOf F W A → ReadySourceOf S W → Type 0
 GivesInOrder {St} {F} {A} {S} stream future source =
     (n : ℕ) (old new : Buffering St (OrderedBounded F A S))
@@ -49,7 +49,7 @@ GivesInOrder {St} {F} {A} {S} stream future source =
     (BecomesEntry future.polled new.queue.set.slots)
     (all_drawn calls) (all_outputs calls) new.queue.entries
 
--- The same where the stream gives errors as well: some errors come among the outputs.
+-- The same for a stream that returns errors also: some errors come among the outputs.
 abbrev pub TryGivesInOrder : {St F T E S W : Type 0} → StreamOf St (Result F E) → SlotFutureOf F W (Result T E)
     → ReadySourceOf S W → Type 0
 TryGivesInOrder {St} {F} {T} {E} {S} stream future source =

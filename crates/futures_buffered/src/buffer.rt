@@ -19,11 +19,11 @@ use std::fmt;
 use std::marker::Model;
 use std::ops::ControlFlow;
 
-/// Futures of a stream, at most as many at a time as its queue has room for.
+/// Futures of a stream, at most as many at a time as the queue has room for.
 ///
-/// A contract sees the stream, or nothing once it has ended, and what it sees of the queue. A poll takes no memory but
-/// what the polls of stream and futures take, and the calls of the source, or of the kit's set. A stream that ended is
-/// dropped at once. Calls that poll nothing take the same time at any number held.
+/// A contract sees the stream, or nothing once the stream has ended, and what it sees of the queue. A poll itself does
+/// not allocate; the polls of stream and futures, and the calls of the source or of the set of `futures`, may. The poll
+/// in which the stream ends drops the stream. A call that polls nothing takes the same time at any number held.
 #[derive(Drop)]
 pub struct Buffer<St: Drop, Q: Drop> {
     stream: Option<St>,
@@ -41,7 +41,7 @@ impl<St: Drop, Q: Drop> Model for Buffer<St, Q> {
 }
 
 impl<St: Drop, Q: Drop> Buffer<St, Q> {
-    /// Over this stream and a queue that was made before. Nothing is polled.
+    /// Makes a buffer over this stream and a queue that was made before. Does not poll.
     pub fn with_queue(stream: St, queue: Q) -> Self
         ensures { IsNewBuffer (λ held. held ≡ queue) stream result }
     {
@@ -53,9 +53,9 @@ impl<St: Drop, Q: Drop> Buffer<St, Q> {
 }
 
 impl<St: Drop, Q: NewQueue> Buffer<St, Q> {
-    /// Over this stream, with at most `n` held at a time and a queue made for them. Nothing is polled.
+    /// Makes a buffer over this stream, with at most `n` held at a time and a queue made for them. Does not poll.
     ///
-    /// Takes time and memory in proportion to `n`. The stream is dropped where it is refused.
+    /// If the call fails, drops the stream. Takes time and allocates in proportion to `n`.
     pub fn over(env: &Q::Env, alloc: Global, stream: St, n: usize) -> Result<Self, NewFault>
         requires { 0 < n }
         ensures { MakesSlots n (IsNewBuffer (Q.made n POLL_LIMIT) stream) result }
@@ -63,7 +63,7 @@ impl<St: Drop, Q: NewQueue> Buffer<St, Q> {
         Self::over_limit(env, alloc, stream, n, POLL_LIMIT)
     }
 
-    /// As `over`, where one poll of the queue's set takes at most `limit` names.
+    /// Makes a buffer as `over` does. One poll of the queue's set dequeues at most `limit` ready slots.
     pub fn over_limit(
         env: &Q::Env,
         alloc: Global,
@@ -84,7 +84,7 @@ impl<St: Drop, Q: NewQueue> Buffer<St, Q> {
 }
 
 impl<St: Drop, Q: NewQueue<Env = (), Source = SharedReady>> Buffer<St, Q> {
-    /// As `over_limit`, with a shared source, whose futures are woken from any thread.
+    /// Makes a buffer as `over_limit` does, with a shared source. Its futures are woken from any thread.
     pub fn with_limit(alloc: Global, stream: St, n: usize, limit: usize) -> Result<Self, NewFault>
         requires room { 0 < n }
         requires some { 1 ≤ limit }
@@ -95,7 +95,7 @@ impl<St: Drop, Q: NewQueue<Env = (), Source = SharedReady>> Buffer<St, Q> {
 }
 
 impl<St: Stream, Q: FutureQueue<St::Item>> Buffer<St, Q> {
-    /// How many are held: futures in progress, and outputs that wait for their turn.
+    /// Returns how many are held: futures in progress, and outputs that wait for their turn.
     pub fn len(&self) -> usize
         ensures value { result ≡ Q.count self.now.queue }
         ensures bound { Q.count self.now.queue ≤ Q.room self.now.queue }
@@ -103,29 +103,29 @@ impl<St: Stream, Q: FutureQueue<St::Item>> Buffer<St, Q> {
         self.queue.len()
     }
 
-    /// Whether nothing is held. The stream may have more to give.
+    /// Returns whether nothing is held. The stream may have more items.
     pub fn is_empty(&self) -> bool
         ensures { IsTrue result ↔ (Q.count self.now.queue ≡ 0) }
     {
         self.queue.len() == 0
     }
 
-    /// How many can be held at a time, which never changes.
+    /// Returns how many can be held at a time, which never changes.
     pub fn capacity(&self) -> usize
         ensures { result ≡ Q.room self.now.queue }
     {
         self.queue.capacity()
     }
 
-    /// The stream that items are drawn from, or `None` once it has ended: it was dropped then.
+    /// Returns the stream from which the buffer takes items, or `None` once the stream has ended and was dropped.
     pub fn stream(&self) -> Option<&St>
         ensures { option_copied result ≡ self.now.stream }
     {
         self.stream.as_ref()
     }
 
-    // Draws one item, if the stream has not ended, there is room, and an item comes. Breaks where none was drawn, and
-    // where its push handed back an answer.
+    // Takes one item, if the stream has not ended, there is room, and an item comes. Breaks if no item was taken, and
+    // if the push of the item returned an answer.
     fn draw_one(&mut self, cx: &mut Context<'_>) -> ControlFlow<Option<Q::Output>>
         requires { CanPollBuffer St.Stream Q.FutureQueue self.old }
         ensures draws { DrawsOne St.Stream Q.FutureQueue self.old result self.new }
@@ -155,8 +155,8 @@ impl<St: Stream, Q: FutureQueue<St::Item>> Buffer<St, Q> {
         }
     }
 
-    // Draws while the stream has not ended, there is room, and an item comes, up to the first push that hands back an
-    // answer, which it returns.
+    // Takes items while the stream has not ended, there is room, and an item comes. Returns the first answer that a
+    // push returns, and takes no further item then.
     fn fill(&mut self, cx: &mut Context<'_>) -> Option<Q::Output>
         requires { CanPollBuffer St.Stream Q.FutureQueue self.old }
         ensures draws { FillsBuffer St.Stream Q.FutureQueue self.old result self.new }
@@ -182,13 +182,14 @@ impl<St: Stream, Q: FutureQueue<St::Item>> Stream for Buffer<St, Q> {
 
     ghost yields = { (buffer_of St.Stream Q.FutureQueue).yields };
 
-    /// Draws items while there is room, the stream has not ended, and an item comes at once; then polls the queue once.
-    /// Where a push hands back an answer, that is the answer instead: what was drawn stays held, and the stream goes
-    /// on. `Ready(None)` where the stream has ended and nothing is held, and then again.
+    /// Takes items from the stream while the queue has room and the stream is ready; then polls the queue once.
     ///
-    /// Takes no memory but what the polls of stream and futures take, and the calls of the source, or of the kit's set,
-    /// and waits for nobody where these do not. Takes time in proportion to the items drawn and the names that one poll
-    /// of the queue takes, besides the polls.
+    /// If a push returns an answer, returns that answer and does not poll the queue; items taken before stay held, and
+    /// the stream continues. Returns `Ready(None)` if the stream has ended and nothing is held, also on later polls.
+    ///
+    /// The poll itself does not allocate, and waits for no thread. The polls of stream and futures, and the calls of
+    /// the source or of the set of `futures`, may. Takes time in proportion to the items taken and the ready slots
+    /// dequeued, apart from the polls.
     fn poll_next(&mut self, cx: &mut Context<'_>) -> Poll<Option<Q::Output>>
         requires { CanPollBuffer St.Stream Q.FutureQueue self.old }
         ensures { PollsBuffer St.Stream Q.FutureQueue self.old result self.new cx.old cx.new }
@@ -208,7 +209,7 @@ impl<St: Stream, Q: FutureQueue<St::Item>> Stream for Buffer<St, Q> {
     }
 }
 
-/// Whether the stream has ended and nothing is held.
+/// The buffer is terminated if the stream has ended and nothing is held.
 impl<St: Stream, Q: FutureQueue<St::Item>> FusedStream for Buffer<St, Q> {
     ghost use Rattle.std.specs.Prelude.{◌≡◌, None};
 
@@ -219,7 +220,7 @@ impl<St: Stream, Q: FutureQueue<St::Item>> FusedStream for Buffer<St, Q> {
     }
 }
 
-/// What the stream says of itself, or nothing once it has ended, and as many more as are held.
+/// The hint adds how many are held to the stream's hint, which is zero once the stream has ended.
 impl<St: Stream + SizeHint, Q: FutureQueue<St::Item>> SizeHint for Buffer<St, Q> {
     ghost items_left = { λ b. hint_with (Q.count b.queue) (hint_ahead St.items_left b.stream) };
 

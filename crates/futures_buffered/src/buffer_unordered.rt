@@ -18,7 +18,7 @@ use futures_buffered_unordered::futures_unordered_bounded::FuturesUnorderedBound
 use std::alloc::Global;
 use std::marker::Model;
 
-/// A bounded set of one slot at least, as what a buffer holds. A contract sees what it sees of the set.
+/// A bounded set of at least one slot, as what a buffer holds. A contract sees what it sees of the set.
 #[derive(Drop)]
 pub struct CompletionQueue<F: Drop, S: ReadySource> {
     set: FuturesUnorderedBounded<F, S>,
@@ -92,16 +92,16 @@ impl<F: SlotFuture<S::Waker>, S: ReadySource> FutureQueue<F> for CompletionQueue
     }
 }
 
-/// Futures of a stream, at most as many at a time as its set has slots, whose outputs come as they finish.
+/// Futures of a stream, at most as many at a time as the set has slots, whose outputs come as they finish.
 pub type BufferUnordered<St, S = SharedReady> = Buffer<
     St,
     CompletionQueue<<St as Stream>::Item, S>,
 >;
 
-/// After any calls of one buffer that held nothing at first, each item drawn either gave one of the outputs given, or
-/// is held still: no output is of two items or of none, and no item is lost.
+/// After any calls of one buffer that held nothing at first, each item taken has given one of the outputs, or is still
+/// held. No output is of two items or of none, and no item is lost.
 ///
-/// A law of the relations in the contract of a poll, told of the set alone. Its body is empty.
+/// This is a law of the relations in the contract of a poll, stated of the set alone. Its body is empty.
 pub fn calls_lose_nothing<St: Stream, S: ReadySource>()
 where
     St::Item: SlotFuture<S::Waker>,

@@ -1,6 +1,6 @@
 //! Adaptors of a stream of futures, as methods of the stream.
 //!
-//! Each stands on its type's `over`, with a shared source, so that what it holds is woken from any thread.
+//! Each method calls `over` of its type, with a shared source, so the futures are woken from any thread.
 ghost use Rattle.std.specs.Prelude.{◌<◌};
 ghost use Rattle.futures_buffered_core.specs.Made.{MakesSlots};
 ghost use Rattle.futures_buffered_core.specs.ReadyShared.{IsNewShared};
@@ -21,10 +21,10 @@ use std::alloc::Global;
 
 /// Adaptors that keep some futures of a stream in progress.
 pub trait BufferedStreamExt: Stream + Sized {
-    /// The outputs of this stream's futures in the order of the stream, with at most `n` held at a time: in progress,
-    /// or done and waiting for their turn. Nothing is polled.
+    /// Returns a stream of the outputs of this stream's futures, in the order of this stream. It holds at most `n`
+    /// futures at a time: in progress, or done with an output that waits for its turn. The call polls nothing.
     ///
-    /// Takes time and memory in proportion to `n`. The stream is dropped where it is refused.
+    /// If the call fails, drops this stream. Takes time and allocates in proportion to `n`.
     final fn buffered_ordered(
         self,
         alloc: Global,
@@ -38,9 +38,10 @@ pub trait BufferedStreamExt: Stream + Sized {
         BufferedOrdered::over(&(), alloc, self, n)
     }
 
-    /// The outputs of this stream's futures as they finish, with at most `n` in progress at a time. Nothing is polled.
+    /// Returns a stream of the outputs of this stream's futures, as they finish, with at most `n` in progress at a
+    /// time. The call polls nothing.
     ///
-    /// Takes time and memory in proportion to `n`. The stream is dropped where it is refused.
+    /// If the call fails, drops this stream. Takes time and allocates in proportion to `n`.
     final fn buffered_unordered(
         self,
         alloc: Global,
@@ -54,13 +55,13 @@ pub trait BufferedStreamExt: Stream + Sized {
         BufferUnordered::over(&(), alloc, self, n)
     }
 
-    /// Calls `f` with each item of this stream, once and in order, and runs the futures that it makes, at most `limit`
-    /// at a time. Nothing is polled.
+    /// Returns a future that calls `f` with each item of this stream, once and in order. It runs the futures that `f`
+    /// makes, at most `limit` at a time. The call polls nothing.
     ///
-    /// `futures::StreamExt` has a method of this name too. Where both traits are in scope it is called by its path:
-    /// `BufferedStreamExt::for_each_concurrent(stream, alloc, limit, f)`.
+    /// `futures::StreamExt` has a method of this name too. If both traits are in scope, a caller calls this one by its
+    /// path: `BufferedStreamExt::for_each_concurrent(stream, alloc, limit, f)`.
     ///
-    /// Takes time and memory in proportion to `limit`. Stream and closure are dropped where they are refused.
+    /// If the call fails, drops stream and closure. Takes time and allocates in proportion to `limit`.
     final fn for_each_concurrent<Fut, F>(
         self,
         alloc: Global,

@@ -21,7 +21,7 @@ use futures_buffered_unordered::SlotFuture;
 use std::alloc::Global;
 use std::marker::Model;
 
-/// A bounded ordered queue of one slot at least, and with no more entries than slots, as what a buffer holds: an output
+/// A bounded ordered queue of at least one slot, with no more entries than slots, as what a buffer holds. An output
 /// that waits for its turn counts as held. A contract sees what it sees of the queue.
 #[derive(Drop)]
 pub struct OrderedQueue<F: Drop, A: Drop, S: ReadySource> {
@@ -102,8 +102,8 @@ where
     }
 }
 
-/// Futures of a stream, whose outputs come in the order in which the stream gave the futures. At most as many as there
-/// are slots are held at a time, where an output that waits for its turn counts as held.
+/// Futures of a stream, whose outputs come in the order in which the stream returned the futures. At most as many as
+/// there are slots are held at a time; an output that waits for its turn counts as held.
 pub type BufferedOrdered<St, S = SharedReady> = Buffer<
     St,
     OrderedQueue<
@@ -113,10 +113,10 @@ pub type BufferedOrdered<St, S = SharedReady> = Buffer<
     >,
 >;
 
-/// After any calls of one buffer that held nothing at first, the outputs given so far are those of the first items
-/// drawn, in the order in which these were drawn, and the other items are held still, in that order.
+/// After any calls of one buffer that held nothing at first, the outputs so far are those of the first items taken, in
+/// order. The other items are still held, in that order.
 ///
-/// A law of the relations in the contract of a poll, told of the queue alone. Its body is empty.
+/// This is a law of the relations in the contract of a poll, stated of the queue alone. Its body is empty.
 pub fn calls_give_in_order<St: Stream, S: ReadySource>()
 where
     St::Item: SlotFuture<S::Waker>,

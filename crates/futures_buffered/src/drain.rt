@@ -1,4 +1,4 @@
-//! A buffer that is polled to its end, or to the first output that ends it.
+//! A buffer that is polled to its end, or to the first output that ends the drain.
 ghost use Rattle.std.specs.Prelude.{◌≡◌, ◌<◌, ◌≤◌, IfSome, IfNone, option_copied};
 ghost use Rattle.futures.specs.Task.{Keeps};
 ghost use Rattle.futures_buffered_core.specs.Made.{MakesSlots};
@@ -18,11 +18,12 @@ use std::alloc::Global;
 use std::fmt;
 use std::marker::Model;
 
-/// Polls a buffer to its end, or to the first output that ends it.
+/// Polls a buffer to its end, or to the first output that ends the drain.
 ///
-/// A contract sees the buffer, or nothing once the drain was ready, and how many turns one poll takes. A poll takes no
-/// memory but what the stream, the futures and the source's calls take. Where the drain is ready the buffer is dropped
-/// at once, with what it holds. Calls that poll nothing take the same time at any number held.
+/// A contract sees the buffer, or nothing once the drain was ready, and how many turns one poll takes at most. A poll
+/// itself does not allocate; the polls of stream and futures, and the calls of the source or of the set of `futures`,
+/// may. The poll that is ready drops the buffer, with what it holds. A call that polls nothing takes the same time at
+/// any number held.
 #[derive(Drop)]
 pub struct Drain<St: Drop, Q: Drop> {
     buffer: Option<Buffer<St, Q>>,
@@ -45,7 +46,7 @@ impl<St: Drop, Q: Drop> Model for Drain<St, Q> {
 }
 
 impl<St: Drop, Q: Drop> Drain<St, Q> {
-    /// Over this buffer, where one poll takes at most `limit` turns. Nothing is polled.
+    /// Makes a drain over this buffer. One poll takes at most `limit` turns. Does not poll.
     pub fn over_buffer(buffer: Buffer<St, Q>, limit: usize) -> Self
         requires { 1 ≤ limit }
         ensures { result ≡ record { buffer = Some buffer; limit = limit } }
@@ -56,7 +57,8 @@ impl<St: Drop, Q: Drop> Drain<St, Q> {
         }
     }
 
-    /// The buffer that is polled, or `None` once the drain was ready: it was dropped then, with what it held.
+    /// Returns the buffer that is polled. Returns `None` once the drain was ready: the buffer was dropped then, with
+    /// what it held.
     pub fn buffer(&self) -> Option<&Buffer<St, Q>>
         ensures { option_copied result ≡ self.now.buffer }
     {
@@ -65,9 +67,9 @@ impl<St: Drop, Q: Drop> Drain<St, Q> {
 }
 
 impl<St: Drop, Q: NewQueue> Drain<St, Q> {
-    /// Over this stream, with at most `n` held at a time and a queue made for them. Nothing is polled.
+    /// Makes a drain over this stream, with at most `n` held at a time and a queue made for them. Does not poll.
     ///
-    /// Takes time and memory in proportion to `n`. The stream is dropped where it is refused.
+    /// If the call fails, drops the stream. Takes time and allocates in proportion to `n`.
     pub fn over(env: &Q::Env, alloc: Global, stream: St, n: usize) -> Result<Self, NewFault>
         requires { 0 < n }
         ensures { MakesSlots n (IsNewDrain (Q.made n POLL_LIMIT) POLL_LIMIT stream) result }
@@ -75,8 +77,8 @@ impl<St: Drop, Q: NewQueue> Drain<St, Q> {
         Self::over_limit(env, alloc, stream, n, POLL_LIMIT)
     }
 
-    /// As `over`, where one poll takes at most `limit` turns, and its polls of the queue's set at most as many names
-    /// each.
+    /// Makes a drain as `over` does. One poll takes at most `limit` turns, and each of its polls of the queue's set
+    /// dequeues at most `limit` ready slots.
     pub fn over_limit(
         env: &Q::Env,
         alloc: Global,
@@ -98,7 +100,7 @@ where
     St: Stream,
     Q: FutureQueue<St::Item, Output: DrainOutput>,
 {
-    // Polls the buffer once. The answer of the call, where it ends here.
+    // Polls the buffer once. If the call ends with this turn, returns what the call returns.
     fn turn(&mut self, cx: &mut Context<'_>) -> Option<Poll<Q::Output>>
         requires { CanDrain (buffer_of St.Stream Q.FutureQueue) self.old }
         ensures turn { DrainTurn Q.Output.DrainOutput (PollsBuffer St.Stream Q.FutureQueue)
@@ -143,14 +145,16 @@ where
 
     ghost gives = { DrainGives Q.Output.DrainOutput (buffer_of St.Stream Q.FutureQueue) };
 
-    /// At most as many turns as the limit is, each of which polls the buffer once. Another follows after an output that
-    /// ends nothing. `Ready` with the first output that ends it, of a push or of a future, or, where the stream has
-    /// ended and nothing is held, with what it is ready with at its end: what is held is dropped then, and a later poll
-    /// answers what a drain is ready with at its end, and polls nothing. At the limit the task is woken at once.
+    /// Takes at most as many turns as the limit, each of which polls the buffer once. A further turn follows an output
+    /// that does not end the drain.
     ///
-    /// Takes no memory but what the stream, the futures and the source's calls take, and waits for nobody where these
-    /// do not. Takes time in proportion to the turns, the items drawn, and the names that the turns' polls of the set
-    /// take, besides the polls.
+    /// Returns the first output that ends the drain, of a push or of a future. If the stream has ended and nothing is
+    /// held, returns `Q::Output::done()`. A ready poll drops what is held; a later poll returns `Q::Output::done()` and
+    /// polls nothing.
+    ///
+    /// The poll itself does not allocate, and waits for no thread. The polls of stream and futures, and the calls of
+    /// the source or of the set of `futures`, may. Takes time in proportion to the turns, the items taken and the ready
+    /// slots dequeued, apart from the polls. At the limit, wakes the task at once.
     fn poll(&mut self, cx: &mut Context<'_>) -> Poll<Q::Output>
         requires { CanDrain (buffer_of St.Stream Q.FutureQueue) self.old }
         ensures { PollsDrain St.Stream Q.FutureQueue Q.Output.DrainOutput
@@ -165,7 +169,7 @@ where
     }
 }
 
-/// Whether there is no buffer, or its stream has ended and it holds nothing.
+/// The drain is terminated if there is no buffer, or if the buffer's stream has ended and the buffer holds nothing.
 impl<St, Q> FusedFuture for Drain<St, Q>
 where
     St: Stream,
@@ -181,7 +185,7 @@ where
     }
 }
 
-/// Prints whether it has ended.
+/// Prints whether the drain has ended.
 impl<St, Q> fmt::Debug for Drain<St, Q>
 where
     St: Stream,

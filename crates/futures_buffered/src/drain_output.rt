@@ -1,26 +1,26 @@
-//! What an output means to a drain: `()` ends nothing, and a `Result` ends the drain where it is an error.
+//! What an output means to a drain: `()` does not end the drain, and a `Result` ends the drain if it is an error.
 
-/// What the futures of a drain give, and what the drain is ready with.
+/// What the futures of a drain return, and what the drain returns.
 pub trait DrainOutput: Drop {
     ghost use Rattle.std.specs.Prelude.{◌≡◌, Option, IsTrue, IsFalse, Some, None};
 
-    // What a drain is ready with at its end. An output that is this ends nothing.
+    // What a drain returns at its end. An output that equals it does not end the drain.
     ghost done: { Self };
 
-    // The last answer of a buffer whose drain is ready with this: the end (`None`), or this output.
+    // What a buffer returned last if its drain returns this: `None`, or this output.
     ghost last_of: { Self → Option Self };
 
-    /// What a drain is ready with at its end.
+    /// Returns what a drain returns at its end.
     fn done() -> Self
         ensures value { result ≡ done }
         ensures ends { last_of result ≡ None };
 
-    /// Whether a drain goes on after this output. If not, it is ready with it.
+    /// Returns whether a drain continues after this output. Otherwise the drain returns this output.
     fn is_done(&self) -> bool
         ensures goes { IsTrue result → self.now ≡ done }
         ensures ends { IsFalse result → last_of self.now ≡ Some self.now };
 
-    /// What a drain of such outputs is called where it is printed.
+    /// Returns the name under which a drain of such outputs is printed.
     fn drain_name() -> &'static str {
         "Drain"
     }

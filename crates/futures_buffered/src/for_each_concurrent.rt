@@ -1,4 +1,4 @@
-//! A closure called with each item of a stream, and some of the futures that it makes at a time.
+//! Calls a closure with each item of a stream, and runs some of the futures that the closure makes at a time.
 ghost use Rattle.std.specs.Prelude.{◌≡◌, ◌<◌, ◌≤◌, ◌↔◌, Option, IsTrue, is_some, true, false, option_copied};
 ghost use Rattle.futures_buffered_core.specs.Made.{MakesSlots};
 ghost use Rattle.futures_buffered_core.specs.ReadyShared.{IsNewShared};
@@ -18,12 +18,12 @@ use std::alloc::Global;
 use std::fmt;
 use std::marker::Model;
 
-/// Gives each item of a stream to a closure, once and in order, and runs the futures that it makes, at most as many at
-/// a time as its set has slots.
+/// Calls a closure with each item of a stream, once and in order. Runs the futures that the closure makes, at most as
+/// many at a time as the set has slots.
 ///
-/// A contract sees the stream, or nothing once it has ended, what it sees of the set, and the closure. A poll takes no
-/// memory but what the stream, the closure, the futures and the source's calls take. A stream that ended is dropped at
-/// once. Calls that poll nothing take the same time at any number held.
+/// A contract sees the stream, or nothing once the stream has ended, what it sees of the set, and the closure. A poll
+/// itself does not allocate; the stream, the closure, the futures and the calls of the source may. The poll in which
+/// the stream ends drops the stream. A call that polls nothing takes the same time at any number held.
 #[derive(Drop)]
 pub struct ForEachConcurrent<St: Drop, F: Drop, Fut: Drop, S: ReadySource = SharedReady> {
     stream: Option<St>,
@@ -50,9 +50,10 @@ impl<St: Drop, F: Drop, Fut: Drop, S: ReadySource> Model for ForEachConcurrent<S
 }
 
 impl<St: Drop, F: Drop, Fut: Drop, S: ReadySource> ForEachConcurrent<St, F, Fut, S> {
-    /// Over this stream and closure, with at most `n` futures at a time and a source made for them. Nothing is polled.
+    /// Makes a for-each over this stream and closure, with at most `n` futures at a time and a source made for them.
+    /// Does not poll.
     ///
-    /// Takes time and memory in proportion to `n`. Stream and closure are dropped where they are refused.
+    /// If the call fails, drops stream and closure. Takes time and allocates in proportion to `n`.
     pub fn over(
         env: &S::Env,
         alloc: Global,
@@ -68,7 +69,8 @@ impl<St: Drop, F: Drop, Fut: Drop, S: ReadySource> ForEachConcurrent<St, F, Fut,
         Self::over_limit(env, alloc, stream, n, POLL_LIMIT, closure)
     }
 
-    /// As `over`, where one poll takes at most `limit` turns, and its polls of the set at most as many names each.
+    /// Makes a for-each as `over` does. One poll takes at most `limit` turns, and each of its polls of the set dequeues
+    /// at most `limit` ready slots.
     pub fn over_limit(
         env: &S::Env,
         alloc: Global,
@@ -93,28 +95,28 @@ impl<St: Drop, F: Drop, Fut: Drop, S: ReadySource> ForEachConcurrent<St, F, Fut,
 }
 
 impl<St: Drop, F: Drop, Fut: Drop, S: ReadySource> ForEachConcurrent<St, F, Fut, S> {
-    /// How many futures are held.
+    /// Returns how many futures are held.
     pub fn len(&self) -> usize
         ensures { result ≡ held_in self.now.buffer.queue }
     {
         self.queue.len()
     }
 
-    /// Whether no future is held. The stream may have more to give.
+    /// Returns whether no future is held. The stream may have more items.
     pub fn is_empty(&self) -> bool
         ensures { IsTrue result ↔ (held_in self.now.buffer.queue ≡ 0) }
     {
         self.queue.is_empty()
     }
 
-    /// How many futures can be held at a time, which never changes.
+    /// Returns how many futures can be held at a time, which never changes.
     pub fn capacity(&self) -> usize
         ensures { result ≡ slots_in self.now.buffer.queue }
     {
         self.queue.capacity()
     }
 
-    /// The stream that items are drawn from, or `None` once it has ended: it was dropped then.
+    /// Returns the stream from which a poll takes items, or `None` once the stream has ended and was dropped.
     pub fn stream(&self) -> Option<&St>
         ensures { option_copied result ≡ self.now.buffer.stream }
     {
@@ -123,7 +125,7 @@ impl<St: Drop, F: Drop, Fut: Drop, S: ReadySource> ForEachConcurrent<St, F, Fut,
 }
 
 impl<St: Drop, F: Drop, Fut: Drop> ForEachConcurrent<St, F, Fut, SharedReady> {
-    /// As `over_limit`, with a shared source, whose futures are woken from any thread.
+    /// Makes a for-each as `over_limit` does, with a shared source. Its futures are woken from any thread.
     pub fn with_limit(
         alloc: Global,
         stream: St,
@@ -145,7 +147,7 @@ impl<
     Fut: SlotFuture<S::Waker, Output = ()>,
     S: ReadySource,
 > ForEachConcurrent<St, F, Fut, S> {
-    // How many turns one poll takes, at most.
+    // Returns how many turns one poll takes at most.
     fn turn_limit(&self) -> usize
         ensures value { result ≡ self.now.buffer.queue.limit }
         ensures some { 1 ≤ result }
@@ -153,8 +155,8 @@ impl<
         self.queue.limit()
     }
 
-    // Draws at most one item, gives it to the closure, and pushes the future that comes of it. Says whether one was
-    // drawn.
+    // Takes at most one item, calls the closure with it, and pushes the future that the closure makes. Returns whether
+    // an item was taken.
     fn draw(&mut self, cx: &mut Context<'_>) -> bool
         requires { CanForEach St.Stream F.FnMut Fut.SlotFuture self.old }
         ensures drew { (item : Option St.Item) × (is_some item ≡ result)
@@ -199,14 +201,15 @@ impl<
 
     ghost gives = { ForEachGives St.Stream };
 
-    /// At most as many turns as the limit is. A turn draws at most one item, where there is room, calls the closure
-    /// with it, holds the future that comes of it, and polls the set once. Another follows where an item was drawn or a
-    /// future was done. `Ready` where the stream has ended and nothing is held, and then again; at the limit the task
-    /// is woken at once.
+    /// Takes at most as many turns as the limit. If there is room, a turn takes at most one item, calls the closure
+    /// with it, and holds the future that the closure makes. Then the turn polls the set once. A further turn follows
+    /// if an item was taken or a future was done.
     ///
-    /// Takes no memory but what the stream, the closure, the futures and the source's calls take, and waits for nobody
-    /// where these do not. Takes time in proportion to the turns and the names that their polls of the set take,
-    /// besides the polls and the closure's calls.
+    /// Returns `Ready` if the stream has ended and nothing is held, also on later polls.
+    ///
+    /// The poll itself does not allocate, and waits for no thread. The stream, the closure, the futures and the calls
+    /// of the source may. Takes time in proportion to the turns and the ready slots dequeued, apart from the polls and
+    /// the calls of the closure. At the limit, wakes the task at once.
     fn poll(&mut self, cx: &mut Context<'_>) -> Poll<()>
         requires { CanForEach St.Stream F.FnMut Fut.SlotFuture self.old }
         ensures { PollsForEach St.Stream F.FnMut Fut.SlotFuture S.ReadySource
@@ -228,7 +231,7 @@ impl<
     }
 }
 
-/// Whether the stream has ended and no future is held.
+/// The for-each is terminated if the stream has ended and no future is held.
 impl<
     St: Stream,
     F: FnMut(St::Item) -> Fut + Drop,

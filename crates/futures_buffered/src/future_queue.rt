@@ -1,8 +1,8 @@
-//! What a buffer holds: futures, of each of which one output comes.
+//! What a buffer holds: futures, each of which gives one output.
 //!
-//! A buffer is written once, for any such queue. The outputs of a `CompletionQueue`, and of a
-//! `FuturesUnorderedBounded` of `in_flight`, come as the futures finish. An `OrderedQueue` keeps the order of the pushes.
-//! A `TryQueue` is made of any of them, and takes errors also.
+//! A buffer is written once, for any such queue. The outputs of a `CompletionQueue`, and of a `FuturesUnorderedBounded`
+//! of `in_flight`, come as the futures finish. An `OrderedQueue` keeps the order of the pushes. A `TryQueue` is made of
+//! any of them, and accepts errors also.
 ghost use Rattle.std.specs.Prelude.{◌≡◌, ◌<◌, ◌≤◌, ℕ, Bool, List, Option};
 ghost use Rattle.futures_buffered_core.specs.Made.{MakesSlots};
 ghost use Rattle.futures_buffered_unordered.specs.StreamAnswers.{stream_of};
@@ -13,41 +13,41 @@ use futures_buffered_core::ready_core::NewFault;
 use futures_buffered_core::ready_source::NewSource;
 use std::alloc::Global;
 
-/// Holds some futures at a time, and gives an output of each.
+/// A queue that holds some futures at a time, and returns one output of each.
 ///
-/// Beside the calls an impl states what they may do: relations between what it holds before, the answer, and what it
-/// holds after, and of a poll also between its task before and after. A push adds one output to those that may come, in
-/// the place that `in_order` says, or hands one back at once. `len` and `capacity` poll nothing, and take the same time
-/// at any number held.
+/// In addition to the calls, an impl states what they may do. It gives relations between what the queue holds before,
+/// what the call returns, and what the queue holds after. The relation of a poll also has the task before and after. A
+/// push adds one output to those that may come, in the place that `in_order` says, or returns one at once. `len` and
+/// `capacity` poll nothing, and take the same time at any number held.
 pub trait FutureQueue<I>: Drop {
     ghost use Rattle.futures.specs.declared.task.Poll.{Poll};
     ghost use Rattle.futures.specs.declared.task.context.Context.{Context};
 
-    /// What a future gives when it is done, and what a push may hand back.
+    /// What a future returns when it is done, and what a push may return.
     type Output;
 
-    // How many are held, outputs that wait for their turn among them.
+    // How many are held, including outputs that wait for their turn.
     ghost count: { Self → ℕ };
 
     // How many can be held.
     ghost room: { Self → ℕ };
 
-    // What a push may hand back, and make of it.
+    // What a push may return, and make of the queue.
     ghost pushes: { Self → I → Option Self.Output → Self → Type 0 };
 
-    // What a poll may answer, and make of it and of its task.
+    // What a poll may return, and make of the queue and of its task.
     ghost polls: { Self → Poll (Option Self.Output) → Self → Context → Context → Type 0 };
 
     // The items that may be pushed.
     ghost is_fit: { I → Type 0 };
 
-    // Holds where each future that is held may be polled.
+    // Each future that is held may be polled.
     ghost can_poll: { Self → Type 0 };
 
     // What an item may give.
     ghost gives: { I → Self.Output → Type 0 };
 
-    // The outputs that may come, and one more answer.
+    // The outputs that may come, and one more answer after them.
     ghost yields: { Self → List Self.Output → Option Self.Output → Type 0 };
 
     // Whether the outputs come in the order of the pushes.
@@ -56,18 +56,19 @@ pub trait FutureQueue<I>: Drop {
     // The places of a task's wakes at which a pending poll waits, by their names.
     ghost needs: { Self → ℕ → Type 0 };
 
-    /// How many are held.
+    /// Returns how many are held.
     fn len(&self) -> usize
         ensures value { result ≡ count self.now }
         ensures bound { count self.now ≤ room self.now };
 
-    /// How many can be held, which never changes.
+    /// Returns how many can be held, which never changes.
     fn capacity(&self) -> usize
         ensures { result ≡ room self.now };
 
-    /// Adds the item's future, so that a later poll polls it; or hands back an answer at once, and changes nothing.
-    /// Polls nothing, and wakes nobody. No item is refused: a queue whose push takes memory does without where that is
-    /// refused.
+    /// Adds the item's future, so that a later poll polls it; or returns an answer at once, and changes nothing. Does
+    /// not poll, and does not wake the task.
+    ///
+    /// The queue refuses no item: if an allocation of its push fails, the push does without it.
     fn push(&mut self, item: I) -> Option<Self::Output>
         requires room { count self.old < room self.old }
         requires held { can_poll self.old }
@@ -77,14 +78,14 @@ pub trait FutureQueue<I>: Drop {
         ensures adds { PushAddsOutput in_order yields (gives item) self.old result self.new }
         ensures again { can_poll self.new };
 
-    /// One poll. `Ready(None)` where nothing is held. Takes no memory but what the futures take, and the calls of a
-    /// source, or of the kit's set.
+    /// Polls the queue once. Returns `Ready(None)` if nothing is held. The poll itself does not allocate; the futures,
+    /// and the calls of a source or of the set of `futures`, may.
     fn poll_output(&mut self, cx: &mut Context<'_>) -> Poll<Option<Self::Output>>
         requires { can_poll self.old }
         ensures { PollsFutureQueue polls count room (stream_of can_poll needs yields)
             self.old result self.new cx.old cx.new };
 
-    /// What a buffer over such a queue is called where it is printed.
+    /// Returns the name under which a buffer over such a queue is printed.
     fn buffer_name() -> &'static str {
         "Buffer"
     }
@@ -92,18 +93,18 @@ pub trait FutureQueue<I>: Drop {
 
 /// A queue that a buffer can make for itself.
 pub trait NewQueue: Drop {
-    /// What making one needs besides memory.
+    /// What making a queue needs in addition to the allocator.
     type Env: Drop;
 
-    /// The source that its set is over.
+    /// The source of the queue's set.
     type Source: NewSource;
 
-    // What a new queue may be that can hold so many, and one poll of whose set takes so many names at most.
+    // What a new queue may be, by how many it can hold and how many ready slots one poll of its set dequeues at most.
     ghost made: { ℕ → ℕ → Self → Type 0 };
 
-    /// An empty queue that can hold `n`. One poll of its set takes at most `limit` names.
+    /// Makes an empty queue that can hold `n`. One poll of its set dequeues at most `limit` ready slots.
     ///
-    /// Takes time and memory in proportion to `n`.
+    /// Takes time and allocates in proportion to `n`.
     fn make(env: &Self::Env, alloc: Global, n: usize, limit: usize) -> Result<Self, NewFault>
         requires room { 0 < n }
         requires some { 1 ≤ limit }

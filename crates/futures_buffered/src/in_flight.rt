@@ -1,12 +1,12 @@
-//! The sets, queues, joins, merges and adaptors of this library for the kit's futures and streams, under the names that
-//! those of slots have.
+//! The sets, queues, joins, merges and adaptors of this library for futures and streams of `futures`. They have the
+//! same names as the types for slots.
 //!
-//! What clients wait for are futures of the kit: sockets, timers, requests. So most programs write
+//! Sockets, timers and requests, for which clients wait, are futures of `futures`. So most programs write
 //! `use futures_buffered::in_flight::BufferedStreamExt;`, and then `stream.buffered_ordered(alloc, n)`. Each type holds
-//! such futures as they are, in the kit's own set, so a future may contain closures.
+//! such futures as they are, in a set of `futures`, so a future may contain closures.
 //!
 //! - `buffered`, `try_buffered`: `BufferedStreamExt` and `BufferedTryStreamExt`, the adaptors as methods of a stream.
-//! - `iter_ext`: `IterExt`, sets, queues, joins and merges as methods of what gives the items.
+//! - `iter_ext`: `IterExt`, sets, queues, joins and merges as methods of an iterator.
 //! - `queues`: the set and the queue of the crate below, as what a buffer holds.
 use crate::buffer::Buffer;
 use crate::drain::Drain;
@@ -34,35 +34,38 @@ pub use futures_buffered_merges::in_flight_merge::{
 pub use iter_ext::IterExt;
 pub use try_buffered::BufferedTryStreamExt;
 
-/// Futures of the kit, at most as many at a time as there is room for, whose outputs come in the order of the pushes.
+/// Futures of `futures`, at most as many at a time as the queue has room for, whose outputs come in the order of the
+/// pushes.
 pub type FuturesOrderedBounded<F> = futures_buffered_in_flight::FuturesOrderedBounded<
     F,
     <F as Future>::Output,
 >;
 
-/// Futures of the kit, any number of them, whose outputs come in the order of the pushes.
+/// Futures of `futures`, any number of them, whose outputs come in the order of the pushes.
 pub type FuturesOrdered<F> = futures_buffered_in_flight::FuturesOrdered<F, <F as Future>::Output>;
 
-/// Futures of the kit of a stream, at most as many at a time as its set has slots, whose outputs come as they finish.
+/// Futures of `futures` of a stream, at most as many at a time as the set has slots, whose outputs come as they finish.
 pub type BufferUnordered<St> = Buffer<St, FuturesUnorderedBounded<<St as Stream>::Item>>;
 
-/// The same of a stream that gives errors as well.
+/// A `BufferUnordered` of a stream that returns errors also.
 pub type TryBufferUnordered<St, F> = TryBuffer<St, FuturesUnorderedBounded<F>>;
 
-/// Futures of the kit of a stream, whose outputs come in the order in which the stream gave the futures. At most as
-/// many as its queue has room for are held at a time, where an output that waits for its turn counts as held.
+/// Futures of `futures` of a stream, whose outputs come in the order in which the stream returned the futures. At most
+/// as many as the queue has room for are held at a time; an output that waits for its turn counts as held.
 pub type BufferedOrdered<St> = Buffer<St, FuturesOrderedBounded<<St as Stream>::Item>>;
 
-/// The same of a stream that gives errors as well. An error comes as soon as it is met, before what is held.
+/// A `BufferedOrdered` of a stream that returns errors also. A poll returns an error as soon as it takes the error from
+/// the stream, before what is held.
 pub type TryBufferedOrdered<St, F> = TryBuffer<St, FuturesOrderedBounded<F>>;
 
-/// Gives each item of a stream to a closure, once and in order, and runs the futures of the kit that it makes, at most
-/// as many at a time as its queue has room for.
+/// Calls a closure with each item of a stream, once and in order. Runs the futures that the closure makes, at most as
+/// many at a time as the queue has room for.
 ///
-/// The stream with the closure is the kit's `Map`. A `Buffer` draws from it, and a `Drain` polls that to its end.
+/// The stream with the closure is a `Map` of `futures`. A `Buffer` takes items from it, and a `Drain` polls the buffer
+/// to its end.
 pub type ForEachConcurrent<St, F, Fut> = Drain<Map<St, F>, FuturesUnorderedBounded<Fut>>;
 
-/// The same of a stream that gives errors as well, up to the first error.
+/// A `ForEachConcurrent` of a stream that returns errors also, up to the first error.
 pub type TryForEachConcurrent<St, F, Fut> = Drain<
     MapOk<St, F>,
     TryQueue<FuturesUnorderedBounded<Fut>>,

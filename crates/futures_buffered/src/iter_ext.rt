@@ -1,4 +1,4 @@
-//! Constructors of sets, queues, joins and merges as methods of what gives the items.
+//! Constructors of sets, queues, joins and merges as methods of an iterator.
 ghost use Rattle.futures_buffered_core.specs.Drawn.{IsFiniteSource, items_of};
 ghost use Rattle.futures_buffered_core.specs.ReadyShared.{IsNewShared, MarksShared};
 ghost use Rattle.futures_buffered_unordered.specs.FuturesUnorderedBounded.{HoldsEach, slots_in};
@@ -20,12 +20,12 @@ use futures_buffered_unordered::futures_unordered::{FIRST_GROUP, FuturesUnordere
 use futures_buffered_unordered::futures_unordered_bounded::{FuturesUnorderedBounded, POLL_LIMIT};
 use std::alloc::Global;
 
-/// Sets, queues, joins and merges of what an iterator gives, where it ends.
+/// Sets, queues, joins and merges of what an iterator returns, if the iterator ends.
 pub trait IterExt: IntoIterator + Sized {
-    /// A set of these futures without a free slot, whose outputs come as they finish. It is
-    /// `FuturesUnorderedBounded::from_iter`, and refuses as that does. A freed slot can be pushed into.
+    /// Makes a set of these futures without a free slot, whose outputs come as they finish. The call is
+    /// `FuturesUnorderedBounded::from_iter`, and fails as that does. A later push can use a slot that was freed.
     ///
-    /// Takes time and memory in proportion to the number of futures.
+    /// Takes time and allocates in proportion to the number of futures.
     final fn into_unordered_stream(
         self,
         alloc: Global,
@@ -39,10 +39,10 @@ pub trait IterExt: IntoIterator + Sized {
         FuturesUnorderedBounded::from_iter(alloc, self)
     }
 
-    /// A set of these futures that grows, whose outputs come as they finish. It is `FuturesUnordered::from_iter`, and
-    /// refuses as that does.
+    /// Makes a growing set of these futures, whose outputs come as they finish. The call is
+    /// `FuturesUnordered::from_iter`, and fails as that does.
     ///
-    /// Takes time and memory in proportion to the number of futures.
+    /// Takes time and allocates in proportion to the number of futures.
     final fn into_unordered_stream_unbounded(
         self,
         alloc: Global,
@@ -55,10 +55,10 @@ pub trait IterExt: IntoIterator + Sized {
         FuturesUnordered::from_iter(alloc, self)
     }
 
-    /// A full queue of these futures, whose outputs come in their order. It is `FuturesOrderedBounded::from_iter`, and
-    /// refuses as that does. A freed slot can be pushed into.
+    /// Makes a full queue of these futures, whose outputs come in their order. The call is
+    /// `FuturesOrderedBounded::from_iter`, and fails as that does. A later push can use a slot that was freed.
     ///
-    /// Takes time and memory in proportion to the number of futures.
+    /// Takes time and allocates in proportion to the number of futures.
     final fn into_ordered_stream(
         self,
         alloc: Global,
@@ -72,10 +72,10 @@ pub trait IterExt: IntoIterator + Sized {
         FuturesOrderedBounded::from_iter(alloc, self)
     }
 
-    /// A queue of these futures that grows, whose outputs come in their order. It is `FuturesOrdered::from_iter`, and
-    /// refuses as that does.
+    /// Makes a growing queue of these futures, whose outputs come in their order. The call is
+    /// `FuturesOrdered::from_iter`, and fails as that does.
     ///
-    /// Takes time and memory in proportion to the number of futures.
+    /// Takes time and allocates in proportion to the number of futures.
     final fn into_ordered_stream_unbounded(
         self,
         alloc: Global,
@@ -88,10 +88,10 @@ pub trait IterExt: IntoIterator + Sized {
         FuturesOrdered::from_iter(alloc, self)
     }
 
-    /// A join of these futures, ready with all outputs, each at its future's place. It is the function `join_all`, and
-    /// refuses as that does.
+    /// Makes a join of these futures, which is ready with all outputs, each at its future's place. The call is the
+    /// function `join_all`, and fails as that does.
     ///
-    /// Takes time and memory in proportion to the number of futures.
+    /// Takes time and allocates in proportion to the number of futures.
     final fn join_all(self, alloc: Global) -> Result<JoinAll<Self::Item, SharedReady>, NewFault>
     where
         Self::Item: SlotFuture<SharedWaker, Output: Drop>,
@@ -102,10 +102,10 @@ pub trait IterExt: IntoIterator + Sized {
         futures_buffered_joins::join::join_all(alloc, self)
     }
 
-    /// A join of these futures, which may fail: ready with all outputs, each at its future's place, or with the first
-    /// error that comes. It is the function `try_join_all`, and refuses as that does.
+    /// Makes a join of these futures, which may fail. The join is ready with all outputs, each at its future's place,
+    /// or with the first error that comes. The call is the function `try_join_all`, and fails as that does.
     ///
-    /// Takes time and memory in proportion to the number of futures.
+    /// Takes time and allocates in proportion to the number of futures.
     final fn try_join_all<T, E>(
         self,
         alloc: Global,
@@ -120,10 +120,10 @@ pub trait IterExt: IntoIterator + Sized {
         futures_buffered_joins::try_join::try_join_all(alloc, self)
     }
 
-    /// A merge of these streams without a free slot. It is `MergeBounded::from_iter`, and refuses as that does. A
-    /// stream that ends leaves its slot to a push.
+    /// Makes a merge of these streams without a free slot. The call is `MergeBounded::from_iter`, and fails as that
+    /// does. A stream that ends leaves its slot to a later push.
     ///
-    /// Takes time and memory in proportion to the number of streams.
+    /// Takes time and allocates in proportion to the number of streams.
     final fn merge(self, alloc: Global) -> Result<MergeBounded<Self::Item, SharedReady>, NewFault>
     where
         Self::Item: SlotStream<SharedWaker>,
@@ -134,9 +134,9 @@ pub trait IterExt: IntoIterator + Sized {
         MergeBounded::from_iter(alloc, self)
     }
 
-    /// A merge of these streams that grows. It is `MergeUnbounded::from_iter`, and refuses as that does.
+    /// Makes a growing merge of these streams. The call is `MergeUnbounded::from_iter`, and fails as that does.
     ///
-    /// Takes time and memory in proportion to the number of streams.
+    /// Takes time and allocates in proportion to the number of streams.
     final fn merge_unbounded(
         self,
         alloc: Global,

@@ -1,29 +1,28 @@
-//! Adaptors that draw futures from a stream and keep some of them in progress, over the sets of
+//! Adaptors that take futures from a stream and keep some of them in progress, over the sets of
 //! `futures_buffered_sets`.
 //!
-//! It gives out what a user names of the crates below, so that a user depends on this one alone: at the top the types
-//! for `SlotFuture`s and `SlotStream`s, in `in_flight` those for futures and streams of the kit, under the same names.
-//! All else is found under its own module.
+//! The crate exports what a user needs of the crates below, so that a user depends on this crate alone. At the top are
+//! the types for `SlotFuture`s and `SlotStream`s. In `in_flight` are the types for futures and streams of `futures`,
+//! under the same names. Every other item is under its own module.
 //!
 //! In the order in which to read them:
 //!
 //! - `future_queue`: `FutureQueue`, what an adaptor holds, and `NewQueue`.
 //! - `buffer`: `Buffer`, the adaptor over any such queue.
 //! - `buffer_unordered`: `BufferUnordered`, whose outputs come as the futures finish.
-//! - `in_flight`: the same types for futures of the kit, and the queues that their buffers hold.
+//! - `in_flight`: the same types for futures of `futures`, and the queues that their buffers hold.
 //! - `buffered_ordered`: `BufferedOrdered`, whose outputs come in the order of the futures.
-//! - `drain`: `Drain`, which polls a buffer to its end, or to the first output that ends it; `drain_output` says of
-//!   which outputs.
+//! - `drain`: `Drain`, which polls a buffer to its end, or to the first output that ends the drain; `drain_output` says
+//!   which outputs do.
 //! - `for_each_concurrent`: `ForEachConcurrent`, which makes its futures of the items by a closure.
 //! - `buffered`: `BufferedStreamExt`, these adaptors as methods of a stream.
-//! - `try_buffer`: `TryBuffer`, a `Buffer` over a stream that gives errors as well, and `TryQueue`, which it is made
-//!   of.
+//! - `try_buffer`: `TryBuffer`, a `Buffer` over a stream that returns errors also, and `TryQueue`, of which it is made.
 //! - `try_buffer_unordered` and `try_buffered_ordered`: `TryBufferUnordered` and `TryBufferedOrdered`, whose stream
-//!   gives errors as well.
-//! - `try_for_each_concurrent`: `TryForEachConcurrent`, as `ForEachConcurrent`, over such a stream, and `TryDrain`, the
-//!   `Drain` that it is made of.
+//!   returns errors also.
+//! - `try_for_each_concurrent`: `TryForEachConcurrent`, a `ForEachConcurrent` over such a stream, and `TryDrain`, the
+//!   `Drain` of which it is made.
 //! - `try_buffered`: `BufferedTryStreamExt`, these as methods of a stream.
-//! - `iter_ext`: `IterExt`, the constructors of sets, queues, joins and merges as methods of what gives the items.
+//! - `iter_ext`: `IterExt`, the constructors of sets, queues, joins and merges as methods of an iterator.
 #![tactic(auto)]
 
 pub mod buffer;
@@ -42,7 +41,7 @@ pub mod try_buffered;
 pub mod try_buffered_ordered;
 pub mod try_for_each_concurrent;
 
-// What a user names.
+// What a user needs.
 pub use buffer_unordered::BufferUnordered;
 pub use buffered::BufferedStreamExt;
 pub use buffered_ordered::BufferedOrdered;

@@ -1,4 +1,4 @@
-//! Some futures of a stream at a time, in any queue of futures, where the stream gives errors as well.
+//! Some futures of a stream at a time, in any queue of futures, for a stream that returns errors also.
 ghost use Rattle.std.specs.Prelude.{◌≡◌, IfOk, false};
 ghost use Rattle.futures_buffered.specs.TryBuffer.{PushesOk, TryItemGives};
 
@@ -9,8 +9,8 @@ use futures_buffered_core::ready_core::NewFault;
 use std::alloc::Global;
 use std::marker::Model;
 
-/// A queue to which futures and errors are given. A future goes into the queue inside, and an error is handed back at
-/// once and changes nothing. A contract sees what it sees of the queue inside.
+/// A queue to which futures and errors are pushed. A push adds a future to the queue inside. A push of an error returns
+/// the error at once and changes nothing. A contract sees what it sees of the queue inside.
 #[derive(Drop)]
 pub struct TryQueue<Q: Drop> {
     queue: Q,
@@ -25,7 +25,7 @@ impl<Q: Drop> Model for TryQueue<Q> {
 }
 
 impl<Q: Drop> TryQueue<Q> {
-    /// Over this queue of the futures. Changes nothing of it.
+    /// Makes a `TryQueue` over this queue of futures, which does not change.
     pub fn over(queue: Q) -> Self
         ensures { result ≡ queue }
     {
@@ -96,6 +96,7 @@ where
     }
 }
 
-/// Futures of a stream that gives errors as well, at most as many at a time as its queue has room for. An error of the
-/// stream comes as soon as it is met, before what is held, and ends nothing.
+/// Futures of a stream that returns errors also, at most as many at a time as the queue has room for. A poll returns an
+/// error of the stream as soon as it takes the error from the stream, before what is held. The buffer continues after
+/// an error.
 pub type TryBuffer<St, Q> = Buffer<St, TryQueue<Q>>;

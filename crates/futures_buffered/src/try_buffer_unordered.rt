@@ -1,4 +1,4 @@
-//! Some futures of a stream at a time, where the stream gives errors as well, whose outputs come as they finish.
+//! Some futures of a stream at a time, whose outputs come as they finish, for a stream that returns errors also.
 ghost use Rattle.futures_buffered.specs.BufferUnordered.{TryLosesNothing};
 
 use crate::buffer_unordered::CompletionQueue;
@@ -8,14 +8,15 @@ use futures_buffered_core::ready_shared::SharedReady;
 use futures_buffered_core::ready_source::ReadySource;
 use futures_buffered_unordered::SlotFuture;
 
-/// Futures of a stream that gives errors as well, at most as many at a time as its set has slots, whose outputs come as
-/// they finish. An error of the stream comes as soon as it is met, and ends nothing.
+/// Futures of a stream that returns errors also, at most as many at a time as the set has slots. The outputs come as
+/// the futures finish. A poll returns an error of the stream as soon as it takes the error from the stream. The buffer
+/// continues after an error.
 pub type TryBufferUnordered<St, F, S = SharedReady> = TryBuffer<St, CompletionQueue<F, S>>;
 
-/// After any calls of one such buffer that held nothing at first, each future drawn either gave one of the outputs
-/// given, or is held still. What else was given are errors, between the outputs.
+/// After any calls of one such buffer that held nothing at first, each future taken has given one of the outputs, or is
+/// still held. All other answers are errors, between the outputs.
 ///
-/// A law of the relations in the contract of a poll, told of the set alone. Its body is empty.
+/// This is a law of the relations in the contract of a poll, stated of the set alone. Its body is empty.
 pub fn try_calls_lose_nothing<St, F, T, E, S: ReadySource>()
 where
     St: Stream<Item = Result<F, E>>,

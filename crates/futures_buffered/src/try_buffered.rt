@@ -1,6 +1,6 @@
 //! Adaptors of a stream of futures and errors, as methods of the stream.
 //!
-//! Each stands on its type's `over`, with a shared source, so that what it holds is woken from any thread.
+//! Each method calls `over` of its type, with a shared source, so the futures are woken from any thread.
 ghost use Rattle.futures_buffered_unordered.specs.FuturesUnorderedBounded.{IsNewSet};
 ghost use Rattle.std.specs.Prelude.{◌<◌};
 ghost use Rattle.futures_buffered_core.specs.Made.{MakesSlots};
@@ -20,12 +20,13 @@ use futures_buffered_unordered::SlotFuture;
 use futures_buffered_unordered::futures_unordered_bounded::POLL_LIMIT;
 use std::alloc::Global;
 
-/// Adaptors that keep some futures of a stream in progress, where the stream gives errors as well.
+/// Adaptors that keep some futures of a stream in progress, for a stream that returns errors also.
 pub trait BufferedTryStreamExt: Stream + Sized {
-    /// The outputs of this stream's futures in the order of the stream, with at most `n` held at a time: in progress,
-    /// or done and waiting for their turn. Each error of the stream comes as soon as it is met. Nothing is polled.
+    /// Returns a stream of the outputs of this stream's futures, in the order of this stream. It holds at most `n`
+    /// futures at a time: in progress, or done with an output that waits for its turn. A poll returns each error of
+    /// this stream as soon as it takes the error from it. The call polls nothing.
     ///
-    /// Takes time and memory in proportion to `n`. The stream is dropped where it is refused.
+    /// If the call fails, drops this stream. Takes time and allocates in proportion to `n`.
     final fn try_buffered_ordered<F, T, E>(
         self,
         alloc: Global,
@@ -42,10 +43,10 @@ pub trait BufferedTryStreamExt: Stream + Sized {
         TryBufferedOrdered::over(&(), alloc, self, n)
     }
 
-    /// The outputs of this stream's futures as they finish, with at most `n` in progress at a time, and each error of
-    /// the stream as soon as it is met. Nothing is polled.
+    /// Returns a stream of the outputs of this stream's futures, as they finish, with at most `n` in progress at a
+    /// time. A poll returns each error of this stream as soon as it takes the error from it. The call polls nothing.
     ///
-    /// Takes time and memory in proportion to `n`. The stream is dropped where it is refused.
+    /// If the call fails, drops this stream. Takes time and allocates in proportion to `n`.
     final fn try_buffered_unordered<F, T, E>(
         self,
         alloc: Global,
@@ -60,13 +61,14 @@ pub trait BufferedTryStreamExt: Stream + Sized {
         TryBufferUnordered::over(&(), alloc, self, n)
     }
 
-    /// Calls `f` with each `Ok` item of this stream, once and in order, and runs the futures that it makes, at most
-    /// `limit` at a time, up to the first error, of the stream or of a future. Nothing is polled.
+    /// Returns a future that calls `f` with each `Ok` item of this stream, once and in order. It runs the futures that
+    /// `f` makes, at most `limit` at a time. It ends at the first error, of this stream or of a future. The call polls
+    /// nothing.
     ///
-    /// `futures::TryStreamExt` has a method of this name too. Where both traits are in scope it is called by its path:
-    /// `BufferedTryStreamExt::try_for_each_concurrent(stream, alloc, limit, f)`.
+    /// `futures::TryStreamExt` has a method of this name too. If both traits are in scope, a caller calls this one by
+    /// its path: `BufferedTryStreamExt::try_for_each_concurrent(stream, alloc, limit, f)`.
     ///
-    /// Takes time and memory in proportion to `limit`. Stream and closure are dropped where they are refused.
+    /// If the call fails, drops stream and closure. Takes time and allocates in proportion to `limit`.
     final fn try_for_each_concurrent<T, E, Fut, F>(
         self,
         alloc: Global,

@@ -5,12 +5,12 @@ use Rattle.atomic_table.specs.Seated.{TableId, table_id_coded}
 use Rattle.futures.specs.declared.task.Poll.{Poll}
 use Rattle.futures.specs.declared.task.Poll.TheVariants.{Ready, Pending}
 
--- a receiver: of which one-shot, and once it gave its answer, what that was: the value that was sent, or that none was
+-- a receiver: its one-shot, and its answer if it has one, which is the value that was sent, or that none was
 pub record Reception (T : Type 0) : Type 0 where
   pub oneshot : TableId
   pub answer : Option (Option T)
 
--- what shows that a value was sent: by which one-shot, and which value
+-- a receipt: the one-shot by which the value was sent, and the value
 pub record Slip (T : Type 0) : Type 0 where
   pub oneshot : TableId
   pub sent : Option T
@@ -34,7 +34,7 @@ slip_code {T} code =
     (λ _. refl)
 
 module _ {T : Type 0} where
-  -- a receiver that gave no answer
+  -- a receiver that has no answer
   abbrev pub unanswered : TableId → Reception T
   unanswered id = record { oneshot = id; answer = None }
 
@@ -44,12 +44,13 @@ module _ {T : Type 0} where
   abbrev pub slip : TableId → T → Slip T
   slip id x = record { oneshot = id; sent = Some x }
 
-  -- the answer, once the place is let go
+  -- the answer of a receiver, which has one if and only if it no longer holds the place
   abbrev pub answer_of : {P : Type 0} → Option P → Option T → Option (Option T)
   answer_of (Some place) got = None
   answer_of None got = Some got
 
-  -- one poll: an answer comes once, and after it the receiver says that nothing comes any more
+  -- one poll: `Pending` or a value only if there is no answer yet; `Err` as the answer that none was sent, or after an
+  -- answer
   abbrev pub Receives : {E : Type 0} → Reception T → Poll (Result T E) → Reception T → Type 0
   Receives old Pending new = (old.answer ≡ None) × (new ≡ old)
   Receives old (Ready (Ok x)) new = (old.answer ≡ None) × (new ≡ answered_by old (Some x))

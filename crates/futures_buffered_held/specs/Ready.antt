@@ -3,7 +3,7 @@ use Rattle.std.specs.Prelude.{◌≡◌, Option, Some, None}
 use Rattle.futures.specs.declared.task.Poll.{Poll}
 use Rattle.futures.specs.declared.task.Poll.TheVariants.{Ready, Pending}
 
--- the value is given where it is there
+-- the poll takes the value and returns it; if there is no value, the poll is pending
 abbrev pub GivesValue : {T : Type 0} → Option T → Poll T → Option T → Type 0
 GivesValue (Some value) answer new = (answer ≡ Ready value) × (new ≡ None)
 GivesValue None answer new = (answer ≡ Pending) × (new ≡ None)

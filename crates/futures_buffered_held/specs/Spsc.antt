@@ -17,7 +17,7 @@ use Rattle.futures_buffered_held.specs.declared.spsc.TryRecvError.{TryRecvError}
 use Rattle.futures_buffered_held.specs.declared.spsc.TryRecvError.TheVariants.{Empty, Disconnected}
 
 module _ {T A P : Type 0} where
-  -- the ends of a channel through which nothing was sent yet
+  -- the ends of a channel through which no value was sent yet
   pub record IsNewChannel (capacity : ℕ) (sender : Producer T A P) (receiver : Consumer T A P) : Type 0 where
     pub pair : IsPair sender receiver
     pub none_sent : sent sender ≡ []
@@ -26,19 +26,20 @@ module _ {T A P : Type 0} where
     pub room : known_free sender ≡ capacity
     pub capacities : (producer_capacity sender ≡ capacity) × (consumer_capacity receiver ≡ capacity)
 
-  -- one sending: the value is sent behind those before it, or comes back, and is refused as full only where no place is
-  -- known to be free
+  -- one send: the value is sent after those before it, or is returned; it is refused as full only if no place is known
+  -- to be free
   abbrev pub Sends : Producer T A P → T → Result (Unit {0}) (TrySendError T) → Producer T A P → Type 0
   Sends old value (Ok done) new = (sent new ≡ sent old ++ value ∷ []) × (known_free old ≤ known_free new + 1)
   Sends old value (Err (Full back)) new = (back ≡ value) × (sent new ≡ sent old) × (known_free old ≡ 0)
       × (known_free new ≡ 0)
   Sends old value (Err (Closed back)) new = (back ≡ value) × ProducerLooked old new
 
-  -- nothing came, and nothing is known to be in the channel
+  -- no value is received, and none is known to be in the channel
   abbrev pub FindsNone : Consumer T A P → Consumer T A P → Type 0
   FindsNone old new = ConsumerLooked old new × (known_items new ≡ [])
 
-  -- these values came, in order: behind those that came before, and those that are known to come next first
+  -- these values are received after those received before, in order; the first of them are those known to come next,
+  -- and the protocol allows each
   pub record ComesThrough (allows : List T → T → Type 0) (old : Consumer T A P) (values : List T)
       (new : Consumer T A P) : Type 0 where
     pub same : SameConsumer old new
@@ -46,18 +47,18 @@ module _ {T A P : Type 0} where
     pub first : IsPrefix (known_items old) (values ++ known_items new)
     pub allowed : Allowed allows (received old) values
 
-  -- one poll of a receiver
+  -- one poll of a receiver: a value comes through, or none is found
   abbrev pub ReceivesNext : (List T → T → Type 0) → Consumer T A P → Poll (Option T) → Consumer T A P → Type 0
   ReceivesNext allows old (Ready (Some x)) new = ComesThrough allows old (x ∷ []) new
   ReceivesNext allows old (Ready None) new = FindsNone old new
   ReceivesNext allows old Pending new = FindsNone old new
 
--- what many polls of a receiver gave came in order
+-- if polls in a row gave these items, and none ended the stream, then the items came through in order
 abbrev pub KeepsSendingOrder : (T A P : Type 0) → (List T → T → Type 0) → Type 0
 KeepsSendingOrder T A P allows = (old : Consumer T A P) (values : List T) (now : Consumer T A P)
     → Gave (ReceivesNext allows) old values now → ComesThrough allows old values now
 
--- the answer of a poll that finds the same
+-- what a poll returns if it finds what this result says
 abbrev pub poll_of : {T : Type 0} → Result T TryRecvError → Poll (Option T)
 poll_of (Ok x) = Ready (Some x)
 poll_of (Err Empty) = Pending

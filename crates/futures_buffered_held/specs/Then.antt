@@ -11,13 +11,14 @@ module _
     (second_polled : B → Poll O → B → Type 0)
     (post : C → A → B → Type 0)
   where
-    -- the first is ready, the closure makes the second of its output, and that is polled once
+    -- the first future is ready, the closure makes the second of its output, and the second is polled once
     abbrev pub ThenGoesOn : F → C → Poll O → Then F B C → Type 0
     ThenGoesOn future change answer new = (x : A) × (left : F) × (second after : B)
         × first_polled future (Ready x) left × post change x second
         × second_polled second answer after × (new ≡ Second after)
 
-    -- one poll
+    -- one poll: a pending first future stays, and a ready one is followed by the second; a second future is polled
+    -- once; `Gone` is pending
     abbrev pub Follows : Then F B C → Poll O → Then F B C → Type 0
     Follows (First future change) (Ready y) new = ThenGoesOn future change (Ready y) new
     Follows (First future change) Pending new = ThenGoesOn future change Pending new

@@ -3,8 +3,8 @@ use futures::task::Poll;
 use futures_buffered_merges::slot_stream::SlotStream;
 use futures_buffered_unordered::slot_future::{SlotFuture, SlotHandle};
 
-/// One of two, of whichever type. As a future it gives the output of the one that it is, and as a stream the items of
-/// that.
+/// A value of either type. As a future it returns the output of the future that it holds; as a stream it returns the
+/// items of the stream that it holds.
 #[derive(Drop)]
 pub enum Either<A, B> {
     Left(A),

@@ -1,4 +1,4 @@
-//! Futures to hold as they are, and the functions that make them. None takes memory.
+//! Futures to hold as they are, and the functions that make them. Neither the futures nor the functions allocate.
 ghost use Rattle.std.specs.Prelude.{◌≡◌, Some};
 ghost use Rattle.futures_buffered_held.specs.declared.then.Then.TheVariants.{First};
 
@@ -7,22 +7,22 @@ pub use crate::poll_fn::PollFn;
 pub use crate::ready::Ready;
 pub use crate::then::Then;
 
-/// A future that gives this value.
+/// Returns a future that is ready with this value at its first poll.
 pub fn ready<T>(value: T) -> Ready<T>
     ensures { result ≡ Some value }
 {
     Ready { value: Some(value) }
 }
 
-/// A future that calls this closure at each poll. The closure is one that may be called at any waker, and again after
-/// each call.
+/// Returns a future that calls this closure at each poll. A poll requires that the closure may be called with any
+/// waker, and again after each call.
 pub fn poll_fn<C>(call: C) -> PollFn<C>
     ensures { result ≡ call }
 {
     PollFn { call }
 }
 
-/// A future that gives what `change` makes of the output of `future`.
+/// Returns a future whose output is what `change` makes of the output of `future`.
 pub fn map<F, C>(future: F, change: C) -> Map<F, C>
     ensures { result ≡ Some (future, change) }
 {
@@ -31,7 +31,7 @@ pub fn map<F, C>(future: F, change: C) -> Map<F, C>
     }
 }
 
-/// A future that goes on as the one that `change` makes of the output of `future`.
+/// Returns a future that continues as the future that `change` makes of the output of `future`.
 pub fn then<F, B, C>(future: F, change: C) -> Then<F, B, C>
     ensures { result ≡ First future change }
 {

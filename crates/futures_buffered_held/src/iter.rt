@@ -4,9 +4,7 @@ use futures_buffered_merges::slot_stream::SlotStream;
 use futures_buffered_unordered::slot_future::SlotHandle;
 use std::marker::Model;
 
-/// Gives the next item of its iterator at each poll.
-///
-/// A contract sees the iterator.
+/// A stream that returns the next item of its iterator at each poll.
 #[derive(Drop)]
 pub struct Iter<I> {
     pub(crate) items: I,

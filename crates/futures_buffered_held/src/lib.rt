@@ -2,8 +2,8 @@
 //!
 //! In the order in which to read them:
 //!
-//! - `ready`: `Ready`, which gives a value at its first poll.
-//! - `poll_fn`: `PollFn`, which asks a closure at each poll.
+//! - `ready`: `Ready`, which returns a value at its first poll.
+//! - `poll_fn`: `PollFn`, which calls a closure at each poll.
 //! - `map`: `Map`, a future whose output goes through a closure.
 //! - `then`: `Then`, a future and the one that a closure makes of its output.
 //! - `either`: `Either`, one of two futures, or of two streams.

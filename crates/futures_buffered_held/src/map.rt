@@ -3,10 +3,8 @@ use futures::task::Poll;
 use futures_buffered_unordered::slot_future::{SlotFuture, SlotHandle};
 use std::marker::Model;
 
-/// Gives what its closure makes of the output of its future, which is dropped before the call. Polled again, it stays
-/// pending.
-///
-/// A contract sees the future and the closure, until the output comes.
+/// A future whose output is what its closure makes of the output of the future inside. A poll drops that future before
+/// it calls the closure. A poll after the output returns `Pending`.
 #[derive(Drop)]
 pub struct Map<F, C> {
     pub(crate) inner: Option<(F, C)>,

@@ -1,15 +1,16 @@
 //! A channel for one value.
 //!
 //! Sender and receiver share one word, a place for a value and one for a waker. The word says from the start that the
-//! receiver waits, and each of its pending polls leaves its waker. A sender leaves its value, and says that it is done
-//! by one swap of the word: by what it finds there it is given the waker, or its value back where the receiver is gone.
-//! So no call waits for the other, and no wake is lost, in whatever order the steps come:
+//! receiver waits, and each pending poll of the receiver publishes its waker. A sender publishes its value, and says by
+//! one swap of the word that it is done. The old word says what the sender takes: the waker if the receiver waits, and
+//! its own value if the receiver is gone. So no call waits for the other, and no wake is lost, in whatever order the
+//! steps come:
 //!
-//! - A receiver takes its waker back before it puts another in. A sender that is done meanwhile finds none, and wakes
-//!   nobody: the receiver finds that it is done when it says that it waits again.
+//! - A receiver takes its waker back before it publishes another. A sender that is done between these two steps finds
+//!   no waker, and does not wake the task: the receiver finds that the sender is done when it says again that it waits.
 //! - A sender that finds a waker wakes it.
 //!
-//! Every step is sequentially consistent, so all of them stand in one order.
+//! Every step is sequentially consistent, so all steps have one order.
 ghost use Rattle.std.specs.Prelude.{◌≡◌, [], IfOk, IfErr, IfSome, MatchResult};
 ghost use Rattle.futures_buffered_held.specs.declared.oneshot_place.View.TheVariants.{Waiting};
 ghost use Rattle.futures_buffered_held.specs.OneshotPlace.{PlaceAnswers};
@@ -28,9 +29,9 @@ type Place<T> = oneshot_place::Place<T, SharedWaker>;
 
 type Seat<T> = oneshot_place::Seat<T, SharedWaker>;
 
-/// Sends one value. No call waits for the receiver.
+/// The end that sends one value. No call waits for the receiver.
 ///
-/// A contract sees which one-shot it is of.
+/// A contract sees to which one-shot it belongs.
 pub struct Sender<T: Drop> {
     place: Arc<Place<T>>,
     seat: Seat<T>,
@@ -52,15 +53,15 @@ impl<T: Drop> Model for Sender<T> {
         × (sender.seat.me ≡ (views.Sender, [])) };
 }
 
-/// A future for the value that is sent, or for the word that its sender is gone. No call waits for the sender.
+/// A future for the value that is sent, or for the fact that the sender is gone. No call waits for the sender.
 ///
-/// A poll takes no memory. It leaves a second waker of its slot. Where there are as many wakers of the set as can be
-/// counted, it marks its slot instead, and is polled again until the value is there. Polled again after its answer
-/// came, it is `Canceled`.
+/// A poll does not allocate. Unless the answer is there at once, a poll publishes a second waker of its slot. If the
+/// set has as many wakers as can be counted, the poll marks its slot instead. The receiver is then polled again until
+/// the value is there. A poll after the answer returns `Canceled`.
 ///
-/// A contract sees which one-shot it is of, and what it answered.
+/// A contract sees to which one-shot it belongs, and its answer.
 pub struct Receiver<T: Drop> {
-    // Nothing once the answer came.
+    // None once the receiver has its answer.
     place: Option<Arc<Place<T>>>,
     seat: Seat<T>,
 }
@@ -82,9 +83,9 @@ impl<T: Drop> Model for Receiver<T> {
         (λ place. (r.seat.table_id ≡ arc_value place) × (r.seat.me ≡ (Waiting, []))) };
 }
 
-/// What shows that a value was sent. It keeps what both ends share.
+/// Shows that a value was sent. A receipt keeps what both ends share.
 ///
-/// A contract sees by which one-shot, and which value.
+/// A contract sees by which one-shot the value was sent, and the value.
 pub struct Receipt<T: Drop> {
     place: Arc<Place<T>>,
     seat: Seat<T>,
@@ -112,8 +113,8 @@ impl<T: Drop> Model for Receipt<T> {
 #[error("the sender of a one-shot left before it sent a value")]
 pub struct Canceled;
 
-/// A channel for one value, whose receiver a set over `SharedReady` holds. It takes memory for what both ends share, by
-/// four requests of which one is given back at once, and no call of the two takes any.
+/// Makes a channel for one value. A set over `SharedReady` can hold its receiver. Allocates four times for what both
+/// ends share, and frees one of the four at once; no call of the two ends allocates.
 pub fn channel<T: Drop>(alloc: Global) -> Result<(Sender<T>, Receiver<T>), AllocError>
     ensures { IfOk result (λ ends. ends.1 ≡ unanswered ends.0) }
 {
@@ -132,7 +133,7 @@ pub fn channel<T: Drop>(alloc: Global) -> Result<(Sender<T>, Receiver<T>), Alloc
     ))
 }
 
-// Wakes the slot of the receiver, where that waits.
+// Wakes the slot of the receiver if the receiver waits.
 fn wake(waker: Option<SharedWaker>) {
     if let Some(waker) = waker {
         waker.wake();
@@ -140,8 +141,8 @@ fn wake(waker: Option<SharedWaker>) {
 }
 
 impl<T: Drop> Sender<T> {
-    /// Sends the value. Where the receiver has left a waker, its slot is woken once. Where the receiver is gone, the
-    /// value comes back.
+    /// Sends the value. Returns the value if the receiver is gone. If the receiver has published a waker, wakes its
+    /// slot once.
     pub fn send(self, value: T) -> Result<(), T>
         ensures back { IfErr result (λ back. back ≡ value) }
     {
@@ -149,7 +150,7 @@ impl<T: Drop> Sender<T> {
         Ok(())
     }
 
-    /// Sends as `send` does, and gives a receipt.
+    /// Sends as `send` does, and returns a receipt.
     pub fn send_with_receipt(self, value: T) -> Result<Receipt<T>, T>
         ensures { MatchResult result (λ receipt. receipt ≡ slip self value) (λ back. back ≡ value) }
     {
@@ -159,13 +160,13 @@ impl<T: Drop> Sender<T> {
         Ok(Receipt { place, seat })
     }
 
-    /// Whether the receiver went before anything was sent.
+    /// Returns whether the receiver was dropped before a value was sent.
     pub fn is_canceled(&self) -> bool {
         self.place.is_gone()
     }
 }
 
-/// Where the receiver has left a waker, its slot is woken. Its answer is `Canceled`.
+/// The receiver's answer is `Canceled`. If the receiver has published a waker, the drop wakes its slot.
 impl<T: Drop> Drop for Sender<T> {
     fn drop(self) {
         let Sender { place, mut seat } = self;
@@ -173,7 +174,7 @@ impl<T: Drop> Drop for Sender<T> {
     }
 }
 
-/// A value that was sent and did not come is dropped with the receiver.
+/// Drops a value that was sent and not received.
 impl<T: Drop> Drop for Receiver<T> {
     fn drop(self) {
         let Receiver { place, mut seat } = self;
@@ -190,7 +191,7 @@ impl<T: Drop> Drop for Receipt<T> {
 }
 
 impl<T: Drop> Receipt<T> {
-    /// Shows that what the receiver answered, if it did, is the value that was sent.
+    /// Shows that the receiver's answer, if it has one, is the value that was sent.
     pub fn compare(self, receiver: &mut Receiver<T>)
         requires { receiver.old.oneshot ≡ self.oneshot }
         ensures equal { IfSome receiver.old.answer (λ answer. answer ≡ self.sent) }
@@ -203,7 +204,7 @@ impl<T: Drop> Receipt<T> {
     }
 }
 
-// The answer, or nothing yet. Where there are as many wakers as can be counted, the slot is marked.
+// Returns the answer, or `None` if there is none yet. If there are as many wakers as can be counted, marks the slot.
 fn asked<T: Drop>(place: &Place<T>, seat: &mut Seat<T>, waker: &SharedWaker) -> Option<Option<T>>
     requires { (seat.old.table_id ≡ place.now) × (seat.old.me ≡ (Waiting, [])) }
     ensures same { seat.new.table_id ≡ seat.old.table_id }

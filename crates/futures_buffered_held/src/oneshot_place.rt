@@ -22,12 +22,12 @@ const DONE: u64 = 2;
 // The receiver is gone.
 const GONE: u64 = 3;
 
-// The places.
+// The numbers of the two places.
 const VALUE: usize = 0;
 
 const WAKER: usize = 1;
 
-/// What lies at one of the two places.
+/// What one of the two places holds.
 #[derive(Drop)]
 pub enum Left<T, W> {
     Nothing,
@@ -35,32 +35,32 @@ pub enum Left<T, W> {
     Waker(W),
 }
 
-/// What a seat knows. No value of it is made.
+/// What a seat knows. No code makes a value of this type.
 pub enum View<T> {
-    /// Nothing.
+    /// The seat knows nothing.
     Spent,
-    /// Both ends, before they are cut.
+    /// The seat is of both ends, which are not split yet.
     Both,
-    /// It may send, and has not begun to.
+    /// The seat may send, and has not begun to.
     Sender,
-    /// It has the place of the value.
+    /// The seat has the place of the value, and has not sent yet.
     Writing,
-    /// It sent this value.
+    /// The seat sent this value.
     Sent(T),
-    /// It may receive, and left the place of the waker.
+    /// The seat may receive, and has left the place of the waker.
     Waiting,
-    /// It may receive, and has the place of the waker.
+    /// The seat may receive, and has the place of the waker.
     Idle,
-    /// It received this value, or that none was sent.
+    /// The seat received this value, or that none was sent.
     Got(Option<T>),
-    /// It received the first, and the second was sent.
+    /// The seat received the first, and the second was sent.
     Compared(Option<T>, T),
 }
 
-/// One end of a one-shot, or what is left of it. It has no bytes.
+/// One end of a one-shot, or what is left of that end. It has no bytes.
 pub type Seat<T, W> = atomic_table::Seat<Left<T, W>, View<T>>;
 
-/// What both ends share. No call waits, and none takes memory.
+/// What both ends share. No call waits, and only `new` allocates.
 ///
 /// A contract sees the name of its table, which its seats have too.
 #[derive(Drop)]
@@ -83,7 +83,7 @@ impl<T, W> Model for Place<T, W> {
 }
 
 impl<T: Drop, W: Drop> Place<T, W> {
-    /// A one-shot with the seats of its sender and its receiver.
+    /// Makes a one-shot, with the seats of its sender and its receiver.
     pub fn new(alloc: Global) -> Result<(Place<T, W>, Seat<T, W>, Seat<T, W>), AllocError>
         ensures sender { IfOk result (λ made. (made.1.table_id ≡ made.0)
             × (made.1.me ≡ (Sender, []))) }
@@ -106,7 +106,7 @@ impl<T: Drop, W: Drop> Place<T, W> {
         self.table.shared.peek(0) == GONE
     }
 
-    // Leaves what is sent, and returns the word as it was.
+    // Publishes what is sent, and returns the word before.
     fn finish(&self, seat: &mut Seat<T, W>, sent: Left<T, W>) -> u64
         requires { (seat.old.table_id ≡ self.now) × (seat.old.me ≡ (Sender, [])) }
         ensures same { seat.new.table_id ≡ seat.old.table_id }
@@ -118,8 +118,8 @@ impl<T: Drop, W: Drop> Place<T, W> {
         shared.swap::<Finish>(seat, 0, DONE)
     }
 
-    /// Sends the value. Where the receiver waits, its waker comes, and is to be woken. Where the receiver is gone, the
-    /// value comes back.
+    /// Sends the value. Returns the value if the receiver is gone. If the receiver waits, returns its waker, which the
+    /// caller must wake.
     pub fn send(&self, seat: &mut Seat<T, W>, value: T) -> Result<Option<W>, T>
         requires { (seat.old.table_id ≡ self.now) × (seat.old.me ≡ (Sender, [])) }
         ensures same { seat.new.table_id ≡ seat.old.table_id }
@@ -132,7 +132,7 @@ impl<T: Drop, W: Drop> Place<T, W> {
         }
     }
 
-    // The value that the seat was to send.
+    // Takes back the value that the seat was to send.
     fn take_back(&self, seat: &mut Seat<T, W>) -> T
         requires { (seat.old.table_id ≡ self.now) × ((value : T)
             × (seat.old.me.1 ≡ (0, Value value) ∷ [])) }
@@ -145,7 +145,7 @@ impl<T: Drop, W: Drop> Place<T, W> {
         }
     }
 
-    // The waker whose place the seat has.
+    // Takes the waker whose place the seat has.
     fn take_waker(&self, seat: &mut Seat<T, W>) -> Option<W>
         requires { (seat.old.table_id ≡ self.now)
             × ((y : Left T W) × (more : List (ℕ × Left T W)) × (seat.old.me.1 ≡ (1, y) ∷ more)) }
@@ -157,7 +157,7 @@ impl<T: Drop, W: Drop> Place<T, W> {
         }
     }
 
-    /// Sends nothing, and gives the waker that is to be woken.
+    /// Sends nothing, and returns the waker that the caller must wake.
     pub fn cancel(&self, seat: &mut Seat<T, W>) -> Option<W>
         requires { (seat.old.table_id ≡ self.now) × (seat.old.me ≡ (Sender, [])) }
     {
@@ -167,7 +167,7 @@ impl<T: Drop, W: Drop> Place<T, W> {
         None
     }
 
-    // What was sent, once the seat has its place.
+    // Takes what was sent, once the seat has the place of the value.
     fn open(&self, seat: &mut Seat<T, W>) -> Option<T>
         requires { (seat.old.table_id ≡ self.now) × HasOpened seat.old.me }
         ensures { (seat.new.table_id ≡ seat.old.table_id) × (seat.new.me.0 ≡ Got result) }
@@ -178,7 +178,7 @@ impl<T: Drop, W: Drop> Place<T, W> {
         }
     }
 
-    /// The answer, where the sender is done: what was sent, or that nothing was.
+    /// Returns the answer if the sender is done: what was sent, or that nothing was.
     pub fn look(&self, seat: &mut Seat<T, W>) -> Option<Option<T>>
         requires { (seat.old.table_id ≡ self.now) × (seat.old.me ≡ (Waiting, [])) }
         ensures same { seat.new.table_id ≡ seat.old.table_id }
@@ -190,7 +190,7 @@ impl<T: Drop, W: Drop> Place<T, W> {
         None
     }
 
-    // Takes the place of the waker, unless there is an answer.
+    // Takes the place of the waker. Returns the answer instead if there is one.
     fn withdraw(&self, seat: &mut Seat<T, W>) -> Option<Option<T>>
         requires { (seat.old.table_id ≡ self.now) × (seat.old.me ≡ (Waiting, [])) }
         ensures same { seat.new.table_id ≡ seat.old.table_id }
@@ -203,7 +203,7 @@ impl<T: Drop, W: Drop> Place<T, W> {
         Some(self.open(seat))
     }
 
-    /// Leaves the waker in place of the one before, which is let go, unless there is an answer.
+    /// Publishes the waker and drops the previous one, unless there is an answer. Returns the answer if there is one.
     pub fn register(&self, seat: &mut Seat<T, W>, waker: W) -> Option<Option<T>>
         requires { (seat.old.table_id ≡ self.now) × (seat.old.me ≡ (Waiting, [])) }
         ensures same { seat.new.table_id ≡ seat.old.table_id }
@@ -220,7 +220,7 @@ impl<T: Drop, W: Drop> Place<T, W> {
         Some(self.open(seat))
     }
 
-    /// The receiver goes. What was left for it is let go: the value, or its own waker.
+    /// The receiver goes. Drops what is left for it: the value, or its own waker.
     pub fn leave(&self, seat: &mut Seat<T, W>)
         requires { (seat.old.table_id ≡ self.now) × (seat.old.me ≡ (Waiting, [])) }
     {
@@ -232,7 +232,7 @@ impl<T: Drop, W: Drop> Place<T, W> {
         }
     }
 
-    /// A second seat that knows what this one sent.
+    /// Returns a second seat that knows what this one sent.
     pub fn receipt(&self, seat: &mut Seat<T, W>) -> Seat<T, W>
         requires { seat.old.table_id ≡ self.now }
         ensures place { result.table_id ≡ self.now }
@@ -242,7 +242,7 @@ impl<T: Drop, W: Drop> Place<T, W> {
         self.table.shared.split_seat::<Receipted>(seat)
     }
 
-    /// What the receiver answered is what was sent. The receipt is spent.
+    /// Shows that the receiver's answer is what was sent. Spends the receipt.
     pub fn compare(&self, seat: &mut Seat<T, W>, receipt: Seat<T, W>)
         requires { (seat.old.table_id ≡ self.now) × (receipt.table_id ≡ self.now)
             × (receipt.me.1 ≡ []) }

@@ -1,4 +1,4 @@
-//! The rule of a one-shot, and what each step tells.
+//! The rule of a one-shot, and what each step says.
 use crate::oneshot_place::{Left, View};
 use atomic_table::{Join, Play, Split, TableRule};
 
@@ -22,7 +22,7 @@ impl<T, W> Play<Left<T, W>, View<T>> for Look {
     ghost then = { λ _. looked };
 }
 
-// A compare-exchange, by which the receiver takes the place of the waker, gives it back or goes.
+// A compare-exchange. By it the receiver takes the place of the waker, gives that place back, or goes.
 pub(crate) struct Turn;
 
 impl<T, W> Play<Left<T, W>, View<T>> for Turn {
@@ -40,7 +40,7 @@ impl<T, W> Play<Left<T, W>, View<T>> for Finish {
     ghost then = { λ _. finished };
 }
 
-// The two ends are cut.
+// The split into the two ends.
 pub(crate) struct Ends;
 
 impl<T> Split<View<T>> for Ends {

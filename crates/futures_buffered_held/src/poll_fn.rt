@@ -3,9 +3,7 @@ use futures::task::Poll;
 use futures_buffered_unordered::slot_future::{SlotFuture, SlotHandle};
 use std::marker::Model;
 
-/// Calls its closure at each poll, with the waker of its slot, and answers what that returns.
-///
-/// A contract sees the closure.
+/// A future that calls its closure at each poll, with the waker of its slot, and returns what the closure returns.
 #[derive(Drop)]
 pub struct PollFn<C> {
     pub(crate) call: C,

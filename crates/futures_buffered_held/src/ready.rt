@@ -3,9 +3,7 @@ use futures::task::Poll;
 use futures_buffered_unordered::slot_future::{SlotFuture, SlotHandle};
 use std::marker::Model;
 
-/// Gives its value at its first poll. Polled again, it stays pending.
-///
-/// A contract sees the value, until it is given.
+/// A future that returns its value at its first poll. Later polls return `Pending`.
 #[derive(Drop)]
 pub struct Ready<T> {
     pub(crate) value: Option<T>,

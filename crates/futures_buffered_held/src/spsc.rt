@@ -1,10 +1,10 @@
 //! A bounded channel from one sender to one receiver, whose receiver a merge holds.
 //!
-//! Its values go through the ring of `rtrb`, and a sending wakes the slot of the receiver where that waits
-//! (`spsc_place`). No call waits for the other end, and only the constructors take memory.
+//! Its values go through the ring of `rtrb`, and each send wakes the slot of the receiver if the receiver waits
+//! (`spsc_place`). No call waits for the other end, and only the constructors allocate.
 //!
-//! A sender that finds no room gets its value back, and nobody tells it when there is room again: who receives can wake
-//! it, as by a one-shot or a channel that goes the other way.
+//! A sender that finds no room gets its value back, and no call tells it when there is room again. The receiving task
+//! can wake the sender, as by a one-shot or a channel that goes the other way.
 ghost use Rattle.std.specs.Prelude.{◌≡◌, ◌++◌, length, IfSome};
 ghost use Rattle.std.specs.declared.alloc.Global.{Global};
 ghost use Rattle.rtrb.specs.declared.consumer.Consumer.{Consumer};
@@ -47,10 +47,12 @@ impl<T: Drop, P: Protocol<T>> Model for Sender<T, P> {
 
 /// The end that receives, as a stream for a merge. It can move to another thread.
 ///
-/// A poll takes no memory. Where nothing is there it leaves a second waker of its slot. Where there are as many wakers
-/// of the merge as can be counted, it marks its slot instead, and is polled again until a value is there.
+/// A poll does not allocate. If no value is there, a poll publishes a second waker of its slot. If the merge has as
+/// many wakers as can be counted, the poll marks its slot instead. The receiver is then polled again until a value is
+/// there.
 ///
-/// A contract sees the consumer of the ring: the values that came, in order, and those that are known to come next.
+/// A contract sees the consumer of the ring: the values that were received, in order, and those that are known to come
+/// next.
 pub struct Receiver<T: Drop, P: Protocol<T> = AnyItems> {
     ring: Consumer<T, Global, P>,
     waiting: Waiting,
@@ -62,10 +64,10 @@ impl<T: Drop, P: Protocol<T>> Model for Receiver<T, P> {
     ghost view = { λ receiver. receiver.ring };
 }
 
-/// Why a value was not sent. It comes back.
+/// Why a value was not sent. The error returns the value.
 #[derive(Drop, Debug, PartialEq, Eq, Error)]
 pub enum TrySendError<T> {
-    /// Each place has a value that did not come yet.
+    /// Each place has a value that was not received yet.
     #[error("the channel is full")]
     Full(T),
     /// The receiver is gone.
@@ -73,21 +75,21 @@ pub enum TrySendError<T> {
     Closed(T),
 }
 
-/// Why no value came.
+/// Why no value was received.
 #[derive(Clone, Copy, Debug, PartialEq, Eq, Error)]
 pub enum TryRecvError {
-    /// None is there yet.
+    /// No value is there yet.
     #[error("the channel is empty")]
     Empty,
-    /// The sender is gone, and all that it sent came.
+    /// The sender is gone, and each value that it sent was received.
     #[error("the channel is empty, and its sender is gone")]
     Disconnected,
 }
 
-/// A channel with room for `capacity` values. With none, each sending is refused.
+/// Makes a channel with room for `capacity` values. If `capacity` is 0, each send is refused.
 ///
-/// Takes time and memory in proportion to `capacity`, by three requests. `TooLarge` where `capacity` is above
-/// `MAX_CAPACITY`, and `Memory` where a request was refused.
+/// Returns `TooLarge` if `capacity` is above `MAX_CAPACITY`, and `Memory` if an allocation fails. Takes time and
+/// allocates in proportion to `capacity`, by three allocations.
 pub fn channel<T: Drop>(
     alloc: Global,
     capacity: usize,
@@ -97,8 +99,8 @@ pub fn channel<T: Drop>(
     with_protocol::<T, AnyItems>(alloc, capacity)
 }
 
-/// As `channel`, where each value that is sent is one that `P` allows after those before it. So whoever receives it
-/// knows that.
+/// Makes a channel as `channel` does. A send requires that `P` allows its value after the values before it, so the
+/// receiving caller knows that of each value.
 pub fn with_protocol<T: Drop, P: Protocol<T>>(
     alloc: Global,
     capacity: usize,
@@ -122,7 +124,7 @@ pub fn with_protocol<T: Drop, P: Protocol<T>>(
     ))
 }
 
-// What both ends share beside the ring.
+// Makes what both ends share in addition to the ring.
 fn new_place(alloc: Global) -> Result<(Waiting, Waiting), AllocError> {
     let waiting = Arc::new(alloc, WaitingPlace::new())?;
     let other = Arc::try_clone(&waiting)?;
@@ -130,9 +132,9 @@ fn new_place(alloc: Global) -> Result<(Waiting, Waiting), AllocError> {
 }
 
 impl<T: Drop, P: Protocol<T>> Sender<T, P> {
-    /// Sends the value, and wakes the slot of the receiver where that waits. A value that is refused comes back.
+    /// Sends the value. Returns the value if it is refused. Wakes the slot of the receiver if the receiver waits.
     ///
-    /// A value that is sent while the receiver goes may be dropped with the sender.
+    /// A value that is sent while the receiver is being dropped may be dropped with the sender.
     pub fn try_send(&mut self, value: T) -> Result<(), TrySendError<T>>
         requires { P.allows (sent self.old) value }
         ensures same { SameProducer self.old self.new }
@@ -150,21 +152,22 @@ impl<T: Drop, P: Protocol<T>> Sender<T, P> {
         }
     }
 
-    /// Whether the receiver is gone. Once it is, each sending is refused.
+    /// Returns whether the receiver is gone. Once it is gone, each send is refused.
     pub fn is_closed(&mut self) -> bool
         ensures { ProducerLooked self.old self.new }
     {
         self.ring.is_abandoned()
     }
 
-    /// For how many values the channel was made. It never changes.
+    /// Returns for how many values the channel was made. That number never changes.
     pub fn capacity(&self) -> usize
         ensures { result ≡ producer_capacity self.now }
     {
         self.ring.capacity()
     }
 
-    /// Goes, as a drop does, and gives what shows all that was sent. `None` where the receiver went first.
+    /// Ends the sender as a drop does, and returns what shows all values that were sent. Returns `None` if the receiver
+    /// was dropped first.
     pub fn finish(self) -> Option<Finished<T, Global, P>>
         ensures { IfSome result (λ finished. Finishes self finished) }
     {
@@ -175,7 +178,7 @@ impl<T: Drop, P: Protocol<T>> Sender<T, P> {
     }
 }
 
-/// Wakes the slot of the receiver, whose stream ends once it gave all that was sent.
+/// Wakes the slot of the receiver. The receiver's stream ends once it has returned all values that were sent.
 impl<T: Drop, P: Protocol<T>> Drop for Sender<T, P> {
     fn drop(self) {
         let Sender { ring, waiting } = self;
@@ -198,7 +201,7 @@ impl<T: Drop, P: Protocol<T>> Receiver<T, P> {
         }
     }
 
-    /// The next value, where one is there. It leaves no waker.
+    /// Returns the next value if one is there. Publishes no waker.
     pub fn try_recv(&mut self) -> Result<T, TryRecvError>
         ensures { ReceivesNext P.allows self.old (poll_of result) self.new }
     {
@@ -209,15 +212,15 @@ impl<T: Drop, P: Protocol<T>> Receiver<T, P> {
         }
     }
 
-    /// For how many values the channel was made. It never changes.
+    /// Returns for how many values the channel was made. That number never changes.
     pub fn capacity(&self) -> usize
         ensures { result ≡ consumer_capacity self.now }
     {
         self.ring.capacity()
     }
 
-    /// Shows to whoever has both ends that what came and what is to come are all that was sent, in order. Returns how
-    /// many are to come.
+    /// Shows, to a caller that has both ends, that the values received and the values still to come are all that were
+    /// sent, in order. Returns how many are still to come.
     pub fn compare(&mut self, sender: &mut Sender<T, P>) -> usize
         requires { IsPair sender.old self.old }
         ensures same { ConsumerLooked self.old self.new × ProducerLooked sender.old sender.new }
@@ -227,7 +230,7 @@ impl<T: Drop, P: Protocol<T>> Receiver<T, P> {
         self.ring.slots_beside(&mut sender.ring)
     }
 
-    /// The same, once the sender has finished.
+    /// Shows and returns the same once the sender has finished.
     pub fn compare_finished(&mut self, finished: &mut Finished<T, Global, P>) -> usize
         requires { IsFinishedOf finished.old self.old }
         ensures same { ConsumerLooked self.old self.new }
@@ -238,7 +241,7 @@ impl<T: Drop, P: Protocol<T>> Receiver<T, P> {
         self.ring.slots_after(finished)
     }
 
-    // Where there are as many wakers as can be counted, the slot is marked.
+    // Publishes a second waker. If there are as many wakers as can be counted, marks the slot.
     fn wait(&self, waker: &SharedWaker) {
         match waker.try_clone() {
             Ok(waker) => self.waiting.leave(waker),
@@ -247,7 +250,8 @@ impl<T: Drop, P: Protocol<T>> Receiver<T, P> {
     }
 }
 
-/// The values that did not come are dropped, but for those that are sent meanwhile: these are dropped with the sender.
+/// Drops the values that were not received. A value that is sent during this call may be dropped with the sender
+/// instead.
 impl<T: Drop, P: Protocol<T>> Drop for Receiver<T, P> {
     fn drop(self) {
         let Receiver { mut ring, waiting } = self;
@@ -277,10 +281,11 @@ impl<T: Drop, P: Protocol<T>> SlotStream<SharedWaker> for Receiver<T, P> {
     }
 }
 
-/// What polls of one receiver give, in a merge or without one, are the values that came since: behind those that came
-/// before, in the order in which they were sent, and those first that a comparison showed to come next.
+/// The items that polls of one receiver return, in a merge or without one, are the values received since, in the order
+/// of the sends. They come after the values received before, and the first of them are those that a comparison showed
+/// to come next.
 ///
-/// A law of the relation in the contract of a poll. Its body is empty.
+/// This is a law of the relation in the contract of a poll. Its body is empty.
 pub fn polls_keep_sending_order<T: Drop, P: Protocol<T>>()
     ensures { KeepsSendingOrder T Global P P.allows }
 {}

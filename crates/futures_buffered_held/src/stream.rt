@@ -1,7 +1,7 @@
 //! Streams to hold as they are, and the functions that make them.
 pub use crate::iter::Iter;
 
-/// A stream of the items of `items`.
+/// Returns a stream of the items of `items`.
 pub fn iter<I: IntoIterator>(items: I) -> Iter<I::IntoIter>
     ensures { I.into_iter_gives items result }
 {

@@ -3,19 +3,19 @@ use futures::task::Poll;
 use futures_buffered_unordered::slot_future::{SlotFuture, SlotHandle};
 use std::mem;
 
-/// A future, and then the one that its closure makes of the output.
+/// A future, and then the future that its closure makes of the output.
 #[derive(Drop)]
 pub enum Then<F, B, C> {
     /// The first future, and the closure.
     First(F, C),
     /// The future that the closure made.
     Second(B),
-    /// Neither of the two: pending for good. No poll makes it so.
+    /// Neither of the two: permanently pending. A poll of another variant never ends in this one.
     Gone,
 }
 
-/// Gives the output of its second future, which is polled in the same call in which the first one is ready. The first
-/// is dropped before the closure is called. Polled again, it is what the second future is.
+/// Returns the output of the second future. The poll in which the first future is ready polls the second one also. It
+/// drops the first future before it calls the closure. After the output, a poll polls the second future again.
 impl<
     W: SlotHandle,
     B: SlotFuture<W>,

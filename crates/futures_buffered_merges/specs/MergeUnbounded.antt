@@ -1,5 +1,5 @@
--- One poll of a merge that grows, what may come from it, and what its streams give over many polls. `Merging` has the
--- poll of a bounded one.
+-- One poll of a growing merge, what may come from it, and what its streams return over many polls. `Merging` has the
+-- poll of a bounded merge.
 use Rattle.std.specs.Prelude.{◌≡◌, ◌↔◌, ℕ, Bool, List, [], ◌∷◌, ◌++◌, map, Option, Some, None, ◌⊎◌}
 use Rattle.std.specs.List.{FoldsTo, AllByRecursion}
 use Rattle.futures.specs.declared.task.context.Context.{Context}
@@ -30,16 +30,16 @@ abbrev pub HoldsNone : {F : Type 0} → Slots F → Type 0
 HoldsNone m = (j : ℕ) → value_in m j ≡ None
 
 module _ {F A S : Type 0} (polled : ℕ → F → Poll (Option A) → F → Type 0) where
-  -- x may come from the streams that a group holds, at once or after other items
+  -- `x` may come from the streams that a group holds, at once or after other items
   abbrev pub GroupMayGive : Bounded F S → A → Type 0
   GroupMayGive group x = (items : List A) × ComesFromStreams polled group.slots items (Some x)
 
-  -- what may come from the groups: items that each may come from one of them
+  -- what may come from the groups: items that each may come from one of the groups
   abbrev pub ItemsComeFromGroups : List (Bounded F S) → Runs A
   ItemsComeFromGroups groups = ItemsWhere (λ x. AnyOf (λ group. GroupMayGive group x) groups)
 
-  -- These items are all that the streams of the old groups gave, of each stream in its order: those of the first group,
-  -- interleaved with those of the others. A group that is no longer listed holds no stream.
+  -- The items are all that the streams of the old groups returned, of each stream in its order: the items of the first
+  -- group, interleaved with the items of the other groups. A group that is no longer listed holds no stream.
   abbrev pub GroupsGave : List (Bounded F S) → List A → List (Bounded F S) → Type 0
   GroupsGave [] items new = (items ≡ []) × (new ≡ [])
   GroupsGave (group ∷ groups) items new = (left : Bounded F S) × (given : List (ℕ × A))
@@ -55,7 +55,7 @@ abbrev pub GroupsPolled : {F A S : Type 0} → (ℕ → F → Poll (Option A) �
 GroupsPolled polled steps marks old answer new = (stopped : Bool)
     × GroupsGive (MergeAsks polled steps marks) old answer stopped new
 
--- After any polls the items of the answers are all that the streams gave.
+-- after any polls, the items that they returned are all that the streams returned
 abbrev pub KeepsOrderInGroups : {F A S : Type 0} → (ℕ → F → Poll (Option A) → F → Type 0)
     → SourceSteps S → (S → ℕ → Woke → S → Type 0) → Type 0
 KeepsOrderInGroups {F} {A} {S} polled steps marks = (old new : Groups (Bounded F S))
@@ -67,9 +67,9 @@ KeepsOrderInGroups {F} {A} {S} polled steps marks = (old new : Groups (Bounded F
 abbrev pub slots_of_each : {F S : Type 0} → List (Bounded F S) → List (Slots F)
 slots_of_each {F} {S} groups = map (λ (group : Bounded F S). group.slots) groups
 
--- These groups stood one behind another. The items are all that was given by the streams that they held at first and by
--- those pushed: what one group gave, interleaved with what the others gave. A group that is no longer listed holds no
--- stream.
+-- The items are all that the streams held at first and the pushed streams returned: the items of the first group,
+-- interleaved with the items of the other groups. The pushed streams are interleaved in the same way. A group that is
+-- no longer listed holds no stream.
 abbrev pub GroupsGaveInTurn : {F A : Type 0} → (ℕ → F → Poll (Option A) → F → Type 0)
     → List (Slots F) → List A → List F → List (Slots F) → Type 0
 GroupsGaveInTurn polled [] items streams new = (items ≡ []) × (streams ≡ []) × (new ≡ [])
@@ -94,8 +94,8 @@ module _
     HappensInGroups old (answered answer) new = GroupsPolled polled steps marks old.groups answer new.groups
     HappensInGroups old (pushed stream) new = GrowingPushes marks made FIRST_GROUP old stream new
 
-    -- After any polls and pushes the items of the answers are all that the streams gave that were held at first or
-    -- pushed. Groups that pushes made held none at first, and stand behind the others.
+    -- After any polls and pushes, the items that the polls returned are all that the streams held at first and the
+    -- pushed streams returned. The groups that pushes made held no stream at first, and come after the other groups.
     abbrev pub KeepsOrderInGroupsWithPushes : Type 0
     KeepsOrderInGroupsWithPushes = (old new : Growing F S) (events : List (MergeEvent F A))
         → FoldsTo HappensInGroups old events new
@@ -108,7 +108,7 @@ module _
     (stream : SlotStreamOf St W A)
     (source : ReadySourceOf S W)
   where
-    -- how a merge asks a group: as a bounded merge is polled; the end may register the task
+    -- how a merge polls a group: as a bounded merge is polled; a poll that returns `None` may register the task
     abbrev pub as_merge : AskGroupOf (Unit {0}) St S A (Unit {0}) W
     as_merge = record {
       can_poll = stream.can_poll;
@@ -116,16 +116,17 @@ module _
       passes = OnlyRegisters source.registers_poll;
     }
 
-    -- One poll of a merge that grows, which took it from old to new and the task from cx to left.
+    -- One poll of a growing merge, which takes the merge from `old` to `new` and the task from `cx` to `left`.
     pub record PollsMergeUnbounded
         (old : Growing St S)
         (answer : Poll (Option A))
         (new : Growing St S)
         (cx left : Context)
         : Type 0 where
-      -- what came, where the next poll begins, who is woken, who waits where, and what may be polled again
+      -- what the poll returns, where the next poll begins, whether the task is woken, where the task is registered, and
+      -- what may be polled again
       pub groups : PollsGroups as_merge source old answer new cx left
-      -- the end comes exactly where no stream is left after the poll
+      -- the poll returns `None` if and only if no stream is held after it
       pub ends : (answer ≡ Ready None) ↔ (held_in_all new.groups.listed ≡ 0)
-      -- who waits where, as a stream: the task of a pending merge hears of each group that holds a stream
+      -- the task of a pending merge is registered for each group that holds a stream, or is woken
       pub registered : OnPending answer (Covers left (AnyNeeds source.needs new.groups.listed))

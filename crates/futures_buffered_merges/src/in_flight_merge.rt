@@ -1,6 +1,7 @@
-//! Streams of the kit as one.
+//! Streams of `futures` as one.
 //!
-//! The merge owns the kit's `SelectAll`, which polls those that were woken, and counts the streams that are held.
+//! The merge owns a `SelectAll` of `futures`, which polls the streams that were woken, and counts the streams that are
+//! held.
 ghost use Rattle.std.specs.Prelude.{◌≡◌, ◌+◌, ◌^◌, ◌-◌, ◌≤◌, ◌↔◌, ◌⊎◌, IfErr, IfOk, OnOk, IfSome, IsTrue};
 ghost use Rattle.futures.specs.Poll.{IfReady, OnPending};
 ghost use Rattle.futures.specs.Task.{Covers, Keeps};
@@ -22,11 +23,11 @@ use std::alloc::Global;
 use std::fmt;
 use std::marker::Model;
 
-/// Streams of the kit that are polled as one, `capacity` of them at most. `MergeUnbounded` is its name where there is no
-/// limit.
+/// Streams of `futures` that are polled as one, at most `capacity` of them. If there is no limit, the name of the type
+/// is `MergeUnbounded`.
 ///
-/// A contract sees how many streams are held, and the kit's set of them. A stream is held from its push until the poll
-/// in which it gives its end. Calls that ask how much is held take the same time at any number.
+/// A contract sees how many streams are held, and the set of `futures` with them. A stream is held from its push until
+/// the poll in which it returns `None`. Calls that return how many streams are held take the same time at any number.
 #[derive(Drop)]
 pub struct MergeBounded<St> {
     // None before the first push and after `clear`.
@@ -45,35 +46,35 @@ impl<St> Model for MergeBounded<St> {
 }
 
 impl<St: Drop> MergeBounded<St> {
-    /// The number of streams held.
+    /// Returns the number of streams held.
     pub fn len(&self) -> usize
         ensures { result ≡ self.now.held }
     {
         self.held
     }
 
-    /// Whether no stream is held.
+    /// Returns whether no stream is held.
     pub fn is_empty(&self) -> bool
         ensures { IsTrue result ↔ (self.now.held ≡ 0) }
     {
         self.held == 0
     }
 
-    /// How many streams can be held, which never changes. It is `usize::MAX` where there is no limit.
+    /// Returns how many streams can be held, which never changes: `usize::MAX` if there is no limit.
     pub fn capacity(&self) -> usize
         ensures { result ≡ self.now.limit }
     {
         self.limit
     }
 
-    /// Whether each push is refused.
+    /// Returns whether the merge holds as many streams as it can. Each push is refused then.
     pub fn is_full(&self) -> bool
         ensures { IsTrue result ↔ (self.now.limit ≤ self.now.held) }
     {
         self.limit <= self.held
     }
 
-    // What it is called where it is printed: the name that a caller writes.
+    // Returns the name under which the merge is printed: the name that a caller writes.
     fn merge_name(&self) -> &'static str {
         if self.limit == usize::MAX {
             "MergeUnbounded"
@@ -84,7 +85,7 @@ impl<St: Drop> MergeBounded<St> {
 }
 
 impl<St: Stream<Item: Drop>> MergeBounded<St> {
-    /// A merge that holds nothing, and `n` streams at most. Takes no memory.
+    /// Makes a merge that holds no stream, and later at most `n`. Does not allocate.
     pub fn new(alloc: Global, n: usize) -> Self
         ensures new { IsNewMerge n result }
         ensures can_poll { CanPollStreams St.Stream result }
@@ -97,7 +98,7 @@ impl<St: Stream<Item: Drop>> MergeBounded<St> {
         }
     }
 
-    /// A merge that holds nothing, and any number of streams. Takes no memory.
+    /// Makes a merge that holds no stream, and later any number. Does not allocate.
     pub fn growing(alloc: Global) -> Self
         ensures new { IsNewMerge (2 ^ 64 - 1) result }
         ensures can_poll { CanPollStreams St.Stream result }
@@ -105,8 +106,8 @@ impl<St: Stream<Item: Drop>> MergeBounded<St> {
         Self::new(alloc, usize::MAX)
     }
 
-    /// Drops each stream, in this call. Takes no memory, and time in proportion to the number of streams, besides the
-    /// drops.
+    /// Drops each stream, in this call. Does not allocate. Takes time in proportion to the number of streams, apart
+    /// from the drops.
     pub fn clear(&mut self)
         ensures none { IsNewMerge self.old.limit self.new }
         ensures can_poll { CanPollStreams St.Stream self.new }
@@ -115,7 +116,7 @@ impl<St: Stream<Item: Drop>> MergeBounded<St> {
         self.held = 0;
     }
 
-    // Makes the kit's set where there is none, if there is memory.
+    // Makes the set of `futures` if there is none, unless the allocation fails.
     #[tactic(auto, using(crate::proofs::InFlightMergeLemmas::new_answers_none))]
     fn make_running(&mut self)
         requires { CanPollStreams St.Stream self.old }
@@ -129,7 +130,7 @@ impl<St: Stream<Item: Drop>> MergeBounded<St> {
         }
     }
 
-    // Has the kit's set take the stream. It comes back where memory lacks.
+    // Pushes the stream into the set of `futures`. Returns the stream if an allocation fails.
     #[tactic(auto, using(crate::proofs::InFlightMergeLemmas::answers_after_push))]
     fn start(&mut self, stream: St) -> Result<(), St>
         requires held { CanPollStreams St.Stream self.old }
@@ -154,13 +155,13 @@ impl<St: Stream<Item: Drop>> MergeBounded<St> {
         }
     }
 
-    /// Adds the stream, so that a later poll polls it. It comes back where there is no room, and where memory is
-    /// refused.
+    /// Adds the stream, so that a later poll polls it. Returns the stream if the merge is full, and if an allocation
+    /// fails.
     ///
-    /// Takes the memory that the kit's set takes for a stream, and the same time at any number of streams. Where memory
-    /// is refused as many streams are held as before, and nothing may come that might not have come before or from this
-    /// stream: the kit says no more of a push that it refuses. Polls nothing, and wakes nobody: who pushes sees to it
-    /// that the merge is polled afterwards.
+    /// If an allocation fails, as many streams are held as before. The merge may then return only what it might have
+    /// returned before, and what this stream might return: `futures` says no more of a push that it refuses. Allocates
+    /// what the set of `futures` allocates for a stream, and takes the same time at any number of streams. Does not
+    /// poll, and does not wake the task: the caller sees to it that the merge is polled afterwards.
     pub fn try_push(&mut self, stream: St) -> Result<(), St>
         requires held { CanPollStreams St.Stream self.old }
         requires new { St.can_poll stream }
@@ -175,7 +176,8 @@ impl<St: Stream<Item: Drop>> MergeBounded<St> {
         Ok(())
     }
 
-    // One poll of the kit's set: an item, or the end of a stream.
+    // Polls the set of `futures` once. Returns an item, `Some(None)` for the end of a stream, or `None` if the set is
+    // empty.
     #[tactic(auto, using(crate::proofs::InFlightMergeLemmas::narrows_after, crate::proofs::InFlightMergeLemmas::narrows_within))]
     fn poll_running(&mut self, cx: &mut Context<'_>) -> Poll<Option<Option<St::Item>>>
         requires { CanPollStreams St.Stream self.old }
@@ -199,7 +201,7 @@ impl<St: Stream<Item: Drop>> MergeBounded<St> {
         }
     }
 
-    // One poll, where one stream at most ends.
+    // Polls the merge once. At most one stream ends.
     fn poll_item(&mut self, cx: &mut Context<'_>) -> Poll<Option<St::Item>>
         requires { CanPollStreams St.Stream self.old }
         ensures { PollsMerge St.Stream self.old result self.new cx.old cx.new }
@@ -209,7 +211,8 @@ impl<St: Stream<Item: Drop>> MergeBounded<St> {
         }
         let told = match self.poll_running(cx) {
             Poll::Pending => return Poll::Pending,
-            // Each stream that is held is there, so this arm is not taken. No clause of the kit says so.
+            // The set of `futures` has each stream that is held, so this arm is not taken. No clause of `futures` says
+            // so.
             Poll::Ready(None) => return cx.yield_now(),
             Poll::Ready(Some(told)) => told,
         };
@@ -223,8 +226,8 @@ impl<St: Stream<Item: Drop>> MergeBounded<St> {
         cx.yield_now()
     }
 
-    /// Pushes each item, in order, as `try_push` does. The first that is refused comes back; those before it stay, and
-    /// the iterator is asked for no further one.
+    /// Pushes each item, in order, as `try_push` does. Returns the first item that is refused. The items before it
+    /// stay, and the iterator is not called again.
     pub fn extend<I: IntoIterator<Item = St>>(&mut self, iter: I) -> Result<(), St>
         requires finite { IsFiniteSource (items_of I.IntoIterator I.IntoIter.Iterator iter) }
         requires held { CanPollStreams St.Stream self.old }
@@ -252,12 +255,13 @@ impl<St: Stream<Item: Drop>> Stream for MergeBounded<St> {
 
     ghost yields = { ComesFromMerged St.Stream };
 
-    /// One poll: an item of one of the streams, or the end, exactly where nothing is held any more.
+    /// Polls the streams that were pushed or woken since their last poll.
     ///
-    /// It polls those streams that were pushed or woken since they were polled. A stream that gives an item stays, and
-    /// is polled again behind those that were woken before. One stream at most ends in a poll: where others are held
-    /// then, the task polls again at once. Takes no memory but what the streams take, and what the kit's set takes at
-    /// its first poll of a task; where it is refused that, the task polls again until there is some.
+    /// Returns an item of one of the streams, or `None` if and only if no stream is held any more. A stream that
+    /// returns an item stays, and is polled again after those that were woken before. At most one stream ends in a
+    /// poll; if others are held then, the poll wakes the task to poll again. Allocates only what the streams allocate,
+    /// and what the set of `futures` allocates at its first poll by a task. If that allocation fails, the task polls
+    /// again until one succeeds.
     fn poll_next(&mut self, cx: &mut Context<'_>) -> Poll<Option<St::Item>>
         requires { CanPollStreams St.Stream self.old }
         ensures { PollsMerge St.Stream self.old result self.new cx.old cx.new }
@@ -266,7 +270,8 @@ impl<St: Stream<Item: Drop>> Stream for MergeBounded<St> {
     }
 }
 
-/// Whether no stream is held, so that the next poll gives the end. A push after that starts it again.
+/// The merge is terminated while no stream is held: the next poll returns `None` then. A later push starts the merge
+/// again.
 impl<St: Stream<Item: Drop>> FusedStream for MergeBounded<St> {
     ghost use Rattle.std.specs.Prelude.{◌≡◌};
 
@@ -277,14 +282,14 @@ impl<St: Stream<Item: Drop>> FusedStream for MergeBounded<St> {
     }
 }
 
-/// Nothing is known of how many items are left.
+/// The hint says nothing of how many items are left.
 impl<St: Drop> SizeHint for MergeBounded<St> {
     fn size_hint(&self) -> (usize, Option<usize>) {
         (0, None)
     }
 }
 
-/// Prints the number of streams held, and by its name whether there is a limit.
+/// Prints the number of streams held. The printed name says whether there is a limit.
 impl<St: Drop> fmt::Debug for MergeBounded<St> {
     fn fmt<W: fmt::Write>(&self, f: &mut fmt::Formatter<W>) -> fmt::Result {
         f.debug_struct(self.merge_name())
@@ -293,13 +298,13 @@ impl<St: Drop> fmt::Debug for MergeBounded<St> {
     }
 }
 
-/// A merge of streams of the kit without a limit.
+/// A merge of streams of `futures` without a limit.
 pub type MergeUnbounded<St> = MergeBounded<St>;
 
-/// A merge without a limit, of the streams that this iterator gives, in its order.
+/// Makes a merge without a limit, of the streams that this iterator returns, in its order.
 ///
-/// Takes time and memory in proportion to their number. `Memory` where a request for memory was refused, and then the
-/// streams that came are dropped.
+/// If an allocation fails, returns `Memory` and drops the streams that the iterator returned. Takes time and allocates
+/// in proportion to the number of streams.
 pub fn merge_unbounded<St: Stream<Item: Drop>, I: IntoIterator<Item = St>>(
     alloc: Global,
     iter: I,
@@ -317,8 +322,8 @@ pub fn merge_unbounded<St: Stream<Item: Drop>, I: IntoIterator<Item = St>>(
     }
 }
 
-/// As `merge_unbounded`, with room for as many streams as came, so that no further one can be pushed before one
-/// of them has ended.
+/// Makes a merge as `merge_unbounded` does, with room for as many streams as the iterator returned. A further stream
+/// can be pushed only after one of them has ended.
 pub fn merge<St: Stream<Item: Drop>, I: IntoIterator<Item = St>>(
     alloc: Global,
     iter: I,

@@ -1,4 +1,5 @@
-//! Streams that are polled as one: the items of each come in its own order, beside those of the others.
+//! Streams that are polled as one. The items of each stream are in its own order, interleaved with the items of the
+//! others.
 //!
 //! In the order in which to read them:
 //!
@@ -9,12 +10,13 @@
 //! - `merge_bounded`: `MergeBounded`, as many streams as it has slots.
 //! - `merge_unbounded`: `MergeUnbounded`, any number of streams, in groups of slots.
 //!
-//! Of streams of the kit, which no slot holds:
+//! For streams of `futures`, which no slot holds:
 //!
 //! - `with_end`: `WithEnd`, a stream whose end can be counted.
-//! - `in_flight_merge`: `MergeBounded` and `MergeUnbounded` of such streams, one type, over the kit's own set; `merge`
-//!   and `merge_unbounded` make it of an iterator.
-//! - `waiting_merge`: `WaitingMerge`, which holds a merge while a task waits for its next item, and gives it back.
+//! - `in_flight_merge`: `MergeBounded` and `MergeUnbounded` of such streams, one type, over the set of `futures`;
+//!   `merge` and `merge_unbounded` make it from an iterator.
+//! - `waiting_merge`: `WaitingMerge`, which holds a merge while a task waits for its next item, and then returns the
+//!   merge.
 #![tactic(auto)]
 
 pub mod in_flight_merge;

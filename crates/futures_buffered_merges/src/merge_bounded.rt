@@ -1,8 +1,8 @@
-//! As many streams as it has slots, polled as one.
+//! As many streams as the merge has slots, polled as one.
 //!
-//! Each stream stands in a slot, and a poll asks the source which slots to poll, as a set of futures does. A stream
-//! that gives an item stays, and its slot is marked, so that a later poll polls it again behind the others that were
-//! marked before. A stream that ends leaves its slot to the next push.
+//! Each stream is in a slot, and a poll dequeues the ready slots from the source, as a set of futures does. A stream
+//! that returns an item stays, and its slot is marked. So a later poll polls it again after the streams whose slots
+//! were marked before. A stream that ends leaves its slot to the next push.
 ghost use Rattle.std.specs.Prelude.{◌≡◌, ◌<◌, ◌≤◌, ◌↔◌, IsTrue};
 ghost use Rattle.futures_buffered_core.specs.Drawn.{IsFiniteSource, items_of};
 ghost use Rattle.futures_buffered_core.specs.ReadyShared.{IsNewShared, MarksShared};
@@ -26,13 +26,13 @@ use futures_buffered_unordered::fused::FusedStream;
 use futures_buffered_unordered::futures_unordered_bounded::{FuturesUnorderedBounded, POLL_LIMIT};
 use std::alloc::Global;
 
-/// Streams in slots, over a source that names the slots to poll.
+/// Streams in slots, over a source that returns the slots to poll.
 ///
-/// A contract sees what each slot holds and which slots are free, the content of the source, and the limit of names of
-/// one count. Once the merge is made its calls do not allocate, and wait for no other thread.
+/// A contract sees the content of each slot, the free slots, the content of the source, and the limit of ready slots
+/// for one round. Once the merge is made, its calls do not allocate, and wait for no other thread.
 pub type MergeBounded<St, S = SharedReady> = MergeOf<FuturesUnorderedBounded<St, S>>;
 
-/// The same merge, by its short name.
+/// The short name of `MergeBounded`.
 pub type Merge<St, S = SharedReady> = MergeBounded<St, S>;
 
 impl<St: Drop, S: ReadySource> StreamSet for FuturesUnorderedBounded<St, S> {
@@ -48,10 +48,11 @@ impl<St: Drop, S: ReadySource> StreamSet for FuturesUnorderedBounded<St, S> {
 }
 
 impl<St: Drop, S: NewSource> MergeBounded<St, S> {
-    /// A merge without a free slot, which holds item k in slot k, each marked, in this order. It has as many slots as
-    /// there are items, and a source made for it.
+    /// Makes a merge without a free slot. It holds item k in slot k, each slot marked, in this order. It has as many
+    /// slots as there are items, and a source made for that number.
     ///
-    /// Takes time and memory in proportion to that number. Where it is refused, the streams that came are dropped.
+    /// If the call fails, drops the streams that the iterator returned. Takes time and allocates in proportion to the
+    /// number of items.
     pub fn over<I: IntoIterator<Item = St>>(
         env: &S::Env,
         alloc: Global,
@@ -64,7 +65,7 @@ impl<St: Drop, S: NewSource> MergeBounded<St, S> {
         Self::over_limit(env, alloc, iter, POLL_LIMIT)
     }
 
-    /// As `over`, where one count takes at most `limit` names.
+    /// Makes a merge as `over` does. One round dequeues at most `limit` ready slots.
     pub fn over_limit<I: IntoIterator<Item = St>>(
         env: &S::Env,
         alloc: Global,
@@ -82,31 +83,31 @@ impl<St: Drop, S: NewSource> MergeBounded<St, S> {
 }
 
 impl<St: Drop, S: ReadySource> MergeBounded<St, S> {
-    /// The number of slots, which never changes.
+    /// Returns the number of slots, which never changes.
     pub fn capacity(&self) -> usize
         ensures { result ≡ slot_count self.now.slots }
     {
         self.set.capacity()
     }
 
-    /// Whether no slot is free.
+    /// Returns whether no slot is free.
     pub fn is_full(&self) -> bool
         ensures { IsTrue result ↔ (slot_count self.now.slots ≤ held_count self.now.slots) }
     {
         self.set.is_full()
     }
 
-    /// Puts the stream into the first free slot and marks that slot, so that a later poll polls it. A full merge hands
-    /// the stream back.
+    /// Puts the stream into the first free slot and marks that slot, so that a later poll polls it. Returns the stream
+    /// if the merge is full.
     ///
-    /// Polls nothing, and wakes nobody: who pushes sees to it that the merge is polled afterwards.
+    /// Does not poll, and does not wake the task: the caller sees to it that the merge is polled afterwards.
     pub fn try_push(&mut self, stream: St) -> Result<(), St>
         ensures { PushesIfRoom S.marks self.old stream result self.new }
     {
         self.set.try_push(stream)
     }
 
-    /// As `try_push`, for a merge of which `is_full` is false.
+    /// Pushes as `try_push` does, into a merge that is not full.
     pub fn push(&mut self, stream: St)
         requires { held_count self.old.slots < slot_count self.old.slots }
         ensures { PushesOne S.marks self.old stream self.new }
@@ -114,8 +115,8 @@ impl<St: Drop, S: ReadySource> MergeBounded<St, S> {
         self.set.push(stream);
     }
 
-    /// Pushes each item, in order, as `try_push` does. The first for which there is no free slot comes back; those
-    /// before it stay, and the iterator is asked for no further one.
+    /// Pushes each item, in order, as `try_push` does. Returns the first item for which there is no free slot. The
+    /// items before it stay, and the iterator is not called again.
     pub fn extend<I: IntoIterator<Item = St>>(&mut self, iter: I) -> Result<(), St>
         requires { IsFiniteSource (items_of I.IntoIterator I.IntoIter.Iterator iter) }
         ensures extends { Extends (items_of I.IntoIterator I.IntoIter.Iterator iter) (Pushes S.marks)
@@ -127,8 +128,8 @@ impl<St: Drop, S: ReadySource> MergeBounded<St, S> {
 
     /// Drops each stream that is held. Each slot is free then, and slot 0 is the first to be used again.
     ///
-    /// A slot that was marked stays marked. Takes no memory, and time in proportion to the capacity, besides the drops.
-    /// Wakes nobody itself; what is dropped may.
+    /// A slot that was marked stays marked. Does not allocate. Takes time in proportion to the capacity, apart from the
+    /// drops. The call itself does not wake the task; a stream that is dropped may.
     pub fn clear(&mut self)
         ensures { self.new ≡ emptied self.old }
     {
@@ -137,8 +138,8 @@ impl<St: Drop, S: ReadySource> MergeBounded<St, S> {
 }
 
 impl<St: Drop> MergeBounded<St, SharedReady> {
-    /// A merge without a free slot, which holds item k in slot k, each marked, in this order, and whose streams are
-    /// woken from any thread. It is `over` with a shared source, and refuses as `over` does.
+    /// Makes a merge without a free slot, whose streams are woken from any thread. It holds item k in slot k, each slot
+    /// marked, in this order. The call is `over` with a shared source, and fails as `over` does.
     pub fn from_iter<I: IntoIterator<Item = St>>(alloc: Global, iter: I) -> Result<Self, NewFault>
         requires { IsFiniteSource (items_of I.IntoIterator I.IntoIter.Iterator iter) }
         ensures { MakesFull (items_of I.IntoIterator I.IntoIter.Iterator iter) slots_in
@@ -147,7 +148,7 @@ impl<St: Drop> MergeBounded<St, SharedReady> {
         Self::with_limit(alloc, iter, POLL_LIMIT)
     }
 
-    /// As `from_iter`, where one count takes at most `limit` names.
+    /// Makes a merge as `from_iter` does. One round dequeues at most `limit` ready slots.
     pub fn with_limit<I: IntoIterator<Item = St>>(
         alloc: Global,
         iter: I,
@@ -171,14 +172,12 @@ impl<St: SlotStream<S::Waker>, S: ReadySource> Stream for MergeBounded<St, S> {
 
     ghost yields = { λ merge. ComesFromStreams St.polled merge.slots };
 
-    /// One poll: names are taken, in counts that each begin with a registration of the task, and the streams named are
-    /// polled.
+    /// Dequeues ready slots, in rounds that each begin with a registration of the task, and polls their streams.
     ///
-    /// A stream that gives an item stays, and its slot is marked. A stream that ends is dropped, and where another is
-    /// still held a new count begins. `Ready(None)` where no stream is held, at first or any more. `Pending` where no
-    /// further name came, the source paused, or a count reached the limit; at a pause and at the limit the task is
-    /// woken at once. Does not allocate, and takes time in proportion to the names taken,
-    /// besides the polls.
+    /// A stream that returns an item stays, and its slot is marked. A stream that ends is dropped; if another is still
+    /// held, a new round begins. Returns `Ready(None)` if no stream is held, at first or any more. Returns `Pending` if
+    /// no ready slot is left, if the source pauses, or if a round reaches the limit. Does not allocate. Takes time in
+    /// proportion to the ready slots dequeued, apart from the polls. A pause and the limit wake the task at once.
     fn poll_next(&mut self, cx: &mut Context<'_>) -> Poll<Option<St::Item>>
         requires { AllHeld St.can_poll self.old.slots }
         ensures { PollsMergeBounded St.SlotStream S.ReadySource
@@ -188,7 +187,7 @@ impl<St: SlotStream<S::Waker>, S: ReadySource> Stream for MergeBounded<St, S> {
     }
 }
 
-/// Whether no stream is held.
+/// The merge is terminated while no stream is held.
 impl<St: SlotStream<S::Waker>, S: ReadySource> FusedStream for MergeBounded<St, S> {
     ghost use Rattle.std.specs.Prelude.{◌≡◌};
     ghost use Rattle.futures_buffered_core.specs.SlotMap.{held_count};
@@ -200,19 +199,20 @@ impl<St: SlotStream<S::Waker>, S: ReadySource> FusedStream for MergeBounded<St, 
     }
 }
 
-/// After any polls of one merge the items that were given are those of the streams that it held at first: the items of
-/// each in its order, none lost and none twice. A stream that is still held is as its polls left it, and one that is
-/// not gave all of its items and then its end.
+/// After any polls of one merge, the items that were returned are those of the streams that it held at first. The items
+/// of each stream are in its order, none lost and none twice. A stream that is still held is as its polls left it. A
+/// stream that is no longer held has returned all of its items and then `None`.
 ///
-/// A law of the relation in the contract of a poll. Its body is empty.
+/// This is a law of the relation in the contract of a poll. Its body is empty.
 pub fn polls_keep_order<St: SlotStream<S::Waker>, S: ReadySource>()
     ensures { KeepsOrder St.polled S.steps S.marks }
 {}
 
-/// The same, with pushes between the polls: the items beside a slot are those of the streams that it held one after
-/// another, of each in its order, and each of these but the last gave its end before the next came.
+/// Says the same of polls with pushes between them. The items of a slot are those of the streams that it held one after
+/// another, of each stream in its order. Each of these streams, except the last, has returned `None` before the next
+/// was pushed.
 ///
-/// A law of the relations in the contracts of a push and of a poll. Its body is empty.
+/// This is a law of the relations in the contracts of a push and of a poll. Its body is empty.
 pub fn polls_and_pushes_keep_order<St: SlotStream<S::Waker>, S: ReadySource>()
     ensures { KeepsOrderWithPushes St.polled S.steps S.marks }
 {}

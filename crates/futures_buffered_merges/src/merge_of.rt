@@ -9,22 +9,22 @@ use std::marker::Model;
 pub trait StreamSet: Drop {
     ghost use Rattle.std.specs.Prelude.{ℕ};
 
-    // How many streams it holds.
+    // How many streams the set holds.
     ghost count: { Self → ℕ };
 
-    /// How many streams it holds.
+    /// Returns how many streams the set holds.
     fn streams_held(&self) -> usize
         ensures { result ≡ count self.now };
 
-    /// What a merge that holds its streams so is called where it is printed: the name that a caller writes.
+    /// Returns the name under which a merge over this set is printed: the name that a caller writes.
     fn merge_name() -> &'static str;
 }
 
-/// Streams that are polled as one, held in a set `G`: as many as that has slots (`MergeBounded`), or any number
+/// Streams that are polled as one, held in a set `G`: as many as the set has slots (`MergeBounded`), or any number
 /// (`MergeUnbounded`).
 ///
-/// A contract sees what it sees of the set. A push, but for one that makes a group, and calls that ask how much is held
-/// take the same time at any capacity.
+/// A contract sees what it sees of the set. A push that makes no group, and a call that returns how many streams are
+/// held, take the same time at any capacity.
 #[derive(Drop)]
 pub struct MergeOf<G: Drop> {
     pub(crate) set: G,
@@ -39,14 +39,14 @@ impl<G: Drop> Model for MergeOf<G> {
 }
 
 impl<G: StreamSet> MergeOf<G> {
-    /// The number of streams held.
+    /// Returns the number of streams held.
     pub fn len(&self) -> usize
         ensures { result ≡ G.count self.now }
     {
         self.set.streams_held()
     }
 
-    /// Whether no stream is held.
+    /// Returns whether no stream is held.
     pub fn is_empty(&self) -> bool
         ensures { IsTrue result ↔ (G.count self.now ≡ 0) }
     {
@@ -54,7 +54,7 @@ impl<G: StreamSet> MergeOf<G> {
     }
 }
 
-/// Nothing is known of how many items are left.
+/// The hint says nothing of how many items are left.
 impl<G: Drop> SizeHint for MergeOf<G> {
     fn size_hint(&self) -> (usize, Option<usize>) {
         (0, None)

@@ -1,8 +1,8 @@
-//! Streams in groups of slots, polled as one: a merge that grows.
+//! Streams in groups of slots, polled as one: a growing merge.
 //!
-//! Each group is a set of as many streams as it has slots, and is asked as a bounded merge is polled. A group that
-//! holds a stream registers the task as it is asked, until one is pending: its registration does for the groups after
-//! it.
+//! Each group is a set of as many streams as it has slots, and is polled as a bounded merge is. A group that holds a
+//! stream registers the task when it is polled, until one group is pending. The registration of that group serves the
+//! groups after it.
 ghost use Rattle.std.specs.Prelude.{◌≡◌, ◌↔◌, ◌≤◌, Err, IsTrue, IsErr, IfErr};
 ghost use Rattle.futures_buffered_core.specs.Drawn.{IsFiniteSource, items_of};
 ghost use Rattle.futures_buffered_core.specs.ReadyShared.{IsNewShared, MarksShared};
@@ -34,10 +34,10 @@ use std::alloc::Global;
 
 /// Streams in groups of slots.
 ///
-/// A contract sees the groups, each with what its slots hold, the content of its source and its limit; the place where
-/// the next poll begins; and the limit of names of one count. Only a push that makes a group and a constructor
-/// that pushes allocate. No call waits for another thread, and those that ask how much is held or fits take the same
-/// time at any number of groups.
+/// A contract sees the groups, each with what its slots hold, the content of its source and its limit. It also sees the
+/// place at which the next poll begins, and the limit of ready slots for one round. Only a push that makes a group and
+/// a constructor that pushes allocate. No call waits for another thread. A call that returns how much is held or fits
+/// takes the same time at any number of groups.
 pub type MergeUnbounded<St, S = SharedReady> = MergeOf<FuturesUnordered<St, S>>;
 
 impl<St: Drop, S: NewSource> StreamSet for FuturesUnordered<St, S> {
@@ -52,7 +52,7 @@ impl<St: Drop, S: NewSource> StreamSet for FuturesUnordered<St, S> {
     }
 }
 
-// Asks a group as a bounded merge is polled.
+// Polls a group as a bounded merge is polled.
 #[derive(Drop)]
 struct AsMerge;
 
@@ -83,7 +83,7 @@ impl<St: SlotStream<S::Waker>, S: NewSource> AskGroup<St, S> for AsMerge {
 }
 
 impl<St: Drop, S: NewSource> MergeUnbounded<St, S> {
-    // A merge without a group. Takes no memory.
+    // Makes a merge without a group. Does not allocate.
     fn without_groups(env: S::Env, alloc: Global, limit: usize) -> Self
         requires { 1 ≤ limit }
         ensures { result ≡ no_groups limit }
@@ -93,10 +93,11 @@ impl<St: Drop, S: NewSource> MergeUnbounded<St, S> {
         }
     }
 
-    /// A merge of these streams, pushed in order, over sources that are made by `env`, which it keeps.
+    /// Makes a merge of these streams, pushed in order. `env`, which the merge keeps, makes its sources.
     ///
-    /// Takes time and memory in proportion to their number. Where it is refused, the streams that came are dropped:
-    /// `TooLarge` where a group would be too large or more than `MAX_HELD` came.
+    /// Returns `TooLarge` if a group would be too large or if there are more than `MAX_HELD` streams. If the call
+    /// fails, drops the streams that the iterator returned. Takes time and allocates in proportion to the number of
+    /// streams.
     pub fn over<I: IntoIterator<Item = St>>(
         env: S::Env,
         alloc: Global,
@@ -109,7 +110,8 @@ impl<St: Drop, S: NewSource> MergeUnbounded<St, S> {
         Self::over_limit(env, alloc, iter, POLL_LIMIT)
     }
 
-    /// As `over`, where one count takes at most `limit` names of a group, also of those that are made later.
+    /// Makes a merge as `over` does. One round dequeues at most `limit` ready slots of a group, also of a group that is
+    /// made later.
     pub fn over_limit<I: IntoIterator<Item = St>>(
         env: S::Env,
         alloc: Global,
@@ -130,25 +132,23 @@ impl<St: Drop, S: NewSource> MergeUnbounded<St, S> {
         Ok(merge)
     }
 
-    /// How many streams it has room for: of several groups, what they hold and the free places of the last one; of one,
-    /// its slots; without groups, 0.
+    /// Returns how many streams the merge has room for. With several groups, that is what they hold and the free slots
+    /// of the last one; with one group, its slots; without groups, 0.
     pub fn capacity(&self) -> usize
         ensures { result ≡ capacity_of self.now.groups.listed }
     {
         self.set.capacity()
     }
 
-    /// Puts the stream into the last group. Where that is full, or there is none, a group is made behind it: of twice
+    /// Puts the stream into the last group. If that group is full, or there is none, makes a group after it: of twice
     /// as many slots, or of `FIRST_GROUP`.
     ///
-    /// The stream comes back, and nothing has changed, where `MAX_HELD` streams are held, where the new group would
-    /// have more than `MAX_CAPACITY` slots, and where a request for memory was refused. Takes the same time at any
-    /// capacity where the last group has a free place, and then no memory; else time and memory in proportion to the
-    /// new group.
+    /// Returns the stream, and changes nothing, if `MAX_HELD` streams are held, if a new group would exceed
+    /// `MAX_CAPACITY` slots, or if an allocation fails. If the last group has a free slot, does not allocate, and takes
+    /// the same time at any capacity. Otherwise takes time and allocates in proportion to the new group.
     ///
-    /// Polls nothing, and a caller counts on no wake: who pushes sees to it that the merge is polled afterwards. Only a
-    /// push that makes a group may wake a task that waits, where a wake stands at the place of the task's waker at that
-    /// moment.
+    /// Does not poll, and a caller can rely on no wake: the caller sees to it that the merge is polled afterwards. Only
+    /// a push that makes a group may wake a waiting task, if a wake is then at the place of the task's waker.
     pub fn push(&mut self, stream: St) -> Result<(), St>
         ensures push { PushesOrStays S.marks S.made self.old stream result self.new }
         ensures back { IfErr result (λ back. back ≡ stream) }
@@ -157,8 +157,8 @@ impl<St: Drop, S: NewSource> MergeUnbounded<St, S> {
         self.set.push(stream)
     }
 
-    /// As `push`, for a caller that has no use for a stream that is refused: it is dropped, nothing else has changed,
-    /// and the error says why. So `?` takes it.
+    /// Pushes as `push` does, for a caller that has no use for a refused stream. If the push is refused, drops the
+    /// stream, does not change the merge, and returns the reason as an error for `?`.
     pub fn add(&mut self, stream: St) -> Result<(), NewFault>
         ensures push { PushesOrStays S.marks S.made self.old stream result self.new }
         ensures large { (result ≡ Err NewFault.TooLarge) ↔ IsAtBound self.old.groups.listed }
@@ -166,8 +166,8 @@ impl<St: Drop, S: NewSource> MergeUnbounded<St, S> {
         self.set.add(stream)
     }
 
-    /// Pushes each item, in order, as `push` does. The first that is refused comes back; those before it stay, and the
-    /// iterator is asked for no further one.
+    /// Pushes each item, in order, as `push` does. Returns the first item that is refused. The items before it stay,
+    /// and the iterator is not called again.
     pub fn extend<I: IntoIterator<Item = St>>(&mut self, iter: I) -> Result<(), St>
         requires { IsFiniteSource (items_of I.IntoIterator I.IntoIter.Iterator iter) }
         ensures { Extends (items_of I.IntoIterator I.IntoIter.Iterator iter)
@@ -177,7 +177,8 @@ impl<St: Drop, S: NewSource> MergeUnbounded<St, S> {
         self.set.extend(iter)
     }
 
-    /// Whether nothing more goes in: a push is refused then, and else only where a request for memory is.
+    /// Returns whether the merge accepts no further stream. A push is refused then, and otherwise only if an allocation
+    /// fails.
     pub fn is_at_bound(&self) -> bool
         ensures { IsTrue result ↔ IsAtBound self.now.groups.listed }
     {
@@ -186,7 +187,7 @@ impl<St: Drop, S: NewSource> MergeUnbounded<St, S> {
 
     /// Drops each stream that is held, with the groups. The limit stays, and later sources are made as before.
     ///
-    /// Takes time in proportion to the slots of all groups, and no memory. Wakes a task that waits, as that of
+    /// Does not allocate. Takes time in proportion to the slots of all groups. Wakes a waiting task, as the `clear` of
     /// `FuturesUnordered` does.
     pub fn clear(&mut self)
         ensures { self.new ≡ no_groups self.old.limit }
@@ -204,14 +205,15 @@ impl<St: SlotStream<S::Waker>, S: NewSource> Stream for MergeUnbounded<St, S> {
 
     ghost yields = { λ merge. ItemsComeFromGroups St.polled merge.groups.listed };
 
-    /// One poll: each group that stands as the poll begins is asked once, in turn, until one gives an item.
+    /// Polls each group at most once, in turn, until one returns an item.
     ///
-    /// A stream that gives an item stays, and its slot is marked. A stream that ends is dropped. A group that is asked
-    /// and holds nothing any more is dropped, unless it is the last. `Ready(None)` where no stream is held any more,
-    /// and else `Pending`; where a group paused or came to its limit, the task is woken at once, also beside an item. A
-    /// group that is asked registers the task, at each of its counts, until one is pending. Does not allocate.
-    /// Takes time in proportion to the number of groups, to the names taken and to the
-    /// slots of groups that are dropped, besides the polls.
+    /// A stream that returns an item stays, and its slot is marked. A stream that ends is dropped. A group that is
+    /// polled and holds nothing any more is dropped, unless it is the last. Without an item, returns `Ready(None)` if
+    /// no stream is held any more, and `Pending` otherwise. Does not allocate. Takes time in proportion to the groups,
+    /// the ready slots dequeued and the slots of dropped groups, apart from the polls.
+    ///
+    /// A group that is polled registers the task, in each of its rounds, until one group is pending. If a group pauses
+    /// or reaches its limit, the poll wakes the task at once, also with an item.
     fn poll_next(&mut self, cx: &mut Context<'_>) -> Poll<Option<St::Item>>
         requires { EachHeld St.can_poll self.old.groups.listed }
         ensures { PollsMergeUnbounded St.SlotStream S.ReadySource
@@ -221,7 +223,7 @@ impl<St: SlotStream<S::Waker>, S: NewSource> Stream for MergeUnbounded<St, S> {
     }
 }
 
-/// Whether no stream is held.
+/// The merge is terminated while no stream is held.
 impl<St: SlotStream<S::Waker>, S: NewSource> FusedStream for MergeUnbounded<St, S> {
     ghost use Rattle.std.specs.Prelude.{◌≡◌};
 
@@ -232,33 +234,33 @@ impl<St: SlotStream<S::Waker>, S: NewSource> FusedStream for MergeUnbounded<St, 
     }
 }
 
-/// After any polls of one merge the items that were given are those of the streams that it held at first: the items of
-/// each in its order, none lost and none twice. A group that has left holds no stream, and a stream that is still held
-/// is as its polls left it.
+/// After any polls of one merge, the items that were returned are those of the streams that it held at first. The items
+/// of each stream are in its order, none lost and none twice. A group that was dropped holds no stream, and a stream
+/// that is still held is as its polls left it.
 ///
-/// A law of the relation in the contract of a poll. Its body is empty.
+/// This is a law of the relation in the contract of a poll. Its body is empty.
 pub fn polls_keep_order<St: SlotStream<S::Waker>, S: NewSource>()
     ensures { KeepsOrderInGroups St.polled S.steps S.marks }
 {}
 
-/// The same, with pushes between the polls: the items are those of the streams that were held at first or pushed, none
-/// lost and none twice. The items of a slot are those of the streams that it held one after another, of each in its
-/// order, and each of these but the last gave its end before the next came.
+/// Says the same of polls with pushes between them: the items are those of the streams that were held at first or
+/// pushed, none lost and none twice. The items of a slot are those of the streams that it held one after another, of
+/// each stream in its order. Each of these streams, except the last, has returned `None` before the next was pushed.
 ///
-/// A law of the relations in the contracts of a push and of a poll. Its body is empty.
+/// This is a law of the relations in the contracts of a push and of a poll. Its body is empty.
 pub fn polls_and_pushes_keep_order<St: SlotStream<S::Waker>, S: NewSource>()
     ensures { KeepsOrderInGroupsWithPushes St.polled S.steps S.marks S.made }
 {}
 
 impl<St: Drop> MergeUnbounded<St, SharedReady> {
-    /// A merge without a group, whose streams are woken from any thread. Takes no memory.
+    /// Makes a merge without a group, whose streams are woken from any thread. Does not allocate.
     pub fn new(alloc: Global) -> Self
         ensures { result ≡ no_groups POLL_LIMIT }
     {
         Self::with_limit(alloc, POLL_LIMIT)
     }
 
-    /// As `new`, where one count takes at most `limit` names of a group.
+    /// Makes a merge as `new` does. One round dequeues at most `limit` ready slots of a group.
     pub fn with_limit(alloc: Global, limit: usize) -> Self
         requires { 1 ≤ limit }
         ensures { result ≡ no_groups limit }
@@ -266,8 +268,8 @@ impl<St: Drop> MergeUnbounded<St, SharedReady> {
         Self::without_groups((), alloc, limit)
     }
 
-    /// A merge of these streams, pushed in order, whatever the iterator says of their number. It is `over` with shared
-    /// sources, and refuses as `over` does.
+    /// Makes a merge of these streams, pushed in order, whatever the iterator says of their number. The call is `over`
+    /// with shared sources, and fails as `over` does.
     pub fn from_iter<I: IntoIterator<Item = St>>(alloc: Global, iter: I) -> Result<Self, NewFault>
         requires { IsFiniteSource (items_of I.IntoIterator I.IntoIter.Iterator iter) }
         ensures { MakesPushed (items_of I.IntoIterator I.IntoIter.Iterator iter)

@@ -10,7 +10,8 @@ use futures::task::{Context, Poll};
 use futures_buffered_core::ready_source::ReadySource;
 use futures_buffered_unordered::futures_unordered_bounded::FuturesUnorderedBounded;
 
-// The takings of one count of names, after a registration where the task is not registered yet.
+// Polls the streams of ready slots, in one round, until one returns an item or ends. Registers the task first if it is
+// not registered yet.
 fn ask_streams<St: SlotStream<S::Waker>, S: ReadySource>(
     set: &mut FuturesUnorderedBounded<St, S>,
     cx: &mut Context<'_>,
@@ -27,7 +28,8 @@ fn ask_streams<St: SlotStream<S::Waker>, S: ReadySource>(
     }
 }
 
-// One count of names: an item, whose stream stays and is marked; the end of a stream, which is dropped; or Pending.
+// Polls one round. Returns an item, whose stream stays and whose slot is marked; or `None` for the end of a stream,
+// which is dropped; or `Pending`.
 fn poll_count<St: SlotStream<S::Waker>, S: ReadySource>(
     set: &mut FuturesUnorderedBounded<St, S>,
     cx: &mut Context<'_>,
@@ -51,9 +53,9 @@ fn poll_count<St: SlotStream<S::Waker>, S: ReadySource>(
     }
 }
 
-// One poll. Each count begins with a registration of the task, or none does, where the task is registered with a group
-// beside this one: a further registration would hold the place of its waker, and a wake of a slot of that group would
-// find it taken.
+// Polls the merge once. Each round registers the task first, unless the task is registered for another group of the
+// merge. A further registration would hold the place of its waker, and a wake of a slot of that group would find the
+// place taken.
 pub(crate) fn poll_streams<St: SlotStream<S::Waker>, S: ReadySource>(
     set: &mut FuturesUnorderedBounded<St, S>,
     cx: &mut Context<'_>,

@@ -7,26 +7,26 @@ use futures_buffered_unordered::poll_one::PollOne;
 
 /// A stream that is polled with the waker `W` of its slot, in place of a task's context.
 ///
-/// A merge polls it when its slot is named, so a pending stream arranges for that waker to be woken, or is polled no
-/// more. The source lends that waker for this poll alone, as to a `SlotFuture`. An impl says by `can_poll` which values
-/// may be polled, by default all, and by `polled` what a poll with the waker of a slot may answer and leave, by default
-/// anything. After an item, and after a pending answer, it may be polled again. One that keeps its waker, or wakes it,
-/// asks for a `W: SlotWaker`.
+/// A merge polls the stream when its slot is dequeued. So a pending stream arranges for that waker to be woken, or is
+/// never polled again. The merge passes that waker by reference, for this poll alone, as a set does for a `SlotFuture`.
+/// An impl says by `can_poll` which values may be polled, by default all. It says by `polled` what a poll with the
+/// waker of a slot may return and leave, by default anything. After an item, and after `Pending`, the stream may be
+/// polled again. A stream that keeps its waker, or wakes it, requires `W: SlotWaker`.
 pub trait SlotStream<W: SlotHandle>: Drop {
     ghost use Rattle.std.specs.Prelude.{⊤, Option, OnSome};
     ghost use Rattle.futures.specs.Poll.{IfReady, OnPending};
     ghost use Rattle.futures.specs.declared.task.Poll.{Poll};
 
-    /// What it gives, one after another.
+    /// The items that it returns, one after another.
     type Item;
 
     // The values that may be polled.
     ghost can_poll: { Self → Type 0 } = { λ _. ⊤ };
 
-    // One poll with the waker of a slot, that finds a value, gives an answer and leaves a value.
+    // One poll with the waker of a slot: the slot, the value before, what the poll returns, and the value after.
     ghost polled: { ℕ → Self → Poll (Option Self.Item) → Self → Type 0 } = { λ _ _ _ _. ⊤ };
 
-    /// One poll. `Pending` where no item is there yet, and `Ready(None)` where none will come.
+    /// Polls the stream once. Returns `Pending` if no item is there yet, and `Ready(None)` if none will come.
     fn poll_next(&mut self, waker: &W) -> Poll<Option<Self::Item>>
         requires { can_poll self.old }
         ensures polled { (slot : ℕ) →
@@ -35,7 +35,7 @@ pub trait SlotStream<W: SlotHandle>: Drop {
         ensures again { OnPending result (can_poll self.new) };
 }
 
-/// The rule for `SlotStream`s: one poll of the stream itself, after which a stream that gave an item goes on.
+/// The rule for `SlotStream`s: polls the stream itself once. A stream that returns an item continues.
 #[derive(Clone, Copy)]
 pub struct PollStream;
 

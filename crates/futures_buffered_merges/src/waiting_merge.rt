@@ -1,4 +1,4 @@
-//! A merge of the kit's streams while a task waits for its next item.
+//! A merge of streams of `futures` while a task waits for its next item.
 ghost use Rattle.std.specs.Prelude.{◌≡◌, Some, IfOk, IsSomeAnd};
 ghost use Rattle.futures_buffered_merges.specs.InFlightMerge.{CameOfMerge, CanPollStreams, MergedWaitsAt};
 
@@ -11,8 +11,8 @@ use std::io;
 use std::random::RandomSource;
 use std::sync::Wait;
 
-/// Waits for the next item of a merge, or its end, and gives the merge back with it, so that all that is known of the
-/// merge is known still.
+/// A future that waits for the next item of a merge, or its end, and returns the merge with it. So all that is known of
+/// the merge is still known.
 #[derive(Drop)]
 pub struct WaitingMerge<St> {
     merge: Option<MergeBounded<St>>,
@@ -21,7 +21,7 @@ pub struct WaitingMerge<St> {
 impl<St: Stream<Item: Drop>> Future for WaitingMerge<St> {
     type Output = (Option<St::Item>, MergeBounded<St>);
 
-    // A merge that was given back is not there to be polled.
+    // A merge that was returned is not there to be polled.
     ghost can_poll = { λ waiting. IsSomeAnd waiting.merge (CanPollStreams St.Stream) };
 
     ghost needs = { λ waiting place. IsSomeAnd waiting.merge (λ merge. MergedWaitsAt merge place) };
@@ -42,16 +42,15 @@ impl<St: Stream<Item: Drop>> Future for WaitingMerge<St> {
 }
 
 impl<St: Stream<Item: Drop>> MergeBounded<St> {
-    /// The merge, as a future that is ready with its next item, or with `None` where nothing is held any more, and with
-    /// the merge.
+    /// Makes a future that is ready with the next item and the merge. The item is `None` if no stream is held any more.
     pub fn into_next(self) -> WaitingMerge<St>
         ensures { result.merge ≡ Some self }
     {
         WaitingMerge { merge: Some(self) }
     }
 
-    /// Blocks the thread until the next item comes, or the end, and gives the merge back. The merge is dropped where
-    /// the thread cannot wait.
+    /// Blocks the thread until the merge returns its next item or `None`, and returns that with the merge. If the
+    /// thread cannot wait, drops the merge.
     pub fn wait<R>(self, rt: &R) -> io::Result<(Option<St::Item>, MergeBounded<St>)>
     where
         R: Wait + RandomSource + AllocGlobal,

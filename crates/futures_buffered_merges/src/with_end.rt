@@ -2,10 +2,10 @@
 use futures::Stream;
 use futures::task::{Context, Poll};
 
-/// A stream of the kit that gives its end as an item of its own, `None`, before it ends.
+/// A stream of `futures` that returns its end as an item of its own, `None`, before it ends.
 #[derive(Drop)]
 pub struct WithEnd<St> {
-    // None once the end was given.
+    // None once the end was returned.
     pub stream: Option<St>,
 }
 

@@ -1,7 +1,6 @@
-//! Sets of futures that are polled by name: a poll asks a source which slots were woken, and polls what these hold.
+//! Sets of futures. A poll dequeues the ready slots from a source, and polls only the futures in these slots.
 //!
-//! Everything here is found under its own module, and the types and the functions that make joins by their names alone
-//! as well.
+//! Each item is under its own module. The types, and the functions that make joins, are also at the top of the crate.
 //!
 //! In the order in which to read them:
 //!
@@ -16,7 +15,7 @@
 //!   order of a list.
 //! - `futures_ordered`: `FuturesOrdered`, the same for any number of futures.
 //! - `join`: `join_all` and `JoinAll`, all of some futures, whose outputs come together.
-//! - `try_join`: `try_join_all` and `TryJoinAll`, the same where futures may fail.
+//! - `try_join`: `try_join_all` and `TryJoinAll`, the same for futures that may fail.
 //! - `slot_stream`: `SlotStream`, what a merge holds: a stream that is polled with the waker of its slot.
 //! - `merge_bounded`: `MergeBounded`, also by the name `Merge`: as many streams as it has slots, polled as one.
 //! - `merge_unbounded`: `MergeUnbounded`, any number of streams, in groups of slots.

@@ -1,4 +1,4 @@
-//! Adaptors of a stream of the kit's futures, as methods of the stream.
+//! Adaptors of a stream of futures of `futures`, as methods of the stream.
 //!
 //! Each holds the futures in a `FuturesUnorderedBounded` or a `FuturesOrderedBounded`. A future may contain closures.
 ghost use Rattle.std.specs.Prelude.{◌<◌, IfOk};
@@ -21,12 +21,12 @@ use std::alloc::Global;
 
 /// Adaptors that keep some futures of a stream in progress.
 pub trait BufferedStreamExt: Stream + Sized {
-    /// The outputs of this stream's futures in the order of the stream, with at most `n` held at a time: in progress,
-    /// or done and waiting for their turn. Nothing is polled.
+    /// Returns a stream of the outputs of this stream's futures, in the order of this stream. It holds at most `n`
+    /// futures at a time: in progress, or done with an output that waits for its turn. The call polls nothing.
     ///
-    /// Takes time and memory in proportion to `n`. The stream is dropped where it is refused. A poll takes the memory
-    /// that the kit's set takes for each future, and does without where that is refused: the future waits, and the task
-    /// is woken.
+    /// If the call fails, drops this stream. Takes time and allocates in proportion to `n`. A poll allocates in the set
+    /// of `futures` for each future. If that allocation fails, the future waits, and the poll wakes the task to try
+    /// again.
     final fn buffered_ordered(
         self,
         alloc: Global,
@@ -42,9 +42,10 @@ pub trait BufferedStreamExt: Stream + Sized {
         Ok(Buffer::with_queue(self, queue))
     }
 
-    /// The outputs of this stream's futures as they finish, with at most `n` in progress at a time. Nothing is polled.
+    /// Returns a stream of the outputs of this stream's futures, as they finish, with at most `n` in progress at a
+    /// time. The call polls nothing.
     ///
-    /// Takes time and memory as `buffered_ordered` does, and refuses as that does.
+    /// Fails as `buffered_ordered` does, and takes time and allocates as that does.
     #[tactic(auto, using(crate::proofs::InFlightLemmas::new_can_poll))]
     final fn buffered_unordered(
         self,
@@ -61,13 +62,13 @@ pub trait BufferedStreamExt: Stream + Sized {
         Ok(Buffer::with_queue(self, queue))
     }
 
-    /// Calls `f` with each item of this stream, once and in order, and runs the futures that it makes, at most `limit`
-    /// at a time. Nothing is polled.
+    /// Returns a future that calls `f` with each item of this stream, once and in order. It runs the futures that `f`
+    /// makes, at most `limit` at a time. The call polls nothing.
     ///
-    /// `futures::StreamExt` has a method of this name too. Where both traits are in scope it is called by its path:
-    /// `BufferedStreamExt::for_each_concurrent(stream, alloc, limit, f)`.
+    /// `futures::StreamExt` has a method of this name too. If both traits are in scope, a caller calls this one by its
+    /// path: `BufferedStreamExt::for_each_concurrent(stream, alloc, limit, f)`.
     ///
-    /// Takes time and memory as `buffered_ordered` does. Stream and closure are dropped where they are refused.
+    /// If the call fails, drops stream and closure. Takes time and allocates as `buffered_ordered` does.
     #[tactic(auto, using(crate::proofs::InFlightLemmas::new_can_poll))]
     final fn for_each_concurrent<Fut, F>(
         self,

@@ -1,4 +1,4 @@
-//! Sets, queues, joins and merges of the kit's futures and streams as methods of what gives the items.
+//! Sets, queues, joins and merges of futures and streams of `futures` as methods of an iterator.
 ghost use Rattle.std.specs.Prelude.{◌≡◌, ◌^◌, ◌-◌, IfOk};
 ghost use Rattle.futures_buffered_core.specs.Drawn.{IsFiniteSource, items_of};
 ghost use Rattle.futures_buffered_unordered.specs.Extended.{EachDrawn, HoldsAllOf, MakesFull};
@@ -16,12 +16,12 @@ use futures::{Future, Stream};
 use futures_buffered_core::ready_core::NewFault;
 use std::alloc::Global;
 
-/// Sets, queues, joins and merges of what an iterator gives, if it ends.
+/// Sets, queues, joins and merges of what an iterator returns, if the iterator ends.
 pub trait IterExt: IntoIterator + Sized {
-    /// A set of these futures, whose outputs come as they finish. It is `FuturesUnorderedBounded::from_iter`, and
-    /// refuses as that does. A freed slot can be pushed into.
+    /// Makes a set of these futures, whose outputs come as they finish. The call is
+    /// `FuturesUnorderedBounded::from_iter`, and fails as that does. A later push can use a slot that was freed.
     ///
-    /// Takes time and memory in proportion to the number of futures.
+    /// Takes time and allocates in proportion to the number of futures.
     final fn into_unordered_stream(
         self,
         alloc: Global,
@@ -37,10 +37,10 @@ pub trait IterExt: IntoIterator + Sized {
         FuturesUnorderedBounded::from_iter(alloc, self)
     }
 
-    /// A set of these futures, and of any number that are pushed later, whose outputs come as they finish. It is
-    /// `FuturesUnordered::from_iter`, and refuses as that does.
+    /// Makes a set of these futures, and of any number that are pushed later, whose outputs come as they finish. The
+    /// call is `FuturesUnordered::from_iter`, and fails as that does.
     ///
-    /// Takes time and memory in proportion to the number of futures.
+    /// Takes time and allocates in proportion to the number of futures.
     final fn into_unordered_stream_unbounded(
         self,
         alloc: Global,
@@ -56,10 +56,10 @@ pub trait IterExt: IntoIterator + Sized {
         FuturesUnordered::from_iter(alloc, self)
     }
 
-    /// A queue of these futures, whose outputs come in their order. It is `FuturesOrderedBounded::from_iter`, and
-    /// refuses as that does.
+    /// Makes a queue of these futures, whose outputs come in their order. The call is
+    /// `FuturesOrderedBounded::from_iter`, and fails as that does.
     ///
-    /// Takes time and memory in proportion to the number of futures.
+    /// Takes time and allocates in proportion to the number of futures.
     final fn into_ordered_stream(
         self,
         alloc: Global,
@@ -75,10 +75,10 @@ pub trait IterExt: IntoIterator + Sized {
         FuturesOrderedBounded::from_iter(alloc, self)
     }
 
-    /// A queue of these futures, and of any number that are pushed later, whose outputs come in their order. It is
-    /// `FuturesOrdered::from_iter`, and refuses as that does.
+    /// Makes a queue of these futures, and of any number that are pushed later, whose outputs come in their order. The
+    /// call is `FuturesOrdered::from_iter`, and fails as that does.
     ///
-    /// Takes time and memory in proportion to the number of futures.
+    /// Takes time and allocates in proportion to the number of futures.
     final fn into_ordered_stream_unbounded(
         self,
         alloc: Global,
@@ -94,10 +94,10 @@ pub trait IterExt: IntoIterator + Sized {
         FuturesOrdered::from_iter(alloc, self)
     }
 
-    /// A join of these futures, ready with all outputs, each at its future's place. It is the function `join_all`, and
-    /// refuses as that does.
+    /// Makes a join of these futures, which is ready with all outputs, each at its future's place. The call is the
+    /// function `join_all`, and fails as that does.
     ///
-    /// Takes time and memory in proportion to the number of futures.
+    /// Takes time and allocates in proportion to the number of futures.
     final fn join_all(self, alloc: Global) -> Result<JoinAll<Self::Item>, NewFault>
     where
         Self::Item: Future<Output: Drop>,
@@ -109,10 +109,10 @@ pub trait IterExt: IntoIterator + Sized {
         futures_buffered_joins::in_flight_join::join_all(alloc, self)
     }
 
-    /// A join of these futures, which may fail: ready with all outputs, each at its future's place, or with the first
-    /// error that comes. It is the function `try_join_all`, and refuses as that does.
+    /// Makes a join of these futures, which may fail. The join is ready with all outputs, each at its future's place,
+    /// or with the first error that comes. The call is the function `try_join_all`, and fails as that does.
     ///
-    /// Takes time and memory in proportion to the number of futures.
+    /// Takes time and allocates in proportion to the number of futures.
     final fn try_join_all<T, E>(self, alloc: Global) -> Result<TryJoinAll<Self::Item>, NewFault>
     where
         Self::Item: Future<Output = Result<T, E>>,
@@ -126,9 +126,10 @@ pub trait IterExt: IntoIterator + Sized {
         futures_buffered_joins::in_flight_join::try_join_all(alloc, self)
     }
 
-    /// A merge of these streams, with room for as many as came. It is the function `merge`, and refuses as that does.
+    /// Makes a merge of these streams, with room for as many as the iterator returned. The call is the function
+    /// `merge`, and fails as that does.
     ///
-    /// Takes time and memory in proportion to the number of streams.
+    /// Takes time and allocates in proportion to the number of streams.
     final fn merge(self, alloc: Global) -> Result<MergeBounded<Self::Item>, NewFault>
     where
         Self::Item: Stream<Item: Drop>,
@@ -141,10 +142,10 @@ pub trait IterExt: IntoIterator + Sized {
         futures_buffered_merges::in_flight_merge::merge(alloc, self)
     }
 
-    /// A merge of these streams, and of any number that are pushed later. It is the function `merge_unbounded`, and
-    /// refuses as that does.
+    /// Makes a merge of these streams, and of any number that are pushed later. The call is the function
+    /// `merge_unbounded`, and fails as that does.
     ///
-    /// Takes time and memory in proportion to the number of streams.
+    /// Takes time and allocates in proportion to the number of streams.
     final fn merge_unbounded(self, alloc: Global) -> Result<MergeUnbounded<Self::Item>, NewFault>
     where
         Self::Item: Stream<Item: Drop>,

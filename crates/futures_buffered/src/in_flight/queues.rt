@@ -1,4 +1,4 @@
-//! Futures of the kit, as what a buffer holds.
+//! Sets and queues of futures of `futures`, as what a buffer holds.
 ghost use Rattle.futures_buffered_in_flight.specs.InFlight.{ComesFromSlots, FlightsWaitAt, flight_slots};
 ghost use Rattle.futures_buffered_in_flight.specs.InFlightOrdered.{CanPollOrdered, ComesOfEach, OrderedWaitsAt};
 ghost use Rattle.futures_buffered_in_flight.specs.InFlightOrdered.{PollsInTurn, PushesBack, ordered_room};

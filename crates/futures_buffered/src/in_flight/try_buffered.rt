@@ -1,4 +1,4 @@
-//! Adaptors of a stream of the kit's futures and errors, as methods of the stream.
+//! Adaptors of a stream of futures of `futures` and of errors, as methods of the stream.
 //!
 //! Each holds the futures in a `FuturesUnorderedBounded` or a `FuturesOrderedBounded`. A future may contain closures.
 ghost use Rattle.std.specs.Prelude.{◌<◌, IfOk};
@@ -20,14 +20,15 @@ use futures_buffered_in_flight::{FuturesOrderedBounded, FuturesUnorderedBounded}
 use futures_buffered_unordered::futures_unordered_bounded::POLL_LIMIT;
 use std::alloc::Global;
 
-/// Adaptors that keep some futures of a stream in progress, where the stream gives errors as well.
+/// Adaptors that keep some futures of a stream in progress, for a stream that returns errors also.
 pub trait BufferedTryStreamExt: Stream + Sized {
-    /// The outputs of this stream's futures in the order of the stream, with at most `n` held at a time: in progress,
-    /// or done and waiting for their turn. Each error of the stream comes as soon as it is met. Nothing is polled.
+    /// Returns a stream of the outputs of this stream's futures, in the order of this stream. It holds at most `n`
+    /// futures at a time: in progress, or done with an output that waits for its turn. A poll returns each error of
+    /// this stream as soon as it takes the error from it. The call polls nothing.
     ///
-    /// Takes time and memory in proportion to `n`. The stream is dropped where it is refused. A poll takes the memory
-    /// that the kit's set takes for each future, and does without where that is refused: the future waits, and the task
-    /// is woken.
+    /// If the call fails, drops this stream. Takes time and allocates in proportion to `n`. A poll allocates in the set
+    /// of `futures` for each future. If that allocation fails, the future waits, and the poll wakes the task to try
+    /// again.
     final fn try_buffered_ordered<F, T, E>(
         self,
         alloc: Global,
@@ -46,10 +47,10 @@ pub trait BufferedTryStreamExt: Stream + Sized {
         Ok(Buffer::with_queue(self, TryQueue::over(queue)))
     }
 
-    /// The outputs of this stream's futures as they finish, with at most `n` in progress at a time, and each error of
-    /// the stream as soon as it is met. Nothing is polled.
+    /// Returns a stream of the outputs of this stream's futures, as they finish, with at most `n` in progress at a
+    /// time. A poll returns each error of this stream as soon as it takes the error from it. The call polls nothing.
     ///
-    /// Takes time and memory as `try_buffered_ordered` does, and refuses as that does.
+    /// Fails as `try_buffered_ordered` does, and takes time and allocates as that does.
     #[tactic(auto, using(crate::proofs::InFlightLemmas::new_can_poll))]
     final fn try_buffered_unordered<F, T, E>(
         self,
@@ -69,13 +70,14 @@ pub trait BufferedTryStreamExt: Stream + Sized {
         Ok(Buffer::with_queue(self, TryQueue::over(queue)))
     }
 
-    /// Calls `f` with each `Ok` item of this stream, once and in order, and runs the futures that it makes, at most
-    /// `limit` at a time, up to the first error, of the stream or of a future. Nothing is polled.
+    /// Returns a future that calls `f` with each `Ok` item of this stream, once and in order. It runs the futures that
+    /// `f` makes, at most `limit` at a time. It ends at the first error, of this stream or of a future. The call polls
+    /// nothing.
     ///
-    /// `futures::TryStreamExt` has a method of this name too. Where both traits are in scope it is called by its path:
-    /// `BufferedTryStreamExt::try_for_each_concurrent(stream, alloc, limit, f)`.
+    /// `futures::TryStreamExt` has a method of this name too. If both traits are in scope, a caller calls this one by
+    /// its path: `BufferedTryStreamExt::try_for_each_concurrent(stream, alloc, limit, f)`.
     ///
-    /// Takes time and memory as `try_buffered_ordered` does. Stream and closure are dropped where they are refused.
+    /// If the call fails, drops stream and closure. Takes time and allocates as `try_buffered_ordered` does.
     #[tactic(auto, using(crate::proofs::InFlightLemmas::new_can_poll))]
     final fn try_for_each_concurrent<T, E, Fut, F>(
         self,
