@@ -14,12 +14,12 @@ use Rattle.futures_buffered_joins.specs.Join.{MakesJoin}
 abbrev pub Flying : Type 0 → Type 0 → Type 0
 Flying F A = Places (Flights F (Unit {0})) A
 
--- a future waits at each place whose slot is taken
+-- a future waits at a place if and only if the slot is taken
 abbrev pub flights_waiting : {F : Type 0} → Flights F (Unit {0}) → List Bool
 flights_waiting set = map is_some set.slots.places
 
 module _ {F O : Type 0} (future : FutureOf F O) where
-  -- One poll. An output has the key of its future: the slot is the place.
+  -- One poll of the set. An output has the key of its future, whose slot is the place.
   abbrev pub FlightsGive : Flights F (Unit {0}) → Poll (ℕ × O) → Flights F (Unit {0}) → Context → Context → Type 0
   FlightsGive old (Ready came) new cx left = (push : ℕ) × PollsInFlight future old
       (Ready (Some (record { key = record { slot = came.0; push = push }; tag = tt; output = came.1 })))
@@ -30,7 +30,6 @@ module _ {F O : Type 0} (future : FutureOf F O) where
   abbrev pub CanPollFlying : {A : Type 0} → Option (Flying F A) → Type 0
   CanPollFlying join = IfSome join (λ places. CanPollAll future places.set)
 
-  -- What a constructor of a join makes of what an iterator gives, or why it makes nothing. It makes a join that has a
-  -- place for each item.
+  -- the result of a constructor that makes a join of items, with a place for each item
   abbrev pub MakesFlying : {A U I : Type 0} → Items U F I → Result (Option (Flying F A)) NewFault → Type 0
   MakesFlying from = MakesJoin from (FliesInOrder future)

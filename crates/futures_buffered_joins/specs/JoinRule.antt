@@ -1,4 +1,4 @@
--- What a rule makes of an output and of an answer, and the two rules.
+-- What a rule makes of an output and of an answer, for each of the two rules.
 use Rattle.std.specs.Prelude.{List, Vec, Result, Ok, Err}
 use Rattle.std.specs.declared.alloc.Global.{Global}
 use Rattle.futures_buffered_joins.specs.declared.join.AllOutputs.{AllOutputs}
@@ -7,16 +7,16 @@ use Rattle.futures_buffered_joins.specs.declared.join.AllOutputs.{AllOutputs}
 abbrev pub Outcome : Type 0 → Type 0 → Type 0
 Outcome A E = Result (List A) E
 
--- all outputs: each is kept as it is, and none ends the join early
+-- each output is kept as it is, and none ends the join early
 abbrev pub kept_as_it_is : {O : Type 0} → Result O AllOutputs → O
 kept_as_it_is (Ok output) = output
 kept_as_it_is (Err never) = elim never [ ]
 
--- an answer is all outputs
+-- an answer shows all outputs
 abbrev pub shown_as_all : {O : Type 0} → Vec O Global → Outcome O AllOutputs
 shown_as_all outputs = Ok outputs.items
 
--- until an error: an answer is all that was kept, or the error
+-- an answer shows all that was kept, or the error that ended the join
 abbrev pub shown_by_result : {A E : Type 0} → Result (Vec A Global) E → Outcome A E
 shown_by_result (Ok outputs) = Ok outputs.items
 shown_by_result (Err e) = Err e

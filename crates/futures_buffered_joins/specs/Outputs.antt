@@ -1,4 +1,4 @@
--- What a contract sees of the outputs of a join: at each place the one that has come, or nothing.
+-- What a contract sees of the outputs of a join: at each place the output that has come, or nothing.
 use Rattle.std.specs.Prelude.{◌≡◌, ℕ, Bool, List, count_by, length, map, Option, None, Some, MatchOption, slice_get}
 use Rattle.std.specs.Prelude.{slice_index_or}
 use Rattle.std.specs.Option.{is_none}
@@ -15,9 +15,9 @@ waiting_count = count_by (λ waits. waits)
 abbrev pub WaitsOrCame : {A : Type 0} → List Bool → List (Option A) → Type 0
 WaitsOrCame waiting outputs = waiting ≡ map is_none outputs
 
--- `may_give` says what a future may give that waits at a place
+-- `may_give` says what the future that waits at a place may give
 module _ {A : Type 0} (may_give : ℕ → A → Type 0) (outputs : List (Option A)) where
-  -- x may be the output at this place: it has come there, or what waits there may give it
+  -- x may be the output at place k: it has come there, or the future that waits there may give it
   abbrev pub MayComeAt : ℕ → A → Type 0
   MayComeAt k x = MatchOption (output_in outputs k) (may_give k x) (λ done. x ≡ done)
 

@@ -1,4 +1,4 @@
--- What one poll of a set of futures, each at a place of its own, gives and leaves.
+-- What one poll of a set of futures, each at a place of its own, returns and leaves.
 use Rattle.std.specs.Prelude.{◌≡◌, ℕ, Bool, true, false, List, slice_index_or, slice_set}
 use Rattle.futures.specs.Poll.{IfReady, OnPending}
 use Rattle.futures.specs.Task.{Covers, Keeps}
@@ -17,22 +17,22 @@ FreesPlace before Pending after = after ≡ before
 abbrev pub AnyPlaceGives : {Q O : Type 0} → (Q → ℕ → O → Type 0) → Q → O → Type 0
 AnyPlaceGives may_give set x = (k : ℕ) × may_give set k x
 
--- `waiting` says at which places futures wait; a clause names it and the polls by the ghost members of the set's type:
--- `Q.waiting Q.PlacedPolls`
+-- `waiting` says at which places futures wait. A clause names it, and the polls, by the ghost members of the set's
+-- type: `Q.waiting Q.PlacedPolls`
 module _ {Q O : Type 0} (waiting : Q → List Bool) (placed : PlacedPollsOf Q O) where
-  -- One poll, which took the set from old to new and the task from cx to left.
+  -- One poll, which takes the set from `old` to `new` and the task from `cx` to `left`.
   pub record PollsPlaced (old : Q) (answer : Poll (ℕ × O)) (new : Q) (cx left : Context) : Type 0 where
-    -- what came, and who is woken, in the set's own words
+    -- the result, and whether the task is woken, in the words of the set's own poll
     pub gave : placed.gives old answer new cx left
-    -- the place of an output is free then
+    -- an output frees its place, and a pending poll frees none
     pub frees : FreesPlace (waiting old) answer (waiting new)
-    -- an output is one that the future of its place might give
+    -- an output is one that the future at its place might give
     pub own : IfReady answer (λ came. placed.may_give old came.0 came.1)
     -- no future may give what it could not give before
     pub narrows : (k : ℕ) (x : O) → placed.may_give new k x → placed.may_give old k x
-    -- the task of a pending set is registered where the set waits, or was asked to poll again
+    -- the task of a pending set is registered where the set waits, or is woken
     pub registered : OnPending answer (Covers left (placed.needs new))
-    -- what the task was registered for or asked to do before still stands
+    -- the task keeps each earlier registration and wake
     pub kept : Keeps cx left
-    -- each future that waits may be polled
+    -- each future that waits may be polled again
     pub again : placed.can_poll new

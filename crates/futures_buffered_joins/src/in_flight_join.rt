@@ -1,4 +1,4 @@
-//! Joins of the kit's futures, which a join holds as they are.
+//! Joins of `futures::Future`s, which a join holds as they are.
 ghost use Rattle.std.specs.Prelude.{IfOk};
 ghost use Rattle.futures_buffered_core.specs.Drawn.{IsFiniteSource, items_of};
 ghost use Rattle.futures_buffered_unordered.specs.Extended.{EachDrawn};
@@ -18,17 +18,17 @@ use futures_buffered_core::ready_core::NewFault;
 use futures_buffered_in_flight::FuturesUnorderedBounded;
 use std::alloc::Global;
 
-/// A join of the kit's futures by a rule `R`.
+/// A join of `futures::Future`s by a rule `R`.
 ///
-/// It holds the futures beside one another, with no lock and no cell between, and a future may contain closures. A poll
-/// allocates what the futures do, what the kit's set does for a future that waits for memory, and what it does at its
-/// first poll of a task. If a future waits still, the task is asked to poll again.
+/// The join holds the futures next to one another, with no lock and no cell between, and a future may contain closures.
+/// A poll allocates what the futures do. It also allocates what the set of `futures` does for a future that waits for
+/// memory, and at its first poll of a task. If a future still waits for memory, the poll wakes the task.
 pub type JoinBy<R, F, A> = join_by::JoinBy<R, FuturesUnorderedBounded<F>, A>;
 
-/// A join of the kit's futures.
+/// A join of `futures::Future`s.
 pub type JoinAll<F> = JoinBy<AllOutputs, F, <F as Future>::Output>;
 
-/// A join of the kit's futures that may fail.
+/// A join of `futures::Future`s that may fail.
 pub type TryJoinAll<F> = JoinBy<UntilError, F, <<F as Future>::Output as TryOutput>::Ok>;
 
 impl<F: Drop> PlacedSet for FuturesUnorderedBounded<F> {
@@ -68,10 +68,11 @@ where
     R: JoinRule<F::Output, Kept = A>,
     A: Drop,
 {
-    /// A join of these futures, in their order. Nothing is polled, and the join may be.
+    /// Makes a join of these futures, in their order. Polls nothing. The join may be polled.
     ///
-    /// Takes time and memory in proportion to their number. A future for which the kit's set cannot allocate waits until
-    /// a poll finds memory for it. If another allocation fails, the futures that came are dropped.
+    /// A future for which the set of `futures` cannot allocate waits until a poll finds memory for it. If another
+    /// allocation fails, drops the futures that it took. Allocates and takes time in proportion to the number of
+    /// futures.
     pub fn over<I: IntoIterator<Item = F>>(alloc: Global, iter: I) -> Result<Self, NewFault>
         requires finite { IsFiniteSource (items_of I.IntoIterator I.IntoIter.Iterator iter) }
         requires fit { EachDrawn (items_of I.IntoIterator I.IntoIter.Iterator iter) F.can_poll }
@@ -85,10 +86,10 @@ where
     }
 }
 
-/// Of a join over these items, after any pending polls: a vector that it may be ready with has as many outputs as there
-/// were items, and the output at place k is one that item k may give.
+/// After any pending polls, a vector that a join over these items may be ready with has as many outputs as there were
+/// items. The output at place k is one that item k may give.
 ///
-/// A law of the relations in the contracts of `over` and of a poll. Its body is empty.
+/// This is a law of the relations in the contracts of `over` and of a poll. Its body is empty.
 pub fn outputs_come_by_place<R, F, A>()
 where
     F: Future<Output: Drop>,
@@ -97,8 +98,8 @@ where
         (FliesInOrder F.Future) (λ _. F.gives) }
 {}
 
-/// A join of these futures of the kit, in their order, which is ready with all outputs. It is `JoinAll::over`, and
-/// refuses as that does.
+/// Makes a join of these `futures::Future`s, in their order, which is ready with all outputs. It is `JoinAll::over`,
+/// and fails as that does.
 pub fn join_all<I: IntoIterator<Item: Future<Output: Drop>>>(
     alloc: Global,
     iter: I,
@@ -111,7 +112,7 @@ pub fn join_all<I: IntoIterator<Item: Future<Output: Drop>>>(
     JoinAll::over(alloc, iter)
 }
 
-/// As `join_all`, of futures that may fail: it is ready as soon as one gives an error, and drops the others
+/// As `join_all`, for futures that may fail. The join is ready as soon as one returns an error, and drops the others
 /// then.
 pub fn try_join_all<F, A, E, I>(alloc: Global, iter: I) -> Result<TryJoinAll<F>, NewFault>
 where

@@ -1,4 +1,4 @@
-//! All of some futures, whose outputs come together.
+//! Joins of futures, whose outputs come together.
 ghost use Rattle.std.specs.Prelude.{◌≡◌};
 ghost use Rattle.futures_buffered_core.specs.Drawn.{IsFiniteSource, items_of};
 ghost use Rattle.futures_buffered_core.specs.ReadyShared.{IsNewShared, MarksShared};
@@ -14,15 +14,15 @@ use futures_buffered_unordered::SlotFuture;
 use futures_buffered_unordered::futures_unordered_bounded::{FuturesUnorderedBounded, POLL_LIMIT};
 use std::alloc::Global;
 
-/// The rule of `join_all`: every output is kept, and none ends the join early. It has no values, and so it is also the
-/// error, which never comes.
+/// The rule of `join_all`: every output is kept, and none ends the join early. The type has no values, so it is also
+/// the type of the error, which never comes.
 pub enum AllOutputs {}
 
-/// All of some futures: ready once each of them is done, with their outputs, each at its future's place. A join that
-/// has ended gives an empty vector.
+/// A join that is ready once each of its futures is done, with their outputs, each at its future's place. A join that
+/// has ended returns an empty vector.
 pub type Join<F, A, S> = JoinBy<AllOutputs, FuturesUnorderedBounded<F, S>, A>;
 
-/// The join with the outputs of its futures. It is the name that a caller writes.
+/// The join of futures with their own outputs. It is the name that a caller writes.
 pub type JoinAll<F, S = SharedReady> = Join<
     F,
     <F as SlotFuture<<S as ReadySource>::Waker>>::Output,
@@ -62,8 +62,8 @@ impl JoinName for AllOutputs {
     }
 }
 
-/// A join of these futures, in their order, which are woken from any thread. It is `JoinAll::over` with a shared
-/// source, and refuses as that does.
+/// Makes a join of these futures, in their order, which are woken from any thread. It is `JoinAll::over` with a shared
+/// source, and fails as that does.
 pub fn join_all<I: IntoIterator>(
     alloc: Global,
     iter: I,

@@ -1,4 +1,4 @@
-//! A join by a rule, over any set that says the place of an output.
+//! A join by a rule, over any set that returns an output with its place.
 ghost use Rattle.std.specs.Prelude.{◌≡◌, None, IfOk, IfSome, IsSomeAnd, replicate, true};
 ghost use Rattle.futures_buffered_joins.specs.Join.{JoinMayGive, PollsJoin};
 
@@ -12,12 +12,12 @@ use std::alloc::{AllocError, Global};
 use std::fmt;
 use std::marker::{Model, PhantomData};
 
-/// All of some futures by a rule `R`, in a set `Q`: ready once each of them is done, with what is kept of their outputs,
-/// each at its future's place, or as soon as an output ends it.
+/// A join of futures in a set `Q`, by a rule `R`. It is ready once each future is done, with what the rule keeps of
+/// their outputs, each at its future's place. It is ready earlier if an output ends it.
 ///
-/// A contract sees the places, or nothing once the join has ended: the set of the futures that are waited for, and at
-/// each place the output that has come. Once the join has ended, early too, it holds nothing, and further polls give
-/// what shows an empty vector.
+/// A contract sees the set of the futures that the join waits for, and at each place the output that has come; or
+/// `None` once the join has ended. A join that has ended, early too, holds nothing. Its further polls return the answer
+/// of an empty vector.
 #[derive(Drop)]
 pub struct JoinBy<R, Q: PlacedSet, A> {
     places: Option<Places<Q, A>>,
@@ -39,7 +39,7 @@ impl<R, Q: PlacedSet, A> Model for JoinBy<R, Q, A> {
 }
 
 impl<R, Q: PlacedSet, A: Drop> JoinBy<R, Q, A> {
-    // A join of `n` futures, all of which wait in the set.
+    // Makes a join of `n` futures, which all wait in the set.
     #[tactic(auto, using(crate::proofs::OutputsLemmas::all_wait))]
     pub(crate) fn new(alloc: Global, set: Q, n: usize) -> Result<Self, AllocError>
         requires { Q.waiting set ≡ replicate n true }
@@ -116,7 +116,7 @@ where
     }
 }
 
-/// Prints how many futures are waited for.
+/// Prints how many futures the join waits for.
 impl<R: JoinName, Q: PlacedSet, A: Drop> fmt::Debug for JoinBy<R, Q, A> {
     fn fmt<W: fmt::Write>(&self, f: &mut fmt::Formatter<W>) -> fmt::Result {
         let len = match &self.places {

@@ -5,8 +5,8 @@ ghost use Rattle.std.specs.Prelude.{slice_set};
 use std::alloc::{AllocError, Global};
 use std::marker::Model;
 
-/// At each place the output that has come, or nothing. Room for the vector that is given at the end was taken at the
-/// beginning.
+/// At each place the output that has come, or nothing. The vector that the join returns when it ends was allocated when
+/// the join was made.
 #[derive(Drop)]
 pub struct Outputs<A> {
     places: Vec<Option<A>>,
@@ -34,7 +34,7 @@ pub struct Places<Q, A> {
     pub(crate) outputs: Outputs<A>,
 }
 
-// `n` places at which nothing has come. Takes time and memory in proportion to `n`.
+// Makes `n` places at which nothing has come. Allocates and takes time in proportion to `n`.
 fn empty_places<A>(alloc: Global, n: usize) -> Result<Vec<Option<A>>, AllocError>
     ensures { IfOk result (λ v. v.items ≡ replicate n None) }
 {
@@ -46,7 +46,7 @@ fn empty_places<A>(alloc: Global, n: usize) -> Result<Vec<Option<A>>, AllocError
 }
 
 impl<A: Drop> Outputs<A> {
-    // `n` places at which nothing has come.
+    // Makes `n` places at which nothing has come.
     pub(crate) fn new(alloc: Global, n: usize) -> Result<Self, AllocError>
         ensures { IfOk result (λ outputs. outputs ≡ replicate n None) }
     {
@@ -55,7 +55,7 @@ impl<A: Drop> Outputs<A> {
         Ok(Outputs { places, gathered })
     }
 
-    // An output has come at this place.
+    // Puts the output that has come at this place.
     pub(crate) fn put(&mut self, place: usize, output: A)
         requires { place < length self.old }
         ensures { self.new ≡ slice_set self.old place (Some output) }
@@ -63,7 +63,7 @@ impl<A: Drop> Outputs<A> {
         self.places[place] = Some(output);
     }
 
-    // All outputs, in the order of the places.
+    // Returns all outputs, in the order of the places.
     pub(crate) fn gather(self) -> Vec<A>
         requires { (k : _) → k < length self → IsSome (slice_index_or self k None) }
         ensures { self ≡ map Some result.items }

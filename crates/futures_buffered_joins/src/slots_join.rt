@@ -54,10 +54,10 @@ where
     A: Drop,
     S: NewSource,
 {
-    /// A join of these futures, in their order, over a source made for them. Nothing is polled.
+    /// Makes a join of these futures, in their order, over a source made for them. Polls nothing.
     ///
-    /// Takes time and memory in proportion to their number, all that the join ever needs: a poll does not allocate, and
-    /// waits for no other thread. If an allocation fails, the futures that came are dropped.
+    /// If an allocation fails, drops the futures that it took. Allocates all that the join ever needs, and takes time,
+    /// in proportion to the number of futures. A poll of the join does not allocate, and waits for no other thread.
     pub fn over<I: IntoIterator<Item = F>>(
         env: &S::Env,
         alloc: Global,
@@ -74,10 +74,10 @@ where
     }
 }
 
-/// Of a join over these items, after any pending polls: a vector that it may be ready with has as many outputs as there
-/// were items, and the output at place k is one that item k may give.
+/// After any pending polls, a vector that a join over these items may be ready with has as many outputs as there were
+/// items. The output at place k is one that item k may give.
 ///
-/// A law of the relations in the contracts of `over` and of a poll. Its body is empty.
+/// This is a law of the relations in the contracts of `over` and of a poll. Its body is empty.
 pub fn outputs_come_by_place<R, F, O, S: NewSource>()
 where
     R: JoinRule<O>,

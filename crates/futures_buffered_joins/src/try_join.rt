@@ -1,4 +1,4 @@
-//! All of some futures that may fail, whose outputs come together, or the first error.
+//! Joins of futures that may fail, whose outputs come together, or the first error.
 ghost use Rattle.std.specs.Prelude.{◌≡◌};
 ghost use Rattle.futures_buffered_core.specs.Drawn.{IsFiniteSource, items_of};
 ghost use Rattle.futures_buffered_core.specs.ReadyShared.{IsNewShared, MarksShared};
@@ -15,14 +15,14 @@ use futures_buffered_unordered::SlotFuture;
 use futures_buffered_unordered::futures_unordered_bounded::{FuturesUnorderedBounded, POLL_LIMIT};
 use std::alloc::Global;
 
-/// The rule of `try_join_all`: what an output has in `Ok` is kept, and one in `Err` ends the join.
+/// The rule of `try_join_all`: the value in `Ok` is kept, and an output in `Err` ends the join.
 pub enum UntilError {}
 
-/// All of some futures that may fail: ready once each of them is done, with their outputs, each at its future's place,
-/// or as soon as one gives an error. A join that has ended, by an error too, gives `Ok` of an empty vector.
+/// A join of futures that may fail. It is ready once each of them is done, with their outputs, each at its future's
+/// place, or as soon as one returns an error. A join that has ended, by an error too, returns `Ok` of an empty vector.
 pub type TryJoin<F, T, S> = JoinBy<UntilError, FuturesUnorderedBounded<F, S>, T>;
 
-/// The join with the values that its futures give where they succeed. It is the name that a caller writes.
+/// The join with the values that its futures return if they succeed. It is the name that a caller writes.
 pub type TryJoinAll<F, S = SharedReady> = TryJoin<
     F,
     <<F as SlotFuture<<S as ReadySource>::Waker>>::Output as TryOutput>::Ok,
@@ -59,8 +59,8 @@ impl JoinName for UntilError {
     }
 }
 
-/// A join of these futures, in their order, which are woken from any thread. It is `TryJoinAll::over` with a shared
-/// source, and refuses as that does.
+/// Makes a join of these futures, in their order, which are woken from any thread. It is `TryJoinAll::over` with a
+/// shared source, and fails as that does.
 pub fn try_join_all<I: IntoIterator, T, E>(
     alloc: Global,
     iter: I,

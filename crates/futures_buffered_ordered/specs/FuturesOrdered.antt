@@ -1,4 +1,4 @@
--- What a contract sees of an ordered queue that grows: the words on ordered queues at a set that grows.
+-- What a contract sees of a growing ordered queue: the words on ordered queues, for a growing set.
 use Rattle.std.specs.Prelude.{◌≡◌, ℕ, Result, ⊤}
 use Rattle.std.specs.List.{sum_by}
 use Rattle.futures.specs.declared.task.Poll.{Poll}
@@ -18,7 +18,7 @@ use Rattle.futures_buffered_ordered.specs.OrderedEntries.{AddsBack, NumberedSetO
 use Rattle.futures_buffered_ordered.specs.OrderedEntries.{QueueIsAtBound}
 use Rattle.futures_buffered_ordered.specs.declared.numbered.Numbered.{Numbered}
 
--- the set that grows of numbered futures, the entries, and how many there is a place for
+-- the growing set of numbered futures, the entries, and how many entries had a place when the queue was made
 abbrev pub OrderedGrowing : Type 0 → Type 0 → Type 0 → Type 0
 OrderedGrowing F A S = Ordered (Growing (Numbered F) S) A
 
@@ -27,22 +27,22 @@ module _ {F S : Type 0} where
   abbrev pub held_in_groups : Growing (Numbered F) S → ℕ
   held_in_groups set = held_in_all set.groups.listed
 
-  -- how many of them have number i
+  -- how many futures of the set have number i
   abbrev pub held_in_groups_with : ℕ → Growing (Numbered F) S → ℕ
   held_in_groups_with i set = sum_by (held_with i) set.groups.listed
 
-  -- a future went into the set with a number
+  -- a future was pushed into the set, with number i
   abbrev pub GrowingPushesNumber : (S → ℕ → Woke → S → Type 0) → (ℕ → S → Type 0)
       → Growing (Numbered F) S → F → ℕ → Growing (Numbered F) S → Type 0
   GrowingPushesNumber marks made old future i new =
       GrowingPushes marks made FIRST_GROUP old (record { future = future; number = i }) new
 
-  -- the set is one without a group or with one, as it was asked for; there is no entry, and a place for so many at
-  -- least
+  -- the set is new, with one group of `n` slots, or with none if `n` is 0; there is no entry, and at least `n` entries
+  -- have a place
   abbrev pub IsNewGrowingQueue : {A : Type 0} → (ℕ → S → Type 0) → ℕ → ℕ → OrderedGrowing F A S → Type 0
   IsNewGrowingQueue made n limit = IsNewQueue (IsNewGrowing made n limit) n
 
-  -- the limit of names stays
+  -- the limit does not change
   abbrev pub SameLimit : Growing (Numbered F) S → Growing (Numbered F) S → Type 0
   SameLimit old new = new.limit ≡ old.limit
 
@@ -50,17 +50,17 @@ module _ {F S : Type 0} where
   abbrev pub EachInProgress : (F → Type 0) → Growing (Numbered F) S → Type 0
   EachInProgress P set = EachHeld (CanPollFuture P) set.groups.listed
 
--- what a constructor of a queue over shared sources makes of items, or why it makes nothing
+-- the result of a constructor that makes a queue over shared sources from items
 abbrev pub MakesSharedQueue : {U F I A : Type 0} → Items U F I → Result (OrderedGrowing F A Shared) NewFault → Type 0
 MakesSharedQueue from = MakesGrown from FIRST_GROUP (λ n. IsNewGrowingQueue IsNewShared n POLL_LIMIT)
     (AddsBack (GrowingPushesNumber MarksShared IsNewShared)) (QueueIsAtBound SetRefuses)
 
 module _ {F A S : Type 0} (polled : ℕ → F → Poll A → F → Type 0) where
-  -- one of the futures may give this output, with this number
+  -- some future may give this output, with this number
   abbrev pub GrowingMayGive : Growing (Numbered F) S → ℕ × A → Type 0
   GrowingMayGive set = AnyGroupMayGive (PollsNumbered polled) set.groups.listed
 
--- what the set that grows is to a queue over it
+-- what the growing set is to a queue over it
 abbrev pub growing_numbers : {F S W : Type 0} → ReadySourceOf S W → (ℕ → S → Type 0)
     → NumberedSetOf (Growing (Numbered F) S) F
 growing_numbers source made = record {

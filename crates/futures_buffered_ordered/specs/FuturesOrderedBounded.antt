@@ -1,4 +1,4 @@
--- What a contract sees of a bounded ordered queue: the words on ordered queues at a bounded set.
+-- What a contract sees of a bounded ordered queue: the words on ordered queues, for a bounded set.
 use Rattle.std.specs.Prelude.{◌≡◌, ℕ, ◌+◌, ◌*◌, ◌<◌, ◌≤◌, List, [], ◌∷◌, length, Option, Some, None, ⊤}
 use Rattle.std.specs.List.{FoldsTo}
 use Rattle.futures.specs.declared.task.context.Context.{Context}
@@ -19,12 +19,12 @@ use Rattle.futures_buffered_ordered.specs.OrderedEntries.{NumberedSetOf, PollsOr
 use Rattle.futures_buffered_ordered.specs.OrderedEntries.{with_task}
 use Rattle.futures_buffered_ordered.specs.declared.numbered.Numbered.{Numbered}
 
--- the bounded set of numbered futures, the entries, and how many entries there is a place for
+-- the bounded set of numbered futures, the entries, and how many entries had a place when the queue was made
 abbrev pub OrderedBounded : Type 0 → Type 0 → Type 0 → Type 0
 OrderedBounded F A S = Ordered (Bounded (Numbered F) S) A
 
 module _ {F S : Type 0} where
-  -- a future went into the set with a number
+  -- a future was pushed into the set, with number i
   abbrev pub PushesNumber : (S → ℕ → Woke → S → Type 0) → Bounded (Numbered F) S → F → ℕ
       → Bounded (Numbered F) S → Type 0
   PushesNumber marks old future i new = Pushes marks old (record { future = future; number = i }) new
@@ -33,12 +33,13 @@ module _ {F S : Type 0} where
   abbrev pub SetIsFull : Bounded (Numbered F) S → Type 0
   SetIsFull set = held_in set ≡ slot_count set.slots
 
-  -- as many slots, and the limit of names
+  -- the number of slots and the limit do not change
   pub record SameSize (old new : Bounded (Numbered F) S) : Type 0 where
     pub capacity : slot_count new.slots ≡ slot_count old.slots
     pub limit : new.limit ≡ old.limit
 
-  -- What a push at an end makes of a queue that has fewer entries than slots: `adds` says what it is to go in there.
+  -- What a push at one end makes of a queue that has fewer entries than slots. `adds` says what it is to add at this
+  -- end.
   pub record PushesEntry
       {A : Type 0}
       (adds : OrderedBounded F A S → F → OrderedBounded F A S → Type 0)
@@ -46,20 +47,20 @@ module _ {F S : Type 0} where
       (future : F)
       (new : OrderedBounded F A S)
       : Type 0 where
-    -- the future went in at this end
+    -- the future was added at this end
     pub pushed : adds old future new
-    -- there are as many slots as before
+    -- the number of slots does not change
     pub capacity : slots_in new.set ≡ slots_in old.set
 
-  -- as many futures are in progress as the queue has slots; outputs that are kept do not count
+  -- as many futures are in progress as the queue has slots; kept outputs do not count
   abbrev pub QueueIsFull : {A : Type 0} → OrderedBounded F A S → Type 0
   QueueIsFull q = SetIsFull q.set
 
-  -- no entry, and every slot free, over a source made for these slots
+  -- the set is new, with `cap` slots and this limit; there is no entry, and at least `cap` entries have a place
   abbrev pub IsNewBoundedQueue : {A : Type 0} → (ℕ → S → Type 0) → ℕ → ℕ → OrderedBounded F A S → Type 0
   IsNewBoundedQueue made cap limit = IsNewQueue (IsNewSet made cap limit) cap
 
-  -- these items were added at the back, in order, to a new queue of a slot for each
+  -- these items were added at the back, in order, to a new queue with a slot for each
   pub record HoldsInOrder {A : Type 0} (made : ℕ → S → Type 0) (marks : S → ℕ → Woke → S → Type 0)
       (limit : ℕ) (items : List F) (q : OrderedBounded F A S) : Type 0 where
     pub start : OrderedBounded F A S
@@ -71,11 +72,11 @@ module _ {F S : Type 0} where
   EachRunning P set = AllHeld (CanPollFuture P) set.slots
 
 module _ {F A S : Type 0} (polled : ℕ → F → Poll A → F → Type 0) where
-  -- one of the futures may give this output, with this number
+  -- some future may give this output, with this number
   abbrev pub SetMayGive : Bounded (Numbered F) S → ℕ × A → Type 0
   SetMayGive set = AnyMayGive (PollsNumbered polled) set.slots
 
-  -- what one poll of the set gives, whose output comes with its number, told of the set alone
+  -- what one poll of the set returns, as a relation of the set alone; an output comes with its number
   abbrev pub SetGives : SourceSteps S → Bounded (Numbered F) S → Poll (Option (ℕ × A)) → Bounded (Numbered F) S → Type 0
   SetGives steps = PollGives (PollsNumbered polled) steps
 
@@ -97,7 +98,7 @@ module _
     (rule : PollOneOf R F W A)
     (source : ReadySourceOf S W)
   where
-    -- how the set of a queue is polled, where `rule` says how one future is
+    -- how the set of a queue is polled, if `rule` says how one future is polled
     abbrev pub bounded_polls : NumberedPollsOf (Bounded (Numbered F) S) R A
     bounded_polls = record {
       can_poll = EachRunning rule.can_poll;
@@ -105,12 +106,13 @@ module _
       needs = λ set n. (0 < held_in set) × source.needs set.source n;
     }
 
-    -- One poll of a bounded queue, over the queue and the task, for definitions and laws: they can quote no impl.
+    -- One poll of a bounded queue, over the queue and the task. It is for definitions and laws, which can quote no
+    -- impl.
     abbrev pub PollsOrderedBounded : OrderedBounded F A S → Poll (Option A) → OrderedBounded F A S
         → Context → Context → Type 0
     PollsOrderedBounded = PollsOrdered held_in SameSize bounded_polls
 
-    -- how many names one poll of the set took
+    -- how many ready slots one poll of the set took
     abbrev pub names_taken : (old : Bounded (Numbered F) S) (answer : Poll (Option (ℕ × A)))
         (new : Bounded (Numbered F) S) (cx left : Context)
         → PollsBounded (of_numbered rule) source old answer new cx left → ℕ
@@ -118,7 +120,7 @@ module _
     names_taken old (Ready (Some out)) new cx left poll = length poll.gave.1.2.takes.names + 1
     names_taken old Pending new cx left poll = length poll.gave.1.takes.names
 
-    -- how many names the polls of the set took that gave an output each
+    -- how many ready slots were taken by the polls of the set that returned an output each
     abbrev pub names_of_row : (old : Ordered (Bounded (Numbered F) S × Context) A)
         (row : List (ℕ × A)) (new : Ordered (Bounded (Numbered F) S × Context) A)
         → FoldsTo (SetYields (BesideTask (PollsBounded (of_numbered rule) source))) old row new → ℕ
@@ -127,14 +129,14 @@ module _
         names_taken old.set.0 (Ready (Some out)) row.0.set.0 old.set.1 row.0.set.1 row.1.gave
         + names_of_row row.0 outs new row.2
 
-    -- how many names the last step took, where the set was polled
+    -- how many ready slots the last step took; 0 if it did not poll the set
     abbrev pub names_of_last : (old : Ordered (Bounded (Numbered F) S × Context) A)
         (answer : Poll (Option A)) (new : Ordered (Bounded (Numbered F) S × Context) A)
         → LastStep (BesideTask (PollsBounded (of_numbered rule) source)) old answer new → ℕ
     names_of_last old (Ready _) new step = 0
     names_of_last old Pending new step = names_taken old.set.0 Pending new.set.0 old.set.1 new.set.1 step.1
 
-    -- each poll takes at most as many names as the limit is, for each future that is in progress as it begins
+    -- each poll takes at most `limit` ready slots for each future that is in progress as the poll begins
     abbrev pub TakesFewNames : Type 0
     TakesFewNames = (old : OrderedBounded F A S) (answer : Poll (Option A))
         (new : OrderedBounded F A S) (cx left : Context)

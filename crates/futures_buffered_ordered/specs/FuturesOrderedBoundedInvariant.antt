@@ -1,4 +1,4 @@
--- How a bounded ordered queue keeps itself. No public clause cites it.
+-- The invariant of a bounded ordered queue. No public clause cites it.
 use Rattle.std.specs.Prelude.{◌^◌, ◌<◌, ◌≤◌}
 use Rattle.futures_buffered_core.specs.SlotMap.{slot_count}
 use Rattle.futures_buffered_unordered.specs.FuturesUnorderedBounded.{Bounded, held_in}
@@ -6,7 +6,7 @@ use Rattle.futures_buffered_ordered.specs.Numbered.{held_with}
 use Rattle.futures_buffered_ordered.specs.OrderedEntriesInvariant.{Numbering, IsNumbered}
 use Rattle.futures_buffered_ordered.specs.declared.numbered.Numbered.{Numbered}
 
--- the numbers are in order, and the list has room for an entry of each slot
+-- the numbers are in order, the list was made with a place for each slot, and there are fewer than 2^62 slots
 pub record KeepsBoundedQueue
     {F A S : Type 0}
     (q : Numbering (Bounded (Numbered F) S) A)

@@ -1,5 +1,5 @@
--- How an ordered queue finds the entry of a future: what its numbers are, and what its calls ask and keep of them. The
--- contracts of `OrderedEntries` cite it, and those of the queues do not.
+-- The invariant by which an ordered queue finds the entry of a future: what its numbers are, and what its calls require
+-- and keep of them. The contracts of `OrderedEntries` cite it, and the contracts of the queues do not.
 use Rattle.std.specs.Prelude.{◌≡◌, ℕ, ◌+◌, ◌-◌, ◌^◌, ◌%◌, ◌<◌, List, length, Option, Some, count_by}
 use Rattle.std.specs.List.{slice_get}
 use Rattle.futures.specs.declared.task.Poll.{Poll}
@@ -10,18 +10,18 @@ use Rattle.futures_buffered_ordered.specs.declared.ordered_entries.Entry.TheVari
 use Rattle.futures_buffered_ordered.specs.declared.ordered_entries.TheConstants.{MAX_LEN}
 use Rattle.futures_buffered_ordered.specs.OrderedEntries.{NumberedSetOf, Ordered, PollsOrdered, is_running, runs_with}
 
--- the place of the entry with this number, where the front has the number outgoing and numbers wrap
+-- the place of the entry with this number, if the front has the number `outgoing` and numbers wrap
 abbrev pub place_of : ℕ → ℕ → ℕ
 place_of outgoing number = (number + (2 ^ 64 - outgoing)) % 2 ^ 64
 
--- a queue, how many entries it has a place for, and the number of its front
+-- a queue, for how many entries it has places, and the number of its front
 pub record Numbering (Q A : Type 0) : Type 0 where
   pub queue : Ordered Q A
   pub places : ℕ
   pub outgoing : ℕ
 
--- Numbers rise by one from entry to entry, and wrap. The set holds as many futures of each number as entries in
--- progress have it. The length has no more than 63 bits, so no number comes twice.
+-- Numbers rise by one from entry to entry, and wrap. The set holds as many futures as entries are in progress, and of
+-- each number as many as such entries have it. There are fewer than 2^63 entries, so no number comes twice.
 pub record KeepsNumbers
     {Q A : Type 0}
     (with_number : ℕ → Q → ℕ)
@@ -40,7 +40,7 @@ pub record KeepsNumbers
 abbrev pub IsNumbered : {Q A : Type 0} → (ℕ → Q → ℕ) → (Q → ℕ) → Numbering Q A → Type 0
 IsNumbered with_number count n = KeepsNumbers with_number count n.queue.set n.queue.entries n.outgoing
 
--- The future went into the set with number i, and its entry is still to come.
+-- The future was pushed into the set, with number i. Its entry is not added yet.
 pub record Admits
     {F Q A : Type 0}
     (numbers : NumberedSetOf Q F)
@@ -55,7 +55,7 @@ pub record Admits
   pub room : new.room ≡ old.room
   pub short : length old.entries < MAX_LEN
 
--- What additions, from old to new, leave of a queue, whether they go in or not.
+-- What additions, from `old` to `new`, keep of a queue, whether or not they succeed.
 pub record AddingKeeps
     {Q A : Type 0}
     (with_number : ℕ → Q → ℕ)
@@ -63,9 +63,9 @@ pub record AddingKeeps
     (keeps : Q → Q → Type 0)
     (old new : Numbering Q A)
     : Type 0 where
-  -- this stays of the set
+  -- `keeps` holds of the set before and after
   pub set : keeps old.queue.set new.queue.set
-  -- so does the number of places that were made with the queue
+  -- `room` does not change
   pub room : new.queue.room ≡ old.queue.room
   -- the numbers are in order
   pub numbered : IsNumbered with_number count new
@@ -78,12 +78,12 @@ pub record CanPollEntries
     (count : Q → ℕ)
     (n : Numbering Q A)
     : Type 0 where
-  -- each future in progress can be polled
+  -- each future in progress may be polled
   pub can : can_poll n.queue.set
   -- the numbers are in order
   pub numbered : IsNumbered with_number count n
 
--- One poll, which took a numbered queue from old to new and the task from cx to left.
+-- One poll, which takes a numbered queue from `old` to `new` and the task from `cx` to `left`.
 pub record PollsEntries
     {Q R A : Type 0}
     (with_number : ℕ → Q → ℕ)
@@ -95,7 +95,7 @@ pub record PollsEntries
     (new : Numbering Q A)
     (cx left : Context)
     : Type 0 where
-  -- what it is of the queue
+  -- what the poll is for the queue
   pub polls : PollsOrdered count keeps polls_set old.queue answer new.queue cx left
   -- the numbers are in order
   pub numbered : IsNumbered with_number count new

@@ -1,7 +1,7 @@
 //! A queue of any number of futures in progress, which yields outputs in the order of its entries.
 //!
-//! The futures stand in a set that grows by groups. Each has an entry in a list, to which pushes add at either end. A
-//! poll yields the front alone: an output that comes before its turn is kept in its entry.
+//! The futures are in a set that grows by groups. Each has an entry in a list, to which a push adds at either end. A
+//! poll yields the output of the front alone: an output that comes before its turn is kept in its entry.
 ghost use Rattle.std.specs.Prelude.{◌≡◌, ◌↔◌, ◌≤◌, [], length, IsTrue};
 ghost use Rattle.futures_buffered_core.specs.Drawn.{IsFiniteSource, items_of};
 ghost use Rattle.futures_buffered_core.specs.Made.{MakesGroup};
@@ -106,18 +106,19 @@ impl<T: Drop, S: NewSource, R: PollOne<T, S::Waker>> PollNumberedSet<R>
 
 /// Any number of futures, whose outputs come in the order of a list, with additions at both ends.
 ///
-/// A contract sees the set that holds the futures in progress, each with a number, the entries from the front to the
-/// back, where one in progress has the number of its future, and how many entries had a place when the queue was made.
-/// Of a number it says no more than which entry and which future have it. A push, the keeping of an output, its
-/// yielding, and calls that ask how much is held take the same time at any length and any number of groups. If a push
-/// finds as many entries as places, the list grows, and if the last group is full, the set does, which over many pushes
-/// is the same time for each. No call waits for another thread.
+/// A contract sees the set that holds the futures in progress, each with a number, and the entries from the front to
+/// the back. An entry in progress has the number of its future. Of a number the contract says only which entry and
+/// which future have it. The contract also sees how many entries had a place when the queue was made.
+///
+/// A push, keeping an output, yielding it, and calls that only count take the same time at any length and any number of
+/// groups. If a push finds as many entries as places, the list grows. If the last group is full, the set grows. Over
+/// many pushes that is the same time for each. No call waits for another thread.
 #[derive(Drop)]
 pub struct GrowingQueue<T: Drop, A: Drop, S: NewSource> {
     queue: OrderedEntries<FuturesUnordered<Numbered<T>, S>, A>,
 }
 
-/// The queue with the outputs of its futures. It is the name that a caller writes.
+/// The queue of futures with their own outputs. It is the name that a caller writes.
 pub type FuturesOrdered<T, S = SharedReady> = GrowingQueue<
     T,
     <T as SlotFuture<<S as ReadySource>::Waker>>::Output,
@@ -151,20 +152,20 @@ impl<T: Drop, A: Drop, S: NewSource> GrowingQueue<T, A, S> {
         self.queue.is_empty()
     }
 
-    /// How many names one poll of the set takes from each group, at most. It never changes.
+    /// How many ready slots one poll of the set takes from each group, at most. This limit never changes.
     pub fn limit(&self) -> usize
         ensures { result ≡ self.now.set.limit }
     {
         self.queue.set.limit()
     }
 
-    /// Adds the future behind all others, in progress. It goes into the set as its `push` does, so that a later poll
+    /// Adds the future after all others, in progress. It goes into the set as its `push` does, so that a later poll
     /// polls it.
     ///
-    /// The future comes back if the queue has `MAX_LEN` entries, if the set refuses it, and if an allocation fails; the
-    /// queue has not changed then. Allocates only if there are as many entries as places for them, and if the last group
-    /// is full. Polls nothing. A caller should count on no wake from it, though one that makes a group may wake the task
-    /// that waits.
+    /// Returns the future, and changes nothing, if the queue has `MAX_LEN` entries, if the set refuses the future, or
+    /// if an allocation fails. Allocates only if there are as many entries as places for them, or if the last group is
+    /// full. Polls nothing. A caller should not count on a wake, but a push that makes a group may wake the task that
+    /// waits.
     pub fn push_back(&mut self, future: T) -> Result<(), T>
         ensures { PushesOrHandsBack AddsBack (growing_numbers S.ReadySource S.made)
             self.old future result self.new }
@@ -172,7 +173,7 @@ impl<T: Drop, A: Drop, S: NewSource> GrowingQueue<T, A, S> {
         self.queue.add_back(future)
     }
 
-    /// As `push_back`, before all others: its output is the next to be yielded.
+    /// As `push_back`, before all others: the queue yields its output next.
     pub fn push_front(&mut self, future: T) -> Result<(), T>
         ensures { PushesOrHandsBack AddsFront (growing_numbers S.ReadySource S.made)
             self.old future result self.new }
@@ -180,8 +181,8 @@ impl<T: Drop, A: Drop, S: NewSource> GrowingQueue<T, A, S> {
         self.queue.add_front(future)
     }
 
-    /// As `push_back`, for a caller that has no use for a future that is refused: it is dropped, the queue has not
-    /// changed, and the error says why. So `?` takes it.
+    /// As `push_back`, for a caller that has no use for a future that is refused. Drops that future, does not change
+    /// the queue, and returns the reason, so that `?` takes it.
     pub fn add_back(&mut self, future: T) -> Result<(), NewFault>
         ensures { AddsOrStays AddsBack (growing_numbers S.ReadySource S.made)
             self.old future result self.new }
@@ -192,7 +193,7 @@ impl<T: Drop, A: Drop, S: NewSource> GrowingQueue<T, A, S> {
         Ok(())
     }
 
-    /// As `add_back`, before all others: its output is the next to be yielded.
+    /// As `add_back`, before all others: the queue yields its output next.
     pub fn add_front(&mut self, future: T) -> Result<(), NewFault>
         ensures { AddsOrStays AddsFront (growing_numbers S.ReadySource S.made)
             self.old future result self.new }
@@ -203,8 +204,8 @@ impl<T: Drop, A: Drop, S: NewSource> GrowingQueue<T, A, S> {
         Ok(())
     }
 
-    /// Adds each item at the back, in order, as `push_back` does. The first that is refused comes back; those before it
-    /// stay, and the iterator is asked for no further one.
+    /// Adds each item at the back, in order, as `push_back` does. Returns the first item that is refused; the items
+    /// before it stay, and no further item is taken from the iterator.
     pub fn extend<I: IntoIterator<Item = T>>(&mut self, iter: I) -> Result<(), T>
         requires { IsFiniteSource (items_of I.IntoIterator I.IntoIter.Iterator iter) }
         ensures { Extends (items_of I.IntoIterator I.IntoIter.Iterator iter)
@@ -214,10 +215,10 @@ impl<T: Drop, A: Drop, S: NewSource> GrowingQueue<T, A, S> {
         self.queue.extend(iter)
     }
 
-    /// Drops each entry: the future that is in progress, with the groups, or the output that is kept.
+    /// Drops each entry, with its future in progress or its kept output. Drops the groups too.
     ///
-    /// There is a place for as many entries as before. Takes no memory, and time in proportion to the slots of the
-    /// groups and the entries, besides the drops. Wakes a task that waits, as that of `FuturesUnordered` does.
+    /// There is a place for as many entries as before. Does not allocate. Takes time in proportion to the slots of the
+    /// groups and the entries, apart from the drops. Wakes a task that waits, as `clear` of `FuturesUnordered` does.
     pub fn clear(&mut self)
         ensures { self.new ≡ without_entries (no_groups self.old.set.limit) self.old }
     {
@@ -225,12 +226,14 @@ impl<T: Drop, A: Drop, S: NewSource> GrowingQueue<T, A, S> {
         self.queue.drop_entries();
     }
 
-    /// One poll of the queue, where `rule` says how one held future is polled.
+    /// Polls the queue once; `rule` says how one held future is polled.
     ///
-    /// `Ready(None)` where there is no entry. A front whose output is kept leaves with it, and the set is not asked.
-    /// Else the set is polled again and again: each output that it gives is kept in its entry, until the front's has
-    /// come and is yielded, or the set answers `Pending`. Does not allocate. Takes
-    /// the time of the set's polls, of which there is at most one more than outputs came.
+    /// Returns `Ready(None)` if there is no entry. If the front's output is kept, removes the front and returns its
+    /// output, without a poll of the set. Otherwise polls the set again and again, and keeps each output in its entry,
+    /// until the front's output has come or the set returns `Pending`. Then returns the front's output, or `Pending`.
+    ///
+    /// Does not allocate. Takes the time of the set's polls. There is at most one more of these polls than outputs that
+    /// they return.
     pub fn poll_with<R: PollOne<T, S::Waker, Output = A>>(
         &mut self,
         rule: &R,
@@ -244,15 +247,15 @@ impl<T: Drop, A: Drop, S: NewSource> GrowingQueue<T, A, S> {
         self.queue.poll_entries(rule, cx)
     }
 
-    /// Whether nothing more goes in: the queue has `MAX_LEN` entries, or its set is at its bound. A push is refused
-    /// then, and else only where a request for memory is.
+    /// Whether the queue takes no more futures: it has `MAX_LEN` entries, or its set is at its bound. A push fails
+    /// then, and otherwise only if an allocation fails.
     pub fn is_at_bound(&self) -> bool
         ensures { IsTrue result ↔ QueueIsAtBound SetRefuses self.now }
     {
         self.queue.set.is_at_bound() || self.queue.len() == MAX_LEN
     }
 
-    // Why a push that was refused just now was refused.
+    // Why a push failed just now.
     fn fault(&self) -> NewFault
         ensures { (result ≡ NewFault.TooLarge) ↔ QueueIsAtBound SetRefuses self.now }
     {
@@ -265,17 +268,17 @@ impl<T: Drop, A: Drop, S: NewSource> GrowingQueue<T, A, S> {
 }
 
 impl<T: SlotFuture<S::Waker, Output = A>, A: Drop, S: NewSource> GrowingQueue<T, A, S> {
-    /// An empty queue over sources that are made by `env`, which it keeps. It has one group of `n` slots, or none where
-    /// `n` is 0, and a place for `n` entries.
+    /// Makes an empty queue with one group of `n` slots, or with none if `n` is 0, and a place for `n` entries. The
+    /// queue keeps `env`, by which its sources are made.
     ///
-    /// Takes time and memory in proportion to `n`.
+    /// Allocates and takes time in proportion to `n`.
     pub fn over(env: S::Env, alloc: Global, n: usize) -> Result<Self, NewFault>
         ensures { MakesGroup n (IsNewGrowingQueue S.made n POLL_LIMIT) result }
     {
         Self::over_limit(env, alloc, n, POLL_LIMIT)
     }
 
-    /// As `over`, where one poll of the set takes at most `limit` names from each group, also from those that are made
+    /// As `over`; one poll of the set takes at most `limit` ready slots from each group, also from groups that are made
     /// later.
     pub fn over_limit(env: S::Env, alloc: Global, n: usize, limit: usize) -> Result<Self, NewFault>
         requires { 1 ≤ limit }
@@ -288,7 +291,7 @@ impl<T: SlotFuture<S::Waker, Output = A>, A: Drop, S: NewSource> GrowingQueue<T,
 }
 
 impl<T: SlotFuture<SharedWaker, Output = A>, A: Drop> GrowingQueue<T, A, SharedReady> {
-    /// An empty queue without a group, whose futures are woken from any thread. Takes no memory.
+    /// Makes an empty queue without a group, whose futures are woken from any thread. Does not allocate.
     pub fn new(alloc: Global) -> Self
         ensures set { result.set ≡ no_groups POLL_LIMIT }
         ensures entries { result.entries ≡ [] }
@@ -298,15 +301,15 @@ impl<T: SlotFuture<SharedWaker, Output = A>, A: Drop> GrowingQueue<T, A, SharedR
         }
     }
 
-    /// An empty queue with one group of `n` slots, or none where `n` is 0, and a place for `n` entries, whose futures
-    /// are woken from any thread. It is `over` with shared sources, and refuses as `over` does.
+    /// Makes an empty queue with one group of `n` slots, or with none if `n` is 0, and a place for `n` entries. Its
+    /// futures are woken from any thread. It is `over` with shared sources, and fails as `over` does.
     pub fn with_capacity(alloc: Global, n: usize) -> Result<Self, NewFault>
         ensures { MakesGroup n (IsNewGrowingQueue IsNewShared n POLL_LIMIT) result }
     {
         Self::over((), alloc, n)
     }
 
-    /// As `with_capacity`, where one poll of the set takes at most `limit` names from each group, also from those that
+    /// As `with_capacity`; one poll of the set takes at most `limit` ready slots from each group, also from groups that
     /// are made later.
     pub fn with_limit(alloc: Global, n: usize, limit: usize) -> Result<Self, NewFault>
         requires { 1 ≤ limit }
@@ -315,12 +318,11 @@ impl<T: SlotFuture<SharedWaker, Output = A>, A: Drop> GrowingQueue<T, A, SharedR
         Self::over_limit((), alloc, n, limit)
     }
 
-    /// A queue of the items, each added at the back, in order. Its first group has as many slots as the iterator says
-    /// that it has items at least, and not fewer than `FIRST_GROUP`.
+    /// Makes a queue of the items, each added at the back, in order. Its first group has a slot for each item that
+    /// `size_hint` of the iterator promises, and at least `FIRST_GROUP` slots.
     ///
-    /// Takes time and memory in proportion to the number of items and to that first number. Where it is refused, the
-    /// items that came are dropped: `TooLarge` where that number or a later group is too large, or more than `MAX_LEN`
-    /// came.
+    /// If it fails, drops the items that it took. Fails with `TooLarge` if the first group or a later one is too large,
+    /// or if more than `MAX_LEN` items came. Allocates and takes time in proportion to the items and the first group.
     pub fn from_iter<I: IntoIterator<Item = T>>(alloc: Global, iter: I) -> Result<Self, NewFault>
         requires { IsFiniteSource (items_of I.IntoIterator I.IntoIter.Iterator iter) }
         ensures { MakesSharedQueue (items_of I.IntoIterator I.IntoIter.Iterator iter) result }

@@ -1,7 +1,7 @@
 //! A queue of as many futures in progress as it has slots, which yields outputs in the order of its entries.
 //!
-//! The futures stand in a bounded set. Each has an entry in a list, to which pushes add at either end. A poll yields
-//! the front alone: an output that comes before its turn is kept in its entry.
+//! The futures are in a bounded set. Each has an entry in a list, to which a push adds at either end. A poll yields the
+//! output of the front alone: an output that comes before its turn is kept in its entry.
 ghost use Rattle.std.specs.Prelude.{◌≡◌, ◌↔◌, ◌<◌, ◌≤◌, length, IsOk, IsTrue};
 ghost use Rattle.futures_buffered_core.specs.Drawn.{IsFiniteSource, items_of};
 ghost use Rattle.futures_buffered_core.specs.Made.{MakesSlots};
@@ -104,17 +104,19 @@ impl<T: Drop, S: ReadySource, R: PollOne<T, S::Waker>> PollNumberedSet<R>
 
 /// Futures whose outputs come in the order of a list, with additions at both ends.
 ///
-/// A contract sees the set that holds the futures in progress, each with a number, the entries from the front to the
-/// back, where one in progress has the number of its future, and how many entries had a place when the queue was made.
-/// Outputs that are kept take no slot, so `len` may pass `capacity`. A push, the keeping of an output, its yielding, and
-/// calls that ask how much is held take the same time at any length. If a push finds as many entries as places, the list
-/// grows, which over many pushes is the same time for each. No call waits for another thread.
+/// A contract sees the set that holds the futures in progress, each with a number, and the entries from the front to
+/// the back. An entry in progress has the number of its future. The contract also sees how many entries had a place
+/// when the queue was made. A kept output occupies no slot, so `len` may exceed `capacity`.
+///
+/// A push, keeping an output, yielding it, and calls that only count take the same time at any length. If a push finds
+/// as many entries as places, the list grows, which over many pushes is the same time for each. No call waits for
+/// another thread.
 #[derive(Drop)]
 pub struct BoundedQueue<T: Drop, A: Drop, S: ReadySource> {
     queue: OrderedEntries<FuturesUnorderedBounded<Numbered<T>, S>, A>,
 }
 
-/// The queue with the outputs of its futures. It is the name that a caller writes.
+/// The queue of futures with their own outputs. It is the name that a caller writes.
 pub type FuturesOrderedBounded<T, S = SharedReady> = BoundedQueue<
     T,
     <T as SlotFuture<<S as ReadySource>::Waker>>::Output,
@@ -154,7 +156,7 @@ impl<T: Drop, A: Drop, S: ReadySource> BoundedQueue<T, A, S> {
         self.queue.set.capacity()
     }
 
-    /// How many names one poll of the set takes, at most. It never changes.
+    /// How many ready slots one poll of the set takes, at most. This limit never changes.
     pub fn limit(&self) -> usize
         ensures { result ≡ self.now.set.limit }
     {
@@ -168,7 +170,8 @@ impl<T: Drop, A: Drop, S: ReadySource> BoundedQueue<T, A, S> {
         self.queue.set.len() == self.queue.set.capacity()
     }
 
-    /// Marks a slot by hand, whether it holds a future or not. Wakes nobody, and takes as long as a mark of the source.
+    /// Marks a slot by hand, whether or not it holds a future. Takes as long as a mark of the source, and does not wake
+    /// the task.
     pub fn mark_slot(&mut self, i: usize) -> Woke
         requires { i < slot_count self.old.set.slots }
         ensures marked { S.marks self.old.set.source i result self.new.set.source }
@@ -180,12 +183,12 @@ impl<T: Drop, A: Drop, S: ReadySource> BoundedQueue<T, A, S> {
         self.queue.set.mark_slot(i)
     }
 
-    /// Adds the future behind all others, in progress. It goes into a slot, which is marked, so that a later poll polls
+    /// Adds the future after all others, in progress. It goes into a slot, which is marked, so that a later poll polls
     /// it.
     ///
-    /// The future comes back, and the queue has not changed, if the queue is full, if it has `MAX_LEN` entries, and if
-    /// an allocation fails. Allocates only if there are as many entries as places for them, which are never fewer than
-    /// the slots: so it succeeds if `len` is below `capacity`. Polls nothing, and wakes no task.
+    /// Returns the future, and changes nothing, if the queue is full, if it has `MAX_LEN` entries, or if an allocation
+    /// fails. Allocates only if there are as many entries as places for them. There are never fewer places than slots,
+    /// so a push succeeds if `len` is below `capacity`. Polls nothing, and wakes no task.
     pub fn try_push_back(&mut self, future: T) -> Result<(), T>
         ensures push { PushesOrHandsBack AddsBack (bounded_numbers S.ReadySource)
             self.old future result self.new }
@@ -194,7 +197,7 @@ impl<T: Drop, A: Drop, S: ReadySource> BoundedQueue<T, A, S> {
         self.queue.add_back(future)
     }
 
-    /// As `try_push_back`, before all others: its output is the next to be yielded.
+    /// As `try_push_back`, before all others: the queue yields its output next.
     pub fn try_push_front(&mut self, future: T) -> Result<(), T>
         ensures push { PushesOrHandsBack AddsFront (bounded_numbers S.ReadySource)
             self.old future result self.new }
@@ -203,7 +206,7 @@ impl<T: Drop, A: Drop, S: ReadySource> BoundedQueue<T, A, S> {
         self.queue.add_front(future)
     }
 
-    /// As `try_push_back`, for a queue whose `len` is below its `capacity`. Takes no memory.
+    /// As `try_push_back`, for a queue whose `len` is below its `capacity`. Does not allocate.
     pub fn push_back(&mut self, future: T)
         requires { length self.old.entries < slot_count self.old.set.slots }
         ensures { PushesEntry (AddsBack (PushesNumber S.marks)) self.old future self.new }
@@ -214,7 +217,7 @@ impl<T: Drop, A: Drop, S: ReadySource> BoundedQueue<T, A, S> {
         }
     }
 
-    /// As `try_push_front`, for a queue whose `len` is below its `capacity`. Takes no memory.
+    /// As `try_push_front`, for a queue whose `len` is below its `capacity`. Does not allocate.
     pub fn push_front(&mut self, future: T)
         requires { length self.old.entries < slot_count self.old.set.slots }
         ensures { PushesEntry (AddsFront (PushesNumber S.marks)) self.old future self.new }
@@ -225,8 +228,8 @@ impl<T: Drop, A: Drop, S: ReadySource> BoundedQueue<T, A, S> {
         }
     }
 
-    /// Adds each item at the back, in order, as `try_push_back` does. The first that is refused comes back; those
-    /// before it stay, and the iterator is asked for no further one.
+    /// Adds each item at the back, in order, as `try_push_back` does. Returns the first item that is refused; the items
+    /// before it stay, and no further item is taken from the iterator.
     pub fn extend<I: IntoIterator<Item = T>>(&mut self, iter: I) -> Result<(), T>
         requires { IsFiniteSource (items_of I.IntoIterator I.IntoIter.Iterator iter) }
         ensures extends { Extends (items_of I.IntoIterator I.IntoIter.Iterator iter)
@@ -236,12 +239,12 @@ impl<T: Drop, A: Drop, S: ReadySource> BoundedQueue<T, A, S> {
         self.queue.extend(iter)
     }
 
-    /// Drops each entry: the future that is in progress, or the output that is kept. Each slot is free then, and slot 0
-    /// is the first to be used again.
+    /// Drops each entry, with its future in progress or its kept output. Each slot is free then, and slot 0 is the
+    /// first to be used again.
     ///
     /// A slot that was marked stays marked, as with `clear` of the set. There is a place for as many entries as before.
-    /// Takes no memory, and time in proportion to the capacity and the entries, besides the drops. Wakes nobody itself;
-    /// what is dropped may.
+    /// Does not allocate. Takes time in proportion to the capacity and the entries, apart from the drops. The call
+    /// itself does not wake the task; a dropped value may.
     pub fn clear(&mut self)
         ensures { self.new ≡ without_entries (emptied self.old.set) self.old }
     {
@@ -249,12 +252,15 @@ impl<T: Drop, A: Drop, S: ReadySource> BoundedQueue<T, A, S> {
         self.queue.drop_entries();
     }
 
-    /// One poll of the queue, where `rule` says how one held future is polled.
+    /// Polls the queue once; `rule` says how one held future is polled.
     ///
-    /// `Ready(None)` where there is no entry. A front whose output is kept leaves with it, and the source is not asked.
-    /// Else the set is polled again and again: each output that it gives is kept in its entry, until the front's has
-    /// come and is yielded, or the set answers `Pending`. Does not allocate. Takes
-    /// at most `limit` names for each future in progress, and the time of the polls of what these hold.
+    /// Returns `Ready(None)` if there is no entry. If the front's output is kept, removes the front and returns its
+    /// output, without a call of the source. Otherwise polls the set again and again, and keeps each output in its
+    /// entry, until the front's output has come or the set returns `Pending`. Then returns the front's output, or
+    /// `Pending`.
+    ///
+    /// Does not allocate. Takes at most `limit` ready slots for each future in progress, and the time of the polls of
+    /// what these slots hold.
     pub fn poll_with<R: PollOne<T, S::Waker, Output = A>>(
         &mut self,
         rule: &R,
@@ -269,9 +275,9 @@ impl<T: Drop, A: Drop, S: ReadySource> BoundedQueue<T, A, S> {
     }
 }
 
-/// Each poll of a queue takes at most `limit` names for each future that is in progress as it begins.
+/// Each poll of a queue takes at most `limit` ready slots for each future that is in progress as the poll begins.
 ///
-/// A law of the relation in the contract of a poll. Its body is empty.
+/// This is a law of the relation in the contract of a poll. Its body is empty.
 pub fn polls_take_few_names<T, S: ReadySource, R: PollOne<T, S::Waker>>()
     ensures { TakesFewNames R.PollOne S.ReadySource }
 {}
@@ -280,16 +286,16 @@ impl<T: Drop, A: Drop, S: NewSource> BoundedQueue<T, A, S>
 where
     T: SlotFuture<S::Waker, Output = A>,
 {
-    /// An empty queue of `n` slots over a source made for it.
+    /// Makes an empty queue of `n` slots over a source made for it.
     ///
-    /// Takes time and memory in proportion to `n`: the slots, the source, and a place for `n` entries.
+    /// Allocates and takes time in proportion to `n`: for the slots, the source, and a place for `n` entries.
     pub fn over(env: &S::Env, alloc: Global, n: usize) -> Result<Self, NewFault>
         ensures { MakesSlots n (IsNewBoundedQueue S.made n POLL_LIMIT) result }
     {
         Self::over_limit(env, alloc, n, POLL_LIMIT)
     }
 
-    /// As `over`, where one poll of the set takes at most `limit` names.
+    /// As `over`; one poll of the set takes at most `limit` ready slots.
     pub fn over_limit(env: &S::Env, alloc: Global, n: usize, limit: usize) -> Result<Self, NewFault>
         requires { 1 ≤ limit }
         ensures { MakesSlots n (IsNewBoundedQueue S.made n limit) result }
@@ -300,7 +306,7 @@ where
     }
 }
 
-// The items, in order, if there are no more than a queue has slots at most.
+// The items, in order, if they are no more than the slots that a queue may have.
 fn drawn<I: IntoIterator>(alloc: Global, iter: I) -> Result<Vec<I::Item>, NewFault>
 where
     I::Item: Drop,
@@ -320,15 +326,15 @@ where
 }
 
 impl<T: SlotFuture<SharedWaker, Output = A>, A: Drop> BoundedQueue<T, A, SharedReady> {
-    /// An empty queue of `n` slots, whose futures are woken from any thread. It is `over` with a shared source, and
-    /// refuses as `over` does.
+    /// Makes an empty queue of `n` slots, whose futures are woken from any thread. It is `over` with a shared source,
+    /// and fails as `over` does.
     pub fn new(alloc: Global, n: usize) -> Result<Self, NewFault>
         ensures { MakesSlots n (IsNewBoundedQueue IsNewShared n POLL_LIMIT) result }
     {
         Self::over(&(), alloc, n)
     }
 
-    /// As `new`, where one poll of the set takes at most `limit` names.
+    /// As `new`; one poll of the set takes at most `limit` ready slots.
     pub fn with_limit(alloc: Global, n: usize, limit: usize) -> Result<Self, NewFault>
         requires { 1 ≤ limit }
         ensures { MakesSlots n (IsNewBoundedQueue IsNewShared n limit) result }
@@ -336,9 +342,9 @@ impl<T: SlotFuture<SharedWaker, Output = A>, A: Drop> BoundedQueue<T, A, SharedR
         Self::over_limit(&(), alloc, n, limit)
     }
 
-    /// A full queue of the items, each added at the back, in order. It has as many slots as there are items.
+    /// Makes a full queue of the items, each added at the back, in order. It has as many slots as there are items.
     ///
-    /// Takes time and memory in proportion to that number. Where it is refused, the items that came are dropped.
+    /// If it fails, drops the items that it took. Allocates and takes time in proportion to the number of items.
     pub fn from_iter<I: IntoIterator<Item = T>>(alloc: Global, iter: I) -> Result<Self, NewFault>
         requires { IsFiniteSource (items_of I.IntoIterator I.IntoIter.Iterator iter) }
         ensures { MakesFull (items_of I.IntoIterator I.IntoIter.Iterator iter) (λ q. slots_in q.set)

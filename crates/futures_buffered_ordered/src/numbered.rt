@@ -5,7 +5,7 @@ use futures::task::Poll;
 use futures_buffered_unordered::poll_one::PollOne;
 use futures_buffered_unordered::slot_future::SlotHandle;
 
-/// What the set of a queue holds: a future, and the number that its entry has.
+/// A future in the set of a queue, with the number of its entry.
 #[derive(Drop)]
 pub struct Numbered<T> {
     /// The future in progress.
@@ -14,14 +14,14 @@ pub struct Numbered<T> {
     pub number: usize,
 }
 
-/// The rule that polls the future alone, by another rule. An output comes with the number.
+/// The rule that polls the future alone, by another rule. A poll returns an output with the number.
 #[derive(Clone, Copy)]
 pub struct PollNumbered<'a, R> {
     rule: &'a R,
 }
 
 impl<'a, R> PollNumbered<'a, R> {
-    /// The rule over this one.
+    /// Makes the rule over `rule`.
     pub fn new(rule: &'a R) -> Self {
         PollNumbered { rule }
     }

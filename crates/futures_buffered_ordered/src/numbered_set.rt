@@ -1,4 +1,4 @@
-//! What an ordered queue asks of the set that holds its futures in progress.
+//! What an ordered queue requires of the set that holds its futures in progress.
 ghost use Rattle.std.specs.Prelude.{◌≡◌, ◌↔◌, ℕ, Option, OnOk, OnErr, IfErr, IsErr, IsTrue};
 ghost use Rattle.futures_buffered_ordered.specs.Numbered.{PollsNumberedSet, PushesInto};
 
@@ -8,40 +8,40 @@ use futures::task::{Context, Poll};
 
 /// A set that takes a number with each future.
 ///
-/// An impl states, beside the calls, what they may do: relations between what it holds before and after.
+/// In addition to the calls, an impl says what they may do, by relations between the set before and after.
 pub trait NumberedSet: Drop {
-    /// What it holds.
+    /// The futures that the set holds.
     type Future: Drop;
 
-    // How many futures are held.
+    // How many futures the set holds.
     ghost count: { Self → ℕ };
 
-    // How many futures with this number are held.
+    // How many futures with this number the set holds.
     ghost with_number: { ℕ → Self → ℕ };
 
-    // What a push of a future with a number makes of it.
+    // What a push of a future with a number makes of the set.
     ghost pushes: { Self → Self.Future → ℕ → Self → Type 0 };
 
-    // It may refuse a push.
+    // The set may refuse a push.
     ghost may_refuse: { Self → Type 0 };
 
-    // It refuses each push, whether there is memory or not.
+    // The set refuses each push, even if no allocation fails.
     ghost refuses: { Self → Type 0 };
 
-    // What each call keeps of it.
+    // What each call keeps of the set.
     ghost keeps: { Self → Self → Type 0 };
 
-    // Pushes may be asked of it.
+    // The set can take pushes.
     ghost takes: { Self → Type 0 };
 
     // The futures that may be pushed.
     ghost is_fit: { Self.Future → Type 0 };
 
-    /// Whether it refuses each push, whether there is memory or not.
+    /// Whether the set refuses each push, even if no allocation fails.
     fn refuses_all(&self) -> bool
         ensures { IsTrue result ↔ refuses self.now };
 
-    /// Puts the future in, with its number. It comes back, and nothing has changed, where it is refused.
+    /// Adds the future, with its number. If the set refuses it, returns it, and changes nothing.
     fn push_numbered(&mut self, value: Numbered<Self::Future>) -> Result<(), Numbered<Self::Future>>
         requires held { takes self.old }
         requires fit { is_fit value.future }
@@ -57,9 +57,9 @@ pub trait NumberedSet: Drop {
     ghost keeps_on: { (a b c : Self) → keeps a b → keeps b c → keeps a c };
 }
 
-/// A numbered set under a rule by which one held future is polled, as its `NumberedPolls` says.
+/// A numbered set that can be polled, under a rule that polls one held future, as its `NumberedPolls` says.
 pub trait PollNumberedSet<R>: NumberedSet + NumberedPolls<R> {
-    /// One poll of the set. `Ready(None)` where nothing is held. Does not allocate.
+    /// Polls the set once. Returns `Ready(None)` only if the set is empty. Allocates what the set's own poll allocates.
     fn poll_numbered(
         &mut self,
         rule: &R,

@@ -1,7 +1,7 @@
 //! The entries of an ordered queue, over any set that takes a number with each future.
 //!
-//! Pushes add an entry at either end. A poll yields the front alone: an output that comes before its turn is kept in
-//! its entry.
+//! A push adds an entry at either end. A poll yields the output of the front alone: an output that comes before its
+//! turn is kept in its entry.
 ghost use Rattle.std.specs.Prelude.{◌≡◌, ◌↔◌, ◌<◌, ◌≤◌, ◌+◌, ℕ, [], ◌∷◌, length, true, false, IfOk, IfErr, OnOk, IsOk};
 ghost use Rattle.std.specs.Prelude.{IsErr, IsTrue, MatchOption};
 ghost use Rattle.futures.specs.Poll.{IfReady, OnPending};
@@ -26,20 +26,21 @@ use std::marker::Model;
 /// How many entries a queue has, at most.
 pub const MAX_LEN: usize = usize::MAX / 2;
 
-/// An entry of a queue: its future is in progress, or it is done and its output is kept.
+/// An entry of a queue: its future is in progress, or is done and its output is kept.
 #[derive(Drop)]
 pub enum Entry<A> {
-    /// Its future is in progress, and has this number.
+    /// The future is in progress, and has this number.
     Running(usize),
-    /// Its output, which waits for its turn.
+    /// The output, which waits for its turn.
     Kept(A),
 }
 
-/// A set of numbered futures and the list of entries over it.
+/// A set of numbered futures, and the list of entries over it.
 ///
-/// A contract sees the set, the entries from the front to the back, how many had a place when the queue was made, how
-/// many have one now, and the number of the front. It is what the queues are made of. Pushes and polls ask that the numbers are in order, and leave them so;
-/// they are where a new one stands over a set that holds nothing.
+/// A contract sees the set, the entries from the front to the back, and the number of the front. It also sees how many
+/// entries had a place when the queue was made, and how many have one now. The ordered queues are made of this type.
+/// Pushes and polls require that the numbers are in order, and leave them so. The numbers of a new value over an empty
+/// set are in order.
 #[derive(Drop)]
 pub struct OrderedEntries<Q: Drop, A: Drop> {
     /// The set that holds the futures in progress.
@@ -47,8 +48,8 @@ pub struct OrderedEntries<Q: Drop, A: Drop> {
     entries: VecDeque<Entry<A>>,
     // How many entries had a place when the queue was made. There may be places for more by now.
     room: usize,
-    // The number of the front. Numbers rise by one from entry to entry, and wrap: only their differences count, and
-    // there are fewer entries than half the numbers, so none ever changes.
+    // The number of the front. Numbers rise by one from entry to entry, and wrap: only their differences count. There
+    // are fewer entries than half the numbers, so the number of an entry never changes.
     outgoing: usize,
 }
 
@@ -73,7 +74,7 @@ impl<Q: Drop, A: Drop> Model for OrderedEntries<Q, A> {
 }
 
 impl<Q: Drop, A: Drop> OrderedEntries<Q, A> {
-    /// No entry over this set. Takes no memory.
+    /// Makes a queue without entries over this set. Does not allocate.
     pub fn new(alloc: Global, set: Q) -> Self
         ensures set { result.queue.set ≡ set }
         ensures entries { result.queue.entries ≡ [] }
@@ -87,7 +88,7 @@ impl<Q: Drop, A: Drop> OrderedEntries<Q, A> {
         }
     }
 
-    /// As `new`, with a place for `room` entries. Takes memory in proportion to that number, and none where it is 0.
+    /// As `new`, with a place for `room` entries. Allocates in proportion to `room`, and not at all if it is 0.
     pub fn with_room(alloc: Global, set: Q, room: usize) -> Result<Self, AllocError>
         ensures set { IfOk result (λ made. made.queue.set ≡ set) }
         ensures entries { IfOk result (λ made. made.queue.entries ≡ []) }
@@ -118,8 +119,8 @@ impl<Q: Drop, A: Drop> OrderedEntries<Q, A> {
         self.entries.is_empty()
     }
 
-    /// Drops each entry, with the output that it keeps. The set stays, so the caller has to take out what is in
-    /// progress. There is a place for as many entries as before. Takes no memory.
+    /// Drops each entry, with the output that it keeps. The set stays, so the caller has to remove the futures in
+    /// progress. There is a place for as many entries as before. Does not allocate.
     pub fn drop_entries(&mut self)
         ensures queue { self.new.queue ≡ without_entries self.old.queue.set self.old.queue }
         ensures first { self.new.outgoing ≡ 0 }
@@ -139,8 +140,8 @@ impl<Q: Drop, A: Drop> OrderedEntries<Q, A> {
 }
 
 impl<Q: NumberedSet, A: Drop> OrderedEntries<Q, A> {
-    // Makes a place for one entry more, and says whether there is one. Asks for no memory where the set would refuse
-    // all the same.
+    // Makes a place for one more entry, and returns whether there is one. Does not allocate if the set refuses all
+    // pushes.
     fn reserve_entry(&mut self) -> bool
         ensures queue { self.new.queue ≡ self.old.queue }
         ensures same { self.new.outgoing ≡ self.old.outgoing }
@@ -155,8 +156,8 @@ impl<Q: NumberedSet, A: Drop> OrderedEntries<Q, A> {
         self.entries.reserve(1).is_ok()
     }
 
-    // Makes a place for one entry more, and puts the future into the set with this number. The entry is still to come.
-    // Where either is refused, the future comes back.
+    // Makes a place for one more entry, and pushes the future into the set, with this number. The caller adds the
+    // entry. If there is no place, or if the set refuses the future, returns the future.
     fn admit(&mut self, future: Q::Future, number: usize) -> Result<(), Q::Future>
         requires held { Q.takes self.old.queue.set }
         requires fit { Q.is_fit future }
@@ -178,11 +179,11 @@ impl<Q: NumberedSet, A: Drop> OrderedEntries<Q, A> {
         }
     }
 
-    /// Adds the future behind all others, in progress, with the next number.
+    /// Adds the future after all others, in progress, with the next number.
     ///
-    /// The future comes back where the queue has `MAX_LEN` entries, where the set refuses it, and where a request for
-    /// memory was refused; the queue has not changed then. Asks for memory only where there are as many entries as places
-    /// for them, and where the set does.
+    /// Returns the future, and changes nothing, if the queue has `MAX_LEN` entries, if the set refuses the future, or
+    /// if an allocation fails. Allocates only if there are as many entries as places for them, or if the push into the
+    /// set does.
     pub fn add_back(&mut self, future: Q::Future) -> Result<(), Q::Future>
         requires numbered { IsNumbered Q.with_number Q.count self.old }
         requires held { Q.takes self.old.queue.set }
@@ -198,7 +199,7 @@ impl<Q: NumberedSet, A: Drop> OrderedEntries<Q, A> {
         Ok(())
     }
 
-    /// As `add_back`, before all others: its output is the next to be yielded.
+    /// As `add_back`, before all others: the queue yields its output next.
     pub fn add_front(&mut self, future: Q::Future) -> Result<(), Q::Future>
         requires numbered { IsNumbered Q.with_number Q.count self.old }
         requires held { Q.takes self.old.queue.set }
@@ -216,8 +217,8 @@ impl<Q: NumberedSet, A: Drop> OrderedEntries<Q, A> {
     }
 
     #[tactic(auto, using(crate::proofs::OrderedEntriesLemmas::adds_one_more))]
-    /// Adds each item at the back, in order, as `add_back` does. The first that is refused comes back; those before it
-    /// stay, and the iterator is asked for no further one.
+    /// Adds each item at the back, in order, as `add_back` does. Returns the first item that is refused; the items
+    /// before it stay, and no further item is taken from the iterator.
     pub fn extend<I: IntoIterator<Item = Q::Future>>(&mut self, iter: I) -> Result<(), Q::Future>
         requires finite { IsFiniteSource (items_of I.IntoIterator I.IntoIter.Iterator iter) }
         requires numbered { IsNumbered Q.with_number Q.count self.old }
@@ -233,7 +234,7 @@ impl<Q: NumberedSet, A: Drop> OrderedEntries<Q, A> {
         Ok(())
     }
 
-    // The output of the front, which leaves.
+    // Removes the front and returns its output. Returns `None` if there is no entry.
     fn pop_kept(&mut self) -> Option<A>
         requires kept { starts_running self.old.queue.entries ≡ false }
         requires numbered { IsNumbered Q.with_number Q.count self.old }
@@ -254,7 +255,7 @@ impl<Q: NumberedSet, A: Drop> OrderedEntries<Q, A> {
         }
     }
 
-    // One poll of the set. Its output goes into the entry that has its number.
+    // Polls the set once. Keeps the output in the entry that has its number.
     fn keep_next<R>(&mut self, rule: &R, cx: &mut Context<'_>) -> Poll<()>
     where
         Q: PollNumberedSet<R, Output = A>,
@@ -282,12 +283,14 @@ impl<Q: NumberedSet, A: Drop> OrderedEntries<Q, A> {
         }
     }
 
-    /// One poll of the queue, where `rule` says how one held future is polled.
+    /// Polls the queue once; `rule` says how one held future is polled.
     ///
-    /// `Ready(None)` where there is no entry. A front whose output is kept leaves with it, and the set is not asked.
-    /// Else the set is polled again and again: each output that it gives is kept in its entry, until the front's has
-    /// come and is yielded, or the set answers `Pending`. Takes no memory but what the set's polls take, and their
-    /// time: there is at most one more of them than outputs came.
+    /// Returns `Ready(None)` if there is no entry. If the front's output is kept, removes the front and returns its
+    /// output, without a poll of the set. Otherwise polls the set again and again, and keeps each output in its entry,
+    /// until the front's output has come or the set returns `Pending`. Then returns the front's output, or `Pending`.
+    ///
+    /// Allocates only what the set's polls do, and takes their time. There is at most one more of these polls than
+    /// outputs that they return.
     pub fn poll_entries<R>(&mut self, rule: &R, cx: &mut Context<'_>) -> Poll<Option<A>>
     where
         Q: PollNumberedSet<R, Output = A>,

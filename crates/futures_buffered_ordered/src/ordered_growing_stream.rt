@@ -1,4 +1,4 @@
-//! The ordered queue that grows as a stream, which says how much is left and whether it has ended.
+//! The growing ordered queue as a stream, which says how many outputs are left and whether it has ended.
 ghost use Rattle.std.specs.Prelude.{◌≡◌, length};
 ghost use Rattle.futures_buffered_unordered.specs.FuturesUnordered.{AnyNeeds};
 ghost use Rattle.futures_buffered_ordered.specs.OrderedEntries.{ComesInOrder, PollsOrdered};
@@ -31,7 +31,7 @@ where
 
     ghost yields = { ComesInOrder (GrowingMayGive T.polled) };
 
-    /// One poll, as `poll_with` by the rule that polls the future itself.
+    /// Polls the queue as `poll_with` does, by the rule that polls the future itself.
     fn poll_next(&mut self, cx: &mut Context<'_>) -> Poll<Option<A>>
         requires { EachInProgress T.can_poll self.old.set }
         ensures { PollsOrdered held_in_groups SameLimit

@@ -1,4 +1,4 @@
-//! The bounded ordered queue as a stream, which says how much is left and whether it has ended.
+//! The bounded ordered queue as a stream, which says how many outputs are left and whether it has ended.
 ghost use Rattle.std.specs.Prelude.{◌<◌, length};
 ghost use Rattle.futures_buffered_unordered.specs.FuturesUnorderedBounded.{held_in};
 ghost use Rattle.futures_buffered_ordered.specs.OrderedEntries.{ComesInOrder, PollsOrdered};
@@ -30,7 +30,7 @@ where
 
     ghost yields = { ComesInOrder (SetMayGive T.polled) };
 
-    /// One poll, as `poll_with` by the rule that polls the future itself.
+    /// Polls the queue as `poll_with` does, by the rule that polls the future itself.
     fn poll_next(&mut self, cx: &mut Context<'_>) -> Poll<Option<A>>
         requires { EachRunning T.can_poll self.old.set }
         ensures { PollsOrdered held_in SameSize

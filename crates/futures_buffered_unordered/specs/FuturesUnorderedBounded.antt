@@ -16,13 +16,13 @@ use Rattle.futures_buffered_table.specs.declared.answer.Woke.{Woke}
 use Rattle.futures_buffered_core.specs.ReadySource.{SourceSteps}
 use Rattle.futures_buffered_unordered.specs.Held.{Passes, Yields}
 
--- what each slot holds, the content of the source, and how many names one poll takes at most
+-- the content of each slot, the content of the source, and how many ready slots one poll takes at most
 pub record Bounded (F S : Type 0) : Type 0 where
   pub slots : Slots F
   pub source : S
   pub limit : ℕ
 
--- its code, made of those of its parts
+-- the code of a bounded set, made of the codes of its parts
 abbrev pub bounded_code : {F S : Type 0} → Coded F → Coded S → Coded (Bounded F S)
 bounded_code {F} {S} code source_code =
     code_by
@@ -36,22 +36,22 @@ bounded_code {F} {S} code source_code =
 abbrev pub held_in : {F S : Type 0} → Bounded F S → ℕ
 held_in set = held_count set.slots
 
--- how many it can hold
+-- how many values a set can hold
 abbrev pub slots_in : {F S : Type 0} → Bounded F S → ℕ
 slots_in set = slot_count set.slots
 
--- no value is held in n slots, the source was made for these, and one poll takes so many names at most
+-- the set has n free slots and no value, a source made for n slots, and this limit
 pub record IsNewSet {F S : Type 0} (made : ℕ → S → Type 0) (n limit : ℕ)
     (set : Bounded F S) : Type 0 where
   pub none_held : set.slots ≡ no_slots n
   pub new_source : made n set.source
   pub takes_at_most : set.limit ≡ limit
 
--- the slot is emptied, and is the first free one; the source and the limit stay
+-- the set with slot i empty, as the first of its free slots; the source and the limit do not change
 abbrev pub with_empty_slot : {F S : Type 0} → Bounded F S → ℕ → Bounded F S
 with_empty_slot b i = record b { slots = with_slot_freed b.slots i }
 
--- each slot is free; the source and the limit stay
+-- the set with each slot free; the source and the limit do not change
 abbrev pub emptied : {F S : Type 0} → Bounded F S → Bounded F S
 emptied b = record b { slots = no_slots (slot_count b.slots) }
 
@@ -59,16 +59,15 @@ emptied b = record b { slots = no_slots (slot_count b.slots) }
 abbrev pub with_source : {F S : Type 0} → Bounded F S → S → Bounded F S
 with_source b source = record b { source = source }
 
--- one mark of a slot, whatever it answered
+-- one mark of slot i, whatever it returns
 abbrev pub MarksSlot : {S : Type 0} → (S → ℕ → Woke → S → Type 0) → S → ℕ → S → Type 0
 MarksSlot marks old i new = (woke : Woke) × marks old i woke new
 
--- one mark of each of these slots, in order, took the source from old to new
+-- one mark of each slot of the list, in order, leads from the source before to the source after
 abbrev pub MarksEach : {S : Type 0} → (S → ℕ → Woke → S → Type 0) → S → List ℕ → S → Type 0
 MarksEach marks = FoldsTo (MarksSlot marks)
 
--- item k is held in slot k, no slot is free, and each slot was marked, in order, in a source made for this number of
--- slots
+-- slot k holds item k and no slot is free; each slot was marked, in order, in a source made for this number of slots
 pub record HoldsEach
     {F S : Type 0}
     (made : ℕ → S → Type 0)
@@ -83,7 +82,7 @@ pub record HoldsEach
   pub marked : MarksEach marks new_source (range_with_len 0 (length items)) set.source
   pub takes_at_most : set.limit ≡ limit
 
--- a value went into the first free slot, i, which was then marked
+-- a value was put into the first free slot, i, which was then marked
 pub record PushesAt
     {F S : Type 0}
     (marks : S → ℕ → Woke → S → Type 0)
@@ -93,12 +92,12 @@ pub record PushesAt
     (new : Bounded F S)
     : Type 0 where
   pub inserted : Inserts old.slots i value new.slots
-  -- what the mark answered: whether the slot was marked already
+  -- what the mark returned: whether the slot was marked already
   pub woke : Woke
   pub marked : marks old.source i woke new.source
   pub same_limit : new.limit ≡ old.limit
 
--- the same, where it does not matter which slot that was
+-- a value was put into some slot, as `PushesAt` says
 abbrev pub Pushes : {F S : Type 0} → (S → ℕ → Woke → S → Type 0) → Bounded F S → F → Bounded F S → Type 0
 Pushes marks old value new = (i : ℕ) × PushesAt marks old i value new
 
@@ -110,11 +109,11 @@ pub record PushesOne
     (value : F)
     (new : Bounded F S)
     : Type 0 where
-  -- the value went into the first free slot, which was marked
+  -- the value was put into the first free slot, which was marked
   pub pushed : Pushes marks old value new
-  -- one value more is held
+  -- the set holds one value more
   pub count : held_in new ≡ held_in old + 1
-  -- there are as many slots as before
+  -- the number of slots does not change
   pub capacity : slots_in new ≡ slots_in old
 
 -- What a push makes of any set.
@@ -126,34 +125,36 @@ pub record PushesIfRoom
     (result : Result (Unit {0}) F)
     (new : Bounded F S)
     : Type 0 where
-  -- the value went in
+  -- if the push succeeds, the value was put into a free slot
   pub pushed : OnOk result (PushesOne marks old value new)
-  -- or no slot was free, the value comes back, and nothing has changed
+  -- if the push fails, no slot was free, the value is returned, and the set does not change
   pub full : IfErr result (λ back. (back ≡ value) × (new ≡ old) × IsFull old.slots)
-  -- there are as many slots as before
+  -- the number of slots does not change
   pub capacity : slots_in new ≡ slots_in old
 
--- fewer names than the limit came, and then Empty or Pause; or as many as the limit, and nothing more was asked
+-- a poll without an output ends with Empty or Pause, after fewer ready slots than the limit; or at the limit, without a
+-- last result
 abbrev pub EndsWaiting : ℕ → List ℕ → Option Taken → Type 0
 EndsWaiting limit names (Some Empty) = length names < limit
 EndsWaiting limit names (Some Pause) = length names < limit
 EndsWaiting limit names (Some (Slot i)) = ⊥
 EndsWaiting limit names None = length names ≡ limit
 
--- whether a further name may come behind this last answer: it was Pause, or none, at the limit
+-- whether a ready slot may be left after the last result of the source: after Pause, and at the limit, without a last
+-- result
 abbrev pub stops_early : Option Taken → Bool
 stops_early None = true
 stops_early (Some Pause) = true
 stops_early (Some Empty) = false
 stops_early (Some (Slot i)) = false
 
--- The task was asked to poll again, so it hears of each source. In the kit's words `Hears cx s` says that a poll has
--- registered at source s or has asked for another poll; `Covers`, that it has so at each source that is needed; and
--- `Keeps`, that what was registered and asked for before still stands.
+-- The task is woken, so `Hears cx s` holds of each source s. In `futures`, `Hears cx s` says that the poll registered
+-- at source s or asked for another poll. `Covers` says that this holds of each source that is needed. `Keeps` says that
+-- each earlier registration and wake remains.
 abbrev pub IsWoken : Context → Type 0
 IsWoken cx = (s : ℕ) → Hears cx s
 
--- the task is as registrations with sources leave it, or as it was
+-- the task is unchanged, or as registrations with sources leave it
 abbrev pub OnlyRegisters : {S : Type 0} → (S → Context → Context → Type 0) → Context → Context → Type 0
 OnlyRegisters {S} registers_poll old new = (sources : List S)
     × FoldsTo (λ cx source next. registers_poll source cx next) old sources new
@@ -163,9 +164,9 @@ module _
     (polled : ℕ → F → Poll A → F → Type 0)
     (steps : SourceSteps S)
   where
-    -- What a poll asks, told of the set alone. A registration came first, with this source or with one beside it. The
-    -- source then gave these names, in order, and one last answer where there was one. The slots named were passed, in
-    -- order, which took what the slots hold to this.
+    -- One round of ready slots, as a relation of the set alone. A registration came first, with this source or with one
+    -- next to it. The source then returned these ready slots, in order, and one last result if there is one. These
+    -- slots were passed, in order, which left `slots`.
     pub record Asks
         (old : Bounded F S)
         (names : List ℕ)
@@ -178,8 +179,8 @@ module _
       pub answers : FoldsTo steps.takes registered (map Slot names ++ option_to_list last) source
       pub passes : FoldsTo (Passes polled) old.slots names slots
 
-    -- one count of names: until one more name gave an output, which is given with its slot, or until the asking ended
-    -- without one
+    -- One round, by its result. `Ready`: one more ready slot gave this output, which is returned with its slot.
+    -- `Pending`: the round ended without an output.
     abbrev pub AsksUntil : Bounded F S → Poll (ℕ × A) → Bounded F S → Type 0
     AsksUntil old (Ready (i, x)) new = (names : List ℕ)
         × (length names < old.limit)
@@ -193,7 +194,7 @@ module _
         × Asks old names last new.slots new.source
         × (new.limit ≡ old.limit)
 
-    -- one count of names that gave no output, and whether it stopped though a further name may come
+    -- one round without an output, and whether it stopped although a ready slot may be left
     abbrev pub AsksNone : Bool → Bounded F S → Bounded F S → Type 0
     AsksNone stopped old new = (names : List ℕ)
         × (last : Option Taken)
@@ -202,8 +203,9 @@ module _
         × Asks old names last new.slots new.source
         × (new.limit ≡ old.limit)
 
-    -- one poll, told of the set alone: the end exactly where nothing is held, and then nothing changes; the output of
-    -- the last name, whose slot is emptied; or Pending, where the asking ended without an output
+    -- One poll, as a relation of the set alone. `None`: the set is empty, and does not change. `Some`: the set was not
+    -- empty, and the slot of the output is emptied. `Pending`: the set was not empty, and the round ended without an
+    -- output.
     abbrev pub PollGives : Bounded F S → Poll (Option A) → Bounded F S → Type 0
     PollGives old (Ready None) new = (held_count old.slots ≡ 0) × (new ≡ old)
     PollGives old (Ready (Some x)) new = (0 < held_count old.slots)
@@ -211,7 +213,7 @@ module _
         × AsksUntil old (Ready (i, x)) left × (new ≡ with_empty_slot left i))
     PollGives old Pending new = (0 < held_count old.slots) × AsksUntil old Pending new
 
-    -- one poll, and whether it stopped though a further name may come
+    -- one poll, and whether it stopped although a ready slot may be left
     abbrev pub PollAsks : Bool → Bounded F S → Poll (Option A) → Bounded F S → Type 0
     PollAsks stopped old (Ready o) new = PollGives old (Ready o) new × (stopped ≡ false)
     PollAsks stopped old Pending new = (0 < held_count old.slots) × AsksNone stopped old new

@@ -1,5 +1,5 @@
--- How groups that grow keep themselves, and what a poll keeps of the group that it asks. No public clause cites it but
--- those of a group's poll.
+-- The invariant of growing groups, and what a poll keeps of the group that it polls. Of the public clauses only a
+-- group's poll cites it.
 use Rattle.std.specs.Prelude.{◌≡◌, ◌≢◌, ℕ, ◌+◌, ◌<◌, ◌≤◌, List, [], ◌∷◌, ◌++◌, length, Option, IfNone, slice_index_or}
 use Rattle.std.specs.List.{All}
 use Rattle.futures.specs.Poll.{IfReady, OnPending}
@@ -14,25 +14,25 @@ use Rattle.futures_buffered_unordered.specs.FuturesUnordered.{Growing, held_in_a
 use Rattle.futures_buffered_unordered.specs.declared.futures_unordered.TheConstants.{MAX_HELD}
 
 module _ {F S : Type 0} where
-  -- the group has a slot and not too many, and the set's limit
+  -- the group has a slot, at most `MAX_CAPACITY` slots, and the set's limit
   pub record IsGroup (limit : ℕ) (group : Bounded F S) : Type 0 where
     pub has_a_slot : 0 < slot_count group.slots
     pub fits : slot_count group.slots ≤ MAX_CAPACITY
     pub same_limit : group.limit ≡ limit
 
-  -- all groups wait at the same places of a task's wakes, so one registration does for all
+  -- all groups wait at the same places of a task's wakes, so one registration covers all
   abbrev pub AllWaitAlike : (S → ℕ → Type 0) → List (Bounded F S) → Type 0
   AllWaitAlike needs groups =
       All
       (λ (a : Bounded F S). All (λ (b : Bounded F S). WaitsAlike needs a.source b.source) groups)
       groups
 
-  -- each group holds a future, but for the last and the one at the place
+  -- each group holds a future, except the last one and the one at the place
   abbrev pub OthersHold : Groups (Bounded F S) → Type 0
   OthersHold g = (k : ℕ) (d : Bounded F S) → k + 1 < length g.listed → k ≢ g.place
       → 0 < held_in (slice_index_or g.listed k d)
 
-  -- the groups, which hold so many futures together, in a set with this limit
+  -- the groups fit a set with this limit, and hold `held` futures together
   pub record KeepsGroups
       (needs : S → ℕ → Type 0)
       (groups : Groups (Bounded F S))
@@ -46,14 +46,14 @@ module _ {F S : Type 0} where
     pub counted : held ≡ held_in_all groups.listed
     pub few : held ≤ MAX_HELD
 
-  -- what every call keeps of a group: how many slots it has, its limit, and where its source waits
+  -- what every call keeps of a group: its number of slots, its limit, and the places where its source waits
   pub record SameKind (needs : S → ℕ → Type 0) (group left : Bounded F S) : Type 0 where
     pub same_slots : slot_count left.slots ≡ slot_count group.slots
     pub same_limit : left.limit ≡ group.limit
     pub waits : WaitsAlike needs group.source left.source
 
-  -- what a poll keeps of the group that it asks: no value comes, none is left where the group ended, and one at least
-  -- where it is pending
+  -- what a poll keeps of its group: no value is added, a pending group holds a value, and a group that returned `None`
+  -- holds none
   pub record KeepsGroup
       {A : Type 0}
       (needs : S → ℕ → Type 0)
@@ -66,7 +66,7 @@ module _ {F S : Type 0} where
     pub ended_is_empty : IfReady answer (λ o. IfNone o (held_in left ≡ 0))
     pub same_kind : SameKind needs group left
 
-  -- an empty group of so many slots was added behind all others; the place and the limit stay
+  -- an empty group of `cap` slots was added after all others; the place and the limit do not change
   pub record AddsGroup
       (made : ℕ → S → Type 0)
       (cap : ℕ)
@@ -78,7 +78,8 @@ module _ {F S : Type 0} where
     pub same_place : new.groups.place ≡ old.groups.place
     pub same_limit : new.limit ≡ old.limit
 
-  -- the value went into the last group, which had a free place; the others, the place and the limit stay
+  -- the value was put into the last group, which had a free slot; the other groups, the place and the limit do not
+  -- change
   pub record PushesLast
       (marks : S → ℕ → Woke → S → Type 0)
       (old : Growing F S)

@@ -1,5 +1,5 @@
--- How a poll asks one group of a list, and goes on to the next where that gave no output. Private calls keep to this,
--- and no public clause cites it.
+-- How a poll polls one group of a list, and continues with the next if there is no output. Only private contracts cite
+-- it.
 use Rattle.std.specs.Prelude.{◌≡◌, ℕ, ◌+◌, Bool, cond, nat_lt, List, [], ◌∷◌, ◌++◌, length, take, drop, Option, Some}
 use Rattle.std.specs.Prelude.{None}
 use Rattle.futures.specs.declared.task.context.Context.{Context}
@@ -7,12 +7,13 @@ use Rattle.futures.specs.declared.task.Poll.{Poll}
 use Rattle.futures.specs.declared.task.Poll.TheVariants.{Ready, Pending}
 use Rattle.futures_buffered_unordered.specs.Groups.{Groups, WakesIf}
 
--- the place of the group that is asked next: the kept one, or the first where that is past the last
+-- the place of the group that is polled next: the kept place, or the first if the kept one is past the last group
 abbrev pub next_place : {X : Type 0} → Groups X → ℕ
 next_place g = cond (nat_lt g.place (length g.listed)) g.place 0
 
--- what the list is once a group between earlier and later ones gave an answer and left this: with an output the place
--- is its own, and with Pending the next; where it ended it leaves, unless none stands behind it
+-- The list and the place after a poll of the group between `earlier` and `later`, which became `left`. After an output
+-- the place is the group's own; after Pending it is the next one. After `None` the group leaves, and the place is the
+-- next group's. A group without a later one stays instead, and the place is 0.
 abbrev pub LeavesBetween : {X A : Type 0} → List X → List X → X → Poll (Option A) → Groups X → Type 0
 LeavesBetween earlier later left (Ready (Some x)) new =
     (new.listed ≡ earlier ++ left ∷ later) × (new.place ≡ length earlier)
@@ -21,7 +22,7 @@ LeavesBetween earlier [] left (Ready None) new = (new.listed ≡ earlier ++ left
 LeavesBetween earlier (next ∷ later) left (Ready None) new =
     (new.listed ≡ earlier ++ next ∷ later) × (new.place ≡ length earlier)
 
--- the group at the next place was asked, and gave this answer
+-- the group at the next place was polled, and returned this result
 pub record AsksOne
     {X A : Type 0}
     (asks : X → Poll (Option A) → X → Type 0)
@@ -35,7 +36,7 @@ pub record AsksOne
   pub asked : asks group answer left
   pub leaves : LeavesBetween (take (next_place old) old.listed) (drop (next_place old + 1) old.listed) left answer new
 
--- the group at the next place was asked, and the task was taken from cx to left
+-- the group at the next place was polled, which took the task from `cx` to `left`
 pub record AsksNext
     {X A : Type 0}
     (asks : Bool → X → Poll (Option A) → X → Type 0)

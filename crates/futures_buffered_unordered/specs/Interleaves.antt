@@ -1,7 +1,7 @@
--- Two lists in one.
+-- Two lists merged into one.
 use Rattle.std.specs.Prelude.{◌≡◌, ◌⊎◌, List, [], ◌∷◌}
 
--- the items of the third list are those of the other two, of each in its order
+-- the third list has the items of the other two, and keeps the order of each
 abbrev pub Interleaves : {A : Type 0} → List A → List A → List A → Type 0
 Interleaves xs ys [] = (xs ≡ []) × (ys ≡ [])
 Interleaves {A} xs ys (z ∷ zs) =

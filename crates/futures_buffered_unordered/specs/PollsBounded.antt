@@ -1,6 +1,6 @@
 -- What one poll of a bounded set makes of the set and of the task that polls it. A clause names the rule and the source
--- by the ghost members of their types: `R.PollOne S.ReadySource`, or, where each future is polled itself, `(itself
--- F.SlotFuture) S.ReadySource`.
+-- by the ghost members of their types: `R.PollOne S.ReadySource`, or `(itself F.SlotFuture) S.ReadySource` if each
+-- future is polled itself.
 use Rattle.std.specs.Prelude.{◌≡◌, ℕ, ◌+◌, ◌<◌, List, ◌++◌, map, length, Option, Some, None, OnSome, is_some}
 use Rattle.std.specs.List.{FoldsTo}
 use Rattle.std.specs.Option.{option_to_list}
@@ -28,16 +28,15 @@ itself future = record {
   goes_on = λ _. ⊥;
 }
 
--- the source, where the task is registered already, so that a poll registers nothing
+-- the source, if the task is already registered, so that a poll registers nothing
 abbrev pub registered : {S W : Type 0} → ReadySourceOf S W → ReadySourceOf S W
 registered source = record source {
   steps = record { registers = λ old new. new ≡ old; takes = source.steps.takes };
   registers_poll = λ _ cx left. left ≡ cx;
 }
 
--- Where no value was ready after so many names: a name is the number of a marked slot, as the source gives it. Empty:
--- no further name came, and the task is as the registration left it. Pause, or the limit: a further name may come, and
--- the task was asked to poll again.
+-- How a poll without an output ends, after `count` ready slots. At Empty: no ready slot is left, and the task is as the
+-- registration left it. At Pause or at the limit: a ready slot may be left, and the task is woken.
 abbrev pub EndsPending : ℕ → ℕ → Option Taken → Context → Context → Type 0
 EndsPending limit count (Some Empty) cx left = (count < limit) × (left ≡ cx)
 EndsPending limit count (Some Pause) cx left = (count < limit) × IsWoken left
@@ -49,71 +48,72 @@ module _
     (rule : PollOneOf R F W A)
     (source : ReadySourceOf S W)
   where
-    -- each value may be polled, and the task is registered where the source waits
+    -- each value may be polled, and the task is registered where the source waits, or is woken
     pub record CanPollRegistered (old : Bounded F S) (cx : Context) : Type 0 where
       pub held : AllHeld rule.can_poll old.slots
       pub registered : Covers cx (source.needs old.source)
 
-    -- How one count of names, at most as many as the limit, ended, by its answer: the value of one more slot gave an
-    -- output, and the task is as the registration left it; or none did.
+    -- How one round ends, by its result, after `count` ready slots. `Ready`: the value of one more slot gave an output,
+    -- and the task is as the registration left it. `Pending`: no value gave one, and `EndsPending` says what holds of
+    -- the task.
     abbrev pub NamesEnd : ℕ → ℕ → Option Taken → Slots F → Poll (ℕ × A) → Slots F → Context → Context → Type 0
     NamesEnd limit count last passed (Ready (i, x)) new cx left = (count < limit)
         × (last ≡ Some (Slot i)) × Yields rule.polled passed i x new × (left ≡ cx)
     NamesEnd limit count last passed Pending new cx left = (new ≡ passed) × EndsPending limit count last cx left
 
-    -- One count of names, of a set whose task is registered: names are asked for, and the value of each is polled,
-    -- until one is ready, no further name comes, or as many came as the limit is. It took the set from old to new, and
-    -- the task from cx to left. No slot is emptied.
+    -- One round, of a set whose task is registered. The set takes ready slots and polls their values, until one is
+    -- ready, the source returns no further slot, or the limit is reached. The round takes the set from `old` to `new`
+    -- and the task from `cx` to `left`. No slot is emptied.
     pub record TakesNames
         (old : Bounded F S)
         (answer : Poll (ℕ × A))
         (new : Bounded F S)
         (cx left : Context)
         : Type 0 where
-      -- what came: these names, and a last answer where one more was asked for
+      -- the source returned these ready slots, and one last result if it was called once more
       pub names : List ℕ
       pub last : Option Taken
       pub came : FoldsTo source.steps.takes old.source (map Slot names ++ option_to_list last) new.source
-      -- the slots named were passed, in order, which took what the slots hold to this
+      -- these slots were passed, in order, which left `passed`
       pub passed : Slots F
       pub passes : FoldsTo (Passes rule.polled) old.slots names passed
-      -- what the last answer made of that, and who is woken
+      -- what the last result makes of `passed` and of the task
       pub ends : NamesEnd old.limit (length names) last passed answer new.slots cx left
-      -- what stays: each slot holds a value where it held one, and the limit
+      -- each slot holds a value if and only if it held one before; the number of slots and the limit do not change
       pub count : held_in new ≡ held_in old
       pub same_slots : (j : ℕ) → is_some (value_in new.slots j) ≡ is_some (value_in old.slots j)
       pub capacity : slots_in new ≡ slots_in old
       pub limit : new.limit ≡ old.limit
-      -- who waits where: the task hears of the source
+      -- the task is registered where the source waits, or is woken
       pub covered : Covers left (source.needs new.source)
-      -- what the task was registered for or asked to do before still stands
+      -- the task keeps each earlier registration and wake
       pub kept : Keeps cx left
-      -- what may be polled again: each value; or each but that of the output
+      -- after Pending each value may be polled again; after an output, each except the value that gave it
       pub pollable : OnPending answer (AllHeld rule.can_poll new.slots)
       pub others : IfReady answer (λ p. AllHeldBut p.0 rule.can_poll new.slots)
-      -- and that one too, if it goes on after such an output
+      -- that value may also be polled again, if `goes_on` holds of the output
       pub continues : IfReady answer (λ p. rule.goes_on p.1 → AllHeld rule.can_poll new.slots)
 
-    -- The task registers, and then one count of names is taken.
+    -- The task registers, and then one round follows.
     pub record RegistersAndTakes
         (old : Bounded F S)
         (answer : Poll (ℕ × A))
         (new : Bounded F S)
         (cx left : Context)
         : Type 0 where
-      -- what the registration made of the source and of the task
+      -- what the registration makes of the source and of the task
       pub source_then : S
       pub task_then : Context
       pub registers : source.steps.registers old.source source_then
       pub registers_task : source.registers_poll old.source cx task_then
-      -- what the count of names made of these
+      -- the round begins with this source and this task
       pub takes : TakesNames (with_source old source_then) answer new task_then left
-      -- what the task was registered for or asked to do before still stands
+      -- the task keeps each earlier registration and wake
       pub kept : Keeps cx left
 
-    -- What a poll gives, by its answer. The end: nothing is held, and nothing changes, of the task neither. An output:
-    -- its slot is emptied. Pending: the names that came, if any, gave no output; at Empty the task stays registered,
-    -- and else it was asked to poll again.
+    -- How a poll ends, by its result. `None`: the set is empty, and neither the set nor the task changes. In the other
+    -- cases the task registers, and one round follows. `Some`: the slot of the output is emptied. `Pending`: no polled
+    -- value was ready.
     abbrev pub Gives : Bounded F S → Poll (Option A) → Bounded F S → Context → Context → Type 0
     Gives old (Ready None) new cx left = (held_in old ≡ 0) × (new ≡ old) × (left ≡ cx)
     Gives old (Ready (Some x)) new cx left = (0 < held_in old)
@@ -121,24 +121,24 @@ module _
         × RegistersAndTakes old (Ready (i, x)) before cx left × (new ≡ with_empty_slot before i))
     Gives old Pending new cx left = (0 < held_in old) × RegistersAndTakes old Pending new cx left
 
-    -- One poll, which took the set from old to new and the task from cx to left.
+    -- One poll, which takes the set from `old` to `new` and the task from `cx` to `left`.
     pub record PollsBounded
         (old : Bounded F S)
         (answer : Poll (Option A))
         (new : Bounded F S)
         (cx left : Context)
         : Type 0 where
-      -- what came, and who is woken
+      -- the result, and whether the task is woken
       pub gave : Gives old answer new cx left
-      -- what stays: after an output one value fewer is held, after a pending poll as many
+      -- an output leaves one value fewer, and a pending poll leaves as many
       pub fewer : IfReady answer (λ o. OnSome o (held_in new + 1 ≡ held_in old))
       pub same : OnPending answer (held_in new ≡ held_in old)
-      -- the number of slots and the limit stay
+      -- the number of slots and the limit do not change
       pub capacity : slots_in new ≡ slots_in old
       pub limit : new.limit ≡ old.limit
-      -- who waits where: the task of a pending set is registered where its source waits, or was asked to poll again
+      -- the task of a pending set is registered where its source waits, or is woken
       pub covered : OnPending answer (Covers left (source.needs new.source))
-      -- what the task was registered for or asked to do before still stands
+      -- the task keeps each earlier registration and wake
       pub kept : Keeps cx left
-      -- what may be polled again: each value that is held
+      -- each value in the set may be polled again
       pub pollable : AllHeld rule.can_poll new.slots

@@ -1,6 +1,6 @@
-//! How a poll of groups asks one of them.
+//! How a poll of groups polls one of them.
 //!
-//! A set that grows and a merge that grows differ in that alone.
+//! A growing set and a growing merge differ in that alone.
 ghost use Rattle.std.specs.Prelude.{◌≡◌, IsTrue};
 ghost use Rattle.futures.specs.Task.{Covers};
 ghost use Rattle.futures_buffered_unordered.specs.FuturesUnorderedBounded.{PollAsks};
@@ -13,31 +13,31 @@ use crate::poll_one::PollOne;
 use futures::task::{Context, Poll};
 use futures_buffered_core::ready_source::NewSource;
 
-/// How a poll asks one group.
+/// How a poll of groups polls one group.
 ///
-/// An impl says by `can_poll` which values may be polled, and by `asks` what a group may answer and be left as. A group
-/// that answers the end holds nothing, and a pending one holds a value.
+/// An impl says by `can_poll` which values may be polled. It says by `asks` what a poll of a group may return and
+/// leave. A group that returns `None` holds nothing, and a pending group holds a value.
 pub trait AskGroup<F: Drop, S: NewSource> {
     ghost use Rattle.futures.specs.declared.task.Poll.{Poll};
     ghost use Rattle.futures.specs.declared.task.context.Context.{Context};
     ghost use Rattle.futures_buffered_unordered.specs.FuturesUnorderedBounded.{Bounded};
     ghost use Rattle.std.specs.Prelude.{Bool, Option};
 
-    /// What a group gives.
+    /// The output of a group.
     type Output;
 
     // The values that may be polled.
     ghost can_poll: { F → Type 0 };
 
-    // One poll of a group, that finds it, gives an answer and leaves it; and whether it stopped though a further name
-    // may come. A poll that stops is pending.
+    // One poll of a group: whether it stopped although a ready slot may be left, the group before, the result and the
+    // group after. A poll that stops is pending.
     ghost asks: { Bool → Bounded F S → Poll (Option Self.Output) → Bounded F S → Type 0 };
 
-    // What a group that answers the end leaves of the task.
+    // What a group that returns `None` makes of the task.
     ghost passes: { Context → Context → Type 0 };
 
-    /// One poll of a group. Where the group holds a value it registers the task, unless that is registered with a group
-    /// beside it.
+    /// Polls a group once. If the group holds a value, registers the task, unless the task is already registered with a
+    /// group next to it.
     fn ask(
         &self,
         group: &mut FuturesUnorderedBounded<F, S>,
@@ -51,13 +51,14 @@ pub trait AskGroup<F: Drop, S: NewSource> {
         ensures polls { PollsGroup S.ReadySource asks passes
             group.old result group.new cx.old cx.new };
 
-    // Groups that end one after another leave of the task what one may leave, and so does none.
+    // `passes` is reflexive and transitive, so it holds of any number of groups that end one after another, also of
+    // none.
     ghost passes_none: { (cx : Context) → passes cx cx };
 
     ghost passes_more: { (a b c : Context) → passes a b → passes b c → passes a c };
 }
 
-// Asks a group by a rule for one held value.
+// Polls a group by a rule for one held value.
 #[derive(Drop)]
 pub(crate) struct ByRule<'r, R>(pub(crate) &'r R);
 

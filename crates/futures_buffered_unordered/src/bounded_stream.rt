@@ -1,4 +1,4 @@
-//! The bounded set as a stream, which says how much is left and whether it has ended.
+//! The bounded set as a stream, which says how many outputs are left and whether it has ended.
 ghost use Rattle.std.specs.Prelude.{◌≡◌, ◌<◌};
 ghost use Rattle.futures_buffered_core.specs.SlotMap.{held_count};
 ghost use Rattle.futures_buffered_unordered.specs.Held.{AllHeld, ComesFrom};
@@ -22,10 +22,10 @@ impl<F: SlotFuture<S::Waker>, S: ReadySource> Stream for FuturesUnorderedBounded
 
     ghost yields = { λ set. ComesFrom F.polled set.slots };
 
-    /// One poll, as `poll_with` by the rule that polls the future itself.
+    /// Polls the set as `poll_with` does, by the rule that polls the future itself.
     ///
-    /// Does not allocate. Takes at most as many names as the set's limit and polls only what these slots hold, so its
-    /// time is that of these takings and polls, at any capacity. Holds no lock of the source while it polls a future.
+    /// Does not allocate. Takes at most as many ready slots as the set's limit, and polls only their futures. So its
+    /// time is the time of these takes and polls, at any capacity. Holds no lock of the source while it polls a future.
     fn poll_next(&mut self, cx: &mut Context<'_>) -> Poll<Option<F::Output>>
         requires { AllHeld F.can_poll self.old.slots }
         ensures { PollsBounded (itself F.SlotFuture) S.ReadySource
@@ -55,7 +55,7 @@ impl<F: Drop, S: ReadySource> SizeHint for FuturesUnorderedBounded<F, S> {
     }
 }
 
-/// Prints the number of futures held.
+/// Prints the number of futures in the set.
 impl<F: Drop, S: ReadySource> fmt::Debug for FuturesUnorderedBounded<F, S> {
     fn fmt<W: fmt::Write>(&self, f: &mut fmt::Formatter<W>) -> fmt::Result {
         f.debug_struct("FuturesUnorderedBounded")

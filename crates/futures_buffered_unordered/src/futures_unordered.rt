@@ -1,8 +1,8 @@
-//! A set of futures that grows by groups of slots, yielded as they finish.
+//! A set of futures that grows by groups of slots, and yields their outputs as they finish.
 //!
-//! Each group is a bounded set. A push goes into the last group, and makes one of twice its slots where it is full. A
-//! poll asks each group in turn, from the place where the poll before ended, until one gives an output. How one group
-//! is asked, `AskGroup` says. One registration of the task does for all groups.
+//! Each group is a bounded set. A push goes into the last group; if that is full, the push makes a group of twice its
+//! slots. A poll polls each group in turn, from the place at which the last poll ended, until one returns an output.
+//! `AskGroup` says how one group is polled. One registration of the task covers all groups.
 ghost use Rattle.std.specs.Prelude.{◌≡◌, ◌↔◌, ◌<◌, ◌≤◌, ◌+◌, ◌++◌, length, take, drop, IsTrue, Err, OnOk};
 ghost use Rattle.std.specs.Prelude.{OnErr, IsErr};
 ghost use Rattle.std.specs.Prelude.{IfOk, IfErr, IfNone};
@@ -38,7 +38,7 @@ use futures_buffered_core::ready_source::{NewSource, ReadySource};
 use std::alloc::Global;
 use std::marker::Model;
 
-/// How many slots the first group has, where no number was chosen.
+/// How many slots the first group has, if the caller chose no number.
 pub const FIRST_GROUP: usize = 32;
 
 /// How many values all groups hold, at most.
@@ -46,12 +46,12 @@ pub const MAX_HELD: usize = usize::MAX / 2;
 
 const _: () = prove!(FIRST_GROUP == 32);
 
-/// Futures in groups of slots, or streams.
+/// Futures, or streams, in groups of slots.
 ///
-/// A contract sees the groups, each a bounded set, the place where the next poll begins, and the limit of names that
-/// one poll takes from each group. Only the calls that make a set and a push that makes a group allocate, and no call
-/// waits for another thread. Calls that ask how much is held or fits take the same time at any number of groups. A
-/// merge that grows is made of one too.
+/// A contract sees the groups, each a bounded set, the place at which the next poll begins, and the limit. The limit
+/// says how many ready slots one poll takes from each group, at most. Only the calls that make a set, and a push that
+/// makes a group, allocate. No call waits for another thread. Calls that return how many values are held or fit take
+/// the same time at any number of groups. A growing merge is made of such groups too.
 #[derive(Drop)]
 pub struct FuturesUnordered<F: Drop, S: NewSource = SharedReady> {
     groups: Vec<FuturesUnorderedBounded<F, S>>,
@@ -80,7 +80,7 @@ impl<F: Drop, S: NewSource> Model for FuturesUnordered<F, S> {
         (record { listed = s.groups.items; place = s.place }) s.limit s.held };
 }
 
-// Drops the group at this place, which holds nothing. A group ends once, so this is kept out of the way of a poll.
+// Drops the group at this place, which holds nothing. A group ends once, so this code is not inlined into a poll.
 #[cold]
 #[inline(never)]
 fn drop_group<F: Drop, S: ReadySource>(
@@ -95,7 +95,7 @@ fn drop_group<F: Drop, S: ReadySource>(
 }
 
 impl<F: Drop, S: NewSource> FuturesUnordered<F, S> {
-    /// No groups, over sources that will be made by `env`. Takes no memory.
+    /// Makes a set without groups, whose sources will be made by `env`. Does not allocate.
     pub fn without_groups(env: S::Env, alloc: Global, limit: usize) -> Self
         requires { 1 ≤ limit }
         ensures { result ≡ no_groups limit }
@@ -110,17 +110,17 @@ impl<F: Drop, S: NewSource> FuturesUnordered<F, S> {
         }
     }
 
-    /// An empty set over sources that are made by `env`, which it keeps. It has one group of `n` slots, or none where
-    /// `n` is 0.
+    /// Makes an empty set with one group of `n` slots, or with none if `n` is 0. The set keeps `env`, by which its
+    /// sources are made.
     ///
-    /// Takes time and memory in proportion to `n`.
+    /// Allocates and takes time in proportion to `n`.
     pub fn over(env: S::Env, alloc: Global, n: usize) -> Result<Self, NewFault>
         ensures { MakesGroup n (IsNewGrowing S.made n POLL_LIMIT) result }
     {
         Self::over_limit(env, alloc, n, POLL_LIMIT)
     }
 
-    /// As `over`, where one poll takes at most `limit` names from each group, also from those that are made later.
+    /// As `over`; one poll takes at most `limit` ready slots from each group, also from groups that are made later.
     pub fn over_limit(env: S::Env, alloc: Global, n: usize, limit: usize) -> Result<Self, NewFault>
         requires { 1 ≤ limit }
         ensures { MakesGroup n (IsNewGrowing S.made n limit) result }
@@ -132,29 +132,29 @@ impl<F: Drop, S: NewSource> FuturesUnordered<F, S> {
         Ok(groups)
     }
 
-    /// The number of values held.
+    /// The number of values in the set.
     pub fn len(&self) -> usize
         ensures { result ≡ held_in_all self.now.groups.listed }
     {
         self.held
     }
 
-    /// Whether no value is held.
+    /// Whether the set holds no value.
     pub fn is_empty(&self) -> bool
         ensures { IsTrue result ↔ (held_in_all self.now.groups.listed ≡ 0) }
     {
         self.held == 0
     }
 
-    /// How many names one poll takes from each group, at most. It never changes.
+    /// How many ready slots one poll takes from each group, at most. This limit never changes.
     pub fn limit(&self) -> usize
         ensures { result ≡ self.now.limit }
     {
         self.limit
     }
 
-    /// How many values there is room for: of several groups, what they hold and the free places of the last one; of
-    /// one, its slots; without groups, 0.
+    /// How many values fit: of several groups, their values and the free slots of the last one; of one group, its
+    /// slots; without groups, 0.
     pub fn capacity(&self) -> usize
         ensures { result ≡ capacity_of self.now.groups.listed }
     {
@@ -165,7 +165,7 @@ impl<F: Drop, S: NewSource> FuturesUnordered<F, S> {
         }
     }
 
-    // The free places of the last group, where a push goes.
+    // The number of free slots in the last group, into which a push goes.
     fn spare_places(&self) -> usize
         ensures value { result ≡ spare_places self.now.groups.listed }
         ensures few { result ≤ MAX_CAPACITY }
@@ -190,7 +190,7 @@ impl<F: Drop, S: NewSource> FuturesUnordered<F, S> {
         2 * self.groups[groups - 1].capacity()
     }
 
-    // An empty group beside the others.
+    // Makes an empty group next to the others.
     fn make_group(&mut self, capacity: usize) -> Result<FuturesUnorderedBounded<F, S>, NewFault>
         ensures group { MakesSlots capacity (IsNewSet S.made capacity self.old.limit) result }
         ensures beside { IfOk result (λ group.
@@ -207,7 +207,7 @@ impl<F: Drop, S: NewSource> FuturesUnordered<F, S> {
         self.groups[groups - 1].make_sibling(self.alloc, capacity)
     }
 
-    // Adds an empty group behind all others. Both growths are made before the list changes.
+    // Adds an empty group after all others. Both allocations are made before the list changes.
     fn add_group(&mut self, capacity: usize) -> Result<(), NewFault>
         requires some { 0 < capacity }
         requires full { spare_places self.old.groups.listed ≡ 0 }
@@ -223,7 +223,7 @@ impl<F: Drop, S: NewSource> FuturesUnordered<F, S> {
         Ok(())
     }
 
-    // Puts the value into the last group, which has a free place.
+    // Puts the value into the last group, which has a free slot.
     fn push_last(&mut self, value: F)
         requires room { 0 < spare_places self.old.groups.listed }
         requires few { held_in_all self.old.groups.listed < MAX_HELD }
@@ -240,21 +240,21 @@ impl<F: Drop, S: NewSource> FuturesUnordered<F, S> {
         &self.groups
     }
 
-    /// Whether nothing more goes in: `MAX_HELD` are held, or the group that a push would make has more than
-    /// `MAX_CAPACITY` slots. A push is refused then, and else only where a request for memory is.
+    /// Whether the set takes no more values: it holds `MAX_HELD`, or a push would make a group of more than
+    /// `MAX_CAPACITY` slots. A push fails then, and otherwise only if an allocation fails.
     pub fn is_at_bound(&self) -> bool
         ensures { IsTrue result ↔ IsAtBound self.now.groups.listed }
     {
         self.held == MAX_HELD || (self.spare_places() == 0 && self.next_capacity() > MAX_CAPACITY)
     }
 
-    /// Puts the value into the last group. Where that is full, or there is none, a group is made behind it: of twice as
-    /// many slots, or of `FIRST_GROUP`.
+    /// Puts the value into the last group. If that is full, or there is none, makes a group after it: of twice as many
+    /// slots, or of `FIRST_GROUP`.
     ///
-    /// The value comes back, and nothing has changed, where `MAX_HELD` values are held, where the new group would have
-    /// more than `MAX_CAPACITY` slots, and where a request for memory was refused. Takes the same time at any capacity
-    /// where the last group has a free place, and then no memory; else time and memory in proportion to the new group.
-    /// Polls nothing. Do not count on a wake: poll the set after a push.
+    /// Returns the value, and changes nothing, if the set holds `MAX_HELD`, if the new group would exceed `MAX_CAPACITY`
+    /// slots, or if an allocation fails. A push into a free slot of the last group does not allocate, and takes the
+    /// same time at any capacity. Any other push allocates and takes time in proportion to the new group. Polls nothing.
+    /// Do not count on a wake: poll the set after a push.
     pub fn push(&mut self, value: F) -> Result<(), F>
         ensures push { PushesOrStays S.marks S.made self.old value result self.new }
         ensures back { IfErr result (λ back. back ≡ value) }
@@ -273,8 +273,8 @@ impl<F: Drop, S: NewSource> FuturesUnordered<F, S> {
         Ok(())
     }
 
-    /// As `push`, for a caller that has no use for a value that is refused: it is dropped, nothing else has changed,
-    /// and the error says why. So `?` takes it.
+    /// As `push`, for a caller that has no use for a value whose push fails. Drops that value, does not change the set,
+    /// and returns the reason, so that `?` takes it.
     pub fn add(&mut self, value: F) -> Result<(), NewFault>
         ensures push { PushesOrStays S.marks S.made self.old value result self.new }
         ensures large { (result ≡ Err NewFault.TooLarge) ↔ IsAtBound self.old.groups.listed }
@@ -289,8 +289,8 @@ impl<F: Drop, S: NewSource> FuturesUnordered<F, S> {
         })
     }
 
-    /// Pushes each item, in order, as `push` does. The first that is refused comes back; those before it stay, and the
-    /// iterator is asked for no further one.
+    /// Pushes each item, in order, as `push` does. Returns the first item whose push fails; the items before it stay,
+    /// and no further item is taken from the iterator.
     pub fn extend<I: IntoIterator<Item = F>>(&mut self, iter: I) -> Result<(), F>
         requires { IsFiniteSource (items_of I.IntoIterator I.IntoIter.Iterator iter) }
         ensures { Extends (items_of I.IntoIterator I.IntoIter.Iterator iter)
@@ -305,7 +305,7 @@ impl<F: Drop, S: NewSource> FuturesUnordered<F, S> {
         Ok(())
     }
 
-    // Adds each item, in order, up to the first that is refused.
+    // Adds each item, in order, up to the first whose push fails.
     fn add_each<I: IntoIterator<Item = F>>(&mut self, iter: I) -> Result<(), NewFault>
         requires { IsFiniteSource (items_of I.IntoIterator I.IntoIter.Iterator iter) }
         ensures all { OnOk result (HoldsAllOf (items_of I.IntoIterator I.IntoIter.Iterator iter)
@@ -320,11 +320,11 @@ impl<F: Drop, S: NewSource> FuturesUnordered<F, S> {
         Ok(())
     }
 
-    /// Drops each value that is held, with the groups. A later push makes a group as the first push of a new set does,
-    /// over a source of the same environment.
+    /// Drops each value, with the groups. A later push makes a group as the first push of a new set does, over a source
+    /// of the same environment.
     ///
-    /// Takes time in proportion to their slots, and no memory. A task that waits is woken, unless a waker of a slot is
-    /// kept elsewhere: the sources go, and with them its waker.
+    /// Does not allocate. Takes time in proportion to the slots of the groups. Wakes a task that waits, unless a waker
+    /// of a slot is kept elsewhere: the sources are dropped, and the task's waker with them.
     pub fn clear(&mut self)
         ensures { self.new ≡ no_groups self.old.limit }
     {
@@ -333,7 +333,7 @@ impl<F: Drop, S: NewSource> FuturesUnordered<F, S> {
         self.held = 0;
     }
 
-    // The place of the group that is asked next.
+    // The place of the group that is polled next.
     fn next_place(&self) -> usize
         requires { 0 < length self.now.groups.listed }
         ensures value { result ≡ next_place self.now.groups }
@@ -346,8 +346,8 @@ impl<F: Drop, S: NewSource> FuturesUnordered<F, S> {
         }
     }
 
-    // Asks the group at the place, and goes on to the next where it gave no output. A group that has ended leaves,
-    // unless it is the last.
+    // Polls the group at the place, and continues at the next place if the group returns no output. Drops a group that
+    // has ended, unless it is the last.
     fn ask_one<R: AskGroup<F, S>>(
         &mut self,
         rule: &R,
@@ -389,12 +389,11 @@ impl<F: Drop, S: NewSource> FuturesUnordered<F, S> {
         answer
     }
 
-    /// One poll, where `rule` says how a group is asked: each group that stands as the poll begins is asked once, in
-    /// turn, until one gives an output.
+    /// Polls each group at most once, in turn, until one returns an output; `rule` says how one group is polled.
     ///
-    /// `Ready(None)` where each group answered the end. A group that answered the end is dropped, unless it is the
-    /// last. Takes no memory, and time in proportion to the number of groups and to the slots of those that are
-    /// dropped, besides what asking them takes.
+    /// Returns `Ready(None)` if each group returned `None`. Drops a group that returned `None`, unless it is the last.
+    /// Apart from the polls of the groups, does not allocate. Apart from them, takes time in proportion to the number
+    /// of groups and to the slots of dropped groups.
     pub fn poll_groups<R: AskGroup<F, S>>(
         &mut self,
         rule: &R,
@@ -422,13 +421,12 @@ impl<F: Drop, S: NewSource> FuturesUnordered<F, S> {
         }
     }
 
-    /// One poll of the set, where `rule` says how one held value is polled.
+    /// Polls each group at most once, in turn, until one returns an output; `rule` says how one held value is polled.
     ///
-    /// `Ready(None)` where nothing is held. Else each group that stands as the poll begins is asked once, in turn,
-    /// until one gives an output; `Pending` where none does. Where one paused or came to its limit, the task is woken
-    /// at once, also beside an output. A group that is asked and holds nothing is dropped, unless it is the last.
-    /// Registers the task once, and does not allocate. Takes time in proportion to the number of groups, to the names
-    /// taken and to the slots of groups that are dropped, besides the polls.
+    /// Returns `Ready(None)` if the set is empty; otherwise `Pending` if no group returns an output. Drops each empty
+    /// group that it polls, unless it is the last. Does not allocate. Takes time in proportion to the number of groups,
+    /// to the ready slots taken and to the slots of dropped groups, apart from the polls. Registers the task once. If a
+    /// group paused or reached its limit, wakes the task, also with an output.
     pub fn poll_with<R: PollOne<F, S::Waker>>(
         &mut self,
         rule: &R,
@@ -443,22 +441,22 @@ impl<F: Drop, S: NewSource> FuturesUnordered<F, S> {
 }
 
 impl<F: Drop> FuturesUnordered<F, SharedReady> {
-    /// An empty set without a group, whose values are woken from any thread. Takes no memory.
+    /// Makes an empty set without a group, whose values are woken from any thread. Does not allocate.
     pub fn new(alloc: Global) -> Self
         ensures { result ≡ no_groups POLL_LIMIT }
     {
         Self::without_groups((), alloc, POLL_LIMIT)
     }
 
-    /// An empty set with one group of `n` slots, or none where `n` is 0, whose values are woken from any thread. It is
-    /// `over` with shared sources, and refuses as `over` does.
+    /// Makes an empty set with one group of `n` slots, or with none if `n` is 0. Its values are woken from any thread.
+    /// It is `over` with shared sources, and fails as `over` does.
     pub fn with_capacity(alloc: Global, n: usize) -> Result<Self, NewFault>
         ensures { MakesGroup n (IsNewGrowing IsNewShared n POLL_LIMIT) result }
     {
         Self::with_limit(alloc, n, POLL_LIMIT)
     }
 
-    /// As `with_capacity`, where one poll takes at most `limit` names from each group, also from those that are made
+    /// As `with_capacity`; one poll takes at most `limit` ready slots from each group, also from groups that are made
     /// later.
     pub fn with_limit(alloc: Global, n: usize, limit: usize) -> Result<Self, NewFault>
         requires { 1 ≤ limit }
@@ -467,12 +465,11 @@ impl<F: Drop> FuturesUnordered<F, SharedReady> {
         Self::over_limit((), alloc, n, limit)
     }
 
-    /// A set that holds the items, pushed in order. Its first group has as many slots as the iterator says that it has
-    /// items at least, and not fewer than `FIRST_GROUP`.
+    /// Makes a set of the items, pushed in order. Its first group has a slot for each item that `size_hint` of the
+    /// iterator promises, and at least `FIRST_GROUP` slots.
     ///
-    /// Takes time and memory in proportion to the number of items and to that first number. Where it is refused, the
-    /// items that came are dropped: `TooLarge` where that number or a later group is too large, or more than `MAX_HELD`
-    /// came.
+    /// If it fails, drops the items that it took. Fails with `TooLarge` if the first group or a later one is too large,
+    /// or if more than `MAX_HELD` items came. Allocates and takes time in proportion to the items and the first group.
     pub fn from_iter<I: IntoIterator<Item = F>>(alloc: Global, iter: I) -> Result<Self, NewFault>
         requires { IsFiniteSource (items_of I.IntoIterator I.IntoIter.Iterator iter) }
         ensures { MakesSharedSet (items_of I.IntoIterator I.IntoIter.Iterator iter) result }

@@ -1,8 +1,8 @@
-//! A set of as many futures as it has slots, yielded as they finish.
+//! A set of as many futures as it has slots, which yields their outputs as they finish.
 //!
-//! Each future stands in a slot. A push marks its slot, and a future's waker marks it again. A poll takes the names of
-//! marked slots from the set's source, at most as many as its limit, and polls what these slots hold until one is
-//! ready. A slot that nobody marked costs nothing.
+//! Each future is in a slot. A push marks its slot, and a waker of the future marks it again. A poll takes marked slots
+//! from the set's source, at most as many as its limit, and polls their futures until one is ready. A slot that is not
+//! marked costs nothing.
 ghost use Rattle.std.specs.Prelude.{◌≡◌, ◌<◌, ◌≤◌, ◌+◌, ◌==◌, ◌↔◌, IfOk, IsSome, IsTrue};
 ghost use Rattle.futures_buffered_core.specs.Drawn.{IsFiniteSource, items_of};
 ghost use Rattle.futures_buffered_core.specs.Made.{MakesSlots};
@@ -26,16 +26,16 @@ use futures_buffered_core::slot_map::PinSlotMap;
 use std::alloc::Global;
 use std::marker::Model;
 
-/// How many names one poll takes from the source, at most, where no other limit was chosen.
+/// How many ready slots one poll takes from the source, at most, if the caller chose no other limit.
 pub const POLL_LIMIT: usize = 61;
 
 const _: () = prove!(POLL_LIMIT == 61);
 
-/// Futures in slots, over a source that names the slots to poll.
+/// Futures in slots, over a source that returns the slots to poll.
 ///
-/// A contract sees what each slot holds and which slots are free, the content of the source, and the limit of names of
-/// one poll. Once the set is made, no call but `make_sibling` allocates, and none waits for another thread. A push, and
-/// calls that ask how much is held, take the same time at any capacity.
+/// A contract sees the content of each slot, the free slots, the content of the source, and the limit of ready slots
+/// for one poll. Once the set is made, no call except `make_sibling` allocates, and no call waits for another thread. A
+/// push, and calls that return how many futures are held, take the same time at any capacity.
 #[derive(Drop)]
 pub struct FuturesUnorderedBounded<F: Drop, S: ReadySource = SharedReady> {
     slots: PinSlotMap<F>,
@@ -59,9 +59,9 @@ impl<F: Drop, S: ReadySource> Model for FuturesUnorderedBounded<F, S> {
 }
 
 impl<F: Drop, S: ReadySource> FuturesUnorderedBounded<F, S> {
-    /// An empty set over this source, with as many slots as the source has.
+    /// Makes an empty set over this source, with as many slots as the source has.
     ///
-    /// Takes time and memory in proportion to that number. The source is dropped where the set is refused.
+    /// If it fails, drops the source. Allocates and takes time in proportion to the number of slots.
     pub fn with_source(alloc: Global, source: S) -> Result<Self, NewFault>
         ensures { MakesSlots (S.slots source) (λ set. set
             ≡ record { slots = no_slots (S.slots source); source = source; limit = POLL_LIMIT }) result }
@@ -69,7 +69,7 @@ impl<F: Drop, S: ReadySource> FuturesUnorderedBounded<F, S> {
         Self::with_source_limit(alloc, source, POLL_LIMIT)
     }
 
-    /// As `with_source`, where one poll takes at most `limit` names.
+    /// As `with_source`; one poll takes at most `limit` ready slots.
     pub fn with_source_limit(alloc: Global, source: S, limit: usize) -> Result<Self, NewFault>
         requires { 1 ≤ limit }
         ensures { MakesSlots (S.slots source) (λ set. set
@@ -85,10 +85,10 @@ impl<F: Drop, S: ReadySource> FuturesUnorderedBounded<F, S> {
 }
 
 impl<F: Drop, S: NewSource> FuturesUnorderedBounded<F, S> {
-    /// An empty set of `cap` slots over a source made for it, where one poll takes at most `limit` names.
+    /// Makes an empty set of `cap` slots over a source made for it; one poll takes at most `limit` ready slots.
     ///
-    /// Takes time and memory in proportion to `cap`, and refuses as `with_source` does. Of the source a contract says
-    /// what `S.made` says of a new one.
+    /// Fails as `with_source` does. Allocates and takes time in proportion to `cap`. A contract says of the source what
+    /// `S.made` says of a new one.
     pub fn with_new_source(
         env: &S::Env,
         alloc: Global,
@@ -102,10 +102,10 @@ impl<F: Drop, S: NewSource> FuturesUnorderedBounded<F, S> {
         Self::with_source_limit(alloc, source, limit)
     }
 
-    /// An empty set of `cap` slots beside this one, with the same limit: a task that registers with either set is woken
-    /// by the futures of both. It is public for sets that grow.
+    /// Makes an empty set of `cap` slots next to this one, with the same limit. A task that registers with either set
+    /// is woken by the futures of both. It is public for sets that grow.
     ///
-    /// Takes time and memory, and refuses, as `with_new_source` does. This set stays as it is.
+    /// This set does not change. Fails, allocates and takes time as `with_new_source` does.
     pub fn make_sibling(&mut self, alloc: Global, cap: usize) -> Result<Self, NewFault>
         ensures set { MakesSlots cap (IsNewSet S.made cap self.old.limit) result }
         ensures beside { IfOk result (λ set. WaitsAlike S.needs self.old.source set.source) }
@@ -120,10 +120,10 @@ impl<F: Drop, S: NewSource> FuturesUnorderedBounded<F, S> {
         })
     }
 
-    /// A set without a free slot, which holds item k in slot k, each marked, in this order. It has as many slots as
-    /// there are items, and a source made for it.
+    /// Makes a set without a free slot: slot k holds item k, and each slot is marked, in this order. The set has as
+    /// many slots as there are items, and a source made for it.
     ///
-    /// Takes time and memory in proportion to that number. Where it is refused, the items that came are dropped.
+    /// If it fails, drops the items that it took. Allocates and takes time in proportion to the number of items.
     pub fn over<I: IntoIterator<Item = F>>(
         env: &S::Env,
         alloc: Global,
@@ -162,14 +162,14 @@ impl<F: Drop, S: NewSource> FuturesUnorderedBounded<F, S> {
 }
 
 impl<F: Drop, S: ReadySource> FuturesUnorderedBounded<F, S> {
-    /// The number of futures held.
+    /// The number of futures in the set.
     pub fn len(&self) -> usize
         ensures { result ≡ held_count self.now.slots }
     {
         self.slots.len()
     }
 
-    /// Whether no future is held.
+    /// Whether the set holds no future.
     pub fn is_empty(&self) -> bool
         ensures { IsTrue result ↔ (held_count self.now.slots ≡ 0) }
     {
@@ -191,7 +191,7 @@ impl<F: Drop, S: ReadySource> FuturesUnorderedBounded<F, S> {
         self.slots.capacity()
     }
 
-    /// How many names one poll takes from the source, at most. It never changes.
+    /// How many ready slots one poll takes from the source, at most. This limit never changes.
     pub fn limit(&self) -> usize
         ensures value { result ≡ self.now.limit }
         ensures some { 1 ≤ result }
@@ -199,10 +199,10 @@ impl<F: Drop, S: ReadySource> FuturesUnorderedBounded<F, S> {
         self.limit
     }
 
-    /// Puts the value into the first free slot and marks that slot, so that a later poll polls it. A full set hands the
-    /// value back.
+    /// Puts the value into the first free slot and marks that slot, so that a later poll polls the value. Returns the
+    /// value, and changes nothing, if the set is full.
     ///
-    /// Polls nothing, and wakes nobody: who pushes sees to it that the set is polled afterwards.
+    /// Polls nothing, and does not wake the task: the caller sees to it that the set is polled afterwards.
     pub fn try_push(&mut self, value: F) -> Result<(), F>
         ensures { PushesIfRoom S.marks self.old value result self.new }
     {
@@ -222,8 +222,8 @@ impl<F: Drop, S: ReadySource> FuturesUnorderedBounded<F, S> {
         }
     }
 
-    /// Pushes each item, in order, as `try_push` does. The first for which there is no free slot comes back; those
-    /// before it stay, and the iterator is asked for no further one.
+    /// Pushes each item, in order, as `try_push` does. Returns the first item for which no slot is free; the items
+    /// before it stay, and no further item is taken from the iterator.
     pub fn extend<I: IntoIterator<Item = F>>(&mut self, iter: I) -> Result<(), F>
         requires { IsFiniteSource (items_of I.IntoIterator I.IntoIter.Iterator iter) }
         ensures extends { Extends (items_of I.IntoIterator I.IntoIter.Iterator iter) (Pushes S.marks)
@@ -238,7 +238,8 @@ impl<F: Drop, S: ReadySource> FuturesUnorderedBounded<F, S> {
         Ok(())
     }
 
-    /// Marks a slot by hand, whether it holds a future or not. Wakes nobody, and takes as long as a mark of the source.
+    /// Marks a slot by hand, whether or not it holds a future. Takes as long as a mark of the source, and does not wake
+    /// the task.
     pub fn mark_slot(&mut self, i: usize) -> Woke
         requires { i < slot_count self.old.slots }
         ensures marked { S.marks self.old.source i result self.new.source }
@@ -248,11 +249,11 @@ impl<F: Drop, S: ReadySource> FuturesUnorderedBounded<F, S> {
         self.source.mark(i)
     }
 
-    /// Registers the task, takes at most as many names as one poll may, and polls the values named until one is ready.
-    /// No slot is emptied: the answer says which slot is done.
+    /// Registers the task, takes ready slots up to the limit, and polls their values until one is ready. Returns the
+    /// output with its slot, which is not emptied.
     ///
-    /// `Pending` wakes the task at once where the source paused, or where the limit was reached. Takes time in
-    /// proportion to the names taken, besides the polls.
+    /// Takes time in proportion to the ready slots taken, apart from the polls. If the source paused, or if the limit
+    /// was reached, returns `Pending` and wakes the task.
     #[inline(always)]
     pub fn poll_first<R: PollOne<F, S::Waker>>(
         &mut self,
@@ -267,7 +268,7 @@ impl<F: Drop, S: ReadySource> FuturesUnorderedBounded<F, S> {
         self.poll_first_registered(rule, cx)
     }
 
-    /// As `poll_first`, for a task that is registered already, with this set or with one beside it. Registers nothing.
+    /// As `poll_first`, for a task that is already registered, with this set or with one next to it. Registers nothing.
     /// It is public for merges that grow.
     #[inline(always)]
     pub fn poll_first_registered<R: PollOne<F, S::Waker>>(
@@ -294,7 +295,7 @@ impl<F: Drop, S: ReadySource> FuturesUnorderedBounded<F, S> {
         cx.yield_now()
     }
 
-    /// Drops the value of a slot, which is then the first free one.
+    /// Drops the value of a slot. That slot is then the first free one.
     pub fn empty_slot(&mut self, i: usize)
         requires { IsSome (value_in self.old.slots i) }
         ensures emptied { self.new ≡ with_empty_slot self.old i }
@@ -304,19 +305,19 @@ impl<F: Drop, S: ReadySource> FuturesUnorderedBounded<F, S> {
         self.slots.remove(i);
     }
 
-    // Tells the source that no slot holds anything.
+    // Says to the source that no slot holds a value.
     pub(crate) fn let_source_go(&mut self)
         ensures { self.new ≡ self.old }
     {
         self.source.let_all_go();
     }
 
-    /// Drops each future that is held, and what the source keeps for them. Each slot is free then, and slot 0 is the
-    /// first to be used again.
+    /// Drops each future, and what the source keeps for the futures. Each slot is free then, and slot 0 is the first to
+    /// be used again.
     ///
-    /// A slot that was marked stays marked, so a later poll may be given its name, and polls what it holds by then.
-    /// Takes no memory, and time in proportion to the capacity, besides the drops. Wakes nobody itself; what is dropped
-    /// may.
+    /// A slot that was marked stays marked. So a later poll may take it, and polls what it holds by then. Does not
+    /// allocate. Takes time in proportion to the capacity, apart from the drops. The call itself does not wake the
+    /// task; a future that it drops may.
     pub fn clear(&mut self)
         ensures { self.new ≡ emptied self.old }
     {
@@ -324,12 +325,14 @@ impl<F: Drop, S: ReadySource> FuturesUnorderedBounded<F, S> {
         self.let_source_go();
     }
 
-    /// One poll of the set, where `rule` says how one held value is polled.
+    /// Polls the set once; `rule` says how one held value is polled.
     ///
-    /// `Ready(None)` where nothing is held, and then nothing was asked. Else names are taken from the source and the
-    /// values named are polled, in that order, until one is ready: it is yielded, and its slot is freed. `Pending`
-    /// where no further name came or the limit was reached; where the source paused and at the limit the task is woken
-    /// at once. Does not allocate, and takes time in proportion to the names taken, besides the polls.
+    /// Returns `Ready(None)` if the set is empty, without a call of the source. Otherwise takes ready slots from the
+    /// source and polls their values, in that order, until one is ready. Then returns its output and frees its slot.
+    /// Returns `Pending` if no ready slot is left, if the source paused, or if the limit was reached.
+    ///
+    /// Does not allocate. Takes time in proportion to the ready slots taken, apart from the polls. If the source
+    /// paused, and at the limit, wakes the task.
     pub fn poll_with<R: PollOne<F, S::Waker>>(
         &mut self,
         rule: &R,
@@ -351,7 +354,7 @@ impl<F: Drop, S: ReadySource> FuturesUnorderedBounded<F, S> {
         }
     }
 
-    /// As `poll_with`, for a task that is registered already, with this set or with one beside it. Registers nothing.
+    /// As `poll_with`, for a task that is already registered, with this set or with one next to it. Registers nothing.
     /// It is public for sets that grow.
     #[inline(always)]
     pub fn poll_registered<R: PollOne<F, S::Waker>>(
@@ -377,16 +380,16 @@ impl<F: Drop, S: ReadySource> FuturesUnorderedBounded<F, S> {
 }
 
 impl<F: Drop> FuturesUnorderedBounded<F, SharedReady> {
-    /// An empty set whose values are woken from any thread.
+    /// Makes an empty set whose values are woken from any thread.
     ///
-    /// Takes time and memory in proportion to `cap`, all that the set ever needs.
+    /// Allocates and takes time in proportion to `cap`. The set needs no other allocation.
     pub fn new(alloc: Global, cap: usize) -> Result<Self, NewFault>
         ensures { MakesSlots cap (IsNewSet IsNewShared cap POLL_LIMIT) result }
     {
         Self::with_limit(alloc, cap, POLL_LIMIT)
     }
 
-    /// As `new`, where one poll takes at most `limit` names.
+    /// As `new`; one poll takes at most `limit` ready slots.
     pub fn with_limit(alloc: Global, cap: usize, limit: usize) -> Result<Self, NewFault>
         requires { 1 ≤ limit }
         ensures { MakesSlots cap (IsNewSet IsNewShared cap limit) result }
@@ -394,8 +397,8 @@ impl<F: Drop> FuturesUnorderedBounded<F, SharedReady> {
         Self::with_new_source(&(), alloc, cap, limit)
     }
 
-    /// A set without a free slot, which holds item k in slot k, each marked, in this order, and whose values are woken
-    /// from any thread. It is `over` with a shared source, and refuses as `over` does.
+    /// Makes a set without a free slot: slot k holds item k, and each slot is marked, in this order. The values are
+    /// woken from any thread. It is `over` with a shared source, and fails as `over` does.
     pub fn from_iter<I: IntoIterator<Item = F>>(alloc: Global, iter: I) -> Result<Self, NewFault>
         requires { IsFiniteSource (items_of I.IntoIterator I.IntoIter.Iterator iter) }
         ensures { MakesFull (items_of I.IntoIterator I.IntoIter.Iterator iter) slots_in

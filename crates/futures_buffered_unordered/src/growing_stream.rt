@@ -1,4 +1,4 @@
-//! A set of groups as a stream, which says how much is left and whether it has ended.
+//! The growing set as a stream, which says how many outputs are left and whether it has ended.
 ghost use Rattle.std.specs.Prelude.{◌≡◌, ◌↔◌};
 ghost use Rattle.futures_buffered_unordered.specs.FuturesUnordered.{AnyNeeds, EachHeld, held_in_all};
 ghost use Rattle.futures_buffered_unordered.specs.PollsBounded.{itself};
@@ -23,7 +23,7 @@ impl<F: SlotFuture<S::Waker>, S: NewSource> Stream for FuturesUnordered<F, S> {
 
     ghost yields = { λ set. ComesFromGroups F.polled set.groups.listed };
 
-    /// One poll, as `poll_with` by the rule that polls the future itself.
+    /// Polls the set as `poll_with` does, by the rule that polls the future itself.
     fn poll_next(&mut self, cx: &mut Context<'_>) -> Poll<Option<F::Output>>
         requires { EachHeld F.can_poll self.old.groups.listed }
         ensures { PollsGrowing (itself F.SlotFuture) S.ReadySource
@@ -54,7 +54,7 @@ impl<F: Drop, S: NewSource> SizeHint for FuturesUnordered<F, S> {
     }
 }
 
-/// Prints the groups, and the number of futures held.
+/// Prints the groups, and the number of futures in them.
 impl<F: Drop, S: NewSource> fmt::Debug for FuturesUnordered<F, S> {
     fn fmt<W: fmt::Write>(&self, f: &mut fmt::Formatter<W>) -> fmt::Result {
         f.debug_struct("FuturesUnordered")

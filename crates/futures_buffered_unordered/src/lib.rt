@@ -1,16 +1,16 @@
-//! Sets of futures that are polled by name: a poll asks a source which slots were marked, and polls what these hold.
+//! Sets that poll only the futures whose slots were marked: a source returns the marked slots, one after another.
 //!
 //! In the order in which to read them:
 //!
-//! - `slot_future`: `SlotFuture`, what a set holds: a future that is polled with the waker of its slot.
-//! - `poll_one`: `PollOne`, the rule by which one held value is polled, and `PollFuture`, the rule for `SlotFuture`s.
+//! - `slot_future`: `SlotFuture`, a future that a set holds, and polls with the waker of its slot.
+//! - `poll_one`: `PollOne`, a rule that polls one held value, and `PollFuture`, the rule for `SlotFuture`s.
 //! - `fused`: the traits `FusedStream`, `FusedFuture` and `SizeHint`, by which a type says whether it has ended and how
-//!   much is left.
-//! - `futures_unordered_bounded`: `FuturesUnorderedBounded`, as many futures as it has slots, yielded as they finish;
-//!   `bounded_stream` is the same set as a stream.
-//! - `ask_group`: `AskGroup`, how a poll asks one of several groups.
+//!   many items are left.
+//! - `futures_unordered_bounded`: `FuturesUnorderedBounded`, as many futures as it has slots, whose outputs it yields
+//!   as they finish; `bounded_stream` is the same set as a stream.
+//! - `ask_group`: `AskGroup`, how a poll of several groups polls one of them.
 //! - `futures_unordered`: `FuturesUnordered`, any number of futures in groups of slots, each made twice as large as the
-//!   last one, yielded as they finish; `growing_stream` is the same set as a stream.
+//!   last one; `growing_stream` is the same set as a stream.
 #![tactic(auto)]
 
 pub mod ask_group;
