@@ -10,7 +10,7 @@ ghost use Rattle.futures_buffered_in_flight.specs.InFlightOrdered.{PushesBack, o
 ghost use Rattle.futures_buffered_in_flight.specs.InFlightOrderedGrowing.{EntersBack, EntersInOrder};
 ghost use Rattle.futures_buffered_table.specs.declared.answer.NewFault.TheVariants.{Memory};
 
-use crate::in_flight::{FuturesInFlight, FuturesUnorderedBounded};
+use crate::in_flight::{FuturesUnorderedBy, FuturesUnorderedBounded};
 use crate::in_flight_growing::FuturesUnordered;
 use crate::in_flight_ordered::FuturesOrderedBounded;
 use crate::in_flight_ordered_growing::FuturesOrdered;
@@ -40,7 +40,7 @@ fn draw<F: Drop, I: IntoIterator<Item = F>>(alloc: Global, iter: I) -> Result<Ve
 
 // Has a new set take these futures, each in the slot of its place.
 #[tactic(auto, using(crate::proofs::FromIterLemmas::pushed_none, crate::proofs::FromIterLemmas::pushed_all, crate::proofs::FromIterLemmas::pushed_room))]
-fn push_all<F, K>(set: &mut FuturesInFlight<F, (), K>, futures: Vec<F>)
+fn push_all<F, K>(set: &mut FuturesUnorderedBy<F, (), K>, futures: Vec<F>)
 where
     F: Future<Output: Drop>,
     requires new { IsNewInFlight (vec_len futures) set.old }
@@ -93,7 +93,7 @@ where
     Ok(())
 }
 
-impl<F: Future<Output: Drop>, K> FuturesInFlight<F, (), K> {
+impl<F: Future<Output: Drop>, K> FuturesUnorderedBy<F, (), K> {
     // A set of these futures without a free slot, item k in slot k.
     fn with_items<I: IntoIterator<Item = F>>(alloc: Global, iter: I) -> Result<Self, NewFault>
         requires finite { IsFiniteSource (items_of I.IntoIterator I.IntoIter.Iterator iter) }

@@ -1,6 +1,6 @@
 //! Sets of futures of the kit, each with a tag of the caller's, each of which can be cancelled by its key.
 //!
-//! A set owns the kit's `FuturesUnordered`, which polls the futures that were woken, and the slots. A `FuturesInFlight` is
+//! A set owns the kit's `FuturesUnordered`, which polls the futures that were woken, and the slots. A `FuturesUnorderedBy` is
 //! of one of two kinds: `FuturesUnorderedBounded` has a fixed number of slots, and `FuturesUnordered` makes slots.
 ghost use Rattle.std.specs.Prelude.{◌≡◌, ◌+◌, ◌≤◌, ◌↔◌, ◌⊎◌, ◌<◌, [], IfOk, IfErr, OnErr, OnOk, IfSome, IfNone, IsSome};
 ghost use Rattle.std.specs.Prelude.{IsTrue, None, length};
@@ -51,7 +51,7 @@ pub struct Growing;
 /// was made with its slot, until a poll finds memory for it. Nothing is written to these places otherwise. A future that
 /// was cancelled takes up room until a poll drops it. Calls that only read take the same time at any capacity.
 #[derive(Drop)]
-pub struct FuturesInFlight<F, T, K> {
+pub struct FuturesUnorderedBy<F, T, K> {
     pub(crate) slots: PinSlotMap<Place<T>>,
     // None before the first push and after `clear`.
     pub(crate) running: Option<FuturesUnordered<Run<F>>>,
@@ -64,9 +64,9 @@ pub struct FuturesInFlight<F, T, K> {
 }
 
 /// A set whose slots are made with it: as many futures as those take up room at a time.
-pub type FuturesUnorderedBounded<F, T = ()> = FuturesInFlight<F, T, Bounded>;
+pub type FuturesUnorderedBounded<F, T = ()> = FuturesUnorderedBy<F, T, Bounded>;
 
-impl<F, T, K> Model for FuturesInFlight<F, T, K> {
+impl<F, T, K> Model for FuturesUnorderedBy<F, T, K> {
     ghost use Rattle.std.specs.Prelude.{◌≤◌, ◌+◌, length};
     ghost use Rattle.std.specs.VecDeque.{deque_capacity};
     ghost use Rattle.futures_buffered_core.specs.SlotMap.{held_count, slot_count};
@@ -88,7 +88,7 @@ impl<F, T, K> Model for FuturesInFlight<F, T, K> {
         × (held_count s.slots + s.cancelled ≤ slot_count s.slots) };
 }
 
-impl<F: Drop, T: Drop, K> FuturesInFlight<F, T, K> {
+impl<F: Drop, T: Drop, K> FuturesUnorderedBy<F, T, K> {
     /// The number of futures held, without those that were cancelled.
     pub fn len(&self) -> usize
         ensures value { result ≡ held_count self.now.slots }
@@ -193,7 +193,7 @@ impl<F: Drop, T: Drop, K> FuturesInFlight<F, T, K> {
     }
 }
 
-impl<F: Future<Output: Drop>, T: Drop, K> FuturesInFlight<F, T, K> {
+impl<F: Future<Output: Drop>, T: Drop, K> FuturesUnorderedBy<F, T, K> {
     // A set of n free slots.
     #[tactic(auto, using(crate::proofs::InFlightLemmas::none_can_poll))]
     pub(crate) fn with_slots(alloc: Global, n: usize) -> Result<Self, NewFault>
@@ -203,7 +203,7 @@ impl<F: Future<Output: Drop>, T: Drop, K> FuturesInFlight<F, T, K> {
         let slots = PinSlotMap::new(alloc, n)?;
         let waiting = VecDeque::with_capacity(alloc, n)?;
         let bells = Tables::new(alloc, n)?;
-        Ok(FuturesInFlight {
+        Ok(FuturesUnorderedBy {
             slots,
             running: None,
             waiting,

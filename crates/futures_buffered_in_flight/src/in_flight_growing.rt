@@ -7,14 +7,14 @@ ghost use Rattle.futures_buffered_in_flight.specs.InFlight.{CanPollAll, HasNoRoo
 ghost use Rattle.futures_buffered_in_flight.specs.InFlight.{RefusesInFlight};
 ghost use Rattle.futures_buffered_in_flight.specs.InFlightGrowing.{MakesRoom, MakesSlot, PushesGrowing, WentInGrowing};
 
-use crate::in_flight::{FuturesInFlight, Growing};
+use crate::in_flight::{FuturesUnorderedBy, Growing};
 use crate::run::Key;
 use futures::Future;
 use futures_buffered_core::ready_core::NewFault;
 use std::alloc::{AllocError, Global};
 
 /// A set of any number of futures.
-pub type FuturesUnordered<F, T = ()> = FuturesInFlight<F, T, Growing>;
+pub type FuturesUnordered<F, T = ()> = FuturesUnorderedBy<F, T, Growing>;
 
 impl<F: Drop, T: Drop> FuturesUnordered<F, T> {
     // One slot more, with a place to wait and a bell. What cannot be seen grows first.

@@ -10,12 +10,12 @@ ghost use Rattle.futures_buffered_in_flight.specs.InFlight.{FlightsWaitAt, Gives
 ghost use Rattle.futures_buffered_in_flight.specs.InFlight.{run_count, runs_in};
 ghost use Rattle.futures_buffered_in_flight.specs.InFlightTurns.{Starts, TurnsOn};
 
-use crate::in_flight::{Came, FuturesInFlight};
+use crate::in_flight::{Came, FuturesUnorderedBy};
 use crate::run::Key;
 use futures::task::{Context, Poll};
 use futures::{Future, Stream};
 
-impl<F: Future<Output: Drop>, T: Drop, K> FuturesInFlight<F, T, K> {
+impl<F: Future<Output: Drop>, T: Drop, K> FuturesUnorderedBy<F, T, K> {
     // Whether the future of this key was cancelled.
     fn is_over(&self, key: Key) -> bool
         ensures { IsTrue result → 0 < self.now.cancelled }

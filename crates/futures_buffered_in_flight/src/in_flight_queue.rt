@@ -5,7 +5,7 @@ ghost use Rattle.futures_buffered_in_flight.specs.InFlightQueue.{PushesQueued, Q
 ghost use Rattle.futures_buffered_in_flight.specs.InFlightQueue.{flights_with};
 ghost use Rattle.futures_buffered_in_flight.specs.InFlight.{flight_slots};
 
-use crate::in_flight::{FuturesInFlight, FuturesUnorderedBounded};
+use crate::in_flight::{FuturesUnorderedBy, FuturesUnorderedBounded};
 use futures::Future;
 use futures::task::{Context, Poll};
 use futures_buffered_ordered::numbered::Numbered;
@@ -41,7 +41,7 @@ impl<F: Future<Output: Drop>> FuturesUnorderedBounded<F> {
     }
 }
 
-impl<F: Future<Output: Drop>, K> FuturesInFlight<F, usize, K> {
+impl<F: Future<Output: Drop>, K> FuturesUnorderedBy<F, usize, K> {
     // As `push_queued`, of a future with a number, its tag.
     #[tactic(auto, using(crate::proofs::InFlightQueueLemmas::pushed_number))]
     pub(crate) fn push_with_number(&mut self, value: Numbered<F>)
@@ -121,7 +121,7 @@ impl<F: Future<Output: Drop>> NumberedSet for FuturesUnorderedBounded<F, usize> 
     ghost keeps_on = { λ a b c first then. then ∙ first };
 }
 
-impl<F: Future<Output: Drop>, K> NumberedPolls<PollFuture> for FuturesInFlight<F, usize, K> {
+impl<F: Future<Output: Drop>, K> NumberedPolls<PollFuture> for FuturesUnorderedBy<F, usize, K> {
     ghost use Rattle.futures_buffered_in_flight.specs.InFlight.{FlightsWaitAt};
     ghost use Rattle.futures_buffered_in_flight.specs.InFlightQueue.{CanPollQueue, PollsByNumber};
 

@@ -2,14 +2,14 @@
 ghost use Rattle.futures_buffered_core.specs.SlotMap.{held_count};
 ghost use Rattle.futures_buffered_in_flight.specs.InFlight.{CanPollAll, ComesFromSlots, FlightsWaitAt};
 
-use crate::in_flight::{FuturesInFlight, FuturesUnorderedBounded};
+use crate::in_flight::{FuturesUnorderedBy, FuturesUnorderedBounded};
 use crate::in_flight_growing::FuturesUnordered;
 use futures::task::{Context, Poll};
 use futures::{Future, Stream};
 use futures_buffered_unordered::fused::{FusedStream, SizeHint};
 use std::fmt;
 
-impl<F: Future<Output: Drop>, T: Drop, K> Stream for FuturesInFlight<F, T, K> {
+impl<F: Future<Output: Drop>, T: Drop, K> Stream for FuturesUnorderedBy<F, T, K> {
     type Item = F::Output;
 
     ghost can_poll = { CanPollAll F.Future };
@@ -29,7 +29,7 @@ impl<F: Future<Output: Drop>, T: Drop, K> Stream for FuturesInFlight<F, T, K> {
 }
 
 /// Whether nothing is held, so that the next poll gives the end. A push after that starts it again.
-impl<F: Future<Output: Drop>, T: Drop, K> FusedStream for FuturesInFlight<F, T, K> {
+impl<F: Future<Output: Drop>, T: Drop, K> FusedStream for FuturesUnorderedBy<F, T, K> {
     ghost use Rattle.std.specs.Prelude.{◌≡◌};
 
     ghost is_over = { λ set. held_count set.slots ≡ 0 };
@@ -39,7 +39,7 @@ impl<F: Future<Output: Drop>, T: Drop, K> FusedStream for FuturesInFlight<F, T, 
     }
 }
 
-impl<F: Drop, T: Drop, K> SizeHint for FuturesInFlight<F, T, K> {
+impl<F: Drop, T: Drop, K> SizeHint for FuturesUnorderedBy<F, T, K> {
     ghost use Rattle.std.specs.Prelude.{Some};
 
     ghost items_left = { λ set. (held_count set.slots, Some (held_count set.slots)) };

@@ -10,7 +10,7 @@ ghost use Rattle.futures_buffered_in_flight.specs.InFlightOrdered.{PushesOrComes
 ghost use Rattle.futures_buffered_in_flight.specs.InFlightOrderedGrowing.{EntersBack, EntersFront};
 ghost use Rattle.futures_buffered_in_flight.specs.InFlightOrderedGrowing.{EntersOrComesBack, PollsGrowingInTurn};
 
-use crate::in_flight::{Came, FuturesInFlight, FuturesUnorderedBounded};
+use crate::in_flight::{Came, FuturesUnorderedBy, FuturesUnorderedBounded};
 use crate::in_flight_growing::FuturesUnordered;
 use crate::in_flight_ordered::FuturesOrderedBounded;
 use crate::in_flight_ordered_growing::FuturesOrdered;
@@ -111,7 +111,7 @@ impl<F: Future<Output: Drop>, T: Drop> Kept<FuturesUnordered<F, T>> {
     }
 }
 
-impl<F: Future<Output: Drop>, T: Drop, K> Kept<FuturesInFlight<F, T, K>> {
+impl<F: Future<Output: Drop>, T: Drop, K> Kept<FuturesUnorderedBy<F, T, K>> {
     /// As `FuturesUnorderedBounded::poll_next_keyed`.
     pub fn poll_next_keyed(&mut self, cx: &mut Context<'_>) -> Poll<Option<Came<F::Output, T>>>
         ensures { PollsInFlight F.Future self.old result self.new cx.old cx.new }
@@ -136,7 +136,7 @@ impl<F: Future<Output: Drop>, T: Drop, K> Kept<FuturesInFlight<F, T, K>> {
     }
 }
 
-impl<F: Future<Output: Drop>, T: Drop, K> Stream for Kept<FuturesInFlight<F, T, K>> {
+impl<F: Future<Output: Drop>, T: Drop, K> Stream for Kept<FuturesUnorderedBy<F, T, K>> {
     type Item = F::Output;
 
     ghost needs = { FlightsWaitAt };

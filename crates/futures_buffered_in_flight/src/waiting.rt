@@ -3,7 +3,7 @@ ghost use Rattle.std.specs.Prelude.{◌≡◌, Some, IfOk, IsSomeAnd};
 ghost use Rattle.futures_buffered_in_flight.specs.InFlight.{CameInFlight, CanPollAll, FlightsWaitAt};
 ghost use Rattle.futures_buffered_in_flight.specs.InFlightOrdered.{CameInTurn, CanPollOrdered, OrderedWaitsAt};
 
-use crate::in_flight::{Came, FuturesInFlight};
+use crate::in_flight::{Came, FuturesUnorderedBy};
 use crate::in_flight_ordered::FuturesOrderedBounded;
 use crate::in_flight_ordered_growing::FuturesOrdered;
 use futures::Future;
@@ -22,8 +22,8 @@ pub struct Waiting<S> {
     held: Option<S>,
 }
 
-impl<F: Future<Output: Drop>, T: Drop, K> Future for Waiting<FuturesInFlight<F, T, K>> {
-    type Output = (Option<Came<F::Output, T>>, FuturesInFlight<F, T, K>);
+impl<F: Future<Output: Drop>, T: Drop, K> Future for Waiting<FuturesUnorderedBy<F, T, K>> {
+    type Output = (Option<Came<F::Output, T>>, FuturesUnorderedBy<F, T, K>);
 
     // A set that was given back is not there to be polled.
     ghost can_poll = { λ waiting. IsSomeAnd waiting.held (CanPollAll F.Future) };
@@ -45,7 +45,7 @@ impl<F: Future<Output: Drop>, T: Drop, K> Future for Waiting<FuturesInFlight<F, 
     }
 }
 
-impl<F: Future<Output: Drop>, T: Drop, K> FuturesInFlight<F, T, K> {
+impl<F: Future<Output: Drop>, T: Drop, K> FuturesUnorderedBy<F, T, K> {
     /// A future of the next output, with its key and tag, or of `None` if nothing is held. It gives the set back too.
     ///
     /// Any executor runs it, as `runtime.block_on(&rt, set.into_next())` of `tokio` does.
