@@ -1,4 +1,4 @@
-//! The set as a stream, which says how much is left and whether it has ended.
+//! The set as a stream, with how many outputs are left and whether it is terminated.
 ghost use Rattle.futures_buffered_core.specs.SlotMap.{held_count};
 ghost use Rattle.futures_buffered_in_flight.specs.InFlight.{CanPollAll, ComesFromSlots, FlightsWaitAt};
 
@@ -18,7 +18,7 @@ impl<F: Future<Output: Drop>, T: Drop, K> Stream for FuturesUnorderedBy<F, T, K>
 
     ghost yields = { ComesFromSlots F.Future };
 
-    /// One poll, as `poll_next_keyed`, without key and tag.
+    /// Polls as `poll_next_keyed` does. Returns an output without key and tag.
     fn poll_next(&mut self, cx: &mut Context<'_>) -> Poll<Option<F::Output>> {
         match self.poll_next_keyed(cx) {
             Poll::Pending => Poll::Pending,
@@ -28,7 +28,7 @@ impl<F: Future<Output: Drop>, T: Drop, K> Stream for FuturesUnorderedBy<F, T, K>
     }
 }
 
-/// Whether nothing is held, so that the next poll gives the end. A push after that starts it again.
+/// The set is terminated while no future is held: the next poll returns `None` then. A later push starts the set again.
 impl<F: Future<Output: Drop>, T: Drop, K> FusedStream for FuturesUnorderedBy<F, T, K> {
     ghost use Rattle.std.specs.Prelude.{◌≡◌};
 
