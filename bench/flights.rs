@@ -1,5 +1,5 @@
 //! Futures of the kit in flight, beside the kit's own set, queue and join.
-use crate::holders::{Holder, Yields};
+use crate::holders::{Holder, Made, Yields};
 use crate::report::Workload;
 use crate::waiting::Kept as Waits;
 use futures::{Future, Stream};
@@ -71,6 +71,12 @@ impl Holder<Yields> for KitQueue<Yields, ()> {
 
     fn gives(&mut self, cx: &mut Context<'_>) -> bool {
         self.poll_next(cx) == Poll::Ready(Some(()))
+    }
+}
+
+impl Made for Flights<Yields> {
+    fn made(alloc: Global, slots: usize) -> Option<Self> {
+        flights(alloc, slots)
     }
 }
 

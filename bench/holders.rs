@@ -11,6 +11,7 @@ use futures_buffered_unordered::futures_unordered::FuturesUnordered;
 use futures_buffered_unordered::futures_unordered_bounded::FuturesUnorderedBounded;
 use futures_buffered_unordered::slot_future::{SlotFuture, SlotWaker};
 use std::alloc::Global;
+use std::marker::PhantomData;
 
 /// Wakes itself at so many polls, and is ready at the next.
 #[derive(Drop)]
@@ -161,6 +162,53 @@ impl<H: Holder<Yields>> Workload for Drained<H> {
         fill(&mut self.0, 1, 1);
         fill(&mut self.0, self.1.saturating_sub(1), 0);
         poll_often(&mut self.0, self.1, cx);
+    }
+}
+
+/// A set that is made with so many slots, if it has a number of them.
+pub trait Made: Holder<Yields> {
+    fn made(alloc: Global, slots: usize) -> Option<Self>;
+}
+
+impl Made for Set<Yields> {
+    fn made(alloc: Global, slots: usize) -> Option<Self> {
+        Set::new(alloc, slots).ok()
+    }
+}
+
+impl Made for GrowingSet<Yields> {
+    fn made(alloc: Global, _slots: usize) -> Option<Self> {
+        Some(GrowingSet::new(alloc))
+    }
+}
+
+impl Made for KitSet<Yields> {
+    fn made(alloc: Global, _slots: usize) -> Option<Self> {
+        KitSet::new(alloc).ok()
+    }
+}
+
+/// A set of one future. A round makes it with so many slots, adds a ready future, takes its output, and drops it.
+#[derive(Drop)]
+pub struct Once<H> {
+    alloc: Global,
+    slots: usize,
+    of: PhantomData<H>,
+}
+
+impl<H> Once<H> {
+    pub fn new(alloc: Global, slots: usize) -> Option<Once<H>> {
+        let of = PhantomData;
+        Some(Once { alloc, slots, of })
+    }
+}
+
+impl<H: Made> Workload for Once<H> {
+    fn run(&mut self, cx: &mut Context<'_>) {
+        if let Some(mut set) = H::made(self.alloc, self.slots) {
+            set.add(Yields { left: 0 });
+            let _ = set.gives(cx);
+        }
     }
 }
 

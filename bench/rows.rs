@@ -5,7 +5,7 @@ use crate::adaptors::{Feed, ForEach, Merge, Ordered, Ready, Unordered};
 use crate::blocking::{all_in_one, handed_over, one_by_one};
 use crate::channels::{Channels, Selected};
 use crate::holders::{
-    Drained, DrainedSet, GrowingQueue, GrowingSet, Joined, Queue, Refilled, Set, Yields,
+    Drained, DrainedSet, GrowingQueue, GrowingSet, Joined, Once, Queue, Refilled, Set, Yields,
 };
 use crate::items::{Items, Sent};
 use crate::flights::{FlightJoin, FlightQueue, Flights, KitJoin, flight_queue, flights};
@@ -211,18 +211,35 @@ impl<R: Clock + RandomSource + AllocGlobal, O: io::Write> Report<'_, R, O> {
         Ok(())
     }
 
+    // Sets and joins of a few futures, and what making them costs.
+    fn small(&mut self) -> io::Result<()> {
+        let (alloc, name) = (self.rt.alloc(), "made, one ready future, dropped, slots");
+        for slots in [1, 16] {
+            self.timed("set", name, slots, Once::<Set<Yields>>::new(alloc, slots))?;
+            self.timed("in flight", name, slots, Once::<Flights<Yields>>::new(alloc, slots))?;
+        }
+        self.timed("growing set", name, 0, Once::<GrowingSet<Yields>>::new(alloc, 0))?;
+        self.timed("kit set", name, 0, Once::<KitSet<Yields>>::new(alloc, 0))?;
+        self.joins(&[1, 4, 16])
+    }
+
+    fn joins(&mut self, counts: &[usize]) -> io::Result<()> {
+        let (alloc, name) = (self.rt.alloc(), "made, polled and ready, a future of");
+        for &count in counts {
+            self.timed("join_all", name, count, Some(Joined(alloc, count)))?;
+            self.timed("in flight join_all", name, count, Some(FlightJoin(alloc, count)))?;
+            self.timed("kit join_all", name, count, Some(KitJoin(alloc, count)))?;
+        }
+        Ok(())
+    }
+
     fn whole(&mut self) -> io::Result<()> {
         let alloc = self.rt.alloc();
         let (of, name) = ("growing set", "made, pushed into and drained, a future of");
         for count in [1_000, 10_000, 100_000, 1_000_000] {
             self.timed(of, name, count, Some(DrainedSet(alloc, count)))?;
         }
-        let name = "made, polled and ready, a future of";
-        for count in [1_000, 100_000, 1_000_000] {
-            self.timed("join_all", name, count, Some(Joined(alloc, count)))?;
-            self.timed("in flight join_all", name, count, Some(FlightJoin(alloc, count)))?;
-            self.timed("kit join_all", name, count, Some(KitJoin(alloc, count)))?;
-        }
+        self.joins(&[1_000, 100_000, 1_000_000])?;
         let made: Option<Merge> = MergeBounded::from_iter(alloc, (0..100).map(|_| Feed)).ok();
         self.timed("merge", "an item of one of the streams, of", 100, made)
     }
@@ -273,6 +290,7 @@ impl<R: Clock + RandomSource + AllocGlobal + Threads + Wait + Sync, O: io::Write
         self.adaptors()?;
         self.kits_futures(32)?;
         self.kits_futures(256)?;
+        self.small()?;
         self.whole()?;
         for slots in [16, 256, 4_096] {
             self.taking(slots)?;

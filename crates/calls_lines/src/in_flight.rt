@@ -13,7 +13,7 @@ use calls_world::world::make_place;
 use futures::Stream;
 use futures::task::{Context, Poll};
 use futures_buffered::in_flight::{
-    Came, FuturesInFlight, FuturesOrdered, FuturesOrderedBounded, FuturesUnordered,
+    Came, FuturesUnorderedBy, FuturesOrdered, FuturesOrderedBounded, FuturesUnordered,
     FuturesUnorderedBounded, IterExt, Kept, Key,
 };
 use futures_buffered_core::ready_core::NewFault;
@@ -23,7 +23,7 @@ use std::alloc::Global;
 /// A set whose tags are the numbers of its futures, and the key of the last push of each number.
 #[derive(Drop)]
 struct KitSet<K> {
-    set: Kept<FuturesInFlight<KitFuture, usize, K>>,
+    set: Kept<FuturesUnorderedBy<KitFuture, usize, K>>,
     keys: Vec<Option<Key>>,
 }
 
@@ -119,7 +119,7 @@ impl<K> KitSet<K> {
 
 impl<K> KitSet<K>
 where
-    Kept<FuturesInFlight<KitFuture, usize, K>>: OfKind,
+    Kept<FuturesUnorderedBy<KitFuture, usize, K>>: OfKind,
 {
     // A set of n slots refuses exactly if it is full, and then the tag is returned too.
     fn push(&mut self, value: KitFuture, id: usize) -> Reply {
@@ -134,7 +134,7 @@ where
             }
             Err((_value, tag)) => {
                 if tag == id {
-                    <Kept<FuturesInFlight<KitFuture, usize, K>> as OfKind>::refusal(was_full)
+                    <Kept<FuturesUnorderedBy<KitFuture, usize, K>> as OfKind>::refusal(was_full)
                 } else {
                     Reply::Nothing
                 }
@@ -145,7 +145,7 @@ where
 
 impl<K> Subject for KitSet<K>
 where
-    Kept<FuturesInFlight<KitFuture, usize, K>>: OfKind,
+    Kept<FuturesUnorderedBy<KitFuture, usize, K>>: OfKind,
 {
     fn poll(&mut self, cx: &mut Context<'_>, _outputs: &mut Vec<u64>) -> Answer {
         match self.set.poll_next_keyed(cx) {
@@ -174,7 +174,7 @@ where
     }
 }
 
-fn ask_set<T: Drop, K>(set: &FuturesInFlight<KitFuture, T, K>, query: Query) -> Reply {
+fn ask_set<T: Drop, K>(set: &FuturesUnorderedBy<KitFuture, T, K>, query: Query) -> Reply {
     match query {
         Query::Len => Reply::Number(set.len()),
         Query::IsEmpty => Reply::Is(set.is_empty()),

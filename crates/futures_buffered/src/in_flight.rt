@@ -20,7 +20,7 @@ mod queues;
 pub mod try_buffered;
 
 pub use buffered::BufferedStreamExt;
-pub use futures_buffered_in_flight::in_flight::FuturesInFlight;
+pub use futures_buffered_in_flight::in_flight::FuturesUnorderedBy;
 pub use futures_buffered_in_flight::{
     Came, FuturesUnordered, FuturesUnorderedBounded, Kept, Key, Waiting,
 };

@@ -1,5 +1,5 @@
--- What a contract sees of a set of futures in flight. A clause names the futures by the ghost members of their type:
--- `F.Future`.
+-- What a contract sees of a set of futures in flight. A clause describes the futures by the ghost members of their
+-- type: `F.Future`.
 use Rattle.std.specs.Prelude.{◌≡◌, ◌+◌, ◌-◌, ◌^◌, ◌<◌, ◌≤◌, ◌⊎◌, min, ℕ, List, [], ◌∷◌, length, slice_get, Option, Some, None}
 use Rattle.std.specs.Prelude.{IfSome, IsSomeAnd, Result, IfOk, IfErr, IsErr}
 use Rattle.std.specs.List.{AllByRecursion}
@@ -21,8 +21,8 @@ use Rattle.futures_buffered_in_flight.specs.declared.run.Key.{Key}
 use Rattle.futures_buffered_in_flight.specs.declared.in_flight.Place.{Place}
 use Rattle.futures_buffered_in_flight.specs.declared.in_flight.Came.{Came}
 
--- the slots, each with the tag and the number of the push of its future; the futures in the kit's set; those that wait
--- for memory; how many were cancelled and have not ended; and the number of the next push
+-- the slots, each with the tag and the push number of its future; the set of `futures`; the futures that wait for
+-- memory; how many cancelled futures have not ended; and the number of the next push
 pub record Flights (F T : Type 0) : Type 0 where
   pub slots : Slots (Place T)
   pub running : Option (FuturesUnordered (Run F))
@@ -30,12 +30,12 @@ pub record Flights (F T : Type 0) : Type 0 where
   pub cancelled : ℕ
   pub next : ℕ
 
--- the futures in the kit's set, at the numbers of their tasks
+-- the futures in the set of `futures`, at the numbers of their tasks
 abbrev pub runs_in : {F : Type 0} → Option (FuturesUnordered (Run F)) → List (Option (Run F))
 runs_in None = []
 runs_in (Some set) = set_places set
 
--- how many futures are in the kit's set
+-- how many futures the set of `futures` has
 abbrev pub run_count : {F : Type 0} → Option (FuturesUnordered (Run F)) → ℕ
 run_count None = 0
 run_count (Some set) = set_len set
@@ -44,15 +44,15 @@ run_count (Some set) = set_len set
 abbrev pub flight_slots : {F T : Type 0} → Flights F T → ℕ
 flight_slots s = slot_count s.slots
 
--- how many futures are held, those that were cancelled and have not ended among them
+-- how many futures occupy room: the futures held, and the cancelled futures that have not ended
 abbrev pub room_taken : {F T : Type 0} → Flights F T → ℕ
 room_taken s = held_count s.slots + s.cancelled
 
--- as many run or wait as take up room
+-- as many futures run or wait as occupy room
 abbrev pub HasEach : {F T : Type 0} → Flights F T → Type 0
 HasEach s = run_count s.running + length s.waiting ≡ room_taken s
 
--- an output comes with the key of its future, and nothing of one that was cancelled
+-- what comes has the key of the run, and only an output that the future of the run may give
 abbrev pub GivesWithKey : {F A : Type 0} → (F → A → Type 0) → Run F → Key × Option A → Type 0
 GivesWithKey gives run came = (came.0 ≡ run.key) × IfSome came.1 (gives run.future)
 
@@ -60,45 +60,45 @@ GivesWithKey gives run came = (came.0 ≡ run.key) × IfSome came.1 (gives run.f
 abbrev pub IsHeld : {F T : Type 0} → Flights F T → Key → T → Type 0
 IsHeld s key tag = value_in s.slots key.slot ≡ Some (record { tag = tag; push = key.push })
 
--- the number of each push was given: 2 ^ 64 - 1 were
+-- the next push has the last number: 2 ^ 64 - 1 pushes were made
 abbrev pub IsUsedUp : {F T : Type 0} → Flights F T → Type 0
 IsUsedUp s = 2 ^ 64 ≤ s.next + 1
 
--- as many futures take up room as there are slots, or each number was given
+-- as many futures occupy room as there are slots, or 2 ^ 64 - 1 pushes were made
 abbrev pub HasNoRoom : {F T : Type 0} → Flights F T → Type 0
 HasNoRoom s = (flight_slots s ≤ room_taken s) ⊎ IsUsedUp s
 
--- a push that is refused changes nothing, and there is no room
+-- a push that is refused changes nothing, and there was no room
 abbrev pub RefusesInFlight : {F T : Type 0} → Flights F T → Flights F T → Type 0
 RefusesInFlight old new = HasNoRoom old × (new ≡ old)
 
--- every slot is free, and there is no future
+-- there are n slots, all free, and no future
 abbrev pub IsNewInFlight : {F T : Type 0} → ℕ → Flights F T → Type 0
 IsNewInFlight n s = (s.slots ≡ no_slots n) × (s.running ≡ None) × (s.waiting ≡ []) × (s.cancelled ≡ 0)
 
--- the place at which a pending poll waits: that of the kit's set
+-- the place at which a pending poll waits: the place of the set of `futures`
 abbrev pub FlightsWaitAt : {F T : Type 0} → Flights F T → ℕ → Type 0
 FlightsWaitAt s source = IsSomeAnd s.running (λ set. source ≡ set.tasks.source.id)
 
 module _ {F A : Type 0} (future : FutureOf F A) where
-  -- what a future that waits may give, with its key: nothing under the last number, with which none starts
+  -- what a future that waits may give, with its key: nothing under the last number, with which no future starts
   abbrev pub WaitGives : Waits F → Key × Option A → Type 0
   WaitGives w came = (came.0 ≡ w.key) × (w.key.push + 1 < 2 ^ 64) × IfSome came.1 (future.gives w.future)
 
-  -- one of those that wait may give this
+  -- one of the futures that wait may give this
   abbrev pub AnyWaitGives : List (Waits F) → Key × Option A → Type 0
   AnyWaitGives [] came = ⊥
   AnyWaitGives (w ∷ ws) came = WaitGives w came ⊎ AnyWaitGives ws came
 
-  -- one of the kit's set may give this
+  -- one of the futures in the set of `futures` may give this
   abbrev pub AnyRunGives : Option (FuturesUnordered (Run F)) → Key × Option A → Type 0
   AnyRunGives running = AnyGives (GivesWithKey future.gives) (runs_in running)
 
-  -- each of the kit's set may be polled
+  -- each future in the set of `futures` may be polled
   abbrev pub CanPollRuns : Option (FuturesUnordered (Run F)) → Type 0
   CanPollRuns running = AllPollable (λ (run : Run F). future.can_poll run.future) (runs_in running)
 
-  -- each of those that wait may be polled
+  -- each future that waits may be polled
   abbrev pub CanPollWaiting : List (Waits F) → Type 0
   CanPollWaiting = AllByRecursion (λ (w : Waits F). future.can_poll w.future)
 
@@ -120,15 +120,15 @@ module _ {F A T : Type 0} (future : FutureOf F A) where
   abbrev pub AnySlotGives : Flights F T → A → Type 0
   AnySlotGives s x = (slot : ℕ) × SlotGives s slot x
 
-  -- item k is in slot k, and there is no other slot
+  -- there are as many slots as items, each with a future, and slot k may give only what item k may give
   pub record FliesInOrder (items : List F) (set : Flights F T) : Type 0 where
     pub as_many : slot_count set.slots ≡ length items
     pub all_wait : held_count set.slots ≡ length items
-    -- what may come of slot k, item k may give
+    -- what slot k may give, item k may give
     pub own : (k : ℕ) (item : F) (x : A) → slice_get items k ≡ Some item
         → SlotGives set k x → future.gives item x
 
-  -- what may come: an output for each slot that is held, of its future, and then the end
+  -- what may come: as many outputs as futures are held, each of which the future of some slot may give, and then `None`
   abbrev pub ComesFromSlots : Flights F T → Runs A
   ComesFromSlots s = Gathers (AnySlotGives s) (held_count s.slots)
 
@@ -136,23 +136,23 @@ module _ {F A T : Type 0} (future : FutureOf F A) where
   abbrev pub FlightsGiveNoMore : Flights F T → Flights F T → Type 0
   FlightsGiveNoMore old new = (came : Key × Option A) → MayCome new came → MayCome old came
 
-  -- each future may be polled, and has the number of a push that was
+  -- each future may be polled, and what may come has the number of a push before the next
   pub record CanPollAll (s : Flights F T) : Type 0 where
     pub running : CanPollRuns future s.running
     pub waiting : CanPollWaiting future s.waiting
     pub older : (came : Key × Option A) → MayCome s came → came.0.push < s.next
 
-  -- A future went into a slot that was free, under this tag and this key. It runs, or waits for memory.
+  -- a future was added to a free slot, under this tag and this key; it runs, or waits for memory
   pub record EntersAt (old : Flights F T) (pushed : F) (tag : T) (key : Key) (new : Flights F T) : Type 0 where
-    -- a key is never used twice: it has the number of this push
+    -- the key has the number of this push, and the number of the next push is one more, unless this is the last number
     pub numbered : (key.push ≡ old.next) × (new.next ≡ min (old.next + 1) (2 ^ 64 - 1))
     pub went_in : Inserts old.slots key.slot (record { tag = tag; push = key.push }) new.slots
     pub one_more : held_count new.slots ≡ held_count old.slots + 1
-    -- the kit's set has it, or it waits
+    -- one future more runs or waits
     pub runs : run_count new.running + length new.waiting ≡ run_count old.running + length old.waiting + 1
-    -- those that were cancelled take up as much room as before
+    -- as many cancelled futures have not ended as before
     pub room : new.cancelled ≡ old.cancelled
-    -- what comes under this key, the future may give
+    -- under this key comes only what the future may give
     pub own : (x : A) → KeyGives new key x → future.gives pushed x
     -- no other future gives what it could not give before
     pub others : (came : Key × Option A) → MayCome new came
@@ -160,71 +160,72 @@ module _ {F A T : Type 0} (future : FutureOf F A) where
     -- the set may be polled
     pub again : CanPollAll new
 
-  -- One push, of a future with this tag. What was given comes back if the push is refused.
+  -- One push of a future with this tag. If the push is refused, it returns `given`.
   pub record PushesInFlight {B : Type 0} (old : Flights F T) (pushed : F) (tag : T) (given : B)
       (result : Result Key B) (new : Flights F T) : Type 0 where
-    -- it went in
+    -- if the push succeeds, the future is added
     pub went_in : IfOk result (λ key. EntersAt old pushed tag key new)
-    -- or it comes back, and nothing has changed
+    -- if the push is refused, it returns `given`, and nothing changes
     pub back : IfErr result (λ back. (back ≡ given) × (new ≡ old))
-    -- it is refused exactly if there is no room
+    -- the push is refused if and only if there is no room
     pub full : HasNoRoom old → IsErr result
     pub room : IsErr result → HasNoRoom old
 
-  -- a future went in under this tag, with some key
+  -- a future was added under this tag, with some key
   abbrev pub WentIn : T → Flights F T → F → Flights F T → Type 0
   WentIn tag old pushed new = (key : Key) × EntersAt old pushed tag key new
 
-  -- an output that the future with this key may give, whose slot is free then
+  -- an output that the future of this key may give: the future was held under this tag, and its slot is free now
   pub record ComesByKey (old : Flights F T) (came : Came A T) (new : Flights F T) : Type 0 where
     pub was_held : IsHeld old came.key came.tag
     pub gave : KeyGives old came.key came.output
     pub freed : new.slots ≡ with_slot_freed old.slots came.key.slot
     pub fewer : held_count new.slots + 1 ≡ held_count old.slots
 
-  -- the end, if nothing is held, which leaves no future; an output; or Pending, if some are held
+  -- `None` if no future is held, which leaves no cancelled future; an output; or `Pending`, if a future is held
   abbrev pub GivesByKey : Flights F T → Poll (Option (Came A T)) → Flights F T → Type 0
   GivesByKey old (Ready None) new = (held_count old.slots ≡ 0) × (new.slots ≡ old.slots) × (new.cancelled ≡ 0)
       × (old.cancelled ≡ 0 → new ≡ old)
   GivesByKey old (Ready (Some came)) new = ComesByKey old came new
   GivesByKey old Pending new = (0 < held_count old.slots) × (new.slots ≡ old.slots)
 
-  -- One poll, which took the set from old to new and the task from cx to left.
+  -- One poll, which takes the set from `old` to `new` and the task from `cx` to `left`.
   pub record PollsInFlight (old : Flights F T) (answer : Poll (Option (Came A T))) (new : Flights F T)
       (cx left : Context) : Type 0 where
-    -- an output with its key; the end exactly if nothing is held; or Pending. Who else is woken is not said
+    -- an output with its key, `None` if and only if no future is held, or `Pending`; nothing here says which other task
+    -- is woken
     pub gave : GivesByKey old answer new
     -- no future gives what it could not give before
     pub narrows : FlightsGiveNoMore old new
-    -- no key is given again, and those that were cancelled take up no more room
+    -- the number of the next push does not change, and no more cancelled futures are left than before
     pub keys : new.next ≡ old.next
     pub room : new.cancelled ≤ old.cancelled
-    -- a pending poll leaves each future that is held and none that was cancelled, or it asks the task to poll again
+    -- after a pending poll as many futures run or wait as occupy room, and none is cancelled, or the task is woken
     pub stays : OnPending answer (HasEach new ⊎ IsWoken left)
     pub ended : OnPending answer ((new.cancelled ≡ 0) ⊎ IsWoken left)
-    -- no future waits for memory, or the task was asked to poll again
+    -- no future waits for memory, or the task is woken
     pub started : (new.waiting ≡ []) ⊎ IsWoken left
-    -- the task of a pending set is registered where it waits, or was asked to poll again
+    -- the task of a pending set is registered where the set waits, or is woken
     pub registered : OnPending answer (Covers left (FlightsWaitAt new))
-    -- what the task was registered for or asked to do before still stands
+    -- what the task was registered for or woken for before still holds
     pub kept : Keeps cx left
     -- the set may be polled
     pub again : CanPollAll new
 
-  -- Polls until an output came or the end: the set was new by then.
+  -- What polling until the next output, or `None`, makes of the set.
   pub record CameInFlight (old : Flights F T) (came : Option (Came A T)) (new : Flights F T) : Type 0 where
-    -- an output with its key, or the end exactly if nothing is held
+    -- an output with its key, or `None` if and only if no future is held
     pub gave : GivesByKey old (Ready came) new
     -- no future gives what it could not give before
     pub narrows : FlightsGiveNoMore old new
-    -- no key is given again, and those that were cancelled take up no more room
+    -- the number of the next push does not change, and no more cancelled futures are left than before
     pub keys : new.next ≡ old.next
     pub room : new.cancelled ≤ old.cancelled
     -- the set may be polled
     pub again : CanPollAll new
 
-  -- The future of this key was cancelled: its slot is free, and no output of it comes. It takes up room until it has
-  -- ended. No other future is touched.
+  -- The future of this key is cancelled: its slot is free, no output of it comes, and it occupies room until it has
+  -- ended. No other future changes.
   pub record Cancels (old : Flights F T) (key : Key) (tag : T) (new : Flights F T) : Type 0 where
     pub was_held : IsHeld old key tag
     pub freed : new.slots ≡ with_slot_freed old.slots key.slot
@@ -233,7 +234,8 @@ module _ {F A T : Type 0} (future : FutureOf F A) where
     pub others : (new.running ≡ old.running) × (new.waiting ≡ old.waiting)
     pub keys : new.next ≡ old.next
 
-  -- What a call that cancels answers: the tag of a future that is held, or nothing, if none has this key.
+  -- what a cancel returns: the tag of the future of this key, or `None`, which changes nothing, if no future of this
+  -- key is held
   abbrev pub CancelsOrNone : Flights F T → Key → Option T → Flights F T → Type 0
   CancelsOrNone old key None new = (new ≡ old) × ((tag : T) → IsHeld old key tag → ⊥)
   CancelsOrNone old key (Some tag) new = Cancels old key tag new

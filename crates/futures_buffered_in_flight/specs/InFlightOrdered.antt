@@ -1,5 +1,5 @@
--- What a contract sees of an ordered queue of futures in flight: the words on ordered queues at a queue in flight. A
--- clause names the futures by the ghost members of their type: `F.Future`.
+-- What a contract sees of an ordered queue of futures in flight: the definitions on ordered queues, for a queue in
+-- flight. A clause describes the futures by the ghost members of their type: `F.Future`.
 use Rattle.std.specs.Prelude.{◌≡◌, ◌⊎◌, ◌↔◌, ◌+◌, ◌<◌, ◌≤◌, ◌^◌, ℕ, [], Option, length, IfNone, IfSome, OnSome, Result}
 use Rattle.std.specs.Prelude.{IfErr, IsErr, List, OnOk, max}
 use Rattle.std.specs.List.{FoldsTo}
@@ -18,20 +18,20 @@ use Rattle.futures_buffered_in_flight.specs.InFlightQueue.{CanPollQueue, SameRoo
 use Rattle.futures_buffered_in_flight.specs.InFlightQueue.{OfSomeTask, PollsByNumber, QueuesNumber}
 use Rattle.futures_buffered_in_flight.specs.InFlightQueue.{flight_count, flights_with}
 
--- the futures in flight, each with a number; the entries from the front to the back, where one in progress has the
--- number of its future; and how many there is a place for
+-- the futures in flight, each with a number; the entries from the front to the back, each entry in progress with the
+-- number of its future; and how many entries had a place when the queue was made
 abbrev pub OrderedInFlight : Type 0 → Type 0 → Type 0
 OrderedInFlight F A = Ordered (Flights F ℕ) A
 
--- as many are held as can be
+-- there are as many entries as there can be
 abbrev pub OrderedIsFull : {F A : Type 0} → OrderedInFlight F A → Type 0
 OrderedIsFull q = flight_slots q.set ≤ length q.entries
 
--- how many can be held
+-- how many entries there can be
 abbrev pub ordered_room : {F A : Type 0} → OrderedInFlight F A → ℕ
 ordered_room q = flight_slots q.set
 
--- there is room for n, no future, and no entry
+-- there are n slots, no future and no entry, and a place for n entries at least
 abbrev pub IsNewInOrder : {F A : Type 0} → ℕ → OrderedInFlight F A → Type 0
 IsNewInOrder n = IsNewQueue (IsNewInFlight n) n
 
@@ -39,8 +39,8 @@ IsNewInOrder n = IsNewQueue (IsNewInFlight n) n
 abbrev pub OrderedWaitsAt : {F A : Type 0} → OrderedInFlight F A → ℕ → Type 0
 OrderedWaitsAt q = FlightsWaitAt q.set
 
--- How the queue keeps itself: the numbers are in order, it can hold one at least and holds no more than it can, and
--- there is a place for an entry of each.
+-- How the queue keeps itself: the numbers are in order. There is a slot, and there are fewer than 2 ^ 62. There are at
+-- most as many entries as slots, and a place for as many.
 pub record KeepsInOrder {F A : Type 0} (q : Numbering (Flights F ℕ) A) : Type 0 where
   pub numbered : IsNumbered flights_with flight_count q
   pub some : 0 < flight_slots q.queue.set
@@ -48,25 +48,25 @@ pub record KeepsInOrder {F A : Type 0} (q : Numbering (Flights F ℕ) A) : Type 
   pub fits : flight_slots q.queue.set ≤ q.queue.room
   pub small : flight_slots q.queue.set < 2 ^ 62
 
--- an output of one more comes behind all that comes
+-- what may come from `runs`, and then one output of which `gives` holds
 abbrev pub ComesLast : {A : Type 0} → (A → Type 0) → Runs A → Runs A
 ComesLast gives runs = Chains runs (Leads gives Ends)
 
--- a push that is refused changes nothing, and as many are held as can be
+-- a push that is refused changes nothing, and there were as many entries as there can be
 abbrev pub RefusesFull : {F A : Type 0} → OrderedInFlight F A → OrderedInFlight F A → Type 0
 RefusesFull old new = OrderedIsFull old × (new ≡ old)
 
 module _ {F A : Type 0} (future : FutureOf F A) where
-  -- each future in progress may be polled
+  -- each future in progress may be polled, and none is cancelled
   abbrev pub CanPollOrdered : OrderedInFlight F A → Type 0
   CanPollOrdered q = CanPollQueue future q.set
 
-  -- what may come: an output of each entry, of its own future, from the front to the back, and then the end
+  -- what may come: an output of each entry, of its own future, from the front to the back, and then `None`
   abbrev pub ComesOfEach : OrderedInFlight F A → Runs A
   ComesOfEach = ComesInOrder (NumberGives future)
 
-  -- One push, from old to new: `adds` says at which end the entry of the future stands, and `with_one` what may come
-  -- where an output of one future more does.
+  -- One push, from `old` to `new`. `adds` says at which end the entry of the future is, and `with_one` what may come if
+  -- an output of one future more does.
   pub record PushesInTurn
       (adds : OrderedInFlight F A → F → OrderedInFlight F A → Type 0)
       (with_one : (A → Type 0) → Runs A → Runs A)
@@ -74,32 +74,32 @@ module _ {F A : Type 0} (future : FutureOf F A) where
       (pushed : F)
       (new : OrderedInFlight F A)
       : Type 0 where
-    -- the future went in, and its entry at this end
+    -- the future is added, and its entry at this end
     pub added : adds old pushed new
     pub one_more : length new.entries ≡ length old.entries + 1
-    -- an output of the future may come there, and else what might come before
+    -- an output of the future may come there, and otherwise what might come before
     pub comes : Within (with_one (future.gives pushed) (ComesOfEach old)) (ComesOfEach new)
-    -- it can hold as many as before
+    -- the queue can hold as many entries as before
     pub same_room : flight_slots new.set ≡ flight_slots old.set
     -- the queue may be polled
     pub again : CanPollOrdered new
 
-  -- the future went in behind all others: its output comes last
+  -- the future was added after all others: its output comes last
   abbrev pub PushesBack : OrderedInFlight F A → F → OrderedInFlight F A → Type 0
   PushesBack = PushesInTurn (AddsBack (QueuesNumber future)) ComesLast
 
-  -- the future went in before all others: its output comes first
+  -- the future was added before all others: its output comes first
   abbrev pub PushesFront : OrderedInFlight F A → F → OrderedInFlight F A → Type 0
   PushesFront = PushesInTurn (AddsFront (QueuesNumber future)) Leads
 
-  -- these went in behind one another, into a new queue with room for as many, and for one at least
+  -- these items were pushed one after another into a new queue with room for as many, and for one at least
   pub record FliesInTurn (items : List F) (q : OrderedInFlight F A) : Type 0 where
     pub start : OrderedInFlight F A
     pub is_new : IsNewInOrder (max 1 (length items)) start
     pub pushed : FoldsTo PushesBack start items q
     pub one_each : length q.entries ≡ length items
 
-  -- A push that hands the future back where there is no room: `pushes` says what it is to go in.
+  -- One push that returns the future if there is no room: `pushes` says what becomes of the queue otherwise.
   pub record PushesOrComesBack
       (pushes : OrderedInFlight F A → F → OrderedInFlight F A → Type 0)
       (old : OrderedInFlight F A)
@@ -107,11 +107,11 @@ module _ {F A : Type 0} (future : FutureOf F A) where
       (result : Result (Unit {0}) F)
       (new : OrderedInFlight F A)
       : Type 0 where
-    -- the future went in
+    -- if the push succeeds, the future is added
     pub went_in : OnOk result (pushes old pushed new)
-    -- or it comes back, and nothing has changed
+    -- if the push is refused, it returns the future, and nothing changes
     pub back : IfErr result (λ back. (back ≡ pushed) × (new ≡ old))
-    -- it comes back exactly where as many are held as can be
+    -- the push is refused if and only if there are as many entries as there can be
     pub full : IsErr result ↔ OrderedIsFull old
     -- the queue may be polled
     pub again : CanPollOrdered new
@@ -124,7 +124,7 @@ module _ {F A : Type 0} (future : FutureOf F A) where
     needs = FlightsWaitAt;
   }
 
-  -- One poll, which took the queue from old to new and the task from cx to left.
+  -- One poll, which takes the queue from `old` to `new` and the task from `cx` to `left`.
   pub record PollsInTurn
       (old : OrderedInFlight F A)
       (answer : Poll (Option A))
@@ -132,35 +132,35 @@ module _ {F A : Type 0} (future : FutureOf F A) where
       (cx left : Context)
       : Type 0 where
     -- while the front is in progress the futures are polled, and each output is kept in the entry of its number; then
-    -- comes the front's output, the end, or Pending
+    -- comes the front's output, `None` or `Pending`
     pub polls : PollsOrdered flight_count SameRoom flying_polls old answer new cx left
-    -- no future of a pending queue waits for memory, or the task was asked to poll again
+    -- no future of a pending queue waits for memory, or the task is woken
     pub started : OnPending answer ((new.set.waiting ≡ []) ⊎ IsWoken left)
-    -- the end comes only where nothing is held, and changes nothing; an output leaves one fewer
+    -- `None` comes only if there was no entry, and changes nothing; an output leaves one entry fewer
     pub empty : IfReady answer (λ o. IfNone o ((length old.entries ≡ 0) × (new ≡ old)))
     pub fewer : IfReady answer (λ o. OnSome o (length new.entries + 1 ≡ length old.entries))
-    -- a pending poll leaves as many as before
+    -- a pending poll leaves as many entries as before
     pub same_count : OnPending answer (length new.entries ≡ length old.entries)
-    -- it can hold as many as before, one at least, and holds no more than it can
+    -- the queue can hold as many entries as before, one at least, and holds no more than it can
     pub same_room : SameRoom old.set new.set
     pub some : 0 < flight_slots new.set
     pub bound : length new.entries ≤ flight_slots new.set
 
-  -- the same, told of the queue alone
+  -- one poll, of the queue alone, without the task
   abbrev pub GivesInTurn : OrderedInFlight F A → Poll (Option A) → OrderedInFlight F A → Type 0
   GivesInTurn = OrderedGives (OfSomeTask (PollsByNumber future)) flight_count
 
-  -- Polls until the output of the front came, or the end: the queue was new by then.
+  -- What polling until the output of the front, or `None`, makes of the queue.
   pub record CameInTurn (old : OrderedInFlight F A) (came : Option A) (new : OrderedInFlight F A)
       : Type 0 where
-    -- it is one that might come first
+    -- this might come first from the old queue
     pub gave : ComesOfEach old [] came
-    -- what may come after it might have come behind it
+    -- what may come from the new queue might have come from the old queue after this output
     pub rest : IfSome came (λ x. After (ComesOfEach old) x (ComesOfEach new))
-    -- the end comes exactly where nothing is held, and changes nothing
+    -- `None` comes if and only if there was no entry, and changes nothing; an output leaves one entry fewer
     pub empty : IfNone came ((length old.entries ≡ 0) × (new ≡ old))
     pub fewer : OnSome came (length new.entries + 1 ≡ length old.entries)
-    -- it can hold as many as before
+    -- the queue can hold as many entries as before
     pub same_room : flight_slots new.set ≡ flight_slots old.set
     -- the queue may be polled
     pub again : CanPollOrdered new

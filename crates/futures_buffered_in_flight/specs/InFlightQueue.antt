@@ -1,5 +1,6 @@
--- What a contract sees of a set of futures in flight that an adaptor or an ordered queue holds: it takes each future while
--- a slot is free, and none is cancelled. A clause names the futures by the ghost members of their type: `F.Future`.
+-- What a contract sees of a set of futures in flight that an adaptor or an ordered queue holds. It accepts each future
+-- while a slot is free, and no future is cancelled. A clause describes the futures by the ghost members of their type:
+-- `F.Future`.
 use Rattle.std.specs.Prelude.{◌≡◌, ◌+◌, ◌<◌, ◌≤◌, ◌⊎◌, ◌==◌, ℕ, Bool, false, [], Option, Some, None, count_by}
 use Rattle.futures.specs.Poll.{OnPending}
 use Rattle.futures.specs.Task.{Covers, Keeps}
@@ -13,7 +14,7 @@ use Rattle.futures_buffered_in_flight.specs.InFlight.{FutureOf, Flights, AnySlot
 use Rattle.futures_buffered_in_flight.specs.InFlight.{flight_slots}
 use Rattle.futures_buffered_in_flight.specs.declared.in_flight.Place.{Place}
 
--- how many are held
+-- how many futures are held
 abbrev pub flight_count : {F T : Type 0} → Flights F T → ℕ
 flight_count s = held_count s.slots
 
@@ -26,59 +27,59 @@ has_tag i (Some place) = place.tag == i
 abbrev pub flights_with : {F : Type 0} → ℕ → Flights F ℕ → ℕ
 flights_with i s = count_by (has_tag i) s.slots.places
 
--- it holds as many as it can
+-- as many futures are held as there are slots
 abbrev pub IsAtItsBound : {F T : Type 0} → Flights F T → Type 0
 IsAtItsBound s = flight_slots s ≤ flight_count s
 
--- as many can be held as before
+-- there are as many slots as before
 abbrev pub SameRoom : {F T : Type 0} → Flights F T → Flights F T → Type 0
 SameRoom old new = flight_slots new ≡ flight_slots old
 
--- the end, if nothing is held, which changes nothing; an output that may come, with one fewer held; or nothing, with as
--- many held
+-- `None`, if no future is held, which changes nothing; an output that may come, with one future fewer held; or
+-- `Pending`, if a future is held, with as many held
 abbrev pub GivesHeld : {F T A : Type 0} → (Flights F T → A → Type 0) → Flights F T → Poll (Option A) → Flights F T → Type 0
 GivesHeld may_give old (Ready None) new = (flight_count old ≡ 0) × (new ≡ old)
 GivesHeld may_give old (Ready (Some x)) new = may_give old x × (flight_count new + 1 ≡ flight_count old)
 GivesHeld may_give old Pending new = (0 < flight_count old) × (flight_count new ≡ flight_count old)
 
 module _ {F A T : Type 0} (future : FutureOf F A) where
-  -- each future may be polled, none was cancelled, there is a slot, and no more are held than there are slots
+  -- each future may be polled, none is cancelled, there is a slot, and no more futures are held than there are slots
   pub record CanPollQueue (s : Flights F T) : Type 0 where
     pub each : CanPollAll future s
     pub none_cancelled : s.cancelled ≡ 0
     pub some : 0 < flight_slots s
     pub bound : flight_count s ≤ flight_slots s
 
-  -- One push into a set that takes each future.
+  -- One push into a set that accepts each future.
   pub record PushesQueued (old : Flights F T) (pushed : F) (new : Flights F T) : Type 0 where
-    -- it holds one more, which may give what the pushed future may
+    -- the set holds one future more, which may give what the pushed future may
     pub one_more : flight_count new ≡ flight_count old + 1
     pub gives : (x : A) → AnySlotGives future new x → AnySlotGives future old x ⊎ future.gives pushed x
-    -- it can hold as many as before
+    -- there are as many slots as before
     pub same_room : SameRoom old new
     -- the set may be polled
     pub again : CanPollQueue new
 
-  -- One poll, which took the set from old to new and the task from cx to left.
+  -- One poll, which takes the set from `old` to `new` and the task from `cx` to `left`.
   pub record PollsQueued
       (old : Flights F T)
       (answer : Poll (Option A))
       (new : Flights F T)
       (cx left : Context)
       : Type 0 where
-    -- an output, the end exactly if nothing is held, or nothing
+    -- an output, `None` if and only if no future is held, or `Pending`
     pub gave : GivesHeld (AnySlotGives future) old answer new
     -- no future gives what none could give before
     pub narrows : (x : A) → AnySlotGives future new x → AnySlotGives future old x
-    -- it can hold as many as before, one at least, and holds no more than it can
+    -- there are as many slots as before, one at least, and no more futures are held than there are slots
     pub same_room : SameRoom old new
     pub some : 0 < flight_slots new
     pub bound : flight_count new ≤ flight_slots new
-    -- the task of a pending set is registered where it waits, or was asked to poll again
+    -- the task of a pending set is registered where the set waits, or is woken
     pub registered : OnPending answer (Covers left (FlightsWaitAt new))
-    -- no future waits for memory, or the task was asked to poll again
+    -- no future waits for memory, or the task is woken
     pub started : (new.waiting ≡ []) ⊎ IsWoken left
-    -- what the task was registered for or asked to do before still stands
+    -- what the task was registered for or woken for before still holds
     pub kept : Keeps cx left
     -- the set may be polled
     pub again : CanPollQueue new
@@ -90,46 +91,46 @@ module _ {F A : Type 0} (future : FutureOf F A) where
       × (value_in s.slots slot ≡ Some (record { tag = out.0; push = push }))
       × KeyGives future s (record { slot = slot; push = push }) out.1
 
-  -- One push of a future with a number, its tag, into a set that takes each.
+  -- One push of a future with a number, its tag, into a set that accepts each future.
   pub record QueuesNumber (old : Flights F ℕ) (pushed : F) (number : ℕ) (new : Flights F ℕ) : Type 0 where
-    -- it holds one more, which has this number
+    -- the set holds one future more, which has this number
     pub one_more : flight_count new ≡ flight_count old + 1
     pub numbers : (i : ℕ) → flights_with i new ≡ flights_with i old + one_at i number
-    -- with its number comes what the pushed future may give
+    -- what may come might come before, or it has this number and the pushed future may give it
     pub gives : (out : ℕ × A) → NumberGives new out → NumberGives old out
         ⊎ ((out.0 ≡ number) × future.gives pushed out.1)
-    -- it can hold as many as before
+    -- there are as many slots as before
     pub same_room : SameRoom old new
     -- the set may be polled
     pub again : CanPollQueue future new
 
-  -- One poll, which took the set from old to new and the task from cx to left, and whose output comes with the number of
-  -- its future.
+  -- One poll, which takes the set from `old` to `new` and the task from `cx` to `left`. An output comes with the number
+  -- of its future.
   pub record PollsByNumber
       (old : Flights F ℕ)
       (answer : Poll (Option (ℕ × A)))
       (new : Flights F ℕ)
       (cx left : Context)
       : Type 0 where
-    -- an output, the end exactly if nothing is held, or nothing
+    -- an output, `None` if and only if no future is held, or `Pending`
     pub gave : GivesHeld NumberGives old answer new
-    -- its number leaves with it, and of each other number there are as many as before
+    -- one future fewer has the number of an output, and as many as before have each other number
     pub numbers : (i : ℕ) → flights_with i new + outputs_with i answer ≡ flights_with i old
     -- no future gives what none with its number could give before
     pub narrows : (out : ℕ × A) → NumberGives new out → NumberGives old out
-    -- it can hold as many as before, one at least, and holds no more than it can
+    -- there are as many slots as before, one at least, and no more futures are held than there are slots
     pub same_room : SameRoom old new
     pub some : 0 < flight_slots new
     pub bound : flight_count new ≤ flight_slots new
-    -- the task of a pending set is registered where it waits, or was asked to poll again
+    -- the task of a pending set is registered where the set waits, or is woken
     pub registered : OnPending answer (Covers left (FlightsWaitAt new))
-    -- no future waits for memory, or the task was asked to poll again
+    -- no future waits for memory, or the task is woken
     pub started : (new.waiting ≡ []) ⊎ IsWoken left
-    -- what the task was registered for or asked to do before still stands
+    -- what the task was registered for or woken for before still holds
     pub kept : Keeps cx left
     -- the set may be polled
     pub again : CanPollQueue future new
 
--- a poll, told of the set alone: it was of some task
+-- a poll of some task, said of the set alone
 abbrev pub OfSomeTask : {Q B : Type 0} → (Q → B → Q → Context → Context → Type 0) → Q → B → Q → Type 0
 OfSomeTask polls old answer new = (cx : Context) × (left : Context) × polls old answer new cx left

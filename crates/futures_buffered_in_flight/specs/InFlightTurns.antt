@@ -1,4 +1,4 @@
--- What a turn of a poll, and a start of a future that waits, leave of a set of futures in flight.
+-- What a turn of a poll, and the start of a future that waits, make of a set of futures in flight.
 use Rattle.std.specs.Prelude.{◌≡◌, ◌+◌, ◌≤◌, ◌⊎◌, Option, length}
 use Rattle.futures.specs.declared.task.context.Context.{Context}
 use Rattle.futures.specs.Task.{Keeps}
@@ -8,7 +8,8 @@ use Rattle.futures_buffered_in_flight.specs.declared.run.Key.{Key}
 use Rattle.futures_buffered_in_flight.specs.declared.run.Waits.{Waits}
 
 module _ {F A T : Type 0} (future : FutureOf F A) where
-  -- the kit's set took the future, or it waits behind the others
+  -- one future more runs or waits, which may give what `value` may; the slots, the cancelled futures and the next
+  -- number do not change
   pub record Flies (old : Flights F T) (value : Waits F) (new : Flights F T) : Type 0 where
     pub running : CanPollRuns future new.running
     pub waiting : CanPollWaiting future new.waiting
@@ -17,7 +18,8 @@ module _ {F A T : Type 0} (future : FutureOf F A) where
     pub slots : new.slots ≡ old.slots
     pub rest : (new.cancelled ≡ old.cancelled) × (new.next ≡ old.next)
 
-  -- some that waited went to the kit's set, or were dropped, since they were cancelled
+  -- starts of futures that wait: slots and next number do not change, no more cancelled futures are left, and no future
+  -- gives more than before
   pub record Starts (old new : Flights F T) : Type 0 where
     pub slots : new.slots ≡ old.slots
     pub keys : new.next ≡ old.next
@@ -25,7 +27,8 @@ module _ {F A T : Type 0} (future : FutureOf F A) where
     pub less : FlightsGiveNoMore future old new
     pub again : CanPollAll future new
 
-  -- one that was cancelled has ended
+  -- one turn without a result: as `Starts`, the same futures wait, and the task keeps what it was registered or woken
+  -- for
   pub record TurnsOn (old new : Flights F T) (cx left : Context) : Type 0 where
     pub starts : Starts old new
     pub same_waiting : new.waiting ≡ old.waiting

@@ -1,4 +1,5 @@
-//! One bell a slot, in tables that a set makes with its slots: it tells a run that it was cancelled, and wakes it.
+//! Bells, one for each slot, in tables that a set makes with its slots. A bell shows a run that it was cancelled, and
+//! wakes it.
 ghost use Rattle.std.specs.Prelude.{◌≡◌};
 ghost use Rattle.futures.specs.Task.{Keeps};
 
@@ -10,22 +11,23 @@ use std::sync::atomic::AtomicU64;
 use std::sync::atomic::Ordering::SeqCst;
 use std::sync::{Arc, Mutex};
 
-// The bell of a slot. Its waker belongs to the task whose number is that of the bell, and not to the slot: the set of the
-// crate `futures` gives a number out again and again, so that the waker that one run left serves the next run with that
-// number, and a pending poll costs two loads. Slots and numbers become free in one order, so that a slot and its task
-// mostly have one number.
+// The bell of a slot. Its waker belongs to the task whose number is the number of the bell, and not to the slot. The
+// set of `futures` uses a number again and again. So the waker that one run left serves the next run with that number,
+// and a pending poll mostly costs two loads here. Slots and numbers become free in the same order, so a slot and its
+// task mostly have the same number.
 #[derive(Drop)]
 struct Bell {
     // One more than the number of the last push into this slot that was cancelled. 0 at first.
     cancelled: AtomicU64,
-    // One more than the number of the task of the run in this slot. 0 before its first pending poll.
+    // One more than the number of the task of the last run in this slot whose poll was pending. 0 at first, after a
+    // cancel, and after all runs were dropped.
     task: AtomicU64,
     // 1 if there is a waker.
     filled: AtomicU64,
     waker: Mutex<Option<Waker>>,
 }
 
-/// A table of bells, in two allocations.
+/// A table of bells, in at most two allocations.
 #[derive(Drop)]
 pub struct Bells {
     source: Source,
@@ -33,7 +35,7 @@ pub struct Bells {
 }
 
 impl Bells {
-    /// Allocates twice, and takes time in proportion to `n`.
+    /// Makes a table of `n` bells. Allocates at most twice, and takes time in proportion to `n`.
     pub fn new(alloc: Global, n: usize) -> Result<Arc<Bells>, AllocError> {
         let mut bells = Vec::with_capacity(alloc, n)?;
         for _slot in 0..n {
@@ -48,7 +50,7 @@ impl Bells {
         Ok(Arc::new(alloc, Bells { source, bells })?)
     }
 
-    /// Whether the run of this push was cancelled. One load.
+    /// Returns whether the run of this push was cancelled. Takes one load.
     pub fn is_cancelled(&self, key: Key) -> bool {
         match self.bells.get(key.slot) {
             Some(bell) => bell.cancelled.load(SeqCst) > key.push,
@@ -56,12 +58,12 @@ impl Bells {
         }
     }
 
-    /// Leaves a waker of the task that polls in its place, if there is none.
+    /// Leaves a waker of the polling task in its place, if there is none.
     pub fn leave_waker(&self, slot: usize, cx: &mut Context<'_>)
         ensures { Keeps cx.old cx.new }
     {
-        // The set of the crate `futures` holds no more than there are slots, so that the number is below the bells, unless
-        // it lost a number when an allocation failed.
+        // The set of `futures` has at most as many runs as there are slots. So the number is below the number of bells,
+        // unless that set lost a number when an allocation failed.
         let number = cx.task();
         let place = if number < self.bells.len() {
             number
@@ -95,14 +97,15 @@ impl Bells {
         bell.filled.store(1, SeqCst);
     }
 
-    /// Tells the run of this push that it was cancelled, and wakes it.
+    /// Marks the run of this push as cancelled, and wakes the task that its slot has. That is the task of this run, or
+    /// of an earlier run in the slot.
     pub fn ring(&self, key: Key) {
         let Some(bell) = self.bells.get(key.slot) else {
             return;
         };
         bell.cancelled.store(key.push.wrapping_add(1), SeqCst);
         let name = bell.task.swap(0, SeqCst);
-        // A run that was not polled yet will be polled in any case.
+        // A run that was not polled yet is polled in any case.
         if name != 0 {
             self.wake((name - 1) as usize);
         }
@@ -117,7 +120,8 @@ impl Bells {
         drop(woken);
     }
 
-    /// Wakes the task of one run that left a waker, and returns whether any did. Takes time in proportion to the bells.
+    /// Wakes the task of one run that left a waker, and returns whether any run did. Takes time in proportion to the
+    /// number of bells.
     pub fn wake_any(&self) -> bool {
         for place in 0..self.bells.len() {
             if self.is_filled(place) {
@@ -135,7 +139,8 @@ impl Bells {
         }
     }
 
-    /// Drops all wakers, since the set that they lead to was dropped. That wakes the task that polled it.
+    /// Drops all wakers, since the set of `futures` that they lead to was dropped. That wakes the tasks whose polls
+    /// left them.
     pub fn let_all_go(&self) {
         for slot in 0..self.bells.len() {
             self.empty(slot);
@@ -153,19 +158,21 @@ impl Bells {
     }
 }
 
-/// The tables of a set: the newest has a bell for each slot, and the older ones have no more bells together.
+/// The tables of a set. The newest table has a bell for each slot, and the older tables together have no more bells
+/// than it.
 ///
-/// A run looks at the table that was the newest when it started, and in each table the place of a waker is the number of
-/// its task. That number is below the slots that there were when the run started, so it is below the bells of its table.
+/// A run looks at the table that was the newest when the run started. In each table the place of a waker is the number
+/// of its task. That number is below the number of slots at the start of the run. So it is below the number of bells of
+/// the table, unless the set of `futures` lost a number.
 #[derive(Drop)]
 pub struct Tables {
     newest: Arc<Bells>,
-    // Those that the set outgrew, until all runs are dropped.
+    // The tables that the set outgrew, until all runs are dropped.
     older: Vec<Arc<Bells>>,
 }
 
 impl Tables {
-    /// One table of `n` bells.
+    /// Makes one table of `n` bells.
     pub fn new(alloc: Global, n: usize) -> Result<Tables, AllocError> {
         let newest = Bells::new(alloc, n)?;
         Ok(Tables {
@@ -174,13 +181,13 @@ impl Tables {
         })
     }
 
-    /// The table for a run that starts. `None` if it is shared too often.
+    /// Returns the table for a run that starts, or `None` if it is shared too often.
     pub fn newest(&self) -> Option<Arc<Bells>> {
         Arc::try_clone(&self.newest).ok()
     }
 
-    /// Has a bell for each of so many slots. If there are fewer, a table is made of at least twice the bells. If an
-    /// allocation fails, the tables stay.
+    /// If the newest table has fewer than `slots` bells, makes a newer one for all slots, with at least twice the
+    /// bells. If an allocation fails, the tables do not change.
     pub fn reserve(&mut self, alloc: Global, slots: usize) -> Result<(), AllocError> {
         let bells = self.newest.bells.len();
         if slots <= bells {
@@ -193,8 +200,9 @@ impl Tables {
         Ok(())
     }
 
-    /// Tells the run of this push that it was cancelled, and wakes it. Goes over all tables: a run that waited for memory
-    /// looks at a newer one than there was when it was pushed.
+    /// Marks the run of this push as cancelled, and wakes it if its poll was pending. Goes over all tables, one for each
+    /// doubling. A run that waited for memory looks at a newer table than the newest one at its push. The slot of a
+    /// table may have the task of another run, which is woken too.
     pub fn ring(&self, key: Key) {
         self.newest.ring(key);
         for bells in &self.older {
@@ -202,7 +210,7 @@ impl Tables {
         }
     }
 
-    /// Wakes the task of one run that left a waker, if any did.
+    /// Wakes the task of one run that left a waker, if any run did.
     pub fn wake_any(&self) {
         if self.newest.wake_any() {
             return;
@@ -214,7 +222,8 @@ impl Tables {
         }
     }
 
-    /// Drops all wakers and the older tables, since all runs were dropped. That wakes the task that polled them.
+    /// Drops all wakers and the older tables, since all runs were dropped. That wakes the tasks whose polls left the
+    /// wakers.
     pub fn let_all_go(&mut self) {
         self.newest.let_all_go();
         for bells in &self.older {

@@ -1,4 +1,4 @@
-//! Sets and queues in flight that are made of what an iterator gives.
+//! Sets and queues in flight that are made of the items of an iterator.
 ghost use Rattle.std.specs.Prelude.{◌≡◌, ◌≤◌, All, IfErr, IfOk, OnOk, length, max, vec_len};
 ghost use Rattle.std.specs.List.{FoldsTo};
 ghost use Rattle.futures_buffered_core.specs.Drawn.{Draws, IsFiniteSource, RefusesTooMany, items_of};
@@ -10,7 +10,7 @@ ghost use Rattle.futures_buffered_in_flight.specs.InFlightOrdered.{PushesBack, o
 ghost use Rattle.futures_buffered_in_flight.specs.InFlightOrderedGrowing.{EntersBack, EntersInOrder};
 ghost use Rattle.futures_buffered_table.specs.declared.answer.NewFault.TheVariants.{Memory};
 
-use crate::in_flight::{FuturesInFlight, FuturesUnorderedBounded};
+use crate::in_flight::{FuturesUnorderedBy, FuturesUnorderedBounded};
 use crate::in_flight_growing::FuturesUnordered;
 use crate::in_flight_ordered::FuturesOrderedBounded;
 use crate::in_flight_ordered_growing::FuturesOrdered;
@@ -18,7 +18,7 @@ use futures::Future;
 use futures_buffered_core::ready_core::{MAX_CAPACITY, NewFault};
 use std::alloc::Global;
 
-// What an iterator gives, at most as many as there may be slots.
+// Returns the items of an iterator, at most as many as there can be slots.
 fn draw<F: Drop, I: IntoIterator<Item = F>>(alloc: Global, iter: I) -> Result<Vec<F>, NewFault>
     requires { IsFiniteSource (items_of I.IntoIterator I.IntoIter.Iterator iter) }
     ensures drawn { IfOk result (λ drawn.
@@ -38,9 +38,9 @@ fn draw<F: Drop, I: IntoIterator<Item = F>>(alloc: Global, iter: I) -> Result<Ve
     Ok(drawn)
 }
 
-// Has a new set take these futures, each in the slot of its place.
+// Pushes these futures into a new set, each into the slot of its place.
 #[tactic(auto, using(crate::proofs::FromIterLemmas::pushed_none, crate::proofs::FromIterLemmas::pushed_all, crate::proofs::FromIterLemmas::pushed_room))]
-fn push_all<F, K>(set: &mut FuturesInFlight<F, (), K>, futures: Vec<F>)
+fn push_all<F, K>(set: &mut FuturesUnorderedBy<F, (), K>, futures: Vec<F>)
 where
     F: Future<Output: Drop>,
     requires new { IsNewInFlight (vec_len futures) set.old }
@@ -55,7 +55,7 @@ where
     }
 }
 
-// Has a new queue take these futures, each behind those before it.
+// Pushes these futures into a new queue, each after the futures before it.
 #[tactic(auto, using(crate::proofs::FromIterLemmas::turns_none, crate::proofs::FromIterLemmas::turns_room))]
 fn push_in_turn<F, A>(queue: &mut FuturesOrderedBounded<F, A>, futures: Vec<F>)
 where
@@ -74,7 +74,7 @@ where
     }
 }
 
-// As `push_in_turn`, into a queue that grows. `Memory` if a push is refused.
+// Pushes as `push_in_turn` does, into a growing queue. Returns `Memory` if a push is refused.
 fn push_each<F, A>(queue: &mut FuturesOrdered<F, A>, futures: Vec<F>) -> Result<(), NewFault>
 where
     F: Future<Output = A>,
@@ -93,8 +93,8 @@ where
     Ok(())
 }
 
-impl<F: Future<Output: Drop>, K> FuturesInFlight<F, (), K> {
-    // A set of these futures without a free slot, item k in slot k.
+impl<F: Future<Output: Drop>, K> FuturesUnorderedBy<F, (), K> {
+    // Makes a set of these futures without a free slot, with item k in slot k.
     fn with_items<I: IntoIterator<Item = F>>(alloc: Global, iter: I) -> Result<Self, NewFault>
         requires finite { IsFiniteSource (items_of I.IntoIterator I.IntoIter.Iterator iter) }
         requires fit { EachDrawn (items_of I.IntoIterator I.IntoIter.Iterator iter) F.can_poll }
@@ -110,10 +110,11 @@ impl<F: Future<Output: Drop>, K> FuturesInFlight<F, (), K> {
 }
 
 impl<F: Future<Output: Drop>> FuturesUnorderedBounded<F> {
-    /// A set of these futures without a free slot, item k in slot k. Nothing is polled.
+    /// Makes a set of these futures without a free slot, with item k in slot k. Does not poll.
     ///
-    /// Takes time and memory in proportion to their number. `TooLarge` if more came than slots can be, `Memory` if an
-    /// allocation fails; then the futures that came are dropped.
+    /// Returns `TooLarge` if the iterator returns more futures than there can be slots, and `Memory` if the futures or
+    /// the slots cannot be allocated. Then the futures that the iterator returned are dropped. If a further allocation
+    /// for a future fails, the future waits. Takes time and allocates in proportion to the number of futures.
     pub fn from_iter<I: IntoIterator<Item = F>>(alloc: Global, iter: I) -> Result<Self, NewFault>
         requires finite { IsFiniteSource (items_of I.IntoIterator I.IntoIter.Iterator iter) }
         requires fit { EachDrawn (items_of I.IntoIterator I.IntoIter.Iterator iter) F.can_poll }
@@ -126,7 +127,7 @@ impl<F: Future<Output: Drop>> FuturesUnorderedBounded<F> {
 }
 
 impl<F: Future<Output: Drop>> FuturesUnordered<F> {
-    /// As `FuturesUnorderedBounded::from_iter`. A later push makes a slot if none is free.
+    /// Makes a set as `FuturesUnorderedBounded::from_iter` does. A later push makes a slot if the set is full.
     pub fn from_iter<I: IntoIterator<Item = F>>(alloc: Global, iter: I) -> Result<Self, NewFault>
         requires finite { IsFiniteSource (items_of I.IntoIterator I.IntoIter.Iterator iter) }
         requires fit { EachDrawn (items_of I.IntoIterator I.IntoIter.Iterator iter) F.can_poll }
@@ -139,10 +140,9 @@ impl<F: Future<Output: Drop>> FuturesUnordered<F> {
 }
 
 impl<F: Future<Output = A>, A: Drop> FuturesOrderedBounded<F, A> {
-    /// A queue of these futures, in their order, with room for as many as came, and for one at least. Nothing is
-    /// polled.
+    /// Makes a queue of these futures, in their order, with room for as many, and for one at least. Does not poll.
     ///
-    /// Takes time and memory, and refuses, as `from_iter` of a set does.
+    /// Fails, allocates and takes time as `from_iter` of a set does.
     pub fn from_iter<I: IntoIterator<Item = F>>(alloc: Global, iter: I) -> Result<Self, NewFault>
         requires finite { IsFiniteSource (items_of I.IntoIterator I.IntoIter.Iterator iter) }
         requires fit { EachDrawn (items_of I.IntoIterator I.IntoIter.Iterator iter) F.can_poll }
@@ -158,9 +158,9 @@ impl<F: Future<Output = A>, A: Drop> FuturesOrderedBounded<F, A> {
 }
 
 impl<F: Future<Output = A>, A: Drop> FuturesOrdered<F, A> {
-    /// A queue of these futures, in their order, with a slot for each, and with one slot at least. Nothing is polled.
+    /// Makes a queue of these futures, in their order, with a slot for each, and with one slot at least. Does not poll.
     ///
-    /// Takes time and memory, and refuses, as `from_iter` of a set does.
+    /// Fails, allocates and takes time as `from_iter` of a set does.
     pub fn from_iter<I: IntoIterator<Item = F>>(alloc: Global, iter: I) -> Result<Self, NewFault>
         requires finite { IsFiniteSource (items_of I.IntoIterator I.IntoIter.Iterator iter) }
         requires fit { EachDrawn (items_of I.IntoIterator I.IntoIter.Iterator iter) F.can_poll }

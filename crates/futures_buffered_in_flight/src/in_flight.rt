@@ -1,7 +1,8 @@
-//! Sets of futures of the kit, each with a tag of the caller's, each of which can be cancelled by its key.
+//! Sets of futures of the crate `futures`. Each future has a tag of the caller, and can be cancelled by its key.
 //!
-//! A set owns the kit's `FuturesUnordered`, which polls the futures that were woken, and the slots. A `FuturesInFlight` is
-//! of one of two kinds: `FuturesUnorderedBounded` has a fixed number of slots, and `FuturesUnordered` makes slots.
+//! A set owns the slots, and a `FuturesUnordered` of `futures`, which polls the futures that were pushed or woken. A
+//! `FuturesUnorderedBy` is of one of two kinds: `FuturesUnorderedBounded` has a fixed number of slots, and
+//! `FuturesUnordered` makes slots.
 ghost use Rattle.std.specs.Prelude.{◌≡◌, ◌+◌, ◌≤◌, ◌↔◌, ◌⊎◌, ◌<◌, [], IfOk, IfErr, OnErr, OnOk, IfSome, IfNone, IsSome};
 ghost use Rattle.std.specs.Prelude.{IsTrue, None, length};
 ghost use Rattle.futures_buffered_core.specs.Drawn.{IsFiniteSource, items_of};
@@ -24,14 +25,14 @@ use std::alloc::Global;
 use std::collections::VecDeque;
 use std::marker::{Model, PhantomData};
 
-/// What a slot knows of its future: the tag that the caller gave, and the number of its push.
+/// What a slot keeps of its future: the caller's tag, and the number of the push.
 #[derive(Drop)]
 pub struct Place<T> {
     pub tag: T,
     pub push: u64,
 }
 
-/// An output, with the key of its future and the tag that it was pushed under.
+/// An output, with the key and the tag of its future.
 #[derive(Drop)]
 pub struct Came<A, T = ()> {
     pub key: Key,
@@ -39,21 +40,22 @@ pub struct Came<A, T = ()> {
     pub output: A,
 }
 
-/// The kind of a set whose slots are made with it.
+/// The kind of a set with a fixed number of slots.
 pub struct Bounded;
 
-/// The kind of a set in which a push makes a slot if none is free.
+/// The kind of a set in which a push makes a slot if the set is full.
 pub struct Growing;
 
-/// Futures of the kit, as many at a time as there are slots, each of which can be cancelled by its key.
+/// Futures of the crate `futures`, at most as many at a time as there are slots. Each can be cancelled by its key.
 ///
-/// A push into a free slot never fails for want of memory. A future for which an allocation fails waits in a place that
-/// was made with its slot, until a poll finds memory for it. Nothing is written to these places otherwise. A future that
-/// was cancelled takes up room until a poll drops it. Calls that only read take the same time at any capacity.
+/// A push into a set that is not full never fails. If the allocation for a future fails, the future waits in a place
+/// that was made with its slot, until a poll can allocate. Before 2^64 - 1 pushes, no other future is written to these
+/// places. A cancelled future counts in `is_full` until a poll or `clear` drops it. Calls that only read take the same
+/// time at any capacity.
 #[derive(Drop)]
-pub struct FuturesInFlight<F, T, K> {
+pub struct FuturesUnorderedBy<F, T, K> {
     pub(crate) slots: PinSlotMap<Place<T>>,
-    // None before the first push and after `clear`.
+    // `None` before the first push, after `clear`, and after a poll that returned `None` and dropped cancelled futures.
     pub(crate) running: Option<FuturesUnordered<Run<F>>>,
     pub(crate) waiting: VecDeque<Waits<F>>,
     pub(crate) cancelled: usize,
@@ -63,10 +65,10 @@ pub struct FuturesInFlight<F, T, K> {
     kind: PhantomData<K>,
 }
 
-/// A set whose slots are made with it: as many futures as those take up room at a time.
-pub type FuturesUnorderedBounded<F, T = ()> = FuturesInFlight<F, T, Bounded>;
+/// A set with a fixed number of slots.
+pub type FuturesUnorderedBounded<F, T = ()> = FuturesUnorderedBy<F, T, Bounded>;
 
-impl<F, T, K> Model for FuturesInFlight<F, T, K> {
+impl<F, T, K> Model for FuturesUnorderedBy<F, T, K> {
     ghost use Rattle.std.specs.Prelude.{◌≤◌, ◌+◌, length};
     ghost use Rattle.std.specs.VecDeque.{deque_capacity};
     ghost use Rattle.futures_buffered_core.specs.SlotMap.{held_count, slot_count};
@@ -82,14 +84,15 @@ impl<F, T, K> Model for FuturesInFlight<F, T, K> {
       next = s.next;
     } };
 
-    // No more take up room than there are slots, each one that waits does, and there is a place for each to wait.
+    // At most as many futures occupy room as there are slots. Each future that waits occupies room, and each slot has a
+    // place in which its future can wait.
     ghost invariant = { λ s. (slot_count s.slots ≤ deque_capacity s.waiting)
         × (length s.waiting.items ≤ held_count s.slots + s.cancelled)
         × (held_count s.slots + s.cancelled ≤ slot_count s.slots) };
 }
 
-impl<F: Drop, T: Drop, K> FuturesInFlight<F, T, K> {
-    /// The number of futures held, without those that were cancelled.
+impl<F: Drop, T: Drop, K> FuturesUnorderedBy<F, T, K> {
+    /// Returns the number of futures held, without the cancelled futures.
     pub fn len(&self) -> usize
         ensures value { result ≡ held_count self.now.slots }
         ensures bound { room_taken self.now ≤ flight_slots self.now }
@@ -97,29 +100,30 @@ impl<F: Drop, T: Drop, K> FuturesInFlight<F, T, K> {
         self.slots.len()
     }
 
-    /// Whether no future is held.
+    /// Returns whether no future is held.
     pub fn is_empty(&self) -> bool
         ensures { IsTrue result ↔ (held_count self.now.slots ≡ 0) }
     {
         self.slots.is_empty()
     }
 
-    /// The number of slots.
+    /// Returns the number of slots.
     pub fn capacity(&self) -> usize
         ensures { result ≡ flight_slots self.now }
     {
         self.slots.capacity()
     }
 
-    /// Whether no slot is left for a push: the futures held, and those that were cancelled and not dropped yet, are as
-    /// many as the slots. After 2^64 - 1 pushes it is so for good. A bounded set refuses each push then.
+    /// Returns whether the set has no room for a push: as many futures are held, or cancelled and not dropped yet, as
+    /// there are slots. After 2^64 - 1 pushes, returns true permanently. A bounded set that is full refuses each push.
     pub fn is_full(&self) -> bool
         ensures { IsTrue result ↔ HasNoRoom self.now }
     {
         self.slots.capacity() <= self.slots.len() + self.cancelled || self.next == u64::MAX
     }
 
-    /// Whether the future of this key is held: no output of it came, and it was not cancelled.
+    /// Returns whether the set holds the future of this key: its output was not returned, and it was neither cancelled
+    /// nor cleared.
     pub fn contains(&self, key: Key) -> bool
         ensures held { IsTrue result → (tag : T) × IsHeld self.now key tag }
         ensures none { (tag : T) → IsHeld self.now key tag → IsTrue result }
@@ -130,7 +134,7 @@ impl<F: Drop, T: Drop, K> FuturesInFlight<F, T, K> {
         }
     }
 
-    // Frees the slot of this key, if its future is held, and returns the tag. The future takes up room as before.
+    // Frees the slot of this key, if its future is held, and returns the tag. The future occupies room as before.
     pub(crate) fn take_place(&mut self, key: Key) -> Option<T>
         ensures none { IfNone result ((self.new ≡ self.old) × ((tag : T) → IsHeld self.old key tag → ⊥)) }
         ensures some { IfSome result (λ tag. IsHeld self.old key tag
@@ -150,7 +154,7 @@ impl<F: Drop, T: Drop, K> FuturesInFlight<F, T, K> {
         Some(place.tag)
     }
 
-    // A future that took up room is gone.
+    // Counts one cancelled future less, if there is one: a future that occupied room has ended.
     pub(crate) fn end_cancelled(&mut self)
         requires { length self.old.waiting + 1 ≤ room_taken self.old }
         ensures rest { (self.new.slots ≡ self.old.slots) × (self.new.next ≡ self.old.next)
@@ -163,14 +167,14 @@ impl<F: Drop, T: Drop, K> FuturesInFlight<F, T, K> {
         }
     }
 
-    // How many of those that take up room do not wait.
+    // Returns how many of the futures that occupy room do not wait.
     pub(crate) fn flying(&self) -> usize
         ensures { result + length self.now.waiting ≡ room_taken self.now }
     {
         self.slots.len() + self.cancelled - self.waiting.len()
     }
 
-    // How many are in the kit's set.
+    // Returns how many futures the set of `futures` has.
     pub(crate) fn running_len(&self) -> usize
         ensures { result ≡ run_count self.now.running }
     {
@@ -180,7 +184,7 @@ impl<F: Drop, T: Drop, K> FuturesInFlight<F, T, K> {
         }
     }
 
-    // Drops each future, and leaves the slots as they are.
+    // Drops each future. The slots do not change.
     pub(crate) fn drop_all(&mut self)
         requires { held_count self.old.slots ≡ 0 }
         ensures none { (self.new.running ≡ None) × (self.new.waiting ≡ []) × (self.new.cancelled ≡ 0) }
@@ -193,8 +197,8 @@ impl<F: Drop, T: Drop, K> FuturesInFlight<F, T, K> {
     }
 }
 
-impl<F: Future<Output: Drop>, T: Drop, K> FuturesInFlight<F, T, K> {
-    // A set of n free slots.
+impl<F: Future<Output: Drop>, T: Drop, K> FuturesUnorderedBy<F, T, K> {
+    // Makes a set of n free slots.
     #[tactic(auto, using(crate::proofs::InFlightLemmas::none_can_poll))]
     pub(crate) fn with_slots(alloc: Global, n: usize) -> Result<Self, NewFault>
         ensures made { MakesSlots n (IsNewInFlight n) result }
@@ -203,7 +207,7 @@ impl<F: Future<Output: Drop>, T: Drop, K> FuturesInFlight<F, T, K> {
         let slots = PinSlotMap::new(alloc, n)?;
         let waiting = VecDeque::with_capacity(alloc, n)?;
         let bells = Tables::new(alloc, n)?;
-        Ok(FuturesInFlight {
+        Ok(FuturesUnorderedBy {
             slots,
             running: None,
             waiting,
@@ -215,8 +219,8 @@ impl<F: Future<Output: Drop>, T: Drop, K> FuturesInFlight<F, T, K> {
         })
     }
 
-    /// Drops each future, in this call. Does not allocate, and takes time in proportion to the capacity, besides the
-    /// drops. The task that polled the set is woken.
+    /// Drops each future, in this call. Does not allocate. Takes time in proportion to the capacity, apart from the
+    /// drops. Wakes the task whose poll was pending. After polls by two tasks, it may wake the earlier task alone.
     #[tactic(auto, using(crate::proofs::InFlightLemmas::none_can_poll))]
     pub fn clear(&mut self)
         ensures slots { self.new.slots ≡ no_slots (slot_count self.old.slots) }
@@ -229,7 +233,7 @@ impl<F: Future<Output: Drop>, T: Drop, K> FuturesInFlight<F, T, K> {
         self.drop_all();
     }
 
-    // Makes the kit's set, if there is none. Whether there is one.
+    // Makes the set of `futures` if there is none. Returns whether there is one.
     fn make_running(&mut self) -> bool
         ensures runs { (runs_in self.new.running ≡ runs_in self.old.running)
             × (run_count self.new.running ≡ run_count self.old.running) }
@@ -247,7 +251,7 @@ impl<F: Future<Output: Drop>, T: Drop, K> FuturesInFlight<F, T, K> {
         true
     }
 
-    // Hands the future to the kit's set. It comes back if memory is refused.
+    // Pushes the future into the set of `futures`. Returns the future if that fails.
     #[tactic(auto, using(crate::proofs::InFlightLemmas::none_pollable))]
     fn hand_over(&mut self, value: Waits<F>) -> Result<(), Waits<F>>
         requires held { CanPollRuns F.Future self.old.running }
@@ -284,7 +288,7 @@ impl<F: Future<Output: Drop>, T: Drop, K> FuturesInFlight<F, T, K> {
         })
     }
 
-    // The future goes to the kit's set, or waits. Under the last number it waits for good.
+    // Pushes the future into the set of `futures`, or the future waits. With the last number it waits permanently.
     #[tactic(auto, using(crate::proofs::InFlightLemmas::flies, crate::proofs::InFlightLemmas::left_waiting, crate::proofs::InFlightLemmas::waits_for_good))]
     pub(crate) fn start(&mut self, value: Waits<F>)
         requires held { CanPollRuns F.Future self.old.running }
@@ -302,15 +306,15 @@ impl<F: Future<Output: Drop>, T: Drop, K> FuturesInFlight<F, T, K> {
         }
     }
 
-    // Wakes a task whose poll was pending, if some wait for memory.
+    // Wakes a task whose poll was pending, if a future waits for memory.
     fn call_back(&self) {
         if !self.waiting.is_empty() {
             self.bells.wake_any();
         }
     }
 
-    /// As `push_tagged`, while fewer take up room than there are slots. After 2^64 - 1 pushes the future is held,
-    /// and is never polled.
+    /// Pushes as `push_tagged` does, while fewer futures are held, or cancelled and not dropped yet, than there are
+    /// slots. After 2^64 - 1 pushes the set holds the future, and never polls it.
     #[tactic(auto, using(crate::proofs::InFlightLemmas::entered))]
     pub fn push_any(&mut self, future: F, tag: T) -> Key
         requires room { room_taken self.old < flight_slots self.old }
@@ -329,11 +333,16 @@ impl<F: Future<Output: Drop>, T: Drop, K> FuturesInFlight<F, T, K> {
         key
     }
 
-    /// Cancels the future of this key, so that no output of it comes, and returns its tag. `None` if no future that is
-    /// held has this key: its output came, or it was cancelled.
+    /// Cancels the future of this key, so that its output is never returned, and returns its tag. Returns `None`, and
+    /// changes nothing, if the set does not hold the future: its output was returned, or it was cancelled or cleared
+    /// before.
     ///
-    /// Its slot is free at once. The next poll that is pending or gives the end drops it; it takes up room until then.
-    /// Takes the same time at any capacity, and wakes the task that polled its future last.
+    /// The slot is free at once. A poll that returns `None` drops the future; a pending poll drops it, or wakes the
+    /// task to poll again. Until then the future counts in `is_full`.
+    ///
+    /// In a bounded set, takes the same time at any capacity. In a growing set, takes time in proportion to the number
+    /// of its tables of bells, one for each doubling. Wakes the task that polled the future last. After polls by two
+    /// tasks, it may wake the earlier task alone. Another future may be woken too, and is then polled once more.
     pub fn cancel(&mut self, key: Key) -> Option<T>
         requires { CanPollAll F.Future self.old }
         ensures cancels { CancelsOrNone F.Future self.old key result self.new }
@@ -346,9 +355,7 @@ impl<F: Future<Output: Drop>, T: Drop, K> FuturesInFlight<F, T, K> {
 }
 
 impl<F: Future<Output: Drop>, T: Drop> FuturesUnorderedBounded<F, T> {
-    /// A set of `n` free slots.
-    ///
-    /// Takes time and memory in proportion to `n`.
+    /// Makes a set of `n` free slots. Takes time and allocates in proportion to `n`.
     pub fn new(alloc: Global, n: usize) -> Result<Self, NewFault>
         ensures made { MakesSlots n (IsNewInFlight n) result }
         ensures can_poll { IfOk result (CanPollAll F.Future) }
@@ -356,11 +363,12 @@ impl<F: Future<Output: Drop>, T: Drop> FuturesUnorderedBounded<F, T> {
         Self::with_slots(alloc, n)
     }
 
-    /// Adds the future under a tag of the caller's, so that a later poll polls it, and returns its key. Tags need not
+    /// Adds the future with a tag of the caller, so that a later poll polls it, and returns its key. Tags need not
     /// differ.
     ///
-    /// Allocates what the kit's set does for a future, and does without if that fails. Takes the same time at any
-    /// capacity, unless memory is refused. A task whose poll was pending is woken.
+    /// Allocates what the set of `futures` allocates for a future, and that set itself if there is none. If this fails,
+    /// the future waits, and a later poll tries again. Many pushes together take time in proportion to their number,
+    /// unless an allocation fails. Wakes a task whose poll was pending.
     pub fn push_tagged(&mut self, future: F, tag: T) -> Key
         requires room { HasNoRoom self.old → ⊥ }
         requires held { CanPollAll F.Future self.old }
@@ -370,7 +378,8 @@ impl<F: Future<Output: Drop>, T: Drop> FuturesUnorderedBounded<F, T> {
         self.push_any(future, tag)
     }
 
-    /// As `push_tagged`, if there is room. Else the future and the tag come back, and the set is as it was.
+    /// Pushes as `push_tagged` does. Returns the future and the tag, and changes nothing, if the set is full
+    /// (`is_full`).
     pub fn try_push_tagged(&mut self, future: F, tag: T) -> Result<Key, (F, T)>
         requires held { CanPollAll F.Future self.old }
         requires fit { F.can_poll future }
@@ -384,7 +393,7 @@ impl<F: Future<Output: Drop>, T: Drop> FuturesUnorderedBounded<F, T> {
 }
 
 impl<F: Future<Output: Drop>> FuturesUnorderedBounded<F> {
-    /// As `push_tagged`, without a tag.
+    /// Pushes as `push_tagged` does, without a tag.
     pub fn push(&mut self, future: F) -> Key
         requires room { HasNoRoom self.old → ⊥ }
         requires held { CanPollAll F.Future self.old }
@@ -394,7 +403,7 @@ impl<F: Future<Output: Drop>> FuturesUnorderedBounded<F> {
         self.push_any(future, ())
     }
 
-    /// As `push`, if there is room. Else the future comes back, and the set is as it was.
+    /// Pushes as `push` does. Returns the future, and changes nothing, if the set is full (`is_full`).
     pub fn try_push(&mut self, future: F) -> Result<Key, F>
         requires held { CanPollAll F.Future self.old }
         requires fit { F.can_poll future }
@@ -406,8 +415,8 @@ impl<F: Future<Output: Drop>> FuturesUnorderedBounded<F> {
         Ok(self.push_any(future, ()))
     }
 
-    /// Pushes each item, in order, as `try_push` does. The first that is refused comes back; those before it stay, and
-    /// the iterator is asked for no further one.
+    /// Pushes each item, in order, as `try_push` does. Returns the first item that is refused. The items before it
+    /// stay, and the iterator is not called again.
     pub fn extend<I: IntoIterator<Item = F>>(&mut self, iter: I) -> Result<(), F>
         requires finite { IsFiniteSource (items_of I.IntoIterator I.IntoIter.Iterator iter) }
         requires held { CanPollAll F.Future self.old }

@@ -1,4 +1,4 @@
-//! The set that grows: a push makes a slot if none is free.
+//! The growing set: a push makes a slot if the set is full.
 ghost use Rattle.std.specs.Prelude.{◌≡◌, IfOk, IsTrue, OnErr, OnOk, false};
 ghost use Rattle.futures_buffered_core.specs.Drawn.{IsFiniteSource, items_of};
 ghost use Rattle.futures_buffered_core.specs.Made.{MakesSlots};
@@ -7,17 +7,17 @@ ghost use Rattle.futures_buffered_in_flight.specs.InFlight.{CanPollAll, HasNoRoo
 ghost use Rattle.futures_buffered_in_flight.specs.InFlight.{RefusesInFlight};
 ghost use Rattle.futures_buffered_in_flight.specs.InFlightGrowing.{MakesRoom, MakesSlot, PushesGrowing, WentInGrowing};
 
-use crate::in_flight::{FuturesInFlight, Growing};
+use crate::in_flight::{FuturesUnorderedBy, Growing};
 use crate::run::Key;
 use futures::Future;
 use futures_buffered_core::ready_core::NewFault;
 use std::alloc::{AllocError, Global};
 
 /// A set of any number of futures.
-pub type FuturesUnordered<F, T = ()> = FuturesInFlight<F, T, Growing>;
+pub type FuturesUnordered<F, T = ()> = FuturesUnorderedBy<F, T, Growing>;
 
 impl<F: Drop, T: Drop> FuturesUnordered<F, T> {
-    // One slot more, with a place to wait and a bell. What cannot be seen grows first.
+    // Makes one slot more, with a place to wait and a bell. The parts that a contract does not see grow first.
     fn make_slot(&mut self) -> Result<(), AllocError>
         ensures made { OnOk result (MakesSlot self.old self.new) }
         ensures same { OnErr result (self.new ≡ self.old) }
@@ -30,7 +30,7 @@ impl<F: Drop, T: Drop> FuturesUnordered<F, T> {
         self.slots.grow_by_one()
     }
 
-    // Makes a slot if none is free. Whether there is room then.
+    // Makes a slot if the set is full. Returns whether there is room then; after 2^64 - 1 pushes there is none.
     pub(crate) fn make_room(&mut self) -> bool
         ensures room { IsTrue result → MakesRoom self.old self.new }
         ensures has { IsTrue result → HasNoRoom self.new → ⊥ }
@@ -44,7 +44,7 @@ impl<F: Drop, T: Drop> FuturesUnordered<F, T> {
 }
 
 impl<F: Future<Output: Drop>, T: Drop> FuturesUnordered<F, T> {
-    /// A set without a slot.
+    /// Makes a set without a slot.
     pub fn new(alloc: Global) -> Result<Self, NewFault>
         ensures made { MakesSlots 0 (IsNewInFlight 0) result }
         ensures can_poll { IfOk result (CanPollAll F.Future) }
@@ -52,9 +52,7 @@ impl<F: Future<Output: Drop>, T: Drop> FuturesUnordered<F, T> {
         Self::with_slots(alloc, 0)
     }
 
-    /// A set of `n` free slots.
-    ///
-    /// Takes time and memory in proportion to `n`.
+    /// Makes a set of `n` free slots. Takes time and allocates in proportion to `n`.
     pub fn with_capacity(alloc: Global, n: usize) -> Result<Self, NewFault>
         ensures made { MakesSlots n (IsNewInFlight n) result }
         ensures can_poll { IfOk result (CanPollAll F.Future) }
@@ -62,13 +60,14 @@ impl<F: Future<Output: Drop>, T: Drop> FuturesUnordered<F, T> {
         Self::with_slots(alloc, n)
     }
 
-    /// Adds the future under a tag of the caller's, so that a later poll polls it, and returns its key. Tags need not
+    /// Adds the future with a tag of the caller, so that a later poll polls it, and returns its key. Tags need not
     /// differ.
     ///
-    /// If no slot is free, a slot is made. The future and the tag come back, and nothing has changed, if an allocation for
-    /// that fails, and after 2^64 - 1 pushes. Into a free slot a push never fails: it allocates what the kit's set does
-    /// for a future, and does without if that fails. Many pushes together take time and memory in proportion to their
-    /// number. A task whose poll was pending is woken.
+    /// If the set is full (`is_full`), makes a slot. Returns the future and the tag, and changes nothing, if the
+    /// allocation for the slot fails, and after 2^64 - 1 pushes. Allocates for the future what the set of `futures`
+    /// allocates, and that set itself if there is none. If this fails, the future waits, and a later poll tries again.
+    /// Many pushes together take time and memory in proportion to their number, unless an allocation fails. Wakes a
+    /// task whose poll was pending.
     #[tactic(auto, using(crate::proofs::InFlightLemmas::wide_can_poll))]
     pub fn push_tagged(&mut self, future: F, tag: T) -> Result<Key, (F, T)>
         requires held { CanPollAll F.Future self.old }
@@ -84,7 +83,7 @@ impl<F: Future<Output: Drop>, T: Drop> FuturesUnordered<F, T> {
 }
 
 impl<F: Future<Output: Drop>> FuturesUnordered<F> {
-    /// As `push_tagged`, without a tag.
+    /// Pushes as `push_tagged` does, without a tag.
     #[tactic(auto, using(crate::proofs::InFlightLemmas::wide_can_poll))]
     pub fn push(&mut self, future: F) -> Result<Key, F>
         requires held { CanPollAll F.Future self.old }
@@ -98,8 +97,8 @@ impl<F: Future<Output: Drop>> FuturesUnordered<F> {
         Ok(self.push_any(future, ()))
     }
 
-    /// Pushes each item, in order, as `push` does. The first that is refused comes back; those before it stay, and the
-    /// iterator is asked for no further one.
+    /// Pushes each item, in order, as `push` does. Returns the first item that is refused. The items before it stay,
+    /// and the iterator is not called again.
     pub fn extend<I: IntoIterator<Item = F>>(&mut self, iter: I) -> Result<(), F>
         requires finite { IsFiniteSource (items_of I.IntoIterator I.IntoIter.Iterator iter) }
         requires held { CanPollAll F.Future self.old }

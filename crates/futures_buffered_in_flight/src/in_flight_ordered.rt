@@ -1,4 +1,4 @@
-//! Futures of the kit in flight, in a queue whose outputs come in the order of the pushes.
+//! Futures of the crate `futures` in flight, in a queue that returns their outputs from the front to the back.
 ghost use Rattle.std.specs.Prelude.{◌≡◌, ◌↔◌, ◌<◌, ◌≤◌, IfOk, IsTrue, length};
 ghost use Rattle.futures_buffered_core.specs.Drawn.{IsFiniteSource, items_of};
 ghost use Rattle.futures_buffered_core.specs.Made.{MakesSlots};
@@ -17,12 +17,13 @@ use futures_buffered_unordered::poll_one::PollFuture;
 use std::alloc::Global;
 use std::marker::Model;
 
-/// Futures in flight, as many as there is room for, one at least, whose outputs come in the order of the pushes.
+/// A queue of futures in flight, which returns their outputs from the front to the back. It has room for one future at
+/// least.
 ///
-/// Pushes add at both ends. An output that comes before its turn is kept, and counts as held until it is yielded. A push
-/// never fails for want of memory. A contract sees the futures in flight, each under a number, and the entries from the
-/// front to the back; an entry in progress has the number of its future. Calls that only read take the same time at any
-/// number held.
+/// A push adds a future at either end. The queue keeps an output that comes before its turn, and holds it until it is
+/// returned. A push never fails because an allocation fails. A contract sees the futures in flight, each with a number,
+/// and the entries from the front to the back. An entry in progress has the number of its future. Calls that only read
+/// take the same time at any number held.
 #[derive(Drop)]
 pub struct FuturesOrderedBounded<F: Drop, A: Drop> {
     queue: OrderedEntries<FuturesUnorderedBounded<F, usize>, A>,
@@ -39,7 +40,7 @@ impl<F: Drop, A: Drop> Model for FuturesOrderedBounded<F, A> {
 }
 
 impl<F: Drop, A: Drop> FuturesOrderedBounded<F, A> {
-    /// How many are held: futures in progress, and outputs that wait for their turn.
+    /// Returns the number of entries: futures in progress, and outputs that wait for their turn.
     pub fn len(&self) -> usize
         ensures value { result ≡ length self.now.entries }
         ensures bound { length self.now.entries ≤ flight_slots self.now.set }
@@ -47,21 +48,22 @@ impl<F: Drop, A: Drop> FuturesOrderedBounded<F, A> {
         self.queue.len()
     }
 
-    /// Whether nothing is held.
+    /// Returns whether there is no entry.
     pub fn is_empty(&self) -> bool
         ensures { IsTrue result ↔ (length self.now.entries ≡ 0) }
     {
         self.queue.is_empty()
     }
 
-    /// How many can be held, which never changes.
+    /// Returns how many entries the queue can hold, which never changes.
     pub fn capacity(&self) -> usize
         ensures { result ≡ flight_slots self.now.set }
     {
         self.queue.set.capacity()
     }
 
-    /// Whether each push is refused: as many are held as can be. Outputs that wait for their turn count.
+    /// Returns whether each push is refused: the queue holds as many entries as it can, with the outputs that wait for
+    /// their turn.
     pub fn is_full(&self) -> bool
         ensures { IsTrue result ↔ OrderedIsFull self.now }
     {
@@ -70,9 +72,7 @@ impl<F: Drop, A: Drop> FuturesOrderedBounded<F, A> {
 }
 
 impl<F: Future<Output = A>, A: Drop> FuturesOrderedBounded<F, A> {
-    /// A queue with room for `n`, and nothing held.
-    ///
-    /// Takes time and memory in proportion to `n`.
+    /// Makes a queue with room for `n` entries and without an entry. Takes time and allocates in proportion to `n`.
     pub fn new(alloc: Global, n: usize) -> Result<Self, NewFault>
         requires { 0 < n }
         ensures made { MakesSlots n (IsNewInOrder n) result }
@@ -83,10 +83,12 @@ impl<F: Future<Output = A>, A: Drop> FuturesOrderedBounded<F, A> {
         Ok(FuturesOrderedBounded { queue })
     }
 
-    /// Adds the future behind all others, so that a later poll polls it. It comes back, and nothing has changed,
-    /// exactly if as many are held as can be (`is_full`).
+    /// Adds the future after all others, so that a later poll polls it. Returns the future, and changes nothing, if and
+    /// only if the queue is full (`is_full`).
     ///
-    /// Allocates what the kit's set does for a future, and does without if that fails.
+    /// Allocates what the set of `futures` allocates for a future, and that set itself if there is none. If this fails,
+    /// the future waits, and a later poll tries again. After 2^64 - 1 pushes the queue holds the future, and never
+    /// polls it.
     pub fn try_push_back(&mut self, future: F) -> Result<(), F>
         requires held { CanPollOrdered F.Future self.old }
         requires fit { F.can_poll future }
@@ -99,7 +101,7 @@ impl<F: Future<Output = A>, A: Drop> FuturesOrderedBounded<F, A> {
         Ok(())
     }
 
-    /// As `try_push_back`, before all others: its output is the next to be yielded.
+    /// Adds the future as `try_push_back` does, but before all others: its output is the next to be returned.
     pub fn try_push_front(&mut self, future: F) -> Result<(), F>
         requires held { CanPollOrdered F.Future self.old }
         requires fit { F.can_poll future }
@@ -112,7 +114,7 @@ impl<F: Future<Output = A>, A: Drop> FuturesOrderedBounded<F, A> {
         Ok(())
     }
 
-    /// As `try_push_back`, for a queue that is not full.
+    /// Adds the future as `try_push_back` does, to a queue that is not full.
     #[tactic(auto, using(crate::proofs::InFlightOrderedLemmas::pushes_back, crate::proofs::InFlightOrderedLemmas::has_room))]
     pub fn push_back(&mut self, future: F)
         requires room { length self.old.entries < flight_slots self.old.set }
@@ -126,7 +128,7 @@ impl<F: Future<Output = A>, A: Drop> FuturesOrderedBounded<F, A> {
         }
     }
 
-    /// As `try_push_front`, for a queue that is not full.
+    /// Adds the future as `try_push_front` does, to a queue that is not full.
     #[tactic(auto, using(crate::proofs::InFlightOrderedLemmas::pushes_front, crate::proofs::InFlightOrderedLemmas::has_room))]
     pub fn push_front(&mut self, future: F)
         requires room { length self.old.entries < flight_slots self.old.set }
@@ -140,8 +142,8 @@ impl<F: Future<Output = A>, A: Drop> FuturesOrderedBounded<F, A> {
         }
     }
 
-    /// Adds each item at the back, in order, as `try_push_back` does. The first that is refused comes back; those
-    /// before it stay, and the iterator is asked for no further one.
+    /// Adds each item at the back, in order, as `try_push_back` does. Returns the first item that is refused. The items
+    /// before it stay, and the iterator is not called again.
     pub fn extend<I: IntoIterator<Item = F>>(&mut self, iter: I) -> Result<(), F>
         requires finite { IsFiniteSource (items_of I.IntoIterator I.IntoIter.Iterator iter) }
         requires held { CanPollOrdered F.Future self.old }
@@ -159,8 +161,8 @@ impl<F: Future<Output = A>, A: Drop> FuturesOrderedBounded<F, A> {
         Ok(())
     }
 
-    /// Drops each future that is in progress, and each output that waits for its turn, in this call. Takes no memory,
-    /// and time in proportion to the capacity, besides the drops.
+    /// Drops each future in progress, and each output that waits for its turn, in this call. Does not allocate. Takes
+    /// time in proportion to the capacity, apart from the drops.
     pub fn clear(&mut self)
         ensures none { IsNewInOrder (flight_slots self.old.set) self.new }
         ensures same_room { flight_slots self.new.set ≡ flight_slots self.old.set }
@@ -170,11 +172,11 @@ impl<F: Future<Output = A>, A: Drop> FuturesOrderedBounded<F, A> {
         self.queue.drop_entries();
     }
 
-    /// One poll: the output of the front, or the end, exactly if nothing is held.
+    /// Returns the output of the front, or `None` if and only if there is no entry.
     ///
-    /// A front whose output is kept leaves with it, and no future is polled. Else the futures are polled, and each
-    /// output that comes is kept, until the front's has come. A future that waits for memory is started first; if memory
-    /// is refused again, the task is woken at once.
+    /// If the output of the front is kept, returns it and polls no future. Otherwise polls the futures, and keeps each
+    /// output, until the front's output comes. First starts the futures that wait for memory; if an allocation fails
+    /// again, wakes the task at once.
     pub fn poll_output(&mut self, cx: &mut Context<'_>) -> Poll<Option<A>>
         requires { CanPollOrdered F.Future self.old }
         ensures { PollsInTurn F.Future self.old result self.new cx.old cx.new }

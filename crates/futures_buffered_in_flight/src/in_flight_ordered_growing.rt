@@ -1,4 +1,4 @@
-//! The ordered queue that grows: futures in flight, any number of them, whose outputs come in the order of the pushes.
+//! The growing ordered queue: any number of futures in flight, whose outputs it returns from the front to the back.
 ghost use Rattle.std.specs.Prelude.{◌≡◌, ◌↔◌, ◌<◌, [], IfOk, IsTrue, length, max};
 ghost use Rattle.futures_buffered_core.specs.Drawn.{IsFiniteSource, items_of};
 ghost use Rattle.futures_buffered_core.specs.Made.{MakesSlots};
@@ -84,11 +84,11 @@ impl<F: Future<Output: Drop>> PollNumberedSet<PollFuture> for FuturesUnordered<F
     }
 }
 
-/// Futures in flight, any number of them, whose outputs come in the order of the pushes.
+/// A queue of any number of futures in flight, which returns their outputs from the front to the back.
 ///
-/// Pushes add at both ends. An output that comes before its turn is kept, and counts as held until it is yielded. It
-/// needs no slot. A contract sees what it sees of the bounded queue. Calls that only read take the same time at any
-/// number held.
+/// A push adds a future at either end. The queue keeps an output that comes before its turn, and holds it until it is
+/// returned. A kept output needs no slot. A contract sees what it sees of the bounded queue. Calls that only read take
+/// the same time at any number held.
 #[derive(Drop)]
 pub struct FuturesOrdered<F: Drop, A: Drop> {
     queue: OrderedEntries<FuturesUnordered<F, usize>, A>,
@@ -106,21 +106,21 @@ impl<F: Drop, A: Drop> Model for FuturesOrdered<F, A> {
 }
 
 impl<F: Drop, A: Drop> FuturesOrdered<F, A> {
-    /// How many are held: futures in progress, and outputs that wait for their turn.
+    /// Returns the number of entries: futures in progress, and outputs that wait for their turn.
     pub fn len(&self) -> usize
         ensures { result ≡ length self.now.entries }
     {
         self.queue.len()
     }
 
-    /// Whether nothing is held.
+    /// Returns whether there is no entry.
     pub fn is_empty(&self) -> bool
         ensures { IsTrue result ↔ (length self.now.entries ≡ 0) }
     {
         self.queue.is_empty()
     }
 
-    /// How many futures can be in progress before a push makes a slot.
+    /// Returns how many futures can be in progress before a push makes a slot.
     pub fn capacity(&self) -> usize
         ensures { result ≡ flight_slots self.now.set }
     {
@@ -129,7 +129,7 @@ impl<F: Drop, A: Drop> FuturesOrdered<F, A> {
 }
 
 impl<F: Future<Output = A>, A: Drop> FuturesOrdered<F, A> {
-    /// A queue of one slot, and nothing held.
+    /// Makes a queue with one slot and without an entry.
     pub fn new(alloc: Global) -> Result<Self, NewFault>
         ensures made { MakesSlots 1 (IsNewInOrder 1) result }
         ensures can_poll { IfOk result (CanPollOrdered F.Future) }
@@ -137,9 +137,8 @@ impl<F: Future<Output = A>, A: Drop> FuturesOrdered<F, A> {
         Self::with_slots(alloc, 1)
     }
 
-    /// A queue of `n` slots, of one at least, and nothing held.
-    ///
-    /// Takes time and memory in proportion to `n`.
+    /// Makes a queue with `n` slots, and with one at least, and without an entry. Takes time and allocates in
+    /// proportion to `n`.
     pub fn with_capacity(alloc: Global, n: usize) -> Result<Self, NewFault>
         ensures made { MakesSlots (max 1 n) (IsNewInOrder (max 1 n)) result }
         ensures can_poll { IfOk result (CanPollOrdered F.Future) }
@@ -157,11 +156,12 @@ impl<F: Future<Output = A>, A: Drop> FuturesOrdered<F, A> {
         Ok(FuturesOrdered { queue })
     }
 
-    /// Adds the future behind all others, so that a later poll polls it.
+    /// Adds the future after all others, so that a later poll polls it.
     ///
-    /// It comes back, and nothing has changed, if an allocation for a slot or an entry fails, and after 2^64 - 1 pushes.
-    /// Allocates what the kit's set does for a future, and does without if that fails. Many pushes together take time and
-    /// memory in proportion to their number.
+    /// Returns the future, and changes nothing, if the allocation for a slot or an entry fails, at `MAX_LEN` entries,
+    /// and after 2^64 - 1 pushes. Allocates for the future what the set of `futures` allocates, and that set itself if
+    /// there is none. If this fails, the future waits, and a later poll tries again. Many pushes together take time and
+    /// memory in proportion to their number, unless an allocation fails.
     pub fn push_back(&mut self, future: F) -> Result<(), F>
         requires held { CanPollOrdered F.Future self.old }
         requires fit { F.can_poll future }
@@ -170,7 +170,7 @@ impl<F: Future<Output = A>, A: Drop> FuturesOrdered<F, A> {
         self.queue.add_back(future)
     }
 
-    /// As `push_back`, before all others: its output is the next to be yielded.
+    /// Adds the future as `push_back` does, but before all others: its output is the next to be returned.
     pub fn push_front(&mut self, future: F) -> Result<(), F>
         requires held { CanPollOrdered F.Future self.old }
         requires fit { F.can_poll future }
@@ -179,8 +179,8 @@ impl<F: Future<Output = A>, A: Drop> FuturesOrdered<F, A> {
         self.queue.add_front(future)
     }
 
-    /// Adds each item at the back, in order, as `push_back` does. The first that is refused comes back; those before it
-    /// stay, and the iterator is asked for no further one.
+    /// Adds each item at the back, in order, as `push_back` does. Returns the first item that is refused. The items
+    /// before it stay, and the iterator is not called again.
     pub fn extend<I: IntoIterator<Item = F>>(&mut self, iter: I) -> Result<(), F>
         requires finite { IsFiniteSource (items_of I.IntoIterator I.IntoIter.Iterator iter) }
         requires held { CanPollOrdered F.Future self.old }
@@ -197,8 +197,8 @@ impl<F: Future<Output = A>, A: Drop> FuturesOrdered<F, A> {
         Ok(())
     }
 
-    /// Drops each future that is in progress, and each output that waits for its turn, in this call. Does not allocate,
-    /// and takes time in proportion to the capacity, besides the drops.
+    /// Drops each future in progress, and each output that waits for its turn, in this call. Does not allocate. Takes
+    /// time in proportion to the capacity, apart from the drops.
     pub fn clear(&mut self)
         ensures none { (self.new.entries ≡ []) × IsNewInFlight (flight_slots self.old.set) self.new.set }
         ensures same_room { flight_slots self.new.set ≡ flight_slots self.old.set }
@@ -208,10 +208,10 @@ impl<F: Future<Output = A>, A: Drop> FuturesOrdered<F, A> {
         self.queue.drop_entries();
     }
 
-    /// One poll: the output of the front, or the end, exactly if nothing is held.
+    /// Returns the output of the front, or `None` if and only if there is no entry.
     ///
-    /// A front whose output is kept leaves with it, and no future is polled. Otherwise the futures are polled, and each
-    /// output that comes is kept, until the front's has come.
+    /// If the output of the front is kept, returns it and polls no future. Otherwise polls the futures, and keeps each
+    /// output, until the front's output comes.
     pub fn poll_output(&mut self, cx: &mut Context<'_>) -> Poll<Option<A>>
         requires { CanPollOrdered F.Future self.old }
         ensures { PollsGrowingInTurn F.Future self.old result self.new cx.old cx.new }

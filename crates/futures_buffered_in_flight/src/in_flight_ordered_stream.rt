@@ -1,4 +1,4 @@
-//! The ordered queues as streams, which say how much is left and whether they have ended.
+//! The ordered queues as streams, with how many outputs are left and whether they are terminated.
 ghost use Rattle.futures_buffered_in_flight.specs.InFlightOrdered.{CanPollOrdered, ComesOfEach};
 ghost use Rattle.futures_buffered_in_flight.specs.InFlightOrdered.{OrderedWaitsAt, PollsInTurn};
 ghost use Rattle.futures_buffered_in_flight.specs.InFlightOrderedGrowing.{PollsGrowingInTurn};
@@ -19,7 +19,7 @@ impl<F: Future<Output = A>, A: Drop> Stream for FuturesOrderedBounded<F, A> {
 
     ghost yields = { ComesOfEach F.Future };
 
-    /// One poll, as `poll_output`.
+    /// Polls as `poll_output` does.
     fn poll_next(&mut self, cx: &mut Context<'_>) -> Poll<Option<A>>
         requires { CanPollOrdered F.Future self.old }
         ensures { PollsInTurn F.Future self.old result self.new cx.old cx.new }
@@ -28,7 +28,8 @@ impl<F: Future<Output = A>, A: Drop> Stream for FuturesOrderedBounded<F, A> {
     }
 }
 
-/// Whether nothing is held, so that the next poll gives the end. A push after that starts it again.
+/// The queue is terminated while there is no entry: the next poll returns `None` then. A later push starts the queue
+/// again.
 impl<F: Future<Output = A>, A: Drop> FusedStream for FuturesOrderedBounded<F, A> {
     ghost use Rattle.std.specs.Prelude.{◌≡◌, length};
 
@@ -67,7 +68,7 @@ impl<F: Future<Output = A>, A: Drop> Stream for FuturesOrdered<F, A> {
 
     ghost yields = { ComesOfEach F.Future };
 
-    /// One poll, as `poll_output`.
+    /// Polls as `poll_output` does.
     fn poll_next(&mut self, cx: &mut Context<'_>) -> Poll<Option<A>>
         requires { CanPollOrdered F.Future self.old }
         ensures { PollsGrowingInTurn F.Future self.old result self.new cx.old cx.new }
@@ -76,7 +77,8 @@ impl<F: Future<Output = A>, A: Drop> Stream for FuturesOrdered<F, A> {
     }
 }
 
-/// Whether nothing is held, so that the next poll gives the end. A push after that starts it again.
+/// The queue is terminated while there is no entry: the next poll returns `None` then. A later push starts the queue
+/// again.
 impl<F: Future<Output = A>, A: Drop> FusedStream for FuturesOrdered<F, A> {
     ghost use Rattle.std.specs.Prelude.{◌≡◌, length};
 

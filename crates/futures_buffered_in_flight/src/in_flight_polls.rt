@@ -1,4 +1,4 @@
-//! The polls of a set: each future that waits for memory is started, and then the kit's set is polled.
+//! The polls of a set: a poll starts each future that waits for memory, and then polls the set of `futures`.
 ghost use Rattle.std.specs.Prelude.{◌≡◌, ◌⊎◌, ◌<◌, [], IfSome, IfNone, IsTrue};
 ghost use Rattle.futures.specs.Poll.{IfReady, OnPending};
 ghost use Rattle.futures.specs.Queued.{GivesNoMore};
@@ -10,20 +10,21 @@ ghost use Rattle.futures_buffered_in_flight.specs.InFlight.{FlightsWaitAt, Gives
 ghost use Rattle.futures_buffered_in_flight.specs.InFlight.{run_count, runs_in};
 ghost use Rattle.futures_buffered_in_flight.specs.InFlightTurns.{Starts, TurnsOn};
 
-use crate::in_flight::{Came, FuturesInFlight};
+use crate::in_flight::{Came, FuturesUnorderedBy};
 use crate::run::Key;
 use futures::task::{Context, Poll};
 use futures::{Future, Stream};
 
-impl<F: Future<Output: Drop>, T: Drop, K> FuturesInFlight<F, T, K> {
-    // Whether the future of this key was cancelled.
+impl<F: Future<Output: Drop>, T: Drop, K> FuturesUnorderedBy<F, T, K> {
+    // Returns whether the future of this key, which waits, was cancelled.
     fn is_over(&self, key: Key) -> bool
         ensures { IsTrue result → 0 < self.now.cancelled }
     {
         self.cancelled > 0 && !self.contains(key)
     }
 
-    // The one that waited longest is dropped if it was cancelled. Else it goes to the kit's set, or waits again.
+    // Drops the future that waited longest, if it was cancelled. Otherwise pushes it into the set of `futures`, or it
+    // waits again.
     #[tactic(auto, using(crate::proofs::InFlightLemmas::dropped, crate::proofs::InFlightLemmas::started))]
     fn start_one(&mut self)
         requires { CanPollAll F.Future self.old }
@@ -39,7 +40,7 @@ impl<F: Future<Output: Drop>, T: Drop, K> FuturesInFlight<F, T, K> {
         self.start(value);
     }
 
-    // Each that waits, in turn.
+    // Starts each future that waits, in turn.
     #[tactic(auto, using(crate::proofs::InFlightLemmas::starts_none, crate::proofs::InFlightLemmas::starts_on))]
     fn start_all(&mut self)
         requires { CanPollAll F.Future self.old }
@@ -50,7 +51,7 @@ impl<F: Future<Output: Drop>, T: Drop, K> FuturesInFlight<F, T, K> {
         }
     }
 
-    // The task polls again if some wait for memory.
+    // Wakes the task if a future waits for memory.
     fn ask_again(&self, cx: &mut Context<'_>)
         ensures started { (self.now.waiting ≡ []) ⊎ IsWoken cx.new }
         ensures kept { Keeps cx.old cx.new }
@@ -60,7 +61,7 @@ impl<F: Future<Output: Drop>, T: Drop, K> FuturesInFlight<F, T, K> {
         }
     }
 
-    // One poll of the kit's set. If that is pending, some are left there.
+    // Polls the set of `futures` once. A pending poll leaves some futures there.
     #[tactic(auto, using(crate::proofs::InFlightLemmas::narrows_after, crate::proofs::InFlightLemmas::narrows_within))]
     fn poll_running(&mut self, cx: &mut Context<'_>) -> Poll<Option<(Key, Option<F::Output>)>>
         requires { CanPollRuns F.Future self.old.running }
@@ -91,8 +92,8 @@ impl<F: Future<Output: Drop>, T: Drop, K> FuturesInFlight<F, T, K> {
         }
     }
 
-    // The kit's set is pending. The task polls again if one that was cancelled is left there, or if not each is there: no
-    // clause of the kit says that it is.
+    // Follows a pending poll of the set of `futures`. Wakes the task if a cancelled future is left, or if not each
+    // future is there: no clause of `futures` says that it is.
     fn stay(&self, cx: &mut Context<'_>)
         ensures stays { HasEach self.now ⊎ IsWoken cx.new }
         ensures ended { (self.now.cancelled ≡ 0) ⊎ IsWoken cx.new }
@@ -103,7 +104,7 @@ impl<F: Future<Output: Drop>, T: Drop, K> FuturesInFlight<F, T, K> {
         }
     }
 
-    // Drops what is left, if nothing is held.
+    // Drops the cancelled futures that are left in a set that holds no future.
     #[tactic(auto, using(crate::proofs::InFlightLemmas::none_can_poll))]
     fn end(&mut self)
         requires held { CanPollAll F.Future self.old }
@@ -119,7 +120,8 @@ impl<F: Future<Output: Drop>, T: Drop, K> FuturesInFlight<F, T, K> {
         }
     }
 
-    // One turn of a poll: what the kit's set gives, or nothing if that was of a future that was cancelled.
+    // Makes one turn of a poll. Returns the result of the poll, or `None` if a cancelled future has ended and the poll
+    // continues.
     #[tactic(auto, using(crate::proofs::InFlightLemmas::turned, crate::proofs::InFlightLemmas::waited, crate::proofs::InFlightLemmas::came_out, crate::proofs::InFlightLemmas::starts_none, crate::proofs::InFlightLemmas::pended))]
     fn turn(&mut self, cx: &mut Context<'_>) -> Option<Poll<Option<Came<F::Output, T>>>>
         requires held { CanPollAll F.Future self.old }
@@ -136,7 +138,7 @@ impl<F: Future<Output: Drop>, T: Drop, K> FuturesInFlight<F, T, K> {
                 self.stay(cx);
                 Some(Poll::Pending)
             }
-            // The kit's set has one, so this arm is not taken. No clause of the kit says so.
+            // The set of `futures` has a future, so this arm is not taken. No clause of `futures` says so.
             Poll::Ready(None) => Some(cx.yield_now()),
             Poll::Ready(Some((key, Some(output)))) => match self.take_place(key) {
                 Some(tag) => {
@@ -155,12 +157,17 @@ impl<F: Future<Output: Drop>, T: Drop, K> FuturesInFlight<F, T, K> {
         }
     }
 
-    /// One poll: an output with the key and the tag of its future, or the end, exactly if nothing is held.
+    /// Polls the futures that were pushed or woken since their last poll, until one of them returns its output. The
+    /// first poll by another task wakes each future, so that each is polled again.
     ///
-    /// A future that waits for memory is started first. A pending poll, and the end, drop those that were cancelled. It
-    /// polls the futures that were pushed or woken since they were polled, at most 128 for each that had been cancelled
-    /// and 128 more. Does not allocate but what the futures do, what the kit's set does for one that waits, and at its
-    /// first poll of a task.
+    /// Returns an output with the key and the tag of its future, or `None` if and only if no future is held. First
+    /// starts the futures that wait for memory. Makes at most 128 polls of futures for each future that had been
+    /// cancelled, and 128 more. A poll that returns `None` drops the cancelled futures; a pending poll drops them, or
+    /// wakes the task to poll again.
+    ///
+    /// Allocates only what the futures allocate, and what the set of `futures` does. That set allocates for a future
+    /// that waits, for the number of a future that has ended, and at the first poll by a task. Wakes the task if a
+    /// future still waits for memory, and at the limit.
     #[tactic(auto, using(crate::proofs::InFlightLemmas::polls_from, crate::proofs::InFlightLemmas::pended, crate::proofs::InFlightLemmas::ends, crate::proofs::InFlightLemmas::starts_on))]
     pub fn poll_next_keyed(&mut self, cx: &mut Context<'_>) -> Poll<Option<Came<F::Output, T>>>
         requires { CanPollAll F.Future self.old }

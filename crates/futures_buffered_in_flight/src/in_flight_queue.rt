@@ -1,11 +1,11 @@
-//! The set as what an adaptor or an ordered queue holds: a push takes each future while a slot is free.
+//! The set as an adaptor or an ordered queue holds it: a push accepts each future while a slot is free.
 ghost use Rattle.std.specs.Prelude.{◌≡◌, ◌<◌, OnOk, OnErr, IfErr, IsErr};
 ghost use Rattle.futures_buffered_in_flight.specs.InFlightQueue.{CanPollQueue, IsAtItsBound, PollsByNumber, PollsQueued};
 ghost use Rattle.futures_buffered_in_flight.specs.InFlightQueue.{PushesQueued, QueuesNumber, SameRoom, flight_count};
 ghost use Rattle.futures_buffered_in_flight.specs.InFlightQueue.{flights_with};
 ghost use Rattle.futures_buffered_in_flight.specs.InFlight.{flight_slots};
 
-use crate::in_flight::{FuturesInFlight, FuturesUnorderedBounded};
+use crate::in_flight::{FuturesUnorderedBy, FuturesUnorderedBounded};
 use futures::Future;
 use futures::task::{Context, Poll};
 use futures_buffered_ordered::numbered::Numbered;
@@ -14,8 +14,8 @@ use futures_buffered_ordered::numbered_set::{NumberedSet, PollNumberedSet};
 use futures_buffered_unordered::poll_one::PollFuture;
 
 impl<F: Future<Output: Drop>> FuturesUnorderedBounded<F> {
-    /// Adds the future, so that a later poll polls it, to a set of which none is cancelled, while a slot is free. After
-    /// 2^64 - 1 pushes the future is held, and is never polled.
+    /// Adds the future, so that a later poll polls it, to a set with a free slot and without cancelled futures. After
+    /// 2^64 - 1 pushes the set holds the future, and never polls it.
     #[tactic(auto, using(crate::proofs::InFlightQueueLemmas::pushed))]
     pub fn push_queued(&mut self, future: F)
         requires room { flight_count self.old < flight_slots self.old }
@@ -26,8 +26,8 @@ impl<F: Future<Output: Drop>> FuturesUnorderedBounded<F> {
         self.push_any(future, ());
     }
 
-    /// One poll, as `poll_next_keyed`, without the key: an output of one of the futures, or the end, exactly if nothing is
-    /// held.
+    /// Polls as `poll_next_keyed` does. Returns an output of one of the futures without its key, or `None` if and only
+    /// if no future is held.
     #[tactic(auto, using(crate::proofs::InFlightQueueLemmas::polled_output, crate::proofs::InFlightQueueLemmas::ended, crate::proofs::InFlightQueueLemmas::pending))]
     pub fn poll_queued(&mut self, cx: &mut Context<'_>) -> Poll<Option<F::Output>>
         requires { CanPollQueue F.Future self.old }
@@ -41,8 +41,8 @@ impl<F: Future<Output: Drop>> FuturesUnorderedBounded<F> {
     }
 }
 
-impl<F: Future<Output: Drop>, K> FuturesInFlight<F, usize, K> {
-    // As `push_queued`, of a future with a number, its tag.
+impl<F: Future<Output: Drop>, K> FuturesUnorderedBy<F, usize, K> {
+    // Pushes as `push_queued` does, with a number as the tag.
     #[tactic(auto, using(crate::proofs::InFlightQueueLemmas::pushed_number))]
     pub(crate) fn push_with_number(&mut self, value: Numbered<F>)
         requires room { flight_count self.old < flight_slots self.old }
@@ -54,7 +54,7 @@ impl<F: Future<Output: Drop>, K> FuturesInFlight<F, usize, K> {
         self.push_any(future, number);
     }
 
-    // As `poll_queued`. An output comes with the number of its future.
+    // Polls as `poll_queued` does. Returns an output with the number of its future.
     #[tactic(auto, using(crate::proofs::InFlightQueueLemmas::number_came, crate::proofs::InFlightQueueLemmas::number_ended, crate::proofs::InFlightQueueLemmas::number_pending))]
     pub(crate) fn poll_with_number(
         &mut self,
@@ -121,7 +121,7 @@ impl<F: Future<Output: Drop>> NumberedSet for FuturesUnorderedBounded<F, usize> 
     ghost keeps_on = { λ a b c first then. then ∙ first };
 }
 
-impl<F: Future<Output: Drop>, K> NumberedPolls<PollFuture> for FuturesInFlight<F, usize, K> {
+impl<F: Future<Output: Drop>, K> NumberedPolls<PollFuture> for FuturesUnorderedBy<F, usize, K> {
     ghost use Rattle.futures_buffered_in_flight.specs.InFlight.{FlightsWaitAt};
     ghost use Rattle.futures_buffered_in_flight.specs.InFlightQueue.{CanPollQueue, PollsByNumber};
 

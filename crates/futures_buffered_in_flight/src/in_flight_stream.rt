@@ -1,15 +1,15 @@
-//! The set as a stream, which says how much is left and whether it has ended.
+//! The set as a stream, with how many outputs are left and whether it is terminated.
 ghost use Rattle.futures_buffered_core.specs.SlotMap.{held_count};
 ghost use Rattle.futures_buffered_in_flight.specs.InFlight.{CanPollAll, ComesFromSlots, FlightsWaitAt};
 
-use crate::in_flight::{FuturesInFlight, FuturesUnorderedBounded};
+use crate::in_flight::{FuturesUnorderedBy, FuturesUnorderedBounded};
 use crate::in_flight_growing::FuturesUnordered;
 use futures::task::{Context, Poll};
 use futures::{Future, Stream};
 use futures_buffered_unordered::fused::{FusedStream, SizeHint};
 use std::fmt;
 
-impl<F: Future<Output: Drop>, T: Drop, K> Stream for FuturesInFlight<F, T, K> {
+impl<F: Future<Output: Drop>, T: Drop, K> Stream for FuturesUnorderedBy<F, T, K> {
     type Item = F::Output;
 
     ghost can_poll = { CanPollAll F.Future };
@@ -18,7 +18,7 @@ impl<F: Future<Output: Drop>, T: Drop, K> Stream for FuturesInFlight<F, T, K> {
 
     ghost yields = { ComesFromSlots F.Future };
 
-    /// One poll, as `poll_next_keyed`, without key and tag.
+    /// Polls as `poll_next_keyed` does. Returns an output without key and tag.
     fn poll_next(&mut self, cx: &mut Context<'_>) -> Poll<Option<F::Output>> {
         match self.poll_next_keyed(cx) {
             Poll::Pending => Poll::Pending,
@@ -28,8 +28,8 @@ impl<F: Future<Output: Drop>, T: Drop, K> Stream for FuturesInFlight<F, T, K> {
     }
 }
 
-/// Whether nothing is held, so that the next poll gives the end. A push after that starts it again.
-impl<F: Future<Output: Drop>, T: Drop, K> FusedStream for FuturesInFlight<F, T, K> {
+/// The set is terminated while no future is held: the next poll returns `None` then. A later push starts the set again.
+impl<F: Future<Output: Drop>, T: Drop, K> FusedStream for FuturesUnorderedBy<F, T, K> {
     ghost use Rattle.std.specs.Prelude.{◌≡◌};
 
     ghost is_over = { λ set. held_count set.slots ≡ 0 };
@@ -39,7 +39,7 @@ impl<F: Future<Output: Drop>, T: Drop, K> FusedStream for FuturesInFlight<F, T, 
     }
 }
 
-impl<F: Drop, T: Drop, K> SizeHint for FuturesInFlight<F, T, K> {
+impl<F: Drop, T: Drop, K> SizeHint for FuturesUnorderedBy<F, T, K> {
     ghost use Rattle.std.specs.Prelude.{Some};
 
     ghost items_left = { λ set. (held_count set.slots, Some (held_count set.slots)) };

@@ -1,4 +1,4 @@
-//! Futures in flight that keep that they may be polled, so that a loop need not say so.
+//! Sets and queues in flight that keep that they may be polled, so that a loop need not say so.
 ghost use Rattle.std.specs.Prelude.{◌≡◌, [], None};
 ghost use Rattle.futures_buffered_core.specs.SlotMap.{no_slots, slot_count};
 ghost use Rattle.futures_buffered_in_flight.specs.InFlight.{CancelsOrNone, ComesFromSlots, EntersAt, FlightsWaitAt};
@@ -10,7 +10,7 @@ ghost use Rattle.futures_buffered_in_flight.specs.InFlightOrdered.{PushesOrComes
 ghost use Rattle.futures_buffered_in_flight.specs.InFlightOrderedGrowing.{EntersBack, EntersFront};
 ghost use Rattle.futures_buffered_in_flight.specs.InFlightOrderedGrowing.{EntersOrComesBack, PollsGrowingInTurn};
 
-use crate::in_flight::{Came, FuturesInFlight, FuturesUnorderedBounded};
+use crate::in_flight::{Came, FuturesUnorderedBy, FuturesUnorderedBounded};
 use crate::in_flight_growing::FuturesUnordered;
 use crate::in_flight_ordered::FuturesOrderedBounded;
 use crate::in_flight_ordered_growing::FuturesOrdered;
@@ -19,10 +19,10 @@ use futures::task::{Context, Poll};
 use futures::{Future, Stream};
 use std::marker::Model;
 
-/// A set or a queue that may be polled at any time. A loop over it takes no invariant.
+/// A set or a queue that may be polled at any time. A loop over it needs no invariant.
 ///
-/// A contract sees the set or the queue. The prover does not take one whose futures contain closures: there a loop says
-/// itself that the futures may be polled.
+/// A contract sees the set or the queue. The prover rejects a `Kept` of futures that contain closures: a loop over such
+/// futures says itself that they may be polled.
 #[derive(Drop)]
 pub struct Kept<S: Stream> {
     held: S,
@@ -45,14 +45,14 @@ impl<S: Stream> Kept<S> {
         Kept { held }
     }
 
-    /// The set or the queue, for calls that only read.
+    /// Returns a reference to the set or the queue, for calls that only read.
     pub fn get(&self) -> &S
         ensures { result.now ≡ self.now }
     {
         &self.held
     }
 
-    /// The set or the queue itself.
+    /// Returns the set or the queue itself.
     pub fn into_inner(self) -> S
         ensures same { result ≡ self }
         ensures can_poll { S.can_poll result }
@@ -63,7 +63,7 @@ impl<S: Stream> Kept<S> {
 }
 
 impl<F: Future<Output: Drop>> Kept<FuturesUnorderedBounded<F>> {
-    /// As `FuturesUnorderedBounded::push`.
+    /// Pushes as `FuturesUnorderedBounded::push` does.
     pub fn push(&mut self, future: F) -> Key
         requires room { HasNoRoom self.old → ⊥ }
         requires fit { F.can_poll future }
@@ -72,7 +72,7 @@ impl<F: Future<Output: Drop>> Kept<FuturesUnorderedBounded<F>> {
         self.held.push(future)
     }
 
-    /// As `FuturesUnorderedBounded::try_push`.
+    /// Pushes as `FuturesUnorderedBounded::try_push` does.
     pub fn try_push(&mut self, future: F) -> Result<Key, F>
         requires { F.can_poll future }
         ensures { PushesInFlight F.Future self.old future tt future result self.new }
@@ -82,7 +82,7 @@ impl<F: Future<Output: Drop>> Kept<FuturesUnorderedBounded<F>> {
 }
 
 impl<F: Future<Output: Drop>, T: Drop> Kept<FuturesUnorderedBounded<F, T>> {
-    /// As `FuturesUnorderedBounded::try_push_tagged`.
+    /// Pushes as `FuturesUnorderedBounded::try_push_tagged` does.
     pub fn try_push_tagged(&mut self, future: F, tag: T) -> Result<Key, (F, T)>
         requires { F.can_poll future }
         ensures { PushesInFlight F.Future self.old future tag (future, tag) result self.new }
@@ -92,7 +92,7 @@ impl<F: Future<Output: Drop>, T: Drop> Kept<FuturesUnorderedBounded<F, T>> {
 }
 
 impl<F: Future<Output: Drop>> Kept<FuturesUnordered<F>> {
-    /// As `FuturesUnordered::push`.
+    /// Pushes as `FuturesUnordered::push` does.
     pub fn push(&mut self, future: F) -> Result<Key, F>
         requires { F.can_poll future }
         ensures { PushesGrowing F.Future self.old future tt future result self.new }
@@ -102,7 +102,7 @@ impl<F: Future<Output: Drop>> Kept<FuturesUnordered<F>> {
 }
 
 impl<F: Future<Output: Drop>, T: Drop> Kept<FuturesUnordered<F, T>> {
-    /// As `FuturesUnordered::push_tagged`.
+    /// Pushes as `FuturesUnordered::push_tagged` does.
     pub fn push_tagged(&mut self, future: F, tag: T) -> Result<Key, (F, T)>
         requires { F.can_poll future }
         ensures { PushesGrowing F.Future self.old future tag (future, tag) result self.new }
@@ -111,22 +111,22 @@ impl<F: Future<Output: Drop>, T: Drop> Kept<FuturesUnordered<F, T>> {
     }
 }
 
-impl<F: Future<Output: Drop>, T: Drop, K> Kept<FuturesInFlight<F, T, K>> {
-    /// As `FuturesUnorderedBounded::poll_next_keyed`.
+impl<F: Future<Output: Drop>, T: Drop, K> Kept<FuturesUnorderedBy<F, T, K>> {
+    /// Polls as `FuturesUnorderedBy::poll_next_keyed` does.
     pub fn poll_next_keyed(&mut self, cx: &mut Context<'_>) -> Poll<Option<Came<F::Output, T>>>
         ensures { PollsInFlight F.Future self.old result self.new cx.old cx.new }
     {
         self.held.poll_next_keyed(cx)
     }
 
-    /// As `FuturesUnorderedBounded::cancel`.
+    /// Cancels as `FuturesUnorderedBy::cancel` does.
     pub fn cancel(&mut self, key: Key) -> Option<T>
         ensures { CancelsOrNone F.Future self.old key result self.new }
     {
         self.held.cancel(key)
     }
 
-    /// As `FuturesUnorderedBounded::clear`.
+    /// Drops each future as `FuturesUnorderedBy::clear` does.
     pub fn clear(&mut self)
         ensures slots { self.new.slots ≡ no_slots (slot_count self.old.slots) }
         ensures none { (self.new.running ≡ None) × (self.new.waiting ≡ []) × (self.new.cancelled ≡ 0) }
@@ -136,14 +136,14 @@ impl<F: Future<Output: Drop>, T: Drop, K> Kept<FuturesInFlight<F, T, K>> {
     }
 }
 
-impl<F: Future<Output: Drop>, T: Drop, K> Stream for Kept<FuturesInFlight<F, T, K>> {
+impl<F: Future<Output: Drop>, T: Drop, K> Stream for Kept<FuturesUnorderedBy<F, T, K>> {
     type Item = F::Output;
 
     ghost needs = { FlightsWaitAt };
 
     ghost yields = { ComesFromSlots F.Future };
 
-    /// One poll, as `poll_next_keyed`, without key and tag.
+    /// Polls as `poll_next_keyed` does. Returns an output without key and tag.
     fn poll_next(&mut self, cx: &mut Context<'_>) -> Poll<Option<F::Output>> {
         match self.poll_next_keyed(cx) {
             Poll::Pending => Poll::Pending,
@@ -154,7 +154,7 @@ impl<F: Future<Output: Drop>, T: Drop, K> Stream for Kept<FuturesInFlight<F, T, 
 }
 
 impl<F: Future<Output = A>, A: Drop> Kept<FuturesOrderedBounded<F, A>> {
-    /// As `FuturesOrderedBounded::try_push_back`.
+    /// Adds the future as `FuturesOrderedBounded::try_push_back` does.
     pub fn try_push_back(&mut self, future: F) -> Result<(), F>
         requires { F.can_poll future }
         ensures { PushesOrComesBack F.Future (PushesBack F.Future) self.old future result self.new }
@@ -162,7 +162,7 @@ impl<F: Future<Output = A>, A: Drop> Kept<FuturesOrderedBounded<F, A>> {
         self.held.try_push_back(future)
     }
 
-    /// As `FuturesOrderedBounded::try_push_front`.
+    /// Adds the future as `FuturesOrderedBounded::try_push_front` does.
     pub fn try_push_front(&mut self, future: F) -> Result<(), F>
         requires { F.can_poll future }
         ensures { PushesOrComesBack F.Future (PushesFront F.Future) self.old future result self.new }
@@ -170,7 +170,7 @@ impl<F: Future<Output = A>, A: Drop> Kept<FuturesOrderedBounded<F, A>> {
         self.held.try_push_front(future)
     }
 
-    /// As `FuturesOrderedBounded::clear`.
+    /// Drops each future and each output as `FuturesOrderedBounded::clear` does.
     pub fn clear(&mut self)
         ensures none { IsNewInOrder (flight_slots self.old.set) self.new }
         ensures same_room { flight_slots self.new.set ≡ flight_slots self.old.set }
@@ -186,7 +186,7 @@ impl<F: Future<Output = A>, A: Drop> Stream for Kept<FuturesOrderedBounded<F, A>
 
     ghost yields = { ComesOfEach F.Future };
 
-    /// One poll, as `FuturesOrderedBounded::poll_output`.
+    /// Polls as `FuturesOrderedBounded::poll_output` does.
     fn poll_next(&mut self, cx: &mut Context<'_>) -> Poll<Option<A>>
         ensures { PollsInTurn F.Future self.old result self.new cx.old cx.new }
     {
@@ -195,7 +195,7 @@ impl<F: Future<Output = A>, A: Drop> Stream for Kept<FuturesOrderedBounded<F, A>
 }
 
 impl<F: Future<Output = A>, A: Drop> Kept<FuturesOrdered<F, A>> {
-    /// As `FuturesOrdered::push_back`.
+    /// Adds the future as `FuturesOrdered::push_back` does.
     pub fn push_back(&mut self, future: F) -> Result<(), F>
         requires { F.can_poll future }
         ensures { EntersOrComesBack F.Future (EntersBack F.Future) self.old future result self.new }
@@ -203,7 +203,7 @@ impl<F: Future<Output = A>, A: Drop> Kept<FuturesOrdered<F, A>> {
         self.held.push_back(future)
     }
 
-    /// As `FuturesOrdered::push_front`.
+    /// Adds the future as `FuturesOrdered::push_front` does.
     pub fn push_front(&mut self, future: F) -> Result<(), F>
         requires { F.can_poll future }
         ensures { EntersOrComesBack F.Future (EntersFront F.Future) self.old future result self.new }
@@ -211,7 +211,7 @@ impl<F: Future<Output = A>, A: Drop> Kept<FuturesOrdered<F, A>> {
         self.held.push_front(future)
     }
 
-    /// As `FuturesOrdered::clear`.
+    /// Drops each future and each output as `FuturesOrdered::clear` does.
     pub fn clear(&mut self)
         ensures none { (self.new.entries ≡ []) × IsNewInFlight (flight_slots self.old.set) self.new.set }
         ensures same_room { flight_slots self.new.set ≡ flight_slots self.old.set }
@@ -227,7 +227,7 @@ impl<F: Future<Output = A>, A: Drop> Stream for Kept<FuturesOrdered<F, A>> {
 
     ghost yields = { ComesOfEach F.Future };
 
-    /// One poll, as `FuturesOrdered::poll_output`.
+    /// Polls as `FuturesOrdered::poll_output` does.
     fn poll_next(&mut self, cx: &mut Context<'_>) -> Poll<Option<A>>
         ensures { PollsGrowingInTurn F.Future self.old result self.new cx.old cx.new }
     {

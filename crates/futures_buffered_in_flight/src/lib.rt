@@ -1,19 +1,21 @@
-//! Sets that hold futures of the kit's `futures` as they are.
+//! Sets and queues that hold futures of the crate `futures` as they are.
 //!
-//! No lock and no cell stands between a set and its futures, and no type has a bound, so that a future may contain
-//! closures. What a poll asks of the futures stands in `requires`, as in the kit's own sets.
+//! No lock and no cell is between a set and its futures. Apart from `Kept`, no type has a bound other than `Drop`, so
+//! that a future may contain closures. What a poll requires of the futures is in `requires`, as in the sets of
+//! `futures`.
 //!
-//! - `run`: `Key`, which names one push, and `Run`, a future whose output comes with its key.
-//! - `bells`: how a run is told, and woken, if it is cancelled.
-//! - `in_flight`: `FuturesUnorderedBounded`, at most n futures, told apart by their keys, each of which can be cancelled;
-//!   `in_flight_growing` is `FuturesUnordered`, the set of any number, `in_flight_polls` the polls of both,
-//!   `in_flight_stream` both as a stream, `in_flight_queue` the same as what an adaptor or a queue holds.
+//! - `run`: `Key`, which identifies one push, and `Run`, a future whose output comes with its key.
+//! - `bells`: how a cancel reaches a run, and wakes it.
+//! - `in_flight`: `FuturesUnorderedBounded`, at most n futures, each with a key by which it can be cancelled;
+//!   `in_flight_growing` has `FuturesUnordered`, the set of any number, and `in_flight_polls` the polls of both;
+//!   `in_flight_stream` has both as a stream, and `in_flight_queue` both as an adaptor or a queue holds them.
 //! - `in_flight_ordered`: `FuturesOrderedBounded`, a queue with pushes at both ends, whose outputs come from the front;
-//!   `in_flight_ordered_growing` is `FuturesOrdered`, the queue of any number; `in_flight_ordered_stream` both as a stream.
-//! - `from_iter`: sets and queues that are made of what an iterator gives.
+//!   `in_flight_ordered_growing` has `FuturesOrdered`, the queue of any number, and `in_flight_ordered_stream` both as
+//!   a stream.
+//! - `from_iter`: sets and queues that are made of the items of an iterator.
 //! - `kept`: `Kept`, which keeps that a set or a queue may be polled, for loops by hand.
-//! - `waiting`: `Waiting`, which holds a set or an ordered queue while a task waits for its next output, and gives it
-//!   back.
+//! - `waiting`: `Waiting`, which holds a set or an ordered queue while a task waits for its next output, and then
+//!   returns it.
 #![tactic(auto)]
 
 mod bells;

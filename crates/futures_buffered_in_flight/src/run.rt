@@ -1,4 +1,4 @@
-//! A future that carries the key of its push, so that its output can be told from the others.
+//! A future with the key of its push, so that its output can be distinguished from other outputs.
 ghost use Rattle.std.specs.Prelude.{◌≡◌};
 ghost use Rattle.futures.specs.Task.{Keeps};
 
@@ -7,22 +7,23 @@ use futures::Future;
 use futures::task::{Context, Poll};
 use std::sync::Arc;
 
-/// The number of a push, and the slot of its future. No two pushes of a set have one number, so a key is never used
-/// twice. Keys are ordered as the pushes were.
+/// The number of a push, and the slot of its future. The first 2^64 - 1 pushes of a set have different numbers, so none
+/// of their keys is used twice. Their keys are in the order of the pushes.
 #[derive(Clone, Copy, Debug, PartialEq, Eq, PartialOrd, Ord, Hash)]
 pub struct Key {
     pub push: u64,
     pub slot: usize,
 }
 
-/// A future that is not in the kit's set yet, since memory was refused.
+/// A future that is not in the set of `futures` yet, because an allocation failed or its push has the last number.
 #[derive(Drop)]
 pub struct Waits<F> {
     pub key: Key,
     pub future: F,
 }
 
-/// A future in the kit's set. Its output comes with its key, and `None` in place of an output if it was cancelled.
+/// A future in the set of `futures`. It returns its output with its key, or `None` in place of the output if it was
+/// cancelled.
 #[derive(Drop)]
 pub struct Run<F> {
     pub key: Key,

@@ -1,9 +1,9 @@
-//! Futures in flight while a task waits for their next output.
+//! Sets and queues in flight, while a task waits for their next output.
 ghost use Rattle.std.specs.Prelude.{◌≡◌, Some, IfOk, IsSomeAnd};
 ghost use Rattle.futures_buffered_in_flight.specs.InFlight.{CameInFlight, CanPollAll, FlightsWaitAt};
 ghost use Rattle.futures_buffered_in_flight.specs.InFlightOrdered.{CameInTurn, CanPollOrdered, OrderedWaitsAt};
 
-use crate::in_flight::{Came, FuturesInFlight};
+use crate::in_flight::{Came, FuturesUnorderedBy};
 use crate::in_flight_ordered::FuturesOrderedBounded;
 use crate::in_flight_ordered_growing::FuturesOrdered;
 use futures::Future;
@@ -14,18 +14,18 @@ use std::io;
 use std::random::RandomSource;
 use std::sync::Wait;
 
-/// Waits for the next output of a set or a queue, or its end, and gives that back with it, so that all that is known of
-/// it is known still.
+/// A future of the next output of a set or a queue, or of its `None`. It returns the set or the queue too, so what is
+/// known of these stays known.
 #[derive(Drop)]
 pub struct Waiting<S> {
-    // None once it was given back.
+    // `None` once the set or the queue was returned.
     held: Option<S>,
 }
 
-impl<F: Future<Output: Drop>, T: Drop, K> Future for Waiting<FuturesInFlight<F, T, K>> {
-    type Output = (Option<Came<F::Output, T>>, FuturesInFlight<F, T, K>);
+impl<F: Future<Output: Drop>, T: Drop, K> Future for Waiting<FuturesUnorderedBy<F, T, K>> {
+    type Output = (Option<Came<F::Output, T>>, FuturesUnorderedBy<F, T, K>);
 
-    // A set that was given back is not there to be polled.
+    // A set that was returned is not there to be polled.
     ghost can_poll = { λ waiting. IsSomeAnd waiting.held (CanPollAll F.Future) };
 
     ghost needs = { λ waiting place. IsSomeAnd waiting.held (λ set. FlightsWaitAt set place) };
@@ -45,8 +45,9 @@ impl<F: Future<Output: Drop>, T: Drop, K> Future for Waiting<FuturesInFlight<F, 
     }
 }
 
-impl<F: Future<Output: Drop>, T: Drop, K> FuturesInFlight<F, T, K> {
-    /// A future of the next output, with its key and tag, or of `None` if nothing is held. It gives the set back too.
+impl<F: Future<Output: Drop>, T: Drop, K> FuturesUnorderedBy<F, T, K> {
+    /// Returns a future of the next output, with its key and tag, or of `None` if no future is held. That future
+    /// returns the set too.
     ///
     /// Any executor runs it, as `runtime.block_on(&rt, set.into_next())` of `tokio` does.
     pub fn into_next(self) -> Waiting<Self>
@@ -55,8 +56,8 @@ impl<F: Future<Output: Drop>, T: Drop, K> FuturesInFlight<F, T, K> {
         Waiting { held: Some(self) }
     }
 
-    /// Blocks the thread until the next output comes, or the end, and gives the set back. Drives no socket and no timer.
-    /// If the thread cannot wait, the set is dropped.
+    /// Blocks the thread until the next output or `None` comes, and returns it with the set. Drives no socket and no
+    /// timer. If the thread cannot wait, drops the set and returns an error.
     pub fn wait<R>(self, rt: &R) -> io::Result<(Option<Came<F::Output, T>>, Self)>
     where
         R: Wait + RandomSource + AllocGlobal,
@@ -70,7 +71,7 @@ impl<F: Future<Output: Drop>, T: Drop, K> FuturesInFlight<F, T, K> {
 impl<F: Future<Output = A>, A: Drop> Future for Waiting<FuturesOrderedBounded<F, A>> {
     type Output = (Option<A>, FuturesOrderedBounded<F, A>);
 
-    // A queue that was given back is not there to be polled.
+    // A queue that was returned is not there to be polled.
     ghost can_poll = { λ waiting. IsSomeAnd waiting.held (CanPollOrdered F.Future) };
 
     ghost needs = { λ waiting place. IsSomeAnd waiting.held (λ queue. OrderedWaitsAt queue place) };
@@ -91,7 +92,8 @@ impl<F: Future<Output = A>, A: Drop> Future for Waiting<FuturesOrderedBounded<F,
 }
 
 impl<F: Future<Output = A>, A: Drop> FuturesOrderedBounded<F, A> {
-    /// A future of the output of the front, or of `None` if nothing is held. It gives the queue back too.
+    /// Returns a future of the output of the front, or of `None` if there is no entry. That future returns the queue
+    /// too.
     ///
     /// Any executor runs it, as `runtime.block_on(&rt, queue.into_next())` of `tokio` does.
     pub fn into_next(self) -> Waiting<Self>
@@ -100,8 +102,8 @@ impl<F: Future<Output = A>, A: Drop> FuturesOrderedBounded<F, A> {
         Waiting { held: Some(self) }
     }
 
-    /// Blocks the thread until the output of the front comes, or the end, and gives the queue back. Drives no socket and
-    /// no timer. If the thread cannot wait, the queue is dropped.
+    /// Blocks the thread until the output of the front or `None` comes, and returns it with the queue. Drives no socket
+    /// and no timer. If the thread cannot wait, drops the queue and returns an error.
     pub fn wait<R>(self, rt: &R) -> io::Result<(Option<A>, FuturesOrderedBounded<F, A>)>
     where
         R: Wait + RandomSource + AllocGlobal,
@@ -115,7 +117,7 @@ impl<F: Future<Output = A>, A: Drop> FuturesOrderedBounded<F, A> {
 impl<F: Future<Output = A>, A: Drop> Future for Waiting<FuturesOrdered<F, A>> {
     type Output = (Option<A>, FuturesOrdered<F, A>);
 
-    // A queue that was given back is not there to be polled.
+    // A queue that was returned is not there to be polled.
     ghost can_poll = { λ waiting. IsSomeAnd waiting.held (CanPollOrdered F.Future) };
 
     ghost needs = { λ waiting place. IsSomeAnd waiting.held (λ queue. OrderedWaitsAt queue place) };
@@ -136,7 +138,8 @@ impl<F: Future<Output = A>, A: Drop> Future for Waiting<FuturesOrdered<F, A>> {
 }
 
 impl<F: Future<Output = A>, A: Drop> FuturesOrdered<F, A> {
-    /// A future of the output of the front, or of `None` if nothing is held. It gives the queue back too.
+    /// Returns a future of the output of the front, or of `None` if there is no entry. That future returns the queue
+    /// too.
     ///
     /// Any executor runs it, as `runtime.block_on(&rt, queue.into_next())` of `tokio` does.
     pub fn into_next(self) -> Waiting<Self>
@@ -145,8 +148,8 @@ impl<F: Future<Output = A>, A: Drop> FuturesOrdered<F, A> {
         Waiting { held: Some(self) }
     }
 
-    /// Blocks the thread until the output of the front comes, or the end, and gives the queue back. Drives no socket and
-    /// no timer. If the thread cannot wait, the queue is dropped.
+    /// Blocks the thread until the output of the front or `None` comes, and returns it with the queue. Drives no socket
+    /// and no timer. If the thread cannot wait, drops the queue and returns an error.
     pub fn wait<R>(self, rt: &R) -> io::Result<(Option<A>, FuturesOrdered<F, A>)>
     where
         R: Wait + RandomSource + AllocGlobal,

@@ -1,5 +1,5 @@
 use Rattle.futures_buffered_in_flight.specs.InFlightTurns.{Starts}
-use Rattle.futures_buffered_in_flight.proofs.in_flight.FuturesInFlight.start_all.Given as goal
+use Rattle.futures_buffered_in_flight.proofs.in_flight.FuturesUnorderedBy.start_all.Given as goal
 
 abbrev pub invariant-starts : goal.invariant-starts
 invariant-starts g l = Starts g.F.Future l.fn.self l.self

@@ -1,5 +1,5 @@
 use Rattle.futures_buffered_in_flight.proofs.InFlightLemmas.{comes_after, comes_first, comes_within}
-use Rattle.futures_buffered_in_flight.proofs.kept.KeptFuturesInFlightStream.poll_next.Goals as goal
+use Rattle.futures_buffered_in_flight.proofs.in_flight_stream.FuturesUnorderedByStream.poll_next.Goals as goal
 
 pub returns-in-Ready-Some-clause-rest : goal.returns-in-Ready-Some-clause-rest
 returns-in-Ready-Some-clause-rest g c =

@@ -1,6 +1,6 @@
 use Rattle.std.proofs.Common.{rules}
 use Rattle.futures_buffered_in_flight.proofs.InFlightLemmas.{came_out, turned}
-use Rattle.futures_buffered_in_flight.proofs.in_flight.FuturesInFlight.turn.Goals as goal
+use Rattle.futures_buffered_in_flight.proofs.in_flight.FuturesUnorderedBy.turn.Goals as goal
 
 pub returns-in-Some-clause-came : goal.returns-in-Some-clause-came
 returns-in-Some-clause-came g c =

@@ -1,7 +1,7 @@
 use Rattle.std.proofs.Common.{rules, refl, ◌++◌, ◌∷◌, [], List, ap₂, ◌∙◌}
 use Rattle.futures_buffered_in_flight.specs.declared.run.Waits.{Waits}
 use Rattle.futures_buffered_in_flight.proofs.InFlightLemmas.{left_waiting, waits_for_good}
-use Rattle.futures_buffered_in_flight.proofs.in_flight.FuturesInFlight.start.Goals as goal
+use Rattle.futures_buffered_in_flight.proofs.in_flight.FuturesUnorderedBy.start.Goals as goal
 
 pub returns-in-Err : goal.returns-in-Err
 returns-in-Err g c =

@@ -1,6 +1,6 @@
 use Rattle.std.proofs.Common.{rules, refl}
 use Rattle.futures_buffered_in_flight.proofs.InFlightLemmas.{dropped}
-use Rattle.futures_buffered_in_flight.proofs.in_flight.FuturesInFlight.start_one.Goals as goal
+use Rattle.futures_buffered_in_flight.proofs.in_flight.FuturesUnorderedBy.start_one.Goals as goal
 
 pub returns-then-is_over : goal.returns-then-is_over
 returns-then-is_over g c =

@@ -1,7 +1,7 @@
 use Rattle.std.proofs.Common.{rules}
 use Rattle.futures_buffered_in_flight.specs.InFlight.{GivesWithKey}
 use Rattle.futures_buffered_in_flight.proofs.InFlightLemmas.{narrows_after, some_left}
-use Rattle.futures_buffered_in_flight.proofs.in_flight.FuturesInFlight.poll_running.Goals as goal
+use Rattle.futures_buffered_in_flight.proofs.in_flight.FuturesUnorderedBy.poll_running.Goals as goal
 
 pub returns-in-Ready-Some-clause-gives : goal.returns-in-Ready-Some-clause-gives
 returns-in-Ready-Some-clause-gives g c =

@@ -3,7 +3,7 @@ use Rattle.futures.specs.Task.{Keeps}
 use Rattle.futures_buffered_core.specs.SlotMap.{held_count}
 use Rattle.futures_buffered_unordered.specs.FuturesUnorderedBounded.{IsWoken}
 use Rattle.futures_buffered_in_flight.specs.InFlightTurns.{Starts}
-use Rattle.futures_buffered_in_flight.proofs.in_flight.FuturesInFlight.poll_next_keyed.Given as goal
+use Rattle.futures_buffered_in_flight.proofs.in_flight.FuturesUnorderedBy.poll_next_keyed.Given as goal
 
 abbrev pub invariant-turns : goal.invariant-turns
 invariant-turns g l = Starts g.F.Future l.fn.self l.self
