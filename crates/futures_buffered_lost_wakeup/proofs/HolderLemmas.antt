@@ -1,8 +1,8 @@
 -- Who has the place. Agents have numbers: 0 is the poller, 1 a sibling, and from 2 on come the wakes of the seats.
-use Rattle.std.proofs.Common.{◌≡◌, ◌≢◌, ◌⊎◌, ℕ, zero, suc, refl, sym, ap, ◌∙◌, subst, inl, inr, ⊎_elim, arith}
+use Rattle.std.proofs.Common.{◌≡◌, ◌≢◌, ℕ, zero, suc, refl, sym, ap, ◌∙◌, subst, inl, inr}
 use Rattle.std.specs.Prelude.{Option, Some, None}
 use Rattle.std.proofs.lemmas.Bool.{cases_eq}
-use Rattle.futures_buffered_lost_wakeup.specs.Agents.{Errand, Inside, Turn, Parked, TakesBack, LaysOut, Fills, Sibling, Writes, Has}
+use Rattle.futures_buffered_lost_wakeup.specs.Agents.{Errand, Inside, Turn, TakesBack, LaysOut, Fills, Sibling, Writes, Has}
 use Rattle.futures_buffered_lost_wakeup.specs.Scene.{Stage, Vacant, Filling, FillingBetween, Kept, Lent, AWake, ThePoller, ASibling, word}
 use Rattle.futures_buffered_lost_wakeup.proofs.SceneLemmas.{errand_else, set_errand}
 

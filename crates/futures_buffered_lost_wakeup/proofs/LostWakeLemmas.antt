@@ -1,6 +1,6 @@
 -- The steps at the list keep a scene too, and so no wake is lost.
-use Rattle.std.proofs.Common.{◌≡◌, ◌≢◌, ℕ, zero, suc, ◌<◌, List, [], ◌∷◌, ◌++◌, true, false, map, get_or, refl, sym, ap, ◌∙◌, subst, inl, inr, ⊎_elim, arith, append-nil}
-use Rattle.std.specs.Prelude.{◌==◌, Option, Some, None}
+use Rattle.std.proofs.Common.{◌≡◌, ℕ, zero, suc, ◌<◌, List, [], ◌∷◌, ◌++◌, true, false, map, get_or, refl, sym, ap, ◌∙◌, subst, inl, inr, ⊎_elim, arith, append-nil}
+use Rattle.std.specs.Prelude.{◌==◌, Some, None}
 use Rattle.std.proofs.Math.ListN.{get_or-map}
 use Rattle.std.proofs.lemmas.Bool.{cases_lt}
 use mathlib.Core.Option.{some, some-injective}
@@ -26,12 +26,12 @@ use Rattle.futures_buffered_table.proofs.ListLemmas.{by_test, elem_at, last_at, 
 use Rattle.futures_buffered_table.proofs.RowLemmas.{answered_by, put_by, row_slots, total_none}
 use Rattle.futures_buffered_table.proofs.ScheduleLemmas.{IsReachable, pending, reachable_start, step_reaches}
 use Rattle.futures_buffered_table.proofs.ScheduleLawLemmas.{IsPolls, role_polls}
-use Rattle.futures_buffered_lost_wakeup.specs.Agents.{Errand, Rests, Looks, Inside, Wakes, Turn, Parked, Registers, Asks, Met, Sibling, Away, Writes, Has, LetsGo, wake_after, turn_after}
-use Rattle.futures_buffered_lost_wakeup.specs.Scene.{Scene, Stage, Vacant, Kept, Lent, ASibling, Event, InList, WakeDoes, PollerDoes, SiblingDoes, WakeWakes, PollerWakes, SiblingWakes, FromSibling}
+use Rattle.futures_buffered_lost_wakeup.specs.Agents.{Rests, Looks, Turn, Parked, Registers, Asks, Met, Sibling, Away, Writes, LetsGo}
+use Rattle.futures_buffered_lost_wakeup.specs.Scene.{Scene, Stage, Vacant, Lent, ASibling, Event, InList, WakeDoes, PollerDoes, SiblingDoes, WakeWakes, PollerWakes, SiblingWakes, FromSibling}
 use Rattle.futures_buffered_lost_wakeup.specs.Scene.{Begin, KeepOwn, Lacks, Misses, Stop, MakesSibling, AllRest, CanDo, IsAtStart, IsAtStub, IsBetween, Legal, NoWakeIsLost, after, after_reply, first, owner, poller_role, run, with_errand}
 use Rattle.futures_buffered_lost_wakeup.proofs.SceneLemmas.{IsEmpty, IsTaken, IsWoke, empty_at_stub, hand_at_start, none_at_stub, polls_wake_none, stub_polls, taken_starts, times_none}
 use Rattle.futures_buffered_lost_wakeup.proofs.HolderLemmas.{held_by, held_by_sibling, holder}
-use Rattle.futures_buffered_lost_wakeup.proofs.SceneInvariantLemmas.{Armed, ArmedIn, Busy, Heard, IsKept, IsReplaced, IsSwapped, IsWaiting, Seen, SwapsIn, Waits, armed_by, asks_heard, heard, wakes_else, way_here, woken_heard}
+use Rattle.futures_buffered_lost_wakeup.proofs.SceneInvariantLemmas.{ArmedIn, Busy, IsKept, IsReplaced, IsSwapped, IsWaiting, Seen, SwapsIn, Waits, armed_by, asks_heard, heard, way_here, woken_heard}
 use Rattle.futures_buffered_lost_wakeup.proofs.PlaceLemmas.{poller_goes, poller_kept, sibling_kept, sibling_moves, turn_moves, wake_kept, wake_on_way, wake_wakes}
 
 -- a step of the list, by a wake: how the row goes on

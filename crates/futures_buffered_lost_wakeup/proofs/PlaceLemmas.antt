@@ -1,9 +1,9 @@
 -- The steps at the place, of wakes, the poller and siblings, keep a scene.
 use Rattle.std.proofs.Common.{◌≡◌, ◌≢◌, ◌⊎◌, ℕ, zero, suc, Bool, true, false, [], refl, sym, ap, ◌∙◌, subst, inl, inr, ⊎_elim, arith}
-use Rattle.std.specs.Prelude.{Option, Some, None, if◌then◌else◌}
+use Rattle.std.specs.Prelude.{Option, Some, None}
 use Rattle.futures_buffered_table.proofs.ScheduleLemmas.{pending}
 use Rattle.futures_buffered_place.specs.declared.view.Deed.TheVariants.{Look, Win, WinFree, Lose, Put, Leave}
-use Rattle.futures_buffered_lost_wakeup.specs.Agents.{Act, Errand, Rests, Looks, Tries, Inside, Wakes, wake_after, turn_after, sibling_after, wanted_by_turn, wanted_by_sibling}
+use Rattle.futures_buffered_lost_wakeup.specs.Agents.{Act, Errand, Rests, Looks, Tries, Inside, Wakes, wake_after, turn_after, sibling_after}
 use Rattle.futures_buffered_lost_wakeup.specs.Agents.{Turn, Parked, Registers, GoesBack, TakesBack, Asks, GoesOut, GoesFree, LaysOut, Fills, Met}
 use Rattle.futures_buffered_lost_wakeup.specs.Agents.{Sibling, Away, GoesKept, GoesVacant, Writes, Has, LetsGo}
 use Rattle.futures_buffered_lost_wakeup.specs.Scene.{Scene, Stage, Vacant, Filling, FillingBetween, Kept, Lent, AWake, ThePoller, ASibling, word}
@@ -215,8 +215,11 @@ module _ (n : ℕ) (s : Scene) (kept : IsKept n s) where
   leaves_it mine sibling had is held has none quiet =
       sibling_goes sibling Kept (leaves (HeldBeside s.sibling) (HeldBeside sibling) 1 (sibling_else s.turn s.sibling sibling s.errands) s.stage Kept had (ap held_by_sibling is ∙ held) has refl kept.agrees)
       (λ z. absurd (none z)) (λ _. inr (inl tt))
-      (λ asleep. ((quiet asleep).0, ⊎_elim (λ way. inl way) (⊎_elim (λ swaps. inr (inl swaps))
-      (λ replaced. absurd ((quiet asleep).1 (subst IsReplaced (kept.agrees.tells 1 had (ap held_by_sibling is ∙ held)).0 replaced))))))
+      (λ asleep. (
+        (quiet asleep).0,
+        ⊎_elim (λ way. inl way) (⊎_elim (λ swaps. inr (inl swaps))
+            (λ replaced. absurd ((quiet asleep).1 (subst IsReplaced (kept.agrees.tells 1 had (ap held_by_sibling is ∙ held)).0 replaced)))),
+      ))
 
   away_holds_none : (turn : Turn) → IsAway turn → held_by_turn turn ≡ None
   away_holds_none Parked away = refl

@@ -18,9 +18,9 @@ use Rattle.futures_buffered_table.specs.Waking.{IsWake}
 use Rattle.futures_buffered_place.specs.declared.place.Put.{Put as Answer}
 use Rattle.futures_buffered_place.specs.declared.place.Put.TheVariants.{Kept, Busy}
 use Rattle.futures_buffered_place.specs.declared.view.Deed.{Deed}
-use Rattle.futures_buffered_place.specs.declared.view.Deed.TheVariants.{Look, Win, WinFree, Lose, Put, Leave}
-use Rattle.futures_buffered_place.specs.History.{IsPutIn, IsTakeOut, IsMissed, IsMet}
-use Rattle.futures_buffered_lost_wakeup.specs.Agents.{Act, Errand, Rests, Looks, Tries, Inside, Wakes, Turn, Registers, GoesBack, TakesBack, Asks, GoesOut, GoesFree, LaysOut, Fills, Met, Sibling, Away, GoesKept, GoesVacant, Writes, Has, LetsGo, sibling_after, turn_after, wake_after, wanted_by_sibling, wanted_by_turn}
+use Rattle.futures_buffered_place.specs.declared.view.Deed.TheVariants.{Look, Win, Lose, Put}
+use Rattle.futures_buffered_place.specs.History.{IsPutIn, IsTakeOut, IsMet}
+use Rattle.futures_buffered_lost_wakeup.specs.Agents.{Errand, Rests, Looks, Tries, Inside, Wakes, Turn, Registers, GoesBack, TakesBack, Asks, GoesOut, GoesFree, LaysOut, Fills, Met, Sibling, Away, GoesKept, GoesVacant, Writes, Has, LetsGo, sibling_after, turn_after, wake_after, wanted_by_sibling, wanted_by_turn}
 use Rattle.futures_buffered_lost_wakeup.specs.Runs.{CallsAreRuns, IsListRun, IsRun, act_of, errand_with, turn_with, sibling_with}
 
 wake_runs : (n i : ℕ) (shape : List AtomicStep) (woke : WokeAnswer) → IsWake i shape woke → IsListRun n i More Idle shape (Woke woke) Idle

@@ -1,6 +1,6 @@
 -- Who steps at the place of the task's waker: a wake, the poller, a sibling. Each may make the steps that the contracts
 -- of the place name (`Deed`), of which the law forgets the values.
-use Rattle.std.specs.Prelude.{◌≡◌, ℕ, zero, suc, Bool, true, false, if◌then◌else◌, Option, Some, None}
+use Rattle.std.specs.Prelude.{ℕ, zero, suc, Bool, true, false, if◌then◌else◌, Option, Some, None}
 use Rattle.futures_buffered_place.specs.declared.view.Deed.{Deed}
 use Rattle.futures_buffered_place.specs.declared.view.Deed.TheVariants.{Look, Win, WinFree, Lose, Put, Leave}
 

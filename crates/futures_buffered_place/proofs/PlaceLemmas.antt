@@ -14,7 +14,7 @@ use Rattle.futures_buffered_place.specs.declared.view.View.{View}
 use Rattle.futures_buffered_place.specs.declared.view.PlaceStep.{PlaceStep}
 use Rattle.futures_buffered_place.specs.declared.view.Deed.{Deed}
 use Rattle.futures_buffered_place.specs.declared.view.Deed.TheVariants.{Look, Win, WinFree, Lose, Put, Leave}
-use Rattle.futures_buffered_place.specs.Place.{total, alone_by, beside_by, filling_by, taken_by, Stage, word_of, home_of, filling_count, lent_count, kept_weight, KeepsPlace, laid, HoldsPlace, put_by, won_by, put_weight, taken_weight, does, looks, puts_next, leaves_next, alone_looks, TellsTaking, after_put, free_taken, beside_of, new_beside, new_taker, kept_at_home, RuleLosesNone}
+use Rattle.futures_buffered_place.specs.Place.{total, alone_by, beside_by, filling_by, taken_by, Stage, word_of, home_of, filling_count, lent_count, kept_weight, KeepsPlace, laid, HoldsPlace, put_by, won_by, put_weight, taken_weight, does, looks, leaves_next, alone_looks, TellsTaking, after_put, free_taken, beside_of, new_beside, new_taker, kept_at_home, RuleLosesNone}
 use Rattle.futures_buffered_place.specs.PlaceInvariant.{right_of}
 use Rattle.futures_buffered_place.specs.Place.{vacant, filling, kept, lent}
 

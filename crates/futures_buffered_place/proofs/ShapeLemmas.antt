@@ -4,10 +4,9 @@ use Rattle.std.specs.Prelude.{Option, Some, None}
 use Rattle.atomic_table.specs.Table.{Me}
 use Rattle.futures_buffered_place.specs.declared.view.Hand.TheVariants.{Nothing, Filling, Taken}
 use Rattle.futures_buffered_place.specs.declared.view.View.{View}
-use Rattle.futures_buffered_place.specs.declared.view.Deed.{Deed}
 use Rattle.futures_buffered_place.specs.declared.view.Deed.TheVariants.{Look, Win, WinFree, Lose, Put, Leave}
 use Rattle.futures_buffered_place.specs.declared.place.Put.TheVariants.{Kept, Busy}
-use Rattle.futures_buffered_place.specs.History.{TakesOut, PutsIn}
+use Rattle.futures_buffered_place.specs.History.{TakesOut}
 use Rattle.futures_buffered_place.specs.Place.{does, done, looks, alone_looks, free_taken, TellsTaking, puts_next, leaves_next, PutsBy, TakesBy}
 use Rattle.futures_buffered_place.proofs.PlaceLemmas.{won}
 

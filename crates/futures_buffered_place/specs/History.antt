@@ -1,9 +1,8 @@
 -- What callers see of a seat of a place: the steps that it made.
-use Rattle.std.specs.Prelude.{◌≡◌, ◌≢◌, ◌⊎◌, ℕ, zero, suc, ◌+◌, Bool, true, false, List, [], ◌∷◌, ◌++◌, Option, Some, None, refl}
+use Rattle.std.specs.Prelude.{◌≡◌, ◌≢◌, ◌⊎◌, ℕ, zero, suc, Bool, true, false, List, [], ◌∷◌, ◌++◌, Option, Some, None, refl}
 use mathlib.Core.Logic.{inl, inr}
 use Rattle.std.specs.Coded.{Coded, code_by, coded×, coded⊎, coded_ℕ, coded_bool, coded_list}
 use Rattle.atomic_table.specs.Seated.{TableId, table_id_coded}
-use Rattle.futures_buffered_place.specs.declared.view.View.{View}
 use Rattle.futures_buffered_place.specs.declared.view.PlaceStep.{PlaceStep}
 use Rattle.futures_buffered_place.specs.declared.view.Deed.{Deed}
 use Rattle.futures_buffered_place.specs.declared.view.Deed.TheVariants.{Look, Win, WinFree, Lose, Put, Leave}
