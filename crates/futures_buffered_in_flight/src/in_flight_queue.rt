@@ -5,7 +5,7 @@ ghost use Rattle.futures_buffered_in_flight.specs.InFlightQueue.{PushesQueued, Q
 ghost use Rattle.futures_buffered_in_flight.specs.InFlightQueue.{flights_with};
 ghost use Rattle.futures_buffered_in_flight.specs.InFlight.{flight_slots};
 
-use crate::in_flight::{FuturesUnorderedBy, FuturesUnorderedBounded};
+use crate::in_flight::{FuturesUnorderedBounded, FuturesUnorderedBy};
 use futures::Future;
 use futures::task::{Context, Poll};
 use futures_buffered_ordered::numbered::Numbered;

@@ -2,7 +2,7 @@
 ghost use Rattle.futures_buffered_core.specs.SlotMap.{held_count};
 ghost use Rattle.futures_buffered_in_flight.specs.InFlight.{CanPollAll, ComesFromSlots, FlightsWaitAt};
 
-use crate::in_flight::{FuturesUnorderedBy, FuturesUnorderedBounded};
+use crate::in_flight::{FuturesUnorderedBounded, FuturesUnorderedBy};
 use crate::in_flight_growing::FuturesUnordered;
 use futures::task::{Context, Poll};
 use futures::{Future, Stream};

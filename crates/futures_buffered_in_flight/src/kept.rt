@@ -10,7 +10,7 @@ ghost use Rattle.futures_buffered_in_flight.specs.InFlightOrdered.{PushesOrComes
 ghost use Rattle.futures_buffered_in_flight.specs.InFlightOrderedGrowing.{EntersBack, EntersFront};
 ghost use Rattle.futures_buffered_in_flight.specs.InFlightOrderedGrowing.{EntersOrComesBack, PollsGrowingInTurn};
 
-use crate::in_flight::{Came, FuturesUnorderedBy, FuturesUnorderedBounded};
+use crate::in_flight::{Came, FuturesUnorderedBounded, FuturesUnorderedBy};
 use crate::in_flight_growing::FuturesUnordered;
 use crate::in_flight_ordered::FuturesOrderedBounded;
 use crate::in_flight_ordered_growing::FuturesOrdered;
