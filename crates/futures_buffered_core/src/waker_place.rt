@@ -63,7 +63,10 @@ impl<O> WakeMade<O> {
     pub fn marked(listed: WakeSeat) -> WakeMade<O>
         ensures { (result.listed ≡ listed) × (result.placed ≡ None) }
     {
-        WakeMade { listed, placed: None }
+        WakeMade {
+            listed,
+            placed: None,
+        }
     }
 }
 
@@ -110,7 +113,10 @@ impl<O: OuterWaker> WakerPlace<O> {
         if let Some(outer) = taken {
             outer.wake();
         }
-        WakeMade { listed, placed: Some(seat) }
+        WakeMade {
+            listed,
+            placed: Some(seat),
+        }
     }
 
     /// Keeps a waker in place of the one before, which is let go once this call has left the place. Where another call
