@@ -50,27 +50,26 @@ module _ {O : Type 0} where
   answer_of before None = Kept before
   answer_of before (Some outer) = Busy outer
 
-  -- one putting in of the waker, once so many steps were made at the list: it is put in, and the one before was taken
-  -- out; or it met another call, and the waker is woken
+  -- one putting in of the waker x, once so many steps were made at the list
   abbrev pub PutsOrMeets : ℕ → Bool → O → History O → History O → Type 0
   PutsOrMeets made alone x old new = (answer : Answer O) × PutsIn made alone x old answer new
 
-  -- the waker that it has, if it has one, is put in
+  -- a poller puts in the waker that it has, if it has one
   abbrev pub PutsOwn : ℕ → Bool → Option O → History O → History O → Type 0
   PutsOwn made alone None old new = new ≡ old
   PutsOwn made alone (Some x) old new = PutsOrMeets made alone x old new
 
-  -- it is at the same place, and has no waker: the one that it had is put in, once so many steps were made at the list
+  -- a poller puts in the waker that it has, and has none then; it is at the same place
   abbrev pub GivesUp : ℕ → Poller O → Poller O → Type 0
   GivesUp made old new = (new.place ≡ old.place) × (new.alone ≡ old.alone) × (new.own ≡ None)
       × PutsOwn made old.alone old.own old.did new.did
 
-  -- if it had no waker, it has the one that it took out; otherwise it keeps its own, and makes no step
+  -- a poller that had no waker has the one that it took out; any other keeps its own, and makes no step
   abbrev pub HasBack : ℕ → Option O → History O → Option O → History O → Type 0
   HasBack made None old own new = TakesOut made old own new
   HasBack made (Some mine) old own new = (own ≡ Some mine) × (new ≡ old)
 
-  -- where it has no waker, it takes out the one that is kept, if one is
+  -- a poller that had no waker made the steps of one taking out; any other made no step
   abbrev pub TakesBack : ℕ → Option O → History O → History O → Type 0
   TakesBack made None old new = (x : Option O) × TakesOut made old x new
   TakesBack made (Some own) old new = new ≡ old
@@ -80,10 +79,10 @@ module _ {O : Type 0} where
   LooksAfter made place seat = (seat.place ≡ place) × ((outer : Option O) × TakesOut made no_history outer seat.did)
 
   -- what is after the steps at the list: nothing if the slot was marked, otherwise one look for the task's waker
-  abbrev pub IsWholeAt : ℕ → List AtomicStep → Option (Seated O) → Type 0
-  IsWholeAt i steps None = IsWake i steps Already
-  IsWholeAt i steps (Some seat) = IsWake i steps Fresh × LooksAfter (length steps) seat.place seat
+  abbrev pub IsWholeAt : ℕ → PlaceId → List AtomicStep → Option (Seated O) → Type 0
+  IsWholeAt i place steps None = IsWake i steps Already
+  IsWholeAt i place steps (Some seat) = IsWake i steps Fresh × LooksAfter (length steps) place seat
 
-  -- one wake of the slot i
-  abbrev pub IsWholeWake : ℕ → MadeWake O → Type 0
-  IsWholeWake i made = IsWholeAt i made.listed.steps made.placed
+  -- one wake of the slot i, whose task's waker is at this place
+  abbrev pub IsWholeWake : ℕ → PlaceId → MadeWake O → Type 0
+  IsWholeWake i place made = IsWholeAt i place made.listed.steps made.placed

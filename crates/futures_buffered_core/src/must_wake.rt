@@ -17,8 +17,8 @@ pub trait OuterWaker: Drop {
     fn wake_outer(self);
 }
 
-/// A seat of the list, which shows how many steps it has made there. A call at the place that is shown one notes that
-/// number with each of its steps.
+/// A seat of the list, which shows how many steps it has made there. A call at the place that is shown a seat notes that
+/// number with each of its own steps.
 pub trait ListSeat {
     ghost made: { Self → ℕ };
 }

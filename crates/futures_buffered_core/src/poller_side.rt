@@ -1,7 +1,6 @@
-//! The poller's two seats, that of the list and that of the place of the task's waker, side by side: who takes from the
-//! list lays the waker out, and nobody else steps with either.
+//! The poller's two seats: one of the list, one of the place of the task's waker. No other code steps with either.
 //!
-//! A contract sees the steps of both, and of each step at the place how many steps at the list came before it.
+//! A contract sees the steps of both. It says of each step at the place how many steps at the list came before it.
 ghost use Rattle.std.specs.Prelude.{◌≡◌, ◌⊎◌, ◌<◌, ℕ, true, false, List, ◌++◌, length, None, IsSomeAnd};
 ghost use Rattle.futures.specs.Task.{Hears, IsArmed, Keeps, Wakes};
 ghost use Rattle.futures_buffered_core.specs.WakerPlace.{GivesUp, IsNewPoller, PutsOrMeets, TakesBack};
@@ -43,8 +42,8 @@ impl<O> PollerSide<O> {
 }
 
 impl<O: OuterWaker> PollerSide<O> {
-    /// Takes from the list. Where it takes no slot and its head is the stub, it has put the waker that it keeps where
-    /// wakes find it, once the link of the stub was read and before the tail was; else it made no step at the place.
+    /// Takes from the list. If it takes no slot and its head is the stub, it has published its waker: after it read the
+    /// stub's link, and before it read the tail. Otherwise it makes no step at the place.
     #[inline(always)]
     pub fn take(&mut self, list: &ReadyList, place: &WakerPlace<O>) -> Taken
         requires list { self.old.poll.list ≡ list.now.list }
@@ -59,7 +58,7 @@ impl<O: OuterWaker> PollerSide<O> {
         list.take_with(&mut self.poll, &mut AtPlace::new(place, &mut self.task))
     }
 
-    /// Keeps a waker in the place, once so many steps were made at the list as this side has made.
+    /// Publishes a waker. If another call is at the place, the waker is woken.
     pub fn put_in(&mut self, place: &WakerPlace<O>, outer: O)
         requires { self.old.task.place ≡ place.now.place }
         ensures poll { self.new.poll ≡ self.old.poll }
@@ -69,7 +68,7 @@ impl<O: OuterWaker> PollerSide<O> {
         self.task.put_in(place, outer, &self.poll);
     }
 
-    /// Puts the waker that it keeps, if it keeps one, where wakes find it.
+    /// Publishes the waker that it keeps, if it keeps one.
     pub fn give_up_own(&mut self, place: &WakerPlace<O>)
         requires { self.old.task.place ≡ place.now.place }
         ensures poll { self.new.poll ≡ self.old.poll }
@@ -78,7 +77,7 @@ impl<O: OuterWaker> PollerSide<O> {
         self.task.give_up_own(place, &self.poll);
     }
 
-    /// The task's side of a source beside this one.
+    /// Returns a sibling's side of the place. The waker that is kept here is published.
     pub fn beside(&mut self, place: &WakerPlace<O>) -> PollerWaker<O>
         requires { self.old.task.place ≡ place.now.place }
         ensures poll { self.new.poll ≡ self.old.poll }
@@ -91,8 +90,7 @@ impl<O: OuterWaker> PollerSide<O> {
 }
 
 impl PollerSide<Waker> {
-    /// Keeps the task's waker, and takes back the one that the place keeps, where none is here, once so many steps were
-    /// made at the list as this side has made.
+    /// Keeps the task's waker. If none is kept here, it first takes back the published one.
     pub fn register(&mut self, place: &WakerPlace<Waker>, cx: &mut Context<'_>)
         requires { self.old.task.place ≡ place.now.place }
         ensures poll { self.new.poll ≡ self.old.poll }

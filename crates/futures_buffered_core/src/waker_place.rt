@@ -99,12 +99,12 @@ impl<O: OuterWaker> WakerPlace<O> {
         Ok((WakerPlace { source, kept }, seat))
     }
 
-    /// Takes out the waker that is kept and wakes it, unless another call is at the place. Of many wakes after one
-    /// registration one takes it out, and those that come later pay for a load.
+    /// Takes the waker that is kept and wakes it, unless another call is at the place. Of many wakes after one
+    /// registration one takes it, and each later one costs a load.
     ///
-    /// The seat shows that a fresh wake has put its slot into the list: no wake looks here earlier. It is returned with
-    /// a seat of the place, which shows that this call took the waker, or found none or another call there, once the
-    /// steps of the wake were made.
+    /// The seat shows that a wake has newly set its mark and put its slot into the list: no wake looks here earlier. It
+    /// is returned with a seat of the place. That seat shows that this call took the waker, or found none or another
+    /// call there, once the steps at the list were made.
     pub fn wake(&self, listed: WakeSeat) -> WakeMade<O>
         requires { (slot : ℕ) × IsWake slot listed.steps Fresh }
         ensures listed { result.listed ≡ listed }

@@ -25,7 +25,7 @@ pub record Seated (O : Type 0) : Type 0 where
   pub place : PlaceId
   pub did : History O
 
--- a seat of this place that puts in: whether it alone does
+-- a seat of this place that puts in, and whether it alone does
 pub record Putter (O : Type 0) : Type 0 where
   pub place : PlaceId
   pub alone : Bool
@@ -85,44 +85,46 @@ module _ {O : Type 0} where
   abbrev pub no_history : History O
   no_history = []
 
-  -- a step behind these, made once the seat's owner had made so many steps at the list
+  -- one step after these; its caller shows how many steps it has made elsewhere by now
   abbrev pub then_did : ℕ → History O → Deed O → History O
   then_did made did deed = did ++ record { after = made; deed = deed } ∷ []
 
-  -- so with these steps, one after another
+  -- the steps of one call after these
   abbrev pub after_deeds : ℕ → History O → List (Deed O) → History O
   after_deeds made did [] = did
   after_deeds made did (deed ∷ deeds) = after_deeds made (then_did made did deed) deeds
 
-  -- it looked, and none was kept, or another seat was there; or it lost what was kept to another
+  -- A call takes nothing: it reads that none is kept or that another seat is there, or it loses what is kept.
   abbrev pub IsMissed : List (Deed O) → Type 0
   IsMissed shape = (n : ℕ) × (n ≢ 1) × ((shape ≡ Look n ∷ []) ⊎ (shape ≡ Look 1 ∷ Lose n ∷ []))
 
-  -- it took this out; or it missed it
+  -- the steps of a call that takes this out, or nothing
   abbrev pub IsTakeOut : List (Deed O) → Option O → Type 0
   IsTakeOut shape (Some x) = shape ≡ Look 1 ∷ Win x ∷ Leave ∷ []
   IsTakeOut shape None = IsMissed shape
 
-  -- it found another seat there, or lost the place to one
+  -- A call meets another: it reads that another seat is there, or it loses the place. Only a seat that does not stand
+  -- alone can lose a place that keeps nothing.
   abbrev pub IsMet : Bool → List (Deed O) → Type 0
   IsMet alone shape = (n : ℕ) × (((n ≢ 0) × (n ≢ 1) × (shape ≡ Look n ∷ []))
       ⊎ (((n ≢ 1) × (shape ≡ Look 1 ∷ Lose n ∷ []))
       ⊎ ((alone ≡ false) × (n ≢ 0) × (shape ≡ Look 0 ∷ Lose n ∷ []))))
 
-  -- it put x in where none was kept: at once where it alone puts in
+  -- a call puts x in while none is kept: a seat that stands alone does so without a win
   abbrev pub IsFilled : Bool → O → List (Deed O) → Type 0
   IsFilled true x shape = shape ≡ Look 0 ∷ Put x ∷ []
   IsFilled false x shape = shape ≡ Look 0 ∷ WinFree ∷ Put x ∷ []
 
-  -- it put x in, and took out what was kept; or it met another seat
+  -- the steps of a call that puts x in, in place of what was kept; or of one that meets another and returns x
   abbrev pub IsPutIn : Bool → O → List (Deed O) → Answer O → Type 0
   IsPutIn alone x shape (Kept None) = IsFilled alone x shape
   IsPutIn alone x shape (Kept (Some y)) = shape ≡ Look 1 ∷ Win y ∷ Put x ∷ []
   IsPutIn alone x shape (Busy same) = (same ≡ x) × IsMet alone shape
 
-  -- the steps of one taking out, or of one putting in, are behind those of before
+  -- a call adds the steps of one taking out
   abbrev pub TakesOut : ℕ → History O → Option O → History O → Type 0
   TakesOut made old outer new = (shape : List (Deed O)) × IsTakeOut shape outer × (new ≡ after_deeds made old shape)
 
+  -- a call adds the steps of one putting in
   abbrev pub PutsIn : ℕ → Bool → O → History O → Answer O → History O → Type 0
   PutsIn made alone x old answer new = (shape : List (Deed O)) × IsPutIn alone x shape answer × (new ≡ after_deeds made old shape)

@@ -202,8 +202,8 @@ impl<O> Place<O> {
 
     /// Keeps a value in place of the one before, unless another seat is at the place.
     ///
-    /// By a seat that stands alone, where none is kept, it is one load and one store. Else it is a load, a
-    /// compare-exchange and a store. It takes no memory. Each of these steps is noted with how many the caller shows.
+    /// For a seat that stands alone it is one load and one store if none is kept. Otherwise it is a load, a
+    /// compare-exchange and a store. It does not allocate. Each step is noted, with the number that the caller shows.
     pub fn put_in<J: Shown, T>(&self, seat: &mut PutSeat<O>, outer: O, _shown: &T) -> Put<O>
         requires { seat.old.place ≡ self.now }
         ensures place { seat.new.place ≡ seat.old.place }
@@ -217,8 +217,8 @@ impl<O> Place<O> {
         }
     }
 
-    /// Takes out what is kept, unless another seat is at the place: one load, and where one is kept a
-    /// compare-exchange and a store. It takes no memory.
+    /// Takes out what is kept, unless another seat is at the place: one load, and if one is kept a compare-exchange and
+    /// a store. It does not allocate. Each step is noted, with the number that the caller shows.
     pub fn take_out<J: Shown, T>(&self, seat: &mut PutSeat<O>, _shown: &T) -> Option<O>
         requires { seat.old.place ≡ self.now }
         ensures place { seat.new.place ≡ seat.old.place }

@@ -25,8 +25,8 @@ pub enum Hand {
     Taken,
 }
 
-/// An atomic step at the word of a place, with what it found. The word is 0 where none is kept, 1 where one is, and
-/// more where a seat has the slot. No value of it is made.
+/// An atomic step at the word of a place, with what it found. The word is 0 if none is kept, 1 if one is, and more if a
+/// seat has the slot. No value of this type is made.
 pub enum Deed<O> {
     /// Reads the word: what it holds.
     Look(u64),
@@ -42,8 +42,7 @@ pub enum Deed<O> {
     Leave,
 }
 
-/// A step at a place, and how many steps its seat's owner had made at the list by then, as it showed. No value of it is
-/// made.
+/// A step at a place, and the number that its caller noted with it ([`Shown`]). No value of this type is made.
 pub struct PlaceStep<O> {
     pub after: usize,
     pub deed: Deed<O>,
@@ -56,8 +55,9 @@ pub struct View<O> {
     pub steps: LinkedList<PlaceStep<O>>,
 }
 
-/// How many steps the caller has made at another place by now, as it shows: a call at `Brand` picks it from what it is
-/// shown.
+/// The number that a caller notes with each step of a call: how many steps it has made elsewhere by then. A caller picks
+/// it at `Brand`, from the argument that it shows. Who hides the place behind calls of its own can fix that pick, as
+/// `futures_buffered_core` does.
 pub trait Shown {
     ghost made: { ℕ };
 }
