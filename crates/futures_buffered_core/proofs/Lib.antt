@@ -5,3 +5,4 @@ pub mod SlotMapLemmas
 pub mod HistoryLemmas
 pub mod ScriptSourceLemmas
 pub mod ReadySharedLemmas
+pub mod MadeMarkedLemmas

@@ -1,6 +1,7 @@
 -- What a set may make of its source, and what the laws of sources cite.
 use mathlib.Core.Path.{ap}
-use Rattle.std.specs.Prelude.{◌≡◌, ◌<◌, ◌↔◌, ℕ, refl}
+use Rattle.std.specs.Prelude.{◌≡◌, ◌<◌, ◌↔◌, ℕ, List, refl}
+use Rattle.std.specs.List.{FoldsTo, range_with_len}
 use Rattle.futures_buffered_table.specs.declared.answer.Taken.{Taken}
 use Rattle.futures_buffered_table.specs.declared.answer.Taken.TheVariants.{Slot}
 use Rattle.futures_buffered_table.specs.declared.answer.Woke.{Woke}
@@ -44,6 +45,26 @@ module _ {S : Type 0} (marks : S → ℕ → Woke → S → Type 0) (steps : Sou
       pub mark_waits : (old : S) (i : ℕ) (woke : Woke) (new : S) → marks old i woke new → WaitsAlike needs old new
       pub take_waits : (old : S) (taken : Taken) (new : S) → steps.takes old taken new → WaitsAlike needs old new
       pub register_waits : (old new : S) → steps.registers old new → WaitsAlike needs old new
+
+-- one mark of slot i, whatever it returns
+abbrev pub MarksSlot : {S : Type 0} → (S → ℕ → Woke → S → Type 0) → S → ℕ → S → Type 0
+MarksSlot marks old i new = (woke : Woke) × marks old i woke new
+
+-- one mark of each slot of the list, in order, leads from the source before to the source after
+abbrev pub MarksEach : {S : Type 0} → (S → ℕ → Woke → S → Type 0) → S → List ℕ → S → Type 0
+MarksEach marks = FoldsTo (MarksSlot marks)
+
+-- a source was made for n slots, and then each slot was marked, in order
+pub record IsMadeMarked
+    {S : Type 0}
+    (made : ℕ → S → Type 0)
+    (marks : S → ℕ → Woke → S → Type 0)
+    (n : ℕ)
+    (source : S)
+    : Type 0 where
+  pub new_source : S
+  pub was_made : made n new_source
+  pub marked : MarksEach marks new_source (range_with_len 0 n) source
 
 -- what a poll may make of a source at which a registration changes nothing
 abbrev pub only_takes : {S : Type 0} → (S → Taken → S → Type 0) → SourceSteps S

@@ -8,7 +8,8 @@ ghost use Rattle.futures.specs.declared.task.context.Context.{Context};
 ghost use Rattle.futures_buffered_table.specs.declared.answer.Woke.{Woke};
 ghost use Rattle.futures_buffered_table.specs.declared.answer.Taken.{Taken};
 ghost use Rattle.futures_buffered_core.specs.Made.{MakesSlots};
-ghost use Rattle.futures_buffered_core.specs.ReadySource.{IsNamed, SourceLaws, SourceSteps, WaitsAlike, WaitsForGood};
+ghost use Rattle.futures_buffered_core.specs.ReadySource.{IsMadeMarked, IsNamed, SourceLaws, SourceSteps};
+ghost use Rattle.futures_buffered_core.specs.ReadySource.{WaitsAlike, WaitsForGood};
 
 pub use crate::core_source::{CoreSource, NoopWaker};
 use crate::ready_core::{NewFault, Taken, Woke};
@@ -105,6 +106,19 @@ pub trait NewSource: ReadySource {
     /// taking allocates.
     fn make(env: &Self::Env, alloc: Global, cap: usize) -> Result<Self, NewFault>
         ensures { MakesSlots cap (made cap) result };
+
+    /// A source of `cap` slots, each of them marked, as by a call of `make` and a mark of each slot, in order.
+    ///
+    /// Takes time and memory, and refuses, as `make` does.
+    fn make_marked(env: &Self::Env, alloc: Global, cap: usize) -> Result<Self, NewFault>
+        ensures { MakesSlots cap (IsMadeMarked made Self.marks cap) result }
+    {
+        let mut source = Self::make(env, alloc, cap)?;
+        'slots: for i in 0..cap {
+            let _woke = source.mark(i);
+        }
+        Ok(source)
+    }
 
     /// A source of `cap` slots beside this one, which waits at the same places of a task's wakes. So in one poll that
     /// asks both, one registration covers both, where the source that registers is asked first.

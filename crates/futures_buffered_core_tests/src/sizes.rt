@@ -78,6 +78,38 @@ fn a_shared_source_names_each_slot_once(rt: HostRuntime) -> Result<(), Fail> {
     Ok(())
 }
 
+// Takes slot 0, then slot 1, and so on to the last one, and then none.
+fn take_in_order<N: Names>(rt: &impl Abort, names: &mut N, slots: usize) {
+    for slot in 0..slots {
+        assert_same(rt, names.take_slot(), Taken::Slot(slot));
+    }
+    assert_same(rt, names.take_slot(), Taken::Empty);
+}
+
+// Each slot of a source that is made with its marks is marked, and named in order. Later marks name each slot once.
+fn try_made_marked<S: NewSource<Env = ()>>(
+    rt: &impl Abort,
+    alloc: Global,
+    slots: usize,
+) -> Result<(), Fail> {
+    let source = S::make_marked(&(), alloc, slots)?;
+    let mut marked = Marked { source };
+    mark_all(rt, &mut marked, slots, Woke::Already);
+    take_in_order(rt, &mut marked, slots);
+    names_each_once(rt, &mut marked, slots);
+    Ok(())
+}
+
+// It fails if a slot begins without its mark, in another place of the row, or with a link that names a wrong slot.
+#[test]
+fn a_source_made_marked_names_each_slot_in_order(rt: HostRuntime) -> Result<(), Fail> {
+    for slots in SIZES {
+        try_made_marked::<CoreSource>(&rt, rt.alloc(), slots)?;
+        try_made_marked::<SharedReady>(&rt, rt.alloc(), slots)?;
+    }
+    Ok(())
+}
+
 fn try_list(rt: &impl Abort, alloc: Global, slots: usize) -> Result<bool, Fail> {
     let list = Alone::new(rt, alloc, slots);
     let mut woken = Woken { list, wakes: 0 };

@@ -11,6 +11,7 @@ pub mod TallyLemmas
 pub mod ScheduleLawLemmas
 pub mod StepMachineLemmas
 pub mod RuleLemmas
+pub mod BeginningLemmas
 pub mod LawsLemmas
 pub mod ReadyListLemmas
 pub mod WakingLemmas

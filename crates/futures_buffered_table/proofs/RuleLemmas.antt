@@ -149,7 +149,7 @@ module _ (n id i : ℕ) (steps : List AtomicStep) where
         (w, keeps, tt, now, (refl, refl, told)))
 
 -- the rule sees of the views only these sums, and what each seat knows
-same_sums : (n h : ℕ) (rest : List ℕ) (poller : ℕ) (words : List ℕ) (views now : List View) → KeepsRow n h rest poller words views
+pub same_sums : (n h : ℕ) (rest : List ℕ) (poller : ℕ) (words : List ℕ) (views now : List View) → KeepsRow n h rest poller words views
     → ((e : ℕ) → outside n now e ≡ outside n views e) → ((p : ℕ) → owed now p ≡ owed views p)
     → ((e : ℕ) → total (λ (v : View). wins e v.steps) now ≡ total (λ (v : View). wins e v.steps) views)
     → ((e : ℕ) → total (λ (v : View). unmarks e v.steps) now ≡ total (λ (v : View). unmarks e v.steps) views)
@@ -159,7 +159,7 @@ same_sums : (n h : ℕ) (rest : List ℕ) (poller : ℕ) (words : List ℕ) (vie
 same_sums n h rest poller words views now R outs oweds won undone seats = grind arith
 
 -- a new wake seat comes, and has made no step
-grows : (n : ℕ) (v : View) (s : State ℕ View) → HoldsRow n s →
+pub grows : (n : ℕ) (v : View) (s : State ℕ View) → HoldsRow n s →
     HoldsRow n record { words = s.words; homes = s.homes; views = s.views ++ new_waker_beside v ∷ [] }
 grows n v s held =
     let w : View = new_waker_beside v in

@@ -11,6 +11,7 @@ pub mod Schedule
 pub mod ScheduleLaw
 pub mod StepMachine
 pub mod StepMachineInvariant
+pub mod Beginning
 pub mod Rule
 pub mod Laws
 pub mod ReadyList

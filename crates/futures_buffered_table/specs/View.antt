@@ -21,6 +21,14 @@ new_waker_beside v = record { stub = v.stub; role = Idle; steps = [] }
 abbrev pub first_views : ℕ → ℕ → List View
 first_views count n = replicate count (new_waker_beside (first_poller n)) ++ first_poller n ∷ []
 
+-- the same seat, and none of its steps
+abbrev pub without_steps : View → View
+without_steps v = record { stub = v.stub; role = v.role; steps = [] }
+
+-- a new wake seat's, beside another seat of its list, which has the steps of that seat
+abbrev pub waker_with_steps_of : View → View
+waker_with_steps_of v = record { stub = v.stub; role = Idle; steps = v.steps }
+
 -- the seat that another went into keeps the steps of both
 abbrev pub with_steps_of : View → View → View
 with_steps_of v w = record { stub = v.stub; role = v.role; steps = v.steps ++ w.steps }

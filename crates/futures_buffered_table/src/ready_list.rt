@@ -1,10 +1,11 @@
 //! The list on atomic words, and its seats.
 ghost use Rattle.std.specs.Prelude.{◌≡◌, [], IfOk};
+ghost use Rattle.futures_buffered_table.specs.Beginning.{all_wakes, steps_at_first};
 
 use crate::answer::{MAX_CAPACITY, NewFault};
-use crate::rule::{NewWaker, RowRule};
+use crate::rule::{FirstWaker, ListKey, NewWaker, RowRule};
 use crate::view::View;
-use crate::words::first_words;
+use crate::words::words_of;
 use atomic_table::{Seat, Table};
 use std::alloc::Global;
 use std::marker::Model;
@@ -12,7 +13,7 @@ use std::marker::Model;
 /// The words of the list, which any number of threads may share by a `&`. No call blocks.
 #[derive(Drop)]
 pub struct ReadyList {
-    pub(crate) table: Table<u8, View, usize, RowRule, Global>,
+    pub(crate) table: Table<u8, View, ListKey, RowRule, Global>,
     pub(crate) capacity: usize,
 }
 
@@ -24,7 +25,7 @@ impl Model for ReadyList {
 
     ghost view = { λ l. record { list = l.table.shared.table_id; capacity = l.capacity } };
 
-    ghost invariant = { λ l. KeepsList l.table.shared.table_id l.table.shared.key l.capacity };
+    ghost invariant = { λ l. KeepsList l.table.shared.table_id l.table.shared.key.capacity l.capacity };
 }
 
 /// A seat that wakes slots of its list. It takes no bytes. A thread that has none gets one by
@@ -92,20 +93,55 @@ impl ReadyList {
         ensures waker { IfOk result (λ r. (r.2.list ≡ r.0.list) × (r.2.steps ≡ [])) }
         ensures refuses { RefusesTooLarge capacity result }
     {
+        let full = false;
+        Self::begin(alloc, ListKey { capacity, full })
+    }
+
+    /// A list for this many slots, each of them marked, with its poll seat and a first wake seat.
+    /// That seat has the steps of a wake of each slot, in order. The words begin as these wakes
+    /// would leave them, so no step is made.
+    ///
+    /// Takes time and memory, and refuses, as [`new`](ReadyList::new) does.
+    pub fn new_full(
+        alloc: Global,
+        capacity: usize,
+    ) -> Result<(ReadyList, PollSeat, WakeSeat), NewFault>
+        ensures list { IfOk result (λ r. r.0.capacity ≡ capacity) }
+        ensures poller { IfOk result
+            (λ r. (r.1.list ≡ r.0.list) × (r.1.head ≡ capacity) × (r.1.steps ≡ [])) }
+        ensures waker { IfOk result
+            (λ r. (r.2.list ≡ r.0.list) × (r.2.steps ≡ all_wakes capacity)) }
+        ensures refuses { RefusesTooLarge capacity result }
+    {
+        let full = true;
+        Self::begin(alloc, ListKey { capacity, full })
+    }
+
+    // A list that begins as this key says, with its seats. The wake seat has the steps with which
+    // it begins.
+    fn begin(alloc: Global, key: ListKey) -> Result<(ReadyList, PollSeat, WakeSeat), NewFault>
+        ensures list { IfOk result (λ r. r.0.capacity ≡ key.capacity) }
+        ensures poller { IfOk result
+            (λ r. (r.1.list ≡ r.0.list) × (r.1.head ≡ key.capacity) × (r.1.steps ≡ [])) }
+        ensures waker { IfOk result
+            (λ r. (r.2.list ≡ r.0.list) × (r.2.steps ≡ steps_at_first key)) }
+        ensures refuses { RefusesTooLarge key.capacity result }
+    {
+        let capacity = key.capacity;
         if capacity > MAX_CAPACITY {
             return Err(NewFault::TooLarge);
         }
-        let Ok(words) = first_words(alloc, capacity) else {
+        let Ok(words) = words_of(alloc, key) else {
             return Err(NewFault::Memory);
         };
-        let Ok((table, mut seat)) = Table::<u8, View, usize, RowRule, Global>::of_words(
+        let Ok((table, mut seat)) = Table::<u8, View, ListKey, RowRule, Global>::of_words(
             alloc,
             words.as_slice(),
-            &capacity,
+            &key,
         ) else {
             return Err(NewFault::Memory);
         };
-        let other = table.shared.split_seat::<NewWaker>(&mut seat);
+        let other = table.shared.split_seat::<FirstWaker>(&mut seat);
         let poll = PollSeat {
             seat,
             head: capacity,

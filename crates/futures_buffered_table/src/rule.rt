@@ -3,16 +3,23 @@
 use crate::view::View;
 use atomic_table::{Join, Play, Split, TableRule};
 
+/// How many slots a list has, and whether it begins with each of them marked.
+#[derive(Clone, Copy)]
+pub struct ListKey {
+    pub capacity: usize,
+    pub full: bool,
+}
+
 /// The words and all views have a row from the poller's head to the tail.
 pub struct RowRule;
 
-impl TableRule<u8, View, usize> for RowRule {
+impl TableRule<u8, View, ListKey> for RowRule {
     ghost use Rattle.futures_buffered_table.specs.Rule.{HoldsRow};
-    ghost use Rattle.futures_buffered_table.specs.View.{first_poller};
+    ghost use Rattle.futures_buffered_table.specs.Beginning.{first_view};
 
-    ghost holds = { HoldsRow };
+    ghost holds = { λ key. HoldsRow key.capacity };
 
-    ghost first = { first_poller };
+    ghost first = { first_view };
 }
 
 /// The step of a seat, by its role.
@@ -42,6 +49,17 @@ impl Split<View> for NewWaker {
     ghost left = { λ v. v };
 
     ghost right = { new_waker_beside };
+}
+
+/// The first wake seat of a new list. It takes the steps with which the list begins from the poll seat.
+pub struct FirstWaker;
+
+impl Split<View> for FirstWaker {
+    ghost use Rattle.futures_buffered_table.specs.View.{waker_with_steps_of, without_steps};
+
+    ghost left = { without_steps };
+
+    ghost right = { waker_with_steps_of };
 }
 
 /// A wake seat goes into the poll seat, with its steps.

@@ -14,6 +14,7 @@ use Rattle.futures_buffered_table.specs.declared.answer.Taken.{Taken}
 use Rattle.futures_buffered_table.specs.declared.answer.Taken.TheVariants.{Slot, Empty, Pause}
 use Rattle.futures_buffered_table.specs.declared.answer.Woke.{Woke}
 use Rattle.futures_buffered_core.specs.ReadySource.{SourceSteps}
+pub use Rattle.futures_buffered_core.specs.ReadySource.{MarksEach, MarksSlot}
 use Rattle.futures_buffered_unordered.specs.Held.{Passes, Yields}
 
 -- the content of each slot, the content of the source, and how many ready slots one poll takes at most
@@ -58,14 +59,6 @@ emptied b = record b { slots = no_slots (slot_count b.slots) }
 -- the same set over another source
 abbrev pub with_source : {F S : Type 0} → Bounded F S → S → Bounded F S
 with_source b source = record b { source = source }
-
--- one mark of slot i, whatever it returns
-abbrev pub MarksSlot : {S : Type 0} → (S → ℕ → Woke → S → Type 0) → S → ℕ → S → Type 0
-MarksSlot marks old i new = (woke : Woke) × marks old i woke new
-
--- one mark of each slot of the list, in order, leads from the source before to the source after
-abbrev pub MarksEach : {S : Type 0} → (S → ℕ → Woke → S → Type 0) → S → List ℕ → S → Type 0
-MarksEach marks = FoldsTo (MarksSlot marks)
 
 -- slot k holds item k and no slot is free; each slot was marked, in order, in a source made for this number of slots
 pub record HoldsEach

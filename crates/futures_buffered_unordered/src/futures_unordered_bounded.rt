@@ -149,10 +149,7 @@ impl<F: Drop, S: NewSource> FuturesUnorderedBounded<F, S> {
             (HoldsEach S.made S.marks limit) result }
     {
         let slots = PinSlotMap::from_iter(alloc, iter)?;
-        let mut source = S::make(env, alloc, slots.capacity())?;
-        for i in 0..slots.capacity() {
-            let _woke = source.mark(i);
-        }
+        let source = S::make_marked(env, alloc, slots.capacity())?;
         Ok(FuturesUnorderedBounded {
             slots,
             source,
