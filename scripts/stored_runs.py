@@ -9,7 +9,8 @@ import shlex
 import subprocess
 import sys
 
-ROOT = pathlib.Path(__file__).resolve().parent.parent
+from repository import ROOT
+
 CRATES = ROOT / "crates"
 SCRIPTS = CRATES / "fbuf" / "scripts"
 # A run that takes longer has not ended. The longest takes a tenth of a second, but for tests, which have as long as `rt` gives them.
@@ -123,9 +124,9 @@ def runs_of_fbuf():
         given = pathlib.Path(*case["from"]) if case["from"] else script[: len(script) - sum(map(int, case["cut"]))]
         wanted = Ended(sum(map(int, case["status"])), replies + bytes_in(case["output"]), bytes_in(case["errors"]))
         for words in case["words"] or [""]:
-            call = words.encode("ascii").decode("unicode_escape").encode("latin-1").decode(errors="surrogateescape")
+            call = shlex.split(bytes_in([words]).decode(errors="surrogateescape"))
             to, limits = tuple(case["to"]), limits_in(case["limit"])
-            yield StoredRun(f"{name} {words}".strip(), "fbuf", tuple(shlex.split(call)), given, SCRIPTS, to, wanted, limits)
+            yield StoredRun(f"{name} {words}".strip(), "fbuf", tuple(call), given, SCRIPTS, to, wanted, limits)
 
 
 def run_of_crate(name):
